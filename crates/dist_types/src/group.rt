@@ -1,0 +1,49 @@
+//! Process groups (Kernel manual, `pg`).
+ghost use Rattle.std.specs.Prelude.{◌≡◌, IfOk, IfErr, List, ℕ};
+ghost use Rattle.dist_types.specs.Text.{IsText};
+ghost use Rattle.dist_types.specs.Fault.{IsTextFault};
+
+use crate::fault::{OutOfMemory, TextFault};
+use crate::items::TryClone;
+use crate::text::Text;
+use std::alloc::Global;
+use std::marker::Model;
+
+/// The name of a group of processes in a scope.
+#[derive(Debug, Drop, PartialEq, Eq, PartialOrd, Ord, Hash)]
+pub struct Group {
+    text: Text,
+}
+
+impl Model for Group {
+    ghost Value = { List ℕ };
+
+    ghost view = { λ group. group.text };
+
+    ghost inverse = { λ bytes. record { text = bytes } };
+}
+
+impl Group {
+    /// Reads a group: 1 to 255 bytes of 0x21 to 0x7E.
+    pub fn parse(alloc: Global, bytes: &[u8]) -> Result<Group, TextFault>
+        ensures ok { IfOk result (λ group. (group ≡ bytes.now) × IsText bytes.now) }
+        ensures refused { IfErr result (λ fault. IsTextFault fault bytes.now) }
+    {
+        let text = Text::parse(alloc, bytes)?;
+        Ok(Group { text })
+    }
+
+    pub fn as_bytes(&self) -> &[u8]
+        ensures value { result.now ≡ self.now }
+        ensures limits { IsText self.now }
+    {
+        self.text.as_bytes()
+    }
+}
+
+impl TryClone for Group {
+    fn try_clone(&self, alloc: Global) -> Result<Group, OutOfMemory> {
+        let text = self.text.try_clone(alloc)?;
+        Ok(Group { text })
+    }
+}

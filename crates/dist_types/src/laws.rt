@@ -1,0 +1,55 @@
+//! Laws of faults, orders and equality. Each function does nothing; its contract is the law.
+ghost use Rattle.std.specs.Prelude.{◌≡◌, ◌↔◌, List, ℕ, IsTrue};
+ghost use Rattle.dist_types.specs.declared.fault.TextFault.{TextFault};
+ghost use Rattle.dist_types.specs.declared.flags.Flags.{Flags};
+ghost use Rattle.dist_types.specs.declared.pid.Pid.{Pid};
+ghost use Rattle.dist_types.specs.declared.row.Row.{Row};
+ghost use Rattle.dist_types.specs.declared.change.GroupChange.{GroupChange};
+ghost use Rattle.dist_types.specs.Fault.{IsTextFault, IsNameFault};
+ghost use Rattle.dist_types.specs.Order.{text_cmp, pid_cmp, row_cmp};
+
+use crate::change::GroupChange;
+use crate::cookie::Cookie;
+use crate::flags::Flags;
+use crate::group::Group;
+use crate::node_name::NodeName;
+use crate::pid::Pid;
+use crate::row::Row;
+use crate::scope::Scope;
+
+/// Bytes have at most one fault as a name, and at most one as another text.
+pub fn one_fault()
+    ensures names { (f g : TextFault) (bytes : List ℕ) → IsNameFault f bytes → IsNameFault g bytes → f ≡ g }
+    ensures texts { (f g : TextFault) (bytes : List ℕ) → IsTextFault f bytes → IsTextFault g bytes → f ≡ g }
+{}
+
+/// Texts are ordered by their bytes.
+pub fn order_of_texts()
+    ensures names { (a b : List ℕ) → ⟦<NodeName as Ord>⟧.cmp a b ≡ text_cmp a b }
+    ensures scopes { (a b : List ℕ) → ⟦<Scope as Ord>⟧.cmp a b ≡ text_cmp a b }
+    ensures groups { (a b : List ℕ) → ⟦<Group as Ord>⟧.cmp a b ≡ text_cmp a b }
+    ensures cookies { (a b : List ℕ) → ⟦<Cookie as Ord>⟧.cmp a b ≡ text_cmp a b }
+{}
+
+/// Processes are ordered by the bytes of the name, the creation and the number.
+pub fn order_of_pids()
+    ensures { (a b : Pid) → ⟦<Pid as Ord>⟧.cmp a b ≡ pid_cmp a b }
+{}
+
+/// Rows are ordered by the bytes of the group, and then by the process.
+pub fn order_of_rows()
+    ensures { (a b : Row) → ⟦<Row as Ord>⟧.cmp a b ≡ row_cmp a b }
+{}
+
+/// What `==` finds equal has the same value, and the other way round.
+#[tactic(auto, using(crate::proofs::Exact::exact))]
+pub fn equal_values()
+    ensures names { (a b : List ℕ) → IsTrue (⟦<NodeName as PartialEq>⟧.eq a b) ↔ (a ≡ b) }
+    ensures scopes { (a b : List ℕ) → IsTrue (⟦<Scope as PartialEq>⟧.eq a b) ↔ (a ≡ b) }
+    ensures groups { (a b : List ℕ) → IsTrue (⟦<Group as PartialEq>⟧.eq a b) ↔ (a ≡ b) }
+    ensures cookies { (a b : List ℕ) → IsTrue (⟦<Cookie as PartialEq>⟧.eq a b) ↔ (a ≡ b) }
+    ensures flags { (a b : Flags) → IsTrue (⟦<Flags as PartialEq>⟧.eq a b) ↔ (a ≡ b) }
+    ensures pids { (a b : Pid) → IsTrue (⟦<Pid as PartialEq>⟧.eq a b) ↔ (a ≡ b) }
+    ensures rows { (a b : Row) → IsTrue (⟦<Row as PartialEq>⟧.eq a b) ↔ (a ≡ b) }
+    ensures changes { (a b : GroupChange) → IsTrue (⟦<GroupChange as PartialEq>⟧.eq a b) ↔ (a ≡ b) }
+{}

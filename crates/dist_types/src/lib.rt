@@ -1,0 +1,30 @@
+//! The words that every other crate speaks of: names, texts, flags, processes and rows.
+#![tactic(auto)]
+
+mod change;
+mod cookie;
+mod fault;
+mod flags;
+mod group;
+mod items;
+mod laws;
+mod node_name;
+mod pid;
+mod row;
+mod scope;
+mod text;
+
+pub use change::{GroupChange, Pids};
+pub use cookie::Cookie;
+pub use fault::{OutOfMemory, TextFault};
+pub use flags::Flags;
+pub use group::Group;
+pub use items::{Items, TryClone};
+pub use laws::{equal_values, one_fault, order_of_pids, order_of_rows, order_of_texts};
+pub use node_name::NodeName;
+pub use pid::Pid;
+pub use row::Row;
+pub use scope::Scope;
+
+#[cfg(test)]
+mod tests;

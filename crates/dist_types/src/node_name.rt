@@ -1,0 +1,64 @@
+//! Names of nodes (Distribution Protocol).
+ghost use Rattle.std.specs.Prelude.{◌≡◌, ◌↔◌, IsTrue, IfOk, IfErr, List, ℕ};
+ghost use Rattle.dist_types.specs.Text.{HasInnerAt, IsNodeName};
+ghost use Rattle.dist_types.specs.Fault.{IsNameFault};
+
+use crate::fault::{OutOfMemory, TextFault};
+use crate::items::TryClone;
+use crate::text::{Text, check_bytes};
+use std::alloc::Global;
+use std::marker::Model;
+
+/// The name of a node, as `a@h`.
+#[derive(Debug, Drop, PartialEq, Eq, PartialOrd, Ord, Hash)]
+pub struct NodeName {
+    text: Text,
+}
+
+impl Model for NodeName {
+    ghost Value = { List ℕ };
+
+    ghost view = { λ name. name.text };
+
+    ghost inverse = { λ bytes. record { text = bytes } };
+
+    ghost invariant = { λ name. HasInnerAt name.text };
+}
+
+impl NodeName {
+    /// Reads a name: 1 to 255 bytes of 0x21 to 0x7E with exactly one `@`, neither first nor last.
+    pub fn parse(alloc: Global, bytes: &[u8]) -> Result<NodeName, TextFault>
+        ensures ok { IfOk result (λ name. (name ≡ bytes.now) × IsNodeName bytes.now) }
+        ensures refused { IfErr result (λ fault. IsNameFault fault bytes.now) }
+    {
+        check_bytes(bytes)?;
+        if !has_inner_at(bytes) {
+            return Err(TextFault::BadAt);
+        }
+        let text = Text::copied(alloc, bytes)?;
+        Ok(NodeName { text })
+    }
+
+    pub fn as_bytes(&self) -> &[u8]
+        ensures value { result.now ≡ self.now }
+        ensures limits { IsNodeName self.now }
+    {
+        self.text.as_bytes()
+    }
+}
+
+/// Whether there is one `@`, neither first nor last.
+fn has_inner_at(bytes: &[u8]) -> bool
+    ensures { IsTrue result ↔ HasInnerAt bytes.now }
+{
+    bytes.iter().filter(|byte| **byte == b'@').count() == 1
+        && bytes.first() != Some(&b'@')
+        && bytes.last() != Some(&b'@')
+}
+
+impl TryClone for NodeName {
+    fn try_clone(&self, alloc: Global) -> Result<NodeName, OutOfMemory> {
+        let text = self.text.try_clone(alloc)?;
+        Ok(NodeName { text })
+    }
+}

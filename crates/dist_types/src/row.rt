@@ -1,0 +1,22 @@
+//! Memberships.
+use crate::fault::OutOfMemory;
+use crate::group::Group;
+use crate::items::TryClone;
+use crate::pid::Pid;
+use std::alloc::Global;
+
+/// One membership of a process in a group.
+#[derive(Debug, Drop, PartialEq, Eq, PartialOrd, Ord, Hash)]
+pub struct Row {
+    pub group: Group,
+    pub pid: Pid,
+}
+
+impl TryClone for Row {
+    fn try_clone(&self, alloc: Global) -> Result<Row, OutOfMemory> {
+        Ok(Row {
+            group: self.group.try_clone(alloc)?,
+            pid: self.pid.try_clone(alloc)?,
+        })
+    }
+}

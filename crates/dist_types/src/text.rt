@@ -1,0 +1,132 @@
+//! The bytes inside each kind of text, with their limits, copies and comparisons.
+ghost use Rattle.std.specs.Prelude.{◌≡◌, List, ℕ, refl, Some, nat_eq, IfOk, IfErr, OnOk};
+ghost use Rattle.std.specs.Arc.{arc_slice_items};
+ghost use Rattle.std.specs.Cmp as laws_of;
+ghost use Rattle.std.specs.Cmp.Lexicographic.{pointwise, slice_cmp, nat_list_eq_equiv, nat_list_cmp_total, texts_ties, texts_po};
+ghost use Rattle.std.specs.Ordering.{nat_cmp};
+ghost use Rattle.std.specs.Hash as fed;
+ghost use Rattle.std.specs.Cmp.Rules.{hashing};
+ghost use Rattle.std.proofs.Common.{rules};
+ghost use Rattle.dist_types.specs.Text.{IsText};
+ghost use Rattle.dist_types.specs.Fault.{IsByteFault, IsTextFault};
+
+use crate::fault::{OutOfMemory, TextFault};
+use crate::items::TryClone;
+use std::alloc::Global;
+use std::cmp::Ordering;
+use std::hash::{Hash, Hasher};
+use std::marker::Model;
+use std::sync::ArcSlice;
+
+/// 1 to 255 visible bytes of ASCII, shared by all copies.
+#[derive(Debug, Drop)]
+pub struct Text {
+    bytes: ArcSlice<u8>,
+}
+
+impl Model for Text {
+    ghost Value = { List ℕ };
+
+    ghost view = { λ text. arc_slice_items text.bytes };
+
+    ghost invariant = { λ text. IsText (arc_slice_items text.bytes) };
+}
+
+impl Text {
+    pub const MAX_LEN: usize = 255;
+
+    pub fn parse(alloc: Global, bytes: &[u8]) -> Result<Text, TextFault>
+        ensures ok { IfOk result (λ text. (text ≡ bytes.now) × IsText bytes.now) }
+        ensures refused { IfErr result (λ fault. IsTextFault fault bytes.now) }
+    {
+        check_bytes(bytes)?;
+        Ok(Text::copied(alloc, bytes)?)
+    }
+
+    pub fn copied(alloc: Global, bytes: &[u8]) -> Result<Text, OutOfMemory>
+        requires { IsText bytes.now }
+        ensures { IfOk result (λ text. text ≡ bytes.now) }
+    {
+        let bytes = ArcSlice::from_slice(alloc, bytes)?;
+        Ok(Text { bytes })
+    }
+
+    pub fn as_bytes(&self) -> &[u8]
+        ensures value { result.now ≡ self.now }
+        ensures limits { IsText self.now }
+    {
+        self.bytes.as_slice()
+    }
+}
+
+impl TryClone for Text {
+    fn try_clone(&self, _alloc: Global) -> Result<Text, OutOfMemory> {
+        let bytes = self.bytes.clone()?;
+        Ok(Text { bytes })
+    }
+}
+
+/// Tests the length and then each byte.
+pub fn check_bytes(bytes: &[u8]) -> Result<(), TextFault>
+    ensures ok { OnOk result (IsText bytes.now) }
+    ensures refused { IfErr result (λ fault. IsByteFault fault bytes.now) }
+{
+    if bytes.is_empty() {
+        return Err(TextFault::Empty);
+    }
+    if bytes.len() > Text::MAX_LEN {
+        return Err(TextFault::TooLong);
+    }
+    if !bytes.iter().all(|byte| byte.is_ascii_graphic()) {
+        return Err(TextFault::BadByte);
+    }
+    Ok(())
+}
+
+impl PartialEq for Text {
+    ghost eq = { pointwise nat_eq };
+
+    ghost laws = { laws_of.partial_equiv_from_equiv nat_list_eq_equiv };
+
+    fn eq(&self, other: &Text) -> bool {
+        self.bytes == other.bytes
+    }
+}
+
+impl Eq for Text {
+    ghost laws = { nat_list_eq_equiv };
+}
+
+impl PartialOrd for Text {
+    ghost partial_cmp = { λ x y. Some (slice_cmp nat_cmp x y) };
+
+    ghost laws = { texts_po };
+
+    fn partial_cmp(&self, other: &Text) -> Option<Ordering> {
+        Some(self.cmp(other))
+    }
+}
+
+impl Ord for Text {
+    ghost cmp = { slice_cmp nat_cmp };
+
+    ghost total = { nat_list_cmp_total };
+
+    ghost matches_partial_cmp = { λ x y. refl };
+
+    ghost matches_eq = { λ x y. texts_ties x y };
+
+    fn cmp(&self, other: &Text) -> Ordering {
+        self.bytes.cmp(&other.bytes)
+    }
+}
+
+impl Hash for Text {
+    ghost hash_input = { fed.slice fed.u8 };
+
+    ghost respects_eq = { Prim.search (hashing, rules) };
+
+    fn hash<H: Hasher>(&self, state: &mut H) {
+        self.bytes.hash(state);
+    }
+}
