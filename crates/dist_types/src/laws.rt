@@ -5,6 +5,7 @@ ghost use Rattle.dist_types.specs.declared.flags.Flags.{Flags};
 ghost use Rattle.dist_types.specs.declared.pid.Pid.{Pid};
 ghost use Rattle.dist_types.specs.declared.row.Row.{Row};
 ghost use Rattle.dist_types.specs.declared.change.GroupChange.{GroupChange};
+ghost use Rattle.dist_types.specs.Text.{IsText, IsNodeName, is_text, is_node_name};
 ghost use Rattle.dist_types.specs.Fault.{IsTextFault, IsNameFault};
 ghost use Rattle.dist_types.specs.Order.{text_cmp, pid_cmp, row_cmp};
 
@@ -21,6 +22,12 @@ use crate::scope::Scope;
 pub fn one_fault()
     ensures names { (f g : TextFault) (bytes : List ℕ) → IsNameFault f bytes → IsNameFault g bytes → f ≡ g }
     ensures texts { (f g : TextFault) (bytes : List ℕ) → IsTextFault f bytes → IsTextFault g bytes → f ≡ g }
+{}
+
+/// The limits of the texts are tests that compute.
+pub fn limits_compute()
+    ensures texts { (bytes : List ℕ) → IsTrue (is_text bytes) ↔ IsText bytes }
+    ensures names { (bytes : List ℕ) → IsTrue (is_node_name bytes) ↔ IsNodeName bytes }
 {}
 
 /// Texts are ordered by their bytes.

@@ -1,0 +1,8 @@
+use Rattle.dist_types.proofs.LimitLemmas.{texts_compute, names_compute}
+use Rattle.dist_types.proofs.laws.limits_compute.Goals as goal
+
+pub returns-clause-texts : goal.returns-clause-texts
+returns-clause-texts c = texts_compute
+
+pub returns-clause-names : goal.returns-clause-names
+returns-clause-names c = names_compute
