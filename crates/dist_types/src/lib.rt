@@ -22,7 +22,9 @@ pub use fields::{after_kind, bytes_at, u16_at, u32_at, u64_at};
 pub use flags::Flags;
 pub use group::Group;
 pub use items::{Items, TryClone};
-pub use laws::{equal_values, limits_compute, one_fault, order_of_pids, order_of_rows, order_of_texts};
+pub use laws::{
+    equal_values, limits_compute, one_fault, order_of_pids, order_of_rows, order_of_texts,
+};
 pub use node_name::NodeName;
 pub use pid::Pid;
 pub use row::Row;

@@ -1,6 +1,7 @@
 //! Names of nodes (Distribution Protocol).
-ghost use Rattle.std.specs.Prelude.{◌≡◌, ◌↔◌, IsTrue, IfOk, IfErr, List, ℕ};
-ghost use Rattle.dist_types.specs.Text.{HasInnerAt, IsNodeName};
+ghost use Rattle.std.specs.Prelude.{◌≡◌, ◌≢◌, ◌↔◌, IsTrue, IfOk, IfErr, MatchResult, List, ℕ, true, false};
+ghost use Rattle.dist_types.specs.Text.{HasInnerAt, IsNodeName, is_node_name};
+ghost use Rattle.dist_types.specs.declared.fault.TextFault.TheVariants as faults;
 ghost use Rattle.dist_types.specs.Fault.{IsNameFault};
 
 use crate::fault::{OutOfMemory, TextFault};
@@ -30,6 +31,8 @@ impl NodeName {
     pub fn parse(alloc: Global, bytes: &[u8]) -> Result<NodeName, TextFault>
         ensures ok { IfOk result (λ name. (name ≡ bytes.now) × IsNodeName bytes.now) }
         ensures refused { IfErr result (λ fault. IsNameFault fault bytes.now) }
+        ensures tested { MatchResult result (λ _. is_node_name bytes.now ≡ true)
+            (λ fault. fault ≢ faults.OutOfMemory → is_node_name bytes.now ≡ false) }
     {
         check_bytes(bytes)?;
         if !has_inner_at(bytes) {

@@ -1,0 +1,4 @@
+pub mod FoundFrames
+pub mod ReadingLemmas
+pub mod StandardFacts
+pub mod StreamLemmas

@@ -1,0 +1,4 @@
+pub mod Frame
+pub mod Spelling
+pub mod Reading
+pub mod Stream

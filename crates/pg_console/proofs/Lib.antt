@@ -1,0 +1,9 @@
+pub mod LineLemmas
+pub mod NumberLemmas
+pub mod CheckLemmas
+pub mod StepLemmas
+pub mod KeptLemmas
+pub mod NodeLemmas
+pub mod ReplyLemmas
+pub mod Played
+pub mod Unlacking

@@ -1,0 +1,120 @@
+-- What the loop over the lines keeps.
+use Rattle.std.proofs.Common.{◌≡◌, ℕ, ◌+◌, ◌<◌, Bool, true, false, cond, List, [], ◌∷◌, ◌++◌, length, Option, Some, None, refl, sym, ap, ◌∙◌, subst, append_assoc, append-nil, arith, IfSome}
+use Rattle.std.specs.Io.KnownBytes.{Appends}
+use Rattle.std.specs.Io.BufRead.{take_through, drop_through, strip_last}
+use Rattle.pg_console.specs.declared.opening.Opening.{Opening}
+use Rattle.pg_console.specs.History.{History}
+use Rattle.pg_console.specs.Policy.{opened_with}
+use Rattle.pg_console.specs.Answers.{fault_line}
+use Rattle.pg_console.specs.Lines.{lines_of}
+use Rattle.pg_console.specs.Transcript.{text, text_from, fault_in, fault_from, line_text, line_left, is_fault}
+use Rattle.pg_console.specs.Runs.{Writes, Begins}
+use Rattle.pg_console.proofs.LineLemmas.{lines_step}
+
+-- the writer holds the answers to the lines before line k, and what is left of the script gives the others
+pub record Played (o : Opening) (script : List ℕ) (old holds : Option (List ℕ)) (now : History) (k : ℕ) (rest : List ℕ) : Type 0 where
+  pub past : List Bool
+  pub written : List ℕ
+  pub appended : Appends old holds written
+  pub whole : (later : List Bool) → text_from (past ++ later) (opened_with o) 1 (lines_of script) ≡ written ++ text_from later now k (lines_of rest)
+  pub fault : fault_in script ≡ fault_from k (lines_of rest)
+
+-- bytes that are added twice are added together
+pub appends_then : (u v w : Option (List ℕ)) (a b : List ℕ) → Appends u v a → Appends v w b → Appends u w (a ++ b)
+appends_then None v w a b x y = tt
+appends_then (Some xs) None w a b x y = absurd x
+appends_then (Some xs) (Some ys) None a b x y = y
+appends_then (Some xs) (Some ys) (Some zs) a b x y = y ∙ ap (λ (t : List ℕ). t ++ b) x ∙ append_assoc xs a b
+
+appends_none : (u : Option (List ℕ)) → Appends u u []
+appends_none None = tt
+appends_none (Some xs) = sym (append-nil xs)
+
+pub played_start : (o : Opening) (script : List ℕ) (old : Option (List ℕ)) → Played o script old old (opened_with o) 1 script
+played_start o script old = record {
+  past = [];
+  written = [];
+  appended = appends_none old;
+  whole = λ later. refl;
+  fault = refl;
+}
+
+-- what is left begins with a line
+first_of : (rest : List ℕ) → 0 < length rest → lines_of rest ≡ strip_last 10 (take_through 10 rest) ∷ lines_of (drop_through 10 rest)
+first_of [] some = absurd (omega arith)
+first_of (b ∷ bytes) some = lines_step b bytes
+
+module _ {o : Opening} {k : ℕ} {script rest line : List ℕ} {old holds : Option (List ℕ)} {now : History} (p : Played o script old holds now k rest) where
+  -- a line that was answered
+  pub played_next : {next : History} {then : Option (List ℕ)} (bytes : List ℕ) (lacks : Bool) → 0 < length rest → line ≡ strip_last 10 (take_through 10 rest) → is_fault line ≡ false
+      → bytes ≡ line_text lacks now line → next ≡ line_left lacks now line → Appends holds then bytes → Played o script old then next (k + 1) (drop_through 10 rest)
+  played_next {next} {then} bytes lacks some is sound said left sent = record {
+    past = p.past ++ lacks ∷ [];
+    written = p.written ++ bytes;
+    appended = appends_then old holds then p.written bytes p.appended sent;
+    whole = λ later.
+        ap (λ (l : List Bool). text_from l (opened_with o) 1 (lines_of script)) (append_assoc p.past (lacks ∷ []) later)
+        ∙ p.whole (lacks ∷ later)
+        ∙ ap (λ (t : List ℕ). p.written ++ t) (step later)
+        ∙ sym (append_assoc p.written bytes (text_from later next (k + 1) (lines_of (drop_through 10 rest))));
+    fault = p.fault ∙ ap (fault_from k) lines ∙ rw sound refl;
+  }
+    where
+      lines : lines_of rest ≡ line ∷ lines_of (drop_through 10 rest)
+      lines = rw is (first_of rest some)
+
+      step : (later : List Bool) → text_from (lacks ∷ later) now k (lines_of rest) ≡ bytes ++ text_from later next (k + 1) (lines_of (drop_through 10 rest))
+      step later = ap (text_from (lacks ∷ later) now k) lines ∙ rw (sound, said, left) refl
+
+  -- a line that can't be read ends the text
+  pub played_fault : {then : Option (List ℕ)} → 0 < length rest → line ≡ strip_last 10 (take_through 10 rest) → is_fault line ≡ true
+      → Appends holds then (fault_line k) → (fault_in script ≡ Some k) × Writes o script old then
+  played_fault {then} some is bad sent = (
+    p.fault ∙ ap (fault_from k) lines ∙ rw bad refl,
+    record {
+      lacking = p.past ++ [];
+      appended = rw (p.whole [] ∙ ap (λ (t : List ℕ). p.written ++ t) last) (appends_then old holds then p.written (fault_line k) p.appended sent);
+    },
+  )
+    where
+      lines : lines_of rest ≡ line ∷ lines_of (drop_through 10 rest)
+      lines = rw is (first_of rest some)
+
+      last : text_from [] now k (lines_of rest) ≡ fault_line k
+      last = ap (text_from [] now k) lines ∙ rw bad refl
+
+module _ {o : Opening} {k : ℕ} {script rest : List ℕ} {old holds : Option (List ℕ)} {now : History} (p : Played o script old holds now k rest) where
+  -- nothing is left
+  pub played_end : rest ≡ [] → (fault_in script ≡ None) × Writes o script old holds
+  played_end none = (
+    p.fault ∙ ap (λ (r : List ℕ). fault_from k (lines_of r)) none,
+    record {
+      lacking = p.past ++ [];
+      appended = rw (p.whole [] ∙ ap (λ (r : List ℕ). p.written ++ text_from [] now k (lines_of r)) none ∙ append-nil p.written) p.appended;
+    },
+  )
+
+  -- something was written
+  pub played_part : Begins o script old holds
+  played_part = record {
+    lacking = p.past ++ [];
+    written = p.written;
+    unwritten = text_from [] now k (lines_of rest);
+    parts = p.whole [];
+    appended = p.appended;
+  }
+
+-- what follows from what is known of known bytes
+pub weaken : (known : Option (List ℕ)) {P Q : List ℕ → Type 0} → ((xs : List ℕ) → P xs → Q xs) → IfSome known P → IfSome known Q
+weaken None f h = tt
+weaken (Some xs) f h = f xs h
+
+-- a reader gave something
+pub came : (rest : List ℕ) → 0 < length (take_through 10 rest) → 0 < length rest
+came [] some = some
+came (b ∷ bytes) some = omega arith
+
+-- the same, with what the bytes are known to be
+pub if_known : (known : Option (List ℕ)) {Q : List ℕ → Type 0} → ((xs : List ℕ) → known ≡ Some xs → Q xs) → IfSome known Q
+if_known None f = tt
+if_known (Some xs) f = f xs refl

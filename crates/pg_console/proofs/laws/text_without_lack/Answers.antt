@@ -1,0 +1,5 @@
+use Rattle.pg_console.proofs.Unlacking.{text-unlacking}
+use Rattle.pg_console.proofs.laws.text_without_lack.Goals as goal
+
+pub returns : goal.returns
+returns c = text-unlacking

@@ -1,0 +1,54 @@
+use Rattle.std.proofs.Common.{◌≡◌, ℕ, ◌+◌, ◌<◌, ◌++◌, List, length, rules, arith, refl, sym, ap, ◌∙◌, inl, inr}
+use Rattle.std.specs.Io.BufRead.{take_through, drop_through, strip_last}
+use Rattle.pg_console.specs.Transcript.{line_text}
+use Rattle.pg_console.specs.Answers.{fault_line}
+use Rattle.pg_console.proofs.Played.{played_start, played_next, played_fault, played_end, played_part, weaken, came, if_known}
+use Rattle.pg_console.proofs.script.run.Goals as goal
+
+pub loop-turn-init : goal.loop-turn-init
+loop-turn-init g c = if_known (g.R.Read.remaining c.args.reader.now)
+    (λ script tells. (script, tells, rw c.open-console.ensures (played_start c.args.opening script (g.W.Write.contents c.args.writer.now))))
+
+-- the script is at its end
+pub returns-in-Ok-eq0-clause-text : goal.returns-in-Ok-eq0-clause-text
+returns-in-Ok-eq0-clause-text g c = λ positive. weaken (g.R.Read.remaining c.args.reader.now)
+    (λ script kept. played_end kept.2 (rw kept.1 at c.in-Ok-eq0.ensures.end (search rules))) c.loop-turn.invariant
+
+pub returns-in-Err-clause-text : goal.returns-in-Err-clause-text
+returns-in-Err-clause-text g c = λ positive. weaken (g.R.Read.remaining c.args.reader.now)
+    (λ script kept. elim c.read_fault.ensures [ inl e ↦ rw e (played_part kept.2) | inr e ↦ rw e (played_part kept.2) ]) c.loop-turn.invariant
+
+pub returns-in-Err-Memory-clause-text : goal.returns-in-Err-Memory-clause-text
+returns-in-Err-Memory-clause-text g c = λ positive. weaken (g.R.Read.remaining c.args.reader.now)
+    (λ script kept. played_part kept.2) c.loop-turn.invariant
+
+-- a line that can't be read
+pub returns-in-Err-Script-clause-text : goal.returns-in-Err-Script-clause-text
+returns-in-Err-Script-clause-text g c = λ positive. weaken (g.R.Read.remaining c.args.reader.now) (λ script kept.
+    let bytes : c.read_until.new.buf.items ≡ take_through 10 kept.0 = (rw kept.1 at c.in-Ok.ensures.bytes) ∙ ap (λ (l : List ℕ). l ++ take_through 10 kept.0) c.clear.ensures.items in
+    let some : 0 < length c.read_until.new.buf.items = search rules in
+    let is = c.without_feed.ensures ∙ ap (strip_last 10) (c.as_slice.ensures.value ∙ bytes) in
+    let said : c.as_slice-in-Err-Script.result.now ≡ fault_line (c.loop-turn.turn + 1) = rw (c.as_slice-in-Err-Script.ensures.value, c.in-Ok-put_numbered_line.ensures, c.clear-in-Err-Script.ensures.items) refl in
+    played_fault kept.2 (came kept.0 (rw bytes at some)) is (c.in-Err-Script.ensures.fault c.in-Err-Script.field-0-is) (rw said at c.in_ok-send-in-Err-Script.ensures.ok)) c.loop-turn.invariant
+
+-- a line that was answered
+pub loop-turn-preserved : goal.loop-turn-preserved
+loop-turn-preserved g c = weaken (g.R.Read.remaining c.args.reader.now) (λ script kept.
+    let bytes : c.read_until.new.buf.items ≡ take_through 10 kept.0 = (rw kept.1 at c.in-Ok.ensures.bytes) ∙ ap (λ (l : List ℕ). l ++ take_through 10 kept.0) c.clear.ensures.items in
+    let some : 0 < length c.read_until.new.buf.items = search rules in
+    let is = c.without_feed.ensures ∙ ap (strip_last 10) (c.as_slice.ensures.value ∙ bytes) in
+    let answered = c.in-Ok-answer.ensures.ok in
+    let said = c.as_slice-in-Ok-answer.ensures.value ∙ answered.2 ∙ ap (λ (l : List ℕ). l ++ line_text answered.0 c.loop-turn.console c.without_feed.result.now) c.clear-in-loop-turn.ensures.items in (
+      drop_through 10 kept.0,
+      rw kept.1 at c.in-Ok.ensures.rest,
+      played_next kept.2 c.as_slice-in-Ok-answer.result.now answered.0 (came kept.0 (rw bytes at some)) is answered.1 said answered.3 c.in_ok-send-in-Ok-answer.ensures.ok,
+    )) c.loop-turn.invariant
+
+pub returns-clause-text : goal.returns-clause-text
+returns-clause-text g c = λ positive. weaken (g.R.Read.remaining c.args.reader.now)
+    (λ script kept. played_part kept.2) c.loop-turn.invariant
+
+-- no memory for the line of a fault
+pub returns-in_default-clause-text : goal.returns-in_default-clause-text
+returns-in_default-clause-text g c = λ positive. weaken (g.R.Read.remaining c.args.reader.now)
+    (λ script kept. played_part kept.2) c.loop-turn.invariant

@@ -1,0 +1,9 @@
+-- Why a line has no answer.
+use Rattle.std.specs.Prelude.{◌≡◌, Option, None}
+use Rattle.pg_console.specs.declared.command.LineFault.{LineFault}
+use Rattle.pg_console.specs.declared.command.LineFault.TheVariants as faults
+
+-- nothing is said, or there was no memory for what is said
+abbrev pub IsUnread : {A : Type 0} → LineFault → Option A → Type 0
+IsUnread faults.Script said = said ≡ None
+IsUnread faults.Memory said = Unit {0}

@@ -1,0 +1,14 @@
+pub mod Rules
+pub mod History
+pub mod Handshake
+pub mod Policy
+pub mod LinkKept
+pub mod Stepped
+pub mod Lines
+pub mod Words
+pub mod WordsLeft
+pub mod Commands
+pub mod Faults
+pub mod Answers
+pub mod Transcript
+pub mod Runs

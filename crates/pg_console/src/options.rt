@@ -1,0 +1,62 @@
+//! The command line.
+use crate::opening::Opening;
+use clap::{Arg, ArgAction, ArgMatches, Command, Error, value_parser};
+use dist_types::{Cookie, NodeName, TextFault};
+use std::alloc::Global;
+
+/// The most entries of a history.
+const ENTRIES: u32 = 1_000_000;
+
+/// Why NAME or COOKIE is refused.
+#[derive(Clone, Copy, Debug, thiserror::Error)]
+pub enum OptionsFault {
+    #[error("error: NAME: {0}")]
+    Name(TextFault),
+    #[error("error: COOKIE: {0}")]
+    Cookie(TextFault),
+}
+
+/// The commands of the program, and the arguments of each.
+pub fn command<'a>(alloc: Global) -> Result<Command<'a>, Error> {
+    let name = Arg::new(alloc, "NAME")
+        .help("The node's own name, as b@h")
+        .required(true);
+    let cookie = Arg::new(alloc, "COOKIE")
+        .help("The secret that the node shares with its peers")
+        .required(true);
+    let creation = Arg::new(alloc, "creation")
+        .long("creation")
+        .value_name("N")
+        .help("The node's creation")
+        .value_parser(value_parser!(u32))
+        .default_value("1");
+    let hidden = Arg::new(alloc, "hidden")
+        .long("hidden")
+        .help("Makes each link a hidden one")
+        .action(ArgAction::SetTrue);
+    let run = Command::new(alloc, "run")
+        .about("Plays a script from standard input on one node")
+        .arg(name)?
+        .arg(cookie)?
+        .arg(creation)?
+        .arg(hidden)?;
+    let program = Command::new(alloc, "pg_console")
+        .version("0.1.0")
+        .about("Plays scripts on a node of process groups")
+        .subcommand_required(true)
+        .subcommand(run)?;
+    Ok(program)
+}
+
+/// What `run` opens its node with.
+pub fn opening(alloc: Global, run: &ArgMatches<'_>) -> Result<Opening, OptionsFault> {
+    let name = run.get_str("NAME").unwrap_or("");
+    let cookie = run.get_str("COOKIE").unwrap_or("");
+    Ok(Opening {
+        name: NodeName::parse(alloc, name.as_bytes()).map_err(OptionsFault::Name)?,
+        cookie: Cookie::parse(alloc, cookie.as_bytes()).map_err(OptionsFault::Cookie)?,
+        hidden: run.get_flag("hidden"),
+        creation: run.get_one::<u32>("creation").unwrap_or(1),
+        entries: ENTRIES,
+    })
+}

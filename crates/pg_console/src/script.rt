@@ -1,0 +1,97 @@
+//! The run of a whole script.
+ghost use Rattle.std.specs.Prelude.{◌≡◌, ◌⊎◌, ◌<◌, ◌↔◌, OnOk, IfErr, IfSome, Err};
+ghost use Rattle.std.specs.Io.KnownBytes.{Appends};
+ghost use Rattle.pg_console.specs.Runs.{RunsAs};
+ghost use Rattle.pg_console.specs.declared.script.RunFault.TheVariants as faults;
+
+use crate::answers::put_numbered_line;
+use crate::command::LineFault;
+use crate::console::Console;
+use crate::opening::Opening;
+use crate::words::without_feed;
+use std::io::{BufRead, Error, ErrorKind, Write};
+use thiserror::Error as ErrorDerive;
+
+/// Why a run did not end with the script.
+#[derive(Clone, Copy, Debug, PartialEq, Eq, ErrorDerive)]
+pub enum RunFault {
+    #[error("a number of the opening is outside its limits")]
+    BadOpening,
+    #[error("line {0} of the script can't be read")]
+    Script(u64),
+    #[error("standard input can't be read")]
+    Read,
+    #[error("standard output can't be written")]
+    Write,
+    #[error("out of memory")]
+    Memory,
+}
+
+/// The most lines that are read.
+const TURNS: u64 = 1 << 32;
+
+/// Plays a script on a new node: one answer line for each command, up to the first line that can't be read. Each answer
+/// is written and flushed before the next line is read.
+pub fn run<A: AllocGlobal, R: BufRead, W: Write>(
+    rt: &A,
+    opening: Opening,
+    reader: &mut R,
+    writer: &mut W,
+) -> Result<(), RunFault>
+    ensures bad { (result ≡ Err faults.BadOpening) ↔ (opening.entries ≡ 0) }
+    ensures untouched { result ≡ Err faults.BadOpening → (reader.new ≡ reader.old) × (writer.new ≡ writer.old) }
+    ensures text { 0 < opening.entries → IfSome (R.remaining reader.old) (λ script.
+        RunsAs opening script (W.contents writer.old) (W.contents writer.new) result) }
+{
+    if opening.entries == 0 {
+        return Err(RunFault::BadOpening);
+    }
+    let alloc = rt.alloc();
+    let mut console = Console::open(alloc, opening);
+    let mut line = Vec::new(alloc);
+    let mut out = Vec::new(alloc);
+    for turn in 0..TURNS {
+        line.clear();
+        out.clear();
+        match reader.read_until(b'\n', &mut line) {
+            Ok(0) => return Ok(()),
+            Ok(_) => {}
+            Err(error) => return Err(read_fault(error)),
+        }
+        match console.answer(alloc, without_feed(line.as_slice()), &mut out) {
+            Ok(()) => send(out.as_slice(), writer)?,
+            Err(LineFault::Memory) => return Err(RunFault::Memory),
+            Err(LineFault::Script) => {
+                out.clear();
+                let Ok(()) = put_numbered_line("fault line ", turn + 1, &mut out) else {
+                    return Err(RunFault::Memory);
+                };
+                send(out.as_slice(), writer)?;
+                return Err(RunFault::Script(turn + 1));
+            }
+        }
+    }
+    Err(RunFault::Read)
+}
+
+/// What a reader's error ends a run with.
+fn read_fault(error: Error) -> RunFault
+    ensures { (result ≡ faults.Read) ⊎ (result ≡ faults.Memory) }
+{
+    if error.kind() == ErrorKind::OutOfMemory {
+        RunFault::Memory
+    } else {
+        RunFault::Read
+    }
+}
+
+/// Writes all bytes, and sees that they go out.
+fn send<W: Write>(bytes: &[u8], writer: &mut W) -> Result<(), RunFault>
+    ensures ok { OnOk result (Appends (W.contents writer.old) (W.contents writer.new) bytes.now) }
+    ensures err { IfErr result (λ fault. fault ≡ faults.Write) }
+{
+    if writer.write_all(bytes).is_err() || writer.flush().is_err() {
+        return Err(RunFault::Write);
+    }
+    Ok(())
+}

@@ -1,0 +1,99 @@
+//! The words of a line, and the numbers and bodies that they say.
+ghost use Rattle.std.specs.Prelude.{◌≡◌, ◌∷◌, [], IfSome, IfOk, IfErr, IsNone, Some, None};
+ghost use Rattle.std.specs.Io.BufRead.{strip_last};
+ghost use Rattle.pg_console.specs.Lines.{words_of, is_quiet, only_of};
+ghost use Rattle.pg_console.specs.Words.{number_of, body_of};
+ghost use Rattle.pg_console.specs.WordsLeft.{words_left};
+ghost use Rattle.pg_console.specs.Faults.{IsUnread};
+
+use crate::command::LineFault;
+use crate::event::Body;
+use hex::FromHexError;
+use itoa::Buffer;
+use std::alloc::Global;
+
+/// A line without the line feed at its end.
+pub fn without_feed(line: &[u8]) -> &[u8]
+    ensures { result.now ≡ strip_last 10 line.now }
+{
+    match line.split_last() {
+        Some((last, front)) if *last == b'\n' => front,
+        _ => line,
+    }
+}
+
+/// Whether a line gives no answer.
+pub fn is_quiet(line: &[u8]) -> bool
+    ensures { result ≡ is_quiet line.now }
+{
+    match line.first() {
+        Some(first) => *first == b'#',
+        None => true,
+    }
+}
+
+/// The first word, and what stands behind the space after it.
+pub fn first_word(line: &[u8]) -> (&[u8], Option<&[u8]>)
+    ensures { words_of line.now ≡ result.0.now ∷ words_left result.1 }
+{
+    for (i, byte) in line.iter().enumerate() {
+        if *byte == b' ' {
+            return (&line[..i], Some(&line[i + 1..]));
+        }
+    }
+    (line, None)
+}
+
+/// The next word, where there is one.
+pub fn next_word(rest: Option<&[u8]>) -> Option<(&[u8], Option<&[u8]>)>
+    ensures found { IfSome result (λ read. words_left rest.entry ≡ read.0.now ∷ words_left read.1) }
+    ensures ended { IsNone result → words_left rest.entry ≡ [] }
+{
+    let line = rest?;
+    Some(first_word(line))
+}
+
+/// The only word that is left.
+pub fn only_word(rest: Option<&[u8]>) -> Option<&[u8]>
+    ensures found { IfSome result (λ word. only_of (words_left rest.entry) ≡ Some word.now) }
+    ensures none { IsNone result → only_of (words_left rest.entry) ≡ None }
+{
+    let (word, rest) = next_word(rest)?;
+    match next_word(rest) {
+        Some(_) => None,
+        None => Some(word),
+    }
+}
+
+/// The number of 32 bits that a word says in decimal, with no sign and no needless zero.
+pub fn number(word: &[u8]) -> Option<u32>
+    ensures { result ≡ number_of word.now }
+{
+    let Ok(text) = str::from_utf8(word) else {
+        return None;
+    };
+    let Ok(number) = text.parse::<u32>() else {
+        return None;
+    };
+    let mut digits = Buffer::new();
+    if digits.format(number).as_bytes() == word {
+        Some(number)
+    } else {
+        None
+    }
+}
+
+/// The bytes that a word says in hex.
+pub fn body(alloc: Global, word: &[u8]) -> Result<Body, LineFault>
+    ensures ok { IfOk result (λ bytes. body_of word.now ≡ Some bytes) }
+    ensures fault { IfErr result (λ fault. IsUnread fault (body_of word.now)) }
+{
+    if word.is_empty() {
+        return Err(LineFault::Script);
+    }
+    match hex::decode(alloc, word) {
+        Ok(bytes) => Ok(Body::of(bytes)),
+        Err(FromHexError::OutOfMemory) => Err(LineFault::Memory),
+        Err(_) => Err(LineFault::Script),
+    }
+}
