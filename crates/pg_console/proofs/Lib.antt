@@ -7,3 +7,4 @@ pub mod NodeLemmas
 pub mod ReplyLemmas
 pub mod Played
 pub mod Unlacking
+pub mod WorkedScripts

@@ -19,13 +19,23 @@ mod words;
 
 use options::{command, opening};
 use script::{RunFault, run};
-use std::io::{self, BufReader};
+use std::io::{self, BufReader, ErrorKind};
 use std::process::ExitCode;
 
 /// Status 0 at the end of a script, 1 at a fault of the script, of a stream or of memory, 2 at one of the command line.
 fn main(rt: HostRuntime) -> io::Result<ExitCode> {
     let alloc = rt.alloc();
-    let words: Vec<String> = std::env::args(&rt)?.collect(alloc)?;
+    let words: Vec<String> = match std::env::args(&rt) {
+        Ok(words) => words.collect(alloc)?,
+        Err(error) if error.kind() == ErrorKind::InvalidData => {
+            return failed(
+                &rt,
+                2,
+                "error: the command line has a word that is not UTF-8",
+            );
+        }
+        Err(error) => return Err(error),
+    };
     let Ok(command) = command(alloc) else {
         return failed(&rt, 1, "error: out of memory");
     };

@@ -1,4 +1,6 @@
 //! The command line.
+ghost use Rattle.std.specs.Prelude.{◌≡◌, IfOk};
+
 use crate::opening::Opening;
 use clap::{Arg, ArgAction, ArgMatches, Command, Error, value_parser};
 use dist_types::{Cookie, NodeName, TextFault};
@@ -49,7 +51,9 @@ pub fn command<'a>(alloc: Global) -> Result<Command<'a>, Error> {
 }
 
 /// What `run` opens its node with.
-pub fn opening(alloc: Global, run: &ArgMatches<'_>) -> Result<Opening, OptionsFault> {
+pub fn opening(alloc: Global, run: &ArgMatches<'_>) -> Result<Opening, OptionsFault>
+    ensures { IfOk result (λ opening. opening.entries ≡ 1000000) }
+{
     let name = run.get_str("NAME").unwrap_or("");
     let cookie = run.get_str("COOKIE").unwrap_or("");
     Ok(Opening {

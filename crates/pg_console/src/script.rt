@@ -1,6 +1,8 @@
 //! The run of a whole script.
 ghost use Rattle.std.specs.Prelude.{◌≡◌, ◌⊎◌, ◌<◌, ◌↔◌, OnOk, IfErr, IfSome, Err};
 ghost use Rattle.std.specs.Io.KnownBytes.{Appends};
+ghost use Rattle.std.specs.IoError.{error_kind};
+ghost use Rattle.std.specs.declared.io.ErrorKind.TheVariants as kinds;
 ghost use Rattle.pg_console.specs.Runs.{RunsAs};
 ghost use Rattle.pg_console.specs.declared.script.RunFault.TheVariants as faults;
 
@@ -76,7 +78,8 @@ pub fn run<A: AllocGlobal, R: BufRead, W: Write>(
 
 /// What a reader's error ends a run with.
 fn read_fault(error: Error) -> RunFault
-    ensures { (result ≡ faults.Read) ⊎ (result ≡ faults.Memory) }
+    ensures ended { (result ≡ faults.Read) ⊎ (result ≡ faults.Memory) }
+    ensures memory { (result ≡ faults.Memory) ↔ (error_kind error ≡ kinds.OutOfMemory) }
 {
     if error.kind() == ErrorKind::OutOfMemory {
         RunFault::Memory

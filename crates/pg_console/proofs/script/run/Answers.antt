@@ -16,7 +16,7 @@ returns-in-Ok-eq0-clause-text g c = λ positive. weaken (g.R.Read.remaining c.ar
 
 pub returns-in-Err-clause-text : goal.returns-in-Err-clause-text
 returns-in-Err-clause-text g c = λ positive. weaken (g.R.Read.remaining c.args.reader.now)
-    (λ script kept. elim c.read_fault.ensures [ inl e ↦ rw e (played_part kept.2) | inr e ↦ rw e (played_part kept.2) ]) c.loop-turn.invariant
+    (λ script kept. elim c.read_fault.ensures.ended [ inl e ↦ rw e (played_part kept.2) | inr e ↦ rw e (played_part kept.2) ]) c.loop-turn.invariant
 
 pub returns-in-Err-Memory-clause-text : goal.returns-in-Err-Memory-clause-text
 returns-in-Err-Memory-clause-text g c = λ positive. weaken (g.R.Read.remaining c.args.reader.now)
