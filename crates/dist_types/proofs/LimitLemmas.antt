@@ -1,7 +1,6 @@
 -- The limits of the texts, as facts and as tests that compute.
-use Rattle.std.proofs.Common.{◌≡◌, ◌≢◌, ◌↔◌, ℕ, ◌-◌, ◌+◌, ◌<◌, ◌≤◌, Bool, true, false, ◌&&◌, not, nat_lt, nat_le, List, length, get_or, refl, sym, ◌∙◌, IsTrue, All, rules, arith, ap, Result, Ok, Err, IfErr, IsErr, MatchResult}
-use Rattle.std.specs.Prelude.{count_by, slice_get, Some, ◌==◌}
-use Rattle.std.specs.List.{list_all}
+use Rattle.std.proofs.Common.{◌≡◌, ◌≢◌, ◌↔◌, ℕ, ◌-◌, ◌<◌, ◌≤◌, Bool, true, false, ◌&&◌, not, nat_lt, nat_le, List, length, get_or, refl, IsTrue, rules, arith, ap, Result, Ok, Err, IfErr, IsErr, MatchResult}
+use Rattle.std.specs.Prelude.{slice_get, Some, ◌==◌}
 use Rattle.std.proofs.lemmas.List.Sums.{AllPass-from_list_all, list_all-from_AllPass}
 use Rattle.std.proofs.lemmas.Option.{slice_get-get_or}
 use Rattle.dist_types.specs.declared.fault.TextFault.{TextFault}

@@ -1,5 +1,5 @@
-//! Laws of faults, orders and equality. Each function does nothing; its contract is the law.
-ghost use Rattle.std.specs.Prelude.{◌≡◌, ◌↔◌, List, ℕ, IsTrue};
+//! Laws of faults, orders, equality and listings. Each function does nothing; its contract is the law.
+ghost use Rattle.std.specs.Prelude.{◌≡◌, ◌↔◌, ◌<◌, List, ℕ, IsTrue};
 ghost use Rattle.dist_types.specs.declared.fault.TextFault.{TextFault};
 ghost use Rattle.dist_types.specs.declared.flags.Flags.{Flags};
 ghost use Rattle.dist_types.specs.declared.pid.Pid.{Pid};
@@ -8,6 +8,7 @@ ghost use Rattle.dist_types.specs.declared.change.GroupChange.{GroupChange};
 ghost use Rattle.dist_types.specs.Text.{IsText, IsNodeName, is_text, is_node_name};
 ghost use Rattle.dist_types.specs.Fault.{IsTextFault, IsNameFault};
 ghost use Rattle.dist_types.specs.Order.{text_cmp, pid_cmp, row_cmp};
+ghost use Rattle.dist_types.specs.Listing.{same_pid, same_row, stands_in, listing, IsPidListing, IsRowListing, IsGroupListing};
 
 use crate::change::GroupChange;
 use crate::cookie::Cookie;
@@ -59,4 +60,19 @@ pub fn equal_values()
     ensures pids { (a b : Pid) → IsTrue (⟦<Pid as PartialEq>⟧.eq a b) ↔ (a ≡ b) }
     ensures rows { (a b : Row) → IsTrue (⟦<Row as PartialEq>⟧.eq a b) ↔ (a ≡ b) }
     ensures changes { (a b : GroupChange) → IsTrue (⟦<GroupChange as PartialEq>⟧.eq a b) ↔ (a ≡ b) }
+{}
+
+/// A count has one listing.
+pub fn one_listing()
+    ensures pids { (count : Pid → ℕ) (ps qs : List Pid) → IsPidListing count ps → IsPidListing count qs → ps ≡ qs }
+    ensures rows { (count : List ℕ → Pid → ℕ) (rs ss : List Row) → IsRowListing count rs → IsRowListing count ss → rs ≡ ss }
+    ensures groups { (count : List ℕ → Pid → ℕ) (gs hs : List (List ℕ)) → IsGroupListing count gs → IsGroupListing count hs → gs ≡ hs }
+{}
+
+/// A listing is computed from its count and a list that names all that are counted.
+pub fn listing_of_named()
+    ensures pids { (count : Pid → ℕ) (ps named : List Pid) → IsPidListing count ps
+        → ((p : Pid) → 0 < count p → IsTrue (stands_in same_pid p named)) → ps ≡ listing pid_cmp count named }
+    ensures rows { (count : List ℕ → Pid → ℕ) (rs named : List Row) → IsRowListing count rs
+        → ((r : Row) → 0 < count r.group r.pid → IsTrue (stands_in same_row r named)) → rs ≡ listing row_cmp (λ r. count r.group r.pid) named }
 {}

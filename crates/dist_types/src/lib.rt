@@ -23,7 +23,8 @@ pub use flags::Flags;
 pub use group::Group;
 pub use items::{Items, TryClone};
 pub use laws::{
-    equal_values, limits_compute, one_fault, order_of_pids, order_of_rows, order_of_texts,
+    equal_values, limits_compute, listing_of_named, one_fault, one_listing, order_of_pids,
+    order_of_rows, order_of_texts,
 };
 pub use node_name::NodeName;
 pub use pid::Pid;

@@ -1,5 +1,5 @@
-use Rattle.std.proofs.Common.{◌≡◌, ◌≢◌, rules, true, false, IfErr, IsErr}
-use Rattle.dist_types.specs.Text.{HasInnerAt, IsNodeName, is_node_name}
+use Rattle.std.proofs.Common.{rules, IfErr, IsErr}
+use Rattle.dist_types.specs.Text.{IsNodeName}
 use Rattle.dist_types.specs.declared.fault.TextFault.TheVariants as faults
 use Rattle.dist_types.specs.Fault.{IsNameFault}
 use Rattle.dist_types.proofs.LimitLemmas.{names_compute, refused_name, tells_no_name}

@@ -1,0 +1,37 @@
+-- The difference in one group, and in many.
+use Rattle.std.specs.Prelude.{◌≡◌, ℕ, ◌-◌, Bool, true, false, cond, ◌&&◌, List, [], ◌∷◌}
+use Rattle.std.proofs.Common.{refl, ◌∙◌, sym, arith}
+use Rattle.std.proofs.lemmas.Bool.{and_parts}
+use Rattle.dist_types.specs.declared.pid.Pid.{Pid}
+use Rattle.dist_types.specs.Order.{pid_cmp}
+use Rattle.dist_types.specs.Listing.{same, mentions, Ascends}
+use Rattle.dist_types.specs.Difference.{is_empty, IsDifference, change_unless_empty}
+
+none_mentioned : (p : Pid) (ps : List Pid) → is_empty ps ≡ true → mentions p ps ≡ 0
+none_mentioned p [] e = refl
+none_mentioned p (q ∷ ps) e = absurd (let f : false ≡ true = e in cc)
+
+-- where the counts differ in one group alone, its change is the difference
+pub one_difference : (before after : List ℕ → Pid → ℕ) (g : List ℕ) (left joined : List Pid) → Ascends pid_cmp left → Ascends pid_cmp joined
+    → ((h : List ℕ) (p : Pid) → before h p - after h p ≡ cond (same g h) (mentions p left) 0)
+    → ((h : List ℕ) (p : Pid) → after h p - before h p ≡ cond (same g h) (mentions p joined) 0)
+    → IsDifference before after (change_unless_empty g left joined)
+one_difference before after g left joined l j less more =
+    elim (is_empty left && is_empty joined) as (λ v. (is_empty left && is_empty joined) ≡ v → IsDifference before after (cond v [] (record { group = g; left = left; joined = joined } ∷ []))) [
+      | true ↦ λ e. record {
+        groups = tt;
+        proper = tt;
+        left = λ h p. sym (less h p ∙ nothing (same g h) (mentions p left) (none_mentioned p left (and_parts (is_empty left) (is_empty joined) e).0));
+        joined = λ h p. sym (more h p ∙ nothing (same g h) (mentions p joined) (none_mentioned p joined (and_parts (is_empty left) (is_empty joined) e).1));
+      }
+      | false ↦ λ e. record {
+        groups = (tt, tt);
+        proper = (record { left = l; joined = j; some = e }, tt);
+        left = λ h p. let n = less h p in omega (arith, n);
+        joined = λ h p. let n = more h p in omega (arith, n);
+      }
+    ] refl
+  where
+    nothing : (b : Bool) (n : ℕ) → n ≡ 0 → cond b n 0 ≡ 0
+    nothing true n e = e
+    nothing false n e = refl

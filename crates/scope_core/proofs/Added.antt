@@ -1,0 +1,121 @@
+-- One more of a row.
+use Rattle.std.specs.Prelude.{◌≡◌, ℕ, zero, suc, ◌+◌, ◌<◌, ◌≤◌, Bool, true, false, cond, List, [], ◌∷◌, ◌++◌, length, Result, Ok, Err, IfOk, IfErr, IsOk, is_ok}
+use Rattle.std.proofs.Common.{refl, ap, ◌∙◌, sym, subst, arith, get_or, add-one}
+use Rattle.std.proofs.Math.ListN.{set}
+use Rattle.std.proofs.lemmas.List.{get_or_default}
+use Rattle.std.specs.declared.cmp.Ordering.TheVariants.{Less, Greater}
+use Rattle.std.specs.Ordering.{is_lt, ordering_reverse, ordering_index}
+use Rattle.std.specs.List.{insert, HoldsAt, AllByRecursion}
+use Rattle.std.specs.List.Sorted.{IsBinarySearchResult, IsPartitionPoint, IsSortedBy, IsNonDecreasingBy}
+use Rattle.std.proofs.lemmas.List.Sorted.{searchable_from_sorted}
+use Rattle.std.proofs.lemmas.List.Sums.{sum_by-insert, sum_by-set, get_or-le-sum_by}
+use Rattle.dist_types.specs.declared.row.Row.{Row}
+use Rattle.dist_types.specs.Order.{row_cmp}
+use Rattle.scope_core.specs.declared.counted.Counted.{Counted}
+use Rattle.dist_types.specs.Listing.{how_many, Rises}
+use Rattle.scope_core.specs.Table.{is_of_node, counted_cmp, IsKept}
+use Rattle.scope_core.specs.Added.{Adds, HasRoomFor}
+use Rattle.dist_types.proofs.Orders.{rows_total, exact_rows, same_decides}
+use Rattle.dist_types.proofs.Totals.{total_is, how_many_append}
+use Rattle.dist_types.proofs.Sorts.{all_from}
+use Rattle.scope_core.proofs.Runs.{all_at}
+
+-- rows that rise can be searched
+rising_next : (cs : List Counted) → Rises counted_cmp cs → (k : ℕ) (d : Counted) → suc k < length cs → is_lt (row_cmp (get_or cs (suc k) d).row (get_or cs k d).row) ≡ false
+rising_next [] r k d h = absurd (omega (arith, h))
+rising_next (c ∷ []) r k d h = absurd (omega (arith, h))
+rising_next (c ∷ x ∷ xs) r zero d h = ap is_lt (rows_total.antisymm x.row c.row ∙ ap ordering_reverse r.0.0)
+rising_next (c ∷ x ∷ xs) r (suc k) d h = rising_next (x ∷ xs) r.1 k d (omega (arith, h))
+
+rising_sorted : (cs : List Counted) → Rises counted_cmp cs → IsSortedBy (λ c d. is_lt (row_cmp c.row d.row)) cs
+rising_sorted cs r k d l h = ap (λ n. is_lt (row_cmp (get_or cs n d).row (get_or cs k d).row)) (add-one k) ∙ rising_next cs r k d (omega (arith, h))
+
+pub searchable : (cs : List Counted) (row : Row) → Rises counted_cmp cs → IsNonDecreasingBy (λ c. ordering_index (row_cmp c.row row)) cs
+searchable cs row r = searchable_from_sorted rows_total (λ (c : Counted). c.row) cs row (rising_sorted cs r)
+
+pub found_is : (cs : List Counted) (row : Row) (r : Result ℕ ℕ) → IsBinarySearchResult (λ c. row_cmp c.row row) cs r → IfOk r (HoldsAt (λ c. c.row ≡ row) cs)
+found_is cs row (Ok i) h = λ d. exact_rows (get_or cs i d).row row (h d)
+found_is cs row (Err i) h = tt
+
+pub gap_is : (cs : List Counted) (row : Row) (r : Result ℕ ℕ) → Rises counted_cmp cs → IsBinarySearchResult (λ c. row_cmp c.row row) cs r → IfErr r (IsPartitionPoint (λ c. row_cmp c.row row ≡ Less) (λ c. row_cmp c.row row ≡ Greater) cs)
+gap_is cs row (Ok i) r h = tt
+gap_is cs row (Err i) r h = h (searchable cs row r)
+
+module _ {A : Type 0} (P : A → Type 0) where
+  all_insert : (xs : List A) (i : ℕ) (y : A) → P y → AllByRecursion P xs → AllByRecursion P (insert xs i y)
+  all_insert xs zero y p a = (p, a)
+  all_insert [] (suc i) y p a = (p, tt)
+  all_insert (x ∷ xs) (suc i) y p a = (a.0, all_insert xs i y p a.1)
+
+  all_set : (xs : List A) (i : ℕ) (y : A) → P y → AllByRecursion P xs → AllByRecursion P (set xs i y)
+  all_set [] i y p a = tt
+  all_set (x ∷ xs) zero y p a = (p, a.1)
+  all_set (x ∷ xs) (suc i) y p a = (a.0, all_set xs i y p a.1)
+
+pub rises_insert : (cs : List Counted) (i : ℕ) (x : Counted) → i ≤ length cs → Rises counted_cmp cs
+    → IsPartitionPoint (λ c. row_cmp c.row x.row ≡ Less) (λ c. row_cmp c.row x.row ≡ Greater) cs i → Rises counted_cmp (insert cs i x)
+rises_insert cs zero x l r p =
+    (all_from (λ d. counted_cmp x d ≡ Less) cs (λ k d m h. rows_total.antisymm x.row (get_or cs k d).row ∙ ap ordering_reverse (p.1 k d m h)), r)
+rises_insert [] (suc i) x l r p = absurd (omega (arith, l))
+rises_insert (c ∷ cs) (suc i) x l r p = (
+  all_insert (λ d. counted_cmp c d ≡ Less) cs i x (p.0 0 c (omega arith) (omega arith)) r.0,
+  rises_insert cs i x (omega (arith, l)) r.1 ((λ k d m h. p.0 (suc k) d (omega arith) (omega (arith, h))), (λ k d m h. p.1 (suc k) d (omega (arith, m)) (omega (arith, h)))),
+)
+
+pub rises_set : (cs : List Counted) (i : ℕ) (x : Counted) → i < length cs → x.row ≡ (get_or cs i x).row → Rises counted_cmp cs → Rises counted_cmp (set cs i x)
+rises_set [] i x l e r = tt
+rises_set (c ∷ cs) zero x l e r = (subst (λ y. AllByRecursion (λ d. row_cmp y d.row ≡ Less) cs) (sym e) r.0, r.1)
+rises_set (c ∷ cs) (suc i) x l e r = (
+  all_set (λ d. counted_cmp c d ≡ Less) cs i x (ap (row_cmp c.row) e ∙ all_at (λ d. counted_cmp c d ≡ Less) cs i x r.0 (omega (arith, l))) r.0,
+  rises_set cs i x (omega (arith, l)) e r.1,
+)
+
+pub tally-insert : (cs : List Counted) (i : ℕ) (row : Row) → Adds (row ∷ []) cs (insert cs i (record { row = row; count = 1 }))
+tally-insert cs i row test =
+    let f = λ (c : Counted). cond (test c.row) c.count 0 in
+    total_is f (insert cs i (record { row = row; count = 1 })) ∙ sum_by-insert f cs i (record { row = row; count = 1 }) ∙ ap (λ n. n + cond (test row) 1 0) (sym (total_is f cs))
+
+pub tally-more : (cs : List Counted) (i : ℕ) (c : Counted) → i < length cs → c ≡ get_or cs i c → Adds (c.row ∷ []) cs (set cs i (record { row = c.row; count = c.count + 1 }))
+tally-more cs i c l e test =
+    let f = λ (d : Counted). cond (test d.row) d.count 0 in
+    let a = total_is f (set cs i (record { row = c.row; count = c.count + 1 })) in
+    let b = total_is f cs in
+    let s = sum_by-set f cs i (record { row = c.row; count = c.count + 1 }) c l in
+    let g : f (get_or cs i c) ≡ f c = ap f (sym e) in
+    let n : f (record { row = c.row; count = c.count + 1 }) ≡ f c + cond (test c.row) 1 0 = elim (test c.row) as (λ v. cond v (c.count + 1) 0 ≡ cond v c.count 0 + cond v 1 0) [ true ↦ refl | false ↦ omega arith ] in
+    omega (arith, a, b, s, g, n)
+
+pub inserted : {T E : Type 0} {A : Type 0} (r : Result T E) (new a b : A) → IsOk r → new ≡ cond (is_ok r) a b → new ≡ a
+inserted (Ok x) new a b h e = e
+inserted (Err x) new a b h e = absurd (let f : false ≡ true = h in cc)
+
+-- a count has room for one more
+pub count_fits : (cs : List Counted) (i : ℕ) (c : Counted) → i < length cs → c ≡ get_or cs i c → IsKept cs → c.count ≤ 4096
+count_fits cs i c l e kept =
+    let node = c.row.pid.node in
+    let f = λ (d : Counted). cond (is_of_node node d.row) d.count 0 in
+    let a = get_or-le-sum_by f cs i c l in
+    let g : f (get_or cs i c) ≡ f c = ap f (sym e) in
+    let n : f c ≡ c.count = ap (λ b. cond b c.count 0) ((same_decides node node).1 refl) in
+    let b = total_is f cs in
+    let few = kept.few node in
+    omega (arith, a, g, n, b, few)
+
+pub inserted_kept : (cs : List Counted) (i : ℕ) (row : Row) → i ≤ length cs → IsKept cs → HasRoomFor (row ∷ []) cs
+    → IsPartitionPoint (λ c. row_cmp c.row row ≡ Less) (λ c. row_cmp c.row row ≡ Greater) cs i → IsKept (insert cs i (record { row = row; count = 1 }))
+inserted_kept cs i row l kept few gap = record {
+  rises = rises_insert cs i (record { row = row; count = 1 }) l kept.rises gap;
+  counted = all_insert (λ c. 0 < c.count) cs i (record { row = row; count = 1 }) (omega arith) kept.counted;
+  few = λ n. let a = tally-insert cs i row (is_of_node n) in let b = few n in omega (arith, a, b);
+}
+
+pub more_kept : (cs : List Counted) (i : ℕ) (c : Counted) → i < length cs → c ≡ get_or cs i c → IsKept cs → HasRoomFor (c.row ∷ []) cs → IsKept (set cs i (record { row = c.row; count = c.count + 1 }))
+more_kept cs i c l e kept few = record {
+  rises = rises_set cs i (record { row = c.row; count = c.count + 1 }) l (ap (λ x. x.row) (e ∙ get_or_default cs i c (record { row = c.row; count = c.count + 1 }) l)) kept.rises;
+  counted = all_set (λ x. 0 < x.count) cs i (record { row = c.row; count = c.count + 1 }) (omega arith) kept.counted;
+  few = λ n. let a = tally-more cs i c l e (is_of_node n) in let b = few n in omega (arith, a, b);
+}
+
+-- the last of the rows to put in counts as one
+pub last_counts : (test : Row → Bool) (rows rest : List Row) (row : Row) → rows ≡ rest ++ row ∷ [] → how_many test rows ≡ how_many test rest + cond (test row) 1 0
+last_counts test rows rest row e = ap (how_many test) e ∙ how_many_append test rest (row ∷ [])

@@ -1,0 +1,84 @@
+-- One more for each mention.
+use Rattle.std.specs.Prelude.{◌≡◌, ℕ, suc, ◌+◌, ◌-◌, ◌≤◌, Bool, true, false, cond, ◌&&◌, map, List, [], ◌∷◌, length, All}
+use Rattle.std.proofs.Common.{refl, ap, ◌∙◌, sym, arith}
+use Rattle.dist_types.specs.declared.pid.Pid.{Pid}
+use Rattle.dist_types.specs.declared.row.Row.{Row}
+use Rattle.scope_core.specs.declared.counted.Counted.{Counted}
+use Rattle.dist_types.specs.Listing.{same, same_row, occurrences, spread, same_pid, mentions, how_many, IsPidListing}
+use Rattle.dist_types.specs.Difference.{IsDifference, change_unless_empty}
+use Rattle.scope_core.proofs.Shares.{each, of_node, own_flat}
+use Rattle.dist_types.proofs.Listings.{fewer_length, length-spread}
+use Rattle.scope_core.specs.Table.{Table, local_count, local_total, is_row, is_of_node, tally, IsKept}
+use Rattle.scope_core.specs.Added.{row_in, Adds, HasRoomFor}
+use Rattle.dist_types.proofs.Orders.{same_decides, same_sym, same_row_decides}
+use Rattle.dist_types.proofs.Totals.{how_many_le}
+use Rattle.dist_types.proofs.Sorts.{all_from}
+use Rattle.dist_types.proofs.Differences.{one_difference}
+use Rattle.std.specs.List.{AllByRecursion}
+use Rattle.std.proofs.lemmas.List.{length-map}
+
+counted : (g h : List ℕ) (p : Pid) (b : Bool) → same g h ≡ b → (qs : List Pid) → how_many (is_row h p) (map (row_in g) qs) ≡ cond b (mentions p qs) 0
+counted g h p true e [] = refl
+counted g h p true e (q ∷ qs) =
+    ap (λ v. cond (v && same_pid q p) (suc (how_many (is_row h p) (map (row_in g) qs))) (how_many (is_row h p) (map (row_in g) qs))) e
+    ∙ ap (λ n. cond (same_pid q p) (suc n) n) (counted g h p true e qs)
+counted g h p false e [] = refl
+counted g h p false e (q ∷ qs) =
+    ap (λ v. cond (v && same_pid q p) (suc (how_many (is_row h p) (map (row_in g) qs))) (how_many (is_row h p) (map (row_in g) qs))) e
+    ∙ counted g h p false e qs
+
+-- the rows of a list of processes are the mentions of each
+pub mentions_in : (g h : List ℕ) (p : Pid) (ps : List Pid) → how_many (is_row h p) (map (row_in g) ps) ≡ cond (same h g) (mentions p ps) 0
+mentions_in g h p ps = counted g h p (same h g) (same_sym g h) ps
+
+-- what is counted after a join
+pub joined_counts : (g : List ℕ) (ps : List Pid) (rows : List Row) (old new : List Counted) → rows ≡ map (row_in g) ps → Adds rows old new → (h : List ℕ) (p : Pid) → tally (is_row h p) new ≡ tally (is_row h p) old + cond (same h g) (mentions p ps) 0
+joined_counts g ps rows old new e a h p = a (is_row h p) ∙ ap (λ n. tally (is_row h p) old + n) (ap (how_many (is_row h p)) e ∙ mentions_in g h p ps)
+
+-- the change of a join
+pub joined_change : (g : List ℕ) (ps sorted : List Pid) (before after : List ℕ → Pid → ℕ) → IsPidListing (λ p. mentions p ps) sorted → ((h : List ℕ) (p : Pid) → after h p ≡ before h p + cond (same h g) (mentions p ps) 0)
+    → IsDifference before after (change_unless_empty g [] sorted)
+joined_change g ps sorted before after listing is =
+    one_difference before after g [] sorted tt listing.ascends
+    (λ h p. let a = is h p in elim (same g h) as (λ v. before h p - after h p ≡ cond v 0 0) [ true ↦ omega (arith, a) | false ↦ omega (arith, a) ])
+    (λ h p.
+    let a = is h p in
+    let m : after h p - before h p ≡ cond (same h g) (mentions p ps) 0 = omega (arith, a) in
+    m ∙ ap (λ (t : Bool × ℕ). cond t.0 t.1 0) (λ i. (same_sym h g i, sym (listing.counts p) i)))
+
+none_of_node : (g node own : List ℕ) (ps : List Pid) → AllByRecursion (λ p. p.node ≡ own) ps → same own node ≡ false → how_many (is_of_node node) (map (row_in g) ps) ≡ 0
+none_of_node g node own [] a e = refl
+none_of_node g node own (p ∷ ps) a e =
+    ap (λ n. cond (same n node) (suc (how_many (is_of_node node) (map (row_in g) ps))) (how_many (is_of_node node) (map (row_in g) ps))) a.0
+    ∙ ap (λ b. cond b (suc (how_many (is_of_node node) (map (row_in g) ps))) (how_many (is_of_node node) (map (row_in g) ps))) e
+    ∙ none_of_node g node own ps a.1 e
+
+-- own processes have room where the own node has
+pub room_for : (g own : List ℕ) (ps : List Pid) (rows : List Row) (old : List Counted) → rows ≡ map (row_in g) ps → IsKept old → All (λ p. p.node ≡ own) ps → tally (is_of_node own) old + length ps ≤ 4096 → HasRoomFor rows old
+room_for g own ps rows old e kept all few node =
+    let many : how_many (is_of_node node) rows ≡ how_many (is_of_node node) (map (row_in g) ps) = ap (how_many (is_of_node node)) e in
+    elim (same own node) as (λ v. same own node ≡ v → tally (is_of_node node) old + how_many (is_of_node node) rows ≤ 4096) [
+      | true ↦ λ t.
+          let s : tally (is_of_node own) old ≡ tally (is_of_node node) old = ap (λ n. tally (is_of_node n) old) ((same_decides own node).0 t) in
+          omega (arith, many, s, few, how_many_le (is_of_node node) (map (row_in g) ps), length-map ps (row_in g))
+      | false ↦ λ f.
+          let none = none_of_node g node own ps (all_from (λ p. p.node ≡ own) ps (λ k d l h. all k d h)) f in
+          let old_few = kept.few node in
+          omega (arith, many, none, old_few)
+    ] refl
+
+-- own processes of one group are no more than all own rows
+pub length-part : (t : Table) (g : List ℕ) (ps : List Pid) → ((p : Pid) → mentions p ps ≤ local_count t g p) → length ps ≤ local_total t
+length-part t g ps few =
+    let flat = spread (λ (c : Counted). c.row) (each (of_node t.own)) t.rows in
+    let l : length (map (row_in g) ps) ≤ length flat = fewer_length same_row same_row_decides (map (row_in g) ps) flat (λ r.
+    let a = mentions_in g r.group r.pid ps in
+    let b = own_flat t r in
+    let m = few r.pid in
+    elim (same r.group g) as (λ v. same r.group g ≡ v → how_many (is_row r.group r.pid) (map (row_in g) ps) ≡ cond v (mentions r.pid ps) 0 → how_many (is_row r.group r.pid) (map (row_in g) ps) ≤ occurrences same_row r flat) [
+      | true ↦ λ e d.
+          let s : local_count t r.group r.pid ≡ local_count t g r.pid = ap (λ k. local_count t k r.pid) ((same_decides r.group g).0 e) in
+          omega (arith, b, m, s, d)
+      | false ↦ λ e d. omega (arith, d)
+    ] refl a) in
+    omega (arith, l, length-map ps (row_in g), length-spread (λ (c : Counted). c.row) (each (of_node t.own)) t.rows)

@@ -1,0 +1,10 @@
+pub mod Rising
+pub mod Shares
+pub mod Runs
+pub mod Groups
+pub mod Leaving
+pub mod Taken
+pub mod Left
+pub mod Added
+pub mod Joined
+pub mod OwnName

@@ -1,0 +1,124 @@
+-- What is left of the rows where some are taken.
+use Rattle.std.specs.Prelude.{◌≡◌, ℕ, ◌+◌, ◌-◌, ◌<◌, ◌≤◌, Bool, true, false, cond, not, ◌==◌, List, [], ◌∷◌, map}
+use Rattle.std.proofs.Common.{refl, ap, ◌∙◌, sym, arith}
+use Rattle.std.specs.declared.cmp.Ordering.TheVariants.{Less}
+use Rattle.std.specs.List.{filter, AllByRecursion}
+use Rattle.std.proofs.lemmas.Bool.{and_right, not-true, not-false}
+use Rattle.std.proofs.lemmas.Bool.Decides.{Decides-eqb}
+use Rattle.dist_types.specs.declared.pid.Pid.{Pid}
+use Rattle.dist_types.specs.declared.row.Row.{Row}
+use Rattle.scope_core.specs.declared.counted.Counted.{Counted}
+use Rattle.dist_types.specs.Listing.{same, same_pid, Rises}
+use Rattle.scope_core.specs.Table.{is_row, is_of_node, tally, counted_cmp, IsKept}
+use Rattle.scope_core.specs.Listed.{lessened, is_counted}
+use Rattle.dist_types.proofs.Orders.{same_pid_decides}
+use Rattle.scope_core.proofs.Rising.{all_filter, filter_rises, row_is}
+use Rattle.scope_core.proofs.Shares.{share, share_is, each, IsPart}
+
+module _ (keep : Counted → Bool) where
+  pub tally-filter_le : (test : Row → Bool) (cs : List Counted) → tally test (filter keep cs) ≤ tally test cs
+  tally-filter_le test [] = omega arith
+  tally-filter_le test (c ∷ cs) =
+      let before = tally-filter_le test cs in
+      elim (keep c) as (λ v. tally test (cond v (c ∷ filter keep cs) (filter keep cs)) ≤ cond (test c.row) c.count 0 + tally test cs) [ true ↦ omega (arith, before) | false ↦ omega (arith, before) ]
+
+  pub filter_kept : (cs : List Counted) → IsKept cs → IsKept (filter keep cs)
+  filter_kept cs k = record {
+    rises = filter_rises counted_cmp keep cs k.rises;
+    counted = all_filter (λ c. 0 < c.count) keep cs k.counted;
+    few = λ n. let l = tally-filter_le (is_of_node n) cs in let m = k.few n in omega (arith, l, m);
+  }
+
+  -- where each that is kept fails the test, none is counted
+  tally_none : (test : Row → Bool) → ((c : Counted) → keep c ≡ true → test c.row ≡ false) → (cs : List Counted) → tally test (filter keep cs) ≡ 0
+  tally_none test h [] = refl
+  tally_none test h (c ∷ cs) =
+      elim (keep c) as (λ v. keep c ≡ v → tally test (cond v (c ∷ filter keep cs) (filter keep cs)) ≡ 0) [
+        | true ↦ λ e. let none = tally_none test h cs in rw (h c e) (omega (arith, none))
+        | false ↦ λ e. tally_none test h cs
+      ] refl
+
+  -- where each that goes fails the test, all are counted
+  tally_all : (test : Row → Bool) → ((c : Counted) → keep c ≡ false → test c.row ≡ false) → (cs : List Counted) → tally test (filter keep cs) ≡ tally test cs
+  tally_all test h [] = refl
+  tally_all test h (c ∷ cs) =
+      elim (keep c) as (λ v. keep c ≡ v → tally test (cond v (c ∷ filter keep cs) (filter keep cs)) ≡ cond (test c.row) c.count 0 + tally test cs) [
+        | true ↦ λ e. ap (λ n. cond (test c.row) c.count 0 + n) (tally_all test h cs)
+        | false ↦ λ e. let all = tally_all test h cs in rw (h c e) (omega (arith, all))
+      ] refl
+
+-- what is counted once the rows of q are gone
+pub exit_counts : (g : List ℕ) (q p : Pid) (cs : List Counted) → tally (is_row g p) (filter (λ c. not (same_pid c.row.pid q)) cs) ≡ cond (same_pid p q) 0 (tally (is_row g p) cs)
+exit_counts g q p cs =
+    let keep = λ (c : Counted). not (same_pid c.row.pid q) in
+    elim (same_pid p q) as (λ v. same_pid p q ≡ v → tally (is_row g p) (filter keep cs) ≡ cond v 0 (tally (is_row g p) cs)) [
+      | true ↦ λ e.
+          let s : p ≡ q = (same_pid_decides p q).0 e in
+          tally_none keep (is_row g p) (λ c k. and_right (same c.row.group g) (same_pid c.row.pid p) (ap (λ r. same_pid c.row.pid r) s ∙ not-true (same_pid c.row.pid q) k)) cs
+      | false ↦ λ e.
+          tally_all keep (is_row g p) (λ c k.
+          let s : c.row.pid ≡ q = (same_pid_decides c.row.pid q).0 (not-false (same_pid c.row.pid q) k) in
+          and_right (same c.row.group g) (same_pid c.row.pid p) (elim (same_pid c.row.pid p) as (λ v. same_pid c.row.pid p ≡ v → v ≡ false) [
+            | true ↦ λ f. let z : p ≡ q = sym ((same_pid_decides c.row.pid p).0 f) ∙ s in sym ((same_pid_decides p q).1 z) ∙ e
+            | false ↦ λ f. refl
+          ] refl)) cs
+    ] refl
+
+module _ (g : List ℕ) (times : Counted → ℕ) where
+  less_le : (test : Row → Bool) (cs : List Counted) → tally test (map (lessened g times) cs) ≤ tally test cs
+  less_le test [] = omega arith
+  less_le test (c ∷ cs) =
+      let before = less_le test cs in
+      elim (test c.row) as (λ v. cond v (lessened g times c).count 0 + tally test (map (lessened g times) cs) ≤ cond v c.count 0 + tally test cs) [ true ↦ omega (arith, before) | false ↦ omega (arith, before) ]
+
+  tally_counted : (test : Row → Bool) (cs : List Counted) → tally test (filter is_counted cs) ≡ tally test cs
+  tally_counted test [] = refl
+  tally_counted test (c ∷ cs) =
+      let before = tally_counted test cs in
+      elim (c.count == 0) as (λ v. (c.count == 0) ≡ v → tally test (cond (not v) (c ∷ filter is_counted cs) (filter is_counted cs)) ≡ cond (test c.row) c.count 0 + tally test cs) [
+        | true ↦ λ e. let z : c.count ≡ 0 = (Decides-eqb c.count 0).0 e in elim (test c.row) as (λ v. tally test (filter is_counted cs) ≡ cond v c.count 0 + tally test cs) [ true ↦ omega (arith, before, z) | false ↦ omega (arith, before) ]
+        | false ↦ λ e. ap (λ n. cond (test c.row) c.count 0 + n) before
+      ] refl
+
+  above_less : (c d : Counted) (cs : List Counted) → d.row ≡ c.row → AllByRecursion (λ x. counted_cmp c x ≡ Less) cs → AllByRecursion (λ x. counted_cmp d x ≡ Less) (map (lessened g times) cs)
+  above_less c d [] e b = tt
+  above_less c d (x ∷ xs) e b = (ap (λ r. counted_cmp (record { row = r; count = 0 }) x) e ∙ b.0, above_less c d xs e b.1)
+
+  less_rises : (cs : List Counted) → Rises counted_cmp cs → Rises counted_cmp (map (lessened g times) cs)
+  less_rises [] r = tt
+  less_rises (c ∷ cs) r = (above_less c (lessened g times c) cs refl r.0, less_rises cs r.1)
+
+  counted_only : (cs : List Counted) → AllByRecursion (λ c. 0 < c.count) (filter is_counted cs)
+  counted_only [] = tt
+  counted_only (c ∷ cs) =
+      elim (c.count == 0) as (λ v. (c.count == 0) ≡ v → AllByRecursion (λ d. 0 < d.count) (cond (not v) (c ∷ filter is_counted cs) (filter is_counted cs))) [
+        | true ↦ λ e. counted_only cs
+        | false ↦ λ e. (grind (arith, e), counted_only cs)
+      ] refl
+
+  pub remaining_kept : (cs : List Counted) → IsKept cs → IsKept (filter is_counted (map (lessened g times) cs))
+  remaining_kept cs k = record {
+    rises = filter_rises counted_cmp is_counted (map (lessened g times) cs) (less_rises cs k.rises);
+    counted = counted_only (map (lessened g times) cs);
+    few = λ n.
+        let a = tally_counted (is_of_node n) (map (lessened g times) cs) in
+        let b = less_le (is_of_node n) cs in
+        let c = k.few n in
+        omega (arith, a, b, c);
+  }
+
+-- what is counted where f is taken from the counts of a group
+pub remaining_counts : (f : Pid → ℕ → ℕ) → IsPart f → (g h : List ℕ) (p : Pid) (cs : List Counted) → Rises counted_cmp cs
+    → tally (is_row h p) (filter is_counted (map (lessened g (each f)) cs)) ≡ tally (is_row h p) cs - cond (same h g) (f p (tally (is_row h p) cs)) 0
+remaining_counts f part g h p cs r =
+    tally_counted g (each f) (is_row h p) (map (lessened g (each f)) cs)
+    ∙ less_share cs
+    ∙ share_is (λ q n. n - cond (same h g) (f q n) 0) (λ q. omega (arith, part q)) h p cs r
+  where
+    less_share : (ds : List Counted) → tally (is_row h p) (map (lessened g (each f)) ds) ≡ share (λ c. c.count - cond (same h g) (each f c) 0) h p ds
+    less_share [] = refl
+    less_share (d ∷ ds) =
+        elim (is_row h p d.row) as (λ v. is_row h p d.row ≡ v → cond v (lessened g (each f) d).count 0 + tally (is_row h p) (map (lessened g (each f)) ds) ≡ cond v (d.count - cond (same h g) (each f d) 0) 0 + share (λ c. c.count - cond (same h g) (each f c) 0) h p ds) [
+          | true ↦ λ e. ap (λ (t : ℕ × ℕ). t.0 + t.1) (λ i. (d.count - cond (same ((row_is h p d.row e).0 i) g) (each f d) 0, less_share ds i))
+          | false ↦ λ e. ap (λ n. 0 + n) (less_share ds)
+        ] refl

@@ -1,0 +1,19 @@
+use Rattle.std.proofs.Common.{◌≡◌, ◌+◌, ◌≤◌}
+use Rattle.std.specs.Prelude.{Bool, vec_len, vec_capacity}
+use Rattle.dist_types.specs.declared.row.Row.{Row}
+use Rattle.dist_types.specs.Listing.{how_many}
+use Rattle.scope_core.specs.Table.{tally, IsKept}
+use Rattle.scope_core.specs.Added.{HasRoomFor}
+use Rattle.scope_core.proofs.edits.add_all.Given as goal
+
+-- what is in and what is left to put in are what was in and what was to be put in
+abbrev pub invariant-loop-row : goal.invariant-loop-row
+invariant-loop-row l = record {
+  room : vec_len l.rows + vec_len l.left ≤ vec_capacity l.rows;
+  kept : IsKept l.rows.items;
+  few : HasRoomFor l.left.items l.rows.items;
+  added : (test : Row → Bool) → tally test l.rows.items + how_many test l.left.items ≡ tally test l.fn.rows.items + how_many test l.fn.fresh.items;
+}
+
+abbrev pub decreases-loop-row : goal.decreases-loop-row
+decreases-loop-row l = vec_len l.left

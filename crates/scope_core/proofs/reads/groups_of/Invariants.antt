@@ -1,0 +1,9 @@
+use Rattle.std.proofs.Common.{◌≡◌, ◌++◌}
+use Rattle.std.specs.Prelude.{drop, None}
+use Rattle.scope_core.specs.Part.{times_of}
+use Rattle.scope_core.specs.Listed.{heads, last_of}
+use Rattle.scope_core.proofs.reads.groups_of.Given as goal
+
+-- the groups so far, and those of the rows to come, are all
+abbrev pub invariant-loop-counted : goal.invariant-loop-counted
+invariant-loop-counted l = l.groups.items ++ heads (times_of l.part) (last_of l.groups.items) (drop l.counted-index l.rows) ≡ heads (times_of l.part) None l.rows

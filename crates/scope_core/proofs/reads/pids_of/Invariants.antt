@@ -1,0 +1,9 @@
+use Rattle.dist_types.specs.Listing.{spread}
+use Rattle.std.proofs.Common.{◌≡◌}
+use Rattle.std.specs.Prelude.{take}
+use Rattle.scope_core.specs.Part.{times_of}
+use Rattle.scope_core.proofs.reads.pids_of.Given as goal
+
+-- the processes of the rows so far
+abbrev pub invariant-loop-counted : goal.invariant-loop-counted
+invariant-loop-counted l = l.pids.items ≡ spread (λ c. c.row.pid) (times_of l.part) (take l.counted-index l.rows)

@@ -1,0 +1,14 @@
+use Rattle.std.proofs.Common.{not, ap, ◌∙◌}
+use Rattle.dist_types.specs.Listing.{same_pid}
+use Rattle.scope_core.specs.Calls.{count_after_exit}
+use Rattle.scope_core.proofs.Taken.{filter_kept, exit_counts}
+use Rattle.scope_core.proofs.table.ScopeTable.exit.Goals as goal
+
+pub invariant_of-self : goal.invariant_of-self
+invariant_of-self c = rw c.remove_pid.ensures (filter_kept (λ e. not (same_pid e.row.pid c.args.pid.now)) c.self.inside.rows.items c.self.invariant)
+
+pub returns : goal.returns
+returns c = record {
+  own = ap (λ t. t.own) c.self.view_is;
+  counts = λ g p. rw c.remove_pid.ensures (exit_counts g c.args.pid.now p c.self.inside.rows.items) ∙ ap (λ t. count_after_exit t c.args.pid.now g p) c.self.view_is;
+}

@@ -1,0 +1,51 @@
+-- What the calls of a table change, and when they are refused.
+use Rattle.std.specs.Prelude.{◌≡◌, ℕ, ◌+◌, ◌-◌, ◌≤◌, ◌<◌, Bool, true, false, cond, nat_lt, List, length}
+use Rattle.std.specs.List.{list_any}
+use Rattle.dist_types.specs.declared.pid.Pid.{Pid}
+use Rattle.dist_types.specs.declared.change.GroupChange.{GroupChange}
+use Rattle.scope_core.specs.declared.fault.TableFault.{TableFault}
+use Rattle.scope_core.specs.declared.fault.TableFault.TheVariants.{RowsFull, NotJoined, OutOfMemory}
+use Rattle.dist_types.specs.Listing.{same, same_pid, mentions}
+use Rattle.dist_types.specs.Difference.{IsDifference}
+use Rattle.scope_core.specs.Table.{Table, count_of, local_total, max_rows}
+
+-- new is of the same node as old, and counts what count says
+pub record Counts (old new : Table) (count : List ℕ → Pid → ℕ) : Type 0 where
+  pub own : new.own ≡ old.own
+  pub counts : (g : List ℕ) (p : Pid) → count_of new g p ≡ count g p
+
+-- nothing is counted
+abbrev pub no_count : List ℕ → Pid → ℕ
+no_count g p = 0
+
+-- one more in the group for each mention
+abbrev pub count_after_join : Table → List ℕ → List Pid → List ℕ → Pid → ℕ
+count_after_join t g ps h p = count_of t h p + cond (same h g) (mentions p ps) 0
+
+-- one less in the group for each mention, as far as the process is joined
+abbrev pub count_after_leave : Table → List ℕ → List Pid → List ℕ → Pid → ℕ
+count_after_leave t g ps h p = count_of t h p - cond (same h g) (mentions p ps) 0
+
+-- the process q is in no group
+abbrev pub count_after_exit : Table → Pid → List ℕ → Pid → ℕ
+count_after_exit t q g p = cond (same_pid p q) 0 (count_of t g p)
+
+-- the changes are the difference between two tables
+abbrev pub IsChange : Table → Table → List GroupChange → Type 0
+IsChange old new changes = IsDifference (count_of old) (count_of new) changes
+
+-- why nothing was joined
+abbrev pub IsJoinFault : Table → List Pid → TableFault → Type 0
+IsJoinFault t ps RowsFull = max_rows < local_total t + length ps
+IsJoinFault t ps NotJoined = ⊥
+IsJoinFault t ps OutOfMemory = local_total t + length ps ≤ max_rows
+
+-- whether one of these processes is in the group
+abbrev pub is_any_joined : Table → List ℕ → List Pid → Bool
+is_any_joined t g ps = list_any (λ p. nat_lt 0 (count_of t g p)) ps
+
+-- why nothing was left
+abbrev pub IsLeaveFault : Table → List ℕ → List Pid → TableFault → Type 0
+IsLeaveFault t g ps RowsFull = ⊥
+IsLeaveFault t g ps NotJoined = is_any_joined t g ps ≡ false
+IsLeaveFault t g ps OutOfMemory = is_any_joined t g ps ≡ true

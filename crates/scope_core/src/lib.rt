@@ -1,0 +1,18 @@
+//! The groups of one scope and the processes in them (Kernel manual, `pg`).
+#![tactic(auto)]
+
+mod changes;
+mod counted;
+mod edits;
+mod fault;
+mod laws;
+mod part;
+mod reads;
+mod table;
+
+pub use fault::TableFault;
+pub use laws::{part_of_own_rows, total_of_counts};
+pub use table::ScopeTable;
+
+#[cfg(test)]
+mod tests;

@@ -1,0 +1,52 @@
+//! Parts of the memberships.
+ghost use Rattle.std.specs.Prelude.{◌≡◌, if◌then◌else◌, min};
+ghost use Rattle.scope_core.specs.Part.{times_of};
+ghost use Rattle.dist_types.specs.Listing.{mentions};
+
+use crate::counted::Counted;
+use dist_types::{NodeName, Pid};
+
+/// Which memberships are meant.
+#[derive(Clone, Copy, Debug)]
+pub enum Part<'a> {
+    /// All of them.
+    All,
+    /// Those of the processes of a node.
+    Node(&'a NodeName),
+    /// Those of a process.
+    Process(&'a Pid),
+    /// One for each mention of a process, as far as it has any.
+    Mentions(&'a [Pid]),
+}
+
+/// How many of a row's count belong to the part.
+pub fn times(part: Part<'_>, counted: &Counted) -> u32
+    ensures { result ≡ times_of part.entry counted.now }
+{
+    match part {
+        Part::All => counted.count,
+        Part::Node(node) => count_if(counted.row.pid.node == *node, counted),
+        Part::Process(pid) => count_if(counted.row.pid == *pid, counted),
+        Part::Mentions(pids) => mentioned(counted, pids),
+    }
+}
+
+/// The whole count where the test holds.
+fn count_if(test: bool, counted: &Counted) -> u32
+    ensures { result ≡ (if test then counted.now.count else 0) }
+{
+    if test { counted.count } else { 0 }
+}
+
+/// How many of a row's count the mentions of its process take.
+fn mentioned(counted: &Counted, pids: &[Pid]) -> u32
+    ensures { result ≡ min (mentions counted.now.row.pid pids.now) counted.now.count }
+{
+    let mut times = 0;
+    for pid in pids {
+        if times < counted.count && *pid == counted.row.pid {
+            times += 1;
+        }
+    }
+    times
+}

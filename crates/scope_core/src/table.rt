@@ -1,0 +1,176 @@
+//! The table of one scope.
+ghost use Rattle.std.specs.Prelude.{◌≡◌, ℕ, ◌+◌, ◌≤◌, IsTrue, IfOk, IfErr, OnErr, OnOk, List, length, All};
+ghost use Rattle.dist_types.specs.declared.pid.Pid.{Pid};
+ghost use Rattle.dist_types.specs.Listing.{IsPidListing, IsRowListing, IsGroupListing};
+ghost use Rattle.dist_types.specs.Difference.{IsDifference};
+ghost use Rattle.scope_core.specs.Table.{count_of, local_count, local_total, max_rows};
+ghost use Rattle.scope_core.specs.Calls.{Counts, is_any_joined, no_count, count_after_join, count_after_leave, count_after_exit, IsChange, IsJoinFault, IsLeaveFault};
+
+use crate::changes::{changes_of, in_order, one_change, rows_in};
+use crate::counted::Counted;
+use crate::edits::{add_all, remove_pid, take_away};
+use crate::fault::TableFault;
+use crate::part::Part;
+use crate::reads::{groups_of, in_group, is_any_joined, pids_of, rows_of, total_of};
+use dist_types::{Group, GroupChange, NodeName, OutOfMemory, Pid, Row};
+use std::alloc::Global;
+use std::marker::Model;
+
+/// How often each process is in each group of one scope.
+#[derive(Debug, Drop)]
+pub struct ScopeTable {
+    alloc: Global,
+    own: NodeName,
+    rows: Vec<Counted>,
+}
+
+impl Model for ScopeTable {
+    ghost use Rattle.scope_core.specs.Table.{Table, IsKept};
+
+    ghost Value = { Table };
+
+    ghost view = { λ table. record { own = table.own; rows = table.rows.items } };
+
+    ghost invariant = { λ table. IsKept table.rows.items };
+}
+
+impl ScopeTable {
+    /// The most rows that the processes of one node may have in a scope, repeats included.
+    pub const MAX_ROWS: usize = 4096;
+
+    /// A table with no rows, of the node with this name.
+    pub fn new(alloc: Global, own: NodeName) -> ScopeTable
+        ensures own { result.own ≡ own }
+        ensures none { (g : List ℕ) (p : Pid) → count_of result g p ≡ 0 }
+    {
+        ScopeTable {
+            alloc,
+            own,
+            rows: Vec::new(alloc),
+        }
+    }
+
+    /// One more for each mention of a process, all of them of the own node.
+    pub fn join_local(
+        &mut self,
+        group: &Group,
+        pids: &[Pid],
+    ) -> Result<Vec<GroupChange>, TableFault>
+        requires { All (λ p. p.node ≡ self.old.own) pids.now }
+        ensures ok { OnOk result (Counts self.old self.new (count_after_join self.old group.now pids.now)) }
+        ensures change { IfOk result (λ changes. IsChange self.old self.new changes.items) }
+        ensures refused { IfErr result (IsJoinFault self.old pids.now) }
+        ensures limits { OnOk result (local_total self.old + length pids.now ≤ max_rows) }
+        ensures same { OnErr result (self.new ≡ self.old) }
+    {
+        let total = total_of(&self.rows, &self.own);
+        if pids.len() > ScopeTable::MAX_ROWS - total {
+            return Err(TableFault::RowsFull);
+        }
+        let fresh = rows_in(self.alloc, group, pids)?;
+        let sorted = in_order(self.alloc, pids)?;
+        let changes = one_change(self.alloc, group, Vec::new(self.alloc), sorted)?;
+        self.rows.reserve(fresh.len())?;
+        add_all(&mut self.rows, fresh);
+        Ok(changes)
+    }
+
+    /// One less for each mention of a process, as far as it is in the group. Answers what really left.
+    pub fn leave_local(
+        &mut self,
+        group: &Group,
+        pids: &[Pid],
+    ) -> Result<Vec<GroupChange>, TableFault>
+        ensures ok { OnOk result (Counts self.old self.new (count_after_leave self.old group.now pids.now)) }
+        ensures change { IfOk result (λ changes. IsChange self.old self.new changes.items) }
+        ensures refused { IfErr result (IsLeaveFault self.old group.now pids.now) }
+        ensures only { OnOk result (IsTrue (is_any_joined self.old group.now pids.now)) }
+        ensures same { OnErr result (self.new ≡ self.old) }
+    {
+        let members = in_group(&self.rows, group);
+        if !is_any_joined(members, pids) {
+            return Err(TableFault::NotJoined);
+        }
+        let gone = pids_of(self.alloc, members, Part::Mentions(pids))?;
+        let changes = one_change(self.alloc, group, gone, Vec::new(self.alloc))?;
+        take_away(&mut self.rows, group, Part::Mentions(pids));
+        Ok(changes)
+    }
+
+    /// The process leaves all groups.
+    pub fn exit(&mut self, pid: &Pid)
+        ensures { Counts self.old self.new (count_after_exit self.old pid.now) }
+    {
+        remove_pid(&mut self.rows, pid);
+    }
+
+    /// What `exit` will change.
+    pub fn exit_change(&self, pid: &Pid) -> Result<Vec<GroupChange>, OutOfMemory>
+        ensures change { IfOk result (λ changes. IsDifference (count_of self.now) (count_after_exit self.now pid.now) changes.items) }
+        ensures limits { local_total self.now ≤ max_rows }
+    {
+        let changes = changes_of(self.alloc, &self.rows, Part::Process(pid))?;
+        Ok(changes)
+    }
+
+    /// All processes leave all groups.
+    pub fn clear(&mut self)
+        ensures { Counts self.old self.new no_count }
+    {
+        self.rows.clear();
+    }
+
+    /// What `clear` will change.
+    pub fn clear_change(&self) -> Result<Vec<GroupChange>, OutOfMemory>
+        ensures { IfOk result (λ changes. IsDifference (count_of self.now) no_count changes.items) }
+    {
+        let changes = changes_of(self.alloc, &self.rows, Part::All)?;
+        Ok(changes)
+    }
+
+    /// The processes of a group.
+    pub fn members(&self, group: &Group) -> Result<Vec<Pid>, OutOfMemory>
+        ensures { IfOk result (λ pids. IsPidListing (count_of self.now group.now) pids.items) }
+    {
+        let pids = pids_of(self.alloc, in_group(&self.rows, group), Part::All)?;
+        Ok(pids)
+    }
+
+    /// The own processes of a group.
+    pub fn local_members(&self, group: &Group) -> Result<Vec<Pid>, OutOfMemory>
+        ensures value { IfOk result (λ pids. IsPidListing (local_count self.now group.now) pids.items) }
+        ensures limits { IfOk result (λ pids. length pids.items ≤ max_rows) }
+    {
+        let pids = pids_of(
+            self.alloc,
+            in_group(&self.rows, group),
+            Part::Node(&self.own),
+        )?;
+        Ok(pids)
+    }
+
+    /// The groups with a process.
+    pub fn groups(&self) -> Result<Vec<Group>, OutOfMemory>
+        ensures { IfOk result (λ groups. IsGroupListing (count_of self.now) groups.items) }
+    {
+        let groups = groups_of(self.alloc, &self.rows, Part::All)?;
+        Ok(groups)
+    }
+
+    /// The groups with an own process.
+    pub fn local_groups(&self) -> Result<Vec<Group>, OutOfMemory>
+        ensures { IfOk result (λ groups. IsGroupListing (local_count self.now) groups.items) }
+    {
+        let groups = groups_of(self.alloc, &self.rows, Part::Node(&self.own))?;
+        Ok(groups)
+    }
+
+    /// The rows of the own processes.
+    pub fn local_rows(&self) -> Result<Vec<Row>, OutOfMemory>
+        ensures value { IfOk result (λ rows. IsRowListing (local_count self.now) rows.items) }
+        ensures limits { IfOk result (λ rows. length rows.items ≤ max_rows) }
+    {
+        let rows = rows_of(self.alloc, &self.rows, Part::Node(&self.own))?;
+        Ok(rows)
+    }
+}
