@@ -1,0 +1,238 @@
+-- Ticks and bodies of a stream, and its rest, however it is cut.
+use Rattle.std.proofs.Common.{◌≡◌, ◌≢◌, ℕ, zero, suc, ◌+◌, ◌-◌, ◌<◌, ◌≤◌, ◌^◌, List, [], ◌∷◌, ◌++◌, length, take, drop, filter, replicate, All, Option, Some, None, refl, sym, ap, ◌∙◌, subst, arith, append_assoc, append-nil, length-append}
+use Rattle.std.specs.Int.{w32, to_be_bytes, from_be_bytes}
+use Rattle.std.specs.List.{flat_map}
+use Rattle.std.specs.Option.{option_to_list}
+use Rattle.std.proofs.Math.Seq.{take-append-add, take-length}
+use Rattle.std.proofs.lemmas.Grind.{flat_map-append}
+use Rattle.std.proofs.lemmas.Nat.{from_be_bytes-to_be_bytes_4}
+use Rattle.std.proofs.lemmas.List.{take_at, drop_at, take-append-drop}
+use Rattle.std.proofs.lemmas.List.Elements.{filter-append, All-append, All-nil, All-cons, All-replicate, All-head, All-tail}
+use Rattle.handshake_frames.specs.Spelling.{counted}
+use Rattle.handshake_frames.specs.Stream.{FitsLength, IsPartial, Splits, Call, stream_of, bodies_of}
+use Rattle.handshake_frames.proofs.StreamLemmas.{Reads, length-counted, ends_behind, IsPartial-empty, one_reading}
+use Rattle.link_frames.specs.Stream.{max_body, ticks, BeginsTooLong, IsRest, EndsBody, IsFed, ComesTooLong, is_body, SplitsLink, AreFed}
+
+pub reads_32 : Reads w32
+reads_32 = record { wide = omega arith; back = from_be_bytes-to_be_bytes_4 }
+
+-- ---- ticks
+
+-- a tick behind ticks is one more
+pub ticks_more : (n : ℕ) (later : List ℕ) → ticks n ++ (0 ∷ 0 ∷ 0 ∷ 0 ∷ later) ≡ ticks (suc n) ++ later
+ticks_more zero later = refl
+ticks_more (suc n) later = ap (λ (xs : List ℕ). 0 ∷ 0 ∷ 0 ∷ 0 ∷ xs) (ticks_more n later)
+
+tick_frames : ℕ → List (List ℕ)
+tick_frames n = replicate n []
+
+ticks_are_frames : (n : ℕ) → flat_map (counted w32) (tick_frames n) ≡ ticks n
+unfolding tick_frames
+ticks_are_frames zero = refl
+ticks_are_frames (suc n) = ap (λ (xs : List ℕ). 0 ∷ 0 ∷ 0 ∷ 0 ∷ xs) (ticks_are_frames n)
+
+ticks_are_no_bodies : (n : ℕ) → filter is_body (tick_frames n) ≡ []
+unfolding tick_frames
+ticks_are_no_bodies zero = refl
+ticks_are_no_bodies (suc n) = ticks_are_no_bodies n
+
+-- ---- one call
+
+-- what stands at the front of the rest and the piece ends in the piece
+ends_at : (rest piece front later : List ℕ) → rest ++ piece ≡ front ++ later → length rest < length front → rest ++ take (length front - length rest) piece ≡ front
+ends_at rest piece front later whole behind =
+    let n = length front - length rest in
+    let sum : length rest + n ≡ length front = omega arith in
+    sym (take-append-add rest piece n) ∙ ap (λ k. take k (rest ++ piece)) sum ∙ ap (take (length front)) whole ∙ take_at front later _ refl
+
+-- a rest that is no whole body, and no tick, ends before the body behind the ticks
+rest_is_short : (rest piece : List ℕ) (n : ℕ) (body later : List ℕ) → IsPartial w32 rest → FitsLength w32 body → rest ++ piece ≡ ticks n ++ (counted w32 body ++ later) → length rest < length (ticks n ++ counted w32 body)
+rest_is_short rest piece zero body later partial fits whole = ends_behind w32 rest piece body later partial fits whole
+rest_is_short rest piece (suc n) body later partial fits whole =
+    let first : length rest < 4 = ends_behind w32 rest piece [] (ticks n ++ (counted w32 body ++ later)) partial (omega arith) whole in
+    omega arith
+
+-- a body behind ticks ends in the piece, before what stands behind it
+pub gives_body : (rest piece left : List ℕ) (n : ℕ) (body later : List ℕ) → IsPartial w32 rest → 0 < length body → length body ≤ max_body → rest ++ piece ≡ ticks n ++ left → left ≡ counted w32 body ++ later → EndsBody rest piece (length piece - length later) body []
+gives_body rest piece left n body later partial some fits ticked found =
+    let front = ticks n ++ counted w32 body in
+    let split : rest ++ piece ≡ ticks n ++ (counted w32 body ++ later) = ticked ∙ ap (λ xs. ticks n ++ xs) found in
+    let short = rest_is_short rest piece n body later partial (omega arith) split in
+    let whole : rest ++ piece ≡ front ++ later = split ∙ sym (append_assoc (ticks n) (counted w32 body) later) in
+    let lengths : length rest + length piece ≡ length front + length later = sym (length-append rest piece) ∙ ap length whole ∙ length-append front later in
+    let used : length front - length rest ≡ length piece - length later = omega arith in
+    record {
+      onward = omega arith;
+      within = omega arith;
+      skipped = n;
+      whole = ap (λ k. rest ++ take k piece) (sym used) ∙ ends_at rest piece front later whole short;
+      some = some;
+      fits = fits;
+      empty = refl;
+    }
+
+-- ---- a length above the limit
+
+abbrev IsTickless : List ℕ → Type 0
+IsTickless xs = (later : List ℕ) → xs ≢ 0 ∷ 0 ∷ 0 ∷ 0 ∷ later
+
+-- what stands behind all ticks is one
+behind_ticks : (n k : ℕ) (xs ys : List ℕ) → IsTickless xs → IsTickless ys → ticks n ++ xs ≡ ticks k ++ ys → xs ≡ ys
+behind_ticks zero zero xs ys tickless free same = same
+behind_ticks zero (suc k) xs ys tickless free same = absurd (tickless (ticks k ++ ys) same)
+behind_ticks (suc n) zero xs ys tickless free same = absurd (free (ticks n ++ xs) (sym same))
+behind_ticks (suc n) (suc k) xs ys tickless free same = behind_ticks n k xs ys tickless free (ap (drop 4) same)
+
+-- the length at the front is one
+one_length : (a b : ℕ) (xs ys : List ℕ) → a < 2 ^ 32 → b < 2 ^ 32 → to_be_bytes w32 a ++ xs ≡ to_be_bytes w32 b ++ ys → a ≡ b
+one_length a b xs ys fits others same = sym (from_be_bytes-to_be_bytes_4 a fits) ∙ ap (λ bytes. from_be_bytes w32 (take 4 bytes)) same ∙ from_be_bytes-to_be_bytes_4 b others
+
+tickless_length : (n : ℕ) (xs : List ℕ) → 0 < n → n < 2 ^ 32 → IsTickless (to_be_bytes w32 n ++ xs)
+tickless_length n xs some fits later same = let none : n ≡ 0 = one_length n 0 xs later fits (omega arith) same in omega arith
+
+tickless_rest : (rest : List ℕ) → IsPartial w32 rest → IsTickless rest
+tickless_rest rest partial later same = partial [] later (omega arith) same
+
+too_long_is_tickless : (bytes : List ℕ) → BeginsTooLong bytes → IsTickless bytes
+too_long_is_tickless bytes long later same = tickless_length long.long long.later (omega (arith, long.above)) long.fits later (sym long.begins ∙ same)
+
+-- where a reader is fed, no length above the limit came before
+pub fed_not_too_long : (rest piece : List ℕ) (used : ℕ) (body : Option (List ℕ)) (new : List ℕ) → IsFed rest piece used body new → ¬ ComesTooLong rest piece
+fed_not_too_long rest piece used (Some body) new fed long =
+    let begins = long.begins in
+    let later = drop used piece in
+    let whole : ticks fed.skipped ++ (counted w32 body ++ later) ≡ ticks long.skipped ++ long.bytes =
+    sym (append_assoc (ticks fed.skipped) (counted w32 body) later) ∙ ap (λ xs. xs ++ later) (sym fed.whole) ∙ append_assoc rest (take used piece) later ∙ ap (λ xs. rest ++ xs) (take-append-drop used piece) ∙ long.behind in
+    let free : IsTickless (counted w32 body ++ later) = λ more same. tickless_length (length body) (body ++ later) fed.some (omega (arith, fed.fits)) more (sym (append_assoc (to_be_bytes w32 (length body)) body later) ∙ same) in
+    let same : counted w32 body ++ later ≡ long.bytes = behind_ticks fed.skipped long.skipped _ long.bytes free (too_long_is_tickless long.bytes begins) whole in
+    let lengths : length body ≡ begins.long = one_length (length body) begins.long (body ++ later) begins.later (omega (arith, fed.fits)) begins.fits (sym (append_assoc (to_be_bytes w32 (length body)) body later) ∙ same ∙ begins.begins) in
+    absurd (omega (arith, fed.fits, begins.above))
+fed_not_too_long rest piece used None new fed long =
+    let same : new ≡ long.bytes = behind_ticks fed.skipped long.skipped new long.bytes (tickless_rest new fed.left.partial) (too_long_is_tickless long.bytes long.begins) (sym fed.kept ∙ long.behind) in
+    fed.left.short (subst BeginsTooLong (sym same) long.begins)
+
+-- ---- a stream
+
+pub IsRest-empty : IsRest []
+IsRest-empty = record { partial = IsPartial-empty w32 reads_32; short = λ too_long. absurd (cc too_long.begins) }
+
+-- more frames behind the rest of a stream
+more_frames : (stream more : List ℕ) (frames news : List (List ℕ)) (rest new : List ℕ) → Splits w32 stream frames rest → All (FitsLength w32) news → rest ++ more ≡ flat_map (counted w32) news ++ new → IsPartial w32 new → Splits w32 (stream ++ more) (frames ++ news) new
+more_frames stream more frames news rest new so_far fit whole partial =
+    let front = flat_map (counted w32) frames in
+    record {
+      fit = All-append (FitsLength w32) frames news so_far.fit fit;
+      whole = ap (λ xs. xs ++ more) so_far.whole ∙ append_assoc front rest more ∙ ap (λ xs. front ++ xs) whole ∙ sym (append_assoc front (flat_map (counted w32) news) new) ∙ ap (λ xs. xs ++ new) (sym (flat_map-append (counted w32) frames news));
+      partial = partial;
+    }
+
+abbrev IsShort : List ℕ → Type 0
+IsShort frame = length frame ≤ max_body
+
+ticks_are_short : (n : ℕ) → All IsShort (tick_frames n)
+unfolding tick_frames
+ticks_are_short n = All-replicate IsShort n [] (omega arith)
+
+fits_from_short : (frames : List (List ℕ)) → All IsShort frames → All (FitsLength w32) frames
+fits_from_short frames all k d inside = let short = all k d inside in omega arith
+
+body_is_body : (body : List ℕ) → 0 < length body → filter is_body (body ∷ []) ≡ body ∷ []
+body_is_body [] some = absurd (omega arith)
+body_is_body (byte ∷ bytes) some = refl
+
+-- one call carries the reading of a stream on
+pub goes_on : (stream : List ℕ) (bodies : List (List ℕ)) (rest piece : List ℕ) (used : ℕ) (body : Option (List ℕ)) (new : List ℕ) → SplitsLink stream bodies rest → IsFed rest piece used body new → SplitsLink (stream ++ take used piece) (bodies ++ option_to_list body) new
+goes_on stream bodies rest piece used (Some body) new so_far fed =
+    let idle = tick_frames fed.skipped in
+    let news = idle ++ body ∷ [] in
+    let short : All IsShort news = All-append IsShort idle (body ∷ []) (ticks_are_short fed.skipped) (All-cons IsShort body [] fed.fits (All-nil IsShort)) in
+    let whole : rest ++ take used piece ≡ flat_map (counted w32) news ++ new =
+    fed.whole ∙ ap (λ xs. xs ++ counted w32 body) (sym (ticks_are_frames fed.skipped)) ∙ ap (λ xs. flat_map (counted w32) idle ++ xs) (sym (append-nil (counted w32 body))) ∙ sym (flat_map-append (counted w32) idle (body ∷ [])) ∙ sym (append-nil _) ∙ ap (λ xs. flat_map (counted w32) news ++ xs) (sym fed.empty) in
+    let given : filter is_body news ≡ body ∷ [] = filter-append is_body idle (body ∷ []) ∙ ap (λ xs. xs ++ filter is_body (body ∷ [])) (ticks_are_no_bodies fed.skipped) ∙ body_is_body body fed.some in
+    record {
+      frames = so_far.frames ++ news;
+      splits = more_frames stream (take used piece) so_far.frames news rest new so_far.splits (fits_from_short news short) whole (subst (IsPartial w32) (sym fed.empty) IsRest-empty.partial);
+      given = ap (λ xs. xs ++ body ∷ []) so_far.given ∙ ap (λ xs. filter is_body so_far.frames ++ xs) (sym given) ∙ sym (filter-append is_body so_far.frames news);
+      within = All-append IsShort so_far.frames news so_far.within short;
+      short = subst (λ xs. ¬ BeginsTooLong xs) (sym fed.empty) IsRest-empty.short;
+    }
+goes_on stream bodies rest piece used None new so_far fed =
+    let idle = tick_frames fed.skipped in
+    let short = ticks_are_short fed.skipped in
+    let taken : take used piece ≡ piece = ap (λ n. take n piece) fed.whole ∙ take-length piece in
+    let whole : rest ++ take used piece ≡ flat_map (counted w32) idle ++ new = ap (λ xs. rest ++ xs) taken ∙ fed.kept ∙ ap (λ xs. xs ++ new) (sym (ticks_are_frames fed.skipped)) in
+    record {
+      frames = so_far.frames ++ idle;
+      splits = more_frames stream (take used piece) so_far.frames idle rest new so_far.splits (fits_from_short idle short) whole fed.left.partial;
+      given = append-nil bodies ∙ so_far.given ∙ sym (append-nil (filter is_body so_far.frames)) ∙ ap (λ xs. filter is_body so_far.frames ++ xs) (sym (ticks_are_no_bodies fed.skipped)) ∙ sym (filter-append is_body so_far.frames idle);
+      within = All-append IsShort so_far.frames idle so_far.within short;
+      short = fed.left.short;
+    }
+
+-- so do calls in turn
+pub go_on : (calls : List Call) (stream : List ℕ) (bodies : List (List ℕ)) (rest new : List ℕ) → SplitsLink stream bodies rest → AreFed rest calls new → SplitsLink (stream ++ stream_of calls) (bodies ++ bodies_of calls) new
+go_on [] stream bodies rest new so_far fed = rw (append-nil stream, append-nil bodies, fed) so_far
+go_on (call ∷ calls) stream bodies rest new so_far fed =
+    let next = goes_on stream bodies rest call.piece call.used call.body fed.0 so_far fed.1 in
+    rw (← append_assoc stream (take call.used call.piece) (stream_of calls), ← append_assoc bodies (option_to_list call.body) (bodies_of calls)) (go_on calls (stream ++ take call.used call.piece) (bodies ++ option_to_list call.body) fed.0 new next fed.2)
+
+-- nothing was read of a stream without bytes
+empty_stream : SplitsLink [] [] []
+empty_stream = record {
+  frames = [];
+  splits = record { fit = All-nil (FitsLength w32); whole = refl; partial = IsRest-empty.partial };
+  given = refl;
+  within = All-nil IsShort;
+  short = IsRest-empty.short;
+}
+
+-- what calls on a new reader make of a stream
+pub read_from_empty : (calls : List Call) (rest : List ℕ) → AreFed [] calls rest → SplitsLink (stream_of calls) (bodies_of calls) rest
+read_from_empty calls rest fed = go_on calls [] [] [] rest empty_stream fed
+
+-- a stream is read in one way alone
+pub one_link_reading : (stream : List ℕ) (bodies others : List (List ℕ)) (rest last : List ℕ) → SplitsLink stream bodies rest → SplitsLink stream others last → (bodies ≡ others) × (rest ≡ last)
+one_link_reading stream bodies others rest last a b =
+    let same = one_reading w32 reads_32 stream a.frames b.frames rest last a.splits b.splits in
+    (a.given ∙ ap (filter is_body) same.0 ∙ sym b.given, same.1)
+
+-- ---- a stream with a length above the limit
+
+BeginsTooLong-append : (bytes later : List ℕ) → BeginsTooLong bytes → BeginsTooLong (bytes ++ later)
+BeginsTooLong-append bytes later long = record {
+  long = long.long;
+  later = long.later ++ later;
+  above = long.above;
+  fits = long.fits;
+  begins = ap (λ xs. xs ++ later) long.begins ∙ append_assoc (to_be_bytes w32 long.long) long.later later;
+}
+
+-- behind frames of one length stand the same bytes
+behind_frames : (frame other later more : List ℕ) → IsShort frame → IsShort other → counted w32 frame ++ later ≡ counted w32 other ++ more → later ≡ more
+behind_frames frame other later more short shorter same =
+    let lengths : length frame ≡ length other = one_length (length frame) (length other) (frame ++ later) (other ++ more) (omega arith) (omega arith) (sym (append_assoc (to_be_bytes w32 (length frame)) frame later) ∙ same ∙ append_assoc (to_be_bytes w32 (length other)) other more) in
+    sym (drop_at (counted w32 frame) later (4 + length frame) (length-counted w32 frame)) ∙ ap (drop (4 + length frame)) same ∙ drop_at (counted w32 other) more (4 + length frame) (length-counted w32 other ∙ ap (λ n. 4 + n) (sym lengths))
+
+-- bytes with a length above the limit behind whole frames have no other reading
+ahead : (frames others : List (List ℕ)) (bytes rest : List ℕ) → All IsShort frames → All IsShort others → BeginsTooLong bytes → IsRest rest → flat_map (counted w32) frames ++ bytes ≢ flat_map (counted w32) others ++ rest
+ahead [] [] bytes rest short shorter long left same = left.short (subst BeginsTooLong same long)
+ahead [] (other ∷ others) bytes rest short shorter long left same =
+    let first = All-head IsShort other others shorter in
+    let lengths : long.long ≡ length other = one_length long.long (length other) long.later _ long.fits (omega arith) (sym long.begins ∙ same ∙ append_assoc (counted w32 other) _ rest ∙ append_assoc (to_be_bytes w32 (length other)) other _) in
+    absurd (omega (arith, long.above))
+ahead (frame ∷ frames) [] bytes rest short shorter long left same =
+    let first = All-head IsShort frame frames short in
+    left.partial frame (flat_map (counted w32) frames ++ bytes) (omega arith) (sym same ∙ append_assoc (counted w32 frame) _ bytes)
+ahead (frame ∷ frames) (other ∷ others) bytes rest short shorter long left same =
+    ahead frames others bytes rest (All-tail IsShort frame frames short) (All-tail IsShort other others shorter) long left (behind_frames frame other _ _ (All-head IsShort frame frames short) (All-head IsShort other others shorter) (sym (append_assoc (counted w32 frame) _ bytes) ∙ same ∙ append_assoc (counted w32 other) _ rest))
+
+-- a stream with a length above the limit, where a reader met it, is read by none
+pub too_long_for_all : (stream piece later : List ℕ) (bodies others : List (List ℕ)) (rest last : List ℕ) → SplitsLink stream bodies rest → ComesTooLong rest piece → ¬ SplitsLink (stream ++ piece ++ later) others last
+too_long_for_all stream piece later bodies others rest last so_far comes other =
+    let idle = tick_frames comes.skipped in
+    let front = flat_map (counted w32) so_far.frames in
+    let ends : front ++ ticks comes.skipped ≡ flat_map (counted w32) (so_far.frames ++ idle) = ap (λ xs. front ++ xs) (sym (ticks_are_frames comes.skipped)) ∙ sym (flat_map-append (counted w32) so_far.frames idle) in
+    let met : stream ++ piece ≡ flat_map (counted w32) (so_far.frames ++ idle) ++ comes.bytes =
+    ap (λ xs. xs ++ piece) so_far.splits.whole ∙ append_assoc front rest piece ∙ ap (λ xs. front ++ xs) comes.behind ∙ sym (append_assoc front (ticks comes.skipped) comes.bytes) ∙ ap (λ xs. xs ++ comes.bytes) ends in
+    ahead (so_far.frames ++ idle) other.frames (comes.bytes ++ later) last (All-append IsShort so_far.frames idle so_far.within (ticks_are_short comes.skipped)) other.within (BeginsTooLong-append comes.bytes later comes.begins) (record { partial = other.splits.partial; short = other.short })
+    (sym (append_assoc _ comes.bytes later) ∙ ap (λ xs. xs ++ later) (sym met) ∙ other.splits.whole)

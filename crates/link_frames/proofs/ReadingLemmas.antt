@@ -1,0 +1,193 @@
+-- The reader gives a message exactly where the body spells it.
+use Rattle.std.proofs.Common.{◌≡◌, ◌↔◌, ℕ, zero, suc, ◌<◌, ◌≤◌, ◌^◌, ◌&&◌, Bool, true, false, cond, nat_lt, nat_le, IsTrue, List, [], ◌∷◌, ◌++◌, length, take, drop, Option, Some, None, All, refl, sym, ap, ◌∙◌, rules, arith, append_assoc}
+use Rattle.std.specs.Int.{w16, w32, w64, to_be_bytes, from_be_bytes}
+use Rattle.std.specs.List.{flat_map, find}
+use Rattle.std.specs.Str.{bytes_eq}
+use Rattle.std.proofs.lemmas.Bool.{and_parts, and_from}
+use Rattle.std.proofs.lemmas.Slice.Eq.{bytes_eq-Decides}
+use Rattle.std.proofs.lemmas.Nat.{from_be_bytes-to_be_bytes_2, from_be_bytes-to_be_bytes_4, from_be_bytes-to_be_bytes_8}
+use Rattle.std.proofs.lemmas.List.{take_at, take_all, drop_at, append_cancel_left}
+use Rattle.std.proofs.lemmas.List.Elements.{All-head, All-tail}
+use Rattle.std.proofs.lemmas.List.Sums.{AllPass-from_list_all, list_all-from_AllPass}
+use Rattle.dist_types.specs.declared.row.Row.{Row}
+use Rattle.dist_types.proofs.LimitLemmas.{texts_compute, names_compute}
+use Rattle.handshake_frames.specs.Spelling.{counted}
+use Rattle.handshake_frames.specs.Reading.{counted_in}
+use Rattle.link_frames.specs.declared.message.Message.{Message}
+use Rattle.link_frames.specs.declared.message.Message.TheVariants as messages
+use Rattle.link_frames.specs.Spelling.{text_bytes, row_bytes, rows_bytes, message_bytes, IsRow, AreRows, IsMessage, SpellsMessage}
+use Rattle.link_frames.specs.Reading.{text_in, behind_text, behind_name, row_in, rows_in, counted_rows_in, is_row, are_rows, is_message, messages_in, message}
+
+-- ---- the limits as tests
+
+below : (m n : ℕ) → (nat_lt m n ≡ true) ↔ (m < n)
+below m n = search rules
+
+at_most : (m n : ℕ) → (nat_le m n ≡ true) ↔ (m ≤ n)
+at_most m n = search rules
+
+row_computes : (row : Row) → IsTrue (is_row row) ↔ IsRow row
+row_computes row = (
+  λ h. let first = and_parts _ _ h in let second = and_parts _ _ first.0 in let third = and_parts _ _ second.0 in
+      record {
+        group = (texts_compute row.group).0 third.0;
+        node = (names_compute row.pid.node).0 third.1;
+        creation = (below _ _).0 second.1;
+        number = (below _ _).0 first.1;
+      },
+  λ h. and_from _ _ (and_from _ _ (and_from _ _ ((texts_compute row.group).1 h.group) ((names_compute row.pid.node).1 h.node)) ((below _ _).1 h.creation)) ((below _ _).1 h.number),
+)
+
+rows_compute : (rows : List Row) → IsTrue (are_rows rows) ↔ AreRows rows
+rows_compute rows = (
+  λ h. let parts = and_parts _ _ h in
+      record {
+        count = (at_most _ _).0 parts.0;
+        each = λ k d inside. (row_computes _).0 (AllPass-from_list_all is_row rows parts.1 k d inside);
+      },
+  λ h. and_from _ _ ((at_most _ _).1 h.count) (list_all-from_AllPass is_row rows (λ k d inside. (row_computes _).1 (h.each k d inside))),
+)
+
+pub message_computes : (m : Message) → IsTrue (is_message m) ↔ IsMessage m
+message_computes (messages.Discover scope) = texts_compute scope
+message_computes (messages.Sync scope rows) = (
+  λ h. let parts = and_parts _ _ h in ((texts_compute scope).0 parts.0, (rows_compute rows).0 parts.1),
+  λ h. and_from _ _ ((texts_compute scope).1 h.0) ((rows_compute rows).1 h.1),
+)
+message_computes (messages.Join scope rows) = (
+  λ h. let some = and_parts _ _ h in let parts = and_parts _ _ some.0 in ((texts_compute scope).0 parts.0, (rows_compute rows).0 parts.1, (below _ _).0 some.1),
+  λ h. and_from _ _ (and_from _ _ ((texts_compute scope).1 h.0) ((rows_compute rows).1 h.1)) ((below _ _).1 h.2),
+)
+message_computes (messages.Leave scope rows) = (
+  λ h. let some = and_parts _ _ h in let parts = and_parts _ _ some.0 in ((texts_compute scope).0 parts.0, (rows_compute rows).0 parts.1, (below _ _).0 some.1),
+  λ h. and_from _ _ (and_from _ _ ((texts_compute scope).1 h.0) ((rows_compute rows).1 h.1)) ((below _ _).1 h.2),
+)
+message_computes (messages.Down scope) = texts_compute scope
+
+-- ---- fields
+
+text_in-text_bytes : (text rest : List ℕ) → text_in (text_bytes text ++ rest) ≡ text
+text_in-text_bytes text rest = take_at text rest (length text) refl
+
+pub behind_text-text_bytes : (text rest : List ℕ) → behind_text (text_bytes text ++ rest) ≡ rest
+behind_text-text_bytes text rest = drop_at text rest (length text) refl
+
+counted_in-counted : (name rest : List ℕ) → length name < 2 ^ 16 → counted_in (counted w16 name ++ rest) ≡ name
+counted_in-counted name rest fits = ap (λ n. take n (name ++ rest)) (from_be_bytes-to_be_bytes_2 (length name) fits) ∙ take_at name rest (length name) refl
+
+behind_name-counted : (name rest : List ℕ) → length name < 2 ^ 16 → behind_name (counted w16 name ++ rest) ≡ rest
+behind_name-counted name rest fits = ap (λ n. drop n (name ++ rest)) (from_be_bytes-to_be_bytes_2 (length name) fits) ∙ drop_at name rest (length name) refl
+
+-- ---- a row
+
+-- the numbers of a row, and what stands behind them
+abbrev pub behind_node : Row → List ℕ → List ℕ
+behind_node row rest = to_be_bytes w32 row.pid.creation ++ (to_be_bytes w64 row.pid.number ++ rest)
+
+pub row_parts : (row : Row) (rest : List ℕ) → row_bytes row ++ rest ≡ text_bytes row.group ++ (counted w16 row.pid.node ++ behind_node row rest)
+row_parts row rest = simp append_assoc
+
+pub row_in-row_bytes : (row : Row) (rest : List ℕ) → IsRow row → row_in (row_bytes row ++ rest) ≡ row
+row_in-row_bytes row rest is =
+    let short = is.node.text.not_long in
+    let parts = row_parts row rest in
+    let behind : behind_text (row_bytes row ++ rest) ≡ counted w16 row.pid.node ++ behind_node row rest = ap behind_text parts ∙ behind_text-text_bytes row.group _ in
+    let numbers : behind_name (behind_text (row_bytes row ++ rest)) ≡ behind_node row rest = ap behind_name behind ∙ behind_name-counted row.pid.node _ (omega arith) in
+    let group : text_in (row_bytes row ++ rest) ≡ row.group = ap text_in parts ∙ text_in-text_bytes row.group _ in
+    let node : counted_in (behind_text (row_bytes row ++ rest)) ≡ row.pid.node = ap counted_in behind ∙ counted_in-counted row.pid.node _ (omega arith) in
+    let creation : from_be_bytes w32 (take 4 (behind_name (behind_text (row_bytes row ++ rest)))) ≡ row.pid.creation = ap (λ b. from_be_bytes w32 (take 4 b)) numbers ∙ from_be_bytes-to_be_bytes_4 row.pid.creation is.creation in
+    let number : from_be_bytes w64 (take 8 (drop 4 (behind_name (behind_text (row_bytes row ++ rest))))) ≡ row.pid.number = ap (λ b. from_be_bytes w64 (take 8 (drop 4 b))) numbers ∙ from_be_bytes-to_be_bytes_8 row.pid.number is.number in
+    λ i. record { group = group i; pid = record { node = node i; creation = creation i; number = number i } }
+
+-- ---- rows
+
+rows_in-flat_map : (rows : List Row) → All IsRow rows → rows_in (length rows) (flat_map row_bytes rows) ≡ rows
+rows_in-flat_map [] all = refl
+rows_in-flat_map (row ∷ rows) all =
+    let bytes = row_bytes row ++ flat_map row_bytes rows in
+    let first : row_in bytes ≡ row = row_in-row_bytes row (flat_map row_bytes rows) (All-head IsRow row rows all) in
+    let later : drop (length (row_bytes (row_in bytes))) bytes ≡ flat_map row_bytes rows = ap (λ r. drop (length (row_bytes r)) bytes) first ∙ drop_at (row_bytes row) (flat_map row_bytes rows) _ refl in
+    let others : rows_in (length rows) (drop (length (row_bytes (row_in bytes))) bytes) ≡ rows = ap (rows_in (length rows)) later ∙ rows_in-flat_map rows (All-tail IsRow row rows all) in
+    λ i. first i ∷ others i
+
+pub counted_rows_in-rows_bytes : (rows : List Row) → AreRows rows → counted_rows_in (rows_bytes rows) ≡ rows
+counted_rows_in-rows_bytes rows are =
+    let few = are.count in
+    ap (λ n. rows_in n (flat_map row_bytes rows)) (from_be_bytes-to_be_bytes_4 (length rows) (omega arith)) ∙ rows_in-flat_map rows are.each
+
+-- rows are known by their count and their bytes
+pub same_rows : (rows others : List Row) → All IsRow rows → All IsRow others → length rows ≡ length others → flat_map row_bytes rows ≡ flat_map row_bytes others → rows ≡ others
+same_rows rows others all were long same =
+    sym (rows_in-flat_map rows all) ∙ ap (λ n. rows_in n (flat_map row_bytes rows)) long ∙ ap (rows_in (length others)) same ∙ rows_in-flat_map others were
+
+-- rows that were read from the front of rows leave those behind them
+pub rows_left : (front rows : List Row) (rest : List ℕ) → All IsRow front → All IsRow rows → length front ≤ length rows → flat_map row_bytes rows ≡ flat_map row_bytes front ++ rest → rest ≡ flat_map row_bytes (drop (length front) rows)
+rows_left [] rows rest fronts all fewer same = sym same
+rows_left (row ∷ front) [] rest fronts all fewer same = absurd (omega arith)
+rows_left (row ∷ front) (other ∷ rows) rest fronts all fewer same =
+    let parts : row_bytes other ++ flat_map row_bytes rows ≡ row_bytes row ++ (flat_map row_bytes front ++ rest) = same ∙ append_assoc (row_bytes row) (flat_map row_bytes front) rest in
+    let first : row ≡ other = sym (row_in-row_bytes row _ (All-head IsRow row front fronts)) ∙ ap row_in (sym parts) ∙ row_in-row_bytes other _ (All-head IsRow other rows all) in
+    let later : flat_map row_bytes rows ≡ flat_map row_bytes front ++ rest = append_cancel_left (row_bytes other) _ _ (parts ∙ ap (λ r. row_bytes r ++ (flat_map row_bytes front ++ rest)) first) in
+    rows_left front rows rest (All-tail IsRow row front fronts) (All-tail IsRow other rows all) (omega arith) later
+
+-- a row stands at each place of rows
+pub next_row : (n : ℕ) (rows : List Row) → All IsRow rows → n < length rows → (row : Row) × IsRow row × ((later : List Row) × (drop n rows ≡ row ∷ later))
+next_row n [] all inside = absurd (omega arith)
+next_row zero (row ∷ rows) all inside = (row, All-head IsRow row rows all, (rows, refl))
+next_row (suc n) (row ∷ rows) all inside = next_row n rows (All-tail IsRow row rows all) (omega arith)
+
+-- ---- a message
+
+passes_or_later : {A : Type 0} (test : A → Bool) (y : A) (ys : List A) (x : A) → (passes : Bool) → test y ≡ passes → (find test ys ≡ Some x → test x ≡ true) → cond passes (Some y) (find test ys) ≡ Some x → test x ≡ true
+passes_or_later test y ys x true is later e = cc (is, e)
+passes_or_later test y ys x false is later e = later e
+
+-- what was found passes the test
+found_passes : {A : Type 0} (test : A → Bool) (xs : List A) (x : A) → find test xs ≡ Some x → test x ≡ true
+found_passes test [] x e = absurd (cc e)
+found_passes test (y ∷ ys) x e = passes_or_later test y ys x (test y) refl (found_passes test ys x) e
+
+-- the test that the reader makes
+abbrev spells : List ℕ → Message → Bool
+spells body m = bytes_eq (message_bytes m) body && is_message m
+
+spells_true : (m : Message) → IsMessage m → spells (message_bytes m) m ≡ true
+spells_true m is = and_from _ _ ((bytes_eq-Decides (message_bytes m) (message_bytes m)).1 refl) ((message_computes m).1 is)
+
+found_at : (test : Message → Bool) (y x : Message) (later : Option Message) → y ≡ x → test x ≡ true → cond (test y) (Some y) later ≡ Some x
+found_at test y x later same passes = ap (λ z. cond (test z) (Some z) later) same ∙ ap (λ b. cond b (Some x) later) passes
+
+text_alone : (text : List ℕ) → text_in (text_bytes text) ≡ text
+text_alone text = take_all (length text) text (omega arith)
+
+listing_rows : (scope : List ℕ) (rows : List Row) → AreRows rows → counted_rows_in (behind_text (text_bytes scope ++ rows_bytes rows)) ≡ rows
+listing_rows scope rows are = ap counted_rows_in (behind_text-text_bytes scope (rows_bytes rows)) ∙ counted_rows_in-rows_bytes rows are
+
+spelled_so : (m : Message) → IsMessage m → message (message_bytes m) ≡ Some m
+unfolding message
+spelled_so (messages.Discover scope) is =
+    found_at (spells (message_bytes (messages.Discover scope))) (messages.Discover (text_in (text_bytes scope))) _ None (ap messages.Discover (text_alone scope)) (spells_true (messages.Discover scope) is)
+spelled_so (messages.Sync scope rows) is =
+    let parts = text_bytes scope ++ rows_bytes rows in
+    found_at (spells (message_bytes (messages.Sync scope rows))) (messages.Sync (text_in parts) (counted_rows_in (behind_text parts))) _ None (λ i. messages.Sync (text_in-text_bytes scope (rows_bytes rows) i) (listing_rows scope rows is.1 i)) (spells_true (messages.Sync scope rows) is)
+spelled_so (messages.Join scope rows) is =
+    let parts = text_bytes scope ++ rows_bytes rows in
+    found_at (spells (message_bytes (messages.Join scope rows))) (messages.Join (text_in parts) (counted_rows_in (behind_text parts))) _ None (λ i. messages.Join (text_in-text_bytes scope (rows_bytes rows) i) (listing_rows scope rows is.1 i)) (spells_true (messages.Join scope rows) is)
+spelled_so (messages.Leave scope rows) is =
+    let parts = text_bytes scope ++ rows_bytes rows in
+    found_at (spells (message_bytes (messages.Leave scope rows))) (messages.Leave (text_in parts) (counted_rows_in (behind_text parts))) _ None (λ i. messages.Leave (text_in-text_bytes scope (rows_bytes rows) i) (listing_rows scope rows is.1 i)) (spells_true (messages.Leave scope rows) is)
+spelled_so (messages.Down scope) is =
+    found_at (spells (message_bytes (messages.Down scope))) (messages.Down (text_in (text_bytes scope))) _ None (ap messages.Down (text_alone scope)) (spells_true (messages.Down scope) is)
+
+pub message-spelled : (body : List ℕ) (m : Message) → SpellsMessage body m → message body ≡ Some m
+message-spelled body m spelled = ap message spelled.bytes ∙ spelled_so m spelled.within
+
+pub SpellsMessage-read : (body : List ℕ) (m : Message) → message body ≡ Some m → SpellsMessage body m
+unfolding message
+SpellsMessage-read body m read =
+    let tests = and_parts _ _ (found_passes (spells body) (messages_in body) m read) in
+    record { within = (message_computes m).0 tests.1; bytes = sym ((bytes_eq-Decides (message_bytes m) body).0 tests.0) }
+
+-- a body spells at most one message
+pub one_message : (body : List ℕ) (m n : Message) → SpellsMessage body m → SpellsMessage body n → m ≡ n
+one_message body m n a b = cc (message-spelled body m a, message-spelled body n b)

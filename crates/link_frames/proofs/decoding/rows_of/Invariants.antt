@@ -1,0 +1,11 @@
+use Rattle.std.proofs.Common.{◌≡◌, ◌++◌, length, All}
+use Rattle.std.specs.List.{flat_map}
+use Rattle.link_frames.specs.Spelling.{row_bytes, IsRow}
+use Rattle.link_frames.proofs.decoding.rows_of.Given as goal
+
+abbrev pub invariant-loop : goal.invariant-loop
+invariant-loop l = record {
+  count : length l.rows.items ≡ l.counter;
+  each : All IsRow l.rows.items;
+  whole : l.bytes ≡ flat_map row_bytes l.rows.items ++ l.rest;
+}

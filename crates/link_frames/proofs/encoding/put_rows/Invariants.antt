@@ -1,0 +1,9 @@
+use Rattle.std.proofs.Common.{◌≡◌, ◌++◌, length, take, All}
+use Rattle.std.specs.Int.{w32, to_be_bytes}
+use Rattle.std.specs.List.{flat_map}
+use Rattle.link_frames.specs.Spelling.{row_bytes, IsRow}
+use Rattle.link_frames.proofs.encoding.put_rows.Given as goal
+
+abbrev pub invariant-loop-row : goal.invariant-loop-row
+invariant-loop-row l =
+    (l.out.items ≡ l.fn.out.items ++ (to_be_bytes w32 (length l.rows) ++ flat_map row_bytes (take l.row-index l.rows))) × All IsRow (take l.row-index l.rows)

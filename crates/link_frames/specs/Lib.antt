@@ -1,0 +1,4 @@
+pub mod Fault
+pub mod Spelling
+pub mod Reading
+pub mod Stream

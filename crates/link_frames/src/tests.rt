@@ -1,0 +1,3 @@
+mod grammar;
+mod messages;
+mod streams;

@@ -1,0 +1,92 @@
+//! A Sync of three rows, cut short and changed in one byte, against a verdict of the tests' own.
+use crate::decode;
+use std::test::Fail;
+
+const SYNC: &[u8] = b"S\x02pg\x00\x00\x00\x03\
+    \x01g\x00\x03a@h\x00\x00\x00\x05\x00\x00\x00\x00\x00\x00\x00\x01\
+    \x02gh\x00\x04a@hh\x00\x00\x00\x05\x00\x00\x00\x00\x00\x00\x00\x02\
+    \x01g\x00\x05aa@hh\x00\x00\x00\x05\x00\x00\x00\x00\x00\x00\x00\x03";
+
+fn is_text(bytes: &[u8]) -> bool {
+    bytes.len() != 0 && bytes.len() < 256 && bytes.iter().all(|byte| *byte > 0x20 && *byte < 0x7f)
+}
+
+fn is_name(bytes: &[u8]) -> bool {
+    let first = bytes.iter().position(|byte| *byte == b'@');
+    let last = bytes.iter().rposition(|byte| *byte == b'@');
+    let inside = bytes.first() != Some(&b'@') && bytes.last() != Some(&b'@');
+    is_text(bytes) && first.is_some() && first == last && inside
+}
+
+/// What stands behind a text with its length in 1 byte.
+fn behind_text(bytes: &[u8]) -> Option<&[u8]> {
+    let len = usize::from(*bytes.first()?);
+    let text = bytes.get(1..1 + len)?;
+    if is_text(text) {
+        bytes.get(1 + len..)
+    } else {
+        None
+    }
+}
+
+/// What stands behind a row.
+fn behind_row(bytes: &[u8]) -> Option<&[u8]> {
+    let rest = behind_text(bytes)?;
+    let len = usize::from(*rest.first()?) * 256 + usize::from(*rest.get(1)?);
+    let name = rest.get(2..2 + len)?;
+    if is_name(name) {
+        rest.get(2 + len + 12..)
+    } else {
+        None
+    }
+}
+
+/// Whether the body is a Sync, a Join or a Leave of at most 255 rows.
+fn is_listing(body: &[u8]) -> Option<bool> {
+    let kind = *body.first()?;
+    let rest = behind_text(body.get(1..)?)?;
+    let count = *rest.get(3)?;
+    let few = rest.get(..3) == Some(&[0, 0, 0]);
+    let mut rest = rest.get(4..)?;
+    for _ in 0..count {
+        rest = behind_row(rest)?;
+    }
+    let known = kind == b'S' || (kind == b'J' || kind == b'L') && count != 0;
+    Some(known && few && rest.is_empty())
+}
+
+#[test]
+fn refuses_each_prefix(rt: HostRuntime) -> Result<(), Fail> {
+    for end in 0..SYNC.len() {
+        let cut = decode(rt.alloc(), &SYNC[..end]);
+        assert!(rt; cut.is_err(), "{end} bytes");
+    }
+    assert!(rt; decode(rt.alloc(), SYNC).is_ok());
+    Ok(())
+}
+
+#[test]
+fn judges_each_changed_byte(rt: HostRuntime) -> Result<(), Fail> {
+    let mut body = Vec::from_slice(rt.alloc(), SYNC)?;
+    let mut accepted = 0u32;
+    for place in 0..SYNC.len() {
+        let byte = SYNC[place];
+        for changed in [0, 0xff, byte.wrapping_add(1), byte.wrapping_sub(1)] {
+            if let Some(target) = body.get_mut(place) {
+                *target = changed;
+            }
+            let read = decode(rt.alloc(), &body).is_ok();
+            assert_eq!(rt;
+                read,
+                is_listing(&body) == Some(true),
+                "byte {place} is {changed}"
+            );
+            accepted = accepted.wrapping_add(u32::from(read));
+        }
+        if let Some(target) = body.get_mut(place) {
+            *target = byte;
+        }
+    }
+    assert!(rt; accepted > 100, "{accepted} accepted");
+    Ok(())
+}

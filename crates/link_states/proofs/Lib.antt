@@ -1,0 +1,2 @@
+pub mod AllowedLemmas
+pub mod MeetingLemmas

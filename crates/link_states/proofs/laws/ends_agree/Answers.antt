@@ -1,0 +1,14 @@
+use Rattle.link_states.proofs.MeetingLemmas.{name_passes, challenge_passes, reply_passes, ack_passes}
+use Rattle.link_states.proofs.laws.ends_agree.Goals as goal
+
+pub returns-clause-name : goal.returns-clause-name
+returns-clause-name c = name_passes
+
+pub returns-clause-challenge : goal.returns-clause-challenge
+returns-clause-challenge c = challenge_passes
+
+pub returns-clause-reply : goal.returns-clause-reply
+returns-clause-reply c = reply_passes
+
+pub returns-clause-ack : goal.returns-clause-ack
+returns-clause-ack c = ack_passes

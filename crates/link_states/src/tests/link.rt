@@ -1,0 +1,115 @@
+//! A link in any state, which takes one frame after another.
+use super::*;
+
+#[derive(Drop)]
+pub enum Link {
+    AwaitName(AwaitName),
+    AwaitAnswer(AwaitAnswer),
+    AwaitReply(AwaitReply),
+    AwaitStatus(AwaitStatus),
+    AwaitChallenge(AwaitChallenge),
+    AwaitAck(AwaitAck),
+    Up(Up),
+    Ended(StateRule),
+}
+
+pub fn opened(challenge: u32) -> Link {
+    Link::AwaitName(AwaitName::new(Challenge::new(challenge)))
+}
+
+/// The link after a frame, and the frames that it owes.
+pub fn taken(
+    link: Link,
+    alloc: Global,
+    body: &[u8],
+    node: &Admission,
+    links: &Pending,
+) -> Result<(Link, Bodies), OutOfMemory> {
+    match link {
+        Link::AwaitName(state) => match state.take(alloc, body, node, links) {
+            Ok(named) => Ok(link_named(named)),
+            Err(stopped) => ended(stopped),
+        },
+        Link::AwaitAnswer(state) => match state.take(alloc, body, node, links) {
+            Ok((next, frames)) => Ok((Link::AwaitReply(next), frames)),
+            Err(stopped) => ended(stopped),
+        },
+        Link::AwaitReply(state) => match state.take(alloc, body, node, links) {
+            Ok((up, frames)) => Ok((Link::Up(up), frames)),
+            Err(stopped) => ended(stopped),
+        },
+        Link::AwaitStatus(state) => match state.take(alloc, body, node, links) {
+            Ok((next, frames)) => Ok((Link::AwaitChallenge(next), frames)),
+            Err(stopped) => ended(stopped),
+        },
+        Link::AwaitChallenge(state) => match state.take(alloc, body, node, links) {
+            Ok((next, frames)) => Ok((Link::AwaitAck(next), frames)),
+            Err(stopped) => ended(stopped),
+        },
+        Link::AwaitAck(state) => match state.take(alloc, body, node, links) {
+            Ok((up, frames)) => Ok((Link::Up(up), frames)),
+            Err(stopped) => ended(stopped),
+        },
+        other => Ok((other, Bodies::of(Vec::new(alloc)))),
+    }
+}
+
+fn link_named(named: Named) -> (Link, Bodies) {
+    match named {
+        Named::Alive(state, frames) => (Link::AwaitAnswer(state), frames),
+        Named::Reply {
+            state,
+            frames,
+            gives_up: _,
+        } => (Link::AwaitReply(state), frames),
+    }
+}
+
+fn ended<S: Drop>(stopped: Stopped<S>) -> Result<(Link, Bodies), OutOfMemory> {
+    match stopped {
+        Stopped::Ended { rule, frames } => Ok((Link::Ended(rule), frames)),
+        Stopped::OutOfMemory(_state) => Err(OutOfMemory),
+    }
+}
+
+/// The link after the frames, each of which owes the frames beside it; else nothing.
+pub fn played(
+    mut link: Link,
+    alloc: Global,
+    node: &Admission,
+    links: &Pending,
+    steps: &[(&[u8], &[&[u8]])],
+) -> Result<Option<Link>, OutOfMemory> {
+    for (body, owed) in steps {
+        let (next, frames) = taken(link, alloc, body, node, links)?;
+        if !are(&frames, owed) {
+            return Ok(None);
+        }
+        link = next;
+    }
+    Ok(Some(link))
+}
+
+/// Whether these are the frames, in this order.
+pub fn are(frames: &Bodies, wanted: &[&[u8]]) -> bool {
+    let frames = frames.as_slice();
+    if frames.len() != wanted.len() {
+        return false;
+    }
+    for (frame, body) in frames.iter().zip(wanted) {
+        if frame.as_slice() != *body {
+            return false;
+        }
+    }
+    true
+}
+
+/// The creation, the visibility and the challenge of a link that is up to this peer.
+pub fn up_to(link: &Option<Link>, peer: &[u8]) -> Option<(u32, bool, u32)> {
+    match link {
+        Some(Link::Up(up)) if up.peer().as_bytes() == peer => {
+            Some((up.creation(), up.visible(), up.proof().number()))
+        }
+        _ => None,
+    }
+}

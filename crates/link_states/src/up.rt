@@ -1,0 +1,60 @@
+//! A link whose handshake is whole.
+ghost use Rattle.std.specs.Prelude.{◌≡◌};
+
+use crate::peer::Peer;
+use cookie_digest::Proof;
+use dist_types::NodeName;
+use std::marker::Model;
+
+/// The peer has shown that it has the cookie.
+#[derive(Debug, Drop)]
+pub struct Up {
+    peer: Peer,
+    proof: Proof,
+}
+
+impl Model for Up {
+    ghost use Rattle.link_states.specs.States.{Linked};
+
+    ghost Value = { Linked };
+
+    ghost view = { λ up. record {
+      peer = up.peer.name;
+      creation = up.peer.creation;
+      visible = up.peer.visible;
+      proof = up.proof;
+    } };
+}
+
+impl Up {
+    pub(crate) fn new(peer: Peer, proof: Proof) -> Up
+        ensures { result ≡ record { peer = peer.name; creation = peer.creation; visible = peer.visible; proof = proof } }
+    {
+        Up { peer, proof }
+    }
+
+    pub fn peer(&self) -> &NodeName
+        ensures { result.now ≡ self.now.peer }
+    {
+        &self.peer.name
+    }
+
+    pub fn creation(&self) -> u32
+        ensures { result ≡ self.now.creation }
+    {
+        self.peer.creation
+    }
+
+    pub fn visible(&self) -> bool
+        ensures { result ≡ self.now.visible }
+    {
+        self.peer.visible
+    }
+
+    /// That the peer answered the challenge of this handshake.
+    pub fn proof(&self) -> &Proof
+        ensures { result.now ≡ self.now.proof }
+    {
+        &self.proof
+    }
+}
