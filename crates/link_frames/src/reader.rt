@@ -47,6 +47,45 @@ impl LinkReader {
         if self.too_long {
             return Err(FeedFault::TooLong);
         }
+        if self.held.is_empty() {
+            self.feed_anew(piece)
+        } else {
+            self.feed_on(piece)
+        }
+    }
+
+    /// Cuts where nothing is held. Bodies are copied out of the piece, so that many small ones in it are copied once each.
+    fn feed_anew(&mut self, piece: &[u8]) -> Result<Fed, FeedFault>
+        requires going { self.old.too_long ≡ false }
+        requires fresh { self.old.rest ≡ [] }
+        ensures ok { IfOk result (λ fed. Feeds self.old piece.now fed.used fed.body self.new) }
+        ensures refused { IfErr result (λ fault. IsFeedFault fault self.old piece.now self.new) }
+    {
+        let left = after_ticks(piece);
+        let Ok(front) = body_at(left) else {
+            self.too_long = true;
+            return Err(FeedFault::TooLong);
+        };
+        let Some((body, behind)) = front else {
+            self.held.extend_from_slice(left)?;
+            return Ok(Fed {
+                used: piece.len(),
+                body: None,
+            });
+        };
+        let body = Vec::from_slice(*self.held.allocator(), body)?;
+        Ok(Fed {
+            used: piece.len() - behind.len(),
+            body: Some(Body::of(body)),
+        })
+    }
+
+    /// Cuts behind the bytes that are held.
+    fn feed_on(&mut self, piece: &[u8]) -> Result<Fed, FeedFault>
+        requires going { self.old.too_long ≡ false }
+        ensures ok { IfOk result (λ fed. Feeds self.old piece.now fed.used fed.body self.new) }
+        ensures refused { IfErr result (λ fault. IsFeedFault fault self.old piece.now self.new) }
+    {
         let before = self.held.len();
         self.held.extend_from_slice(piece)?;
         let left = after_ticks(&self.held);
