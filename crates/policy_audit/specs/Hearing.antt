@@ -1,0 +1,77 @@
+-- What the peers of links have said about scopes: who is heard, who is told, and which rows are stated.
+use Rattle.std.specs.Prelude.{ℕ, ◌+◌, ◌-◌, Bool, true, false, cond, ◌&&◌, ◌==◌, List, [], ◌∷◌, ◌++◌, Option, Some, None}
+use Rattle.std.specs.Option.{unwrap_or}
+use Rattle.dist_types.specs.declared.pid.Pid.{Pid}
+use Rattle.dist_types.specs.declared.row.Row.{Row}
+use Rattle.dist_types.specs.Listing.{same, same_row, occurrences}
+use Rattle.link_frames.specs.declared.message.Message.{Message}
+use Rattle.link_frames.specs.declared.message.Message.TheVariants as said
+use Rattle.link_frames.specs.Reading.{message}
+use Rattle.policy_audit.specs.declared.event.Event.{Event}
+use Rattle.policy_audit.specs.declared.event.Event.TheVariants as event
+use Rattle.policy_audit.specs.declared.entry.Entry.{Entry}
+use Rattle.policy_audit.specs.History.{is_accepted, first_of}
+use Rattle.policy_audit.specs.Sides.{is_whole}
+use Rattle.policy_audit.specs.Links.{is_up}
+
+-- The messages that a link which is up takes: all. (This one word says which frames are taken there.)
+abbrev pub message_taken : List ℕ → Option Message
+message_taken body = message body
+
+-- what bears on a link's scopes: its accepted messages, and the stops of scopes here
+pub data Talk : Type 0 where
+  Said : Message → Talk
+  Stopped : List ℕ → Talk
+
+abbrev pub talk_of : Option Message → List Talk
+talk_of None = []
+talk_of (Some m) = Said m ∷ []
+
+-- what an accepted event adds, after these entries
+abbrev pub talk_at : ℕ → List Entry → Event → List Talk
+talk_at l es (event.Frame k body) = cond (k == l && is_whole l es) (talk_of (message_taken body)) []
+talk_at l es (event.StopScope s) = Stopped s ∷ []
+talk_at l es e = []
+
+-- the messages accepted on link l and the stops, the newest first
+abbrev pub talk : ℕ → List Entry → List Talk
+talk l [] = []
+talk l (e ∷ es) = cond (is_accepted e.verdict) (talk_at l es e.event) [] ++ talk l es
+
+abbrev pub hears : List ℕ → Talk → Option Bool
+hears s (Said (said.Sync t rows)) = cond (same t s) (Some true) None
+hears s (Said (said.Down t)) = cond (same t s) (Some false) None
+hears s (Stopped t) = cond (same t s) (Some false) None
+hears s t = None
+
+abbrev pub tells : List ℕ → Talk → Option Bool
+tells s (Said (said.Discover t)) = cond (same t s) (Some true) None
+tells s (Said (said.Down t)) = cond (same t s) (Some false) None
+tells s (Stopped t) = cond (same t s) (Some false) None
+tells s t = None
+
+-- the peer is heard in s: link l is up, and a Sync of s came with no later Down and no later stop of s
+abbrev pub heard : ℕ → List ℕ → List Entry → Bool
+heard l s es = is_up l es && unwrap_or (first_of (hears s) (talk l es)) false
+
+-- the peer is told in s: the same with Discover for Sync
+abbrev pub told : ℕ → List ℕ → List Entry → Bool
+told l s es = is_up l es && unwrap_or (first_of (tells s) (talk l es)) false
+
+-- how often the row of g and p is one of these
+abbrev pub rows_of : List ℕ → Pid → List Row → ℕ
+rows_of g p rows = occurrences same_row (record { group = g; pid = p }) rows
+
+-- how often p was stated in g: in the last Sync of s, and by the Joins and Leaves after it
+abbrev pub stated_in : List ℕ → List ℕ → Pid → List Talk → ℕ
+stated_in s g p [] = 0
+stated_in s g p (Said (said.Sync t rows) ∷ ts) = cond (same t s) (rows_of g p rows) (stated_in s g p ts)
+stated_in s g p (Said (said.Join t rows) ∷ ts) = cond (same t s) (stated_in s g p ts + rows_of g p rows) (stated_in s g p ts)
+stated_in s g p (Said (said.Leave t rows) ∷ ts) = cond (same t s) (stated_in s g p ts - rows_of g p rows) (stated_in s g p ts)
+stated_in s g p (Said (said.Down t) ∷ ts) = cond (same t s) 0 (stated_in s g p ts)
+stated_in s g p (Stopped t ∷ ts) = cond (same t s) 0 (stated_in s g p ts)
+stated_in s g p (t ∷ ts) = stated_in s g p ts
+
+-- how often link l has stated p in g, where its peer is heard in s
+abbrev pub stated : ℕ → List ℕ → List ℕ → Pid → List Entry → ℕ
+stated l s g p es = cond (heard l s es) (stated_in s g p (talk l es)) 0

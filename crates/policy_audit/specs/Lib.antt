@@ -1,0 +1,17 @@
+pub mod Rules
+pub mod Wire
+pub mod Log
+pub mod History
+pub mod Admission
+pub mod Own
+pub mod Sides
+pub mod Links
+pub mod Hearing
+pub mod Listed
+pub mod Contents
+pub mod Changes
+pub mod Owed
+pub mod Monitors
+pub mod Checks
+pub mod Policy
+pub mod Scripts

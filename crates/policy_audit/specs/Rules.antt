@@ -1,0 +1,38 @@
+-- The rules by which events are refused, each with its number and its name.
+use Rattle.std.specs.Prelude.{ℕ, List, codes}
+use Rattle.policy_audit.specs.declared.rule.Rule.{Rule}
+use Rattle.policy_audit.specs.declared.rule.Rule.TheVariants as rule
+
+abbrev pub rule_line : Rule → ℕ × List ℕ
+rule_line rule.EntriesFull = (1, codes "EntriesFull")
+rule_line rule.NoSuchLink = (2, codes "NoSuchLink")
+rule_line rule.BadFrame = (3, codes "BadFrame")
+rule_line rule.NoHandshake23 = (4, codes "NoHandshake23")
+rule_line rule.DynamicName = (5, codes "DynamicName")
+rule_line rule.BadName = (6, codes "BadName")
+rule_line rule.OwnName = (7, codes "OwnName")
+rule_line rule.WrongName = (8, codes "WrongName")
+rule_line rule.NotAllowed = (9, codes "NotAllowed")
+rule_line rule.Simultaneous = (10, codes "Simultaneous")
+rule_line rule.PeerSaid = (11, codes "PeerSaid")
+rule_line rule.BadDigest = (12, codes "BadDigest")
+rule_line rule.HiddenLink = (13, codes "HiddenLink")
+rule_line rule.NoScope = (14, codes "NoScope")
+rule_line rule.NotHeard = (15, codes "NotHeard")
+rule_line rule.ForeignPid = (16, codes "ForeignPid")
+rule_line rule.NotListed = (17, codes "NotListed")
+rule_line rule.RowsFull = (18, codes "RowsFull")
+rule_line rule.NotLocal = (19, codes "NotLocal")
+rule_line rule.NoProcess = (20, codes "NoProcess")
+rule_line rule.NotJoined = (21, codes "NotJoined")
+rule_line rule.ScopeRunning = (22, codes "ScopeRunning")
+rule_line rule.NoMonitor = (23, codes "NoMonitor")
+rule_line rule.LinkUp = (24, codes "LinkUp")
+rule_line rule.LinkPending = (25, codes "LinkPending")
+rule_line rule.NoLinkTo = (26, codes "NoLinkTo")
+rule_line rule.LinksFull = (27, codes "LinksFull")
+rule_line rule.ScopesFull = (28, codes "ScopesFull")
+rule_line rule.PidsFull = (29, codes "PidsFull")
+rule_line rule.AllowFull = (30, codes "AllowFull")
+rule_line rule.CookiesFull = (31, codes "CookiesFull")
+rule_line rule.CreationSpent = (32, codes "CreationSpent")

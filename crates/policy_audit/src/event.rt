@@ -1,0 +1,106 @@
+//! What may happen to a node.
+use crate::body::Body;
+use dist_types::{Cookie, Group, Items, NodeName, OutOfMemory, Pid, Pids, Scope, TryClone};
+use std::alloc::Global;
+
+/// Names of nodes, in any order.
+pub type NodeNames = Items<NodeName>;
+
+/// Groups, ascending.
+pub type Groups = Items<Group>;
+
+/// A call of the node, or what comes of a link. A link is named by the number of the entry that opened it.
+#[derive(Debug, Drop, PartialEq, Eq)]
+pub enum Event {
+    /// The node begins anew, with the next creation.
+    Restart,
+    /// The cookie of the node, and for each peer without a cookie of its own (`erlang:set_cookie/1`).
+    SetCookie(Cookie),
+    /// The cookie for one peer; for the own name, as `SetCookie` (`erlang:set_cookie/2`).
+    SetCookieFor(NodeName, Cookie),
+    /// Names that may connect from now on (`net_kernel:allow/1`).
+    Allow(NodeNames),
+    StartScope(Scope),
+    StopScope(Scope),
+    /// A new process of the node.
+    Spawn,
+    /// The end of a process of the node.
+    Exit(Pid),
+    /// Processes of the node join a group, each once per mention (`pg:join/3`).
+    Join(Scope, Group, Pids),
+    /// Processes of the node leave a group, each once per mention (`pg:leave/3`).
+    Leave(Scope, Group, Pids),
+    Members(Scope, Group),
+    LocalMembers(Scope, Group),
+    Groups(Scope),
+    LocalGroups(Scope),
+    /// The seat watches a group from now on (`pg:monitor/2`).
+    Monitor(Scope, Group),
+    /// The seat watches all groups of a scope from now on (`pg:monitor_scope/1`).
+    MonitorScope(Scope),
+    /// The end of a monitor, by the number of its entry (`pg:demonitor/2`).
+    Demonitor(u32),
+    /// What a monitor, by the number of its entry, has not told yet.
+    Updates(u32),
+    /// A new link to a peer, with the challenge that it has to answer.
+    Dial(NodeName, u32),
+    /// A new link from a peer, with the challenge that it has to answer.
+    Opened(u32),
+    /// The link is gone.
+    Lost(u32),
+    /// The frames that wait for the link.
+    Take(u32),
+    /// The end of the link to a peer.
+    Disconnect(NodeName),
+    /// A frame that came on the link.
+    Frame(u32, Body),
+}
+
+impl TryClone for Event {
+    fn try_clone(&self, alloc: Global) -> Result<Event, OutOfMemory> {
+        Ok(match self {
+            Self::Restart => Self::Restart,
+            Self::SetCookie(cookie) => Self::SetCookie(cookie.try_clone(alloc)?),
+            Self::SetCookieFor(n, c) => Self::SetCookieFor(
+                n.try_clone(alloc)?,
+                c.try_clone(alloc)?,
+            ),
+            Self::Allow(names) => Self::Allow(names.try_clone(alloc)?),
+            Self::StartScope(scope) => Self::StartScope(scope.try_clone(alloc)?),
+            Self::StopScope(scope) => Self::StopScope(scope.try_clone(alloc)?),
+            Self::Spawn => Self::Spawn,
+            Self::Exit(pid) => Self::Exit(pid.try_clone(alloc)?),
+            Self::Join(s, g, p) => {
+                Self::Join(
+                    s.try_clone(alloc)?,
+                    g.try_clone(alloc)?,
+                    p.try_clone(alloc)?,
+                )
+            }
+            Self::Leave(s, g, p) => {
+                Self::Leave(
+                    s.try_clone(alloc)?,
+                    g.try_clone(alloc)?,
+                    p.try_clone(alloc)?,
+                )
+            }
+            Self::Members(s, g) => Self::Members(s.try_clone(alloc)?, g.try_clone(alloc)?),
+            Self::LocalMembers(s, g) => Self::LocalMembers(
+                s.try_clone(alloc)?,
+                g.try_clone(alloc)?,
+            ),
+            Self::Groups(scope) => Self::Groups(scope.try_clone(alloc)?),
+            Self::LocalGroups(scope) => Self::LocalGroups(scope.try_clone(alloc)?),
+            Self::Monitor(s, g) => Self::Monitor(s.try_clone(alloc)?, g.try_clone(alloc)?),
+            Self::MonitorScope(scope) => Self::MonitorScope(scope.try_clone(alloc)?),
+            Self::Demonitor(number) => Self::Demonitor(*number),
+            Self::Updates(number) => Self::Updates(*number),
+            Self::Dial(peer, challenge) => Self::Dial(peer.try_clone(alloc)?, *challenge),
+            Self::Opened(challenge) => Self::Opened(*challenge),
+            Self::Lost(link) => Self::Lost(*link),
+            Self::Take(link) => Self::Take(*link),
+            Self::Disconnect(peer) => Self::Disconnect(peer.try_clone(alloc)?),
+            Self::Frame(link, body) => Self::Frame(*link, body.try_clone(alloc)?),
+        })
+    }
+}

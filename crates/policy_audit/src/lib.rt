@@ -1,0 +1,23 @@
+//! Events and answers of a node, the audit of both, and the written policy that says what each event is answered.
+#![tactic(auto)]
+
+mod audit;
+mod body;
+mod change;
+mod entry;
+mod event;
+mod laws;
+mod opening;
+mod out_frame;
+mod reply;
+mod rule;
+
+pub use audit::{Audit, AuditFault};
+pub use body::Body;
+pub use change::{Change, Changes};
+pub use entry::{Entry, Verdict};
+pub use event::{Event, Groups, NodeNames};
+pub use opening::Opening;
+pub use out_frame::{OutFrame, OutFrames};
+pub use reply::{Contents, GroupPids, Reply, Update, Updates};
+pub use rule::Rule;

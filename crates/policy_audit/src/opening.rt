@@ -1,0 +1,15 @@
+//! What a node starts with.
+use dist_types::{Cookie, NodeName};
+
+/// What a node starts with, and comes back to with a restart, except for the creation.
+#[derive(Debug, Drop)]
+pub struct Opening {
+    /// The node's own name.
+    pub name: NodeName,
+    pub cookie: Cookie,
+    /// Whether the node shows no groups and sees none.
+    pub hidden: bool,
+    pub creation: u32,
+    /// The most entries of the audit.
+    pub entries: u32,
+}

@@ -1,0 +1,48 @@
+//! The frames that a node owes to its links.
+ghost use Rattle.std.specs.Prelude.{◌≡◌, ◌++◌, OnOk, OnErr};
+ghost use Rattle.policy_audit.specs.Wire.{FitsWire, wire_bytes};
+
+use crate::body::Body;
+use dist_types::{Items, OutOfMemory, TryClone};
+use std::alloc::Global;
+
+/// Frames, the first to send first.
+pub type OutFrames = Items<OutFrame>;
+
+/// A frame to send, with the width of its length: 4 bytes where it is wide, as after the handshake, else 2.
+#[derive(Debug, Drop, PartialEq, Eq)]
+pub struct OutFrame {
+    pub wide: bool,
+    pub body: Body,
+}
+
+impl OutFrame {
+    /// Appends the frame as it goes over the wire: the length of the body, big-endian, and the body
+    /// (Distribution Protocol, Distribution Handshake and Protocol between Connected Nodes).
+    pub fn wire(&self, out: &mut Vec<u8>) -> Result<(), OutOfMemory>
+        requires { FitsWire self.now }
+        ensures ok { OnOk result (out.new.items ≡ out.old.items ++ wire_bytes self.now) }
+        ensures memory { OnErr result (out.new.items ≡ out.old.items) }
+    {
+        let body = self.body.as_slice();
+        out.reserve(4 + body.len())?;
+        if self.wide {
+            out.extend_from_slice(&(body.len() as u32).to_be_bytes())
+                .unwrap();
+        } else {
+            out.extend_from_slice(&(body.len() as u16).to_be_bytes())
+                .unwrap();
+        }
+        out.extend_from_slice(body).unwrap();
+        Ok(())
+    }
+}
+
+impl TryClone for OutFrame {
+    fn try_clone(&self, alloc: Global) -> Result<OutFrame, OutOfMemory> {
+        Ok(OutFrame {
+            wide: self.wide,
+            body: self.body.try_clone(alloc)?,
+        })
+    }
+}
