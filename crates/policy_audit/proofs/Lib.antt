@@ -1,2 +1,9 @@
 pub mod Lines
 mod Played
+pub mod Accepted
+pub mod Walked
+pub mod Finished
+pub mod UpLinks
+pub mod Staged
+pub mod Whole
+pub mod Named

@@ -1,5 +1,6 @@
 -- What the peers of links have said about scopes: who is heard, who is told, and which rows are stated.
 use Rattle.std.specs.Prelude.{ℕ, ◌+◌, ◌-◌, Bool, true, false, cond, ◌&&◌, ◌==◌, List, [], ◌∷◌, ◌++◌, Option, Some, None}
+use Rattle.std.specs.List.{flat_map}
 use Rattle.std.specs.Option.{unwrap_or}
 use Rattle.dist_types.specs.declared.pid.Pid.{Pid}
 use Rattle.dist_types.specs.declared.row.Row.{Row}
@@ -10,7 +11,7 @@ use Rattle.link_frames.specs.Reading.{message}
 use Rattle.policy_audit.specs.declared.event.Event.{Event}
 use Rattle.policy_audit.specs.declared.event.Event.TheVariants as event
 use Rattle.policy_audit.specs.declared.entry.Entry.{Entry}
-use Rattle.policy_audit.specs.History.{is_accepted, first_of}
+use Rattle.policy_audit.specs.History.{Moment, present, first_of}
 use Rattle.policy_audit.specs.Sides.{is_whole}
 use Rattle.policy_audit.specs.Links.{is_up}
 
@@ -27,16 +28,18 @@ abbrev pub talk_of : Option Message → List Talk
 talk_of None = []
 talk_of (Some m) = Said m ∷ []
 
--- what an accepted event adds, after these entries
+-- what an accepted event adds to what bears on link l
 abbrev pub talk_at : ℕ → List Entry → Event → List Talk
-talk_at l es (event.Frame k body) = cond (k == l && is_whole l es) (talk_of (message_taken body)) []
-talk_at l es (event.StopScope s) = Stopped s ∷ []
-talk_at l es e = []
+talk_at l before (event.Frame k body) = cond (k == l && is_whole l before) (talk_of (message_taken body)) []
+talk_at l before (event.StopScope s) = Stopped s ∷ []
+talk_at l before e = []
+
+abbrev pub talk_in : ℕ → List Moment → List Talk
+talk_in l ms = flat_map (λ m. talk_at l m.before m.event) ms
 
 -- the messages accepted on link l and the stops, the newest first
 abbrev pub talk : ℕ → List Entry → List Talk
-talk l [] = []
-talk l (e ∷ es) = cond (is_accepted e.verdict) (talk_at l es e.event) [] ++ talk l es
+talk l es = talk_in l (present es)
 
 abbrev pub hears : List ℕ → Talk → Option Bool
 hears s (Said (said.Sync t rows)) = cond (same t s) (Some true) None

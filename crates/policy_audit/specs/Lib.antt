@@ -14,4 +14,6 @@ pub mod Owed
 pub mod Monitors
 pub mod Checks
 pub mod Policy
+pub mod Stages
+pub mod Admitted
 pub mod Scripts

@@ -74,13 +74,18 @@ pub record Taken : Type 0 where
   pub before : List Entry
 
 -- the frame of link l that an event is
-abbrev pub frame_of : ℕ → List Entry → Event → List Taken
-frame_of l before (event.Frame k body) = cond (k == l) (record { body = body; before = before } ∷ []) []
-frame_of l before e = []
+abbrev pub frame_of : ℕ → List Entry → Event → Option Taken
+frame_of l before (event.Frame k body) = cond (k == l) (Some (record { body = body; before = before })) None
+frame_of l before e = None
+
+-- these frames and then that one, if it is one
+abbrev pub and_frame : List Taken → Option Taken → List Taken
+and_frame frames None = frames
+and_frame frames (Some frame) = frames ++ frame ∷ []
 
 abbrev pub taken_in : ℕ → List Moment → List Taken
 taken_in l [] = []
-taken_in l (m ∷ ms) = taken_in l ms ++ frame_of l m.before m.event
+taken_in l (m ∷ ms) = and_frame (taken_in l ms) (frame_of l m.before m.event)
 
 -- the accepted frames of link l, the OLDEST first
 abbrev pub taken : ℕ → List Entry → List Taken

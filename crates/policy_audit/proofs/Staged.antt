@@ -1,0 +1,139 @@
+-- What the accepted events alone say of the links is what the recorded answers say.
+use Rattle.std.specs.Prelude.{◌≡◌, ℕ, ◌==◌, Bool, true, false, cond, ◌&&◌, ◌||◌, not, List, [], ◌∷◌, ◌++◌, Option, Some, None, is_some}
+use Rattle.std.proofs.Common.{refl, ap, ◌∙◌, sym}
+use Rattle.std.proofs.lemmas.Bool.{eqb-true}
+use Rattle.std.specs.List.{list_any, flat_map}
+use Rattle.std.specs.Option.{option_map_or}
+use Rattle.dist_types.specs.Listing.{same}
+use Rattle.dist_types.proofs.Orders.{same_decides}
+use Rattle.handshake_frames.specs.Reading.{name_frame}
+use Rattle.policy_audit.specs.declared.opening.Opening.{Opening}
+use Rattle.policy_audit.specs.declared.event.Event.{Event}
+use Rattle.policy_audit.specs.declared.event.Event.TheVariants as event
+use Rattle.policy_audit.specs.declared.entry.Verdict.{Verdict}
+use Rattle.policy_audit.specs.declared.entry.Verdict.TheVariants.{Accepted, Refused}
+use Rattle.policy_audit.specs.declared.entry.Entry.{Entry}
+use Rattle.policy_audit.specs.History.{Moment, present, first_of}
+use Rattle.policy_audit.specs.Sides.{Start, Opened, Taken, start_of, started_where, opened, taken, and_frame, was_up, present_link, peer_of, is_peer, is_name_up, awaits, is_whole, is_last}
+use Rattle.policy_audit.specs.Links.{is_opened_by, is_dial_to, share_peer, named_by, ends, is_open, is_up, links}
+use Rattle.policy_audit.specs.Stages.{Stage, name_up_at, ends_at, was_up_after, is_up_at, stages, name_up}
+use Rattle.policy_audit.specs.Policy.{IsLegalIn}
+use Rattle.policy_audit.proofs.Accepted.{lie}
+use Rattle.policy_audit.proofs.Walked.{but}
+use Rattle.policy_audit.proofs.Finished.{whole_by}
+use Rattle.policy_audit.proofs.UpLinks.{and_left, and_right, and_both, agrees}
+
+-- the stages as the other words have them
+abbrev now : List Entry → ℕ → Stage
+now es l = record { is_open = is_open l es; was_up = was_up (taken l es) }
+
+none_pass : (test : ℕ → Bool) → ((k : ℕ) → test k ≡ true → ⊥) → (ks : List ℕ) → list_any test ks ≡ false
+none_pass test none [] = refl
+none_pass test none (k ∷ ks) = by (none_pass test none ks) (test k) refl
+  where
+    by : list_any test ks ≡ false → (b : Bool) → test k ≡ b → (b || list_any test ks) ≡ false
+    by others true q = absurd (none k q)
+    by others false q = others
+
+or_true : (a b : Bool) → b ≡ true → (a || b) ≡ true
+or_true true b q = refl
+or_true false b q = q
+
+abbrev opens_at : ℕ → Moment → Option Opened
+opens_at l m = started_where (m.number == l) m.before (start_of m.event)
+
+abbrev number_if : Moment → List ℕ
+number_if m = cond (is_some (start_of m.event)) (m.number ∷ []) []
+
+-- an opened link is one of the links
+passes : (test : ℕ → Bool) (l : ℕ) → test l ≡ true → (ms : List Moment) → is_some (first_of (opens_at l) ms) ≡ true → list_any test (flat_map number_if ms) ≡ true
+passes test l t [] q = lie (sym q)
+passes test l t (m ∷ ms) q = by (start_of m.event) (passes test l t ms) q
+  where
+    found : (s : Start) → (is_some (first_of (opens_at l) ms) ≡ true → list_any test (flat_map number_if ms) ≡ true) → (b : Bool) → (m.number == l) ≡ b
+        → is_some (elim (cond {A = Option Opened} b (Some (record { start = s; before = m.before })) None) as (λ _. Option Opened) [ Some y ↦ Some y | None ↦ first_of (opens_at l) ms ]) ≡ true
+        → (test m.number || list_any test (flat_map number_if ms)) ≡ true
+    found s others true n q = ap (λ x. x || list_any test (flat_map number_if ms)) (ap test (eqb-true m.number l n) ∙ t)
+    found s others false n q = or_true (test m.number) (list_any test (flat_map number_if ms)) (others q)
+
+    by : (x : Option Start) → (is_some (first_of (opens_at l) ms) ≡ true → list_any test (flat_map number_if ms) ≡ true)
+        → is_some (elim (started_where (m.number == l) m.before x) as (λ _. Option Opened) [ Some y ↦ Some y | None ↦ first_of (opens_at l) ms ]) ≡ true
+        → list_any test (cond (is_some x) (m.number ∷ []) [] ++ flat_map number_if ms) ≡ true
+    by None others q = others q
+    by (Some s) others q = found s others (m.number == l) refl q
+
+-- a link that is whole was opened
+pub whole_opened : (l : ℕ) (es : List Entry) → is_whole l es ≡ true → is_some (opened l es) ≡ true
+whole_opened l es q = by (opened l es) q
+  where
+    by : (x : Option Opened) → whole_by x (taken l es) ≡ true → is_some x ≡ true
+    by None q = lie (sym q)
+    by (Some x) q = refl
+
+-- a link of this name is up exactly where there is a present one
+names_now : (o : Opening) (es : List Entry) → IsLegalIn o es → (n : List ℕ) → name_up_at (now es) n es ≡ is_name_up n es
+names_now o es legal n = by (present_link n es) refl
+  where
+    up_of : (k : ℕ) → is_peer n k es ≡ true → (x : Option (List ℕ)) → peer_of k es ≡ x → peer_of k es ≡ Some n
+    up_of k q None s = lie (sym q ∙ ap (λ y. option_map_or (λ m. same m n) y false) s)
+    up_of k q (Some m) s = s ∙ ap Some ((same_decides m n).0 (sym (ap (λ y. option_map_or (λ m. same m n) y false) s) ∙ q))
+
+    by : (x : Option ℕ) → present_link n es ≡ x → name_up_at (now es) n es ≡ is_some x
+    by None s = none_pass (λ k. is_up k es && is_peer n k es)
+        (λ k q. lie (sym (ap is_some ((agrees o es legal n k).1 (and_left (is_up k es) (is_peer n k es) q, up_of k (and_right (is_up k es) (is_peer n k es) q) (peer_of k es) refl))) ∙ ap is_some s)) (links es)
+    by (Some k) s =
+        let found = (agrees o es legal n k).0 s in
+        let its : is_peer n k es ≡ true = ap (λ y. option_map_or (λ m. same m n) y false) found.1 ∙ (same_decides n n).1 refl in
+        passes (λ j. is_up j es && is_peer n j es) k (and_both (is_up k es) (is_peer n k es) found.0 its) (present es) (whole_opened k es (and_right (is_open k es) (is_whole k es) found.0))
+
+-- ---- all stages
+
+module _ (o : Opening) (es : List Entry) (legal : IsLegalIn o es) (e : Entry) (l : ℕ) where
+  agreed : ◌≡◌ {A = List ℕ → Bool} (λ n. name_up_at (now es) n es) (λ n. is_name_up n es)
+  agreed = λ i n. names_now o es legal n i
+
+  same_end : (ev : Event) (v : Verdict) → ends_at (now es) l es v ev ≡ ends l es v ev
+  same_end (event.Frame k body) (Accepted r) =
+      ap (λ (named : List ℕ → Bool). not (k == l) && cond (is_last (awaits k es)) (is_whole l es && share_peer k l es)
+      (option_map_or (λ f. not (named f.name) && (option_map_or (λ x. is_dial_to f.name x.start) (opened l es) false && not (is_whole l es))) (named_by (awaits k es) body) false)) agreed
+  same_end (event.Frame k body) (Refused r) = refl
+  same_end ev (Refused r) = refl
+  same_end ev (Accepted r) = refl
+
+  -- frames that stay as they are, or get one more
+  grown : (at : ℕ → Stage) (ts : List Taken) → (at l).was_up ≡ was_up ts → ◌≡◌ {A = List ℕ → Bool} (λ n. name_up_at at n es) (λ n. is_name_up n es)
+      → (b : Bool) (body : List ℕ) → was_up_after at l es ts (and_frame ts (cond b (Some (record { body = body; before = es })) None)) ≡ was_up (and_frame ts (cond b (Some (record { body = body; before = es })) None))
+  grown at [] w a false body = refl
+  grown at [] w a true body = ap (λ (named : List ℕ → Bool). option_map_or (λ f. named f.name) (name_frame body) false) a
+  grown at (t ∷ ts) w a false body = w
+  grown at (t ∷ ts) w a true body = w
+
+  stayed : (at : ℕ → Stage) (ts : List Taken) → (at l).was_up ≡ was_up ts → was_up_after at l es ts ts ≡ was_up ts
+  stayed at [] w = refl
+  stayed at (t ∷ ts) w = w
+
+  same_was_up : (ev : Event) (v : Verdict) → was_up_after (now es) l es (taken l es) (taken l (but e ev v ∷ es)) ≡ was_up (taken l (but e ev v ∷ es))
+  same_was_up ev (Refused r) = stayed (now es) (taken l es) refl
+  same_was_up event.Restart (Accepted r) = refl
+  same_was_up (event.Frame k body) (Accepted r) = grown (now es) (taken l es) refl agreed (k == l) body
+  same_was_up ev (Accepted r) = stayed (now es) (taken l es) refl
+
+-- the stages are what the other words say
+pub stages-now : (o : Opening) (es : List Entry) → IsLegalIn o es → stages es ≡ now es
+stages-now o [] legal = refl
+stages-now o (e ∷ es) legal =
+    ap (λ (at : ℕ → Stage). λ l. record { is_open = is_opened_by l e || (not (ends_at at l es e.verdict e.event) && (at l).is_open); was_up = was_up_after at l es (taken l es) (taken l (e ∷ es)) }) (stages-now o es legal.1)
+    ∙ (λ i l. record {
+      is_open = is_opened_by l e || (not (same_end o es legal.1 e l e.event e.verdict i) && is_open l es);
+      was_up = same_was_up o es legal.1 e l e.event e.verdict i;
+    })
+
+pub names_up : (o : Opening) (es : List Entry) → IsLegalIn o es → (n : List ℕ) → name_up n es ≡ is_name_up n es
+names_up o es legal n = ap (λ at. name_up_at at n es) (stages-now o es legal) ∙ names_now o es legal n
+
+-- which links are up and open is read from the events alone
+pub ups-now : (o : Opening) (es : List Entry) → IsLegalIn o es → (l : ℕ) → is_up_at (stages es) l es ≡ is_up l es
+ups-now o es legal l = ap (λ at. is_up_at at l es) (stages-now o es legal)
+
+pub opens-now : (o : Opening) (es : List Entry) → IsLegalIn o es → (l : ℕ) → (stages es l).is_open ≡ is_open l es
+opens-now o es legal l = ap (λ (at : ℕ → Stage). (at l).is_open) (stages-now o es legal)

@@ -1,0 +1,289 @@
+-- The present link of a peer is the one link of it that is up.
+use Rattle.std.specs.Prelude.{◌≡◌, ◌↔◌, ℕ, ◌+◌, ◌==◌, Bool, true, false, cond, ◌&&◌, ◌||◌, not, List, [], ◌∷◌, Option, Some, None, is_some, length}
+use Rattle.std.proofs.Common.{refl, ap, ◌∙◌, sym, subst, arith}
+use Rattle.std.proofs.lemmas.Bool.{eqb-true, eq-eqb}
+use Rattle.std.specs.Option.{option_map_or, option_and_then, unwrap_or}
+use Rattle.dist_types.specs.Listing.{same}
+use Rattle.dist_types.proofs.Orders.{same_decides, same_sym}
+use Rattle.handshake_frames.specs.Frame.{Name}
+use Rattle.policy_audit.specs.declared.opening.Opening.{Opening}
+use Rattle.policy_audit.specs.declared.event.Event.{Event}
+use Rattle.policy_audit.specs.declared.event.Event.TheVariants as event
+use Rattle.policy_audit.specs.declared.reply.Reply.{Reply}
+use Rattle.policy_audit.specs.declared.reply.Reply.TheVariants as reply
+use Rattle.policy_audit.specs.declared.entry.Verdict.{Verdict}
+use Rattle.policy_audit.specs.declared.entry.Verdict.TheVariants.{Accepted, Refused}
+use Rattle.policy_audit.specs.declared.entry.Entry.{Entry}
+use Rattle.policy_audit.specs.History.{past}
+use Rattle.policy_audit.specs.Sides.{Start, ByPeer, ByDial, Opened, Taken, opened, taken, and_frame, present_link, peer_of, is_peer, is_name_up, is_visible, given, awaits, is_whole, is_last}
+use Rattle.policy_audit.specs.Links.{is_open, is_up, is_dial_to, named_by, share_peer, gives_up, frame_ends}
+use Rattle.policy_audit.specs.Policy.{IsLegalIn, verdict, up_answer}
+use Rattle.policy_audit.proofs.Accepted.{lie, no_value, accepted, peer_by}
+use Rattle.policy_audit.proofs.Walked.{but, unborn, Far, far, frame_fits}
+use Rattle.policy_audit.proofs.Finished.{whole_by, stays, kept, Completed, completed}
+
+-- ---- Booleans
+
+pub and_left : (a b : Bool) → (a && b) ≡ true → a ≡ true
+and_left true b q = refl
+and_left false b q = q
+
+pub and_right : (a b : Bool) → (a && b) ≡ true → b ≡ true
+and_right true b q = q
+and_right false b q = lie (sym q)
+
+pub and_both : (a b : Bool) → a ≡ true → b ≡ true → (a && b) ≡ true
+and_both a b p q = ap (λ x. x && b) p ∙ q
+
+pub and_false : (a : Bool) → (a && false) ≡ false
+and_false true = refl
+and_false false = refl
+
+pub flip : (a b : ℕ) → (a == b) ≡ (b == a)
+flip a b = by (a == b) refl (b == a) refl
+  where
+    by : (c : Bool) → (a == b) ≡ c → (d : Bool) → (b == a) ≡ d → (a == b) ≡ (b == a)
+    by true p d q = p ∙ sym (eq-eqb b a (sym (eqb-true a b p)))
+    by c p true q = eq-eqb a b (sym (eqb-true b a q)) ∙ sym q
+    by false p false q = p ∙ sym q
+
+pub value_of : (x y : List ℕ) → Some x ≡ Some y → x ≡ y
+value_of x y q = ap (λ o. unwrap_or o []) q
+
+pub number_of : (x y : ℕ) → Some x ≡ Some y → x ≡ y
+number_of x y q = ap (λ o. unwrap_or o 0) q
+
+-- a link that ends or not, is open or not, is whole or not
+pub not_ended : (e o p : Bool) → ((not e && o) && p) ≡ true → e ≡ false
+not_ended false o p q = refl
+not_ended true o p q = lie (sym q)
+
+pub was_before : (e o p : Bool) → ((not e && o) && p) ≡ true → (o && p) ≡ true
+was_before false o p q = q
+was_before true o p q = lie (sym q)
+
+pub goes_on_up : (e o p : Bool) → e ≡ false → (o && p) ≡ true → ((not e && o) && p) ≡ true
+goes_on_up e o p q u = ap (λ x. (not x && o) && p) q ∙ u
+
+pub unwhole_end : (g o p : Bool) → (g && p) ≡ false → ((not g && o) && p) ≡ (o && p)
+unwhole_end false o p q = refl
+unwhole_end true o p q = sym (ap (λ x. o && x) q ∙ and_false o)
+
+-- ---- the law
+
+-- of a name: its present link is each link of it that is up
+abbrev pub Agrees : List Entry → List ℕ → Type 0
+Agrees es n = (l : ℕ) → (present_link n es ≡ Some l) ↔ ((is_up l es ≡ true) × (peer_of l es ≡ Some n))
+
+module _ (es : List Entry) (n : List ℕ) where
+  -- an entry that leaves the links that are up
+  pub unchanged : (x : Entry) → present_link n (x ∷ es) ≡ present_link n es → ((l : ℕ) → is_up l (x ∷ es) ≡ is_up l es)
+      → ((l : ℕ) → is_up l es ≡ true → peer_of l (x ∷ es) ≡ peer_of l es) → Agrees es n → Agrees (x ∷ es) n
+  unchanged x a b c p l = (
+    λ q. (let old = (p l).0 (sym a ∙ q) in (b l ∙ old.0, c l old.0 ∙ old.1)),
+    λ w. (let u = sym (b l) ∙ w.0 in a ∙ (p l).1 (u, sym (c l u) ∙ w.1)),
+  )
+
+  -- an entry that ends some links, and takes away the present one of n where `gone`
+  pub fewer : (x : Entry) (ended : ℕ → Bool) (gone : Bool) → present_link n (x ∷ es) ≡ cond gone None (present_link n es)
+      → ((l : ℕ) → is_up l (x ∷ es) ≡ ((not (ended l) && is_open l es) && is_whole l es)) → ((l : ℕ) → peer_of l (x ∷ es) ≡ peer_of l es)
+      → ((l : ℕ) → present_link n es ≡ Some l → peer_of l es ≡ Some n → is_whole l es ≡ true → ended l ≡ gone)
+      → Agrees es n → Agrees (x ∷ es) n
+  fewer x ended gone a b c both p l = (λ q. forth gone refl (sym a ∙ q), back)
+    where
+      forth : (g : Bool) → gone ≡ g → cond g None (present_link n es) ≡ Some l → (is_up l (x ∷ es) ≡ true) × (peer_of l (x ∷ es) ≡ Some n)
+      forth true e q = no_value (sym q)
+      forth false e q =
+          let old = (p l).0 q in
+          (b l ∙ goes_on_up (ended l) (is_open l es) (is_whole l es) (both l q old.1 (and_right (is_open l es) (is_whole l es) old.0) ∙ e) old.0, c l ∙ old.1)
+
+      back : (is_up l (x ∷ es) ≡ true) × (peer_of l (x ∷ es) ≡ Some n) → present_link n (x ∷ es) ≡ Some l
+      back w =
+          let now : ((not (ended l) && is_open l es) && is_whole l es) ≡ true = sym (b l) ∙ w.0 in
+          let before = was_before (ended l) (is_open l es) (is_whole l es) now in
+          let of = sym (c l) ∙ w.1 in
+          let old = (p l).1 (before, of) in
+          a ∙ ap (λ g. cond g None (present_link n es)) (sym (both l old of (and_right (is_open l es) (is_whole l es) before)) ∙ not_ended (ended l) (is_open l es) (is_whole l es) now) ∙ old
+
+-- a refused frame ends no link that is up
+pub refused_up : (es : List Entry) (k l : ℕ) → ((not (k == l && not (is_whole l es)) && is_open l es) && is_whole l es) ≡ is_up l es
+refused_up es k l = three (k == l) (is_open l es) (is_whole l es)
+  where
+    three : (a b c : Bool) → ((not (a && not c) && b) && c) ≡ (b && c)
+    three true true true = refl
+    three true true false = refl
+    three true false true = refl
+    three true false false = refl
+    three false b c = refl
+
+module _ (o : Opening) (es : List Entry) (legal : IsLegalIn o es) (n : List ℕ) (e : Entry) (numbered : e.number ≡ length es + 1) where
+  -- ---- openings
+
+  none_opened : (l : ℕ) → (e.number == l) ≡ true → opened l es ≡ None
+  none_opened l q = (let there : e.number ≡ l = eqb-true e.number l q in unborn o es legal l (omega (arith, numbered, there)))
+
+  none_taken : (l : ℕ) → (e.number == l) ≡ true → taken l es ≡ []
+  none_taken l q = subst (λ x. (elim x as (λ _. Type 0) [ None ↦ taken l es ≡ [] | Some y ↦ Unit {0} ])) (none_opened l q) (weaken (opened l es) (far o es legal l))
+    where
+      weaken : (x : Option Opened) → Far o x (taken l es) → elim x as (λ _. Type 0) [ None ↦ taken l es ≡ [] | Some y ↦ Unit {0} ]
+      weaken None p = p
+      weaken (Some y) p = tt
+
+  abbrev with_start : ℕ → Start → Bool → Option Opened
+  with_start l s b = elim (cond {A = Option Opened} b (Some (record { start = s; before = es })) None) as (λ _. Option Opened) [ Some y ↦ Some y | None ↦ opened l es ]
+
+  opened_up : (s : Start) → whole_by (Some (record { start = s; before = es })) [] ≡ false → (l : ℕ)
+      → (((e.number == l) || is_open l es) && whole_by (with_start l s (e.number == l)) (taken l es)) ≡ is_up l es
+  opened_up s empty l = by (e.number == l) refl
+    where
+      by : (b : Bool) → (e.number == l) ≡ b → ((b || is_open l es) && whole_by (with_start l s b) (taken l es)) ≡ is_up l es
+      by false q = refl
+      by true q =
+          ap (λ ts. whole_by (Some (record { start = s; before = es })) ts) (none_taken l q) ∙ empty
+          ∙ sym (ap (λ x. is_open l es && whole_by x (taken l es)) (none_opened l q) ∙ and_false (is_open l es))
+
+  opened_peer : (s : Start) (l : ℕ) → is_up l es ≡ true → peer_by (with_start l s (e.number == l)) (taken l es) ≡ peer_of l es
+  opened_peer s l u = by (e.number == l) refl
+    where
+      by : (b : Bool) → (e.number == l) ≡ b → peer_by (with_start l s b) (taken l es) ≡ peer_of l es
+      by false q = refl
+      by true q = lie (sym (and_right (is_open l es) (is_whole l es) u) ∙ ap (λ x. whole_by x (taken l es)) (none_opened l q))
+
+  -- ---- frames
+
+  module _ (k : ℕ) (body : List ℕ) where
+    abbrev fr : Reply → Entry
+    fr r = but e (event.Frame k body) (Accepted r)
+
+    abbrev moment : Taken
+    moment = record { body = body; before = es }
+
+    abbrev frames_if : ℕ → Bool → List Taken
+    frames_if l b = and_frame (taken l es) (cond b (Some moment) None)
+
+    abbrev state_if : ℕ → Bool → Bool
+    state_if l b = (not (not b && frame_ends k body l es) && is_open l es) && whole_by (opened l es) (frames_if l b)
+
+    -- a dial that is given up was not whole
+    given_up : (l : ℕ) → (gives_up k body l es && is_whole l es) ≡ false
+    given_up l = by (named_by (awaits k es) body)
+      where
+        three : (a b p : Bool) → ((a && (b && not p)) && p) ≡ false
+        three true true true = refl
+        three true true false = refl
+        three true false p = refl
+        three false b p = refl
+
+        by : (x : Option Name) → (option_map_or (λ f. not (is_name_up f.name es) && (option_map_or (λ y. is_dial_to f.name y.start) (opened l es) false && not (is_whole l es))) x false && is_whole l es) ≡ false
+        by None = refl
+        by (Some f) = three (not (is_name_up f.name es)) (option_map_or (λ y. is_dial_to f.name y.start) (opened l es) false) (is_whole l es)
+
+    -- a frame that is not the last of a side
+    not_last : is_last (awaits k es) ≡ false → Agrees es n → Agrees (fr reply.Done ∷ es) n
+    not_last q p = unchanged es n (fr reply.Done) refl (λ l. ups l (k == l) refl) (λ l u. peers l (k == l) refl u) p
+      where
+        ups : (l : ℕ) (b : Bool) → (k == l) ≡ b → state_if l b ≡ is_up l es
+        ups l true s = ap (λ x. is_open l es && x) (stays moment (opened l es) (taken l es) (subst (λ j. is_last (awaits j es) ≡ false) (eqb-true k l s) q))
+        ups l false s =
+            ap (λ x. (not (cond x (is_whole l es && share_peer k l es) (gives_up k body l es)) && is_open l es) && is_whole l es) q
+            ∙ unwhole_end (gives_up k body l es) (is_open l es) (is_whole l es) (given_up l)
+
+        peers : (l : ℕ) (b : Bool) → (k == l) ≡ b → is_up l es ≡ true → peer_by (opened l es) (frames_if l b) ≡ peer_of l es
+        peers l true s u = kept moment (opened l es) (taken l es) (and_right (is_open l es) (is_whole l es) u)
+        peers l false s u = refl
+
+    -- the last frame of a side
+    module _ (opens : is_open k es ≡ true) (last : is_last (awaits k es) ≡ true) where
+      pub done_now : Completed moment (opened k es) (taken k es)
+      done_now = completed moment o (opened k es) (taken k es) (far o es legal k) last
+
+      abbrev up_reply : Completed moment (opened k es) (taken k es) → Reply
+      up_reply c = reply.Up c.peer c.gave.creation (is_visible (past o es) k)
+
+      pub answered : (c : Completed moment (opened k es) (taken k es)) → cond (is_last (awaits k es)) (up_answer (past o es) k) reply.Done ≡ up_reply c
+      answered c =
+          ap (λ b. cond b (up_answer (past o es) k) reply.Done) last
+          ∙ ap (λ (x : Option Name). option_map_or (λ f. reply.Up (unwrap_or (peer_of k es) []) f.creation (is_visible (past o es) k)) x reply.Done) c.was_given
+          ∙ ap (λ (x : Option (List ℕ)). reply.Up (unwrap_or x []) c.gave.creation (is_visible (past o es) k)) c.was_of
+
+      module _ (c : Completed moment (opened k es) (taken k es)) where
+        kk : (k == k) ≡ true
+        kk = eq-eqb k k refl
+
+        -- another link of this peer ends
+        ends_by : (l : ℕ) → frame_ends k body l es ≡ (is_whole l es && is_peer c.peer l es)
+        ends_by l = ap (λ b. cond b (is_whole l es && share_peer k l es) (gives_up k body l es)) last ∙ ap (λ x. is_whole l es && option_map_or (λ m. is_peer m l es) x false) c.was_of
+
+        up_k : state_if k (k == k) ≡ true
+        up_k = ap (state_if k) kk ∙ and_both (is_open k es) _ opens c.is_whole
+
+        -- a link that was up is another
+        other : (l : ℕ) → is_up l es ≡ true → (k == l) ≡ false
+        other l u = by (k == l) refl
+          where
+            by : (b : Bool) → (k == l) ≡ b → b ≡ false
+            by false s = refl
+            by true s = lie (sym (and_right (is_open k es) (is_whole k es) (subst (λ j. is_up j es ≡ true) (sym (eqb-true k l s)) u)) ∙ c.was_whole)
+
+        forth : (l : ℕ) (b : Bool) → same c.peer n ≡ b → Agrees es n → cond b (Some k) (present_link n es) ≡ Some l → (state_if l (k == l) ≡ true) × (peer_by (opened l es) (frames_if l (k == l)) ≡ Some n)
+        forth l true s p q =
+            subst (λ j. (state_if j (k == j) ≡ true) × (peer_by (opened j es) (frames_if j (k == j)) ≡ Some n)) (number_of k l q)
+            (up_k, ap (λ b. peer_by (opened k es) (frames_if k b)) kk ∙ c.is_of ∙ ap Some ((same_decides c.peer n).0 s))
+        forth l false s p q =
+            let old = (p l).0 q in
+            let apart = ap (λ x. is_whole l es && option_map_or (λ m. same m c.peer) x false) old.1 ∙ ap (λ b. is_whole l es && b) (same_sym n c.peer ∙ s) ∙ and_false (is_whole l es) in (
+              ap (state_if l) (other l old.0) ∙ goes_on_up (frame_ends k body l es) (is_open l es) (is_whole l es) (ends_by l ∙ apart) old.0,
+              ap (λ b. peer_by (opened l es) (frames_if l b)) (other l old.0) ∙ old.1,
+            )
+
+        back : (l : ℕ) (b : Bool) → (k == l) ≡ b → Agrees es n → state_if l b ≡ true → peer_by (opened l es) (frames_if l b) ≡ Some n → cond (same c.peer n) (Some k) (present_link n es) ≡ Some l
+        back l true s p u w =
+            let same_link = eqb-true k l s in
+            let of_n = subst (λ j. peer_by (opened j es) (frames_if j true) ≡ Some n) (sym same_link) w in
+            let its = (same_decides c.peer n).1 (value_of c.peer n (sym c.is_of ∙ of_n)) in
+            ap (λ b. cond b (Some k) (present_link n es)) its ∙ ap Some same_link
+        back l false s p u w =
+            let ended = frame_ends k body l es in
+            let before = was_before ended (is_open l es) (is_whole l es) u in
+            let whole = and_right (is_open l es) (is_whole l es) before in
+            let apart = sym (ap (λ x. is_whole l es && option_map_or (λ m. same m c.peer) x false) w ∙ ap (λ b. b && same n c.peer) whole) ∙ sym (ends_by l) ∙ not_ended ended (is_open l es) (is_whole l es) u in
+            ap (λ b. cond b (Some k) (present_link n es)) (same_sym c.peer n ∙ apart) ∙ (p l).1 (before, w)
+
+        last_frame : Agrees es n → Agrees (fr (up_reply c) ∷ es) n
+        last_frame p l = (λ q. forth l (same c.peer n) refl p q, λ w. back l (k == l) refl p w.0 w.1)
+
+    -- an accepted frame
+    frame_step : (r : Reply) → is_open k es ≡ true → r ≡ cond (is_last (awaits k es)) (up_answer (past o es) k) reply.Done → Agrees es n → Agrees (fr r ∷ es) n
+    frame_step r opens q p = by_last (is_last (awaits k es)) refl
+      where
+        by_last : (b : Bool) → is_last (awaits k es) ≡ b → Agrees (fr r ∷ es) n
+        by_last true s = (let c = done_now opens s in subst (λ x. Agrees (fr x ∷ es) n) (sym (q ∙ answered opens s c)) (last_frame opens s c p))
+        by_last false s = subst (λ x. Agrees (fr x ∷ es) n) (sym (q ∙ ap (λ b. cond b (up_answer (past o es) k) reply.Done) s)) (not_last s p)
+
+  -- ---- each event
+
+  lost_step : (j : ℕ) (r : Reply) → Agrees es n → Agrees (but e (event.Lost j) (Accepted r) ∷ es) n
+  lost_step j r p = fewer es n (but e (event.Lost j) (Accepted r)) (λ l. j == l) (option_map_or (λ k. k == j) (present_link n es) false) refl (λ l. refl) (λ l. refl)
+      (λ l q of whole. flip j l ∙ sym (ap (λ x. option_map_or (λ k. k == j) x false) q)) p
+
+  disconnect_step : (m : List ℕ) (r : Reply) → Agrees es n → Agrees (but e (event.Disconnect m) (Accepted r) ∷ es) n
+  disconnect_step m r p = fewer es n (but e (event.Disconnect m) (Accepted r)) (λ l. is_whole l es && is_peer m l es) (same m n) refl (λ l. refl) (λ l. refl)
+      (λ l q of whole. ap (λ b. b && is_peer m l es) whole ∙ ap (λ x. option_map_or (λ y. same y m) x false) of ∙ same_sym n m) p
+
+  pub step : (ev : Event) (v : Verdict) → v ≡ verdict (past o es) e.seat ev → Agrees es n → Agrees (but e ev v ∷ es) n
+  step (event.Frame k body) (Refused r) q p = unchanged es n (but e (event.Frame k body) (Refused r)) refl (λ l. refused_up es k l) (λ l u. refl) p
+  step ev (Refused r) q p = unchanged es n (but e ev (Refused r)) refl (λ l. refl) (λ l u. refl) p
+  step (event.Frame k body) (Accepted r) q p =
+      let met = accepted (past o es) e.seat (event.Frame k body) r q in
+      frame_step k body r (frame_fits o es e.seat k body met.0).0 met.1 p
+  step event.Restart (Accepted r) q p = λ l. (λ w. no_value (sym w), λ w. lie (sym w.0))
+  step (event.Lost j) (Accepted r) q p = lost_step j r p
+  step (event.Disconnect m) (Accepted r) q p = disconnect_step m r p
+  step (event.Opened c) (Accepted r) q p = unchanged es n (but e (event.Opened c) (Accepted r)) refl (opened_up (ByPeer c) refl) (opened_peer (ByPeer c)) p
+  step (event.Dial m c) (Accepted r) q p = unchanged es n (but e (event.Dial m c) (Accepted r)) refl (opened_up (ByDial m c) refl) (opened_peer (ByDial m c)) p
+  step ev (Accepted r) q p = unchanged es n (but e ev (Accepted r)) refl (λ l. refl) (λ l u. refl) p
+
+-- in a history that the policy makes, the present link of a peer is the one link of it that is up
+pub agrees : (o : Opening) (es : List Entry) → IsLegalIn o es → (n : List ℕ) → Agrees es n
+agrees o [] legal n = λ l. (λ w. no_value (sym w), λ w. lie (sym w.0))
+agrees o (e ∷ es) legal n = step o es legal.1 n e legal.0.number e.event e.verdict legal.0.verdict (agrees o es legal.1 n)

@@ -1,0 +1,188 @@
+-- How far the handshake of a link is, in a history that the policy makes.
+use Rattle.std.specs.Prelude.{◌≡◌, ℕ, ◌+◌, ◌<◌, ◌==◌, Bool, true, false, cond, ◌&&◌, ◌||◌, not, List, [], ◌∷◌, ◌++◌, Option, Some, None, is_some, length, get_or, bytes_eq}
+use Rattle.std.proofs.Common.{refl, ap, ◌∙◌, sym, subst, arith}
+use Rattle.std.proofs.lemmas.Bool.{eqb-true}
+use Rattle.std.specs.Option.{option_and_then, option_map_or}
+use Rattle.dist_types.specs.Listing.{same}
+use Rattle.handshake_frames.specs.Frame.{Name, Challenge}
+use Rattle.handshake_frames.specs.declared.frame.StatusWord.{StatusWord}
+use Rattle.handshake_frames.specs.declared.frame.StatusWord.TheVariants as word
+use Rattle.handshake_frames.specs.declared.frame.ReplyFrame.{ReplyFrame}
+use Rattle.handshake_frames.specs.declared.frame.AckFrame.{AckFrame}
+use Rattle.handshake_frames.specs.Reading.{name_frame, challenge_frame, reply_frame, ack_frame, status_of}
+use Rattle.cookie_digest.specs.Digest.{digest_of}
+use Rattle.policy_audit.specs.declared.opening.Opening.{Opening}
+use Rattle.policy_audit.specs.declared.event.Event.{Event}
+use Rattle.policy_audit.specs.declared.event.Event.TheVariants as event
+use Rattle.policy_audit.specs.declared.entry.Verdict.{Verdict}
+use Rattle.policy_audit.specs.declared.entry.Verdict.TheVariants.{Accepted, Refused}
+use Rattle.policy_audit.specs.declared.entry.Entry.{Entry}
+use Rattle.policy_audit.specs.History.{History, past}
+use Rattle.policy_audit.specs.Admission.{cookie, allowed}
+use Rattle.policy_audit.specs.Sides.{Start, ByPeer, ByDial, Opened, Taken, opened, taken, and_frame, was_up, whole_side, awaited_in, awaits, Awaited, AwaitMessage}
+use Rattle.policy_audit.specs.Links.{is_open, ends}
+use Rattle.policy_audit.specs.Checks.{first_broken, checks, dial_checks, frame_checks}
+use Rattle.policy_audit.specs.Policy.{IsNext, IsLegalIn, verdict}
+use Rattle.policy_audit.specs.Admitted.{goes_on}
+use Rattle.policy_audit.proofs.Accepted.{lie, accepted, all_hold, unbroken, open_first, Fits, fits}
+
+-- an entry with another event and verdict
+abbrev pub but : Entry → Event → Verdict → Entry
+but e ev v = record { number = e.number; seat = e.seat; event = ev; verdict = v; change = e.change }
+
+-- a Name of an allowed peer
+abbrev pub IsNamed : Opening → Taken → Type 0
+IsNamed o a = (f : Name) × (name_frame a.body ≡ Some f) × (allowed (past o a.before) f.name ≡ true) × IsLegalIn o a.before
+
+-- a Reply to the challenge c, by the cookie for the peer that the Name a gave
+abbrev pub IsReplied : Opening → ℕ → Taken → Taken → Type 0
+IsReplied o c a r = (g : ReplyFrame) × (reply_frame r.body ≡ Some g) × (bytes_eq g.digest (digest_of (option_map_or (cookie (past o r.before)) (option_and_then (λ f. Some f.name) (name_frame a.body)) []) c) ≡ true)
+
+abbrev pub IsTrueWord : Taken → Type 0
+IsTrueWord b = status_of b.body ≡ Some word.True
+
+abbrev pub IsWelcomed : Taken → Type 0
+IsWelcomed a = (w : StatusWord) × (status_of a.body ≡ Some w) × (goes_on w ≡ true)
+
+abbrev pub IsAsked : List ℕ → Taken → Type 0
+IsAsked n b = (f : Challenge) × (challenge_frame b.body ≡ Some f) × (same n f.name ≡ true)
+
+abbrev pub IsAcked : Opening → List ℕ → ℕ → Taken → Type 0
+IsAcked o n c r = (g : AckFrame) × (ack_frame r.body ≡ Some g) × (bytes_eq g.digest (digest_of (cookie (past o r.before) n) c) ≡ true)
+
+-- what follows the Name a, where a link of that name was up or not
+abbrev pub Follow : Opening → ℕ → Taken → Bool → List Taken → Type 0
+Follow o c a up [] = Unit {0}
+Follow o c a false (r ∷ ts) = IsReplied o c a r
+Follow o c a true (b ∷ []) = IsTrueWord b
+Follow o c a true (b ∷ r ∷ ts) = IsTrueWord b × IsReplied o c a r
+
+abbrev pub Reach : Opening → List ℕ → ℕ → List Taken → Type 0
+Reach o n c [] = Unit {0}
+Reach o n c (a ∷ []) = IsWelcomed a
+Reach o n c (a ∷ b ∷ []) = IsWelcomed a × IsAsked n b
+Reach o n c (a ∷ b ∷ r ∷ ts) = IsWelcomed a × IsAsked n b × IsAcked o n c r
+
+-- the frames of a link with this start, opened after these entries
+abbrev pub Walk : Opening → List Entry → Start → List Taken → Type 0
+Walk o bo (ByPeer c) [] = Unit {0}
+Walk o bo (ByPeer c) (a ∷ ts) = IsNamed o a × Follow o c a (was_up (a ∷ [])) ts
+Walk o bo (ByDial n c) ts = (allowed (past o bo) n ≡ true) × Reach o n c ts
+
+abbrev pub Far : Opening → Option Opened → List Taken → Type 0
+Far o None ts = ts ≡ []
+Far o (Some x) ts = Walk o x.before x.start ts
+
+-- how far link l is
+abbrev pub FarIn : Opening → ℕ → List Entry → Type 0
+FarIn o l es = Far o (opened l es) (taken l es)
+
+-- ---- one more frame
+
+module _ (o : Opening) (es : List Entry) (legal : IsLegalIn o es) (body : List ℕ) where
+  abbrev moment : Taken
+  moment = record { body = body; before = es }
+
+  follow : (bo : List Entry) (c : ℕ) (a : Taken) (up : Bool) (ts : List Taken) → Follow o c a up ts
+      → Fits (past o es) (Some (record { start = ByPeer c; before = bo })) (a ∷ ts) body (get_or (whole_side (ByPeer c) up) (length (a ∷ ts)) AwaitMessage) → Follow o c a up (ts ++ moment ∷ [])
+  follow bo c a false [] p fit = fit
+  follow bo c a true [] p fit = fit
+  follow bo c a false (b ∷ ts) p fit = p
+  follow bo c a true (b ∷ []) p fit = (p, fit)
+  follow bo c a true (b ∷ r ∷ ts) p fit = p
+
+  reach : (bo : List Entry) (n : List ℕ) (c : ℕ) (ts : List Taken) → Reach o n c ts → Fits (past o es) (Some (record { start = ByDial n c; before = bo })) ts body (awaited_in (ByDial n c) ts) → Reach o n c (ts ++ moment ∷ [])
+  reach bo n c [] p fit = fit
+  reach bo n c (a ∷ []) p fit = (p, fit)
+  reach bo n c (a ∷ b ∷ []) p fit = (p.0, p.1, fit)
+  reach bo n c (a ∷ b ∷ r ∷ ts) p fit = p
+
+  walk : (bo : List Entry) (s : Start) (ts : List Taken) → Walk o bo s ts → Fits (past o es) (Some (record { start = s; before = bo })) ts body (awaited_in s ts) → Walk o bo s (ts ++ moment ∷ [])
+  walk bo (ByPeer c) [] p fit = ((fit.0, fit.1, fit.2, legal), tt)
+  walk bo (ByPeer c) (a ∷ ts) p fit = (p.0, follow bo c a (was_up (a ∷ [])) ts p.1 fit)
+  walk bo (ByDial n c) ts p fit = (p.0, reach bo n c ts p.1 fit)
+
+  pub farther : (oe : Option Opened) (ts : List Taken) → is_some oe ≡ true → Far o oe ts → Fits (past o es) oe ts body (option_map_or (λ x. awaited_in x.start ts) oe AwaitMessage) → Far o oe (ts ++ moment ∷ [])
+  farther None ts s p fit = lie (sym s)
+  farther (Some x) ts s p fit = walk x.before x.start ts p fit
+
+-- ---- along a history
+
+-- a link whose number no entry has yet
+pub unborn : (o : Opening) (es : List Entry) → IsLegalIn o es → (l : ℕ) → length es < l → opened l es ≡ None
+unborn o [] legal l below = refl
+unborn o (e ∷ es) legal l below = by_event e.event e.verdict (unborn o es legal.1 l (omega (arith, below)))
+  where
+    other_number : (e.number == l) ≡ true → ⊥
+    other_number q =
+        let here : e.number ≡ length es + 1 = legal.0.number in
+        let there : e.number ≡ l = eqb-true e.number l q in
+        omega (arith, here, there, below)
+
+    not_opened : (x : Opened) (b : Bool) → ((b ≡ true) → ⊥) → opened l es ≡ None → elim (cond b (Some x) None) as (λ _. Option Opened) [ Some y ↦ Some y | None ↦ opened l es ] ≡ None
+    not_opened x true other q = absurd (other refl)
+    not_opened x false other q = q
+
+    by_event : (ev : Event) (v : Verdict) → opened l es ≡ None → opened l (but e ev v ∷ es) ≡ None
+    by_event ev (Refused r) q = q
+    by_event event.Restart (Accepted r) q = refl
+    by_event (event.Opened c) (Accepted r) q = not_opened (record { start = ByPeer c; before = es }) (e.number == l) other_number q
+    by_event (event.Dial n c) (Accepted r) q = not_opened (record { start = ByDial n c; before = es }) (e.number == l) other_number q
+    by_event ev (Accepted r) q = q
+
+-- an open link was opened
+pub open_opened : (l : ℕ) (es : List Entry) → is_open l es ≡ true → is_some (opened l es) ≡ true
+open_opened l [] q = lie (sym q)
+open_opened l (e ∷ es) q = by_event e.event e.verdict (open_opened l es) q
+  where
+    second : (a b : Bool) → (a && b) ≡ true → b ≡ true
+    second true b q = q
+    second false b q = lie (sym q)
+
+    opened_now : (x : Opened) (opn b : Bool) → (opn ≡ true → is_some (opened l es) ≡ true) → (b || opn) ≡ true → is_some (elim (cond b (Some x) None) as (λ _. Option Opened) [ Some y ↦ Some y | None ↦ opened l es ]) ≡ true
+    opened_now x opn true so_far q = refl
+    opened_now x opn false so_far q = so_far q
+
+    by_event : (ev : Event) (v : Verdict) → (is_open l es ≡ true → is_some (opened l es) ≡ true) → is_open l (but e ev v ∷ es) ≡ true → is_some (opened l (but e ev v ∷ es)) ≡ true
+    by_event ev (Refused r) so_far q = so_far (second (not (ends l es (Refused r) ev)) (is_open l es) q)
+    by_event event.Restart (Accepted r) so_far q = lie (sym q)
+    by_event (event.Opened c) (Accepted r) so_far q = opened_now (record { start = ByPeer c; before = es }) (is_open l es) (e.number == l) so_far q
+    by_event (event.Dial n c) (Accepted r) so_far q = opened_now (record { start = ByDial n c; before = es }) (is_open l es) (e.number == l) so_far q
+    by_event ev (Accepted r) so_far q = so_far (second (not (ends l es (Accepted r) ev)) (is_open l es) q)
+
+-- an accepted frame of link k: k is open, and the frame is of the kind that it awaits
+pub frame_fits : (o : Opening) (es : List Entry) (seat k : ℕ) (body : List ℕ) → first_broken (checks (past o es) seat (event.Frame k body)) ≡ None → (is_open k es ≡ true) × Fits (past o es) (opened k es) (taken k es) body (awaits k es)
+frame_fits o es seat k body q =
+    let found = open_first (is_open k es) (frame_checks (past o es) k body (awaits k es)) q in
+    (found.0, fits (past o es) k body (awaits k es) found.1)
+
+pub far : (o : Opening) (es : List Entry) → IsLegalIn o es → (l : ℕ) → FarIn o l es
+far o [] legal l = refl
+far o (e ∷ es) legal l = by_event e.event e.verdict legal.0.verdict (far o es legal.1 l)
+  where
+    none_yet : (e.number == l) ≡ true → FarIn o l es → taken l es ≡ []
+    none_yet q p =
+        let here : e.number ≡ length es + 1 = legal.0.number in
+        let there : e.number ≡ l = eqb-true e.number l q in
+        subst (λ x. Far o x (taken l es)) (unborn o es legal.1 l (omega (arith, here, there))) p
+
+    by_opening : (s : Start) → ((ts : List Taken) → ts ≡ [] → Walk o es s ts) → FarIn o l es
+        → (b : Bool) → (e.number == l) ≡ b → Far o (elim (cond {A = Option Opened} b (Some (record { start = s; before = es })) None) as (λ _. Option Opened) [ Some y ↦ Some y | None ↦ opened l es ]) (taken l es)
+    by_opening s start p true q = start (taken l es) (none_yet q p)
+    by_opening s start p false q = p
+
+    by_frame : (k : ℕ) (body : List ℕ) → first_broken (checks (past o es) e.seat (event.Frame k body)) ≡ None → FarIn o l es
+        → (b : Bool) → (k == l) ≡ b → Far o (opened l es) (and_frame (taken l es) (cond b (Some (record { body = body; before = es })) None))
+    by_frame k body q p true same_link =
+        let met = subst (λ x. (is_open x es ≡ true) × Fits (past o es) (opened x es) (taken x es) body (awaits x es)) (eqb-true k l same_link) (frame_fits o es e.seat k body q) in
+        farther o es legal.1 body (opened l es) (taken l es) (open_opened l es met.0) p met.1
+    by_frame k body q p false same_link = p
+
+    by_event : (ev : Event) (v : Verdict) → v ≡ verdict (past o es) e.seat ev → FarIn o l es → FarIn o l (but e ev v ∷ es)
+    by_event ev (Refused r) q p = p
+    by_event event.Restart (Accepted r) q p = refl
+    by_event (event.Opened c) (Accepted r) q p = by_opening (ByPeer c) (λ ts t. subst (Walk o es (ByPeer c)) (sym t) tt) p (e.number == l) refl
+    by_event (event.Dial n c) (Accepted r) q p =
+        by_opening (ByDial n c) (λ ts t. (unbroken (allowed (past o es) n) (all_hold (dial_checks (past o es) n) (accepted (past o es) e.seat (event.Dial n c) r q).0).1.0, subst (Reach o n c) (sym t) tt)) p (e.number == l) refl
+    by_event (event.Frame k body) (Accepted r) q p = by_frame k body (accepted (past o es) e.seat (event.Frame k body) r q).0 p (k == l) refl
+    by_event ev (Accepted r) q p = p

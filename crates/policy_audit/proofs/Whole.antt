@@ -1,0 +1,147 @@
+-- A link with a whole side of accepted frames was admitted, and the other way round.
+use Rattle.std.specs.Prelude.{◌≡◌, ◌↔◌, ℕ, Bool, true, false, ◌&&◌, nat_le, List, [], ◌∷◌, ◌++◌, Option, Some, None, is_some, length, IsTrue, MatchBool, bytes_eq}
+use Rattle.std.proofs.Common.{refl, ap, ◌∙◌, sym, subst}
+use Rattle.std.proofs.lemmas.Slice.Eq.{bytes_eq-Decides}
+use Rattle.std.specs.Option.{option_map_or, option_and_then, unwrap_or}
+use Rattle.dist_types.proofs.Orders.{same_decides}
+use Rattle.handshake_frames.specs.Frame.{Name}
+use Rattle.handshake_frames.specs.Reading.{name_frame}
+use Rattle.cookie_digest.specs.Digest.{digest_of}
+use Rattle.policy_audit.specs.declared.opening.Opening.{Opening}
+use Rattle.policy_audit.specs.declared.entry.Entry.{Entry}
+use Rattle.policy_audit.specs.History.{History, past}
+use Rattle.policy_audit.specs.Admission.{cookie}
+use Rattle.policy_audit.specs.Sides.{Start, ByPeer, ByDial, Opened, Taken, opened, taken, was_up, present_link, peer_of, is_name_up, is_whole}
+use Rattle.policy_audit.specs.Links.{is_open, is_up}
+use Rattle.policy_audit.specs.Stages.{name_up}
+use Rattle.policy_audit.specs.Policy.{IsLegal, IsLegalIn}
+use Rattle.policy_audit.specs.Admitted.{IsTrueStatus, IsLetIn, IsReached, IsAdmitted, LetIn, Reached}
+use Rattle.policy_audit.proofs.Accepted.{lie}
+use Rattle.policy_audit.proofs.Walked.{IsNamed, Follow, Walk, Far, far}
+use Rattle.policy_audit.proofs.Finished.{whole_by, whole_after, two_of, three_of}
+use Rattle.policy_audit.proofs.UpLinks.{and_left, and_right, and_both, agrees}
+use Rattle.policy_audit.proofs.Staged.{names_up}
+
+module _ (o : Opening) (l : ℕ) (es : List Entry) where
+  -- the digest of the cookie for the peer that the Name gave
+  replied_with : (c : ℕ) (a r : Taken) (f : Name) (digest : List ℕ) → name_frame a.body ≡ Some f
+      → bytes_eq digest (digest_of (option_map_or (cookie (past o r.before)) (option_and_then (λ g. Some g.name) (name_frame a.body)) []) c) ≡ true → digest ≡ digest_of (cookie (past o r.before) f.name) c
+  replied_with c a r f digest named q = (bytes_eq-Decides digest (digest_of (cookie (past o r.before) f.name) c)).0 (subst (λ x. bytes_eq digest (digest_of (option_map_or (cookie (past o r.before)) (option_and_then (λ g. Some g.name) x) []) c) ≡ true) named q)
+
+  -- whether a link of that name was up, in either reading
+  agreed : (a : Taken) (up : Bool) (P Q : Type 0) (n : IsNamed o a) → was_up (a ∷ []) ≡ up → MatchBool up P Q → MatchBool (name_up n.0.name a.before) P Q
+  agreed a up P Q n u m = subst (λ b. MatchBool b P Q) (sym (names_up o a.before n.3 n.0.name ∙ sym (ap (λ x. option_map_or {T = Name} {U = Bool} (λ f. is_name_up f.name a.before) x false) n.1) ∙ u)) m
+
+  whole_let : (c : ℕ) (bo : List Entry) (a : Taken) (ts : List Taken) (up : Bool) → opened l es ≡ Some (record { start = ByPeer c; before = bo }) → taken l es ≡ a ∷ ts → (n : IsNamed o a) → was_up (a ∷ []) ≡ up
+      → Follow o c a up ts → whole_after c up a ts ≡ true → IsLetIn (past o es) l c
+  whole_let c bo a [] false op fr n u p q = lie (sym q)
+  whole_let c bo a [] true op fr n u p q = lie (sym q)
+  whole_let c bo a (b ∷ []) true op fr n u p q = lie (sym q)
+  whole_let c bo a (r ∷ ts) false op fr n u p q = record {
+    name = a;
+    between = [];
+    reply = r;
+    later = ts;
+    peer = n.0;
+    given = p.0;
+    before = bo;
+    opened = op;
+    frames = fr;
+    is_name = n.1;
+    is_confirmed = agreed a false (IsTrueStatus []) ([] ≡ []) n u refl;
+    is_reply = p.1;
+    is_digest = replied_with c a r n.0 p.0.digest n.1 p.2;
+    is_allowed = n.2;
+  }
+  whole_let c bo a (b ∷ r ∷ ts) true op fr n u p q = record {
+    name = a;
+    between = b ∷ [];
+    reply = r;
+    later = ts;
+    peer = n.0;
+    given = p.1.0;
+    before = bo;
+    opened = op;
+    frames = fr;
+    is_name = n.1;
+    is_confirmed = agreed a true (IsTrueStatus (b ∷ [])) (b ∷ [] ≡ []) n u (b, refl, p.0);
+    is_reply = p.1.1;
+    is_digest = replied_with c a r n.0 p.1.0.digest n.1 p.1.2;
+    is_allowed = n.2;
+  }
+
+  whole_reach : (n : List ℕ) (c : ℕ) (bo : List Entry) (ts : List Taken) → opened l es ≡ Some (record { start = ByDial n c; before = bo }) → taken l es ≡ ts → Walk o bo (ByDial n c) ts → nat_le 3 (length ts) ≡ true → IsReached (past o es) l n c
+  whole_reach n c bo [] op fr p q = lie (sym q)
+  whole_reach n c bo (a ∷ []) op fr p q = lie (sym q)
+  whole_reach n c bo (a ∷ b ∷ []) op fr p q = lie (sym q)
+  whole_reach n c bo (a ∷ b ∷ r ∷ ts) op fr p q = record {
+    status = a;
+    asked = b;
+    ack = r;
+    later = ts;
+    said = p.1.0.0;
+    hello = p.1.1.0;
+    given = p.1.2.0;
+    before = bo;
+    opened = op;
+    frames = fr;
+    is_status = p.1.0.1;
+    is_welcome = p.1.0.2;
+    is_challenge = p.1.1.1;
+    is_named = sym ((same_decides n p.1.1.0.name).0 p.1.1.2);
+    is_ack = p.1.2.1;
+    is_digest = (bytes_eq-Decides p.1.2.0.digest (digest_of (cookie (past o r.before) n) c)).0 p.1.2.2;
+    is_allowed = p.0;
+  }
+
+  whole_from : (s : Start) (bo : List Entry) (ts : List Taken) → opened l es ≡ Some (record { start = s; before = bo }) → taken l es ≡ ts → Walk o bo s ts → whole_by (Some (record { start = s; before = bo })) ts ≡ true → IsAdmitted (past o es) l
+  whole_from (ByPeer c) bo [] op fr p q = lie (sym q)
+  whole_from (ByPeer c) bo (a ∷ ts) op fr p q = LetIn c (whole_let c bo a ts (was_up (a ∷ [])) op fr p.0 refl p.1 q)
+  whole_from (ByDial n c) bo ts op fr p q = Reached n c (whole_reach n c bo ts op fr p q)
+
+  whole : (oe : Option Opened) → opened l es ≡ oe → Far o oe (taken l es) → whole_by oe (taken l es) ≡ true → IsAdmitted (past o es) l
+  whole None op p q = lie (sym q)
+  whole (Some x) op p q = whole_from x.start x.before (taken l es) op refl p q
+
+-- a link that is up was admitted
+pub up-admitted : (h : History) → IsLegal h → (l : ℕ) → IsTrue (is_up l h.entries) → IsAdmitted h l
+up-admitted h legal l up = whole h.opening l h.entries (opened l h.entries) refl (far h.opening h.entries legal l) (and_right (is_open l h.entries) (is_whole l h.entries) up)
+
+-- ---- and back: an open link that was admitted is up
+
+module _ (o : Opening) (l : ℕ) (es : List Entry) (legal : IsLegalIn o es) where
+  let_whole : (c : ℕ) (w : IsLetIn (past o es) l c) → IsLegalIn o w.name.before → whole_by (Some (record { start = ByPeer c; before = w.before })) (w.name ∷ (w.between ++ w.reply ∷ w.later)) ≡ true
+  let_whole c w past_legal = by (name_up w.peer.name w.name.before) refl w.is_confirmed
+    where
+      up_is : was_up (w.name ∷ []) ≡ name_up w.peer.name w.name.before
+      up_is = ap (λ x. option_map_or {T = Name} {U = Bool} (λ f. is_name_up f.name w.name.before) x false) w.is_name ∙ sym (names_up o w.name.before past_legal w.peer.name)
+
+      by : (b : Bool) → name_up w.peer.name w.name.before ≡ b → MatchBool b (IsTrueStatus w.between) (w.between ≡ []) → whole_after c (was_up (w.name ∷ [])) w.name (w.between ++ w.reply ∷ w.later) ≡ true
+      by true s m = ap (λ u. whole_after c u w.name (w.between ++ w.reply ∷ w.later)) (up_is ∙ s) ∙ ap (λ x. whole_after c true w.name (x ++ w.reply ∷ w.later)) m.1 ∙ three_of w.name m.0 w.reply w.later
+      by false s m = ap (λ u. whole_after c u w.name (w.between ++ w.reply ∷ w.later)) (up_is ∙ s) ∙ ap (λ x. whole_after c false w.name (x ++ w.reply ∷ w.later)) m ∙ two_of w.name w.reply w.later
+
+  is_whole_link : IsAdmitted (past o es) l → whole_by (opened l es) (taken l es) ≡ true
+  is_whole_link (LetIn c w) =
+      let here = subst (λ x. Far o x (taken l es)) w.opened (far o es legal l) in
+      let seen = subst (λ x. Far o (Some (record { start = ByPeer c; before = w.before })) x) w.frames here in
+      ap (λ x. whole_by x (taken l es)) w.opened ∙ ap (λ x. whole_by (Some (record { start = ByPeer c; before = w.before })) x) w.frames ∙ let_whole c w seen.0.3
+  is_whole_link (Reached n c w) =
+      ap (λ x. whole_by x (taken l es)) w.opened ∙ ap (λ x. whole_by (Some (record { start = ByDial n c; before = w.before })) x) w.frames ∙ three_of w.status w.asked w.ack w.later
+
+pub admitted-up : (h : History) → IsLegal h → (l : ℕ) → IsTrue (is_open l h.entries) → IsAdmitted h l → IsTrue (is_up l h.entries)
+admitted-up h legal l opens w = and_both (is_open l h.entries) (is_whole l h.entries) opens (is_whole_link h.opening l h.entries legal w)
+
+-- a link is up exactly where it is open and was admitted
+pub up-is-admitted : (h : History) → IsLegal h → (l : ℕ) → IsTrue (is_up l h.entries) ↔ (IsTrue (is_open l h.entries) × IsAdmitted h l)
+up-is-admitted h legal l = (λ up. (and_left (is_open l h.entries) (is_whole l h.entries) up, up-admitted h legal l up), λ w. admitted-up h legal l w.0 w.1)
+
+-- a link of this name is up exactly where an open link of that peer was admitted
+pub name-up-is-admitted : (h : History) → IsLegal h → (n : List ℕ) → IsTrue (name_up n h.entries) ↔ ((l : ℕ) × IsTrue (is_open l h.entries) × (peer_of l h.entries ≡ Some n) × IsAdmitted h l)
+name-up-is-admitted h legal n = (λ up. by (present_link n h.entries) refl (sym (names_up h.opening h.entries legal n) ∙ up), λ w. back w.0 w.1 w.2 w.3)
+  where
+    by : (x : Option ℕ) → present_link n h.entries ≡ x → is_some x ≡ true → (l : ℕ) × IsTrue (is_open l h.entries) × (peer_of l h.entries ≡ Some n) × IsAdmitted h l
+    by None q s = lie (sym s)
+    by (Some k) q s = (let found = (agrees h.opening h.entries legal n k).0 q in (k, and_left (is_open k h.entries) (is_whole k h.entries) found.0, found.1, up-admitted h legal k found.0))
+
+    back : (l : ℕ) → IsTrue (is_open l h.entries) → peer_of l h.entries ≡ Some n → IsAdmitted h l → IsTrue (name_up n h.entries)
+    back l opens of w = names_up h.opening h.entries legal n ∙ ap is_some ((agrees h.opening h.entries legal n l).1 (admitted-up h legal l opens w, of))
