@@ -7,3 +7,5 @@ pub mod UpLinks
 pub mod Staged
 pub mod Whole
 pub mod Named
+pub mod Lists
+pub mod ChangeLemmas

@@ -79,16 +79,13 @@ module _ (s g : List ℕ) (p : Pid) where
 
   pub joined_named : (es : List Event) → 0 < joined s g p es → named_in es ≡ true
   joined_named [] h = absurd (omega arith)
-  joined_named (event.Join t f ps ∷ es) h = by (same t s) (same f g) refl h
+  joined_named (event.Join t f ps ∷ es) h = by (joined_named es) (same t s) (same f g) refl h
     where
-      rest : List Row
-      rest = flat_map (rows_named s) es
-
-      by : (a b : Bool) → same f g ≡ b → 0 < cond (a && b) (joined s g p es + mentions p ps) (joined s g p es) → has (cond a (map (row f) ps) [] ++ flat_map (rows_named s) es) ≡ true
-      by false b e k = joined_named es k
-      by true false e k = any_behind (λ r. same_row r (row g p)) (map (row f) ps) (flat_map (rows_named s) es) (joined_named es k)
-      by true true e k = one_of _ (joined s g p es) (mentions p ps) k
-          (λ m. any_behind (λ r. same_row r (row g p)) (map (row f) ps) (flat_map (rows_named s) es) (joined_named es m))
+      by : (0 < joined s g p es → named_in es ≡ true) → (a b : Bool) → same f g ≡ b → 0 < cond (a && b) (joined s g p es + mentions p ps) (joined s g p es) → has (cond a (map (row f) ps) [] ++ flat_map (rows_named s) es) ≡ true
+      by others false b e k = others k
+      by others true false e k = any_behind (λ r. same_row r (row g p)) (map (row f) ps) (flat_map (rows_named s) es) (others k)
+      by others true true e k = one_of _ (joined s g p es) (mentions p ps) k
+          (λ m. any_behind (λ r. same_row r (row g p)) (map (row f) ps) (flat_map (rows_named s) es) (others m))
           (λ m. any_before (λ r. same_row r (row g p)) (map (row f) ps) (flat_map (rows_named s) es) (mentioned f e ps m))
   joined_named (event.Leave t f ps ∷ es) h = elim (same t s && same f g) as (λ b. 0 < cond b (joined s g p es - mentions p ps) (joined s g p es) → named_in es ≡ true) [ true ↦ λ k. joined_named es (omega (arith, k)) | false ↦ λ k. joined_named es k ] h
   joined_named (event.Exit q ∷ es) h = joined_named es (some_unless (same_pid q p) (joined s g p es) h)
@@ -118,9 +115,6 @@ module _ (s g : List ℕ) (p : Pid) where
   stated_named l [] h = absurd (omega arith)
   stated_named l (m ∷ ms) h = by_event m.event (stated_named l ms) h
     where
-      rest : List Row
-      rest = flat_map (rows_named s) (map (λ n. n.event) ms)
-
       by_frame : (b : Bool) (x : Option Message) → (0 < stated_in s g p (talk_in l ms) → has (flat_map (rows_named s) (map (λ n. n.event) ms)) ≡ true)
           → 0 < stated_in s g p (cond b (talk_of x) [] ++ talk_in l ms) → has (rows_in s x ++ flat_map (rows_named s) (map (λ n. n.event) ms)) ≡ true
       by_frame false x others k = any_behind (λ r. same_row r (row g p)) (rows_in s x) (flat_map (rows_named s) (map (λ n. n.event) ms)) (others k)
@@ -151,20 +145,21 @@ module _ (s g : List ℕ) (p : Pid) where
 
   group_of : (rows : List Row) → has rows ≡ true → is_among g (map (λ r. r.group) rows) ≡ true
   group_of [] q = q
-  group_of (r ∷ rows) q = by (same r.group g) (same_pid r.pid p) q
+  group_of (r ∷ rows) q = by (group_of rows) (same r.group g) (same_pid r.pid p) q
     where
-      by : (a b : Bool) → ((a && b) || has rows) ≡ true → (a || is_among g (map (λ w. w.group) rows)) ≡ true
-      by true b k = refl
-      by false b k = group_of rows k
+      by : (has rows ≡ true → is_among g (map (λ w. w.group) rows) ≡ true) → (a b : Bool) → ((a && b) || has rows) ≡ true → (a || is_among g (map (λ w. w.group) rows)) ≡ true
+      by others true b k = refl
+      by others false b k = others k
 
   pid_of : (rows : List Row) → has rows ≡ true → stands_in same_pid p (map (λ r. r.pid) (filter (λ r. same r.group g) rows)) ≡ true
   pid_of [] q = q
-  pid_of (r ∷ rows) q = by (same r.group g) (same_pid r.pid p) refl q
+  pid_of (r ∷ rows) q = by (pid_of rows) (same r.group g) (same_pid r.pid p) refl q
     where
-      by : (a b : Bool) → same_pid r.pid p ≡ b → ((a && b) || has rows) ≡ true → stands_in same_pid p (map (λ w. w.pid) (cond a (r ∷ filter (λ w. same w.group g) rows) (filter (λ w. same w.group g) rows))) ≡ true
-      by true true e k = ap (λ c. c || stands_in same_pid p (map (λ w. w.pid) (filter (λ w. same w.group g) rows))) e
-      by true false e k = or_true (same_pid r.pid p) (stands_in same_pid p (map (λ w. w.pid) (filter (λ w. same w.group g) rows))) (pid_of rows k)
-      by false b e k = pid_of rows k
+      by : (has rows ≡ true → stands_in same_pid p (map (λ w. w.pid) (filter (λ w. same w.group g) rows)) ≡ true) → (a b : Bool) → same_pid r.pid p ≡ b → ((a && b) || has rows) ≡ true
+          → stands_in same_pid p (map (λ w. w.pid) (cond a (r ∷ filter (λ w. same w.group g) rows) (filter (λ w. same w.group g) rows))) ≡ true
+      by others true true e k = ap (λ c. c || stands_in same_pid p (map (λ w. w.pid) (filter (λ w. same w.group g) rows))) e
+      by others true false e k = or_true (same_pid r.pid p) (stands_in same_pid p (map (λ w. w.pid) (filter (λ w. same w.group g) rows))) (others k)
+      by others false b e k = others k
 
   pub group_named : (es : List Event) → named_in es ≡ true → is_among g (groups_named s es) ≡ true
   group_named es q = group_of (flat_map (rows_named s) es) q
