@@ -112,11 +112,11 @@ module _ (before after : List ℕ → Pid → ℕ) (left joined : List ℕ → L
     groups = rise gs r;
     proper = proper gs;
     left = λ g p. sums (λ c. c.left) left (λ f. refl) (λ f. left_empty (is_empty (left f)) (is_empty (joined f))) g p gs
-      ∙ one_of_many text_cmp same texts_total exact_bytes same_decides (λ f. mentions p (left f)) g gs r
-      ∙ unnamed (is_among g gs) (mentions p (left g)) (before g p - after g p) (IsListing.counts (left_is g) p) (l g p);
+        ∙ one_of_many text_cmp same texts_total exact_bytes same_decides (λ f. mentions p (left f)) g gs r
+        ∙ unnamed (is_among g gs) (mentions p (left g)) (before g p - after g p) (IsListing.counts (left_is g) p) (l g p);
     joined = λ g p. sums (λ c. c.joined) joined (λ f. refl) (λ f. right_empty (is_empty (left f)) (is_empty (joined f))) g p gs
-      ∙ one_of_many text_cmp same texts_total exact_bytes same_decides (λ f. mentions p (joined f)) g gs r
-      ∙ unnamed (is_among g gs) (mentions p (joined g)) (after g p - before g p) (IsListing.counts (joined_is g) p) (j g p);
+        ∙ one_of_many text_cmp same texts_total exact_bytes same_decides (λ f. mentions p (joined f)) g gs r
+        ∙ unnamed (is_among g gs) (mentions p (joined g)) (after g p - before g p) (IsListing.counts (joined_is g) p) (j g p);
   }
 
 -- ---- two histories
@@ -143,11 +143,11 @@ module _ (h k : History) where
   scope_difference : (s : List ℕ) → IsDifference (listed h s) (listed k s) (scope_change h k s)
   scope_difference s =
       difference (listed h s) (listed k s) (λ g. listing pid_cmp (λ p. listed h s g p - listed k s g p) (pids_named s g (events_of h k))) (λ g. listing pid_cmp (λ p. listed k s g p - listed h s g p) (pids_named s g (events_of h k)))
-        (λ g. listing_counts pid_cmp same_pid pids_total exact_pids same_pid_decides (λ p. listed h s g p - listed k s g p) (pids_named s g (events_of h k)) (λ p q. pid_named s g p (events_of h k) (before_named s g p (more (listed h s g p) (listed k s g p) q))))
-        (λ g. listing_counts pid_cmp same_pid pids_total exact_pids same_pid_decides (λ p. listed k s g p - listed h s g p) (pids_named s g (events_of h k)) (λ p q. pid_named s g p (events_of h k) (after_named s g p (more (listed k s g p) (listed h s g p) q))))
-        (ascending text_cmp (groups_named s (events_of h k))) (ascending_rises text_cmp same texts_total exact_bytes same_decides (groups_named s (events_of h k)))
-        (λ g p q. ascending_stands text_cmp same texts_total exact_bytes same_decides g (groups_named s (events_of h k)) ∙ group_named s g p (events_of h k) (before_named s g p (more (listed h s g p) (listed k s g p) q)))
-        (λ g p q. ascending_stands text_cmp same texts_total exact_bytes same_decides g (groups_named s (events_of h k)) ∙ group_named s g p (events_of h k) (after_named s g p (more (listed k s g p) (listed h s g p) q)))
+      (λ g. listing_counts pid_cmp same_pid pids_total exact_pids same_pid_decides (λ p. listed h s g p - listed k s g p) (pids_named s g (events_of h k)) (λ p q. pid_named s g p (events_of h k) (before_named s g p (more (listed h s g p) (listed k s g p) q))))
+      (λ g. listing_counts pid_cmp same_pid pids_total exact_pids same_pid_decides (λ p. listed k s g p - listed h s g p) (pids_named s g (events_of h k)) (λ p q. pid_named s g p (events_of h k) (after_named s g p (more (listed k s g p) (listed h s g p) q))))
+      (ascending text_cmp (groups_named s (events_of h k))) (ascending_rises text_cmp same texts_total exact_bytes same_decides (groups_named s (events_of h k)))
+      (λ g p q. ascending_stands text_cmp same texts_total exact_bytes same_decides g (groups_named s (events_of h k)) ∙ group_named s g p (events_of h k) (before_named s g p (more (listed h s g p) (listed k s g p) q)))
+      (λ g p q. ascending_stands text_cmp same texts_total exact_bytes same_decides g (groups_named s (events_of h k)) ∙ group_named s g p (events_of h k) (after_named s g p (more (listed k s g p) (listed h s g p) q)))
 
 -- ---- scopes
 

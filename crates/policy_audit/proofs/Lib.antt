@@ -9,3 +9,5 @@ pub mod Whole
 pub mod Named
 pub mod Lists
 pub mod ChangeLemmas
+pub mod Effects
+pub mod Equal

@@ -79,8 +79,8 @@ module _ (count : List ℕ → Pid → ℕ) (pids : List ℕ → List Pid) (name
     rises = filter_rises text_cmp has_members (ascending text_cmp named) (ascending_rises text_cmp same texts_total exact_bytes same_decides named);
     found = λ g q. (let one = some_member (members_of g) (left_passes has_members g (ascending text_cmp named) q) in (one.0, subst (λ n. 0 < n) (IsListing.counts (members_are g) one.0) one.1));
     only = λ g p h. passes_left has_members g (ascending text_cmp named)
-      (ascending_stands text_cmp same texts_total exact_bytes same_decides g named ∙ group_is g p h)
-      (member_some p (members_of g) (subst (λ n. 0 < n) (sym (IsListing.counts (members_are g) p)) h));
+        (ascending_stands text_cmp same texts_total exact_bytes same_decides g named ∙ group_is g p h)
+        (member_some p (members_of g) (subst (λ n. 0 < n) (sym (IsListing.counts (members_are g) p)) h));
   }
 
 -- ---- rows

@@ -105,8 +105,8 @@ module _ (s g : List ℕ) (p : Pid) where
   said_named (said.Join t rows) ts rest others h =
       elim (same t s) as (λ b. 0 < cond b (stated_in s g p ts + rows_of g p rows) (stated_in s g p ts) → has (cond b rows [] ++ rest) ≡ true) [
         | true ↦ λ k. one_of _ (stated_in s g p ts) (rows_of g p rows) k
-          (λ m. any_behind (λ r. same_row r (row g p)) rows rest (others m))
-          (λ m. any_before (λ r. same_row r (row g p)) rows rest (occurs_stands same_row (row g p) rows m))
+            (λ m. any_behind (λ r. same_row r (row g p)) rows rest (others m))
+            (λ m. any_before (λ r. same_row r (row g p)) rows rest (occurs_stands same_row (row g p) rows m))
         | false ↦ λ k. others k
       ] h
   said_named (said.Leave t rows) ts rest others h = elim (same t s) as (λ b. 0 < cond b (stated_in s g p ts - rows_of g p rows) (stated_in s g p ts) → has rest ≡ true) [ true ↦ λ k. others (omega (arith, k)) | false ↦ λ k. others k ] h

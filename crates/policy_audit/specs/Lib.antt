@@ -16,4 +16,5 @@ pub mod Checks
 pub mod Policy
 pub mod Stages
 pub mod Admitted
+pub mod Effects
 pub mod Scripts

@@ -17,7 +17,10 @@ pub use body::Body;
 pub use change::{Change, Changes};
 pub use entry::{Entry, Verdict};
 pub use event::{Event, Groups, NodeNames};
-pub use laws::{admitted, one_link_up, up_by_events};
+pub use laws::{
+    admitted, equal_values, goes_on, left_alone, lists_ascend, one_link_up, own_counts,
+    up_by_events,
+};
 pub use opening::Opening;
 pub use out_frame::{OutFrame, OutFrames};
 pub use reply::{Contents, GroupPids, Reply, Update, Updates};

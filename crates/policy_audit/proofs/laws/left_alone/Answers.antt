@@ -1,0 +1,14 @@
+use Rattle.std.proofs.Common.{sym}
+use Rattle.policy_audit.specs.Policy.{with_entry}
+use Rattle.policy_audit.proofs.ChangeLemmas.{no_change}
+use Rattle.policy_audit.proofs.Effects.{entry_rows, entry_link}
+use Rattle.policy_audit.proofs.laws.left_alone.Goals as goal
+
+pub returns-clause-listings : goal.returns-clause-listings
+returns-clause-listings c = entry_rows
+
+pub returns-clause-no_change : goal.returns-clause-no_change
+returns-clause-no_change c = λ h e q. no_change h (with_entry h e) (λ s g p. sym (entry_rows h e q s g p))
+
+pub returns-clause-links : goal.returns-clause-links
+returns-clause-links c = entry_link
