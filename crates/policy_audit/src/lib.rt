@@ -25,3 +25,6 @@ pub use opening::Opening;
 pub use out_frame::{OutFrame, OutFrames};
 pub use reply::{Contents, GroupPids, Reply, Update, Updates};
 pub use rule::Rule;
+
+#[cfg(test)]
+mod tests;
