@@ -1,34 +1,35 @@
-mod AcceptorHandshake
-mod AliveToADial
-mod AllowList
-mod AllowListKeepsTheLink
-mod BadName
-mod BytesAfterTheName
-mod CookieForAPeer
-mod CookieForTheOwnNode
-mod CreationSpent
-mod DialBesideAnOpenLink
-mod DiallerHandshake
-mod Disconnect
-mod DisconnectWithoutLink
-mod DiscoverAndSync
-mod DynamicName
-mod EntryLimit
-mod ForeignAndMissingRows
-mod HalfOpenLinks
-mod HiddenLink
-mod JoinsNeedASync
-mod Monitors
-mod NoHandshake23
-mod OwnName
-mod OwnRows
-mod PeerSaysNotAllowed
-mod ReplacedLink
-mod Restart
-mod SimultaneousConnect
-mod StrangerClaimsADialledName
-mod ToldPeers
-mod TruncatedName
-mod TwoLinksOfOnePeer
-mod WrongDigest
-mod WrongName
+pub mod AcceptorHandshake
+pub mod AliveToADial
+pub mod AllowList
+pub mod AllowListKeepsTheLink
+pub mod BadName
+pub mod BytesAfterTheName
+pub mod CookieForAPeer
+pub mod CookieForTheOwnNode
+pub mod CreationSpent
+pub mod DialBesideAnOpenLink
+pub mod DiallerHandshake
+pub mod Disconnect
+pub mod DisconnectWithoutLink
+pub mod DiscoverAndSync
+pub mod DynamicName
+pub mod EntryLimit
+pub mod ForeignAndMissingRows
+pub mod HalfOpenLinks
+pub mod HiddenLink
+pub mod JoinsNeedASync
+pub mod Monitors
+pub mod NoHandshake23
+pub mod OwnName
+pub mod OwnRows
+pub mod PeerSaysNotAllowed
+pub mod ReplacedLink
+pub mod Restart
+pub mod SimultaneousConnect
+pub mod StrangerClaimsADialledName
+pub mod ToldPeers
+pub mod TruncatedName
+pub mod TwoLinksOfOnePeer
+pub mod WrongDigest
+pub mod WrongName
+pub mod Shown

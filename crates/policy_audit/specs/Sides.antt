@@ -115,7 +115,7 @@ peer_of l es = option_and_then (λ o. peer_in o.start (taken l es)) (opened l es
 abbrev pub is_peer : List ℕ → ℕ → List Entry → Bool
 is_peer n l es = option_map_or (λ m. same m n) (peer_of l es) false
 
--- the peer of link l has a link that is up
+-- a link of n is up
 abbrev pub is_name_up : List ℕ → List Entry → Bool
 is_name_up n es = is_some (present_link n es)
 

@@ -12,7 +12,7 @@ use Rattle.policy_audit.specs.declared.entry.Verdict.TheVariants.{Accepted, Refu
 use Rattle.policy_audit.proofs.Lines.{Line, by, begun, hex, pid, frame, message, calls, judged}
 use Rattle.policy_audit.specs.Scripts.{verdicts}
 
-abbrev script : List Line
+abbrev pub script : List Line
 script =
     by 0 (event.SetCookieFor (codes "b@h") (codes "test")) (Accepted reply.Done)
     ∷ by 0 (event.Opened 123) (Accepted (reply.Link 2))

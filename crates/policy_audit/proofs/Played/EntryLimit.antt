@@ -12,7 +12,7 @@ use Rattle.policy_audit.specs.declared.entry.Verdict.TheVariants.{Accepted, Refu
 use Rattle.policy_audit.proofs.Lines.{Line, by, begun, hex, pid, frame, message, calls, judged}
 use Rattle.policy_audit.specs.Scripts.{verdicts}
 
-abbrev script : List Line
+abbrev pub script : List Line
 script =
     by 0 (event.Spawn) (Accepted (reply.Pid (pid (codes "b@h") 4 1)))
     ∷ by 0 (event.Spawn) (Accepted (reply.Pid (pid (codes "b@h") 4 2)))

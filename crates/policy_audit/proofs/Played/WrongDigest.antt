@@ -12,7 +12,7 @@ use Rattle.policy_audit.specs.declared.entry.Verdict.TheVariants.{Accepted, Refu
 use Rattle.policy_audit.proofs.Lines.{Line, by, begun, hex, pid, frame, message, calls, judged}
 use Rattle.policy_audit.specs.Scripts.{verdicts}
 
-abbrev script : List Line
+abbrev pub script : List Line
 script =
     by 0 (event.Opened 123) (Accepted (reply.Link 1))
     ∷ by 0 (event.Frame 1 (hex (codes "4e0000000001000001000000050003614068"))) (Accepted reply.Done)
