@@ -20,7 +20,7 @@ use Rattle.policy_audit.specs.History.{History}
 use Rattle.policy_audit.specs.Admission.{cookie, allowed}
 use Rattle.policy_audit.specs.Sides.{Opened, Taken, opened, taken, challenge_in, peer_in, peer_of, Awaited, AwaitName, AwaitAnswer, AwaitReply, AwaitStatus, AwaitChallenge, AwaitAck, AwaitMessage}
 use Rattle.policy_audit.specs.Owed.{own_challenge, digest_for}
-use Rattle.policy_audit.specs.Checks.{Check, unless, always, first_broken, checks, name_checks, answer_checks, status_checks, challenge_checks, digest_checks, frame_checks, is_peer_up}
+use Rattle.policy_audit.specs.Checks.{Check, always, first_broken, checks, name_checks, answer_checks, status_checks, challenge_checks, digest_checks, frame_checks, is_peer_up}
 use Rattle.policy_audit.specs.Policy.{answer, judged, verdict, is_full}
 use Rattle.policy_audit.specs.Admitted.{goes_on}
 

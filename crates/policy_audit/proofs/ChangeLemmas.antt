@@ -5,31 +5,28 @@ use Rattle.std.proofs.lemmas.Bool.{ltb-true, ltb-false}
 use Rattle.std.proofs.lemmas.Map.Lookups.{exact_bytes}
 use Rattle.std.specs.List.{AllByRecursion, flat_map}
 use Rattle.std.specs.Option.{unwrap_or, option_map_or}
-use Rattle.std.specs.declared.cmp.Ordering.{Ordering}
-use Rattle.std.specs.declared.cmp.Ordering.TheVariants.{Less, Equal}
+use Rattle.std.specs.declared.cmp.Ordering.TheVariants.{Less}
 use Rattle.std.specs.Ordering.{is_eq}
 use Rattle.dist_types.specs.declared.pid.Pid.{Pid}
-use Rattle.dist_types.specs.declared.row.Row.{Row}
 use Rattle.dist_types.specs.declared.change.GroupChange.{GroupChange}
 use Rattle.dist_types.specs.Order.{text_cmp, pid_cmp}
-use Rattle.dist_types.specs.Listing.{same, same_pid, same_row, total, mentions, stands_in, is_among, ascending, listing, Rises, Ascends, IsListing, IsPidListing}
-use Rattle.dist_types.specs.Difference.{is_empty, IsProper, times_left, times_joined, IsDifference, change_unless_empty}
+use Rattle.dist_types.specs.Listing.{same, same_pid, same_row, total, mentions, is_among, ascending, listing, Rises, IsListing, IsPidListing}
+use Rattle.dist_types.specs.Difference.{is_empty, IsProper, IsDifference, change_unless_empty}
 use Rattle.dist_types.proofs.Orders.{texts_total, pids_total, exact_pids, same_decides, same_pid_decides}
-use Rattle.dist_types.proofs.Listings.{all_append, ascending_rises, ascending_stands, listing_counts, one_of_many}
+use Rattle.dist_types.proofs.Listings.{ascending_rises, ascending_stands, listing_counts, one_of_many}
 use Rattle.std.proofs.lemmas.Cmp.{tied_itself}
 use Rattle.policy_audit.specs.declared.event.Event.{Event}
 use Rattle.policy_audit.specs.declared.event.Event.TheVariants as event
 use Rattle.policy_audit.specs.declared.change.Change.{Change}
-use Rattle.policy_audit.specs.declared.entry.Verdict.{Verdict}
 use Rattle.policy_audit.specs.History.{History, events, first_of}
 use Rattle.policy_audit.specs.Own.{starts, is_running, scopes_started, is_local, own}
 use Rattle.policy_audit.specs.Sides.{present_link}
 use Rattle.policy_audit.specs.Listed.{listed_by, listed}
 use Rattle.policy_audit.specs.Contents.{row, rows_named, groups_named, pids_named}
-use Rattle.policy_audit.specs.Changes.{groups_in, IsChange, events_of, group_change, scope_change, if_some, change}
+use Rattle.policy_audit.specs.Changes.{groups_in, IsChange, events_of, scope_change, if_some, change}
 use Rattle.policy_audit.specs.Policy.{IsNext, is_full, with_entry, entry_of}
 use Rattle.policy_audit.proofs.Accepted.{lie}
-use Rattle.policy_audit.proofs.Named.{any_before, any_behind, or_true, has, named_in, listed_named, group_named, pid_named}
+use Rattle.policy_audit.proofs.Named.{any_before, any_behind, has, named_in, listed_named, group_named, pid_named}
 
 -- ---- the difference in one scope
 

@@ -1,11 +1,10 @@
 -- What an entry does to the words of the policy, and what it leaves alone.
-use Rattle.std.specs.Prelude.{◌≡◌, ℕ, ◌+◌, ◌-◌, ◌==◌, Bool, true, false, cond, ◌&&◌, ◌||◌, not, List, [], ◌∷◌, ◌++◌, Option, Some, None}
+use Rattle.std.specs.Prelude.{◌≡◌, ℕ, ◌+◌, ◌-◌, ◌==◌, Bool, true, false, cond, ◌&&◌, List, [], ◌∷◌, ◌++◌, Option, Some, None}
 use Rattle.std.proofs.Common.{refl, ap, ◌∙◌, sym, subst, arith}
-use Rattle.std.specs.Option.{option_map_or, option_and_then, unwrap_or}
+use Rattle.std.specs.Option.{option_map_or, unwrap_or}
 use Rattle.dist_types.specs.declared.pid.Pid.{Pid}
 use Rattle.dist_types.specs.Listing.{same, same_pid, mentions}
 use Rattle.dist_types.proofs.Orders.{same_decides}
-use Rattle.handshake_frames.specs.Frame.{Name}
 use Rattle.policy_audit.specs.declared.event.Event.{Event}
 use Rattle.policy_audit.specs.declared.event.Event.TheVariants as event
 use Rattle.policy_audit.specs.declared.reply.Reply.{Reply}
@@ -15,10 +14,9 @@ use Rattle.policy_audit.specs.declared.entry.Verdict.TheVariants.{Accepted, Refu
 use Rattle.policy_audit.specs.declared.entry.Entry.{Entry}
 use Rattle.policy_audit.specs.History.{History, is_accepted, events, first_of}
 use Rattle.policy_audit.specs.Own.{is_running, is_local, joined, own}
-use Rattle.policy_audit.specs.Sides.{Opened, Taken, opened, taken, and_frame, given, given_in, peer_of, awaits, awaited_in, is_whole, is_whole_in, AwaitMessage, present_link, is_visible}
-use Rattle.policy_audit.specs.Links.{is_open, is_up}
-use Rattle.policy_audit.specs.Hearing.{Talk, hears, talk, talk_of, message_taken, stated_in, heard}
-use Rattle.policy_audit.specs.Listed.{is_from, listed_by, listed}
+use Rattle.policy_audit.specs.Sides.{Opened, Taken, opened, taken, and_frame, given, peer_of, awaits, is_whole, present_link, is_visible}
+use Rattle.policy_audit.specs.Hearing.{hears, talk, talk_of, message_taken, stated_in}
+use Rattle.policy_audit.specs.Listed.{is_from, listed}
 use Rattle.policy_audit.specs.Policy.{with_entry}
 use Rattle.policy_audit.specs.Effects.{leaves_rows, IsSameLink}
 use Rattle.policy_audit.proofs.Accepted.{lie, peer_by}

@@ -30,6 +30,26 @@ three_of x y z xs = le-leb 3 (length (x ∷ y ∷ z ∷ xs)) (omega arith)
 abbrev pub whole_after : ℕ → Bool → Taken → List Taken → Bool
 whole_after c up a ts = nat_le (length (whole_side (ByPeer c) up)) (length (a ∷ ts))
 
+-- a link that is whole awaits a message
+whole_from : (c : ℕ) (a : Taken) (up : Bool) (ts : List Taken) → whole_after c up a ts ≡ true → get_or (whole_side (ByPeer c) up) (length (a ∷ ts)) AwaitMessage ≡ AwaitMessage
+whole_from c a false [] q = lie (sym q)
+whole_from c a false (b ∷ ts) q = refl
+whole_from c a true [] q = lie (sym q)
+whole_from c a true (b ∷ []) q = lie (sym q)
+whole_from c a true (b ∷ r ∷ ts) q = refl
+
+whole_awaits_in : (s : Start) (ts : List Taken) → is_whole_in s ts ≡ true → awaited_in s ts ≡ AwaitMessage
+whole_awaits_in (ByPeer c) [] q = lie (sym q)
+whole_awaits_in (ByPeer c) (a ∷ ts) q = whole_from c a (was_up (a ∷ [])) ts q
+whole_awaits_in (ByDial n c) [] q = lie (sym q)
+whole_awaits_in (ByDial n c) (a ∷ []) q = lie (sym q)
+whole_awaits_in (ByDial n c) (a ∷ b ∷ []) q = lie (sym q)
+whole_awaits_in (ByDial n c) (a ∷ b ∷ r ∷ ts) q = refl
+
+pub whole_awaits : (oe : Option Opened) (ts : List Taken) → whole_by oe ts ≡ true → awaited_by oe ts ≡ AwaitMessage
+whole_awaits None ts q = lie (sym q)
+whole_awaits (Some x) ts q = whole_awaits_in x.start ts q
+
 module _ (m : Taken) where
   -- ---- a frame that is not the last of a side leaves it whole, or unfinished
 
@@ -66,6 +86,22 @@ module _ (m : Taken) where
   pub kept : (oe : Option Opened) (ts : List Taken) → whole_by oe ts ≡ true → peer_by oe (ts ++ m ∷ []) ≡ peer_by oe ts
   kept None ts q = refl
   kept (Some x) ts q = kept_in x.start ts q
+
+  -- and what its peer gave
+  given_kept_in : (s : Start) (ts : List Taken) → is_whole_in s ts ≡ true → given_in s (ts ++ m ∷ []) ≡ given_in s ts
+  given_kept_in (ByPeer c) [] q = lie (sym q)
+  given_kept_in (ByPeer c) (a ∷ ts) q = refl
+  given_kept_in (ByDial n c) [] q = lie (sym q)
+  given_kept_in (ByDial n c) (a ∷ []) q = lie (sym q)
+  given_kept_in (ByDial n c) (a ∷ b ∷ ts) q = refl
+
+  pub given_kept : (oe : Option Opened) (ts : List Taken) → whole_by oe ts ≡ true → given_by oe (ts ++ m ∷ []) ≡ given_by oe ts
+  given_kept None ts q = refl
+  given_kept (Some x) ts q = given_kept_in x.start ts q
+
+  -- and it is whole still
+  pub whole_kept : (oe : Option Opened) (ts : List Taken) → whole_by oe ts ≡ true → whole_by oe (ts ++ m ∷ []) ≡ true
+  whole_kept oe ts q = stays oe ts (ap is_last (whole_awaits oe ts q)) ∙ q
 
   -- ---- the last frame of a side
 

@@ -11,3 +11,5 @@ pub mod Lists
 pub mod ChangeLemmas
 pub mod Effects
 pub mod Equal
+pub mod Heard
+pub mod Within

@@ -1,22 +1,22 @@
 -- Lists in answers are the listings of their counts.
-use Rattle.std.specs.Prelude.{◌≡◌, ℕ, suc, ◌+◌, ◌<◌, nat_lt, Bool, true, false, cond, ◌&&◌, ◌||◌, not, List, [], ◌∷◌, ◌++◌, map, IsTrue}
+use Rattle.std.specs.Prelude.{◌≡◌, ℕ, suc, ◌+◌, ◌<◌, nat_lt, Bool, true, false, cond, ◌&&◌, ◌||◌, not, List, [], ◌∷◌, ◌++◌, map}
 use Rattle.std.proofs.Common.{refl, ap, ◌∙◌, sym, subst, arith}
 use Rattle.std.proofs.lemmas.Bool.{ltb-true, ltb-false}
 use Rattle.std.proofs.lemmas.Map.Lookups.{exact_bytes}
-use Rattle.std.specs.List.{AllByRecursion, list_any, flat_map, filter}
+use Rattle.std.specs.List.{AllByRecursion, flat_map, filter}
 use Rattle.std.specs.declared.cmp.Ordering.{Ordering}
 use Rattle.std.specs.declared.cmp.Ordering.TheVariants.{Less}
 use Rattle.std.specs.Ordering.{is_gt, ordering_then}
 use Rattle.dist_types.specs.declared.pid.Pid.{Pid}
 use Rattle.dist_types.specs.declared.row.Row.{Row}
 use Rattle.dist_types.specs.Order.{text_cmp, pid_cmp, row_cmp}
-use Rattle.dist_types.specs.Listing.{same, same_pid, same_row, total, how_many, mentions, occurrences, stands_in, is_among, ascending, listing, Rises, Ascends, IsListing, IsPidListing, IsRowListing, IsGroupListing}
+use Rattle.dist_types.specs.Listing.{same, same_pid, same_row, total, mentions, occurrences, stands_in, is_among, ascending, listing, Rises, Ascends, IsListing, IsPidListing, IsRowListing, IsGroupListing}
 use Rattle.dist_types.specs.Difference.{is_empty}
 use Rattle.dist_types.proofs.Orders.{texts_total, pids_total, exact_pids, same_decides, same_pid_decides, in_one_group}
 use Rattle.dist_types.proofs.Totals.{how_many_append}
 use Rattle.dist_types.proofs.Listings.{all_append, ascending_rises, ascending_stands, listing_counts, one_of_many}
 use Rattle.policy_audit.specs.Contents.{row}
-use Rattle.policy_audit.proofs.Named.{occurs_stands, stands_occurs, or_true}
+use Rattle.policy_audit.proofs.Named.{stands_occurs, or_true}
 
 -- ---- what a filter leaves
 

@@ -1,22 +1,20 @@
 -- Who is counted in a group was named by an event.
 use Rattle.std.specs.Prelude.{◌≡◌, ℕ, suc, ◌+◌, ◌-◌, ◌<◌, nat_lt, Bool, true, false, cond, ◌&&◌, ◌||◌, ◌==◌, List, [], ◌∷◌, ◌++◌, Option, Some, None, map}
-use Rattle.std.proofs.Common.{refl, ap, ◌∙◌, sym, arith}
+use Rattle.std.proofs.Common.{refl, ap, ◌∙◌, arith}
 use Rattle.std.proofs.lemmas.Bool.{ltb-true, ltb-false}
 use Rattle.std.specs.List.{list_any, flat_map, filter}
 use Rattle.std.specs.Option.{option_map_or}
 use Rattle.dist_types.specs.declared.pid.Pid.{Pid}
 use Rattle.dist_types.specs.declared.row.Row.{Row}
 use Rattle.dist_types.specs.Listing.{same, same_pid, same_row, mentions, occurrences, stands_in, is_among}
-use Rattle.dist_types.proofs.Orders.{same_decides}
 use Rattle.link_frames.specs.declared.message.Message.{Message}
 use Rattle.link_frames.specs.declared.message.Message.TheVariants as said
 use Rattle.policy_audit.specs.declared.event.Event.{Event}
 use Rattle.policy_audit.specs.declared.event.Event.TheVariants as event
-use Rattle.policy_audit.specs.declared.entry.Entry.{Entry}
 use Rattle.policy_audit.specs.History.{History, Moment, present, events}
 use Rattle.policy_audit.specs.Own.{is_running, is_local, joined, own}
 use Rattle.policy_audit.specs.Sides.{present_link, is_whole, is_visible}
-use Rattle.policy_audit.specs.Hearing.{Talk, Said, Stopped, message_taken, talk_of, talk_at, talk_in, talk, heard, rows_of, stated_in, stated}
+use Rattle.policy_audit.specs.Hearing.{Talk, Said, message_taken, talk_of, talk_at, talk_in, talk, heard, rows_of, stated_in, stated}
 use Rattle.policy_audit.specs.Listed.{is_from, listed_by, listed}
 use Rattle.policy_audit.specs.Contents.{row, rows_in, rows_named, groups_named, pids_named}
 

@@ -1,8 +1,8 @@
 -- The present link of a peer is the one link of it that is up.
-use Rattle.std.specs.Prelude.{◌≡◌, ◌↔◌, ℕ, ◌+◌, ◌==◌, Bool, true, false, cond, ◌&&◌, ◌||◌, not, List, [], ◌∷◌, Option, Some, None, is_some, length}
+use Rattle.std.specs.Prelude.{◌≡◌, ◌↔◌, ℕ, ◌+◌, ◌==◌, Bool, true, false, cond, ◌&&◌, ◌||◌, not, List, [], ◌∷◌, Option, Some, None, length}
 use Rattle.std.proofs.Common.{refl, ap, ◌∙◌, sym, subst, arith}
 use Rattle.std.proofs.lemmas.Bool.{eqb-true, eq-eqb}
-use Rattle.std.specs.Option.{option_map_or, option_and_then, unwrap_or}
+use Rattle.std.specs.Option.{option_map_or, unwrap_or}
 use Rattle.dist_types.specs.Listing.{same}
 use Rattle.dist_types.proofs.Orders.{same_decides, same_sym}
 use Rattle.handshake_frames.specs.Frame.{Name}
@@ -15,7 +15,7 @@ use Rattle.policy_audit.specs.declared.entry.Verdict.{Verdict}
 use Rattle.policy_audit.specs.declared.entry.Verdict.TheVariants.{Accepted, Refused}
 use Rattle.policy_audit.specs.declared.entry.Entry.{Entry}
 use Rattle.policy_audit.specs.History.{past}
-use Rattle.policy_audit.specs.Sides.{Start, ByPeer, ByDial, Opened, Taken, opened, taken, and_frame, present_link, peer_of, is_peer, is_name_up, is_visible, given, awaits, is_whole, is_last}
+use Rattle.policy_audit.specs.Sides.{Start, ByPeer, ByDial, Opened, Taken, opened, taken, and_frame, present_link, peer_of, is_peer, is_name_up, is_visible, awaits, is_whole, is_last}
 use Rattle.policy_audit.specs.Links.{is_open, is_up, is_dial_to, named_by, share_peer, gives_up, frame_ends}
 use Rattle.policy_audit.specs.Policy.{IsLegalIn, verdict, up_answer}
 use Rattle.policy_audit.proofs.Accepted.{lie, no_value, accepted, peer_by}
@@ -119,7 +119,7 @@ refused_up es k l = three (k == l) (is_open l es) (is_whole l es)
 module _ (o : Opening) (es : List Entry) (legal : IsLegalIn o es) (n : List ℕ) (e : Entry) (numbered : e.number ≡ length es + 1) where
   -- ---- openings
 
-  none_opened : (l : ℕ) → (e.number == l) ≡ true → opened l es ≡ None
+  pub none_opened : (l : ℕ) → (e.number == l) ≡ true → opened l es ≡ None
   none_opened l q = (let there : e.number ≡ l = eqb-true e.number l q in unborn o es legal l (omega (arith, numbered, there)))
 
   none_taken : (l : ℕ) → (e.number == l) ≡ true → taken l es ≡ []
@@ -129,10 +129,10 @@ module _ (o : Opening) (es : List Entry) (legal : IsLegalIn o es) (n : List ℕ)
       weaken None p = p
       weaken (Some y) p = tt
 
-  abbrev with_start : ℕ → Start → Bool → Option Opened
+  abbrev pub with_start : ℕ → Start → Bool → Option Opened
   with_start l s b = elim (cond {A = Option Opened} b (Some (record { start = s; before = es })) None) as (λ _. Option Opened) [ Some y ↦ Some y | None ↦ opened l es ]
 
-  opened_up : (s : Start) → whole_by (Some (record { start = s; before = es })) [] ≡ false → (l : ℕ)
+  pub opened_up : (s : Start) → whole_by (Some (record { start = s; before = es })) [] ≡ false → (l : ℕ)
       → (((e.number == l) || is_open l es) && whole_by (with_start l s (e.number == l)) (taken l es)) ≡ is_up l es
   opened_up s empty l = by (e.number == l) refl
     where
@@ -142,7 +142,7 @@ module _ (o : Opening) (es : List Entry) (legal : IsLegalIn o es) (n : List ℕ)
           ap (λ ts. whole_by (Some (record { start = s; before = es })) ts) (none_taken l q) ∙ empty
           ∙ sym (ap (λ x. is_open l es && whole_by x (taken l es)) (none_opened l q) ∙ and_false (is_open l es))
 
-  opened_peer : (s : Start) (l : ℕ) → is_up l es ≡ true → peer_by (with_start l s (e.number == l)) (taken l es) ≡ peer_of l es
+  pub opened_peer : (s : Start) (l : ℕ) → is_up l es ≡ true → peer_by (with_start l s (e.number == l)) (taken l es) ≡ peer_of l es
   opened_peer s l u = by (e.number == l) refl
     where
       by : (b : Bool) → (e.number == l) ≡ b → peer_by (with_start l s b) (taken l es) ≡ peer_of l es
@@ -155,17 +155,17 @@ module _ (o : Opening) (es : List Entry) (legal : IsLegalIn o es) (n : List ℕ)
     abbrev fr : Reply → Entry
     fr r = but e (event.Frame k body) (Accepted r)
 
-    abbrev moment : Taken
+    abbrev pub moment : Taken
     moment = record { body = body; before = es }
 
-    abbrev frames_if : ℕ → Bool → List Taken
+    abbrev pub frames_if : ℕ → Bool → List Taken
     frames_if l b = and_frame (taken l es) (cond b (Some moment) None)
 
-    abbrev state_if : ℕ → Bool → Bool
+    abbrev pub state_if : ℕ → Bool → Bool
     state_if l b = (not (not b && frame_ends k body l es) && is_open l es) && whole_by (opened l es) (frames_if l b)
 
     -- a dial that is given up was not whole
-    given_up : (l : ℕ) → (gives_up k body l es && is_whole l es) ≡ false
+    pub given_up : (l : ℕ) → (gives_up k body l es && is_whole l es) ≡ false
     given_up l = by (named_by (awaits k es) body)
       where
         three : (a b p : Bool) → ((a && (b && not p)) && p) ≡ false
@@ -179,7 +179,7 @@ module _ (o : Opening) (es : List Entry) (legal : IsLegalIn o es) (n : List ℕ)
         by (Some f) = three (not (is_name_up f.name es)) (option_map_or (λ y. is_dial_to f.name y.start) (opened l es) false) (is_whole l es)
 
     -- a frame that is not the last of a side
-    not_last : is_last (awaits k es) ≡ false → Agrees es n → Agrees (fr reply.Done ∷ es) n
+    pub not_last : is_last (awaits k es) ≡ false → Agrees es n → Agrees (fr reply.Done ∷ es) n
     not_last q p = unchanged es n (fr reply.Done) refl (λ l. ups l (k == l) refl) (λ l u. peers l (k == l) refl u) p
       where
         ups : (l : ℕ) (b : Bool) → (k == l) ≡ b → state_if l b ≡ is_up l es
@@ -211,14 +211,14 @@ module _ (o : Opening) (es : List Entry) (legal : IsLegalIn o es) (n : List ℕ)
         kk = eq-eqb k k refl
 
         -- another link of this peer ends
-        ends_by : (l : ℕ) → frame_ends k body l es ≡ (is_whole l es && is_peer c.peer l es)
+        pub ends_by : (l : ℕ) → frame_ends k body l es ≡ (is_whole l es && is_peer c.peer l es)
         ends_by l = ap (λ b. cond b (is_whole l es && share_peer k l es) (gives_up k body l es)) last ∙ ap (λ x. is_whole l es && option_map_or (λ m. is_peer m l es) x false) c.was_of
 
         up_k : state_if k (k == k) ≡ true
         up_k = ap (state_if k) kk ∙ and_both (is_open k es) _ opens c.is_whole
 
         -- a link that was up is another
-        other : (l : ℕ) → is_up l es ≡ true → (k == l) ≡ false
+        pub other : (l : ℕ) → is_up l es ≡ true → (k == l) ≡ false
         other l u = by (k == l) refl
           where
             by : (b : Bool) → (k == l) ≡ b → b ≡ false

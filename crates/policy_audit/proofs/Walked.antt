@@ -1,6 +1,6 @@
 -- How far the handshake of a link is, in a history that the policy makes.
 use Rattle.std.specs.Prelude.{◌≡◌, ℕ, ◌+◌, ◌<◌, ◌==◌, Bool, true, false, cond, ◌&&◌, ◌||◌, not, List, [], ◌∷◌, ◌++◌, Option, Some, None, is_some, length, get_or, bytes_eq}
-use Rattle.std.proofs.Common.{refl, ap, ◌∙◌, sym, subst, arith}
+use Rattle.std.proofs.Common.{refl, sym, subst, arith}
 use Rattle.std.proofs.lemmas.Bool.{eqb-true}
 use Rattle.std.specs.Option.{option_and_then, option_map_or}
 use Rattle.dist_types.specs.Listing.{same}
@@ -17,12 +17,12 @@ use Rattle.policy_audit.specs.declared.event.Event.TheVariants as event
 use Rattle.policy_audit.specs.declared.entry.Verdict.{Verdict}
 use Rattle.policy_audit.specs.declared.entry.Verdict.TheVariants.{Accepted, Refused}
 use Rattle.policy_audit.specs.declared.entry.Entry.{Entry}
-use Rattle.policy_audit.specs.History.{History, past}
+use Rattle.policy_audit.specs.History.{past}
 use Rattle.policy_audit.specs.Admission.{cookie, allowed}
-use Rattle.policy_audit.specs.Sides.{Start, ByPeer, ByDial, Opened, Taken, opened, taken, and_frame, was_up, whole_side, awaited_in, awaits, Awaited, AwaitMessage}
+use Rattle.policy_audit.specs.Sides.{Start, ByPeer, ByDial, Opened, Taken, opened, taken, and_frame, was_up, whole_side, awaited_in, awaits, AwaitMessage}
 use Rattle.policy_audit.specs.Links.{is_open, ends}
 use Rattle.policy_audit.specs.Checks.{first_broken, checks, dial_checks, frame_checks}
-use Rattle.policy_audit.specs.Policy.{IsNext, IsLegalIn, verdict}
+use Rattle.policy_audit.specs.Policy.{IsLegalIn, verdict}
 use Rattle.policy_audit.specs.Admitted.{goes_on}
 use Rattle.policy_audit.proofs.Accepted.{lie, accepted, all_hold, unbroken, open_first, Fits, fits}
 

@@ -1,8 +1,8 @@
 -- A link with a whole side of accepted frames was admitted, and the other way round.
-use Rattle.std.specs.Prelude.{◌≡◌, ◌↔◌, ℕ, Bool, true, false, ◌&&◌, nat_le, List, [], ◌∷◌, ◌++◌, Option, Some, None, is_some, length, IsTrue, MatchBool, bytes_eq}
+use Rattle.std.specs.Prelude.{◌≡◌, ◌↔◌, ℕ, Bool, true, false, nat_le, List, [], ◌∷◌, ◌++◌, Option, Some, None, is_some, length, IsTrue, MatchBool, bytes_eq}
 use Rattle.std.proofs.Common.{refl, ap, ◌∙◌, sym, subst}
 use Rattle.std.proofs.lemmas.Slice.Eq.{bytes_eq-Decides}
-use Rattle.std.specs.Option.{option_map_or, option_and_then, unwrap_or}
+use Rattle.std.specs.Option.{option_map_or, option_and_then}
 use Rattle.dist_types.proofs.Orders.{same_decides}
 use Rattle.handshake_frames.specs.Frame.{Name}
 use Rattle.handshake_frames.specs.Reading.{name_frame}

@@ -1,7 +1,5 @@
 -- Admitted: what the handshake of a link was (Distribution Protocol, Distribution Handshake). No recorded answer is read.
-use Rattle.std.specs.Prelude.{◌≡◌, ℕ, Bool, true, false, cond, ◌&&◌, ◌||◌, not, nat_le, ◌==◌, List, [], ◌∷◌, ◌++◌, Option, Some, None, is_some, length, get_or, IsTrue, MatchBool}
-use Rattle.std.specs.List.{list_any}
-use Rattle.std.specs.Option.{option_map_or}
+use Rattle.std.specs.Prelude.{◌≡◌, ℕ, Bool, true, false, List, [], ◌∷◌, ◌++◌, Some, IsTrue, MatchBool}
 use Rattle.handshake_frames.specs.Frame.{Name, Challenge}
 use Rattle.handshake_frames.specs.declared.frame.StatusWord.{StatusWord}
 use Rattle.handshake_frames.specs.declared.frame.StatusWord.TheVariants as word
@@ -12,7 +10,7 @@ use Rattle.cookie_digest.specs.Digest.{digest_of}
 use Rattle.policy_audit.specs.declared.entry.Entry.{Entry}
 use Rattle.policy_audit.specs.History.{History, past}
 use Rattle.policy_audit.specs.Admission.{cookie, allowed}
-use Rattle.policy_audit.specs.Sides.{ByPeer, ByDial, Opened, Taken, opened, taken}
+use Rattle.policy_audit.specs.Sides.{ByPeer, ByDial, Taken, opened, taken}
 use Rattle.policy_audit.specs.Stages.{name_up}
 
 -- the history as it was when it had these entries

@@ -1,11 +1,16 @@
 -- What entries leave alone.
-use Rattle.std.specs.Prelude.{◌≡◌, ℕ, Bool, true, false, ◌||◌, not, List}
+use Rattle.std.specs.Prelude.{◌≡◌, ℕ, ◌==◌, Bool, true, false, ◌&&◌, ◌||◌, not, List, ◌∷◌, Option, Some, None}
+use Rattle.std.specs.Option.{option_map_or}
+use Rattle.dist_types.specs.declared.pid.Pid.{Pid}
+use Rattle.dist_types.specs.Listing.{same, same_pid, stands_in}
+use Rattle.link_frames.specs.declared.message.Message.{Message}
+use Rattle.link_frames.specs.declared.message.Message.TheVariants as said
 use Rattle.policy_audit.specs.declared.event.Event.{Event}
 use Rattle.policy_audit.specs.declared.event.Event.TheVariants as event
 use Rattle.policy_audit.specs.declared.entry.Entry.{Entry}
 use Rattle.policy_audit.specs.History.{is_accepted}
-use Rattle.policy_audit.specs.Sides.{opened, taken, given, peer_of, awaits, is_whole}
-use Rattle.policy_audit.specs.Hearing.{talk}
+use Rattle.policy_audit.specs.Sides.{present_link, opened, taken, given, peer_of, is_peer, awaits, is_whole}
+use Rattle.policy_audit.specs.Hearing.{message_taken, talk}
 
 -- cookies, the allow list, new processes, queries, monitors and taken frames concern no row
 abbrev pub is_quiet : Event → Bool
@@ -27,6 +32,34 @@ is_quiet e = false
 -- the entry is refused, or of such an event: it changes no listing, whatever the history
 abbrev pub leaves_rows : Entry → Bool
 leaves_rows e = not (is_accepted e.verdict) || is_quiet e.event
+
+-- the present link of n ended, or gave way to another
+abbrev pub is_replaced : List ℕ → List Entry → List Entry → Bool
+is_replaced n old new = option_map_or (λ l. not (option_map_or (λ k. k == l) (present_link n new) false)) (present_link n old) false
+
+-- the message in the body of a frame is about s
+abbrev pub is_about : List ℕ → Option Message → Bool
+is_about s None = false
+is_about s (Some (said.Discover t)) = false
+is_about s (Some (said.Sync t rows)) = same t s
+is_about s (Some (said.Join t rows)) = same t s
+is_about s (Some (said.Leave t rows)) = same t s
+is_about s (Some (said.Down t)) = same t s
+
+-- an accepted event may change how often p is listed in g of s: a Join and a Leave for those named, an Exit for that process, a
+-- stop for the scope, a restart for all, and a message for the processes of the link's peer, in its scope
+abbrev pub concerns : List Entry → List ℕ → List ℕ → Pid → Event → Bool
+concerns es s g p event.Restart = true
+concerns es s g p (event.StopScope t) = same t s
+concerns es s g p (event.Exit q) = same_pid q p
+concerns es s g p (event.Join t f ps) = same t s && same f g && stands_in same_pid p ps
+concerns es s g p (event.Leave t f ps) = same t s && same f g && stands_in same_pid p ps
+concerns es s g p (event.Frame k body) = is_whole k es && is_peer p.node k es && is_about s (message_taken body)
+concerns es s g p e = false
+
+-- an entry may change how often p is listed in g of s: its event concerns that, or the present link of p's node is replaced
+abbrev pub may_change : List Entry → Entry → List ℕ → List ℕ → Pid → Bool
+may_change es e s g p = (is_accepted e.verdict && concerns es s g p e.event) || is_replaced p.node es (e ∷ es)
 
 -- what is said of link l is the same after these entries as after those, but for whether it is open
 pub record IsSameLink (l : ℕ) (old new : List Entry) : Type 0 where

@@ -1,5 +1,5 @@
 -- When a link is open and up, read from the accepted events alone: no recorded answer is looked at.
-use Rattle.std.specs.Prelude.{ℕ, Bool, true, false, cond, ◌&&◌, ◌||◌, not, nat_le, ◌==◌, List, [], ◌∷◌, Option, Some, None, length, get_or}
+use Rattle.std.specs.Prelude.{ℕ, Bool, true, false, cond, ◌&&◌, ◌||◌, not, nat_le, ◌==◌, List, [], ◌∷◌, length, get_or}
 use Rattle.std.specs.List.{list_any}
 use Rattle.std.specs.Option.{option_map_or}
 use Rattle.handshake_frames.specs.Reading.{name_frame}
@@ -8,7 +8,7 @@ use Rattle.policy_audit.specs.declared.event.Event.TheVariants as event
 use Rattle.policy_audit.specs.declared.entry.Verdict.{Verdict}
 use Rattle.policy_audit.specs.declared.entry.Verdict.TheVariants.{Accepted, Refused}
 use Rattle.policy_audit.specs.declared.entry.Entry.{Entry}
-use Rattle.policy_audit.specs.Sides.{Opened, Taken, whole_side, opened, taken, is_peer, Awaited, AwaitMessage, is_last}
+use Rattle.policy_audit.specs.Sides.{Taken, whole_side, opened, taken, is_peer, Awaited, AwaitMessage, is_last}
 use Rattle.policy_audit.specs.Links.{is_opened_by, is_dial_to, share_peer, named_by, links}
 
 -- where a link stands: whether it is open, and whether a link of its peer's name was up at its Name

@@ -14,7 +14,7 @@ ghost use Rattle.policy_audit.specs.Links.{is_open, is_up};
 ghost use Rattle.policy_audit.specs.Listed.{listed};
 ghost use Rattle.policy_audit.specs.Contents.{members, local_members, groups, local_groups, local_rows};
 ghost use Rattle.policy_audit.specs.Changes.{IsChange, change};
-ghost use Rattle.policy_audit.specs.Effects.{leaves_rows, IsSameLink};
+ghost use Rattle.policy_audit.specs.Effects.{leaves_rows, may_change, IsSameLink};
 ghost use Rattle.policy_audit.specs.Stages.{stages, is_up_at, name_up};
 ghost use Rattle.policy_audit.specs.Admitted.{IsAdmitted};
 ghost use Rattle.policy_audit.specs.Policy.{is_full, with_entry, entry_of, IsNext, IsLegal};
@@ -59,11 +59,12 @@ pub fn lists_ascend()
     ensures local_rows { (h : History) (s : List ℕ) → IsRowListing (own h s) (local_rows h s) }
 {}
 
-/// What an entry leaves alone: a refused one and one that concerns no row, all listings; one of a link's frame, what
-/// is said of every other link.
+/// What an entry leaves alone: a refused one and one that concerns no row, all listings; any other, the rows that it may
+/// not change; one of a link's frame, what is said of every other link.
 pub fn left_alone()
     ensures listings { (h : History) (e : Entry) → IsTrue (leaves_rows e) → (s g : List ℕ) (p : Pid) → listed (with_entry h e) s g p ≡ listed h s g p }
     ensures no_change { (h : History) (e : Entry) → IsTrue (leaves_rows e) → IsChange h (with_entry h e) [] }
+    ensures within { (h : History) (e : Entry) → IsLegal (with_entry h e) → (s g : List ℕ) (p : Pid) → may_change h.entries e s g p ≡ false → listed (with_entry h e) s g p ≡ listed h s g p }
     ensures links { (es : List Entry) (e : Entry) (k l : ℕ) (body : List ℕ) → e.event ≡ events.Frame k body → (k == l) ≡ false → IsSameLink l es (e ∷ es) }
 {}
 

@@ -9,7 +9,7 @@ use Rattle.policy_audit.specs.declared.event.Event.TheVariants as event
 use Rattle.policy_audit.specs.declared.reply.Reply.TheVariants as reply
 use Rattle.policy_audit.specs.declared.rule.Rule.TheVariants as rule
 use Rattle.policy_audit.specs.declared.entry.Verdict.TheVariants.{Accepted, Refused}
-use Rattle.policy_audit.proofs.Lines.{Line, by, begun, hex, pid, frame, message, calls, judged}
+use Rattle.policy_audit.proofs.Lines.{Line, by, begun, hex, frame, calls, judged}
 use Rattle.policy_audit.specs.Scripts.{verdicts}
 
 abbrev pub script : List Line

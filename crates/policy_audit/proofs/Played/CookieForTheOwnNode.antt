@@ -7,9 +7,8 @@ use Rattle.handshake_frames.specs.Reading.{name_frame, challenge_frame, reply_fr
 use Rattle.link_frames.specs.Reading.{message as read_message}
 use Rattle.policy_audit.specs.declared.event.Event.TheVariants as event
 use Rattle.policy_audit.specs.declared.reply.Reply.TheVariants as reply
-use Rattle.policy_audit.specs.declared.rule.Rule.TheVariants as rule
-use Rattle.policy_audit.specs.declared.entry.Verdict.TheVariants.{Accepted, Refused}
-use Rattle.policy_audit.proofs.Lines.{Line, by, begun, hex, pid, frame, message, calls, judged}
+use Rattle.policy_audit.specs.declared.entry.Verdict.TheVariants.{Accepted}
+use Rattle.policy_audit.proofs.Lines.{Line, by, begun, hex, calls, judged}
 use Rattle.policy_audit.specs.Scripts.{verdicts}
 
 abbrev pub script : List Line

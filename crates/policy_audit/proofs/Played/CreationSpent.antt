@@ -1,15 +1,14 @@
 -- The script `creation_spent`, computed from the policy.
-use Rattle.std.specs.Prelude.{◌≡◌, List, [], ◌∷◌, true, false, codes}
+use Rattle.std.specs.Prelude.{◌≡◌, List, [], ◌∷◌, false, codes}
 use Rattle.std.proofs.Common.{refl}
 use Rattle.std.specs.Fmt.{digits}
 use Rattle.md5.specs.Md5.{md5, digest_bytes, hash_after, compress, rounds, block_words}
 use Rattle.handshake_frames.specs.Reading.{name_frame, challenge_frame, reply_frame, ack_frame, status_of}
 use Rattle.link_frames.specs.Reading.{message as read_message}
 use Rattle.policy_audit.specs.declared.event.Event.TheVariants as event
-use Rattle.policy_audit.specs.declared.reply.Reply.TheVariants as reply
 use Rattle.policy_audit.specs.declared.rule.Rule.TheVariants as rule
-use Rattle.policy_audit.specs.declared.entry.Verdict.TheVariants.{Accepted, Refused}
-use Rattle.policy_audit.proofs.Lines.{Line, by, begun, hex, pid, frame, message, calls, judged}
+use Rattle.policy_audit.specs.declared.entry.Verdict.TheVariants.{Refused}
+use Rattle.policy_audit.proofs.Lines.{Line, by, begun, calls, judged}
 use Rattle.policy_audit.specs.Scripts.{verdicts}
 
 abbrev pub script : List Line
