@@ -14,32 +14,11 @@ use Rattle.dist_types.specs.Order.{row_cmp}
 use Rattle.scope_core.specs.declared.counted.Counted.{Counted}
 use Rattle.dist_types.specs.Listing.{how_many, Rises}
 use Rattle.scope_core.specs.Table.{is_of_node, counted_cmp, IsKept}
-use Rattle.scope_core.specs.Added.{Adds, HasRoomFor}
+use Rattle.scope_core.specs.Added.{Adds, HasRoomFor, IsGap}
 use Rattle.dist_types.proofs.Orders.{rows_total, exact_rows, same_decides}
 use Rattle.dist_types.proofs.Totals.{total_is, how_many_append}
 use Rattle.dist_types.proofs.Sorts.{all_from}
 use Rattle.scope_core.proofs.Runs.{all_at}
-
--- rows that rise can be searched
-rising_next : (cs : List Counted) → Rises counted_cmp cs → (k : ℕ) (d : Counted) → suc k < length cs → is_lt (row_cmp (get_or cs (suc k) d).row (get_or cs k d).row) ≡ false
-rising_next [] r k d h = absurd (omega (arith, h))
-rising_next (c ∷ []) r k d h = absurd (omega (arith, h))
-rising_next (c ∷ x ∷ xs) r zero d h = ap is_lt (rows_total.antisymm x.row c.row ∙ ap ordering_reverse r.0.0)
-rising_next (c ∷ x ∷ xs) r (suc k) d h = rising_next (x ∷ xs) r.1 k d (omega (arith, h))
-
-rising_sorted : (cs : List Counted) → Rises counted_cmp cs → IsSortedBy (λ c d. is_lt (row_cmp c.row d.row)) cs
-rising_sorted cs r k d l h = ap (λ n. is_lt (row_cmp (get_or cs n d).row (get_or cs k d).row)) (add-one k) ∙ rising_next cs r k d (omega (arith, h))
-
-pub searchable : (cs : List Counted) (row : Row) → Rises counted_cmp cs → IsNonDecreasingBy (λ c. ordering_index (row_cmp c.row row)) cs
-searchable cs row r = searchable_from_sorted rows_total (λ (c : Counted). c.row) cs row (rising_sorted cs r)
-
-pub found_is : (cs : List Counted) (row : Row) (r : Result ℕ ℕ) → IsBinarySearchResult (λ c. row_cmp c.row row) cs r → IfOk r (HoldsAt (λ c. c.row ≡ row) cs)
-found_is cs row (Ok i) h = λ d. exact_rows (get_or cs i d).row row (h d)
-found_is cs row (Err i) h = tt
-
-pub gap_is : (cs : List Counted) (row : Row) (r : Result ℕ ℕ) → Rises counted_cmp cs → IsBinarySearchResult (λ c. row_cmp c.row row) cs r → IfErr r (IsPartitionPoint (λ c. row_cmp c.row row ≡ Less) (λ c. row_cmp c.row row ≡ Greater) cs)
-gap_is cs row (Ok i) r h = tt
-gap_is cs row (Err i) r h = h (searchable cs row r)
 
 module _ {A : Type 0} (P : A → Type 0) where
   all_insert : (xs : List A) (i : ℕ) (y : A) → P y → AllByRecursion P xs → AllByRecursion P (insert xs i y)
@@ -47,13 +26,13 @@ module _ {A : Type 0} (P : A → Type 0) where
   all_insert [] (suc i) y p a = (p, tt)
   all_insert (x ∷ xs) (suc i) y p a = (a.0, all_insert xs i y p a.1)
 
-  all_set : (xs : List A) (i : ℕ) (y : A) → P y → AllByRecursion P xs → AllByRecursion P (set xs i y)
+  pub all_set : (xs : List A) (i : ℕ) (y : A) → P y → AllByRecursion P xs → AllByRecursion P (set xs i y)
   all_set [] i y p a = tt
   all_set (x ∷ xs) zero y p a = (p, a.1)
   all_set (x ∷ xs) (suc i) y p a = (a.0, all_set xs i y p a.1)
 
 pub rises_insert : (cs : List Counted) (i : ℕ) (x : Counted) → i ≤ length cs → Rises counted_cmp cs
-    → IsPartitionPoint (λ c. row_cmp c.row x.row ≡ Less) (λ c. row_cmp c.row x.row ≡ Greater) cs i → Rises counted_cmp (insert cs i x)
+    → IsGap x.row cs i → Rises counted_cmp (insert cs i x)
 rises_insert cs zero x l r p =
     (all_from (λ d. counted_cmp x d ≡ Less) cs (λ k d m h. rows_total.antisymm x.row (get_or cs k d).row ∙ ap ordering_reverse (p.1 k d m h)), r)
 rises_insert [] (suc i) x l r p = absurd (omega (arith, l))
@@ -102,7 +81,7 @@ count_fits cs i c l e kept =
     omega (arith, a, g, n, b, few)
 
 pub inserted_kept : (cs : List Counted) (i : ℕ) (row : Row) → i ≤ length cs → IsKept cs → HasRoomFor (row ∷ []) cs
-    → IsPartitionPoint (λ c. row_cmp c.row row ≡ Less) (λ c. row_cmp c.row row ≡ Greater) cs i → IsKept (insert cs i (record { row = row; count = 1 }))
+    → IsGap row cs i → IsKept (insert cs i (record { row = row; count = 1 }))
 inserted_kept cs i row l kept few gap = record {
   rises = rises_insert cs i (record { row = row; count = 1 }) l kept.rises gap;
   counted = all_insert (λ c. 0 < c.count) cs i (record { row = row; count = 1 }) (omega arith) kept.counted;

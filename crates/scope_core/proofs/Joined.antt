@@ -53,6 +53,20 @@ none_of_node g node own (p ∷ ps) a e =
     ∙ ap (λ b. cond b (suc (how_many (is_of_node node) (map (row_in g) ps))) (how_many (is_of_node node) (map (row_in g) ps))) e
     ∙ none_of_node g node own ps a.1 e
 
+all_of_node : (g own : List ℕ) (ps : List Pid) → AllByRecursion (λ p. p.node ≡ own) ps → how_many (is_of_node own) (map (row_in g) ps) ≡ length ps
+all_of_node g own [] a = refl
+all_of_node g own (p ∷ ps) a =
+    ap (λ b. cond b (suc (how_many (is_of_node own) (map (row_in g) ps))) (how_many (is_of_node own) (map (row_in g) ps))) ((same_decides p.node own).1 a.0)
+    ∙ ap suc (all_of_node g own ps a.1)
+
+-- how many rows the own node has after a join
+pub joined_total : (g own : List ℕ) (ps : List Pid) (rows : List Row) (old new : List Counted) → rows ≡ map (row_in g) ps → Adds rows old new → All (λ p. p.node ≡ own) ps
+    → (n : ℕ) → n ≡ tally (is_of_node own) old → n + length ps ≡ tally (is_of_node own) new
+joined_total g own ps rows old new e a all n is =
+    let added = a (is_of_node own) in
+    let many : how_many (is_of_node own) rows ≡ length ps = ap (how_many (is_of_node own)) e ∙ all_of_node g own ps (all_from (λ p. p.node ≡ own) ps (λ k d l h. all k d h)) in
+    omega (arith, added, many, is)
+
 -- own processes have room where the own node has
 pub room_for : (g own : List ℕ) (ps : List Pid) (rows : List Row) (old : List Counted) → rows ≡ map (row_in g) ps → IsKept old → All (λ p. p.node ≡ own) ps → tally (is_of_node own) old + length ps ≤ 4096 → HasRoomFor rows old
 room_for g own ps rows old e kept all few node =

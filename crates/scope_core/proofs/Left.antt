@@ -1,4 +1,4 @@
--- One less for each mention, as far as it goes: what really left, and who was there.
+-- One less for each mention, as far as it goes: what really left.
 use Rattle.std.specs.Prelude.{◌≡◌, ℕ, ◌+◌, ◌-◌, ◌<◌, Bool, true, false, cond, ◌&&◌, ◌||◌, nat_lt, min, map, List, [], ◌∷◌}
 use Rattle.std.proofs.Common.{refl, ap, ◌∙◌, sym, arith}
 use Rattle.std.specs.List.{filter, list_any, AllByRecursion}
@@ -8,20 +8,10 @@ use Rattle.scope_core.specs.declared.counted.Counted.{Counted}
 use Rattle.dist_types.specs.Listing.{same, same_pid, mentions, Rises, spread}
 use Rattle.dist_types.specs.Difference.{IsDifference, change_unless_empty}
 use Rattle.scope_core.specs.Table.{is_row, tally, counted_cmp}
-use Rattle.scope_core.specs.Listed.{is_in, lessened, is_counted}
+use Rattle.scope_core.specs.Listed.{is_in}
 use Rattle.dist_types.proofs.Orders.{same_decides, same_sym}
 use Rattle.dist_types.proofs.Differences.{one_difference}
 use Rattle.scope_core.proofs.Shares.{each, of_mentions, mentions_part, pids_listing}
-use Rattle.scope_core.proofs.Taken.{remaining_counts}
-
-as_far_as : (b : Bool) (m n : ℕ) → n - cond b (min m n) 0 ≡ n - cond b m 0
-as_far_as true m n = omega arith
-as_far_as false m n = omega arith
-
--- what is counted after a leave
-pub left_counts : (g : List ℕ) (ps : List Pid) (h : List ℕ) (p : Pid) (cs : List Counted) → Rises counted_cmp cs
-    → tally (is_row h p) (filter is_counted (map (lessened g (each (of_mentions ps))) cs)) ≡ tally (is_row h p) cs - cond (same h g) (mentions p ps) 0
-left_counts g ps h p cs r = remaining_counts (of_mentions ps) (mentions_part ps) g h p cs r ∙ as_far_as (same h g) (mentions p ps) (tally (is_row h p) cs)
 
 -- the change of a leave
 pub left_change : (g : List ℕ) (ps : List Pid) (cs : List Counted) (after : List ℕ → Pid → ℕ) → Rises counted_cmp cs
@@ -44,24 +34,3 @@ left_change g ps cs after r is =
           m ∙ ap (λ v. cond v (mentions p gone) 0) (sym (same_sym g h ∙ e))
     ] refl a)
     (λ h p. let a = is h p in elim (same g h) as (λ v. after h p - tally (is_row h p) cs ≡ cond v 0 0) [ true ↦ omega (arith, a) | false ↦ omega (arith, a) ])
-
--- a process is in the rows of a group where it is counted
-any_counted : (g : List ℕ) (p : Pid) (cs : List Counted) → AllByRecursion (λ c. 0 < c.count) cs → list_any (λ c. same_pid c.row.pid p) (filter (is_in g) cs) ≡ nat_lt 0 (tally (is_row g p) cs)
-any_counted g p [] a = refl
-any_counted g p (c ∷ cs) a =
-    let before = any_counted g p cs a.1 in
-    let l = a.0 in
-    let rest : tally (is_row g p) cs ≡ 0 + tally (is_row g p) cs = omega arith in
-    elim (is_in g c) as (λ v. list_any (λ d. same_pid d.row.pid p) (cond v (c ∷ filter (is_in g) cs) (filter (is_in g) cs)) ≡ nat_lt 0 (cond (v && same_pid c.row.pid p) c.count 0 + tally (is_row g p) cs)) [
-      | true ↦ elim (same_pid c.row.pid p) as (λ v. (v || list_any (λ d. same_pid d.row.pid p) (filter (is_in g) cs)) ≡ nat_lt 0 (cond v c.count 0 + tally (is_row g p) cs)) [
-        | true ↦ sym (lt-ltb 0 (c.count + tally (is_row g p) cs) (omega (arith, l)))
-        | false ↦ before ∙ ap (nat_lt 0) rest
-      ]
-      | false ↦ before ∙ ap (nat_lt 0) rest
-    ]
-
--- what the test of the rows says of the counts
-pub joined_answer : (g : List ℕ) (ps : List Pid) (cs run : List Counted) (b r : Bool) → AllByRecursion (λ c. 0 < c.count) cs → run ≡ filter (is_in g) cs
-    → b ≡ list_any (λ p. list_any (λ c. same_pid c.row.pid p) run) ps → b ≡ r → list_any (λ p. nat_lt 0 (tally (is_row g p) cs)) ps ≡ r
-joined_answer g ps cs run b r a e f k =
-    sym (ap (λ t. list_any t ps) (λ i p. any_counted g p cs a i)) ∙ ap (λ x. list_any (λ p. list_any (λ c. same_pid c.row.pid p) x) ps) (sym e) ∙ sym f ∙ k

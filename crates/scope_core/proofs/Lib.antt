@@ -5,6 +5,8 @@ pub mod Groups
 pub mod Leaving
 pub mod Taken
 pub mod Left
+pub mod Places
 pub mod Added
+pub mod Lessened
 pub mod Joined
 pub mod OwnName

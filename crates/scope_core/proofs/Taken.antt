@@ -10,7 +10,6 @@ use Rattle.dist_types.specs.declared.row.Row.{Row}
 use Rattle.scope_core.specs.declared.counted.Counted.{Counted}
 use Rattle.dist_types.specs.Listing.{same, same_pid, Rises}
 use Rattle.scope_core.specs.Table.{is_row, is_of_node, tally, counted_cmp, IsKept}
-use Rattle.scope_core.specs.Listed.{lessened, is_counted}
 use Rattle.dist_types.proofs.Orders.{same_pid_decides}
 use Rattle.scope_core.proofs.Rising.{all_filter, filter_rises, row_is}
 use Rattle.scope_core.proofs.Shares.{share, share_is, each, IsPart}
@@ -63,62 +62,3 @@ exit_counts g q p cs =
             | false ↦ λ f. refl
           ] refl)) cs
     ] refl
-
-module _ (g : List ℕ) (times : Counted → ℕ) where
-  less_le : (test : Row → Bool) (cs : List Counted) → tally test (map (lessened g times) cs) ≤ tally test cs
-  less_le test [] = omega arith
-  less_le test (c ∷ cs) =
-      let before = less_le test cs in
-      elim (test c.row) as (λ v. cond v (lessened g times c).count 0 + tally test (map (lessened g times) cs) ≤ cond v c.count 0 + tally test cs) [ true ↦ omega (arith, before) | false ↦ omega (arith, before) ]
-
-  tally_counted : (test : Row → Bool) (cs : List Counted) → tally test (filter is_counted cs) ≡ tally test cs
-  tally_counted test [] = refl
-  tally_counted test (c ∷ cs) =
-      let before = tally_counted test cs in
-      elim (c.count == 0) as (λ v. (c.count == 0) ≡ v → tally test (cond (not v) (c ∷ filter is_counted cs) (filter is_counted cs)) ≡ cond (test c.row) c.count 0 + tally test cs) [
-        | true ↦ λ e. let z : c.count ≡ 0 = (Decides-eqb c.count 0).0 e in elim (test c.row) as (λ v. tally test (filter is_counted cs) ≡ cond v c.count 0 + tally test cs) [ true ↦ omega (arith, before, z) | false ↦ omega (arith, before) ]
-        | false ↦ λ e. ap (λ n. cond (test c.row) c.count 0 + n) before
-      ] refl
-
-  above_less : (c d : Counted) (cs : List Counted) → d.row ≡ c.row → AllByRecursion (λ x. counted_cmp c x ≡ Less) cs → AllByRecursion (λ x. counted_cmp d x ≡ Less) (map (lessened g times) cs)
-  above_less c d [] e b = tt
-  above_less c d (x ∷ xs) e b = (ap (λ r. counted_cmp (record { row = r; count = 0 }) x) e ∙ b.0, above_less c d xs e b.1)
-
-  less_rises : (cs : List Counted) → Rises counted_cmp cs → Rises counted_cmp (map (lessened g times) cs)
-  less_rises [] r = tt
-  less_rises (c ∷ cs) r = (above_less c (lessened g times c) cs refl r.0, less_rises cs r.1)
-
-  counted_only : (cs : List Counted) → AllByRecursion (λ c. 0 < c.count) (filter is_counted cs)
-  counted_only [] = tt
-  counted_only (c ∷ cs) =
-      elim (c.count == 0) as (λ v. (c.count == 0) ≡ v → AllByRecursion (λ d. 0 < d.count) (cond (not v) (c ∷ filter is_counted cs) (filter is_counted cs))) [
-        | true ↦ λ e. counted_only cs
-        | false ↦ λ e. (grind (arith, e), counted_only cs)
-      ] refl
-
-  pub remaining_kept : (cs : List Counted) → IsKept cs → IsKept (filter is_counted (map (lessened g times) cs))
-  remaining_kept cs k = record {
-    rises = filter_rises counted_cmp is_counted (map (lessened g times) cs) (less_rises cs k.rises);
-    counted = counted_only (map (lessened g times) cs);
-    few = λ n.
-        let a = tally_counted (is_of_node n) (map (lessened g times) cs) in
-        let b = less_le (is_of_node n) cs in
-        let c = k.few n in
-        omega (arith, a, b, c);
-  }
-
--- what is counted where f is taken from the counts of a group
-pub remaining_counts : (f : Pid → ℕ → ℕ) → IsPart f → (g h : List ℕ) (p : Pid) (cs : List Counted) → Rises counted_cmp cs
-    → tally (is_row h p) (filter is_counted (map (lessened g (each f)) cs)) ≡ tally (is_row h p) cs - cond (same h g) (f p (tally (is_row h p) cs)) 0
-remaining_counts f part g h p cs r =
-    tally_counted g (each f) (is_row h p) (map (lessened g (each f)) cs)
-    ∙ less_share cs
-    ∙ share_is (λ q n. n - cond (same h g) (f q n) 0) (λ q. omega (arith, part q)) h p cs r
-  where
-    less_share : (ds : List Counted) → tally (is_row h p) (map (lessened g (each f)) ds) ≡ share (λ c. c.count - cond (same h g) (each f c) 0) h p ds
-    less_share [] = refl
-    less_share (d ∷ ds) =
-        elim (is_row h p d.row) as (λ v. is_row h p d.row ≡ v → cond v (lessened g (each f) d).count 0 + tally (is_row h p) (map (lessened g (each f)) ds) ≡ cond v (d.count - cond (same h g) (each f d) 0) 0 + share (λ c. c.count - cond (same h g) (each f c) 0) h p ds) [
-          | true ↦ λ e. ap (λ (t : ℕ × ℕ). t.0 + t.1) (λ i. (d.count - cond (same ((row_is h p d.row e).0 i) g) (each f d) 0, less_share ds i))
-          | false ↦ λ e. ap (λ n. 0 + n) (less_share ds)
-        ] refl

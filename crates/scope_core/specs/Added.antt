@@ -1,10 +1,13 @@
--- Rows that are put in.
-use Rattle.std.specs.Prelude.{◌≡◌, ℕ, ◌+◌, ◌≤◌, Bool, List}
+-- Rows that are put in, and taken.
+use Rattle.std.specs.Prelude.{◌≡◌, ℕ, ◌+◌, ◌≤◌, Bool, true, false, List, [], ◌∷◌}
+use Rattle.std.specs.List.Sorted.{IsPartitionPoint}
+use Rattle.std.specs.declared.cmp.Ordering.TheVariants.{Less, Greater}
 use Rattle.dist_types.specs.declared.pid.Pid.{Pid}
 use Rattle.dist_types.specs.declared.row.Row.{Row}
 use Rattle.scope_core.specs.declared.counted.Counted.{Counted}
 use Rattle.dist_types.specs.Listing.{how_many}
-use Rattle.scope_core.specs.Table.{tally, is_of_node, max_rows}
+use Rattle.dist_types.specs.Order.{row_cmp}
+use Rattle.scope_core.specs.Table.{tally, is_row, is_of_node, max_rows}
 
 -- the row of the process in the group
 abbrev pub row_in : List ℕ → Pid → Row
@@ -17,3 +20,12 @@ Adds rows old new = (test : Row → Bool) → tally test new ≡ tally test old 
 -- with these rows too no node has more than it may
 abbrev pub HasRoomFor : List Row → List Counted → Type 0
 HasRoomFor rows old = (node : List ℕ) → tally (is_of_node node) old + how_many (is_of_node node) rows ≤ max_rows
+
+-- old has one more of the row than new, if one is taken; else old has none, and stays
+abbrev pub Takes : Bool → Row → List Counted → List Counted → Type 0
+Takes true row old new = Adds (row ∷ []) new old
+Takes false row old new = (new ≡ old) × (tally (is_row row.group row.pid) old ≡ 0)
+
+-- the rows below the row end here, and those above it begin
+abbrev pub IsGap : Row → List Counted → ℕ → Type 0
+IsGap row rows i = IsPartitionPoint (λ c. row_cmp c.row row ≡ Less) (λ c. row_cmp c.row row ≡ Greater) rows i

@@ -1,5 +1,5 @@
 -- What is read off the rows, in their order.
-use Rattle.std.specs.Prelude.{ℕ, ◌-◌, Bool, true, cond, not, ◌&&◌, ◌==◌, nat_lt, List, [], ◌∷◌, Option, Some, None, slice_get, length}
+use Rattle.std.specs.Prelude.{ℕ, ◌-◌, Bool, true, cond, not, ◌&&◌, nat_lt, List, [], ◌∷◌, Option, Some, None, slice_get, length}
 use Rattle.std.specs.List.{filter}
 use Rattle.dist_types.specs.declared.change.GroupChange.{GroupChange}
 use Rattle.scope_core.specs.declared.counted.Counted.{Counted}
@@ -26,11 +26,3 @@ heads times last (c ∷ cs) = cond (nat_lt 0 (times c) && differs last c.row.gro
 -- what leaves the group g where times says how many of each row leave
 abbrev pub leaving : (Counted → ℕ) → List Counted → List ℕ → GroupChange
 leaving times rows g = record { group = g; left = spread (λ c. c.row.pid) times (filter (is_in g) rows); joined = [] }
-
--- the row with as many fewer as the mentions take from it
-abbrev pub lessened : List ℕ → (Counted → ℕ) → Counted → Counted
-lessened g times c = record { row = c.row; count = c.count - cond (same c.row.group g) (times c) 0 }
-
--- whether a row is still counted
-abbrev pub is_counted : Counted → Bool
-is_counted c = not (c.count == 0)

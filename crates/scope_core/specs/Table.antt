@@ -1,5 +1,5 @@
 -- A table is a count for each group and process.
-use Rattle.std.specs.Prelude.{ℕ, ◌≤◌, ◌<◌, Bool, cond, ◌&&◌, List}
+use Rattle.std.specs.Prelude.{◌≡◌, ℕ, ◌≤◌, ◌<◌, Bool, cond, ◌&&◌, List}
 use Rattle.std.specs.List.{AllByRecursion}
 use Rattle.std.specs.declared.cmp.Ordering.{Ordering}
 use Rattle.dist_types.specs.declared.pid.Pid.{Pid}
@@ -50,3 +50,8 @@ pub record IsKept (rows : List Counted) : Type 0 where
   pub rises : Rises counted_cmp rows
   pub counted : AllByRecursion (λ c. 0 < c.count) rows
   pub few : (node : List ℕ) → tally (is_of_node node) rows ≤ max_rows
+
+-- the rows are kept, and total is how many the own processes have
+pub record IsHeld (own : List ℕ) (total_rows : ℕ) (rows : List Counted) : Type 0 where
+  pub kept : IsKept rows
+  pub total : total_rows ≡ tally (is_of_node own) rows

@@ -1,18 +1,15 @@
 //! What is done to the sorted rows.
-ghost use Rattle.std.specs.Prelude.{◌≡◌, ℕ, ◌+◌, ◌<◌, ◌≤◌, List, [], ◌∷◌, not, cond, map, length, vec_len, vec_capacity, IfOk, IfErr};
+ghost use Rattle.std.specs.Prelude.{◌≡◌, ℕ, ◌+◌, ◌-◌, ◌<◌, ◌≤◌, true, List, [], ◌∷◌, not, cond, vec_len, vec_capacity};
 ghost use Rattle.std.specs.List.{filter, HoldsAt};
-ghost use Rattle.std.specs.List.Sorted.{IsPartitionPoint};
-ghost use Rattle.std.specs.declared.cmp.Ordering.TheVariants.{Less, Greater};
-ghost use Rattle.dist_types.specs.Order.{row_cmp};
-ghost use Rattle.dist_types.specs.Listing.{same, same_pid, Rises};
-ghost use Rattle.scope_core.specs.Table.{counted_cmp, IsKept};
-ghost use Rattle.scope_core.specs.Added.{Adds, HasRoomFor};
-ghost use Rattle.scope_core.specs.Part.{times_of};
-ghost use Rattle.scope_core.specs.Listed.{lessened, is_counted};
+ghost use Rattle.dist_types.specs.declared.pid.Pid.{Pid};
+ghost use Rattle.dist_types.specs.declared.row.Row.{Row};
+ghost use Rattle.dist_types.specs.Listing.{same, same_pid, mentions};
+ghost use Rattle.scope_core.specs.Table.{tally, is_row, is_of_node, IsKept};
+ghost use Rattle.scope_core.specs.Added.{row_in, Adds, Takes, HasRoomFor};
 
 use crate::counted::Counted;
-use crate::part::{Part, times};
-use dist_types::{Group, Pid, Row};
+use crate::reads::place_of;
+use dist_types::{Group, NodeName, Pid, Row};
 
 /// Takes all rows of a process away.
 pub fn remove_pid(rows: &mut Vec<Counted>, pid: &Pid)
@@ -21,25 +18,47 @@ pub fn remove_pid(rows: &mut Vec<Counted>, pid: &Pid)
     rows.retain(|counted| counted.row.pid != *pid);
 }
 
-/// Takes a part from the rows of a group.
-pub fn take_away(rows: &mut Vec<Counted>, group: &Group, part: Part<'_>)
-    ensures { rows.new.items ≡ filter is_counted (map (lessened group.now (times_of part.entry)) rows.old.items) }
+/// Takes one away for each mention of a process, as far as it is in the group. Answers how many the node loses.
+pub fn take_all(rows: &mut Vec<Counted>, group: &Group, pids: &[Pid], node: &NodeName) -> usize
+    requires { IsKept rows.old.items }
+    ensures counts { (h : List ℕ) (p : Pid) → tally (is_row h p) rows.new.items ≡ tally (is_row h p) rows.old.items - cond (same h group.now) (mentions p pids.now) 0 }
+    ensures total { tally (is_of_node node.now) rows.new.items + result ≡ tally (is_of_node node.now) rows.old.items }
+    ensures kept { IsKept rows.new.items }
 {
-    for counted in rows.iter_mut() {
-        let times = times_in(counted, group, part);
-        counted.count -= times;
+    let mut lost = 0;
+    for pid in pids {
+        let of_node = pid.node == *node;
+        lost += usize::from(take(rows, group, pid) & of_node);
     }
-    rows.retain(|counted| counted.count != 0);
+    lost
 }
 
-/// How many of a row's count belong to the part, if the row is of the group.
-fn times_in(counted: &Counted, group: &Group, part: Part<'_>) -> u32
-    ensures { result ≡ cond (same counted.now.row.group group.now) (times_of part.entry counted.now) 0 }
+/// Takes one away, if the process is in the group. Answers whether it is.
+fn take(rows: &mut Vec<Counted>, group: &Group, pid: &Pid) -> bool
+    requires { IsKept rows.old.items }
+    ensures taken { Takes result (row_in group.now pid.now) rows.old.items rows.new.items }
+    ensures kept { IsKept rows.new.items }
 {
-    if counted.row.group == *group {
-        times(part, counted)
+    match place_of(rows, group, pid) {
+        Ok(at) => {
+            lessen(rows, at);
+            true
+        }
+        Err(_) => false,
+    }
+}
+
+/// One less at this place. The row goes with its last.
+fn lessen(rows: &mut Vec<Counted>, at: usize)
+    requires bound { at < vec_len rows.old }
+    requires kept { IsKept rows.old.items }
+    ensures taken { (row : Row) → HoldsAt (λ c. c.row ≡ row) rows.old.items at → Takes true row rows.old.items rows.new.items }
+    ensures kept { IsKept rows.new.items }
+{
+    if rows[at].count > 1 {
+        rows[at].count -= 1;
     } else {
-        0
+        rows.remove(at);
     }
 }
 
@@ -67,22 +86,11 @@ fn add(rows: &mut Vec<Counted>, row: Row)
     ensures room { vec_len rows.new ≤ vec_len rows.old + 1 }
     ensures capacity { vec_capacity rows.old ≤ vec_capacity rows.new }
 {
-    match place_of(rows, &row) {
+    match place_of(rows, &row.group, &row.pid) {
         Ok(at) => rows[at].count += 1,
         Err(at) => {
             // This can't fail, since there is room.
             let _ = rows.insert(at, Counted { row, count: 1 });
         }
     }
-}
-
-/// Where a row is, or where it goes.
-fn place_of(rows: &[Counted], row: &Row) -> Result<usize, usize>
-    requires { Rises counted_cmp rows.now }
-    ensures bound { IfOk result (λ i. i < length rows.now) }
-    ensures found { IfOk result (HoldsAt (λ c. c.row ≡ row.now) rows.now) }
-    ensures end { IfErr result (λ i. i ≤ length rows.now) }
-    ensures gap { IfErr result (IsPartitionPoint (λ c. row_cmp c.row row.now ≡ Less) (λ c. row_cmp c.row row.now ≡ Greater) rows.now) }
-{
-    rows.binary_search_by(|counted| counted.row.cmp(row))
 }

@@ -1,8 +1,10 @@
 //! What is read off the sorted rows.
-ghost use Rattle.std.specs.Prelude.{◌≡◌, ◌++◌, ℕ, ◌≤◌, IfOk, OnOk, None, map, replicate, ◌&&◌, nat_lt};
-ghost use Rattle.std.specs.List.{filter, list_any};
-ghost use Rattle.dist_types.specs.Listing.{same_pid, Rises, spread};
-ghost use Rattle.scope_core.specs.Table.{tally, counted_cmp, is_of_node, max_rows};
+ghost use Rattle.std.specs.Prelude.{◌≡◌, ◌++◌, ℕ, ◌<◌, ◌≤◌, IfOk, IfErr, OnOk, None, length, replicate, ◌&&◌, nat_lt};
+ghost use Rattle.std.specs.List.{filter, list_any, HoldsAt};
+ghost use Rattle.dist_types.specs.Order.{row_cmp};
+ghost use Rattle.dist_types.specs.Listing.{Rises, spread};
+ghost use Rattle.scope_core.specs.Table.{tally, counted_cmp, is_row, is_of_node, max_rows, IsKept};
+ghost use Rattle.scope_core.specs.Added.{row_in, IsGap};
 ghost use Rattle.scope_core.specs.Part.{times_of};
 ghost use Rattle.scope_core.specs.Listed.{is_in, differs, last_of, heads};
 
@@ -10,6 +12,7 @@ use crate::counted::Counted;
 use crate::part::{Part, times};
 use dist_types::{Group, NodeName, OutOfMemory, Pid, Row, TryClone};
 use std::alloc::Global;
+use std::cmp::Ordering;
 
 /// The rows of a group.
 pub fn in_group<'a>(rows: &'a [Counted], group: &Group) -> &'a [Counted]
@@ -92,16 +95,36 @@ fn push_copies<T: TryClone + Drop>(
     Ok(())
 }
 
-/// Whether one of the processes is in the rows.
-pub fn is_any_joined(rows: &[Counted], pids: &[Pid]) -> bool
-    ensures { result ≡ list_any (λ p. list_any (λ c. same_pid c.row.pid p) rows.now) pids.now }
+/// Whether one of the processes is in the group.
+pub fn is_any_joined(rows: &[Counted], group: &Group, pids: &[Pid]) -> bool
+    requires { IsKept rows.now }
+    ensures { result ≡ list_any (λ p. nat_lt 0 (tally (is_row group.now p) rows.now)) pids.now }
 {
-    pids.iter().any(|pid| is_joined(rows, pid))
+    pids.iter().any(|pid| is_joined(rows, group, pid))
 }
 
-/// Whether the process is in the rows.
-fn is_joined(rows: &[Counted], pid: &Pid) -> bool
-    ensures { result ≡ list_any (λ c. same_pid c.row.pid pid.now) rows.now }
+/// Whether the process is in the group.
+fn is_joined(rows: &[Counted], group: &Group, pid: &Pid) -> bool
+    requires { IsKept rows.now }
+    ensures { result ≡ nat_lt 0 (tally (is_row group.now pid.now) rows.now) }
 {
-    rows.iter().any(|counted| counted.row.pid == *pid)
+    place_of(rows, group, pid).is_ok()
+}
+
+/// Where the row of a group and a process is, or where it goes.
+pub fn place_of(rows: &[Counted], group: &Group, pid: &Pid) -> Result<usize, usize>
+    requires { Rises counted_cmp rows.now }
+    ensures bound { IfOk result (λ i. i < length rows.now) }
+    ensures found { IfOk result (HoldsAt (λ c. c.row ≡ row_in group.now pid.now) rows.now) }
+    ensures end { IfErr result (λ i. i ≤ length rows.now) }
+    ensures gap { IfErr result (IsGap (row_in group.now pid.now) rows.now) }
+{
+    rows.binary_search_by(|counted| order_of(&counted.row, group, pid))
+}
+
+/// How a row stands to the one of a group and a process.
+fn order_of(row: &Row, group: &Group, pid: &Pid) -> Ordering
+    ensures { result ≡ row_cmp row.now (row_in group.now pid.now) }
+{
+    row.group.cmp(group).then(row.pid.cmp(pid))
 }

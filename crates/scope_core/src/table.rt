@@ -8,7 +8,7 @@ ghost use Rattle.scope_core.specs.Calls.{Counts, is_any_joined, no_count, count_
 
 use crate::changes::{changes_of, in_order, one_change, rows_in};
 use crate::counted::Counted;
-use crate::edits::{add_all, remove_pid, take_away};
+use crate::edits::{add_all, remove_pid, take_all};
 use crate::fault::TableFault;
 use crate::part::Part;
 use crate::reads::{groups_of, in_group, is_any_joined, pids_of, rows_of, total_of};
@@ -22,16 +22,18 @@ pub struct ScopeTable {
     alloc: Global,
     own: NodeName,
     rows: Vec<Counted>,
+    /// How many rows the own processes have, repeats included.
+    own_rows: usize,
 }
 
 impl Model for ScopeTable {
-    ghost use Rattle.scope_core.specs.Table.{Table, IsKept};
+    ghost use Rattle.scope_core.specs.Table.{Table, IsHeld};
 
     ghost Value = { Table };
 
     ghost view = { λ table. record { own = table.own; rows = table.rows.items } };
 
-    ghost invariant = { λ table. IsKept table.rows.items };
+    ghost invariant = { λ table. IsHeld table.own table.own_rows table.rows.items };
 }
 
 impl ScopeTable {
@@ -47,6 +49,7 @@ impl ScopeTable {
             alloc,
             own,
             rows: Vec::new(alloc),
+            own_rows: 0,
         }
     }
 
@@ -63,8 +66,7 @@ impl ScopeTable {
         ensures limits { OnOk result (local_total self.old + length pids.now ≤ max_rows) }
         ensures same { OnErr result (self.new ≡ self.old) }
     {
-        let total = total_of(&self.rows, &self.own);
-        if pids.len() > ScopeTable::MAX_ROWS - total {
+        if pids.len() > ScopeTable::MAX_ROWS - self.own_rows {
             return Err(TableFault::RowsFull);
         }
         let fresh = rows_in(self.alloc, group, pids)?;
@@ -72,6 +74,7 @@ impl ScopeTable {
         let changes = one_change(self.alloc, group, Vec::new(self.alloc), sorted)?;
         self.rows.reserve(fresh.len())?;
         add_all(&mut self.rows, fresh);
+        self.own_rows += pids.len();
         Ok(changes)
     }
 
@@ -87,13 +90,13 @@ impl ScopeTable {
         ensures only { OnOk result (IsTrue (is_any_joined self.old group.now pids.now)) }
         ensures same { OnErr result (self.new ≡ self.old) }
     {
-        let members = in_group(&self.rows, group);
-        if !is_any_joined(members, pids) {
+        if !is_any_joined(&self.rows, group, pids) {
             return Err(TableFault::NotJoined);
         }
+        let members = in_group(&self.rows, group);
         let gone = pids_of(self.alloc, members, Part::Mentions(pids))?;
         let changes = one_change(self.alloc, group, gone, Vec::new(self.alloc))?;
-        take_away(&mut self.rows, group, Part::Mentions(pids));
+        self.own_rows -= take_all(&mut self.rows, group, pids, &self.own);
         Ok(changes)
     }
 
@@ -102,6 +105,7 @@ impl ScopeTable {
         ensures { Counts self.old self.new (count_after_exit self.old pid.now) }
     {
         remove_pid(&mut self.rows, pid);
+        self.own_rows = total_of(&self.rows, &self.own);
     }
 
     /// What `exit` will change.
@@ -118,6 +122,7 @@ impl ScopeTable {
         ensures { Counts self.old self.new no_count }
     {
         self.rows.clear();
+        self.own_rows = 0;
     }
 
     /// What `clear` will change.

@@ -1,9 +1,23 @@
 ghost use Rattle.std.specs.Prelude.{◌≡◌, IfOk, All, codes};
 
 use super::*;
-use dist_types::{Group, GroupChange, NodeName, OutOfMemory, Pid, TryClone};
+use dist_types::{Group, GroupChange, NodeName, Pid, Row, TryClone};
 use std::alloc::Global;
 use std::test::Fail;
+
+/// A table of b@h.
+#[derive(Drop)]
+struct Own {
+    table: ScopeTable,
+    ghost own: { table.own ≡ codes "b@h" },
+}
+
+/// Processes of b@h.
+#[derive(Drop)]
+struct Crowd {
+    list: Vec<Pid>,
+    ghost own: { All (λ pid. pid.node ≡ codes "b@h") list.items },
+}
 
 /// A process of b@h.
 fn process(alloc: Global, number: u64) -> Result<Pid, Fail>
@@ -18,308 +32,212 @@ fn process(alloc: Global, number: u64) -> Result<Pid, Fail>
 }
 
 /// A list that mentions a process again and again.
-fn mentions(alloc: Global, pid: &Pid, times: usize) -> Result<Vec<Pid>, OutOfMemory>
-    ensures { IfOk result (λ pids. All (λ p. p.node ≡ pid.now.node) pids.items) }
-{
-    let mut pids = Vec::new(alloc);
+fn mentions(alloc: Global, number: u64, times: usize) -> Result<Crowd, Fail> {
+    let pid = process(alloc, number)?;
+    let mut list = Vec::new(alloc);
     for _ in 0..times {
-        pids.push(pid.try_clone(alloc)?)?;
+        list.push(pid.try_clone(alloc)?)?;
     }
-    Ok(pids)
+    Ok(Crowd { list })
 }
 
-/// An empty table of b@h.
-fn empty(alloc: Global) -> Result<ScopeTable, Fail>
-    ensures { IfOk result (λ table. table.own ≡ codes "b@h") }
-{
-    let own = NodeName::parse(alloc, b"b@h")?;
-    Ok(ScopeTable::new(alloc, own))
+impl Own {
+    fn new(alloc: Global) -> Result<Own, Fail> {
+        let own = NodeName::parse(alloc, b"b@h")?;
+        let table = ScopeTable::new(alloc, own);
+        Ok(Own { table })
+    }
+
+    fn join(&mut self, group: &Group, pids: &Crowd) -> Result<usize, TableFault> {
+        let changes = self.table.join_local(group, &pids.list)?;
+        Ok(moved(&changes))
+    }
+
+    fn leave(&mut self, group: &Group, pids: &Crowd) -> Result<usize, TableFault> {
+        let changes = self.table.leave_local(group, &pids.list)?;
+        Ok(moved(&changes))
+    }
+
+    /// Joins, or leaves, and tells how many did, or why none did, and how many rows there are then.
+    fn step(
+        &mut self,
+        alloc: Global,
+        leaves: bool,
+        group: &[u8],
+        times: usize,
+    ) -> Result<(Result<usize, TableFault>, usize), Fail> {
+        let group = Group::parse(alloc, group)?;
+        let pids = mentions(alloc, 1, times)?;
+        let moved = if leaves {
+            self.leave(&group, &pids)
+        } else {
+            self.join(&group, &pids)
+        };
+        Ok((moved, self.table.local_rows()?.len()))
+    }
 }
 
-/// The first letter of each group that changed, and the number of each process that left or joined it.
-fn moved(alloc: Global, changes: &[GroupChange]) -> Result<Vec<(u8, u64)>, OutOfMemory> {
-    let mut moved = Vec::new(alloc);
+/// How many left or joined.
+fn moved(changes: &[GroupChange]) -> usize {
+    let mut moved = 0usize;
     for change in changes {
-        for pid in change.left.as_slice() {
-            moved.push((letter(&change.group), pid.number))?;
-        }
-        for pid in change.joined.as_slice() {
-            moved.push((letter(&change.group), pid.number))?;
-        }
+        moved = moved.saturating_add(change.left.as_slice().len());
+        moved = moved.saturating_add(change.joined.as_slice().len());
     }
-    Ok(moved)
-}
-
-fn letter(group: &Group) -> u8 {
-    group.as_bytes().first().copied().unwrap_or(0)
-}
-
-/// The first letter of the group and the number of the process of each own row.
-fn rows(alloc: Global, table: &ScopeTable) -> Result<Vec<(u8, u64)>, OutOfMemory> {
-    let mut rows = Vec::new(alloc);
-    for row in &table.local_rows()? {
-        rows.push((letter(&row.group), row.pid.number))?;
-    }
-    Ok(rows)
-}
-
-fn join(
-    alloc: Global,
-    table: &mut ScopeTable,
-    group: &Group,
-    pid: &Pid,
-    times: usize,
-) -> Result<Vec<GroupChange>, TableFault>
-    requires own { table.old.own ≡ codes "b@h" }
-    requires pid { pid.now.node ≡ codes "b@h" }
-    ensures { table.new.own ≡ codes "b@h" }
-{
-    let pids = mentions(alloc, pid, times)?;
-    table.join_local(group, &pids)
-}
-
-fn leave(
-    alloc: Global,
-    table: &mut ScopeTable,
-    group: &Group,
-    pid: &Pid,
-    times: usize,
-) -> Result<Vec<GroupChange>, TableFault>
-    requires { table.old.own ≡ codes "b@h" }
-    ensures { table.new.own ≡ codes "b@h" }
-{
-    let pids = mentions(alloc, pid, times)?;
-    table.leave_local(group, &pids)
-}
-
-/// A call whose list mentions process 1 again and again, and how many then move.
-#[derive(Clone, Copy)]
-struct Case {
-    leaves: bool,
-    group: &'static [u8],
-    times: usize,
-    moves: Result<usize, TableFault>,
-    rows: usize,
-}
-
-fn count(
-    alloc: Global,
-    table: &mut ScopeTable,
-    case: &Case,
-) -> Result<Result<usize, TableFault>, Fail>
-    requires { table.old.own ≡ codes "b@h" }
-    ensures { table.new.own ≡ codes "b@h" }
-{
-    let group = Group::parse(alloc, case.group)?;
-    let pid = process(alloc, 1)?;
-    let changes = if case.leaves {
-        leave(alloc, table, &group, &pid, case.times)
-    } else {
-        join(alloc, table, &group, &pid, case.times)
-    };
-    match changes {
-        Ok(changes) => Ok(Ok(moved(alloc, &changes)?.len())),
-        Err(fault) => Ok(Err(fault)),
-    }
+    moved
 }
 
 #[test]
-fn counts_own_rows_up_to_4096(rt: HostRuntime) -> Result<(), Fail> {
-    let cases = [
-        Case {
-            leaves: false,
-            group: b"g",
-            times: 2,
-            moves: Ok(2),
-            rows: 2,
-        },
-        Case {
-            leaves: true,
-            group: b"g",
-            times: 3,
-            moves: Ok(2),
-            rows: 0,
-        },
-        Case {
-            leaves: true,
-            group: b"g",
-            times: 1,
-            moves: Err(TableFault::NotJoined),
-            rows: 0,
-        },
-        Case {
-            leaves: true,
-            group: b"g",
-            times: 0,
-            moves: Err(TableFault::NotJoined),
-            rows: 0,
-        },
-        Case {
-            leaves: false,
-            group: b"g",
-            times: 0,
-            moves: Ok(0),
-            rows: 0,
-        },
-        Case {
-            leaves: false,
-            group: b"g",
-            times: 4095,
-            moves: Ok(4095),
-            rows: 4095,
-        },
-        Case {
-            leaves: false,
-            group: b"g",
-            times: 2,
-            moves: Err(TableFault::RowsFull),
-            rows: 4095,
-        },
-        Case {
-            leaves: false,
-            group: b"h",
-            times: 1,
-            moves: Ok(1),
-            rows: 4096,
-        },
-        Case {
-            leaves: false,
-            group: b"g",
-            times: 1,
-            moves: Err(TableFault::RowsFull),
-            rows: 4096,
-        },
-        Case {
-            leaves: false,
-            group: b"g",
-            times: 0,
-            moves: Ok(0),
-            rows: 4096,
-        },
-    ];
-    let mut table = empty(rt.alloc())?;
-    for (row, case) in cases.iter().enumerate() {
+fn counts_each_mention(rt: HostRuntime) -> Result<(), Fail> {
+    let mut own = Own::new(rt.alloc())?;
+    for (row, (leaves, times, moved, rows)) in [
+        (false, 2, Ok(2), 2),
+        (true, 3, Ok(2), 0),
+        (true, 1, Err(TableFault::NotJoined), 0),
+        (true, 0, Err(TableFault::NotJoined), 0),
+        (false, 0, Ok(0), 0),
+    ]
+    .into_iter()
+    .enumerate()
+    {
         assert_eq!(rt;
-            count(rt.alloc(), &mut table, case)?,
-            case.moves,
-            "moves of case {row}"
-        );
-        assert_eq!(rt;
-            rows(rt.alloc(), &table)?.len(),
-            case.rows,
-            "rows after case {row}"
+            own.step(rt.alloc(), leaves, b"g", times)?,
+            (moved, rows),
+            "at {row}"
         );
     }
     Ok(())
 }
 
-/// A table with the processes 2 and 1 in h, and process 1 twice in g.
-fn filled(alloc: Global) -> Result<ScopeTable, Fail>
-    ensures { IfOk result (λ table. table.own ≡ codes "b@h") }
-{
-    let mut table = empty(alloc)?;
-    join(
-        alloc,
-        &mut table,
-        &Group::parse(alloc, b"h")?,
-        &process(alloc, 2)?,
-        1,
-    )?;
-    join(
-        alloc,
-        &mut table,
-        &Group::parse(alloc, b"h")?,
-        &process(alloc, 1)?,
-        1,
-    )?;
-    join(
-        alloc,
-        &mut table,
-        &Group::parse(alloc, b"g")?,
-        &process(alloc, 1)?,
-        2,
-    )?;
-    Ok(table)
-}
-
-fn letters(alloc: Global, groups: &[Group]) -> Result<Vec<u8>, OutOfMemory> {
-    let mut letters = Vec::new(alloc);
-    for group in groups {
-        letters.push(letter(group))?;
+#[test]
+fn counts_own_rows_up_to_4096(rt: HostRuntime) -> Result<(), Fail> {
+    let mut own = Own::new(rt.alloc())?;
+    for (row, (group, times, moved, rows)) in [
+        (b"g", 4095, Ok(4095), 4095),
+        (b"g", 2, Err(TableFault::RowsFull), 4095),
+        (b"h", 1, Ok(1), 4096),
+        (b"g", 1, Err(TableFault::RowsFull), 4096),
+        (b"g", 0, Ok(0), 4096),
+    ]
+    .into_iter()
+    .enumerate()
+    {
+        assert_eq!(rt;
+            own.step(rt.alloc(), false, group, times)?,
+            (moved, rows),
+            "at {row}"
+        );
     }
-    Ok(letters)
+    Ok(())
 }
 
-fn numbers(alloc: Global, pids: &[Pid]) -> Result<Vec<u64>, OutOfMemory> {
-    let mut numbers = Vec::new(alloc);
+/// A table with the processes 2 and 1 in group 2, and process 1 twice in group 1.
+fn filled(alloc: Global) -> Result<Own, Fail> {
+    let mut own = Own::new(alloc)?;
+    own.join(&Group::parse(alloc, b"2")?, &mentions(alloc, 2, 1)?)?;
+    own.join(&Group::parse(alloc, b"2")?, &mentions(alloc, 1, 1)?)?;
+    own.join(&Group::parse(alloc, b"1")?, &mentions(alloc, 1, 2)?)?;
+    Ok(own)
+}
+
+/// A digit behind others.
+fn then(digits: u64, digit: u64) -> u64 {
+    digits.wrapping_mul(10).wrapping_add(digit)
+}
+
+/// The number that is a group's first byte.
+fn digit(group: &Group) -> u64 {
+    group
+        .as_bytes()
+        .first()
+        .copied()
+        .unwrap_or(0)
+        .wrapping_sub(b'0') as u64
+}
+
+/// The numbers of the processes, as digits.
+fn pids(pids: &[Pid]) -> u64 {
+    let mut digits = 0;
     for pid in pids {
-        numbers.push(pid.number)?;
+        digits = then(digits, pid.number);
     }
-    Ok(numbers)
+    digits
+}
+
+/// The groups, as digits.
+fn groups(groups: &[Group]) -> u64 {
+    let mut digits = 0;
+    for group in groups {
+        digits = then(digits, digit(group));
+    }
+    digits
+}
+
+/// Group and process of each row, as digits.
+fn rows(rows: &[Row]) -> u64 {
+    let mut digits = 0;
+    for row in rows {
+        digits = then(then(digits, digit(&row.group)), row.pid.number);
+    }
+    digits
+}
+
+/// Each group, and the processes that left it, as digits.
+fn left(changes: &[GroupChange]) -> u64 {
+    let mut digits = 0;
+    for change in changes {
+        digits = then(digits, digit(&change.group));
+        for pid in change.left.as_slice() {
+            digits = then(digits, pid.number);
+        }
+    }
+    digits
 }
 
 #[test]
-fn answers_queries(rt: HostRuntime) -> Result<(), Fail> {
-    let alloc = rt.alloc();
-    let table = filled(alloc)?;
-    let group = Group::parse(alloc, b"h")?;
-    assert_eq!(rt;
-        numbers(alloc, &table.members(&group)?)?.as_slice(),
-        [1, 2].as_slice()
-    );
-    assert_eq!(rt;
-        numbers(alloc, &table.local_members(&group)?)?.as_slice(),
-        [1, 2].as_slice()
-    );
-    assert_eq!(rt;
-        letters(alloc, &table.groups()?)?.as_slice(),
-        b"gh".as_slice()
-    );
-    assert_eq!(rt;
-        letters(alloc, &table.local_groups()?)?.as_slice(),
-        b"gh".as_slice()
-    );
-    let all = [(b'g', 1), (b'g', 1), (b'h', 1), (b'h', 2)];
-    assert_eq!(rt; rows(alloc, &table)?.as_slice(), all.as_slice());
+fn lists_members(rt: HostRuntime) -> Result<(), Fail> {
+    let table = filled(rt.alloc())?.table;
+    let group = Group::parse(rt.alloc(), b"2")?;
+    assert_eq!(rt; pids(&table.members(&group)?), 12);
+    assert_eq!(rt; pids(&table.local_members(&group)?), 12);
+    Ok(())
+}
+
+#[test]
+fn lists_groups_and_rows(rt: HostRuntime) -> Result<(), Fail> {
+    let table = filled(rt.alloc())?.table;
+    assert_eq!(rt; groups(&table.groups()?), 12);
+    assert_eq!(rt; groups(&table.local_groups()?), 12);
+    assert_eq!(rt; rows(&table.local_rows()?), 11_11_21_22);
     Ok(())
 }
 
 #[test]
 fn tells_changes_beforehand(rt: HostRuntime) -> Result<(), Fail> {
-    let alloc = rt.alloc();
-    let mut table = filled(alloc)?;
-    let pid = process(alloc, 1)?;
-    let change = moved(alloc, &table.exit_change(&pid)?)?;
-    assert_eq!(rt;
-        change.as_slice(),
-        [(b'g', 1), (b'g', 1), (b'h', 1)].as_slice()
-    );
+    let mut table = filled(rt.alloc())?.table;
+    let pid = process(rt.alloc(), 1)?;
+    assert_eq!(rt; left(&table.exit_change(&pid)?), 111_21);
     table.exit(&pid);
-    let change = moved(alloc, &table.clear_change()?)?;
-    assert_eq!(rt; change.as_slice(), [(b'h', 2)].as_slice());
+    assert_eq!(rt; left(&table.clear_change()?), 22);
     table.clear();
-    assert!(rt; rows(alloc, &table)?.is_empty());
+    assert_eq!(rt; rows(&table.local_rows()?), 0);
     Ok(())
 }
 
 /// Where one growth is refused, the call is made again: `rt try --test --fail-alloc N`.
 #[test]
 fn keeps_rows_where_a_growth_is_refused(rt: HostRuntime) -> Result<(), Fail> {
-    let alloc = rt.alloc();
-    let mut table = filled(alloc)?;
-    let group = Group::parse(alloc, b"h")?;
-    let pid = process(alloc, 1)?;
-    if join(alloc, &mut table, &group, &pid, 1).is_err() {
-        let before = [(b'g', 1), (b'g', 1), (b'h', 1), (b'h', 2)];
-        assert_eq!(rt; rows(alloc, &table)?.as_slice(), before.as_slice());
-        join(alloc, &mut table, &group, &pid, 1)?;
+    let mut own = filled(rt.alloc())?;
+    let group = Group::parse(rt.alloc(), b"2")?;
+    let twice = mentions(rt.alloc(), 1, 2)?;
+    if own.join(&group, &twice).is_err() {
+        assert_eq!(rt; rows(&own.table.local_rows()?), 11_11_21_22);
+        own.join(&group, &twice)?;
     }
-    if leave(alloc, &mut table, &group, &pid, 2).is_err() {
-        let joined = [(b'g', 1), (b'g', 1), (b'h', 1), (b'h', 1), (b'h', 2)];
-        assert_eq!(rt; rows(alloc, &table)?.as_slice(), joined.as_slice());
-        leave(alloc, &mut table, &group, &pid, 2)?;
+    if own.leave(&group, &twice).is_err() {
+        assert_eq!(rt; rows(&own.table.local_rows()?), 11_11_21_21_21_22);
+        own.leave(&group, &twice)?;
     }
-    let after = [(b'g', 1), (b'g', 1), (b'h', 2)];
-    assert_eq!(rt; rows(alloc, &table)?.as_slice(), after.as_slice());
+    assert_eq!(rt; rows(&own.table.local_rows()?), 11_11_21_22);
     Ok(())
 }

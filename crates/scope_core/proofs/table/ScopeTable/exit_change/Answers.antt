@@ -20,4 +20,4 @@ returns-clause-change c =
     let q = c.args.pid.now in
     let cs = c.self.inside.rows.items in
     rw (c.in_ok-changes.ensures, c.deref.ensures.value, ← c.self.view_is)
-    (leaving_difference (of_process q) (process_part q) cs c.self.invariant.rises (λ g p. cond (same_pid p q) 0 (tally (is_row g p) cs)) (λ g p. less (same_pid p q) (tally (is_row g p) cs)) (λ g p. more (same_pid p q) (tally (is_row g p) cs)))
+    (leaving_difference (of_process q) (process_part q) cs c.self.invariant.kept.rises (λ g p. cond (same_pid p q) 0 (tally (is_row g p) cs)) (λ g p. less (same_pid p q) (tally (is_row g p) cs)) (λ g p. more (same_pid p q) (tally (is_row g p) cs)))

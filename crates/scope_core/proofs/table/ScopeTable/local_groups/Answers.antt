@@ -3,4 +3,4 @@ use Rattle.scope_core.proofs.Groups.{groups_listing}
 use Rattle.scope_core.proofs.table.ScopeTable.local_groups.Goals as goal
 
 pub returns : goal.returns
-returns c = rw (c.in_ok-groups.ensures, c.deref.ensures.value, ← c.self.view_is) (groups_listing (of_node c.self.inside.own) (node_part c.self.inside.own) c.self.inside.rows.items c.self.invariant.rises)
+returns c = rw (c.in_ok-groups.ensures, c.deref.ensures.value, ← c.self.view_is) (groups_listing (of_node c.self.inside.own) (node_part c.self.inside.own) c.self.inside.rows.items c.self.invariant.kept.rises)

@@ -1,0 +1,83 @@
+-- Where a row is among rows that rise, and what is counted there.
+use Rattle.std.specs.Prelude.{◌≡◌, ℕ, zero, suc, ◌+◌, ◌<◌, ◌≤◌, Bool, true, false, cond, nat_lt, List, [], ◌∷◌, length, Result, Ok, Err, IfOk, IfErr, is_ok}
+use Rattle.std.proofs.Common.{refl, ap, ◌∙◌, sym, arith, get_or, add-one}
+use Rattle.std.specs.declared.cmp.Ordering.TheVariants.{Less, Equal, Greater}
+use Rattle.std.specs.Ordering.{is_lt, ordering_reverse, ordering_index}
+use Rattle.std.specs.List.{HoldsAt, AllByRecursion}
+use Rattle.std.specs.List.Sorted.{IsBinarySearchResult, IsSortedBy, IsNonDecreasingBy}
+use Rattle.std.proofs.lemmas.Bool.{lt-ltb, ltb-true, and_from}
+use Rattle.std.proofs.lemmas.Cmp.{tied_itself}
+use Rattle.std.proofs.lemmas.List.Sorted.{searchable_from_sorted}
+use Rattle.std.proofs.lemmas.List.Sums.{get_or-le-sum_by}
+use Rattle.dist_types.specs.declared.pid.Pid.{Pid}
+use Rattle.dist_types.specs.declared.row.Row.{Row}
+use Rattle.dist_types.specs.Order.{row_cmp}
+use Rattle.dist_types.specs.Listing.{Rises}
+use Rattle.scope_core.specs.declared.counted.Counted.{Counted}
+use Rattle.scope_core.specs.Table.{is_row, tally, counted_cmp}
+use Rattle.scope_core.specs.Added.{row_in, IsGap}
+use Rattle.dist_types.proofs.Orders.{rows_total, exact_rows, same_decides, same_pid_decides}
+use Rattle.dist_types.proofs.Totals.{total_is}
+use Rattle.dist_types.proofs.Sorts.{all_from}
+use Rattle.scope_core.proofs.Rising.{row_is}
+use Rattle.scope_core.proofs.Runs.{all_at}
+use Rattle.scope_core.proofs.Shares.{share_absent}
+
+-- rows that rise can be searched
+rising_next : (cs : List Counted) → Rises counted_cmp cs → (k : ℕ) (d : Counted) → suc k < length cs → is_lt (row_cmp (get_or cs (suc k) d).row (get_or cs k d).row) ≡ false
+rising_next [] r k d h = absurd (omega (arith, h))
+rising_next (c ∷ []) r k d h = absurd (omega (arith, h))
+rising_next (c ∷ x ∷ xs) r zero d h = ap is_lt (rows_total.antisymm x.row c.row ∙ ap ordering_reverse r.0.0)
+rising_next (c ∷ x ∷ xs) r (suc k) d h = rising_next (x ∷ xs) r.1 k d (omega (arith, h))
+
+rising_sorted : (cs : List Counted) → Rises counted_cmp cs → IsSortedBy (λ c d. is_lt (row_cmp c.row d.row)) cs
+rising_sorted cs r k d l h = ap (λ n. is_lt (row_cmp (get_or cs n d).row (get_or cs k d).row)) (add-one k) ∙ rising_next cs r k d (omega (arith, h))
+
+pub searchable : (cs : List Counted) (row : Row) → Rises counted_cmp cs → IsNonDecreasingBy (λ c. ordering_index (row_cmp c.row row)) cs
+searchable cs row r = searchable_from_sorted rows_total (λ (c : Counted). c.row) cs row (rising_sorted cs r)
+
+pub found_is : (cs : List Counted) (row : Row) (r : Result ℕ ℕ) → IsBinarySearchResult (λ c. row_cmp c.row row) cs r → IfOk r (HoldsAt (λ c. c.row ≡ row) cs)
+found_is cs row (Ok i) h = λ d. exact_rows (get_or cs i d).row row (h d)
+found_is cs row (Err i) h = tt
+
+pub gap_is : (cs : List Counted) (row : Row) (r : Result ℕ ℕ) → Rises counted_cmp cs → IsBinarySearchResult (λ c. row_cmp c.row row) cs r → IfErr r (IsGap row cs)
+gap_is cs row (Ok i) r h = tt
+gap_is cs row (Err i) r h = h (searchable cs row r)
+
+-- the row of g and p is that of g and p
+itself : (g : List ℕ) (p : Pid) → is_row g p (row_in g p) ≡ true
+itself g p = and_from _ _ ((same_decides g g).1 refl) ((same_pid_decides p p).1 refl)
+
+other : (g : List ℕ) (p : Pid) (r : Row) → (row_cmp r (row_in g p) ≡ Equal → ⊥) → is_row g p r ≡ false
+other g p r n = elim (is_row g p r) as (λ v. is_row g p r ≡ v → v ≡ false) [
+  | true ↦ λ e.
+      let x = row_is g p r e in
+      let s : r ≡ row_in g p = λ i. record { group = x.0 i; pid = x.1 i } in
+      absurd (n (ap (λ z. row_cmp z (row_in g p)) s ∙ tied_itself rows_total (row_in g p)))
+  | false ↦ λ e. refl
+] refl
+
+-- where there is a gap in the place of a row, it isn't counted
+pub absent : (cs : List Counted) (g : List ℕ) (p : Pid) (i : ℕ) → i ≤ length cs → IsGap (row_in g p) cs i → tally (is_row g p) cs ≡ 0
+absent cs g p i l gap = share_absent (λ c. c.count) g p cs (all_from (λ c. is_row g p c.row ≡ false) cs (λ k d m h.
+    other g p (get_or cs k d).row (λ e.
+    elim (nat_lt k i) as (λ v. nat_lt k i ≡ v → ⊥) [
+      | true ↦ λ b. let f : Less ≡ Equal = sym (gap.0 k d (omega arith) (ltb-true k i b)) ∙ e in cc
+      | false ↦ λ b. let f : Greater ≡ Equal = sym (gap.1 k d (grind (arith, b)) h) ∙ e in cc
+    ] refl)))
+
+-- where a row stands, it is counted
+pub present : (cs : List Counted) (g : List ℕ) (p : Pid) (i : ℕ) → i < length cs → AllByRecursion (λ c. 0 < c.count) cs → HoldsAt (λ c. c.row ≡ row_in g p) cs i → 0 < tally (is_row g p) cs
+present cs g p i l counted at =
+    let d : Counted = record { row = row_in g p; count = 0 } in
+    let f = λ (c : Counted). cond (is_row g p c.row) c.count 0 in
+    let some = all_at (λ c. 0 < c.count) cs i d counted l in
+    let is : f (get_or cs i d) ≡ (get_or cs i d).count = ap (λ b. cond b (get_or cs i d).count 0) (ap (is_row g p) (at d) ∙ itself g p) in
+    let le = get_or-le-sum_by f cs i d l in
+    let whole = total_is f cs in
+    omega (arith, some, is, le, whole)
+
+pub joined_is : (cs : List Counted) (g : List ℕ) (p : Pid) (r : Result ℕ ℕ) → AllByRecursion (λ c. 0 < c.count) cs
+    → IfOk r (λ i. i < length cs) → IfOk r (HoldsAt (λ c. c.row ≡ row_in g p) cs) → IfErr r (λ i. i ≤ length cs) → IfErr r (IsGap (row_in g p) cs) → is_ok r ≡ nat_lt 0 (tally (is_row g p) cs)
+joined_is cs g p (Ok i) counted bound found end gap = sym (lt-ltb 0 (tally (is_row g p) cs) (present cs g p i bound counted found))
+joined_is cs g p (Err i) counted bound found end gap = sym (ap (nat_lt 0) (absent cs g p i end gap))
