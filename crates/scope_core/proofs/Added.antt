@@ -1,13 +1,11 @@
 -- One more of a row.
-use Rattle.std.specs.Prelude.{◌≡◌, ℕ, zero, suc, ◌+◌, ◌<◌, ◌≤◌, Bool, true, false, cond, List, [], ◌∷◌, ◌++◌, length, Result, Ok, Err, IfOk, IfErr, IsOk, is_ok}
-use Rattle.std.proofs.Common.{refl, ap, ◌∙◌, sym, subst, arith, get_or, add-one}
+use Rattle.std.specs.Prelude.{◌≡◌, ℕ, zero, suc, ◌+◌, ◌<◌, ◌≤◌, Bool, true, false, cond, List, [], ◌∷◌, ◌++◌, length, Result, Ok, Err, IsOk, is_ok}
+use Rattle.std.proofs.Common.{refl, ap, ◌∙◌, sym, subst, arith, get_or}
 use Rattle.std.proofs.Math.ListN.{set}
 use Rattle.std.proofs.lemmas.List.{get_or_default}
-use Rattle.std.specs.declared.cmp.Ordering.TheVariants.{Less, Greater}
-use Rattle.std.specs.Ordering.{is_lt, ordering_reverse, ordering_index}
-use Rattle.std.specs.List.{insert, HoldsAt, AllByRecursion}
-use Rattle.std.specs.List.Sorted.{IsBinarySearchResult, IsPartitionPoint, IsSortedBy, IsNonDecreasingBy}
-use Rattle.std.proofs.lemmas.List.Sorted.{searchable_from_sorted}
+use Rattle.std.specs.declared.cmp.Ordering.TheVariants.{Less}
+use Rattle.std.specs.Ordering.{ordering_reverse}
+use Rattle.std.specs.List.{insert, AllByRecursion}
 use Rattle.std.proofs.lemmas.List.Sums.{sum_by-insert, sum_by-set, get_or-le-sum_by}
 use Rattle.dist_types.specs.declared.row.Row.{Row}
 use Rattle.dist_types.specs.Order.{row_cmp}
@@ -15,7 +13,7 @@ use Rattle.scope_core.specs.declared.counted.Counted.{Counted}
 use Rattle.dist_types.specs.Listing.{how_many, Rises}
 use Rattle.scope_core.specs.Table.{is_of_node, counted_cmp, IsKept}
 use Rattle.scope_core.specs.Added.{Adds, HasRoomFor, IsGap}
-use Rattle.dist_types.proofs.Orders.{rows_total, exact_rows, same_decides}
+use Rattle.dist_types.proofs.Orders.{rows_total, same_decides}
 use Rattle.dist_types.proofs.Totals.{total_is, how_many_append}
 use Rattle.dist_types.proofs.Sorts.{all_from}
 use Rattle.scope_core.proofs.Runs.{all_at}

@@ -1,11 +1,10 @@
 -- One less for each mention, as far as it goes: what really left.
-use Rattle.std.specs.Prelude.{◌≡◌, ℕ, ◌+◌, ◌-◌, ◌<◌, Bool, true, false, cond, ◌&&◌, ◌||◌, nat_lt, min, map, List, [], ◌∷◌}
+use Rattle.std.specs.Prelude.{◌≡◌, ℕ, ◌-◌, true, false, cond, List, []}
 use Rattle.std.proofs.Common.{refl, ap, ◌∙◌, sym, arith}
-use Rattle.std.specs.List.{filter, list_any, AllByRecursion}
-use Rattle.std.proofs.lemmas.Bool.{lt-ltb}
+use Rattle.std.specs.List.{filter}
 use Rattle.dist_types.specs.declared.pid.Pid.{Pid}
 use Rattle.scope_core.specs.declared.counted.Counted.{Counted}
-use Rattle.dist_types.specs.Listing.{same, same_pid, mentions, Rises, spread}
+use Rattle.dist_types.specs.Listing.{same, mentions, Rises, spread}
 use Rattle.dist_types.specs.Difference.{IsDifference, change_unless_empty}
 use Rattle.scope_core.specs.Table.{is_row, tally, counted_cmp}
 use Rattle.scope_core.specs.Listed.{is_in}

@@ -9,7 +9,7 @@ use Rattle.std.proofs.lemmas.List.Sums.{sum_by-remove, sum_by-set}
 use Rattle.dist_types.specs.declared.pid.Pid.{Pid}
 use Rattle.dist_types.specs.declared.row.Row.{Row}
 use Rattle.scope_core.specs.declared.counted.Counted.{Counted}
-use Rattle.dist_types.specs.Listing.{how_many, same, same_pid, mentions, Rises}
+use Rattle.dist_types.specs.Listing.{same, same_pid, mentions, Rises}
 use Rattle.scope_core.specs.Table.{tally, is_row, is_of_node, counted_cmp, IsKept}
 use Rattle.scope_core.specs.Added.{row_in, Adds, Takes}
 use Rattle.dist_types.proofs.Orders.{same_decides, same_sym, same_pid_decides}

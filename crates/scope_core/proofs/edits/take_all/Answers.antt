@@ -1,6 +1,4 @@
-use Rattle.std.proofs.Common.{◌≡◌, rules, arith, ap, ◌∙◌, refl}
-use Rattle.std.specs.Prelude.{ℕ, Bool, true, false, cond, ◌&&◌, ◌+◌}
-use Rattle.dist_types.specs.Listing.{same}
+use Rattle.std.proofs.Common.{rules, arith}
 use Rattle.scope_core.proofs.Lessened.{taken_counts, taken_total}
 use Rattle.scope_core.proofs.edits.take_all.Goals as goal
 
