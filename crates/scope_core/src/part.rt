@@ -19,7 +19,8 @@ pub enum Part<'a> {
     Mentions(&'a [Pid]),
 }
 
-/// How many of a row's count belong to the part.
+/// How many of a row's count belong to the part. Each walk over the rows asks it once a row, so it is part of the walk.
+#[inline(always)]
 pub fn times(part: Part<'_>, counted: &Counted) -> u32
     ensures { result ≡ times_of part.entry counted.now }
 {
