@@ -9,4 +9,3 @@ pub mod Places
 pub mod Added
 pub mod Lessened
 pub mod Joined
-pub mod OwnName
