@@ -16,7 +16,7 @@ use Rattle.policy_audit.specs.Own.{is_running, is_local, joined, own}
 use Rattle.policy_audit.specs.Sides.{present_link, is_whole, is_visible}
 use Rattle.policy_audit.specs.Hearing.{Talk, Said, message_taken, talk_of, talk_at, talk_in, talk, heard, rows_of, stated_in, stated}
 use Rattle.policy_audit.specs.Listed.{is_from, listed_by, listed}
-use Rattle.policy_audit.specs.Contents.{row, rows_in, rows_named, groups_named, pids_named}
+use Rattle.policy_audit.specs.Contents.{row, rows_brought, rows_named, groups_named, pids_named}
 
 -- ---- lists
 
@@ -88,11 +88,11 @@ module _ (s g : List ℕ) (p : Pid) where
   joined_named (event.Leave t f ps ∷ es) h = elim (same t s && same f g) as (λ b. 0 < cond b (joined s g p es - mentions p ps) (joined s g p es) → named_in es ≡ true) [ true ↦ λ k. joined_named es (omega (arith, k)) | false ↦ λ k. joined_named es k ] h
   joined_named (event.Exit q ∷ es) h = joined_named es (some_unless (same_pid q p) (joined s g p es) h)
   joined_named (event.StartScope t ∷ es) h = joined_named es (some_unless (same t s) (joined s g p es) h)
-  joined_named (event.Frame l body ∷ es) h = any_behind (λ r. same_row r (row g p)) (rows_in s (message_taken body)) (flat_map (rows_named s) es) (joined_named es h)
+  joined_named (event.Frame l body ∷ es) h = any_behind (λ r. same_row r (row g p)) (rows_brought s (message_taken body)) (flat_map (rows_named s) es) (joined_named es h)
   joined_named (e ∷ es) h = joined_named es h
 
   -- what a message brings, before what was said
-  said_named : (m : Message) (ts : List Talk) (rest : List Row) → (0 < stated_in s g p ts → has rest ≡ true) → 0 < stated_in s g p (Said m ∷ ts) → has (rows_in s (Some m) ++ rest) ≡ true
+  said_named : (m : Message) (ts : List Talk) (rest : List Row) → (0 < stated_in s g p ts → has rest ≡ true) → 0 < stated_in s g p (Said m ∷ ts) → has (rows_brought s (Some m) ++ rest) ≡ true
   said_named (said.Discover t) ts rest others h = others h
   said_named (said.Down t) ts rest others h = others (some_unless (same t s) (stated_in s g p ts) h)
   said_named (said.Sync t rows) ts rest others h =
@@ -114,8 +114,8 @@ module _ (s g : List ℕ) (p : Pid) where
   stated_named l (m ∷ ms) h = by_event m.event (stated_named l ms) h
     where
       by_frame : (b : Bool) (x : Option Message) → (0 < stated_in s g p (talk_in l ms) → has (flat_map (rows_named s) (map (λ n. n.event) ms)) ≡ true)
-          → 0 < stated_in s g p (cond b (talk_of x) [] ++ talk_in l ms) → has (rows_in s x ++ flat_map (rows_named s) (map (λ n. n.event) ms)) ≡ true
-      by_frame false x others k = any_behind (λ r. same_row r (row g p)) (rows_in s x) (flat_map (rows_named s) (map (λ n. n.event) ms)) (others k)
+          → 0 < stated_in s g p (cond b (talk_of x) [] ++ talk_in l ms) → has (rows_brought s x ++ flat_map (rows_named s) (map (λ n. n.event) ms)) ≡ true
+      by_frame false x others k = any_behind (λ r. same_row r (row g p)) (rows_brought s x) (flat_map (rows_named s) (map (λ n. n.event) ms)) (others k)
       by_frame true None others k = others k
       by_frame true (Some y) others k = said_named y (talk_in l ms) (flat_map (rows_named s) (map (λ n. n.event) ms)) others k
 

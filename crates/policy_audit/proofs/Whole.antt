@@ -43,7 +43,7 @@ module _ (o : Opening) (l : ℕ) (es : List Entry) where
     reply = r;
     later = ts;
     peer = n.0;
-    given = p.0;
+    replied = p.0;
     before = bo;
     opened = op;
     frames = fr;
@@ -59,7 +59,7 @@ module _ (o : Opening) (l : ℕ) (es : List Entry) where
     reply = r;
     later = ts;
     peer = n.0;
-    given = p.1.0;
+    replied = p.1.0;
     before = bo;
     opened = op;
     frames = fr;
@@ -81,7 +81,7 @@ module _ (o : Opening) (l : ℕ) (es : List Entry) where
     later = ts;
     said = p.1.0.0;
     hello = p.1.1.0;
-    given = p.1.2.0;
+    acked = p.1.2.0;
     before = bo;
     opened = op;
     frames = fr;

@@ -26,7 +26,7 @@ use Rattle.policy_audit.specs.Hearing.{Talk, hears, message_taken, talk, talk_of
 use Rattle.policy_audit.specs.Listed.{is_from, listed_by, listed}
 use Rattle.policy_audit.specs.Checks.{checks}
 use Rattle.policy_audit.specs.Policy.{IsLegalIn, IsNext, verdict, with_entry, up_answer}
-use Rattle.policy_audit.specs.Effects.{is_replaced, is_about, may_change}
+use Rattle.policy_audit.specs.Effects.{is_replaced, is_about_rows, may_change}
 use Rattle.policy_audit.proofs.Accepted.{lie, accepted, all_hold, peer_by}
 use Rattle.policy_audit.proofs.Walked.{but, frame_fits}
 use Rattle.policy_audit.proofs.Finished.{whole_by, given_by, stays, kept, given_kept, Completed}
@@ -225,7 +225,7 @@ module _ (o : Opening) (es : List Entry) (legal : IsLegalIn o es) (e : Entry) (n
     fr r = but e (event.Frame k body) (Accepted r)
 
     -- a message about another scope
-    elsewhere_sync : (x : Option Message) (ts : List Talk) → is_about s x ≡ false → has_sync s (talk_of x ++ ts) ≡ has_sync s ts
+    elsewhere_sync : (x : Option Message) (ts : List Talk) → is_about_rows s x ≡ false → has_sync s (talk_of x ++ ts) ≡ has_sync s ts
     elsewhere_sync None ts q = refl
     elsewhere_sync (Some (said.Discover t)) ts q = refl
     elsewhere_sync (Some (said.Join t rows)) ts q = refl
@@ -233,7 +233,7 @@ module _ (o : Opening) (es : List Entry) (legal : IsLegalIn o es) (e : Entry) (n
     elsewhere_sync (Some (said.Sync t rows)) ts q = ap (λ b. unwrap_or (elim (cond {A = Option Bool} b (Some true) None) as (λ _. Option Bool) [ Some y ↦ Some y | None ↦ first_of (hears s) ts ]) false) q
     elsewhere_sync (Some (said.Down t)) ts q = ap (λ b. unwrap_or (elim (cond {A = Option Bool} b (Some false) None) as (λ _. Option Bool) [ Some y ↦ Some y | None ↦ first_of (hears s) ts ]) false) q
 
-    elsewhere_count : (x : Option Message) (ts : List Talk) → is_about s x ≡ false → stated_in s g p (talk_of x ++ ts) ≡ stated_in s g p ts
+    elsewhere_count : (x : Option Message) (ts : List Talk) → is_about_rows s x ≡ false → stated_in s g p (talk_of x ++ ts) ≡ stated_in s g p ts
     elsewhere_count None ts q = refl
     elsewhere_count (Some (said.Discover t)) ts q = refl
     elsewhere_count (Some (said.Join t rows)) ts q = ap (λ b. cond b (stated_in s g p ts + rows_of g p rows) (stated_in s g p ts)) q
@@ -242,7 +242,7 @@ module _ (o : Opening) (es : List Entry) (legal : IsLegalIn o es) (e : Entry) (n
     elsewhere_count (Some (said.Down t)) ts q = ap (λ b. cond b 0 (stated_in s g p ts)) q
 
     -- a frame that is not the last of a side
-    not_last : is_last (awaits k es) ≡ false → (is_whole k es && is_peer n k es && is_about s (message_taken body)) ≡ false → same_rows (fr reply.Done)
+    not_last : is_last (awaits k es) ≡ false → (is_whole k es && is_peer n k es && is_about_rows s (message_taken body)) ≡ false → same_rows (fr reply.Done)
     not_last q within = all_same o es (fr reply.Done) s g p refl refl refl (remote_same o es (fr reply.Done) s g p refl (λ l here. each l here (k == l) refl))
       where
         each : (l : ℕ) → present_link n es ≡ Some l → (b : Bool) → (k == l) ≡ b → listed_by (past o (fr reply.Done ∷ es)) s g p l ≡ listed_by (past o es) s g p l
@@ -255,7 +255,7 @@ module _ (o : Opening) (es : List Entry) (legal : IsLegalIn o es) (e : Entry) (n
         each l here true a =
             let whole = whole_of l here in
             let its : is_peer n l es ≡ true = ap (λ v. option_map_or (λ w. same w n) v false) (up_of l here).1 ∙ (same_decides n n).1 refl in
-            let about : is_about s (message_taken body) ≡ false = sym (ap (λ (v : Bool × Bool). v.0 && v.1 && is_about s (message_taken body)) (λ i. ((ap (λ j. is_whole j es) (eqb-true k l a) ∙ whole) i, (ap (λ j. is_peer n j es) (eqb-true k l a) ∙ its) i))) ∙ within in
+            let about : is_about_rows s (message_taken body) ≡ false = sym (ap (λ (v : Bool × Bool). v.0 && v.1 && is_about_rows s (message_taken body)) (λ i. ((ap (λ j. is_whole j es) (eqb-true k l a) ∙ whole) i, (ap (λ j. is_peer n j es) (eqb-true k l a) ∙ its) i))) ∙ within in
             let talks : talk l (fr reply.Done ∷ es) ≡ talk_of (message_taken body) ++ talk l es = ap (λ (v : Bool × Bool). cond (v.0 && v.1) (talk_of (message_taken body)) [] ++ talk l es) (λ i. (a i, whole i)) in
             link_lists o es (fr reply.Done) s g p l
             (ap (λ b. given_by (opened l es) (and_frame (taken l es) (cond b (Some (record { body = body; before = es })) None))) a ∙ given_kept (record { body = body; before = es }) (opened l es) (taken l es) whole)

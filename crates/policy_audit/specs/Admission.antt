@@ -37,6 +37,7 @@ cookie_peer own e = []
 abbrev pub cookie_peers : History → List (List ℕ)
 cookie_peers h = flat_map (cookie_peer h.opening.name) (events h.entries)
 
+-- the names that an event allows
 abbrev pub names_allowed : Event → List (List ℕ)
 names_allowed (event.Allow names) = names
 names_allowed e = []

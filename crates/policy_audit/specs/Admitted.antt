@@ -38,14 +38,14 @@ pub record IsLetIn (h : History) (l challenge : ℕ) : Type 0 where
   pub reply : Taken
   pub later : List Taken
   pub peer : Name
-  pub given : ReplyFrame
+  pub replied : ReplyFrame
   pub before : List Entry
   pub opened : opened l h.entries ≡ Some (record { start = ByPeer challenge; before = before })
   pub frames : taken l h.entries ≡ name ∷ (between ++ reply ∷ later)
   pub is_name : name_frame name.body ≡ Some peer
   pub is_confirmed : MatchBool (name_up peer.name name.before) (IsTrueStatus between) (between ≡ [])
-  pub is_reply : reply_frame reply.body ≡ Some given
-  pub is_digest : given.digest ≡ digest_of (cookie (at h reply.before) peer.name) challenge
+  pub is_reply : reply_frame reply.body ≡ Some replied
+  pub is_digest : replied.digest ≡ digest_of (cookie (at h reply.before) peer.name) challenge
   pub is_allowed : IsTrue (allowed (at h name.before) peer.name)
 
 -- Link l was dialled to this peer, with this challenge. Its accepted frames begin with a Status `ok`,
@@ -59,7 +59,7 @@ pub record IsReached (h : History) (l : ℕ) (peer : List ℕ) (challenge : ℕ)
   pub later : List Taken
   pub said : StatusWord
   pub hello : Challenge
-  pub given : AckFrame
+  pub acked : AckFrame
   pub before : List Entry
   pub opened : opened l h.entries ≡ Some (record { start = ByDial peer challenge; before = before })
   pub frames : taken l h.entries ≡ status ∷ asked ∷ ack ∷ later
@@ -67,8 +67,8 @@ pub record IsReached (h : History) (l : ℕ) (peer : List ℕ) (challenge : ℕ)
   pub is_welcome : IsTrue (goes_on said)
   pub is_challenge : challenge_frame asked.body ≡ Some hello
   pub is_named : hello.name ≡ peer
-  pub is_ack : ack_frame ack.body ≡ Some given
-  pub is_digest : given.digest ≡ digest_of (cookie (at h ack.before) peer) challenge
+  pub is_ack : ack_frame ack.body ≡ Some acked
+  pub is_digest : acked.digest ≡ digest_of (cookie (at h ack.before) peer) challenge
   pub is_allowed : IsTrue (allowed (at h before) peer)
 
 -- the handshake of link l is whole: it was let in, or it was reached

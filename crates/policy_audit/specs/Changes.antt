@@ -34,9 +34,11 @@ group_change h k s g =
     let named = pids_named s g (events_of h k) in
     change_unless_empty g (listing pid_cmp (λ p. listed h s g p - listed k s g p) named) (listing pid_cmp (λ p. listed k s g p - listed h s g p) named)
 
+-- the groups of s that changed between h and k, ascending
 abbrev pub scope_change : History → History → List ℕ → List GroupChange
 scope_change h k s = flat_map (group_change h k s) (ascending text_cmp (groups_named s (events_of h k)))
 
+-- the change of a scope, where a group changed
 abbrev pub if_some : List ℕ → List GroupChange → List Change
 if_some s [] = []
 if_some s (g ∷ gs) = record { scope = s; groups = g ∷ gs } ∷ []

@@ -48,6 +48,7 @@ first_broken (c ∷ cs) = cond c.broken (Some c.rule) (first_broken cs)
 abbrev pub always : Rule → List Check
 always r = unless false r ∷ []
 
+-- the scope runs here
 abbrev pub runs : History → List ℕ → Check
 runs h s = unless (is_running h s) rule.NoScope
 
@@ -61,15 +62,17 @@ kept_links h = how_many (is_kept h) (links h.entries)
 abbrev pub peer_rows : History → ℕ → List ℕ → ℕ
 peer_rows h l s = length (filter (λ p. is_peer p.node l h.entries) (flat_map (members h s) (groups h s)))
 
-abbrev pub has_room : History → Check
-has_room h = unless (nat_lt (kept_links h) 64) rule.LinksFull
+-- fewer than 64 links are kept
+abbrev pub has_link_room : History → Check
+has_link_room h = unless (nat_lt (kept_links h) 64) rule.LinksFull
 
 -- ---- frames of the handshake
 
--- the own dial to this peer goes first: it is unfinished, and the own name is the greater; but a link that is up goes before both
+-- no link of n is up, an own dial to it is unfinished, and the own name is the greater: then the own dial goes on
 abbrev pub is_simultaneous : History → List ℕ → Bool
 is_simultaneous h n = not (is_name_up n h.entries) && is_dialling n h.entries && is_gt (text_cmp h.opening.name n)
 
+-- a Name that came on a link
 abbrev pub name_checks : History → Name → List Check
 name_checks h f =
     unless (has_bit 24 f.flags) rule.NoHandshake23
@@ -92,6 +95,7 @@ status_checks up word.OkSimultaneous = []
 status_checks up word.Alive = unless (not up) rule.LinkUp ∷ []
 status_checks up w = always rule.PeerSaid
 
+-- a Challenge that came on the own dial l
 abbrev pub challenge_checks : History → ℕ → Challenge → List Check
 challenge_checks h l f =
     unless (has_bit 24 f.flags) rule.NoHandshake23
@@ -104,9 +108,11 @@ digest_checks h l digest = unless (bytes_eq digest (digest_for h l (own_challeng
 
 -- ---- messages
 
+-- every row's process is of the link's peer, with the creation that it gave there
 abbrev pub are_from : History → ℕ → List Row → Check
 are_from h l rows = unless (list_all (λ r. is_from l h.entries r.pid) rows) rule.ForeignPid
 
+-- the peer of link l is heard in s
 abbrev pub hears_in : History → ℕ → List ℕ → Check
 hears_in h l s = unless (heard l s h.entries) rule.NotHeard
 
@@ -114,15 +120,17 @@ hears_in h l s = unless (heard l s h.entries) rule.NotHeard
 abbrev pub are_listed : History → List ℕ → List Row → Check
 are_listed h s rows = unless (list_all (λ r. nat_le (rows_of r.group r.pid rows) (listed h s r.group r.pid)) rows) rule.NotListed
 
-abbrev pub shown : History → ℕ → Check
-shown h l = unless (is_visible h l) rule.HiddenLink
+-- the link is visible
+abbrev pub is_shown : History → ℕ → Check
+is_shown h l = unless (is_visible h l) rule.HiddenLink
 
+-- a message that came on link l, which is up
 abbrev pub message_checks : History → ℕ → Message → List Check
-message_checks h l (said.Discover s) = shown h l ∷ runs h s ∷ []
-message_checks h l (said.Sync s rows) = shown h l ∷ runs h s ∷ are_from h l rows ∷ []
-message_checks h l (said.Join s rows) = shown h l ∷ runs h s ∷ hears_in h l s ∷ are_from h l rows ∷ unless (nat_le (peer_rows h l s + length rows) 4096) rule.RowsFull ∷ []
-message_checks h l (said.Leave s rows) = shown h l ∷ runs h s ∷ hears_in h l s ∷ are_from h l rows ∷ are_listed h s rows ∷ []
-message_checks h l (said.Down s) = shown h l ∷ runs h s ∷ []
+message_checks h l (said.Discover s) = is_shown h l ∷ runs h s ∷ []
+message_checks h l (said.Sync s rows) = is_shown h l ∷ runs h s ∷ are_from h l rows ∷ []
+message_checks h l (said.Join s rows) = is_shown h l ∷ runs h s ∷ hears_in h l s ∷ are_from h l rows ∷ unless (nat_le (peer_rows h l s + length rows) 4096) rule.RowsFull ∷ []
+message_checks h l (said.Leave s rows) = is_shown h l ∷ runs h s ∷ hears_in h l s ∷ are_from h l rows ∷ are_listed h s rows ∷ []
+message_checks h l (said.Down s) = is_shown h l ∷ runs h s ∷ []
 
 -- ---- all events
 
@@ -140,15 +148,17 @@ frame_checks h l body AwaitChallenge = option_map_or (challenge_checks h l) (cha
 frame_checks h l body AwaitAck = option_map_or (λ f. digest_checks h l f.digest) (ack_frame body) (always rule.BadFrame)
 frame_checks h l body AwaitMessage = option_map_or (message_checks h l) (message_taken body) (always rule.BadFrame)
 
+-- a dial to n
 abbrev pub dial_checks : History → List ℕ → List Check
 dial_checks h n =
     unless (not (same n h.opening.name)) rule.OwnName
     ∷ unless (allowed h n) rule.NotAllowed
     ∷ unless (not (is_name_up n h.entries)) rule.LinkUp
     ∷ unless (not (is_dialling n h.entries)) rule.LinkPending
-    ∷ has_room h
+    ∷ has_link_room h
     ∷ []
 
+-- own processes that join g of s
 abbrev pub join_checks : History → List ℕ → List ℕ → List Pid → List Check
 join_checks h s g ps =
     runs h s
@@ -157,6 +167,7 @@ join_checks h s g ps =
     ∷ unless (nat_le (length (local_rows h s) + length ps) 4096) rule.RowsFull
     ∷ []
 
+-- own processes that leave g of s
 abbrev pub leave_checks : History → List ℕ → List ℕ → List Pid → List Check
 leave_checks h s g ps =
     runs h s
@@ -185,7 +196,7 @@ checks h seat (event.MonitorScope s) = runs h s ∷ []
 checks h seat (event.Demonitor k) = unless (is_some (monitor h seat k)) rule.NoMonitor ∷ []
 checks h seat (event.Updates k) = unless (is_some (monitor h seat k)) rule.NoMonitor ∷ []
 checks h seat (event.Dial n c) = dial_checks h n
-checks h seat (event.Opened c) = has_room h ∷ []
+checks h seat (event.Opened c) = has_link_room h ∷ []
 checks h seat (event.Lost l) = unless (is_kept h l) rule.NoSuchLink ∷ []
 checks h seat (event.Take l) = unless (is_kept h l) rule.NoSuchLink ∷ []
 checks h seat (event.Disconnect n) = unless (is_name_up n h.entries) rule.NoLinkTo ∷ []

@@ -16,18 +16,20 @@ use Rattle.policy_audit.specs.Own.{own}
 use Rattle.policy_audit.specs.Hearing.{message_taken}
 use Rattle.policy_audit.specs.Listed.{listed}
 
+-- the row of g and p
 abbrev pub row : List ℕ → Pid → Row
 row g p = record { group = g; pid = p }
 
-abbrev pub rows_in : List ℕ → Option Message → List Row
-rows_in s (Some (said.Sync t rows)) = cond (same t s) rows []
-rows_in s (Some (said.Join t rows)) = cond (same t s) rows []
-rows_in s m = []
+-- the rows of s that a message may bring
+abbrev pub rows_brought : List ℕ → Option Message → List Row
+rows_brought s (Some (said.Sync t rows)) = cond (same t s) rows []
+rows_brought s (Some (said.Join t rows)) = cond (same t s) rows []
+rows_brought s m = []
 
 -- the rows of s that an event may bring
 abbrev pub rows_named : List ℕ → Event → List Row
 rows_named s (event.Join t g ps) = cond (same t s) (map (row g) ps) []
-rows_named s (event.Frame l body) = rows_in s (message_taken body)
+rows_named s (event.Frame l body) = rows_brought s (message_taken body)
 rows_named s e = []
 
 -- the groups of s that these events name

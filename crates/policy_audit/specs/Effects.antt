@@ -37,14 +37,14 @@ leaves_rows e = not (is_accepted e.verdict) || is_quiet e.event
 abbrev pub is_replaced : List ℕ → List Entry → List Entry → Bool
 is_replaced n old new = option_map_or (λ l. not (option_map_or (λ k. k == l) (present_link n new) false)) (present_link n old) false
 
--- the message in the body of a frame is about s
-abbrev pub is_about : List ℕ → Option Message → Bool
-is_about s None = false
-is_about s (Some (said.Discover t)) = false
-is_about s (Some (said.Sync t rows)) = same t s
-is_about s (Some (said.Join t rows)) = same t s
-is_about s (Some (said.Leave t rows)) = same t s
-is_about s (Some (said.Down t)) = same t s
+-- the message in the body of a frame may change rows of s
+abbrev pub is_about_rows : List ℕ → Option Message → Bool
+is_about_rows s None = false
+is_about_rows s (Some (said.Discover t)) = false
+is_about_rows s (Some (said.Sync t rows)) = same t s
+is_about_rows s (Some (said.Join t rows)) = same t s
+is_about_rows s (Some (said.Leave t rows)) = same t s
+is_about_rows s (Some (said.Down t)) = same t s
 
 -- an accepted event may change how often p is listed in g of s: a Join and a Leave for those named, an Exit for that process, a
 -- stop for the scope, a restart for all, and a message for the processes of the link's peer, in its scope
@@ -54,7 +54,7 @@ concerns es s g p (event.StopScope t) = same t s
 concerns es s g p (event.Exit q) = same_pid q p
 concerns es s g p (event.Join t f ps) = same t s && same f g && stands_in same_pid p ps
 concerns es s g p (event.Leave t f ps) = same t s && same f g && stands_in same_pid p ps
-concerns es s g p (event.Frame k body) = is_whole k es && is_peer p.node k es && is_about s (message_taken body)
+concerns es s g p (event.Frame k body) = is_whole k es && is_peer p.node k es && is_about_rows s (message_taken body)
 concerns es s g p e = false
 
 -- an entry may change how often p is listed in g of s: its event concerns that, or the present link of p's node is replaced

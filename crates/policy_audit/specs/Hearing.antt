@@ -24,6 +24,7 @@ pub data Talk : Type 0 where
   Said : Message → Talk
   Stopped : List ℕ → Talk
 
+-- a message, if it is one
 abbrev pub talk_of : Option Message → List Talk
 talk_of None = []
 talk_of (Some m) = Said m ∷ []
@@ -34,6 +35,7 @@ talk_at l before (event.Frame k body) = cond (k == l && is_whole l before) (talk
 talk_at l before (event.StopScope s) = Stopped s ∷ []
 talk_at l before e = []
 
+-- what these moments add, the newest first
 abbrev pub talk_in : ℕ → List Moment → List Talk
 talk_in l ms = flat_map (λ m. talk_at l m.before m.event) ms
 
@@ -41,12 +43,14 @@ talk_in l ms = flat_map (λ m. talk_at l m.before m.event) ms
 abbrev pub talk : ℕ → List Entry → List Talk
 talk l es = talk_in l (present es)
 
+-- whether this makes the peer heard in s, or not heard
 abbrev pub hears : List ℕ → Talk → Option Bool
 hears s (Said (said.Sync t rows)) = cond (same t s) (Some true) None
 hears s (Said (said.Down t)) = cond (same t s) (Some false) None
 hears s (Stopped t) = cond (same t s) (Some false) None
 hears s t = None
 
+-- whether this makes the peer told in s, or not told
 abbrev pub tells : List ℕ → Talk → Option Bool
 tells s (Said (said.Discover t)) = cond (same t s) (Some true) None
 tells s (Said (said.Down t)) = cond (same t s) (Some false) None

@@ -17,10 +17,12 @@ pub record History : Type 0 where
 abbrev pub past : Opening → List Entry → History
 past opening entries = record { opening = opening; entries = entries }
 
+-- the verdict accepts the event
 abbrev pub is_accepted : Verdict → Bool
 is_accepted (Accepted reply) = true
 is_accepted (Refused rule) = false
 
+-- the event is a restart
 abbrev pub is_restart : Event → Bool
 is_restart event.Restart = true
 is_restart e = false

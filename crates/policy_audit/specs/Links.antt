@@ -17,6 +17,7 @@ use Rattle.policy_audit.specs.Sides.{Start, ByPeer, ByDial, start_of, opened, pe
 abbrev pub is_opened_by : ℕ → Entry → Bool
 is_opened_by l e = is_accepted e.verdict && is_some (start_of e.event) && e.number == l
 
+-- a dial to n
 abbrev pub is_dial_to : List ℕ → Start → Bool
 is_dial_to n (ByPeer c) = false
 is_dial_to n (ByDial m c) = same m n

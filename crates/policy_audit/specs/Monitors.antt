@@ -18,6 +18,7 @@ pub record Target : Type 0 where
   pub scope : List ℕ
   pub group : Option (List ℕ)
 
+-- what a Monitor or a MonitorScope watches
 abbrev pub watched : Event → Option Target
 watched (event.Monitor s g) = Some (record { scope = s; group = Some g })
 watched (event.MonitorScope s) = Some (record { scope = s; group = None })
@@ -32,6 +33,7 @@ monitor_after seat k m before =
       | _ ↦ cond (m.number == k && m.seat == seat) (watched m.event) before
     ]
 
+-- the seat's monitor k after these moments
 abbrev pub monitor_in : ℕ → ℕ → List Moment → Option Target
 monitor_in seat k [] = None
 monitor_in seat k (m ∷ ms) = monitor_after seat k m (monitor_in seat k ms)
@@ -45,6 +47,7 @@ monitor h seat k = monitor_in seat k (present h.entries)
 abbrev pub group_updates : GroupChange → List Update
 group_updates c = cond (is_empty c.left) [] (record { group = c.group; leave = true; pids = c.left } ∷ []) ++ cond (is_empty c.joined) [] (record { group = c.group; leave = false; pids = c.joined } ∷ [])
 
+-- a monitor of this group, or of all groups, watches the change
 abbrev pub is_watched : Option (List ℕ) → GroupChange → Bool
 is_watched None c = true
 is_watched (Some g) c = same c.group g
@@ -57,6 +60,7 @@ updates_of t changes = flat_map (λ c. cond (is_watched t.group c) (group_update
 abbrev pub is_fetch : ℕ → ℕ → Entry → Bool
 is_fetch seat k e = is_accepted e.verdict && (e.number == k || elim e.event [ event.Updates n ↦ n == k && e.seat == seat | _ ↦ false ])
 
+-- the updates of these entries since the last fetch, the oldest first
 abbrev pub updates_since : ℕ → ℕ → Target → List Entry → List Update
 updates_since seat k t [] = []
 updates_since seat k t (e ∷ es) = cond (is_fetch seat k e) [] (updates_since seat k t es ++ updates_of t e.change)

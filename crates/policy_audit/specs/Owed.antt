@@ -40,8 +40,9 @@ narrow body = record { wide = false; body = body }
 abbrev pub wide : Message → OutFrame
 wide m = record { wide = true; body = message_bytes m }
 
-abbrev pub status : StatusWord → OutFrame
-status w = narrow (status_bytes w)
+-- a status of the handshake
+abbrev pub status_frame : StatusWord → OutFrame
+status_frame w = narrow (status_bytes w)
 
 -- the challenge in the event that opened link l
 abbrev pub own_challenge : ℕ → List Entry → ℕ
@@ -51,26 +52,30 @@ own_challenge l es = option_map_or (λ o. challenge_in o.start) (opened l es) 0
 abbrev pub digest_for : History → ℕ → ℕ → List ℕ
 digest_for h l challenge = digest_of (option_map_or (cookie h) (peer_of l h.entries) []) challenge
 
-abbrev pub own_name : History → OutFrame
-own_name h = narrow (name_bytes (record { flags = own_flags h.opening.hidden; creation = creation h; name = h.opening.name }))
+-- the Name frame of this node
+abbrev pub own_name_frame : History → OutFrame
+own_name_frame h = narrow (name_bytes (record { flags = own_flags h.opening.hidden; creation = creation h; name = h.opening.name }))
 
+-- the Challenge frame of this node on link l
 abbrev pub own_challenge_frame : History → ℕ → OutFrame
 own_challenge_frame h l = narrow (challenge_bytes (record { flags = own_flags h.opening.hidden; challenge = own_challenge l h.entries; creation = creation h; name = h.opening.name }))
 
 -- a Name of this peer is owed `alive` where a link of it is up, `ok_simultaneous` where an own dial to it is unfinished, else `ok`
 abbrev pub welcome : History → ℕ → List ℕ → List OutFrame
 welcome h l n =
-    cond (is_name_up n h.entries) (status word.Alive ∷ [])
-    (cond (is_dialling n h.entries) (status word.OkSimultaneous ∷ own_challenge_frame h l ∷ []) (status word.Ok ∷ own_challenge_frame h l ∷ []))
+    cond (is_name_up n h.entries) (status_frame word.Alive ∷ [])
+    (cond (is_dialling n h.entries) (status_frame word.OkSimultaneous ∷ own_challenge_frame h l ∷ []) (status_frame word.Ok ∷ own_challenge_frame h l ∷ []))
 
 -- a visible link that becomes up is owed a Discover for each running scope
 abbrev pub discovers : History → ℕ → List OutFrame
 discovers h l = cond (is_visible h l) (map (λ s. wide (said.Discover s)) (running_scopes h)) []
 
+-- a status `alive` is owed `true`
 abbrev pub true_to : StatusWord → List OutFrame
-true_to word.Alive = status word.True ∷ []
+true_to word.Alive = status_frame word.True ∷ []
 true_to w = []
 
+-- a Discover is owed a Sync with all own rows, and then a Discover where the peer isn't heard; other messages are owed nothing
 abbrev pub message_owes : History → ℕ → Message → List OutFrame
 message_owes h l (said.Discover s) = wide (said.Sync s (local_rows h s)) ∷ cond (heard l s h.entries) [] (wide (said.Discover s) ∷ [])
 message_owes h l m = []
@@ -87,9 +92,9 @@ frame_owes h l body AwaitMessage = option_map_or (message_owes h l) (message_tak
 
 -- what is owed to a link for its refused frame
 abbrev pub refusal_owes : Rule → List OutFrame
-refusal_owes rule.NotAllowed = status word.NotAllowed ∷ []
-refusal_owes rule.Simultaneous = status word.Nok ∷ []
-refusal_owes rule.LinkUp = status word.False ∷ []
+refusal_owes rule.NotAllowed = status_frame word.NotAllowed ∷ []
+refusal_owes rule.Simultaneous = status_frame word.Nok ∷ []
+refusal_owes rule.LinkUp = status_frame word.False ∷ []
 refusal_owes r = []
 
 -- these rows, if there are any, to link l, if its peer is told in s
@@ -107,7 +112,7 @@ owed h l number (event.StopScope s) (Accepted r) = if_visible h l (said.Down s)
 owed h l number (event.Exit p) (Accepted r) = flat_map (λ s. if_told h l s (said.Leave s) (filter (λ w. same_pid w.pid p) (local_rows h s))) (running_scopes h)
 owed h l number (event.Join s g ps) (Accepted r) = if_told h l s (said.Join s) (map (row g) (listing pid_cmp (λ p. mentions p ps) ps))
 owed h l number (event.Leave s g ps) (Accepted r) = if_told h l s (said.Leave s) (map (row g) (listing pid_cmp (λ p. min (mentions p ps) (own h s g p)) ps))
-owed h l number (event.Dial n c) (Accepted r) = cond (number == l) (own_name h ∷ []) []
+owed h l number (event.Dial n c) (Accepted r) = cond (number == l) (own_name_frame h ∷ []) []
 owed h l number (event.Frame k body) (Accepted r) = cond (k == l) (frame_owes h l body (awaits l h.entries)) []
 owed h l number (event.Frame k body) (Refused r) = cond (k == l) (refusal_owes r) []
 owed h l number e v = []
@@ -123,6 +128,7 @@ clears l e = false
 abbrev pub drops : ℕ → List Entry → Verdict → Event → Bool
 drops l es v e = is_accepted v && (clears l e || (ends l es v e && is_open l es))
 
+-- the same, of an opening and entries
 abbrev pub waiting_in : Opening → ℕ → List Entry → List OutFrame
 waiting_in o l [] = []
 waiting_in o l (e ∷ es) = cond (drops l es e.verdict e.event) [] (waiting_in o l es ++ owed (past o es) l e.number e.event e.verdict)

@@ -19,6 +19,7 @@ starts s e = None
 abbrev pub is_running : History → List ℕ → Bool
 is_running h s = unwrap_or (first_of (starts s) (events h.entries)) false
 
+-- the scope that an event starts
 abbrev pub scopes_started : Event → List (List ℕ)
 scopes_started (event.StartScope s) = s ∷ []
 scopes_started e = []
@@ -27,14 +28,17 @@ scopes_started e = []
 abbrev pub running_scopes : History → List (List ℕ)
 running_scopes h = filter (is_running h) (ascending text_cmp (flat_map scopes_started (events h.entries)))
 
+-- a new process
 abbrev pub is_spawn : Event → Bool
 is_spawn event.Spawn = true
 is_spawn e = false
 
+-- the end of a process
 abbrev pub is_exit : Event → Bool
 is_exit (event.Exit p) = true
 is_exit e = false
 
+-- the end of p
 abbrev pub is_exit_of : Pid → Event → Bool
 is_exit_of p (event.Exit q) = same_pid q p
 is_exit_of p e = false

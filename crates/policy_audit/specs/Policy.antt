@@ -20,6 +20,7 @@ use Rattle.policy_audit.specs.Owed.{waiting}
 use Rattle.policy_audit.specs.Monitors.{updates}
 use Rattle.policy_audit.specs.Checks.{first_broken, checks}
 
+-- the number of the next entry
 abbrev pub next_number : History → ℕ
 next_number h = length h.entries + 1
 

@@ -47,6 +47,7 @@ pub record Opened : Type 0 where
   pub start : Start
   pub before : List Entry
 
+-- the start that an event makes
 abbrev pub start_of : Event → Option Start
 start_of (event.Opened challenge) = Some (ByPeer challenge)
 start_of (event.Dial peer challenge) = Some (ByDial peer challenge)
@@ -83,6 +84,7 @@ abbrev pub and_frame : List Taken → Option Taken → List Taken
 and_frame frames None = frames
 and_frame frames (Some frame) = frames ++ frame ∷ []
 
+-- the frames of link l among these moments, the oldest first
 abbrev pub taken_in : ℕ → List Moment → List Taken
 taken_in l [] = []
 taken_in l (m ∷ ms) = and_frame (taken_in l ms) (frame_of l m.before m.event)

@@ -1,4 +1,4 @@
--- When a link is open and up, read from the accepted events alone: no recorded answer is looked at.
+-- When a link is open and up, read from the events and whether each was accepted: no recorded answer is looked at.
 use Rattle.std.specs.Prelude.{ℕ, Bool, true, false, cond, ◌&&◌, ◌||◌, not, nat_le, ◌==◌, List, [], ◌∷◌, length, get_or}
 use Rattle.std.specs.List.{list_any}
 use Rattle.std.specs.Option.{option_map_or}
@@ -18,6 +18,7 @@ pub record Stage : Type 0 where
 
 -- The words below read a history whose links stand at these stages.
 
+-- what link l awaits
 abbrev pub awaits_at : (ℕ → Stage) → ℕ → List Entry → Awaited
 awaits_at at l es = option_map_or (λ o. get_or (whole_side o.start (at l).was_up) (length (taken l es)) AwaitMessage) (opened l es) AwaitMessage
 
@@ -25,6 +26,7 @@ awaits_at at l es = option_map_or (λ o. get_or (whole_side o.start (at l).was_u
 abbrev pub is_whole_at : (ℕ → Stage) → ℕ → List Entry → Bool
 is_whole_at at l es = option_map_or (λ o. nat_le (length (whole_side o.start (at l).was_up)) (length (taken l es))) (opened l es) false
 
+-- link l is open, with a whole side
 abbrev pub is_up_at : (ℕ → Stage) → ℕ → List Entry → Bool
 is_up_at at l es = (at l).is_open && is_whole_at at l es
 

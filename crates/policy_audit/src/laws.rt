@@ -34,7 +34,7 @@ pub fn one_link_up()
     ensures { (h : History) → IsLegal h → (n : List ℕ) (l : ℕ) → (present_link n h.entries ≡ Some l) ↔ (IsTrue (is_up l h.entries) × (peer_of l h.entries ≡ Some n)) }
 {}
 
-/// Which links are open and up follows from the accepted events alone: no recorded answer is needed.
+/// Which links are open and up follows from the events and whether each was accepted: no recorded answer is needed.
 /// And a link of a name is up there exactly where an open link of that peer was admitted.
 pub fn up_by_events()
     ensures up { (h : History) → IsLegal h → (l : ℕ) → is_up_at (stages h.entries) l h.entries ≡ is_up l h.entries }
