@@ -32,4 +32,12 @@ pub mod TruncatedName
 pub mod TwoLinksOfOnePeer
 pub mod WrongDigest
 pub mod WrongName
+pub mod VisibleReplacedByHidden
+pub mod StopAndStart
+pub mod StopTellsVisibleLinks
+pub mod OrderOfMessageRules
+pub mod HiddenNode
+pub mod ExitOverScopes
+pub mod EndedDialKeepsItsFrames
+pub mod RestartDropsFrames
 pub mod Shown

@@ -1,0 +1,31 @@
+-- A dial that ended by its own refused frame keeps its frames when its peer connects, computed from the policy.
+use Rattle.std.specs.Prelude.{◌≡◌, List, [], ◌∷◌, true, false, codes}
+use Rattle.std.proofs.Common.{refl}
+use Rattle.std.specs.Fmt.{digits}
+use Rattle.md5.specs.Md5.{md5, digest_bytes, hash_after, compress, rounds, block_words}
+use Rattle.handshake_frames.specs.Reading.{name_frame, challenge_frame, reply_frame, ack_frame, status_of}
+use Rattle.link_frames.specs.Reading.{message as read_message}
+use Rattle.policy_audit.specs.declared.event.Event.TheVariants as event
+use Rattle.policy_audit.specs.declared.reply.Reply.TheVariants as reply
+use Rattle.policy_audit.specs.declared.rule.Rule.TheVariants as rule
+use Rattle.policy_audit.specs.declared.entry.Verdict.TheVariants.{Accepted, Refused}
+use Rattle.policy_audit.proofs.Lines.{Line, by, begun, hex, frame, calls, judged}
+use Rattle.policy_audit.specs.Scripts.{verdicts}
+
+abbrev pub script : List Line
+script =
+    by 0 (event.Dial (codes "z@h") 9) (Accepted (reply.Link 1))
+    ∷ by 0 (event.Frame 1 (hex (codes "736e6f6b"))) (Refused rule.PeerSaid)
+    ∷ by 0 (event.Opened 123) (Accepted (reply.Link 3))
+    ∷ by 0 (event.Frame 3 (hex (codes "4e00000000010000010000000500037a4068"))) (Accepted reply.Done)
+    ∷ by 0 (event.Dial (codes "z@h") 5) (Accepted (reply.Link 5))
+    ∷ by 0 (event.Take 1) (Accepted (reply.Out (frame (codes "4e0000000001000001000000040003624068") ∷ [])))
+    ∷ by 0 (event.Take 3) (Accepted (reply.Out (frame (codes "736f6b") ∷ frame (codes "4e00000000010000010000007b000000040003624068") ∷ [])))
+    ∷ by 0 (event.Frame 3 (hex (codes "7200000001482c811da5d5b4bc6d497ffa98491e38"))) (Accepted (reply.Up (codes "z@h") 5 true))
+    ∷ by 0 (event.Take 1) (Refused rule.NoSuchLink)
+    ∷ by 0 (event.Take 3) (Accepted (reply.Out (frame (codes "617c6a180b36896a0a8c02787eeafb0e4c") ∷ [])))
+    ∷ []
+
+pub played : verdicts (begun (codes "b@h") (codes "password") false 4 1000000) (calls script) ≡ judged script
+unfolding md5 digest_bytes hash_after compress rounds block_words digits name_frame challenge_frame reply_frame ack_frame status_of read_message
+played = refl

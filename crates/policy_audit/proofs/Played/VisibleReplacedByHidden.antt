@@ -1,0 +1,35 @@
+-- A visible link is replaced by a hidden one: its rows go, and none come, computed from the policy.
+use Rattle.std.specs.Prelude.{◌≡◌, List, [], ◌∷◌, true, false, codes}
+use Rattle.std.proofs.Common.{refl}
+use Rattle.std.specs.Fmt.{digits}
+use Rattle.md5.specs.Md5.{md5, digest_bytes, hash_after, compress, rounds, block_words}
+use Rattle.handshake_frames.specs.Reading.{name_frame, challenge_frame, reply_frame, ack_frame, status_of}
+use Rattle.link_frames.specs.Reading.{message as read_message}
+use Rattle.policy_audit.specs.declared.event.Event.TheVariants as event
+use Rattle.policy_audit.specs.declared.reply.Reply.TheVariants as reply
+use Rattle.policy_audit.specs.declared.rule.Rule.TheVariants as rule
+use Rattle.policy_audit.specs.declared.entry.Verdict.TheVariants.{Accepted, Refused}
+use Rattle.policy_audit.proofs.Lines.{Line, by, begun, hex, pid, frame, calls, judged}
+use Rattle.policy_audit.specs.Scripts.{verdicts}
+
+abbrev pub script : List Line
+script =
+    by 0 (event.StartScope (codes "pg")) (Accepted reply.Done)
+    ∷ by 0 (event.Opened 123) (Accepted (reply.Link 2))
+    ∷ by 0 (event.Frame 2 (hex (codes "4e0000000001000001000000050003614068"))) (Accepted reply.Done)
+    ∷ by 0 (event.Frame 2 (hex (codes "7200000001482c811da5d5b4bc6d497ffa98491e38"))) (Accepted (reply.Up (codes "a@h") 5 true))
+    ∷ by 0 (event.Frame 2 (hex (codes "530270670000000101670003614068000000050000000000000001"))) (Accepted reply.Done)
+    ∷ by 0 (event.Monitor (codes "pg") (codes "g")) (Accepted (reply.Ref 6 ((pid (codes "a@h") 5 1) ∷ [])))
+    ∷ by 0 (event.Opened 123) (Accepted (reply.Link 7))
+    ∷ by 0 (event.Frame 7 (hex (codes "4e0000000001000000000000050003614068"))) (Accepted reply.Done)
+    ∷ by 0 (event.Frame 7 (hex (codes "7374727565"))) (Accepted reply.Done)
+    ∷ by 0 (event.Frame 7 (hex (codes "7200000001482c811da5d5b4bc6d497ffa98491e38"))) (Accepted (reply.Up (codes "a@h") 5 false))
+    ∷ by 0 (event.Members (codes "pg") (codes "g")) (Accepted (reply.Pids []))
+    ∷ by 0 (event.Frame 7 (hex (codes "530270670000000101670003614068000000050000000000000001"))) (Refused rule.HiddenLink)
+    ∷ by 0 (event.Updates 6) (Accepted (reply.Updates (record { group = codes "g"; leave = true; pids = ((pid (codes "a@h") 5 1) ∷ []) } ∷ [])))
+    ∷ by 0 (event.Take 7) (Accepted (reply.Out (frame (codes "73616c697665") ∷ frame (codes "4e00000000010000010000007b000000040003624068") ∷ frame (codes "617c6a180b36896a0a8c02787eeafb0e4c") ∷ [])))
+    ∷ []
+
+pub played : verdicts (begun (codes "b@h") (codes "password") false 4 1000000) (calls script) ≡ judged script
+unfolding md5 digest_bytes hash_after compress rounds block_words digits name_frame challenge_frame reply_frame ack_frame status_of read_message
+played = refl
