@@ -1,5 +1,5 @@
 use super::*;
-use dist_types::{Cookie, Flags, NodeName, TryClone};
+use dist_types::{Cookie, Flags, NodeName};
 use std::alloc::Global;
 use std::fmt::Write;
 use std::test::Fail;
@@ -27,40 +27,53 @@ fn set_cookie(
     alloc: Global,
     rules: &mut Admission,
     node: &[u8],
+    cookie: &[u8],
 ) -> Result<Result<(), CookieFault>, Fail> {
     let node = NodeName::parse(alloc, node)?;
-    let cookie = Cookie::parse(alloc, b"123")?;
+    let cookie = Cookie::parse(alloc, cookie)?;
     Ok(rules.set_cookie_for(node, cookie))
+}
+
+/// Whether each node has the cookie beside it.
+fn are_cookies(alloc: Global, rules: &Admission, cases: &[(&[u8], &[u8])]) -> Result<bool, Fail> {
+    for (node, cookie) in cases {
+        let node = NodeName::parse(alloc, node)?;
+        if rules.cookie_for(&node).as_bytes() != *cookie {
+            return Ok(false);
+        }
+    }
+    Ok(true)
+}
+
+#[test]
+fn starts_as_it_was_given(rt: HostRuntime) -> Result<(), Fail> {
+    let rules = rules(rt.alloc(), false)?;
+    assert_eq!(rt; rules.own().as_bytes(), b"b@h".as_slice());
+    assert_eq!(rt; rules.creation(), 4);
+    let cases: [(&[u8], &[u8]); 2] = [(b"a@h", b"password"), (b"b@h", b"password")];
+    assert!(rt; are_cookies(rt.alloc(), &rules, &cases)?);
+    Ok(())
 }
 
 #[test]
 fn gives_each_peer_its_cookie(rt: HostRuntime) -> Result<(), Fail> {
     let alloc = rt.alloc();
-    let a = NodeName::parse(alloc, b"a@h")?;
-    let b = NodeName::parse(alloc, b"b@h")?;
-    let c = NodeName::parse(alloc, b"c@h")?;
-    let password = Cookie::parse(alloc, b"password")?;
-    let peers = Cookie::parse(alloc, b"123")?;
-    let new = Cookie::parse(alloc, b"test")?;
     let mut rules = rules(alloc, false)?;
-    assert_eq!(rt; rules.own(), &b);
-    assert_eq!(rt; rules.creation(), 4);
-    assert_eq!(rt; rules.cookie_for(&a), &password);
-    assert_eq!(rt;
-        rules.set_cookie_for(a.try_clone(alloc)?, peers.try_clone(alloc)?),
-        Ok(())
-    );
-    assert_eq!(rt;
-        rules.set_cookie_for(b.try_clone(alloc)?, new.try_clone(alloc)?),
-        Ok(())
-    );
-    for (node, cookie) in [(&a, &peers), (&b, &new), (&c, &new)] {
-        assert_eq!(rt; rules.cookie_for(node), cookie, "at {node:?}");
-    }
-    rules.set_cookie(password.try_clone(alloc)?);
-    for (node, cookie) in [(&a, &peers), (&b, &password), (&c, &password)] {
-        assert_eq!(rt; rules.cookie_for(node), cookie, "at {node:?}");
-    }
+    assert_eq!(rt; set_cookie(alloc, &mut rules, b"a@h", b"123")?, Ok(()));
+    assert_eq!(rt; set_cookie(alloc, &mut rules, b"b@h", b"test")?, Ok(()));
+    let cases: [(&[u8], &[u8]); 3] = [(b"a@h", b"123"), (b"b@h", b"test"), (b"c@h", b"test")];
+    assert!(rt; are_cookies(alloc, &rules, &cases)?);
+    Ok(())
+}
+
+#[test]
+fn keeps_the_cookies_of_peers_when_its_own_changes(rt: HostRuntime) -> Result<(), Fail> {
+    let alloc = rt.alloc();
+    let mut rules = rules(alloc, false)?;
+    assert_eq!(rt; set_cookie(alloc, &mut rules, b"a@h", b"123")?, Ok(()));
+    rules.set_cookie(Cookie::parse(alloc, b"new")?);
+    let cases: [(&[u8], &[u8]); 3] = [(b"a@h", b"123"), (b"b@h", b"new"), (b"c@h", b"new")];
+    assert!(rt; are_cookies(alloc, &rules, &cases)?);
     Ok(())
 }
 
@@ -101,7 +114,7 @@ fn refuses_more_than_1024_cookies(rt: HostRuntime) -> Result<(), Fail> {
     let mut rules = rules(rt.alloc(), false)?;
     for name in &numbered(rt.alloc(), 0, 1024)? {
         assert_eq!(rt;
-            set_cookie(rt.alloc(), &mut rules, name.as_bytes())?,
+            set_cookie(rt.alloc(), &mut rules, name.as_bytes(), b"123")?,
             Ok(())
         );
     }
@@ -113,7 +126,7 @@ fn refuses_more_than_1024_cookies(rt: HostRuntime) -> Result<(), Fail> {
     ];
     for (node, answer) in cases {
         assert_eq!(rt;
-            set_cookie(rt.alloc(), &mut rules, node)?,
+            set_cookie(rt.alloc(), &mut rules, node, b"123")?,
             answer,
             "at {node:?}"
         );

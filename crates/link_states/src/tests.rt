@@ -1,6 +1,9 @@
 //! The frames of worked handshakes. The node is `b@h` with creation 4 and the cookie `password`.
 mod acceptor;
+mod both_ends;
+mod dialler;
 mod link;
+mod otp;
 
 use crate::*;
 use admission_rules::Admission;

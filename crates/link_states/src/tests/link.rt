@@ -17,7 +17,29 @@ pub fn opened(challenge: u32) -> Link {
     Link::AwaitName(AwaitName::new(Challenge::new(challenge)))
 }
 
-/// The link after a frame, and the frames that it owes.
+/// A link to a peer that is dialled, and the name frame. Where a growth is refused, the peer is dialled again.
+pub fn dialled(
+    alloc: Global,
+    node: &Admission,
+    peer: &[u8],
+    challenge: u32,
+) -> Result<(Link, Body), Fail> {
+    let peer = NodeName::parse(alloc, peer)?;
+    let (peer, challenge) = match AwaitStatus::dial(alloc, peer, Challenge::new(challenge), node) {
+        Ok((state, name)) => return Ok((Link::AwaitStatus(state), name)),
+        Err(back) => back,
+    };
+    match AwaitStatus::dial(alloc, peer, challenge, node) {
+        Ok((state, name)) => Ok((Link::AwaitStatus(state), name)),
+        Err((_peer, challenge)) => {
+            challenge.discard();
+            Err(Fail::from(OutOfMemory))
+        }
+    }
+}
+
+/// The link after a frame, and the frames that it owes. Where a growth is refused, the frame is taken again by the
+/// state that was handed back: `rt try --test --fail-alloc N`.
 pub fn taken(
     link: Link,
     alloc: Global,
@@ -25,30 +47,48 @@ pub fn taken(
     node: &Admission,
     links: &Pending,
 ) -> Result<(Link, Bodies), OutOfMemory> {
+    let back = match tried(link, alloc, body, node, links) {
+        Ok(taken) => return Ok(taken),
+        Err(back) => back,
+    };
+    match tried(back, alloc, body, node, links) {
+        Ok(taken) => Ok(taken),
+        Err(_back) => Err(OutOfMemory),
+    }
+}
+
+/// The link after a frame, or the link as it was.
+fn tried(
+    link: Link,
+    alloc: Global,
+    body: &[u8],
+    node: &Admission,
+    links: &Pending,
+) -> Result<(Link, Bodies), Link> {
     match link {
         Link::AwaitName(state) => match state.take(alloc, body, node, links) {
             Ok(named) => Ok(link_named(named)),
-            Err(stopped) => ended(stopped),
+            Err(stopped) => ended(stopped).map_err(|state| Link::AwaitName(state)),
         },
         Link::AwaitAnswer(state) => match state.take(alloc, body, node, links) {
             Ok((next, frames)) => Ok((Link::AwaitReply(next), frames)),
-            Err(stopped) => ended(stopped),
+            Err(stopped) => ended(stopped).map_err(|state| Link::AwaitAnswer(state)),
         },
         Link::AwaitReply(state) => match state.take(alloc, body, node, links) {
             Ok((up, frames)) => Ok((Link::Up(up), frames)),
-            Err(stopped) => ended(stopped),
+            Err(stopped) => ended(stopped).map_err(|state| Link::AwaitReply(state)),
         },
         Link::AwaitStatus(state) => match state.take(alloc, body, node, links) {
             Ok((next, frames)) => Ok((Link::AwaitChallenge(next), frames)),
-            Err(stopped) => ended(stopped),
+            Err(stopped) => ended(stopped).map_err(|state| Link::AwaitStatus(state)),
         },
         Link::AwaitChallenge(state) => match state.take(alloc, body, node, links) {
             Ok((next, frames)) => Ok((Link::AwaitAck(next), frames)),
-            Err(stopped) => ended(stopped),
+            Err(stopped) => ended(stopped).map_err(|state| Link::AwaitChallenge(state)),
         },
         Link::AwaitAck(state) => match state.take(alloc, body, node, links) {
             Ok((up, frames)) => Ok((Link::Up(up), frames)),
-            Err(stopped) => ended(stopped),
+            Err(stopped) => ended(stopped).map_err(|state| Link::AwaitAck(state)),
         },
         other => Ok((other, Bodies::of(Vec::new(alloc)))),
     }
@@ -65,10 +105,10 @@ fn link_named(named: Named) -> (Link, Bodies) {
     }
 }
 
-fn ended<S: Drop>(stopped: Stopped<S>) -> Result<(Link, Bodies), OutOfMemory> {
+fn ended<S>(stopped: Stopped<S>) -> Result<(Link, Bodies), S> {
     match stopped {
         Stopped::Ended { rule, frames } => Ok((Link::Ended(rule), frames)),
-        Stopped::OutOfMemory(_state) => Err(OutOfMemory),
+        Stopped::OutOfMemory(state) => Err(state),
     }
 }
 
@@ -110,6 +150,14 @@ pub fn up_to(link: &Option<Link>, peer: &[u8]) -> Option<(u32, bool, u32)> {
         Some(Link::Up(up)) if up.peer().as_bytes() == peer => {
             Some((up.creation(), up.visible(), up.proof().number()))
         }
+        _ => None,
+    }
+}
+
+/// The rule by which a link ended.
+pub fn rule_of(link: &Option<Link>) -> Option<StateRule> {
+    match link {
+        Some(Link::Ended(rule)) => Some(*rule),
         _ => None,
     }
 }
