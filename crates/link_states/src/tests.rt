@@ -1,9 +1,8 @@
-//! The frames of worked handshakes. The node is `b@h` with creation 4 and the cookie `password`.
+//! The frames of worked handshakes, as tables of steps.
 mod acceptor;
 mod both_ends;
 mod dialler;
 mod link;
-mod otp;
 
 use crate::*;
 use admission_rules::Admission;
@@ -14,7 +13,7 @@ use std::test::Fail;
 
 /// The name frame of `a@h` with creation 5.
 const NAME: &[u8] = b"N\x00\x00\x00\x00\x01\x00\x00\x01\x00\x00\x00\x05\x00\x03a@h";
-/// The challenge frame of the node with the challenge 123.
+/// The challenge frame of `b@h` with creation 4 and the challenge 123.
 const CHALLENGE: &[u8] =
     b"N\x00\x00\x00\x00\x01\x00\x00\x01\x00\x00\x00\x7b\x00\x00\x00\x04\x00\x03b@h";
 /// The challenge 1, and MD5 of `password123`, as OTP 25.2.3 sends it after the challenge 123.
@@ -23,13 +22,43 @@ const REPLY: &[u8] =
 /// MD5 of `password1`.
 const ACK: &[u8] = b"a\x7c\x6a\x18\x0b\x36\x89\x6a\x0a\x8c\x02\x78\x7e\xea\xfb\x0e\x4c";
 
-fn node(alloc: Global, name: &[u8], creation: u32) -> Result<Admission, Fail> {
-    let own = NodeName::parse(alloc, name)?;
-    let cookie = Cookie::parse(alloc, b"password")?;
-    Ok(Admission::new(alloc, own, cookie, false, creation))
+/// Bodies that come in turn, each with the frames that it owes.
+type Steps = &'static [(&'static [u8], &'static [&'static [u8]])];
+
+/// Names as bytes.
+type Texts = &'static [&'static [u8]];
+
+/// What a node has when a handshake begins.
+#[derive(Clone, Copy)]
+struct Setting {
+    up: Texts,
+    dials: Texts,
+    allowed: Texts,
+    /// The cookies of peers.
+    cookies: &'static [(&'static [u8], &'static [u8])],
 }
 
-fn names(alloc: Global, texts: &[&[u8]]) -> Result<Names, Fail> {
+const NOTHING: Setting = Setting {
+    up: &[],
+    dials: &[],
+    allowed: &[],
+    cookies: &[],
+};
+
+/// A node with the cookie `password`.
+fn node(alloc: Global, name: &[u8], creation: u32, setting: Setting) -> Result<Admission, Fail> {
+    let own = NodeName::parse(alloc, name)?;
+    let cookie = Cookie::parse(alloc, b"password")?;
+    let mut node = Admission::new(alloc, own, cookie, false, creation);
+    node.allow(names(alloc, setting.allowed)?.as_slice())?;
+    for (peer, cookie) in setting.cookies {
+        let peer = NodeName::parse(alloc, peer)?;
+        node.set_cookie_for(peer, Cookie::parse(alloc, cookie)?)?;
+    }
+    Ok(node)
+}
+
+fn names(alloc: Global, texts: Texts) -> Result<Names, Fail> {
     let mut names = Vec::new(alloc);
     for text in texts {
         names.push(NodeName::parse(alloc, text)?)?;
@@ -37,9 +66,9 @@ fn names(alloc: Global, texts: &[&[u8]]) -> Result<Names, Fail> {
     Ok(Names::of(names))
 }
 
-fn pending(alloc: Global, up: &[&[u8]], dials: &[&[u8]]) -> Result<Pending, Fail> {
+fn pending(alloc: Global, setting: Setting) -> Result<Pending, Fail> {
     Ok(Pending {
-        up: names(alloc, up)?,
-        dials: names(alloc, dials)?,
+        up: names(alloc, setting.up)?,
+        dials: names(alloc, setting.dials)?,
     })
 }

@@ -2,15 +2,6 @@
 use super::link::*;
 use super::*;
 
-/// How far an end is.
-#[derive(Clone, Copy, Debug, PartialEq, Eq)]
-enum Outcome {
-    Unfinished,
-    /// The creation of the peer, and whether the link is visible.
-    Up(u32, bool),
-    Ended(StateRule),
-}
-
 /// One end, with what its node has.
 #[derive(Drop)]
 struct End {
@@ -35,29 +26,7 @@ impl End {
         }
         Ok((End { link, node, links }, owed))
     }
-
-    fn outcome(&self) -> Outcome {
-        match &self.link {
-            Link::Up(up) => Outcome::Up(up.creation(), up.visible()),
-            Link::Ended(rule) => Outcome::Ended(*rule),
-            _ => Outcome::Unfinished,
-        }
-    }
 }
-
-/// What the acceptor `b@h` has when it is dialled.
-#[derive(Clone, Copy)]
-struct Setting {
-    up: &'static [&'static [u8]],
-    dials: &'static [&'static [u8]],
-    allowed: &'static [&'static [u8]],
-}
-
-const NOTHING: Setting = Setting {
-    up: &[],
-    dials: &[],
-    allowed: &[],
-};
 
 /// The status that comes of it, the dialler, the peers that are up there, the acceptor, and both ends afterwards.
 const MEETINGS: [(&str, &[u8], &[&[u8]], Setting, (Outcome, Outcome)); 6] = [
@@ -66,7 +35,7 @@ const MEETINGS: [(&str, &[u8], &[&[u8]], Setting, (Outcome, Outcome)); 6] = [
         b"a@h",
         &[],
         NOTHING,
-        (Outcome::Up(4, true), Outcome::Up(5, true)),
+        (Outcome::Up(4, true, 1), Outcome::Up(5, true, 123)),
     ),
     (
         "ok_simultaneous",
@@ -76,7 +45,7 @@ const MEETINGS: [(&str, &[u8], &[&[u8]], Setting, (Outcome, Outcome)); 6] = [
             dials: &[b"c@h"],
             ..NOTHING
         },
-        (Outcome::Up(4, true), Outcome::Up(5, true)),
+        (Outcome::Up(4, true, 1), Outcome::Up(5, true, 123)),
     ),
     (
         "nok",
@@ -112,7 +81,7 @@ const MEETINGS: [(&str, &[u8], &[&[u8]], Setting, (Outcome, Outcome)); 6] = [
             up: &[b"a@h"],
             ..NOTHING
         },
-        (Outcome::Up(4, true), Outcome::Up(5, true)),
+        (Outcome::Up(4, true, 1), Outcome::Up(5, true, 123)),
     ),
     (
         "alive and false",
@@ -129,9 +98,10 @@ const MEETINGS: [(&str, &[u8], &[&[u8]], Setting, (Outcome, Outcome)); 6] = [
     ),
 ];
 
-fn dialler(alloc: Global, name: &[u8], up: &[&[u8]]) -> Result<(End, Bodies), Fail> {
-    let node = node(alloc, name, 5)?;
-    let links = pending(alloc, up, &[])?;
+fn dialler(alloc: Global, name: &[u8], up: Texts) -> Result<(End, Bodies), Fail> {
+    let setting = Setting { up, ..NOTHING };
+    let node = node(alloc, name, 5, setting)?;
+    let links = pending(alloc, setting)?;
     let (link, name) = dialled(alloc, &node, b"b@h", 1)?;
     let mut frames = Vec::new(alloc);
     frames.push(name)?;
@@ -139,39 +109,38 @@ fn dialler(alloc: Global, name: &[u8], up: &[&[u8]]) -> Result<(End, Bodies), Fa
 }
 
 fn acceptor(alloc: Global, setting: Setting) -> Result<End, Fail> {
-    let mut node = node(alloc, b"b@h", 4)?;
-    node.allow(names(alloc, setting.allowed)?.as_slice())?;
-    let links = pending(alloc, setting.up, setting.dials)?;
+    let node = node(alloc, b"b@h", 4, setting)?;
+    let links = pending(alloc, setting)?;
     let link = opened(123);
     Ok(End { link, node, links })
 }
 
-/// Both ends, once neither owes the other a frame. No handshake has more than three frames of one end.
+/// What becomes of both ends, once neither owes the other a frame. No end sends more than three times.
 fn met(
     alloc: Global,
-    mut dialler: End,
-    mut acceptor: End,
-    mut said: Bodies,
-) -> Result<(Outcome, Outcome), OutOfMemory> {
+    name: &[u8],
+    up: Texts,
+    setting: Setting,
+) -> Result<(Outcome, Outcome), Fail> {
+    let (mut dialler, mut said) = dialler(alloc, name, up)?;
+    let mut acceptor = acceptor(alloc, setting)?;
     for _ in 0..3 {
         let (next, answers) = acceptor.hear(alloc, &said)?;
         acceptor = next;
         (dialler, said) = dialler.hear(alloc, &answers)?;
     }
-    Ok((dialler.outcome(), acceptor.outcome()))
+    let ends = (
+        reached(&dialler.link, b"b@h"),
+        reached(&acceptor.link, name),
+    );
+    Ok(ends)
 }
 
 #[test]
 fn end_alike_after_each_status(rt: HostRuntime) -> Result<(), Fail> {
-    let alloc = rt.alloc();
     for (status, name, up, setting, outcomes) in MEETINGS {
-        let (dialler, said) = dialler(alloc, name, up)?;
-        let acceptor = acceptor(alloc, setting)?;
-        assert_eq!(rt;
-            met(alloc, dialler, acceptor, said)?,
-            outcomes,
-            "after {status}"
-        );
+        let ends = met(rt.alloc(), name, up, setting)?;
+        assert_eq!(rt; ends, outcomes, "after {status}");
     }
     Ok(())
 }

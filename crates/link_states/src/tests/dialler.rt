@@ -7,114 +7,119 @@ const STRANGERS: &[u8] =
     b"N\x00\x00\x00\x00\x01\x00\x00\x01\x00\x00\x00\x7b\x00\x00\x00\x04\x00\x03c@h";
 /// A challenge frame without the flag of version 6.
 const MUTE: &[u8] = b"N\x00\x00\x00\x00\x00\x00\x00\x01\x00\x00\x00\x7b\x00\x00\x00\x04\x00\x03b@h";
-/// The acknowledgement of another challenge.
-const WRONG_ACK: &[u8] = b"a\x48\x2c\x81\x1d\xa5\xd5\xb4\xbc\x6d\x49\x7f\xfa\x98\x49\x1e\x38";
+/// The challenge frame that `b@127.0.0.1` sent, a running OTP 25.2.3 node, with the challenge 1 in place of its own.
+const OTP_CHALLENGE: &[u8] =
+    b"N\x00\x00\x00\x0d\x07\xdf\x7f\xbd\x00\x00\x00\x01\x6b\x02\x8a\xc3\x00\x0bb@127.0.0.1";
 
-const REFUSED_STATUSES: [(&[u8], StateRule); 5] = [
-    (b"snok", StateRule::PeerSaid),
-    (b"snot_allowed", StateRule::PeerSaid),
-    (b"strue", StateRule::PeerSaid),
-    (b"sfalse", StateRule::PeerSaid),
-    (b"sok_", StateRule::BadFrame),
+const OTP_CREATION: u32 = 0x6b02_8ac3;
+/// The acknowledgement that it sent after the challenge 123.
+const OTP_ACK: &[u8] = b"a\x48\x2c\x81\x1d\xa5\xd5\xb4\xbc\x6d\x49\x7f\xfa\x98\x49\x1e\x38";
+/// The challenge 123, and MD5 of `password1`.
+const REPLY_123: &[u8] =
+    b"r\x00\x00\x00\x7b\x7c\x6a\x18\x0b\x36\x89\x6a\x0a\x8c\x02\x78\x7e\xea\xfb\x0e\x4c";
+
+const PEER_SAID: Outcome = Outcome::Ended(StateRule::PeerSaid);
+
+/// The peers that are up, the frames, and what becomes of the dial of `b@h` with the challenge 1.
+const ANSWERS: [(Texts, Steps, Outcome); 14] = [
+    (
+        &[],
+        &[(b"sok", &[]), (CHALLENGE, &[REPLY]), (ACK, &[])],
+        Outcome::Up(4, true, 1),
+    ),
+    (
+        &[b"b@h"],
+        &[
+            (b"sok_simultaneous", &[]),
+            (CHALLENGE, &[REPLY]),
+            (ACK, &[]),
+        ],
+        Outcome::Up(4, true, 1),
+    ),
+    (
+        &[b"c@h"],
+        &[(b"salive", &[b"strue"]), (CHALLENGE, &[REPLY]), (ACK, &[])],
+        Outcome::Up(4, true, 1),
+    ),
+    (
+        &[b"c@h", b"b@h"],
+        &[(b"salive", &[b"sfalse"])],
+        Outcome::Ended(StateRule::LinkUp),
+    ),
+    (&[], &[(b"snok", &[])], PEER_SAID),
+    (&[], &[(b"snot_allowed", &[])], PEER_SAID),
+    (&[], &[(b"strue", &[])], PEER_SAID),
+    (&[], &[(b"sfalse", &[])], PEER_SAID),
+    (&[], &[(b"sok_", &[])], Outcome::Ended(StateRule::BadFrame)),
+    (
+        &[],
+        &[(b"sok", &[]), (STRANGERS, &[])],
+        Outcome::Ended(StateRule::WrongName),
+    ),
+    (
+        &[],
+        &[(b"sok", &[]), (MUTE, &[])],
+        Outcome::Ended(StateRule::NoHandshake23),
+    ),
+    (
+        &[],
+        &[(b"sok", &[]), (REPLY, &[])],
+        Outcome::Ended(StateRule::BadFrame),
+    ),
+    (
+        &[],
+        &[(b"sok", &[]), (CHALLENGE, &[REPLY]), (OTP_ACK, &[])],
+        Outcome::Ended(StateRule::BadDigest),
+    ),
+    (
+        &[],
+        &[(b"sok", &[]), (CHALLENGE, &[REPLY]), (REPLY, &[])],
+        Outcome::Ended(StateRule::BadFrame),
+    ),
 ];
 
-const REFUSED_CHALLENGES: [(&[u8], StateRule); 3] = [
-    (STRANGERS, StateRule::WrongName),
-    (MUTE, StateRule::NoHandshake23),
-    (REPLY, StateRule::BadFrame),
+/// The frames of an OTP node that was dialled with the challenge 123, and what becomes of the dial. OTP turns away a
+/// dialler that sends no flags but PUBLISHED and HANDSHAKE_23.
+const OTP_ANSWERS: [(Steps, Outcome); 2] = [
+    (
+        &[(b"sok", &[]), (OTP_CHALLENGE, &[REPLY_123]), (OTP_ACK, &[])],
+        Outcome::Up(OTP_CREATION, true, 123),
+    ),
+    (&[(b"snot_allowed", &[])], PEER_SAID),
 ];
 
-const REFUSED_ACKS: [(&[u8], StateRule); 2] = [
-    (WRONG_ACK, StateRule::BadDigest),
-    (REPLY, StateRule::BadFrame),
-];
-
-/// What becomes of the dial of `b@h` by `a@h`, of which links to these peers are up.
-fn dial_after(
+/// What becomes of a dial by `a@h`, once the name frame is sent.
+fn dialled_to(
     alloc: Global,
-    up: &[&[u8]],
-    steps: &[(&[u8], &[&[u8]])],
-) -> Result<Option<Link>, Fail> {
-    let node = node(alloc, b"a@h", 5)?;
-    let links = pending(alloc, up, &[])?;
-    let (link, _name) = dialled(alloc, &node, b"b@h", 1)?;
-    Ok(played(link, alloc, &node, &links, steps)?)
-}
-
-/// The rule by which the dial ends.
-fn end_of(
-    alloc: Global,
-    up: &[&[u8]],
-    steps: &[(&[u8], &[&[u8]])],
-) -> Result<Option<StateRule>, Fail> {
-    Ok(rule_of(&dial_after(alloc, up, steps)?))
+    peer: &[u8],
+    challenge: u32,
+    up: Texts,
+    steps: Steps,
+) -> Result<Outcome, Fail> {
+    let setting = Setting { up, ..NOTHING };
+    let node = node(alloc, b"a@h", 5, setting)?;
+    let links = pending(alloc, setting)?;
+    let (link, name) = dialled(alloc, &node, peer, challenge)?;
+    if name.as_slice() != NAME {
+        return Ok(Outcome::OtherFrames);
+    }
+    Ok(played(link, alloc, &node, &links, steps, peer)?)
 }
 
 #[test]
-fn sends_its_name(rt: HostRuntime) -> Result<(), Fail> {
-    let node = node(rt.alloc(), b"a@h", 5)?;
-    let (_link, name) = dialled(rt.alloc(), &node, b"b@h", 1)?;
-    assert_eq!(rt; name.as_slice(), NAME);
-    Ok(())
-}
-
-#[test]
-fn connects_to_an_acceptor(rt: HostRuntime) -> Result<(), Fail> {
-    for status in [b"sok".as_slice(), b"sok_simultaneous".as_slice()] {
-        let steps: [(&[u8], &[&[u8]]); 3] = [(status, &[]), (CHALLENGE, &[REPLY]), (ACK, &[])];
-        let link = dial_after(rt.alloc(), &[], &steps)?;
-        assert_eq!(rt;
-            up_to(&link, b"b@h"),
-            Some((4, true, 1)),
-            "after {status:?}"
-        );
+fn goes_on_or_ends_by_the_acceptors_frames(rt: HostRuntime) -> Result<(), Fail> {
+    for (row, (up, steps, outcome)) in ANSWERS.into_iter().enumerate() {
+        let became = dialled_to(rt.alloc(), b"b@h", 1, up, steps)?;
+        assert_eq!(rt; became, outcome, "row {row}");
     }
     Ok(())
 }
 
 #[test]
-fn wants_the_link_where_none_is_up(rt: HostRuntime) -> Result<(), Fail> {
-    let steps: [(&[u8], &[&[u8]]); 3] = [
-        (b"salive", &[b"strue"]),
-        (CHALLENGE, &[REPLY]),
-        (ACK, &[]),
-    ];
-    let link = dial_after(rt.alloc(), &[b"c@h"], &steps)?;
-    assert_eq!(rt; up_to(&link, b"b@h"), Some((4, true, 1)));
-    Ok(())
-}
-
-#[test]
-fn wants_no_link_beside_one_that_is_up(rt: HostRuntime) -> Result<(), Fail> {
-    let steps: [(&[u8], &[&[u8]]); 1] = [(b"salive", &[b"sfalse"])];
-    let rule = end_of(rt.alloc(), &[b"c@h", b"b@h"], &steps)?;
-    assert_eq!(rt; rule, Some(StateRule::LinkUp));
-    Ok(())
-}
-
-#[test]
-fn ends_at_a_status_that_refuses_it(rt: HostRuntime) -> Result<(), Fail> {
-    for (body, rule) in REFUSED_STATUSES {
-        let steps: [(&[u8], &[&[u8]]); 1] = [(body, &[])];
-        assert_eq!(rt; end_of(rt.alloc(), &[], &steps)?, Some(rule), "at {body:?}");
-    }
-    Ok(())
-}
-
-#[test]
-fn ends_at_the_challenge_of_another_node(rt: HostRuntime) -> Result<(), Fail> {
-    for (body, rule) in REFUSED_CHALLENGES {
-        let steps: [(&[u8], &[&[u8]]); 2] = [(b"sok", &[]), (body, &[])];
-        assert_eq!(rt; end_of(rt.alloc(), &[], &steps)?, Some(rule), "at {body:?}");
-    }
-    Ok(())
-}
-
-#[test]
-fn ends_at_the_digest_of_another_challenge(rt: HostRuntime) -> Result<(), Fail> {
-    for (body, rule) in REFUSED_ACKS {
-        let steps: [(&[u8], &[&[u8]]); 3] = [(b"sok", &[]), (CHALLENGE, &[REPLY]), (body, &[])];
-        assert_eq!(rt; end_of(rt.alloc(), &[], &steps)?, Some(rule), "at {body:?}");
+fn takes_the_frames_of_an_otp_node(rt: HostRuntime) -> Result<(), Fail> {
+    for (steps, outcome) in OTP_ANSWERS {
+        let became = dialled_to(rt.alloc(), b"b@127.0.0.1", 123, &[], steps)?;
+        assert_eq!(rt; became, outcome);
     }
     Ok(())
 }

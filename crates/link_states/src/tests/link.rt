@@ -112,22 +112,45 @@ fn ended<S>(stopped: Stopped<S>) -> Result<(Link, Bodies), S> {
     }
 }
 
-/// The link after the frames, each of which owes the frames beside it; else nothing.
+/// How far a link is after its frames.
+#[derive(Clone, Copy, Debug, PartialEq, Eq)]
+pub enum Outcome {
+    Unfinished,
+    /// The peer's creation, whether the link is visible, and the own challenge.
+    Up(u32, bool, u32),
+    Ended(StateRule),
+    /// A frame owed others than those beside it, or the link is up to another peer.
+    OtherFrames,
+}
+
+/// What becomes of the link by the frames, each of which owes the frames beside it.
 pub fn played(
     mut link: Link,
     alloc: Global,
     node: &Admission,
     links: &Pending,
-    steps: &[(&[u8], &[&[u8]])],
-) -> Result<Option<Link>, OutOfMemory> {
+    steps: Steps,
+    peer: &[u8],
+) -> Result<Outcome, OutOfMemory> {
     for (body, owed) in steps {
         let (next, frames) = taken(link, alloc, body, node, links)?;
         if !are(&frames, owed) {
-            return Ok(None);
+            return Ok(Outcome::OtherFrames);
         }
         link = next;
     }
-    Ok(Some(link))
+    Ok(reached(&link, peer))
+}
+
+pub fn reached(link: &Link, peer: &[u8]) -> Outcome {
+    match link {
+        Link::Up(up) if up.peer().as_bytes() == peer => {
+            Outcome::Up(up.creation(), up.visible(), up.proof().number())
+        }
+        Link::Up(_) => Outcome::OtherFrames,
+        Link::Ended(rule) => Outcome::Ended(*rule),
+        _ => Outcome::Unfinished,
+    }
 }
 
 /// Whether these are the frames, in this order.
@@ -142,22 +165,4 @@ pub fn are(frames: &Bodies, wanted: &[&[u8]]) -> bool {
         }
     }
     true
-}
-
-/// The creation, the visibility and the challenge of a link that is up to this peer.
-pub fn up_to(link: &Option<Link>, peer: &[u8]) -> Option<(u32, bool, u32)> {
-    match link {
-        Some(Link::Up(up)) if up.peer().as_bytes() == peer => {
-            Some((up.creation(), up.visible(), up.proof().number()))
-        }
-        _ => None,
-    }
-}
-
-/// The rule by which a link ended.
-pub fn rule_of(link: &Option<Link>) -> Option<StateRule> {
-    match link {
-        Some(Link::Ended(rule)) => Some(*rule),
-        _ => None,
-    }
 }
