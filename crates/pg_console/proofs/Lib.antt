@@ -4,7 +4,7 @@ pub mod CheckLemmas
 pub mod StepLemmas
 pub mod KeptLemmas
 pub mod NodeLemmas
-pub mod ReplyLemmas
+pub mod HeardLemmas
 pub mod Played
 pub mod Unlacking
 pub mod WorkedScripts

@@ -1,5 +1,5 @@
 -- What the loop over the lines keeps.
-use Rattle.std.proofs.Common.{◌≡◌, ℕ, ◌+◌, ◌<◌, Bool, true, false, cond, List, [], ◌∷◌, ◌++◌, length, Option, Some, None, refl, sym, ap, ◌∙◌, subst, append_assoc, append-nil, arith, IfSome}
+use Rattle.std.proofs.Common.{◌≡◌, ℕ, ◌+◌, ◌<◌, Bool, true, false, List, [], ◌∷◌, ◌++◌, length, Option, Some, None, refl, sym, ap, ◌∙◌, append_assoc, append-nil, arith, IfSome}
 use Rattle.std.specs.Io.KnownBytes.{Appends}
 use Rattle.std.specs.Io.BufRead.{take_through, drop_through, strip_last}
 use Rattle.pg_console.specs.declared.opening.Opening.{Opening}
@@ -7,7 +7,7 @@ use Rattle.pg_console.specs.History.{History}
 use Rattle.pg_console.specs.Policy.{opened_with}
 use Rattle.pg_console.specs.Answers.{fault_line}
 use Rattle.pg_console.specs.Lines.{lines_of}
-use Rattle.pg_console.specs.Transcript.{text, text_from, fault_in, fault_from, line_text, line_left, is_fault}
+use Rattle.pg_console.specs.Transcript.{text_from, fault_in, fault_from, line_text, line_left, is_fault}
 use Rattle.pg_console.specs.Runs.{Writes, Begins}
 use Rattle.pg_console.proofs.LineLemmas.{lines_step}
 

@@ -1,5 +1,5 @@
 -- The policy's verdict on an event, and the history after it.
-use Rattle.std.proofs.Common.{◌≡◌, ℕ, Bool, true, false, List, [], ◌∷◌, ◌++◌, Option, Some, None, refl, ap, sym, ◌∙◌, reverse, Result, Ok, Err, OnOk}
+use Rattle.std.proofs.Common.{◌≡◌, Bool, true, false, List, [], ◌∷◌, ◌++◌, Some, None, refl, ap, sym, ◌∙◌, reverse, Result, Ok, Err, OnOk}
 use Rattle.std.proofs.lemmas.List.{reverse-append}
 use Rattle.pg_console.specs.declared.event.Event.{Event}
 use Rattle.pg_console.specs.declared.event.Entry.{Entry}

@@ -1,5 +1,5 @@
 -- The command that a line says.
-use Rattle.std.specs.Prelude.{ℕ, cond, List, [], ◌∷◌, Option, Some, None, codes}
+use Rattle.std.specs.Prelude.{ℕ, cond, List, [], ◌∷◌, Option, None, codes}
 use Rattle.std.specs.Option.{option_map, option_and_then}
 use Rattle.std.specs.Str.{bytes_eq}
 use Rattle.pg_console.specs.declared.event.Event.TheVariants as events

@@ -1,6 +1,5 @@
 -- The acceptor's side of the handshake (Distribution Protocol, Distribution Handshake), as the entries of a link tell it.
-use Rattle.std.specs.Prelude.{ℕ, ◌==◌, Bool, true, false, cond, ◌&&◌, ◌||◌, not, List, [], ◌∷◌, ◌++◌, Option, Some, None, length, get_or}
-use Rattle.std.specs.Option.{option_map_or}
+use Rattle.std.specs.Prelude.{ℕ, ◌==◌, Bool, false, cond, ◌&&◌, ◌||◌, not, List, [], ◌∷◌, ◌++◌, Option, Some, None, length, get_or}
 use Rattle.dist_types.specs.Flags.{has_bit, own_flags}
 use Rattle.handshake_frames.specs.Frame.{Name}
 use Rattle.handshake_frames.specs.Spelling.{status_bytes, challenge_bytes, ack_bytes}

@@ -1,5 +1,5 @@
 -- What a node has seen.
-use Rattle.std.specs.Prelude.{ℕ, ◌+◌, Bool, cond, List, [], ◌∷◌, Option, Some, None, length}
+use Rattle.std.specs.Prelude.{ℕ, ◌+◌, cond, List, [], ◌∷◌, Option, Some, None, length}
 use Rattle.pg_console.specs.declared.opening.Opening.{Opening}
 use Rattle.pg_console.specs.declared.event.Entry.{Entry}
 use Rattle.pg_console.specs.declared.event.Event.{Event}

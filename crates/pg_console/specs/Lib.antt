@@ -2,6 +2,9 @@ pub mod Rules
 pub mod History
 pub mod Handshake
 pub mod Policy
+pub mod Waiting
+pub mod Plain
+pub mod LinkHeard
 pub mod LinkKept
 pub mod Stepped
 pub mod Lines

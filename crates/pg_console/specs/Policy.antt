@@ -1,5 +1,5 @@
 -- The written policy of a node that keeps one link at a time: which rule an event breaks first, and what it is answered.
-use Rattle.std.specs.Prelude.{ℕ, ◌==◌, Bool, true, false, cond, ◌&&◌, not, nat_lt, List, [], ◌∷◌, Option, Some, None, length, bytes_eq}
+use Rattle.std.specs.Prelude.{ℕ, ◌==◌, Bool, true, false, cond, not, nat_lt, List, [], ◌∷◌, Option, Some, None, length, bytes_eq}
 use Rattle.std.specs.Option.{option_map_or, option_and_then}
 use Rattle.dist_types.specs.Text.{is_node_name}
 use Rattle.dist_types.specs.Flags.{has_bit}

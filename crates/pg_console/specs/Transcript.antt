@@ -1,5 +1,5 @@
 -- The text that a script is answered.
-use Rattle.std.specs.Prelude.{ℕ, ◌+◌, Bool, true, false, cond, List, [], ◌∷◌, ◌++◌, Option, Some, None, is_none, not, ◌&&◌}
+use Rattle.std.specs.Prelude.{ℕ, ◌+◌, Bool, false, cond, List, [], ◌∷◌, ◌++◌, Option, Some, None, is_none, not, ◌&&◌}
 use Rattle.pg_console.specs.declared.opening.Opening.{Opening}
 use Rattle.pg_console.specs.declared.command.Command.{Command}
 use Rattle.pg_console.specs.declared.command.Command.TheVariants as command

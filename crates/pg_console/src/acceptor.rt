@@ -1,116 +1,191 @@
 //! The acceptor's side of the handshake (Distribution Protocol, Distribution Handshake).
-ghost use Rattle.std.specs.Prelude.{◌≡◌, ◌&&◌, not, ◌∷◌, [], None, IfOk, IfErr};
-ghost use Rattle.dist_types.specs.Flags.{has_bit};
-ghost use Rattle.handshake_frames.specs.Reading.{name_frame, reply_frame};
-ghost use Rattle.handshake_frames.specs.Spelling.{HasSpelling, spelling};
-ghost use Rattle.pg_console.specs.declared.event.Reply.TheVariants as replies;
-ghost use Rattle.pg_console.specs.Handshake.{greeting_owed, ack_owed};
-ghost use Rattle.pg_console.specs.Policy.{first_broken, name_checks, reply_checks, up_answer};
-ghost use Rattle.pg_console.specs.Stepped.{IsBroken, name_fault_of};
+ghost use Rattle.std.specs.Prelude.{◌≡◌, ℕ};
+ghost use Rattle.pg_console.specs.LinkHeard.{Hears};
+ghost use Rattle.pg_console.specs.Plain.{opening_of};
 
-use crate::event::{Body, StepFault};
-use crate::link::Peer;
+use crate::event::Reply;
+use crate::link::{Link, Stage, ended};
 use crate::opening::Opening;
 use crate::rule::Rule;
-use cookie_digest::{Challenge, digest};
-use dist_types::{Flags, NodeName, OutOfMemory, TextFault};
-use handshake_frames::{
-    AckFrame, ChallengeFrame, HsFrame, StatusWord, decode_name, decode_reply, encode,
-};
+use crate::waiting::Waiting;
+use admission_rules::Admission;
+use dist_types::TryClone;
+use link_states::{AwaitName, AwaitReply, Named, Names, Pending, Stopped};
 use std::alloc::Global;
+use std::marker::Model;
 
-/// Who a name frame says that the peer is.
-pub fn named(alloc: Global, opening: &Opening, body: &[u8]) -> Result<Peer, StepFault>
-    ensures ok { IfOk result (λ peer. (first_broken (name_checks opening.now (name_frame body.now)) ≡ None)
-        × (up_answer opening.now (name_frame body.now) ≡ replies.Up peer.name peer.creation peer.visible)) }
-    ensures refused { IfErr result (λ fault. IsBroken fault (name_checks opening.now (name_frame body.now))) }
-{
-    let Ok(frame) = decode_name(body) else {
-        return Err(StepFault::Refused(Rule::BadFrame));
-    };
-    if !frame.flags.handshake23() {
-        return Err(StepFault::Refused(Rule::NoHandshake23));
-    }
-    if frame.flags.name_me() {
-        return Err(StepFault::Refused(Rule::DynamicName));
-    }
-    let name = match NodeName::parse(alloc, frame.name) {
-        Ok(name) => name,
-        Err(fault) => return Err(name_fault(fault)),
-    };
-    if name == opening.name {
-        return Err(StepFault::Refused(Rule::OwnName));
-    }
-    Ok(Peer {
-        name,
-        creation: frame.creation,
-        visible: is_visible(opening.hidden, frame.flags),
-    })
+/// The node as its link sees it: every name is allowed, and every peer has the own cookie.
+#[derive(Debug, Drop)]
+pub struct Acceptor {
+    admission: Admission,
+    /// No other link is up or dialled.
+    others: Pending,
 }
 
-/// Why a name that the peer gave is refused.
-fn name_fault(fault: TextFault) -> StepFault
-    ensures { result ≡ name_fault_of fault }
-{
-    match fault {
-        TextFault::OutOfMemory => StepFault::OutOfMemory,
-        _ => StepFault::Refused(Rule::BadName),
+impl Model for Acceptor {
+    ghost use Rattle.std.specs.Prelude.{◌≡◌};
+    ghost use Rattle.admission_rules.specs.Admission.{AdmissionRules};
+    ghost use Rattle.pg_console.specs.Plain.{IsPlain, no_links};
+
+    ghost Value = { AdmissionRules };
+
+    ghost view = { λ acceptor. acceptor.admission };
+
+    ghost invariant = { λ acceptor. IsPlain acceptor.admission × (acceptor.others ≡ no_links) };
+}
+
+/// What a frame makes of a link.
+#[derive(Debug, Drop)]
+pub enum Heard {
+    /// The handshake goes on, with this answer.
+    Accepted(Link, Reply),
+    /// What is kept of the link, and the rule that the frame breaks.
+    Refused(Option<Link>, Rule),
+    /// The link is as it was.
+    OutOfMemory(Link),
+}
+
+impl Acceptor {
+    pub fn new(alloc: Global, opening: Opening) -> Acceptor
+        ensures { opening_of result opening.entries ≡ opening }
+    {
+        let Opening {
+            name,
+            cookie,
+            hidden,
+            creation,
+            entries: _,
+        } = opening;
+        Acceptor {
+            admission: Admission::new(alloc, name, cookie, hidden, creation),
+            others: Pending {
+                up: Names::of(Vec::new(alloc)),
+                dials: Names::of(Vec::new(alloc)),
+            },
+        }
     }
-}
 
-/// Whether neither end is hidden.
-fn is_visible(hidden: bool, peer: Flags) -> bool
-    ensures { result ≡ (not hidden && has_bit 0 peer.0) }
-{
-    !hidden && peer.published()
-}
-
-/// The status `ok` and the own challenge.
-pub fn greeting(alloc: Global, opening: &Opening, challenge: u32) -> Result<Vec<Body>, OutOfMemory>
-    ensures { IfOk result (λ frames. frames.items ≡ greeting_owed opening.now challenge) }
-{
-    let own = ChallengeFrame {
-        flags: Flags::own(opening.hidden),
-        challenge,
-        creation: opening.creation,
-        name: opening.name.as_bytes(),
-    };
-    let mut frames = Vec::new(alloc);
-    frames.push(spelled(alloc, &HsFrame::Status(StatusWord::Ok))?)?;
-    frames.push(spelled(alloc, &HsFrame::Challenge(own))?)?;
-    Ok(frames)
-}
-
-/// The acknowledgement of a reply whose digest is that of the cookie and the own challenge.
-pub fn acknowledged(
-    alloc: Global,
-    opening: &Opening,
-    challenge: u32,
-    body: &[u8],
-) -> Result<Body, StepFault>
-    ensures ok { IfOk result (λ ack. (first_broken (reply_checks opening.now challenge (reply_frame body.now)) ≡ None)
-        × (ack_owed opening.now (reply_frame body.now) ≡ ack ∷ [])) }
-    ensures refused { IfErr result (λ fault. IsBroken fault (reply_checks opening.now challenge (reply_frame body.now))) }
-{
-    let Ok(reply) = decode_reply(body) else {
-        return Err(StepFault::Refused(Rule::BadFrame));
-    };
-    let ack = AckFrame {
-        digest: digest(&opening.cookie, reply.challenge),
-    };
-    let ack = spelled(alloc, &HsFrame::Ack(ack))?;
-    match Challenge::new(challenge).check(&opening.cookie, reply.digest) {
-        Ok(_proof) => Ok(ack),
-        Err(_spent) => Err(StepFault::Refused(Rule::BadDigest)),
+    /// Takes a frame of the link.
+    pub fn hear(&self, alloc: Global, link: Link, body: &[u8]) -> Heard
+        ensures { (entries : ℕ) → Hears (opening_of self.now entries) body.now link result }
+    {
+        let Link {
+            number,
+            stage,
+            waiting,
+        } = link;
+        let rule = match stage {
+            Stage::AwaitName(state) => return self.named(alloc, number, state, waiting, body),
+            Stage::AwaitReply(state) => return self.replied(alloc, number, state, waiting, body),
+            Stage::Up(_) => Rule::BadFrame,
+            Stage::Ended => Rule::NoSuchLink,
+        };
+        let left = Link {
+            number,
+            stage,
+            waiting,
+        };
+        Heard::Refused(Some(left), rule)
     }
-}
 
-/// The body of a frame.
-fn spelled(alloc: Global, frame: &HsFrame<'_>) -> Result<Body, OutOfMemory>
-    requires { HasSpelling frame.now }
-    ensures { IfOk result (λ body. body ≡ spelling frame.now) }
-{
-    let mut body = Vec::new(alloc);
-    encode(frame, &mut body)?;
-    Ok(Body::of(body))
+    /// Takes the name frame, which is awaited.
+    fn named(
+        &self,
+        alloc: Global,
+        number: u32,
+        state: AwaitName,
+        waiting: Waiting,
+        body: &[u8],
+    ) -> Heard
+        ensures { (entries : ℕ) → Hears (opening_of self.now entries) body.now
+            (record { number = number; stage = Stage.AwaitName state; waiting = waiting }) result }
+    {
+        match state.take(alloc, body, &self.admission, &self.others) {
+            Ok(
+                Named::Reply {
+                    state,
+                    frames,
+                    gives_up: _,
+                },
+            ) => {
+                let waiting = Waiting {
+                    greeting: frames,
+                    ack: waiting.ack,
+                };
+                let stage = Stage::AwaitReply(state);
+                let link = Link {
+                    number,
+                    stage,
+                    waiting,
+                };
+                Heard::Accepted(link, Reply::Done)
+            }
+            Ok(Named::Alive(_, _)) => unreachable!(),
+            Err(stopped) => match stopped {
+                Stopped::Ended { rule, frames: _ } => {
+                    Heard::Refused(ended(number, waiting), Rule::of(rule))
+                }
+                Stopped::OutOfMemory(state) => {
+                    let stage = Stage::AwaitName(state);
+                    Heard::OutOfMemory(Link {
+                        number,
+                        stage,
+                        waiting,
+                    })
+                }
+            },
+        }
+    }
+
+    /// Takes the reply, which is awaited.
+    fn replied(
+        &self,
+        alloc: Global,
+        number: u32,
+        state: AwaitReply,
+        waiting: Waiting,
+        body: &[u8],
+    ) -> Heard
+        ensures { (entries : ℕ) → Hears (opening_of self.now entries) body.now
+            (record { number = number; stage = Stage.AwaitReply state; waiting = waiting }) result }
+    {
+        let Ok(peer) = state.peer().try_clone(alloc) else {
+            let stage = Stage::AwaitReply(state);
+            let link = Link {
+                number,
+                stage,
+                waiting,
+            };
+            return Heard::OutOfMemory(link);
+        };
+        match state.take(alloc, body, &self.admission, &self.others) {
+            Ok((up, frames)) => {
+                let reply = Reply::Up(peer, up.creation(), up.visible());
+                let waiting = Waiting {
+                    greeting: waiting.greeting,
+                    ack: frames,
+                };
+                let stage = Stage::Up(up);
+                let link = Link {
+                    number,
+                    stage,
+                    waiting,
+                };
+                Heard::Accepted(link, reply)
+            }
+            Err(stopped) => match stopped {
+                Stopped::Ended { rule, frames: _ } => {
+                    Heard::Refused(ended(number, waiting), Rule::of(rule))
+                }
+                Stopped::OutOfMemory(state) => {
+                    let stage = Stage::AwaitReply(state);
+                    Heard::OutOfMemory(Link {
+                        number,
+                        stage,
+                        waiting,
+                    })
+                }
+            },
+        }
+    }
 }

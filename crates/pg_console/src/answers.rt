@@ -2,10 +2,12 @@
 ghost use Rattle.std.specs.Prelude.{◌≡◌, ◌++◌, OnOk, codes, decimal};
 ghost use Rattle.pg_console.specs.Answers.{bodies_text, reply_text, refusal_text, step_line};
 
-use crate::event::{Bodies, Reply, StepFault};
+use crate::event::{Reply, StepFault};
 use crate::rule::Rule;
+use crate::waiting::Frames;
 use dist_types::{NodeName, OutOfMemory};
 use itoa::Buffer;
+use link_states::Body;
 use std::alloc::Global;
 
 /// Adds the line for what a step answered.
@@ -41,7 +43,7 @@ fn put_reply(alloc: Global, reply: &Reply, out: &mut Vec<u8>) -> Result<(), OutO
         Reply::Done => out.extend_from_slice(b"ok")?,
         Reply::Link(number) => put_number("link ", u64::from(*number), out)?,
         Reply::Up(peer, creation, visible) => put_up(peer, *creation, *visible, out)?,
-        Reply::Out(bodies) => put_bodies(alloc, bodies, out)?,
+        Reply::Out(frames) => put_frames(alloc, frames, out)?,
     }
     Ok(())
 }
@@ -71,11 +73,19 @@ fn put_up(
     Ok(())
 }
 
-fn put_bodies(alloc: Global, bodies: &Bodies, out: &mut Vec<u8>) -> Result<(), OutOfMemory>
-    ensures { OnOk result (out.new.items ≡ out.old.items ++ codes "out" ++ bodies_text bodies.now) }
+fn put_frames(alloc: Global, frames: &Frames, out: &mut Vec<u8>) -> Result<(), OutOfMemory>
+    ensures { OnOk result (out.new.items ≡ out.old.items ++ codes "out" ++ bodies_text frames.now) }
 {
+    let (first, rest) = frames.parts();
     out.extend_from_slice(b"out")?;
-    for body in bodies.as_slice() {
+    put_bodies(alloc, first, out)?;
+    put_bodies(alloc, rest, out)
+}
+
+fn put_bodies(alloc: Global, bodies: &[Body], out: &mut Vec<u8>) -> Result<(), OutOfMemory>
+    ensures { OnOk result (out.new.items ≡ out.old.items ++ bodies_text bodies.now) }
+{
+    for body in bodies {
         out.push(b' ')?;
         out.extend_from_slice(hex::encode(alloc, body.as_slice())?.as_bytes())?;
     }

@@ -3,14 +3,10 @@ ghost use Rattle.std.specs.Prelude.{◌≡◌};
 ghost use Rattle.pg_console.specs.declared.event.StepFault.TheVariants as faults;
 
 use crate::rule::Rule;
-use dist_types::{Items, NodeName, OutOfMemory};
+use crate::waiting::Frames;
+use dist_types::{NodeName, OutOfMemory};
+use link_states::Body;
 use std::alloc::{AllocError, AllocFailed};
-
-/// The bytes of a frame, without its length.
-pub type Body = Items<u8>;
-
-/// Frames in the order in which they go out.
-pub type Bodies = Items<Body>;
 
 /// What may happen. A link is named by the number of the entry that opened it.
 #[derive(Debug, Drop)]
@@ -30,7 +26,7 @@ pub enum Reply {
     Link(u32),
     /// The handshake is whole: the peer, its creation, and whether neither end is hidden.
     Up(NodeName, u32, bool),
-    Out(Bodies),
+    Out(Frames),
 }
 
 /// An event that was judged.

@@ -15,6 +15,7 @@ mod rule;
 mod script;
 #[cfg(test)]
 mod tests;
+mod waiting;
 mod words;
 
 use options::{command, opening};

@@ -3,26 +3,30 @@ ghost use Rattle.std.specs.Prelude.{◌≡◌, ◌++◌, ◌∷◌, [], false, S
 ghost use Rattle.pg_console.specs.History.{next_number};
 ghost use Rattle.pg_console.specs.Policy.{first_broken, checks, opened_with, is_full};
 
-use crate::acceptor::{acknowledged, greeting, named};
-use crate::event::{Bodies, Body, Entry, Event, Reply, StepFault};
-use crate::link::{Link, Stage, ends, handed_over, prove, refused};
+use crate::acceptor::{Acceptor, Heard};
+use crate::event::{Entry, Event, Reply, StepFault};
+use crate::link::{Link, handed_over};
 use crate::opening::Opening;
 use crate::rule::Rule;
 use dist_types::OutOfMemory;
+use link_states::Body;
 use std::alloc::Global;
 
 /// A node, with all that it has seen.
 #[derive(Debug, Drop)]
 pub struct Node {
     alloc: Global,
-    opening: Opening,
+    acceptor: Acceptor,
+    /// The most entries that there may be.
+    limit: u32,
     /// The oldest first.
     entries: Vec<Entry>,
     link: Option<Link>,
 }
 
 impl Node {
-    ghost use Rattle.pg_console.specs.LinkKept.{IsNode, IsReplyAwaited, history_of};
+    ghost use Rattle.pg_console.specs.LinkHeard.{awaits};
+    ghost use Rattle.pg_console.specs.LinkKept.{IsNode, history_of};
     ghost use Rattle.pg_console.specs.Stepped.{Stepped};
 
     /// A node that has seen nothing.
@@ -30,9 +34,11 @@ impl Node {
         ensures node { IsNode result }
         ensures history { history_of result ≡ opened_with opening }
     {
+        let limit = opening.entries;
         Node {
             alloc,
-            opening,
+            acceptor: Acceptor::new(alloc, opening),
+            limit,
             entries: Vec::new(alloc),
             link: None,
         }
@@ -58,7 +64,7 @@ impl Node {
     fn is_full(&self) -> bool
         ensures { result ≡ is_full (history_of self.now) }
     {
-        self.entries.len() >= self.opening.entries as usize
+        self.entries.len() >= self.limit as usize
     }
 
     #[tactic(auto, unfolding(crate::specs::Stepped::Stepped))]
@@ -104,89 +110,58 @@ impl Node {
         ensures node { IsNode self.new }
         ensures stepped { Stepped (history_of self.old) (Event.Frame number body) (history_of self.new) result }
     {
-        let rule = match &self.link {
-            Some(link) if link.number == number => match link.stage {
-                Stage::AwaitName => return self.name(number, body),
-                Stage::AwaitReply(_) => return self.reply(number, body),
-                Stage::Up => Rule::BadFrame,
-                Stage::Ended => Rule::NoSuchLink,
-            },
-            _ => Rule::NoSuchLink,
-        };
-        self.refuse(Event::Frame(number, body), rule)
+        match &self.link {
+            Some(link) if link.number == number => self.heard(number, body),
+            _ => self.refuse(Event::Frame(number, body), Rule::NoSuchLink),
+        }
     }
 
-    /// The name frame, which is awaited.
+    /// A frame of the link that is kept. Its entry has room before the link takes it.
     #[tactic(auto, unfolding(crate::specs::Stepped::Stepped))]
-    fn name(&mut self, number: u32, body: Body) -> Result<Reply, StepFault>
+    fn heard(&mut self, number: u32, body: Body) -> Result<Reply, StepFault>
         requires node { IsNode self.old }
         requires room { is_full (history_of self.old) ≡ false }
-        requires awaited { IsSomeAnd self.old.link (λ link. (link.number ≡ number) × (link.stage ≡ Stage.AwaitName)) }
+        requires kept { IsSomeAnd self.old.link (λ link. link.number ≡ number) }
         ensures node { IsNode self.new }
         ensures stepped { Stepped (history_of self.old) (Event.Frame number body) (history_of self.new) result }
     {
-        let peer = match named(self.alloc, &self.opening, body.as_slice()) {
-            Ok(peer) => peer,
-            Err(StepFault::Refused(rule)) => return self.refuse(Event::Frame(number, body), rule),
-            Err(StepFault::OutOfMemory) => return Err(StepFault::OutOfMemory),
-        };
-        let Some(link) = &self.link else {
-            unreachable!()
-        };
-        let challenge = link.challenge;
-        let waiting = greeting(self.alloc, &self.opening, challenge)?;
-        enter(&mut self.entries, Event::Frame(number, body), true)?;
-        let stage = Stage::AwaitReply(peer);
-        self.link = Some(Link {
-            number,
-            challenge,
-            stage,
-            waiting,
-        });
-        Ok(Reply::Done)
-    }
-
-    /// The reply, which is awaited.
-    #[tactic(auto, unfolding(crate::specs::Stepped::Stepped))]
-    fn reply(&mut self, number: u32, body: Body) -> Result<Reply, StepFault>
-        requires node { IsNode self.old }
-        requires room { is_full (history_of self.old) ≡ false }
-        requires awaited { IsSomeAnd self.old.link (λ link. (link.number ≡ number) × IsReplyAwaited link.stage) }
-        ensures node { IsNode self.new }
-        ensures stepped { Stepped (history_of self.old) (Event.Frame number body) (history_of self.new) result }
-    {
-        let Some(link) = &self.link else {
-            unreachable!()
-        };
-        let challenge = link.challenge;
-        let ack = match acknowledged(self.alloc, &self.opening, challenge, body.as_slice()) {
-            Ok(ack) => ack,
-            Err(StepFault::Refused(rule)) => return self.refuse(Event::Frame(number, body), rule),
-            Err(StepFault::OutOfMemory) => return Err(StepFault::OutOfMemory),
-        };
         self.entries.reserve(1)?;
-        let up = prove(&mut self.link, ack)?;
-        self.entries
-            .push(Entry {
-                event: Event::Frame(number, body),
-                accepted: true,
-            })
-            .unwrap();
-        Ok(up)
+        let Some(link) = self.link.take() else {
+            unreachable!()
+        };
+        let heard = self.acceptor.hear(self.alloc, link, body.as_slice());
+        let event = Event::Frame(number, body);
+        match heard {
+            Heard::Accepted(link, reply) => {
+                self.link = Some(link);
+                let accepted = true;
+                self.entries.push(Entry { event, accepted }).unwrap();
+                Ok(reply)
+            }
+            Heard::Refused(link, rule) => {
+                self.link = link;
+                let accepted = false;
+                self.entries.push(Entry { event, accepted }).unwrap();
+                Err(StepFault::Refused(rule))
+            }
+            Heard::OutOfMemory(link) => {
+                self.link = Some(link);
+                Err(StepFault::OutOfMemory)
+            }
+        }
     }
 
-    /// Enters a refused event. A frame that the link awaited ends it.
+    /// Enters a refused event that leaves the link as it is.
     #[tactic(auto, unfolding(crate::specs::Stepped::Stepped))]
     fn refuse(&mut self, event: Event, rule: Rule) -> Result<Reply, StepFault>
         requires node { IsNode self.old }
         requires room { is_full (history_of self.old) ≡ false }
         requires broken { first_broken (checks (history_of self.old) event) ≡ Some rule }
+        requires unawaited { awaits self.old.link event ≡ false }
         ensures node { IsNode self.new }
         ensures stepped { Stepped (history_of self.old) event (history_of self.new) result }
     {
-        let ends = ends(&self.link, &event);
         enter(&mut self.entries, event, false)?;
-        self.link = refused(self.link.take(), ends);
         Err(StepFault::Refused(rule))
     }
 }

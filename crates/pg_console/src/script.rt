@@ -68,7 +68,9 @@ pub fn run<A: AllocGlobal, R: BufRead, W: Write>(
                 let Ok(()) = put_numbered_line("fault line ", turn + 1, &mut out) else {
                     return Err(RunFault::Memory);
                 };
-                send(out.as_slice(), writer)?;
+                let Ok(()) = send(out.as_slice(), writer) else {
+                    return Err(RunFault::Write);
+                };
                 return Err(RunFault::Script(turn + 1));
             }
         }

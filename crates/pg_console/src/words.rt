@@ -7,9 +7,9 @@ ghost use Rattle.pg_console.specs.WordsLeft.{words_left};
 ghost use Rattle.pg_console.specs.Faults.{IsUnread};
 
 use crate::command::LineFault;
-use crate::event::Body;
 use hex::FromHexError;
 use itoa::Buffer;
+use link_states::Body;
 use std::alloc::Global;
 
 /// A line without the line feed at its end.

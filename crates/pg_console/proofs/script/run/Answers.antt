@@ -1,5 +1,9 @@
-use Rattle.std.proofs.Common.{◌≡◌, ℕ, ◌+◌, ◌<◌, ◌++◌, List, length, rules, arith, refl, sym, ap, ◌∙◌, inl, inr}
+use Rattle.std.proofs.Common.{◌≡◌, ℕ, ◌+◌, ◌<◌, ◌++◌, List, length, Err, rules, refl, ap, ◌∙◌, inl, inr}
 use Rattle.std.specs.Io.BufRead.{take_through, drop_through, strip_last}
+use Rattle.std.specs.declared.result.Result.{Result}
+use Rattle.std.specs.Prelude.{◌⊎◌}
+use Rattle.pg_console.specs.declared.script.RunFault.{RunFault}
+use Rattle.pg_console.specs.declared.script.RunFault.TheVariants as faults
 use Rattle.pg_console.specs.Transcript.{line_text}
 use Rattle.pg_console.specs.Answers.{fault_line}
 use Rattle.pg_console.proofs.Played.{played_start, played_next, played_fault, played_end, played_part, weaken, came, if_known}
@@ -18,6 +22,14 @@ pub returns-in-Err-clause-text : goal.returns-in-Err-clause-text
 returns-in-Err-clause-text g c = λ positive. weaken (g.R.Read.remaining c.args.reader.now)
     (λ script kept. elim c.read_fault.ensures.ended [ inl e ↦ rw e (played_part kept.2) | inr e ↦ rw e (played_part kept.2) ]) c.loop-turn.invariant
 
+-- a failed read is no fault of the opening
+is_good : {U P : Type 0} (fault : RunFault) → (fault ≡ faults.Read) ⊎ (fault ≡ faults.Memory) → Path (Result U RunFault) (Err fault) (Err faults.BadOpening) → P
+is_good fault (inl e) bad = absurd (cc (e, bad))
+is_good fault (inr e) bad = absurd (cc (e, bad))
+
+pub returns-in-Err-clause-untouched : goal.returns-in-Err-clause-untouched
+returns-in-Err-clause-untouched g c = is_good c.read_fault.result c.read_fault.ensures.ended
+
 pub returns-in-Err-Memory-clause-text : goal.returns-in-Err-Memory-clause-text
 returns-in-Err-Memory-clause-text g c = λ positive. weaken (g.R.Read.remaining c.args.reader.now)
     (λ script kept. played_part kept.2) c.loop-turn.invariant
@@ -29,7 +41,7 @@ returns-in-Err-Script-clause-text g c = λ positive. weaken (g.R.Read.remaining 
     let some : 0 < length c.read_until.new.buf.items = search rules in
     let is = c.without_feed.ensures ∙ ap (strip_last 10) (c.as_slice.ensures.value ∙ bytes) in
     let said : c.as_slice-in-Err-Script.result.now ≡ fault_line (c.loop-turn.turn + 1) = rw (c.as_slice-in-Err-Script.ensures.value, c.in-Ok-put_numbered_line.ensures, c.clear-in-Err-Script.ensures.items) refl in
-    played_fault kept.2 (came kept.0 (rw bytes at some)) is (c.in-Err-Script.ensures.fault c.in-Err-Script.field-0-is) (rw said at c.in_ok-send-in-Err-Script.ensures.ok)) c.loop-turn.invariant
+    played_fault kept.2 (came kept.0 (rw bytes at some)) is (c.in-Err-Script.ensures.fault c.in-Err-Script.field-0-is) (rw said at c.in-Ok-send.ensures.ok)) c.loop-turn.invariant
 
 -- a line that was answered
 pub loop-turn-preserved : goal.loop-turn-preserved
@@ -52,3 +64,7 @@ returns-clause-text g c = λ positive. weaken (g.R.Read.remaining c.args.reader.
 pub returns-in_default-clause-text : goal.returns-in_default-clause-text
 returns-in_default-clause-text g c = λ positive. weaken (g.R.Read.remaining c.args.reader.now)
     (λ script kept. played_part kept.2) c.loop-turn.invariant
+
+-- the line of a fault could not be written
+pub returns-in_default-send-clause-text : goal.returns-in_default-send-clause-text
+returns-in_default-send-clause-text g c = λ positive. weaken (g.R.Read.remaining c.args.reader.now) (λ script kept. tt) c.loop-turn.invariant
