@@ -88,7 +88,8 @@ impl Acceptor {
         Heard::Refused(Some(left), rule)
     }
 
-    /// Takes the name frame, which is awaited.
+    /// Takes the name frame, which is awaited. Only rules that owe no frame can break: each name is allowed, and no other
+    /// link is there.
     fn named(
         &self,
         alloc: Global,

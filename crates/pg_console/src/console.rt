@@ -15,7 +15,7 @@ use std::alloc::Global;
 use std::marker::Model;
 
 /// The node that a script is played on.
-#[derive(Debug, Drop)]
+#[derive(Debug)]
 pub struct Console {
     node: Node,
 }
@@ -64,5 +64,12 @@ impl Console {
     {
         let stepped = self.node.step(event);
         put_step(alloc, &stepped, out)
+    }
+}
+
+/// Lets go of the node in one call, so that the proof of a caller has one step for it.
+impl Drop for Console {
+    fn drop(self) {
+        let Console { node: _ } = self;
     }
 }
