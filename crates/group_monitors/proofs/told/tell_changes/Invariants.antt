@@ -1,0 +1,9 @@
+use Rattle.std.proofs.Common.{◌≡◌, ◌++◌}
+use Rattle.std.specs.Prelude.{take}
+use Rattle.policy_audit.specs.Monitors.{updates_of}
+use Rattle.group_monitors.specs.Monitors.{target}
+use Rattle.group_monitors.proofs.told.tell_changes.Given as goal
+
+-- the updates so far
+abbrev pub invariant-loop-change : goal.invariant-loop-change
+invariant-loop-change l = l.updates.items ≡ l.fn.updates.items ++ updates_of (target l.monitor) (take l.change-index l.changes)

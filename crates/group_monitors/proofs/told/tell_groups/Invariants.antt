@@ -1,0 +1,9 @@
+use Rattle.std.proofs.Common.{◌≡◌, ◌++◌, [], cond}
+use Rattle.std.specs.Prelude.{take}
+use Rattle.std.specs.List.{flat_map}
+use Rattle.policy_audit.specs.Monitors.{is_watched, group_updates}
+use Rattle.group_monitors.proofs.told.tell_groups.Given as goal
+
+-- the updates so far
+abbrev pub invariant-loop-change : goal.invariant-loop-change
+invariant-loop-change l = l.updates.items ≡ l.fn.updates.items ++ flat_map (λ c. cond (is_watched l.watched c) (group_updates c) []) (take l.change-index l.changes)
