@@ -1,5 +1,5 @@
 -- What a look-up by number says of a seat's monitor, and what writing and removing there make of the monitors.
-use Rattle.std.proofs.Common.{◌≡◌, ◌≢◌, ◌∙◌, sym, ap, refl, ℕ, Bool, true, false, cond, not, nat_eq, ◌&&◌, ◌==◌, ◌||◌, ◌++◌, List, [], ◌∷◌, Option, Some, None, map, filter, true≢false, is_some}
+use Rattle.std.proofs.Common.{◌≡◌, ◌≢◌, ◌∙◌, sym, ap, refl, ℕ, Bool, true, false, cond, not, nat_eq, ◌&&◌, ◌==◌, ◌||◌, List, [], ◌∷◌, Some, None, true≢false, is_some}
 use Rattle.std.specs.Map.{keys_of, lookup, set_value, remove_entry}
 use Rattle.std.specs.List.{IsDistinct, list_any}
 use Rattle.std.specs.Cmp.{nat_eq_equiv}
@@ -10,7 +10,7 @@ use Rattle.std.proofs.lemmas.Bool.{false_from_ne_true}
 use Rattle.std.proofs.lemmas.Bool.Decides.{Decides-eqb}
 use Rattle.std.specs.Option.{unwrap_or}
 use Rattle.group_monitors.specs.declared.monitor.Monitor.{Monitor}
-use Rattle.group_monitors.specs.Monitors.{is_of, monitor_of, IsFree, without, with_place, at_place}
+use Rattle.group_monitors.specs.Monitors.{monitor_of, IsFree, without, with_place, at_place}
 
 -- no seat has a number that no monitor has
 nobodys : (seat n : ℕ) (ms : List (ℕ × Monitor)) → NonePasses (nat_eq n) ms → monitor_of ms seat n ≡ None

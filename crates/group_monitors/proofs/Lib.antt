@@ -1,1 +1,3 @@
 pub mod Found
+pub mod Fetched
+pub mod Differences

@@ -1,1 +1,3 @@
 pub mod Monitors
+pub mod Fetches
+pub mod Counts

@@ -2,9 +2,11 @@
 #![tactic(auto)]
 
 mod fault;
+mod laws;
 mod monitor;
 mod monitors;
 mod told;
 
 pub use fault::{NoMonitor, UpdatesFault};
+pub use laws::{since_the_place, tells_the_listing};
 pub use monitors::Monitors;
