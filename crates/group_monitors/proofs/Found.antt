@@ -13,7 +13,7 @@ use Rattle.group_monitors.specs.declared.monitor.Monitor.{Monitor}
 use Rattle.group_monitors.specs.Monitors.{monitor_of, IsFree, without, with_place, at_place}
 
 -- no seat has a number that no monitor has
-nobodys : (seat n : ℕ) (ms : List (ℕ × Monitor)) → NonePasses (nat_eq n) ms → monitor_of ms seat n ≡ None
+pub nobodys : (seat n : ℕ) (ms : List (ℕ × Monitor)) → NonePasses (nat_eq n) ms → monitor_of ms seat n ≡ None
 nobodys seat n [] none = refl
 nobodys seat n (m ∷ ms) none = ap (λ b. cond (b && m.1.seat == seat) (Some m.1) (monitor_of ms seat n)) none.0 ∙ nobodys seat n ms none.1
 
@@ -27,7 +27,7 @@ all_stay seat n (m ∷ ms) none =
 all_rest : (seat n p : ℕ) (ms : List (ℕ × Monitor)) → NonePasses (nat_eq n) ms → with_place seat n p ms ≡ ms
 all_rest seat n p [] none = refl
 all_rest seat n p (m ∷ ms) none =
-    ap (λ b. cond (b && m.1.seat == seat) (at_place p m) m ∷ with_place seat n p ms) none.0 ∙ ap (λ rest. m ∷ rest) (all_rest seat n p ms none.1)
+    ap (λ b. cond (b && m.1.seat == seat) (m.0, at_place p m.1) m ∷ with_place seat n p ms) none.0 ∙ ap (λ rest. m ∷ rest) (all_rest seat n p ms none.1)
 
 -- where none is found the seat has none
 pub none_found : (seat n : ℕ) (ms : List (ℕ × Monitor)) → lookup (nat_eq n) ms ≡ None → monitor_of ms seat n ≡ None

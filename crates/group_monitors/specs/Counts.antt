@@ -2,7 +2,8 @@
 use Rattle.std.specs.Prelude.{◌≡◌, ℕ, ◌+◌, ◌-◌, ◌⊎◌, nat_lt, cond, List, [], ◌∷◌, ◌++◌, Option, Some, None}
 use Rattle.std.specs.Option.{option_and_then}
 use Rattle.dist_types.specs.declared.pid.Pid.{Pid}
-use Rattle.dist_types.specs.Listing.{same, mentions}
+use Rattle.dist_types.specs.Listing.{same, total, mentions}
+use Rattle.policy_audit.specs.declared.reply.GroupPids.{GroupPids}
 use Rattle.policy_audit.specs.declared.reply.Update.{Update}
 use Rattle.policy_audit.specs.declared.entry.Entry.{Entry}
 use Rattle.policy_audit.specs.History.{History}
@@ -20,6 +21,10 @@ count_after g p u n = cond (same u.group g) (cond u.leave (less n (mentions p u.
 abbrev pub counted : List ℕ → Pid → List Update → ℕ → Option ℕ
 counted g p [] n = Some n
 counted g p (u ∷ us) n = option_and_then (counted g p us) (count_after g p u n)
+
+-- how often p is in g by the groups of a scope with their processes
+abbrev pub times_in : List ℕ → Pid → List GroupPids → ℕ
+times_in g p groups = total (λ c. cond (same c.group g) (mentions p c.pids) 0) groups
 
 -- the monitor is one of the group g, or of its scope
 abbrev pub Watches : List ℕ → Monitor → Type 0

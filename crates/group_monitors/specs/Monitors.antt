@@ -1,6 +1,6 @@
 -- The monitors of all seats: in the order in which they were added, each with its number.
-use Rattle.std.specs.Prelude.{◌≡◌, ℕ, ◌≤◌, Bool, false, cond, not, ◌&&◌, ◌==◌, List, [], ◌∷◌, Option, Some, None, map, length, IfSome, IsSome}
-use Rattle.std.specs.List.{flat_map, filter, list_any}
+use Rattle.std.specs.Prelude.{◌≡◌, ℕ, ◌≤◌, Bool, false, cond, not, nat_eq, ◌&&◌, ◌==◌, List, [], ◌∷◌, Option, Some, None, map, length, IfSome, IsSome}
+use Rattle.std.specs.List.{IsDistinct, flat_map, filter, list_any}
 use Rattle.dist_types.specs.Listing.{same}
 use Rattle.policy_audit.specs.declared.reply.Update.{Update}
 use Rattle.policy_audit.specs.declared.entry.Entry.{Entry}
@@ -23,6 +23,10 @@ abbrev pub monitor_of : List (ℕ × Monitor) → ℕ → ℕ → Option Monitor
 monitor_of [] seat number = None
 monitor_of (m ∷ ms) seat number = cond (is_of seat number m) (Some m.1) (monitor_of ms seat number)
 
+-- no two monitors have the same number
+abbrev pub IsNumbered : List (ℕ × Monitor) → Type 0
+IsNumbered ms = IsDistinct nat_eq (map (λ m. m.0) ms)
+
 -- no monitor, of whatever seat, has the number
 abbrev pub IsFree : ℕ → List (ℕ × Monitor) → Type 0
 IsFree number ms = list_any (λ m. number == m.0) ms ≡ false
@@ -44,12 +48,12 @@ abbrev pub without_scope : List ℕ → List (ℕ × Monitor) → List (ℕ × M
 without_scope s ms = filter (λ m. not (same m.1.scope s)) ms
 
 -- the monitor, at this place
-abbrev pub at_place : ℕ → ℕ × Monitor → ℕ × Monitor
-at_place place m = (m.0, record m.1 { place = place })
+abbrev pub at_place : ℕ → Monitor → Monitor
+at_place place m = record m { place = place }
 
 -- the monitors, with the seat's of that number at this place
 abbrev pub with_place : ℕ → ℕ → ℕ → List (ℕ × Monitor) → List (ℕ × Monitor)
-with_place seat number place ms = map (λ m. cond (is_of seat number m) (at_place place m) m) ms
+with_place seat number place ms = map (λ m. cond (is_of seat number m) (m.0, at_place place m.1) m) ms
 
 -- why no updates are told. Want of memory comes last.
 abbrev pub IsUpdatesFault : UpdatesFault → Option Monitor → Type 0

@@ -1,15 +1,20 @@
-//! Laws of places and updates. Each function does nothing; its contract is the law.
-ghost use Rattle.std.specs.Prelude.{◌≡◌, ◌+◌, ◌≤◌, ℕ, false, List, ◌∷◌, Some, length, IsTrue};
+//! Laws of monitors. Each function does nothing; its contract is the law.
+ghost use Rattle.std.specs.Prelude.{◌≡◌, ◌+◌, ◌≤◌, ◌==◌, ◌&&◌, ◌++◌, ℕ, false, cond, List, [], ◌∷◌, Some, None, length, IsTrue};
+ghost use Rattle.std.specs.Option.{option_map, option_and_then};
 ghost use Rattle.dist_types.specs.declared.pid.Pid.{Pid};
+ghost use Rattle.dist_types.specs.Listing.{same, mentions};
 ghost use Rattle.policy_audit.specs.declared.entry.Entry.{Entry};
 ghost use Rattle.policy_audit.specs.History.{History};
 ghost use Rattle.policy_audit.specs.Listed.{listed};
+ghost use Rattle.policy_audit.specs.Contents.{members, contents};
 ghost use Rattle.policy_audit.specs.Monitors.{is_fetch, monitor, updates, updates_since};
 ghost use Rattle.policy_audit.specs.Policy.{IsLegal};
 ghost use Rattle.group_monitors.specs.declared.monitor.Monitor.{Monitor as Watch};
-ghost use Rattle.group_monitors.specs.Monitors.{target, updates_behind};
+ghost use Rattle.group_monitors.specs.Monitors.{target, at_place, monitor_of, IsFree, IsNumbered, updates_behind, without, without_scope, with_place};
 ghost use Rattle.group_monitors.specs.Fetches.{IsLastFetch};
-ghost use Rattle.group_monitors.specs.Counts.{counted, Watches, Extends};
+ghost use Rattle.group_monitors.specs.Counts.{counted, times_in, Watches, Extends};
+
+use policy_audit::lists_ascend;
 
 /// What the entries behind its place tell a monitor is the policy's answer, where the place is that of the last fetch.
 /// It is so again behind each further entry, once the place has moved to each further fetch.
@@ -23,7 +28,27 @@ pub fn since_the_place()
 
 /// In every history that the policy makes: how often a process was in a watched group at the monitor's place, with what the
 /// monitor is told since then applied in turn, is how often it is listed there now. None leaves that isn't there.
+/// So the first contents, of a group and of a scope, become the contents of now.
 pub fn tells_the_listing()
-    ensures { (h k : History) → IsLegal h → Extends h k → (m : Watch) → m.place ≡ length k.entries
+    ensures listed { (h k : History) → IsLegal h → Extends h k → (m : Watch) → m.place ≡ length k.entries
         → (g : List ℕ) → Watches g m → (p : Pid) → counted g p (updates_behind h.entries m) (listed k m.scope g p) ≡ Some (listed h m.scope g p) }
+    ensures group { (h k : History) → IsLegal h → Extends h k → (m : Watch) → m.place ≡ length k.entries
+        → (g : List ℕ) → m.group ≡ Some g → (p : Pid) → counted g p (updates_behind h.entries m) (mentions p (members k m.scope g)) ≡ Some (mentions p (members h m.scope g)) }
+    ensures scope { (h k : History) → IsLegal h → Extends h k → (m : Watch) → m.place ≡ length k.entries
+        → m.group ≡ None → (g : List ℕ) (p : Pid) → counted g p (updates_behind h.entries m) (times_in g p (contents k m.scope)) ≡ Some (times_in g p (contents h m.scope)) }
+{
+    lists_ascend();
+}
+
+/// Which seat has which monitor after each call: the added one beside those before, all but the removed one and those of the
+/// dropped scope, and the moved one at its new place.
+pub fn found_after()
+    ensures added { (ms : List (ℕ × Watch)) (n : ℕ) (m : Watch) → IsFree n ms
+        → (seat k : ℕ) → monitor_of (ms ++ (n, m) ∷ []) seat k ≡ cond (k == n && m.seat == seat) (Some m) (monitor_of ms seat k) }
+    ensures removed { (ms : List (ℕ × Watch)) (own n : ℕ)
+        → (seat k : ℕ) → monitor_of (without own n ms) seat k ≡ cond (k == n && own == seat) None (monitor_of ms seat k) }
+    ensures moved { (ms : List (ℕ × Watch)) (own n place : ℕ)
+        → (seat k : ℕ) → monitor_of (with_place own n place ms) seat k ≡ cond (k == n && own == seat) (option_map (at_place place) (monitor_of ms seat k)) (monitor_of ms seat k) }
+    ensures dropped { (ms : List (ℕ × Watch)) (s : List ℕ) → IsNumbered ms
+        → (seat k : ℕ) → monitor_of (without_scope s ms) seat k ≡ option_and_then (λ m. cond (same m.scope s) None (Some m)) (monitor_of ms seat k) }
 {}

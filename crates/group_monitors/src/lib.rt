@@ -8,5 +8,5 @@ mod monitors;
 mod told;
 
 pub use fault::{NoMonitor, UpdatesFault};
-pub use laws::{since_the_place, tells_the_listing};
+pub use laws::{found_after, since_the_place, tells_the_listing};
 pub use monitors::Monitors;

@@ -2,7 +2,7 @@
 ghost use Rattle.std.specs.Prelude.{◌≡◌, ◌++◌, ◌∷◌, [], ◌≤◌, Some, None, length, not, IfOk, IfErr, OnOk, OnErr, IfSome, IsSome};
 ghost use Rattle.std.specs.Option.{option_map, option_copied};
 ghost use Rattle.dist_types.specs.Listing.{same};
-ghost use Rattle.group_monitors.specs.Monitors.{monitor_of, IsFree, HasSeen, updates_behind, with_place, without, without_scope, IsUpdatesFault};
+ghost use Rattle.group_monitors.specs.Monitors.{monitor_of, IsFree, IsNumbered, HasSeen, updates_behind, with_place, without, without_scope, IsUpdatesFault};
 
 use crate::fault::{NoMonitor, UpdatesFault};
 use crate::monitor::Monitor;
@@ -110,7 +110,8 @@ impl Monitors {
 
     /// Takes all monitors of a scope away.
     pub fn drop_scope(&mut self, scope: &Scope)
-        ensures { self.new ≡ without_scope scope.now self.old }
+        ensures dropped { self.new ≡ without_scope scope.now self.old }
+        ensures numbers { IsNumbered self.old }
     {
         self.monitors.retain(
             |_number: &u32, monitor: &mut Monitor| -> bool

@@ -2,5 +2,5 @@ use Rattle.std.proofs.Common.{rules}
 use Rattle.indexmap.proofs.CallerLemmas.{filter-RetainsPairs}
 use Rattle.group_monitors.proofs.monitors.Monitors.drop_scope.Goals as goal
 
-pub returns : goal.returns
-returns c = rw (← c.self.view_is) (filter-RetainsPairs _ _ _ (λ k v b w g call. search rules) _ _ c.retain.ensures.filtered)
+pub returns-clause-dropped : goal.returns-clause-dropped
+returns-clause-dropped c = rw (← c.self.view_is) (filter-RetainsPairs _ _ _ (λ k v b w g call. search rules) _ _ c.retain.ensures.filtered)
