@@ -10,3 +10,6 @@ mod told;
 pub use fault::{NoMonitor, UpdatesFault};
 pub use laws::{found_after, since_the_place, tells_the_listing};
 pub use monitors::Monitors;
+
+#[cfg(test)]
+mod tests;

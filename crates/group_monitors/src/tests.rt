@@ -1,0 +1,223 @@
+//! What monitors tell of a short audit, and the refusals.
+ghost use Rattle.std.specs.Prelude.{◌≡◌, ◌+◌, [], ◌∷◌, IfOk, OnOk, length, Some, None, codes};
+ghost use Rattle.group_monitors.specs.Monitors.{monitor_of, HasSeen};
+
+use super::*;
+use dist_types::{Group, GroupChange, Items, NodeName, Pid, Pids, Scope, TryClone};
+use policy_audit::{Audit, Change, Event, Rule, Update, Verdict};
+use std::alloc::Global;
+use std::fmt::Write;
+use std::test::Fail;
+
+/// Processes of a@h with these numbers.
+fn pids(alloc: Global, numbers: &[u64]) -> Result<Pids, Fail> {
+    let mut pids = Vec::new(alloc);
+    for number in numbers {
+        pids.push(Pid {
+            node: NodeName::parse(alloc, b"a@h")?,
+            creation: 5,
+            number: *number,
+        })?;
+    }
+    Ok(Items::of(pids))
+}
+
+/// What changes in a group: these processes leave, and those join.
+#[derive(Clone, Copy)]
+struct Moves {
+    group: &'static [u8],
+    left: &'static [u64],
+    joined: &'static [u64],
+}
+
+fn group_change(alloc: Global, moves: Moves) -> Result<GroupChange, Fail> {
+    Ok(GroupChange {
+        group: Group::parse(alloc, moves.group)?,
+        left: pids(alloc, moves.left)?,
+        joined: pids(alloc, moves.joined)?,
+    })
+}
+
+/// Makes an entry with these changes in a scope.
+fn enter(alloc: Global, audit: &mut Audit, scope: &[u8], moves: &[Moves]) -> Result<(), Fail>
+    ensures { OnOk result (length audit.new.entries ≡ length audit.old.entries + 1) }
+{
+    let mut groups = Vec::new(alloc);
+    for moved in moves {
+        groups.push(group_change(alloc, *moved)?)?;
+    }
+    let mut changes = Vec::new(alloc);
+    changes.push(Change {
+        scope: Scope::parse(alloc, scope)?,
+        groups: Items::of(groups),
+    })?;
+    audit.push(
+        0,
+        Event::Spawn,
+        Verdict::Refused(Rule::PidsFull),
+        Items::of(changes),
+    )?;
+    Ok(())
+}
+
+/// Five entries. The first and the fourth change nothing in pg.
+fn entries(alloc: Global) -> Result<Audit, Fail>
+    ensures { IfOk result (λ audit. length audit.entries ≡ 5) }
+{
+    let mut audit = Audit::new(alloc, 100);
+    let swap = Moves {
+        group: b"g",
+        left: &[1, 1],
+        joined: &[3],
+    };
+    let join = Moves {
+        group: b"g",
+        left: &[],
+        joined: &[1],
+    };
+    let leave = Moves {
+        group: b"h",
+        left: &[2],
+        joined: &[],
+    };
+    enter(alloc, &mut audit, b"other", &[join])?;
+    enter(alloc, &mut audit, b"pg", &[swap])?;
+    enter(alloc, &mut audit, b"pg", &[leave])?;
+    enter(alloc, &mut audit, b"other", &[leave])?;
+    enter(alloc, &mut audit, b"pg", &[join, leave])?;
+    Ok(audit)
+}
+
+/// Writes `leave g 1 1` or `join g 3`, each with a semicolon behind it.
+fn write_update(text: &mut String, update: &Update) -> Result<(), Fail> {
+    let word = if update.leave { "leave" } else { "join" };
+    let letter = update.group.as_bytes().first().copied().unwrap_or(0);
+    write!(text, "{word} {}", char::from(letter))?;
+    for pid in update.pids.as_slice() {
+        write!(text, " {}", pid.number)?;
+    }
+    write!(text, ";")?;
+    Ok(())
+}
+
+/// What the monitor is told, or why nothing is.
+fn told(
+    alloc: Global,
+    monitors: &Monitors,
+    audit: &Audit,
+    seat: u32,
+    number: u32,
+) -> Result<String, Fail>
+    requires { HasSeen (monitor_of monitors.now seat number) audit.now.entries }
+{
+    let mut text = String::new(alloc);
+    match monitors.updates(seat, number, audit) {
+        Ok(updates) => {
+            for update in updates.as_slice() {
+                write_update(&mut text, update)?;
+            }
+        }
+        Err(fault) => write!(text, "{fault}")?,
+    }
+    Ok(text)
+}
+
+/// Seat 0 watches g of pg behind entry 1, seat 1 behind entry 2, and seat 0 all of pg behind entry 3.
+fn three(alloc: Global) -> Result<Monitors, Fail>
+    ensures { IfOk result (λ monitors. monitors ≡ (1, record { seat = 0; scope = codes "pg"; group = Some (codes "g"); place = 1 }) ∷ (2, record { seat = 1; scope = codes "pg"; group = Some (codes "g"); place = 2 }) ∷ (3, record { seat = 0; scope = codes "pg"; group = None; place = 3 }) ∷ []) }
+{
+    let mut monitors = Monitors::new(alloc);
+    monitors.add_group(
+        0,
+        1,
+        Scope::parse(alloc, b"pg")?,
+        Group::parse(alloc, b"g")?,
+    )?;
+    monitors.add_group(
+        1,
+        2,
+        Scope::parse(alloc, b"pg")?,
+        Group::parse(alloc, b"g")?,
+    )?;
+    monitors.add_scope(0, 3, Scope::parse(alloc, b"pg")?)?;
+    Ok(monitors)
+}
+
+#[test]
+fn tells_each_monitor_what_is_behind_its_place(rt: HostRuntime) -> Result<(), Fail> {
+    let alloc = rt.alloc();
+    let monitors = three(alloc)?;
+    let audit = entries(alloc)?;
+    assert_eq!(rt;
+        told(alloc, &monitors, &audit, 0, 1)?.as_str(),
+        "leave g 1 1;join g 3;join g 1;"
+    );
+    assert_eq!(rt; told(alloc, &monitors, &audit, 1, 2)?.as_str(), "join g 1;");
+    assert_eq!(rt;
+        told(alloc, &monitors, &audit, 0, 3)?.as_str(),
+        "join g 1;leave h 2;"
+    );
+    Ok(())
+}
+
+#[test]
+fn tells_the_same_until_advance(rt: HostRuntime) -> Result<(), Fail> {
+    let alloc = rt.alloc();
+    let mut monitors = three(alloc)?;
+    let mut audit = entries(alloc)?;
+    assert_eq!(rt; told(alloc, &monitors, &audit, 1, 2)?.as_str(), "join g 1;");
+    assert_eq!(rt; told(alloc, &monitors, &audit, 1, 2)?.as_str(), "join g 1;");
+    monitors.advance(1, 2, &audit)?;
+    assert_eq!(rt; told(alloc, &monitors, &audit, 1, 2)?.as_str(), "");
+    assert_eq!(rt;
+        told(alloc, &monitors, &audit, 0, 1)?.as_str(),
+        "leave g 1 1;join g 3;join g 1;"
+    );
+    enter(
+        alloc,
+        &mut audit,
+        b"pg",
+        &[Moves {
+            group: b"g",
+            left: &[3],
+            joined: &[],
+        }],
+    )?;
+    assert_eq!(rt;
+        told(alloc, &monitors, &audit, 1, 2)?.as_str(),
+        "leave g 3;"
+    );
+    Ok(())
+}
+
+const NONE: &str = "the seat has no monitor of that number";
+
+#[test]
+fn refuses_where_the_seat_has_no_such_monitor(rt: HostRuntime) -> Result<(), Fail> {
+    let alloc = rt.alloc();
+    let mut monitors = three(alloc)?;
+    let audit = entries(alloc)?;
+    assert_eq!(rt; told(alloc, &monitors, &audit, 0, 2)?.as_str(), NONE);
+    assert_eq!(rt; monitors.advance(0, 2, &audit), Err(NoMonitor));
+    assert_eq!(rt; monitors.remove(1, 1), Err(NoMonitor));
+    assert_eq!(rt; monitors.remove(0, 1), Ok(()));
+    assert_eq!(rt; monitors.remove(0, 1), Err(NoMonitor));
+    assert_eq!(rt; told(alloc, &monitors, &audit, 0, 1)?.as_str(), NONE);
+    assert_eq!(rt; told(alloc, &monitors, &audit, 1, 2)?.as_str(), "join g 1;");
+    Ok(())
+}
+
+#[test]
+fn drops_the_monitors_of_a_scope(rt: HostRuntime) -> Result<(), Fail> {
+    let alloc = rt.alloc();
+    let mut monitors = three(alloc)?;
+    let audit = entries(alloc)?;
+    let other = Scope::parse(alloc, b"other")?;
+    monitors.add_scope(1, 4, other.try_clone(alloc)?)?;
+    monitors.drop_scope(&Scope::parse(alloc, b"pg")?);
+    assert_eq!(rt; told(alloc, &monitors, &audit, 0, 3)?.as_str(), NONE);
+    assert_eq!(rt; told(alloc, &monitors, &audit, 1, 4)?.as_str(), "");
+    monitors.clear();
+    assert_eq!(rt; told(alloc, &monitors, &audit, 1, 4)?.as_str(), NONE);
+    Ok(())
+}
