@@ -23,7 +23,7 @@ use Rattle.group_monitors.specs.Monitors.{target, updates_behind}
 use Rattle.group_monitors.specs.Counts.{less, count_after, counted, Watches, Extends}
 
 -- updates in turn, and then others
-counted_append : (g : List ℕ) (p : Pid) (us vs : List Update) (n : ℕ) → counted g p (us ++ vs) n ≡ option_and_then (counted g p vs) (counted g p us n)
+pub counted_append : (g : List ℕ) (p : Pid) (us vs : List Update) (n : ℕ) → counted g p (us ++ vs) n ≡ option_and_then (counted g p vs) (counted g p us n)
 counted_append g p [] vs n = refl
 counted_append g p (u ∷ us) vs n = by (count_after g p u n) (counted_append g p us vs)
   where

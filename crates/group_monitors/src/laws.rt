@@ -4,6 +4,7 @@ ghost use Rattle.std.specs.Option.{option_map, option_and_then};
 ghost use Rattle.dist_types.specs.declared.pid.Pid.{Pid};
 ghost use Rattle.dist_types.specs.Listing.{same, mentions};
 ghost use Rattle.policy_audit.specs.declared.entry.Entry.{Entry};
+ghost use Rattle.policy_audit.specs.declared.reply.Update.{Update};
 ghost use Rattle.policy_audit.specs.History.{History};
 ghost use Rattle.policy_audit.specs.Listed.{listed};
 ghost use Rattle.policy_audit.specs.Contents.{members, contents};
@@ -28,7 +29,7 @@ pub fn since_the_place()
 
 /// In every history that the policy makes: how often a process was in a watched group at the monitor's place, with what the
 /// monitor is told since then applied in turn, is how often it is listed there now. None leaves that isn't there.
-/// So the first contents, of a group and of a scope, become the contents of now.
+/// So the first contents, of a group and of a scope, become the contents of now, also where they are fetched in several parts.
 pub fn tells_the_listing()
     ensures listed { (h k : History) → IsLegal h → Extends h k → (m : Watch) → m.place ≡ length k.entries
         → (g : List ℕ) → Watches g m → (p : Pid) → counted g p (updates_behind h.entries m) (listed k m.scope g p) ≡ Some (listed h m.scope g p) }
@@ -36,6 +37,7 @@ pub fn tells_the_listing()
         → (g : List ℕ) → m.group ≡ Some g → (p : Pid) → counted g p (updates_behind h.entries m) (mentions p (members k m.scope g)) ≡ Some (mentions p (members h m.scope g)) }
     ensures scope { (h k : History) → IsLegal h → Extends h k → (m : Watch) → m.place ≡ length k.entries
         → m.group ≡ None → (g : List ℕ) (p : Pid) → counted g p (updates_behind h.entries m) (times_in g p (contents k m.scope)) ≡ Some (times_in g p (contents h m.scope)) }
+    ensures parts { (g : List ℕ) (p : Pid) (us vs : List Update) (n : ℕ) → counted g p (us ++ vs) n ≡ option_and_then (counted g p vs) (counted g p us n) }
 {
     lists_ascend();
 }

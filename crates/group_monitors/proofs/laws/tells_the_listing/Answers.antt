@@ -1,7 +1,7 @@
 use Rattle.std.proofs.Common.{◌∙◌, sym, ap, inl, inr, Some}
 use Rattle.group_monitors.specs.Monitors.{updates_behind}
 use Rattle.group_monitors.specs.Counts.{counted}
-use Rattle.group_monitors.proofs.Differences.{told}
+use Rattle.group_monitors.proofs.Differences.{told, counted_append}
 use Rattle.group_monitors.proofs.FirstContents.{contents_count}
 use Rattle.group_monitors.proofs.laws.tells_the_listing.Goals as goal
 
@@ -18,3 +18,6 @@ returns-clause-scope c = λ h k legal more m at watched g p.
     ap (counted g p (updates_behind h.entries m)) (contents_count k m.scope g p (c.lists_ascend.ensures.members k m.scope g) (c.lists_ascend.ensures.groups k m.scope))
     ∙ told h k legal more m at g (inr watched) p
     ∙ ap Some (sym (contents_count h m.scope g p (c.lists_ascend.ensures.members h m.scope g) (c.lists_ascend.ensures.groups h m.scope)))
+
+pub returns-clause-parts : goal.returns-clause-parts
+returns-clause-parts c = counted_append
