@@ -57,50 +57,34 @@ pub enum Event {
 }
 
 impl TryClone for Event {
-    fn try_clone(&self, alloc: Global) -> Result<Event, OutOfMemory> {
+    fn try_clone(&self, a: Global) -> Result<Event, OutOfMemory> {
         Ok(match self {
             Self::Restart => Self::Restart,
-            Self::SetCookie(cookie) => Self::SetCookie(cookie.try_clone(alloc)?),
-            Self::SetCookieFor(n, c) => Self::SetCookieFor(
-                n.try_clone(alloc)?,
-                c.try_clone(alloc)?,
-            ),
-            Self::Allow(names) => Self::Allow(names.try_clone(alloc)?),
-            Self::StartScope(scope) => Self::StartScope(scope.try_clone(alloc)?),
-            Self::StopScope(scope) => Self::StopScope(scope.try_clone(alloc)?),
+            Self::SetCookie(cookie) => Self::SetCookie(cookie.try_clone(a)?),
+            Self::SetCookieFor(n, c) => Self::SetCookieFor(n.try_clone(a)?, c.try_clone(a)?),
+            Self::Allow(names) => Self::Allow(names.try_clone(a)?),
+            Self::StartScope(scope) => Self::StartScope(scope.try_clone(a)?),
+            Self::StopScope(scope) => Self::StopScope(scope.try_clone(a)?),
             Self::Spawn => Self::Spawn,
-            Self::Exit(pid) => Self::Exit(pid.try_clone(alloc)?),
-            Self::Join(s, g, p) => {
-                Self::Join(
-                    s.try_clone(alloc)?,
-                    g.try_clone(alloc)?,
-                    p.try_clone(alloc)?,
-                )
-            }
+            Self::Exit(pid) => Self::Exit(pid.try_clone(a)?),
+            Self::Join(s, g, p) => { Self::Join(s.try_clone(a)?, g.try_clone(a)?, p.try_clone(a)?) }
             Self::Leave(s, g, p) => {
-                Self::Leave(
-                    s.try_clone(alloc)?,
-                    g.try_clone(alloc)?,
-                    p.try_clone(alloc)?,
-                )
+                Self::Leave(s.try_clone(a)?, g.try_clone(a)?, p.try_clone(a)?)
             }
-            Self::Members(s, g) => Self::Members(s.try_clone(alloc)?, g.try_clone(alloc)?),
-            Self::LocalMembers(s, g) => Self::LocalMembers(
-                s.try_clone(alloc)?,
-                g.try_clone(alloc)?,
-            ),
-            Self::Groups(scope) => Self::Groups(scope.try_clone(alloc)?),
-            Self::LocalGroups(scope) => Self::LocalGroups(scope.try_clone(alloc)?),
-            Self::Monitor(s, g) => Self::Monitor(s.try_clone(alloc)?, g.try_clone(alloc)?),
-            Self::MonitorScope(scope) => Self::MonitorScope(scope.try_clone(alloc)?),
+            Self::Members(s, g) => Self::Members(s.try_clone(a)?, g.try_clone(a)?),
+            Self::LocalMembers(s, g) => Self::LocalMembers(s.try_clone(a)?, g.try_clone(a)?),
+            Self::Groups(scope) => Self::Groups(scope.try_clone(a)?),
+            Self::LocalGroups(scope) => Self::LocalGroups(scope.try_clone(a)?),
+            Self::Monitor(s, g) => Self::Monitor(s.try_clone(a)?, g.try_clone(a)?),
+            Self::MonitorScope(scope) => Self::MonitorScope(scope.try_clone(a)?),
             Self::Demonitor(number) => Self::Demonitor(*number),
             Self::Updates(number) => Self::Updates(*number),
-            Self::Dial(peer, challenge) => Self::Dial(peer.try_clone(alloc)?, *challenge),
+            Self::Dial(peer, challenge) => Self::Dial(peer.try_clone(a)?, *challenge),
             Self::Opened(challenge) => Self::Opened(*challenge),
             Self::Lost(link) => Self::Lost(*link),
             Self::Take(link) => Self::Take(*link),
-            Self::Disconnect(peer) => Self::Disconnect(peer.try_clone(alloc)?),
-            Self::Frame(link, body) => Self::Frame(*link, body.try_clone(alloc)?),
+            Self::Disconnect(peer) => Self::Disconnect(peer.try_clone(a)?),
+            Self::Frame(link, body) => Self::Frame(*link, body.try_clone(a)?),
         })
     }
 }
