@@ -221,3 +221,17 @@ fn drops_the_monitors_of_a_scope(rt: HostRuntime) -> Result<(), Fail> {
     assert_eq!(rt; told(alloc, &monitors, &audit, 1, 4)?.as_str(), NONE);
     Ok(())
 }
+
+/// Where one growth is refused, the call is made again: `rt try --test --fail-alloc N`.
+#[test]
+fn tells_all_after_a_refused_growth(rt: HostRuntime) -> Result<(), Fail> {
+    let alloc = rt.alloc();
+    let monitors = three(alloc)?;
+    let audit = entries(alloc)?;
+    let mut text = told(alloc, &monitors, &audit, 0, 1)?;
+    if text.as_str() == "out of memory" {
+        text = told(alloc, &monitors, &audit, 0, 1)?;
+    }
+    assert_eq!(rt; text.as_str(), "leave g 1 1;join g 3;join g 1;");
+    Ok(())
+}
