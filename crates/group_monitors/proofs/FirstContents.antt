@@ -1,12 +1,11 @@
 -- The contents of a scope have each process as often as it is listed.
-use Rattle.std.proofs.Common.{◌≡◌, ◌∙◌, sym, ap, refl, ℕ, ◌+◌, ◌<◌, Bool, true, false, cond, List, [], ◌∷◌, map, true≢false, arith, IsTrue}
+use Rattle.std.proofs.Common.{◌≡◌, ◌∙◌, sym, ap, refl, ℕ, ◌+◌, ◌<◌, Bool, true, false, cond, List, [], ◌∷◌, map, true≢false, arith}
 use Rattle.std.proofs.lemmas.Map.Lookups.{exact_bytes}
 use Rattle.dist_types.specs.declared.pid.Pid.{Pid}
 use Rattle.dist_types.specs.Order.{text_cmp}
 use Rattle.dist_types.specs.Listing.{same, total, mentions, is_among, IsPidListing, IsGroupListing}
 use Rattle.dist_types.proofs.Orders.{texts_total, same_decides}
 use Rattle.dist_types.proofs.Listings.{one_of_many}
-use Rattle.policy_audit.specs.declared.reply.GroupPids.{GroupPids}
 use Rattle.policy_audit.specs.History.{History}
 use Rattle.policy_audit.specs.Listed.{listed}
 use Rattle.policy_audit.specs.Contents.{members, groups, contents}
