@@ -1,24 +1,25 @@
 -- A link with a whole side of accepted frames was admitted, and the other way round.
-use Rattle.std.specs.Prelude.{◌≡◌, ◌↔◌, ℕ, Bool, true, false, nat_le, List, [], ◌∷◌, ◌++◌, Option, Some, None, is_some, length, IsTrue, MatchBool, bytes_eq}
+use Rattle.std.specs.Prelude.{◌≡◌, ◌↔◌, ℕ, Bool, true, false, ◌&&◌, not, nat_le, List, [], ◌∷◌, ◌++◌, Option, Some, None, is_some, length, IsTrue, MatchBool, bytes_eq}
 use Rattle.std.proofs.Common.{refl, ap, ◌∙◌, sym, subst}
 use Rattle.std.proofs.lemmas.Slice.Eq.{bytes_eq-Decides}
 use Rattle.std.specs.Option.{option_map_or, option_and_then}
 use Rattle.dist_types.proofs.Orders.{same_decides}
-use Rattle.handshake_frames.specs.Frame.{Name}
+use Rattle.dist_types.specs.Flags.{has_bit}
+use Rattle.handshake_frames.specs.Frame.{Name, Challenge}
 use Rattle.handshake_frames.specs.Reading.{name_frame}
 use Rattle.cookie_digest.specs.Digest.{digest_of}
 use Rattle.policy_audit.specs.declared.opening.Opening.{Opening}
 use Rattle.policy_audit.specs.declared.entry.Entry.{Entry}
 use Rattle.policy_audit.specs.History.{History, past}
 use Rattle.policy_audit.specs.Admission.{cookie}
-use Rattle.policy_audit.specs.Sides.{Start, ByPeer, ByDial, Opened, Taken, opened, taken, was_up, present_link, peer_of, is_name_up, is_whole}
+use Rattle.policy_audit.specs.Sides.{Start, ByPeer, ByDial, Opened, Taken, opened, taken, was_up, present_link, given, given_in, peer_in, peer_of, is_name_up, is_visible, is_whole}
 use Rattle.policy_audit.specs.Links.{is_open, is_up}
 use Rattle.policy_audit.specs.Stages.{name_up}
 use Rattle.policy_audit.specs.Policy.{IsLegal, IsLegalIn}
 use Rattle.policy_audit.specs.Admitted.{IsTrueStatus, IsLetIn, IsReached, IsAdmitted, LetIn, Reached}
-use Rattle.policy_audit.proofs.Accepted.{lie}
+use Rattle.policy_audit.proofs.Accepted.{lie, peer_by}
 use Rattle.policy_audit.proofs.Walked.{IsNamed, Follow, Walk, Far, far}
-use Rattle.policy_audit.proofs.Finished.{whole_by, whole_after, two_of, three_of}
+use Rattle.policy_audit.proofs.Finished.{whole_by, given_by, whole_after, two_of, three_of}
 use Rattle.policy_audit.proofs.UpLinks.{and_left, and_right, and_both, agrees}
 use Rattle.policy_audit.proofs.Staged.{names_up}
 
@@ -145,3 +146,26 @@ name-up-is-admitted h legal n = (λ up. by (present_link n h.entries) refl (sym 
 
     back : (l : ℕ) → IsTrue (is_open l h.entries) → peer_of l h.entries ≡ Some n → IsAdmitted h l → IsTrue (name_up n h.entries)
     back l opens of w = names_up h.opening h.entries legal n ∙ ap is_some ((agrees h.opening h.entries legal n l).1 (admitted-up h legal l opens w, of))
+
+-- ---- what the peer of a link that is up gave on it
+
+gave_in : (o : Opening) (bo : List Entry) (s : Start) (ts : List Taken) → Walk o bo s ts → whole_by (Some (record { start = s; before = bo })) ts ≡ true → (f : Name) × (given_in s ts ≡ Some f) × (peer_in s ts ≡ Some f.name)
+gave_in o bo (ByPeer c) [] p q = lie (sym q)
+gave_in o bo (ByPeer c) (a ∷ ts) p q = (p.0.0, p.0.1, ap (λ x. option_and_then {T = Name} {U = List ℕ} (λ f. Some f.name) x) p.0.1)
+gave_in o bo (ByDial n c) [] p q = lie (sym q)
+gave_in o bo (ByDial n c) (a ∷ []) p q = lie (sym q)
+gave_in o bo (ByDial n c) (a ∷ b ∷ []) p q = lie (sym q)
+gave_in o bo (ByDial n c) (a ∷ b ∷ r ∷ ts) p q = (
+  record { flags = p.1.1.0.flags; creation = p.1.1.0.creation; name = p.1.1.0.name },
+  ap (λ x. option_and_then {T = Challenge} {U = Name} (λ f. Some (record { flags = f.flags; creation = f.creation; name = f.name })) x) p.1.1.1,
+  ap Some ((same_decides n p.1.1.0.name).0 p.1.1.2),
+)
+
+gave_by : (o : Opening) (oe : Option Opened) (ts : List Taken) → Far o oe ts → whole_by oe ts ≡ true → (f : Name) × (given_by oe ts ≡ Some f) × (peer_by oe ts ≡ Some f.name)
+gave_by o None ts p q = lie (sym q)
+gave_by o (Some x) ts p q = gave_in o x.before x.start ts p q
+
+pub up-gave : (h : History) → IsLegal h → (l : ℕ) → IsTrue (is_up l h.entries) → (f : Name) × (given l h.entries ≡ Some f) × (peer_of l h.entries ≡ Some f.name) × (is_visible h l ≡ (not h.opening.hidden && has_bit 0 f.flags))
+up-gave h legal l up =
+    let gave = gave_by h.opening (opened l h.entries) (taken l h.entries) (far h.opening h.entries legal l) (and_right (is_open l h.entries) (is_whole l h.entries) up) in
+    (gave.0, gave.1, gave.2, ap (λ x. not h.opening.hidden && option_map_or {T = Name} {U = Bool} (λ f. has_bit 0 f.flags) x false) gave.1)

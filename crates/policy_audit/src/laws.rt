@@ -1,7 +1,9 @@
 //! Laws of the written policy. Each function does nothing; its contract is the law.
-ghost use Rattle.std.specs.Prelude.{◌≡◌, ◌↔◌, ℕ, ◌+◌, ◌-◌, ◌==◌, ◌&&◌, Bool, true, false, cond, List, [], ◌∷◌, Some, IsTrue};
+ghost use Rattle.std.specs.Prelude.{◌≡◌, ◌↔◌, ℕ, ◌+◌, ◌-◌, ◌==◌, ◌&&◌, not, Bool, true, false, cond, List, [], ◌∷◌, Some, IsTrue};
 ghost use Rattle.dist_types.specs.declared.pid.Pid.{Pid};
 ghost use Rattle.dist_types.specs.Listing.{same, same_pid, mentions, IsPidListing, IsRowListing, IsGroupListing};
+ghost use Rattle.dist_types.specs.Flags.{has_bit};
+ghost use Rattle.handshake_frames.specs.Frame.{Name};
 ghost use Rattle.policy_audit.specs.declared.event.Event.{Event};
 ghost use Rattle.policy_audit.specs.declared.event.Event.TheVariants as events;
 ghost use Rattle.policy_audit.specs.declared.reply.Reply.{Reply};
@@ -9,7 +11,7 @@ ghost use Rattle.policy_audit.specs.declared.entry.Verdict.{Verdict};
 ghost use Rattle.policy_audit.specs.declared.entry.Entry.{Entry};
 ghost use Rattle.policy_audit.specs.History.{History, is_accepted};
 ghost use Rattle.policy_audit.specs.Own.{is_running, own};
-ghost use Rattle.policy_audit.specs.Sides.{present_link, peer_of};
+ghost use Rattle.policy_audit.specs.Sides.{present_link, peer_of, given, is_visible};
 ghost use Rattle.policy_audit.specs.Links.{is_open, is_up};
 ghost use Rattle.policy_audit.specs.Listed.{listed};
 ghost use Rattle.policy_audit.specs.Contents.{members, local_members, groups, local_groups, local_rows};
@@ -29,9 +31,10 @@ pub fn admitted()
     ensures only { (h : History) → IsLegal h → (l : ℕ) → IsTrue (is_up l h.entries) ↔ (IsTrue (is_open l h.entries) × IsAdmitted h l) }
 {}
 
-/// The present link of a peer is the one link of that peer that is up.
+/// The present link of a peer is the one link of that peer that is up, with the flags and the creation that the peer gave on it.
 pub fn one_link_up()
-    ensures { (h : History) → IsLegal h → (n : List ℕ) (l : ℕ) → (present_link n h.entries ≡ Some l) ↔ (IsTrue (is_up l h.entries) × (peer_of l h.entries ≡ Some n)) }
+    ensures given { (h : History) → IsLegal h → (l : ℕ) → IsTrue (is_up l h.entries) → (f : Name) × (given l h.entries ≡ Some f) × (peer_of l h.entries ≡ Some f.name) × (is_visible h l ≡ (not h.opening.hidden && has_bit 0 f.flags)) }
+    ensures present { (h : History) → IsLegal h → (n : List ℕ) (l : ℕ) → (present_link n h.entries ≡ Some l) ↔ (IsTrue (is_up l h.entries) × (peer_of l h.entries ≡ Some n)) }
 {}
 
 /// Which links are open and up follows from the events and whether each was accepted: no recorded answer is needed.

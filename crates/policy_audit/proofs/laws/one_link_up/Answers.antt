@@ -1,5 +1,9 @@
 use Rattle.policy_audit.proofs.UpLinks.{agrees}
+use Rattle.policy_audit.proofs.Whole.{up-gave}
 use Rattle.policy_audit.proofs.laws.one_link_up.Goals as goal
 
-pub returns : goal.returns
-returns c = λ h legal n l. agrees h.opening h.entries legal n l
+pub returns-clause-given : goal.returns-clause-given
+returns-clause-given c = up-gave
+
+pub returns-clause-present : goal.returns-clause-present
+returns-clause-present c = λ h legal n l. agrees h.opening h.entries legal n l
