@@ -18,6 +18,7 @@ mod tests;
 mod waiting;
 mod words;
 
+use clap::error::ErrorKind as LineFault;
 use options::{command, opening};
 use script::{RunFault, run};
 use std::io::{self, BufReader, ErrorKind};
@@ -42,6 +43,9 @@ fn main(rt: HostRuntime) -> io::Result<ExitCode> {
     };
     let matches = match command.try_get_matches_from(words.as_slice()) {
         Ok(matches) => matches,
+        Err(error) if error.kind() == LineFault::OutOfMemory => {
+            return failed(&rt, 1, "error: out of memory");
+        }
         Err(error) if error.use_stderr() => {
             let text = error.to_string(alloc)?;
             return failed(&rt, 2, text.as_str());
@@ -58,7 +62,7 @@ fn main(rt: HostRuntime) -> io::Result<ExitCode> {
         Ok(opening) => opening,
         Err(fault) => {
             let text = format!(in alloc; "{fault}")?;
-            return failed(&rt, 2, text.as_str());
+            return failed(&rt, fault.status(), text.as_str());
         }
     };
     let mut reader = BufReader::new(alloc, rt.reader())?;

@@ -18,6 +18,17 @@ pub enum OptionsFault {
     Cookie(TextFault),
 }
 
+impl OptionsFault {
+    /// The status of the program: 1 for want of memory, else 2.
+    pub fn status(self) -> u8 {
+        match self {
+            OptionsFault::Name(TextFault::OutOfMemory)
+            | OptionsFault::Cookie(TextFault::OutOfMemory) => 1,
+            OptionsFault::Name(_) | OptionsFault::Cookie(_) => 2,
+        }
+    }
+}
+
 /// The commands of the program, and the arguments of each.
 pub fn command<'a>(alloc: Global) -> Result<Command<'a>, Error> {
     let name = Arg::new(alloc, "NAME")
