@@ -38,6 +38,12 @@ impl<T> Items<T> {
     {
         self.items.as_slice()
     }
+
+    pub fn into_vec(self) -> Vec<T>
+        ensures { result.items ≡ self }
+    {
+        self.items
+    }
 }
 
 impl<T: TryClone + Drop> TryClone for Items<T> {

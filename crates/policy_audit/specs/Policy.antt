@@ -61,6 +61,12 @@ verdict h seat e = cond (is_full h) (Refused rule.EntriesFull) (judged h seat e 
 abbrev pub with_entry : History → Entry → History
 with_entry h e = past h.opening (e ∷ h.entries)
 
+-- the entry answers its event as the policy does after this history
+pub record IsAnswered (h : History) (e : Entry) : Type 0 where
+  pub room : length h.entries < h.opening.entries
+  pub number : e.number ≡ next_number h
+  pub verdict : e.verdict ≡ verdict h e.seat e.event
+
 -- the entry is what the policy makes of its event after this history
 pub record IsNext (h : History) (e : Entry) : Type 0 where
   pub room : length h.entries < h.opening.entries
@@ -88,3 +94,7 @@ abbrev pub entry_of : History → ℕ → Event → Entry
 entry_of h seat e =
     let v = verdict h seat e in
     record { number = next_number h; seat = seat; event = e; verdict = v; change = change h (with_entry h (bare_entry h seat e v)) }
+
+-- the history after an event: one entry more, unless the audit is full
+abbrev pub after : History → ℕ → Event → History
+after h seat e = cond (is_full h) h (with_entry h (entry_of h seat e))
