@@ -17,7 +17,7 @@ use Rattle.policy_audit.specs.Own.{is_running, is_local, joined, own}
 use Rattle.policy_audit.specs.Sides.{Opened, Taken, opened, taken, and_frame, given, peer_of, awaits, is_whole, present_link, is_visible}
 use Rattle.policy_audit.specs.Hearing.{hears, talk, talk_of, message_taken, stated_in}
 use Rattle.policy_audit.specs.Listed.{is_from, listed}
-use Rattle.policy_audit.specs.Policy.{with_entry}
+use Rattle.policy_audit.specs.Policy.{IsAnswered, verdict, with_entry}
 use Rattle.policy_audit.specs.Effects.{leaves_rows, IsSameLink}
 use Rattle.policy_audit.proofs.Accepted.{lie, peer_by}
 use Rattle.policy_audit.proofs.Walked.{but}
@@ -132,7 +132,7 @@ entry_link es e k l body q another = subst (λ ev. IsSameLink l es (but e ev e.v
 })
 
 -- where a fact holds of each accepted entry of an event, it holds of this one
-by_accepted : (e : Entry) (ev : Event) (P : Entry → Type 0) → e.event ≡ ev → is_accepted e.verdict ≡ true → ((r : Reply) → P (but e ev (Accepted r))) → P e
+pub by_accepted : (e : Entry) (ev : Event) (P : Entry → Type 0) → e.event ≡ ev → is_accepted e.verdict ≡ true → ((r : Reply) → P (but e ev (Accepted r))) → P e
 by_accepted e ev P q a each = subst (λ x. P (but e x e.verdict)) (sym q) (by e.verdict a)
   where
     by : (v : Verdict) → is_accepted v ≡ true → P (but e ev v)
@@ -148,3 +148,12 @@ module _ (h : History) (e : Entry) (s g : List ℕ) (ps : List Pid) where
 
 pub entry_exited : (h : History) (e : Entry) (q : Pid) → e.event ≡ event.Exit q → is_accepted e.verdict ≡ true → (t f : List ℕ) (p : Pid) → own (with_entry h e) t f p ≡ cond (same_pid q p) 0 (own h t f p)
 entry_exited h e q same_event a t f p = by_accepted e (event.Exit q) (λ x. own (with_entry h x) t f p ≡ cond (same_pid q p) 0 (own h t f p)) same_event a (λ r. own_exited h e r q t f p)
+
+-- where a fact holds of each entry that accepts an event as the policy does, it holds of this one
+pub by_made : (h : History) (e : Entry) (ev : Event) (P : Entry → Type 0) → IsAnswered h e → is_accepted e.verdict ≡ true → e.event ≡ ev
+    → ((r : Reply) → Accepted r ≡ verdict h e.seat ev → P (but e ev (Accepted r))) → P e
+by_made h e ev P made a q each = by e.event e.verdict made.verdict a q
+  where
+    by : (x : Event) (v : Verdict) → v ≡ verdict h e.seat x → is_accepted v ≡ true → x ≡ ev → P (but e x v)
+    by x (Accepted r) m a q = subst (λ y. P (but e y (Accepted r))) (sym q) (each r (m ∙ ap (verdict h e.seat) q))
+    by x (Refused r) m a q = lie (sym a)

@@ -1,5 +1,5 @@
 -- What an accepted frame makes of its link: it completes the side, or leaves it whole or unfinished.
-use Rattle.std.specs.Prelude.{◌≡◌, ℕ, Bool, true, false, nat_le, List, [], ◌∷◌, ◌++◌, Option, Some, None, length, get_or}
+use Rattle.std.specs.Prelude.{◌≡◌, ℕ, Bool, true, false, nat_le, List, [], ◌∷◌, ◌++◌, Option, Some, None, is_some, length, get_or}
 use Rattle.std.proofs.Common.{refl, ap, ◌∙◌, sym, arith}
 use Rattle.std.proofs.lemmas.Bool.{le-leb}
 use Rattle.std.specs.Option.{option_and_then, option_map_or}
@@ -49,6 +49,31 @@ whole_awaits_in (ByDial n c) (a ∷ b ∷ r ∷ ts) q = refl
 pub whole_awaits : (oe : Option Opened) (ts : List Taken) → whole_by oe ts ≡ true → awaited_by oe ts ≡ AwaitMessage
 whole_awaits None ts q = lie (sym q)
 whole_awaits (Some x) ts q = whole_awaits_in x.start ts q
+
+-- a message: what a link with a whole side awaits
+abbrev pub is_message : Awaited → Bool
+is_message AwaitMessage = true
+is_message a = false
+
+-- a link that awaits a message is whole
+message_from : (c : ℕ) (a : Taken) (up : Bool) (ts : List Taken) → is_message (get_or (whole_side (ByPeer c) up) (length (a ∷ ts)) AwaitMessage) ≡ true → whole_after c up a ts ≡ true
+message_from c a false [] q = lie (sym q)
+message_from c a false (b ∷ ts) q = two_of a b ts
+message_from c a true [] q = lie (sym q)
+message_from c a true (b ∷ []) q = lie (sym q)
+message_from c a true (b ∷ r ∷ ts) q = three_of a b r ts
+
+message_whole_in : (s : Start) (ts : List Taken) → is_message (awaited_in s ts) ≡ true → is_whole_in s ts ≡ true
+message_whole_in (ByPeer c) [] q = lie (sym q)
+message_whole_in (ByPeer c) (a ∷ ts) q = message_from c a (was_up (a ∷ [])) ts q
+message_whole_in (ByDial n c) [] q = lie (sym q)
+message_whole_in (ByDial n c) (a ∷ []) q = lie (sym q)
+message_whole_in (ByDial n c) (a ∷ b ∷ []) q = lie (sym q)
+message_whole_in (ByDial n c) (a ∷ b ∷ r ∷ ts) q = three_of a b r ts
+
+pub message_whole : (oe : Option Opened) (ts : List Taken) → is_some oe ≡ true → is_message (awaited_by oe ts) ≡ true → whole_by oe ts ≡ true
+message_whole None ts s q = lie (sym s)
+message_whole (Some x) ts s q = message_whole_in x.start ts q
 
 module _ (m : Taken) where
   -- ---- a frame that is not the last of a side leaves it whole, or unfinished

@@ -13,3 +13,5 @@ pub mod Effects
 pub mod Equal
 pub mod Heard
 pub mod Within
+pub mod RowsAfter
+pub mod MessageRows

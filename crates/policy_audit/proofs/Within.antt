@@ -52,7 +52,7 @@ unmentioned p [] q = refl
 unmentioned p (x ∷ ps) q = elim (same_pid x p) as (λ b. (b || stands_in same_pid p ps) ≡ false → cond b (suc (mentions p ps)) (mentions p ps) ≡ 0) [ true ↦ λ k. lie k | false ↦ λ k. unmentioned p ps k ] q
 
 -- how often a link lists a process, by what is said of the link
-abbrev lists : Bool → Pid → Option Name → Option (List ℕ) → Bool → Bool → ℕ → ℕ
+abbrev pub lists : Bool → Pid → Option Name → Option (List ℕ) → Bool → Bool → ℕ → ℕ
 lists hidden p gave peer up sync count = cond ((not hidden && option_map_or (λ f. has_bit 0 f.flags) gave false) && (option_map_or (λ m. same m p.node) peer false && option_map_or (λ f. f.creation == p.creation) gave false)) (cond (up && sync) count 0) 0
 
 module _ (o : Opening) (es : List Entry) (x : Entry) (s g : List ℕ) (p : Pid) where
@@ -276,7 +276,7 @@ module _ (o : Opening) (es : List Entry) (legal : IsLegalIn o es) (e : Entry) (n
           by false q = refl
           by true q = lie (sym (heard_whole o es legal k s q) ∙ c.was_whole)
 
-      new_lists : listed_by (past o (fr up_reply ∷ es)) s g p k ≡ 0
+      pub new_lists : listed_by (past o (fr up_reply ∷ es)) s g p k ≡ 0
       new_lists =
           ap (λ v. lists o.hidden p (given k (fr up_reply ∷ es)) (peer_of k (fr up_reply ∷ es)) (is_up k (fr up_reply ∷ es)) v (stated_in s g p (talk k (fr up_reply ∷ es)))) (silent (has_sync s (talk k es)) refl)
           ∙ nothing (is_visible (past o (fr up_reply ∷ es)) k && is_from k (fr up_reply ∷ es) p) (is_up k (fr up_reply ∷ es))
