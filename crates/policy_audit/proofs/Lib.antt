@@ -15,3 +15,4 @@ pub mod Heard
 pub mod Within
 pub mod RowsAfter
 pub mod MessageRows
+pub mod Onward

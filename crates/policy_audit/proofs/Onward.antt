@@ -1,0 +1,235 @@
+-- What an accepted frame makes of its own link.
+use Rattle.std.specs.Prelude.{◌≡◌, ◌↔◌, ℕ, Bool, true, false, cond, List, [], ◌∷◌, ◌++◌, Option, Some, None, is_some, length, get_or}
+use Rattle.std.proofs.Common.{refl, ap, ◌∙◌, sym, subst}
+use Rattle.std.proofs.lemmas.Bool.{eq-eqb}
+use Rattle.std.specs.Option.{option_and_then, option_map_or}
+use Rattle.handshake_frames.specs.Frame.{Challenge, Name}
+use Rattle.handshake_frames.specs.Reading.{challenge_frame, name_frame}
+use Rattle.policy_audit.specs.declared.entry.Entry.{Entry}
+use Rattle.policy_audit.specs.declared.event.Event.TheVariants as event
+use Rattle.policy_audit.specs.Sides.{Opened, Taken, Awaited, AwaitName, AwaitAnswer, AwaitReply, AwaitStatus, AwaitChallenge, AwaitAck, AwaitMessage, ByDial, ByPeer, Start, and_frame, awaited_in, is_name_up, is_whole, peer_of, taken, was_up, whole_side, awaits, given, opened}
+use Rattle.policy_audit.specs.History.{History, creation, is_accepted}
+use Rattle.policy_audit.specs.Policy.{IsAnswered}
+use Rattle.policy_audit.specs.Links.{is_open}
+use Rattle.policy_audit.proofs.Accepted.{accepted, lie, peer_by}
+use Rattle.policy_audit.proofs.Finished.{awaited_by, given_by, is_message, message_whole, three_of, two_of, whole_after, whole_awaits, whole_by}
+use Rattle.policy_audit.proofs.Effects.{by_accepted, by_made}
+use Rattle.policy_audit.proofs.Walked.{frame_fits, open_opened}
+
+-- ---- over plain frames
+
+-- after one frame more these are what was given, the peer, what is awaited and whether the side is whole
+record Made (m : Taken) (oe : Option Opened) (ts : List Taken) (gave : Option Name) (of : Option (List ℕ)) (next : Awaited) (ends : Bool) : Type 0 where
+  given : given_by oe (ts ++ m ∷ []) ≡ gave
+  peer : peer_by oe (ts ++ m ∷ []) ≡ of
+  awaits : awaited_by oe (ts ++ m ∷ []) ≡ next
+  whole : whole_by oe (ts ++ m ∷ []) ≡ ends
+
+-- flags, creation and name in a Challenge
+abbrev pub hello_of : Challenge → Name
+hello_of f = record { flags = f.flags; creation = f.creation; name = f.name }
+
+module _ (m : Taken) where
+  -- what one frame more makes, by what was awaited
+  abbrev Next : Option Opened → List Taken → Awaited → Type 0
+  Next oe ts AwaitName = (f : Name) → name_frame m.body ≡ Some f → Made m oe ts (Some f) (Some f.name) (cond (is_name_up f.name m.before) AwaitAnswer AwaitReply) false
+  Next oe ts AwaitAnswer = Made m oe ts (given_by oe ts) (peer_by oe ts) AwaitReply false
+  Next oe ts AwaitReply = Made m oe ts (given_by oe ts) (peer_by oe ts) AwaitMessage true
+  Next oe ts AwaitStatus = Made m oe ts (given_by oe ts) (peer_by oe ts) AwaitChallenge false
+  Next oe ts AwaitChallenge = (f : Challenge) → challenge_frame m.body ≡ Some f → Made m oe ts (Some (hello_of f)) (peer_by oe ts) AwaitAck false
+  Next oe ts AwaitAck = Made m oe ts (given_by oe ts) (peer_by oe ts) AwaitMessage true
+  Next oe ts AwaitMessage = Made m oe ts (given_by oe ts) (peer_by oe ts) AwaitMessage true
+
+  -- the frames of a link that its peer opened
+  abbrev from_peer : List Entry → ℕ → Option Opened
+  from_peer bo c = Some (record { start = ByPeer c; before = bo })
+
+  named : (bo : List Entry) (c : ℕ) → Next (from_peer bo c) [] AwaitName
+  named bo c f q = record {
+    given = q;
+    peer = ap (λ x. option_and_then {T = Name} {U = List ℕ} (λ g. Some g.name) x) q;
+    awaits = ap (λ u. get_or (whole_side (ByPeer c) u) (length (m ∷ [])) AwaitMessage) was ∙ by (is_name_up f.name m.before);
+    whole = first (was_up (m ∷ []));
+  }
+    where
+      was : was_up (m ∷ []) ≡ is_name_up f.name m.before
+      was = ap (λ x. option_map_or {T = Name} {U = Bool} (λ g. is_name_up g.name m.before) x false) q
+
+      by : (u : Bool) → get_or (whole_side (ByPeer c) u) (length (m ∷ [])) AwaitMessage ≡ cond u AwaitAnswer AwaitReply
+      by true = refl
+      by false = refl
+
+      first : (u : Bool) → whole_after c u m [] ≡ false
+      first true = refl
+      first false = refl
+
+  follows : (bo : List Entry) (c : ℕ) (a : Taken) (up : Bool) → was_up (a ∷ []) ≡ up → (ts : List Taken) → Next (from_peer bo c) (a ∷ ts) (get_or (whole_side (ByPeer c) up) (length (a ∷ ts)) AwaitMessage)
+  follows bo c a false u [] = record { given = refl; peer = refl; awaits = ap (λ v. get_or (whole_side (ByPeer c) v) (length (a ∷ m ∷ [])) AwaitMessage) u; whole = ap (λ v. whole_after c v a (m ∷ [])) u }
+  follows bo c a true u [] = record { given = refl; peer = refl; awaits = ap (λ v. get_or (whole_side (ByPeer c) v) (length (a ∷ m ∷ [])) AwaitMessage) u; whole = ap (λ v. whole_after c v a (m ∷ [])) u }
+  follows bo c a false u (b ∷ ts) = record {
+    given = refl;
+    peer = refl;
+    awaits = ap (λ v. get_or (whole_side (ByPeer c) v) (length (a ∷ b ∷ (ts ++ m ∷ []))) AwaitMessage) u;
+    whole = ap (λ v. whole_after c v a (b ∷ (ts ++ m ∷ []))) u ∙ two_of a b (ts ++ m ∷ []);
+  }
+  follows bo c a true u (b ∷ []) = record { given = refl; peer = refl; awaits = ap (λ v. get_or (whole_side (ByPeer c) v) (length (a ∷ b ∷ m ∷ [])) AwaitMessage) u; whole = ap (λ v. whole_after c v a (b ∷ m ∷ [])) u }
+  follows bo c a true u (b ∷ r ∷ ts) = record {
+    given = refl;
+    peer = refl;
+    awaits = ap (λ v. get_or (whole_side (ByPeer c) v) (length (a ∷ b ∷ r ∷ (ts ++ m ∷ []))) AwaitMessage) u;
+    whole = ap (λ v. whole_after c v a (b ∷ r ∷ (ts ++ m ∷ []))) u ∙ three_of a b r (ts ++ m ∷ []);
+  }
+
+  next_in : (bo : List Entry) (s : Start) (ts : List Taken) → Next (Some (record { start = s; before = bo })) ts (awaited_in s ts)
+  next_in bo (ByPeer c) [] = named bo c
+  next_in bo (ByPeer c) (a ∷ ts) = follows bo c a (was_up (a ∷ [])) refl ts
+  next_in bo (ByDial n c) [] = record { given = refl; peer = refl; awaits = refl; whole = refl }
+  next_in bo (ByDial n c) (a ∷ []) = λ f q. record { given = ap (λ x. option_and_then {T = Challenge} {U = Name} (λ g. Some (hello_of g)) x) q; peer = refl; awaits = refl; whole = refl }
+  next_in bo (ByDial n c) (a ∷ b ∷ []) = record { given = refl; peer = refl; awaits = refl; whole = refl }
+  next_in bo (ByDial n c) (a ∷ b ∷ r ∷ ts) = record { given = refl; peer = refl; awaits = refl; whole = three_of a b r (ts ++ m ∷ []) }
+
+  next : (oe : Option Opened) (ts : List Taken) → is_some oe ≡ true → Next oe ts (awaited_by oe ts)
+  next None ts q = lie (sym q)
+  next (Some x) ts q = next_in x.before x.start ts
+
+-- ---- of a link
+
+-- after an entry link l was opened as before, and the rest of it is this
+pub record IsOnward (l : ℕ) (es : List Entry) (e : Entry) (gave : Option Name) (of : Option (List ℕ)) (next : Awaited) (ends : Bool) : Type 0 where
+  pub opened : opened l (e ∷ es) ≡ opened l es
+  pub given : given l (e ∷ es) ≡ gave
+  pub peer : peer_of l (e ∷ es) ≡ of
+  pub awaits : awaits l (e ∷ es) ≡ next
+  pub whole : is_whole l (e ∷ es) ≡ ends
+
+module _ (h : History) (e : Entry) (made : IsAnswered h e) (yes : is_accepted e.verdict ≡ true) (l : ℕ) (body : List ℕ) (is : e.event ≡ event.Frame l body) where
+  abbrev es : List Entry
+  es = h.entries
+
+  abbrev moment : Taken
+  moment = record { body = body; before = es }
+
+  -- its link is open
+  pub frame_open : is_open l es ≡ true
+  frame_open = by_made h e (event.Frame l body) (λ x. is_open l es ≡ true) made yes is (λ r q. (frame_fits h.opening es e.seat l body (accepted h e.seat (event.Frame l body) r q).0).0)
+
+  -- it is the newest of the link's frames
+  same_opening : opened l (e ∷ es) ≡ opened l es
+  same_opening = by_accepted e (event.Frame l body) (λ x. opened l (x ∷ es) ≡ opened l es) is yes (λ r. refl)
+
+  newest : taken l (e ∷ es) ≡ taken l es ++ moment ∷ []
+  newest = by_accepted e (event.Frame l body) (λ x. taken l (x ∷ es) ≡ taken l es ++ moment ∷ []) is yes (λ r. ap (λ b. and_frame (taken l es) (cond b (Some moment) None)) (eq-eqb l l refl))
+
+  onward : (gave : Option Name) (of : Option (List ℕ)) (next : Awaited) (ends : Bool) → Made moment (opened l es) (taken l es) gave of next ends → IsOnward l es e gave of next ends
+  onward gave of next ends m = record {
+    opened = same_opening;
+    given = (λ i. given_by (same_opening i) (newest i)) ∙ m.given;
+    peer = (λ i. peer_by (same_opening i) (newest i)) ∙ m.peer;
+    awaits = (λ i. awaited_by (same_opening i) (newest i)) ∙ m.awaits;
+    whole = (λ i. whole_by (same_opening i) (newest i)) ∙ m.whole;
+  }
+
+  it_makes : (a : Awaited) → awaits l es ≡ a → Next moment (opened l es) (taken l es) a
+  it_makes a q = subst (Next moment (opened l es) (taken l es)) q (next moment (opened l es) (taken l es) (open_opened l es frame_open))
+
+  pub name_taken : (f : Name) → awaits l es ≡ AwaitName → name_frame body ≡ Some f → IsOnward l es e (Some f) (Some f.name) (cond (is_name_up f.name es) AwaitAnswer AwaitReply) false
+  name_taken f q named = onward (Some f) (Some f.name) (cond (is_name_up f.name es) AwaitAnswer AwaitReply) false (it_makes AwaitName q f named)
+
+  pub answer_taken : awaits l es ≡ AwaitAnswer → IsOnward l es e (given l es) (peer_of l es) AwaitReply false
+  answer_taken q = onward (given l es) (peer_of l es) AwaitReply false (it_makes AwaitAnswer q)
+
+  pub reply_taken : awaits l es ≡ AwaitReply → IsOnward l es e (given l es) (peer_of l es) AwaitMessage true
+  reply_taken q = onward (given l es) (peer_of l es) AwaitMessage true (it_makes AwaitReply q)
+
+  pub status_taken : awaits l es ≡ AwaitStatus → IsOnward l es e (given l es) (peer_of l es) AwaitChallenge false
+  status_taken q = onward (given l es) (peer_of l es) AwaitChallenge false (it_makes AwaitStatus q)
+
+  pub challenge_taken : (f : Challenge) → awaits l es ≡ AwaitChallenge → challenge_frame body ≡ Some f → IsOnward l es e (Some (hello_of f)) (peer_of l es) AwaitAck false
+  challenge_taken f q asked = onward (Some (hello_of f)) (peer_of l es) AwaitAck false (it_makes AwaitChallenge q f asked)
+
+  pub ack_taken : awaits l es ≡ AwaitAck → IsOnward l es e (given l es) (peer_of l es) AwaitMessage true
+  ack_taken q = onward (given l es) (peer_of l es) AwaitMessage true (it_makes AwaitAck q)
+
+  pub message_taken_on : awaits l es ≡ AwaitMessage → IsOnward l es e (given l es) (peer_of l es) AwaitMessage true
+  message_taken_on q = onward (given l es) (peer_of l es) AwaitMessage true (it_makes AwaitMessage q)
+
+-- ---- what an open link awaits
+
+module _ (l : ℕ) (es : List Entry) (opens : is_open l es ≡ true) where
+  -- a message, exactly where its side is whole
+  pub whole_is_message : (is_whole l es ≡ true) ↔ (awaits l es ≡ AwaitMessage)
+  whole_is_message = (λ w. whole_awaits (opened l es) (taken l es) w, λ q. message_whole (opened l es) (taken l es) (open_opened l es opens) (ap is_message q))
+
+  pub unwhole_awaits : is_whole l es ≡ false → is_message (awaits l es) ≡ false
+  unwhole_awaits w = by (is_message (awaits l es)) refl
+    where
+      by : (b : Bool) → is_message (awaits l es) ≡ b → b ≡ false
+      by false q = refl
+      by true q = lie (sym (message_whole (opened l es) (taken l es) (open_opened l es opens) q) ∙ w)
+
+-- link l was opened by its peer
+pub record IsByPeer (l : ℕ) (es : List Entry) : Type 0 where
+  pub challenge : ℕ
+  pub before : List Entry
+  pub opened : opened l es ≡ Some (record { start = ByPeer challenge; before = before })
+
+-- link l was dialled, to this peer
+pub record IsByDial (l : ℕ) (es : List Entry) : Type 0 where
+  pub peer : List ℕ
+  pub challenge : ℕ
+  pub before : List Entry
+  pub opened : opened l es ≡ Some (record { start = ByDial peer challenge; before = before })
+  pub peer_is : peer_of l es ≡ Some peer
+
+-- a frame that an acceptor awaits, and one that a dialler awaits
+abbrev pub is_acceptors : Awaited → Bool
+is_acceptors AwaitName = true
+is_acceptors AwaitAnswer = true
+is_acceptors AwaitReply = true
+is_acceptors a = false
+
+abbrev pub is_diallers : Awaited → Bool
+is_diallers AwaitStatus = true
+is_diallers AwaitChallenge = true
+is_diallers AwaitAck = true
+is_diallers a = false
+
+peers : (c : ℕ) (up : Bool) (a : Taken) (ts : List Taken) → is_diallers (get_or (whole_side (ByPeer c) up) (length (a ∷ ts)) AwaitMessage) ≡ false
+peers c false a [] = refl
+peers c false a (b ∷ ts) = refl
+peers c true a [] = refl
+peers c true a (b ∷ []) = refl
+peers c true a (b ∷ r ∷ ts) = refl
+
+peers_in : (c : ℕ) (ts : List Taken) → is_diallers (awaited_in (ByPeer c) ts) ≡ false
+peers_in c [] = refl
+peers_in c (a ∷ ts) = peers c (was_up (a ∷ [])) a ts
+
+dials_in : (n : List ℕ) (c : ℕ) (ts : List Taken) → is_acceptors (awaited_in (ByDial n c) ts) ≡ false
+dials_in n c [] = refl
+dials_in n c (a ∷ []) = refl
+dials_in n c (a ∷ b ∷ []) = refl
+dials_in n c (a ∷ b ∷ r ∷ ts) = refl
+
+module _ (l : ℕ) (es : List Entry) (opens : is_open l es ≡ true) where
+  pub by_peer : is_acceptors (awaits l es) ≡ true → IsByPeer l es
+  by_peer q = by (opened l es) refl
+    where
+      by : (x : Option Opened) → opened l es ≡ x → IsByPeer l es
+      by None o = lie (sym (open_opened l es opens) ∙ ap is_some o)
+      by (Some x) o = kind x.start o
+        where
+          kind : (s : Start) → opened l es ≡ Some (record { start = s; before = x.before }) → IsByPeer l es
+          kind (ByPeer c) o = record { challenge = c; before = x.before; opened = o }
+          kind (ByDial n c) o = lie (sym q ∙ ap (λ y. is_acceptors (awaited_by y (taken l es))) o ∙ dials_in n c (taken l es))
+
+  pub by_dial : is_diallers (awaits l es) ≡ true → IsByDial l es
+  by_dial q = by (opened l es) refl
+    where
+      by : (x : Option Opened) → opened l es ≡ x → IsByDial l es
+      by None o = lie (sym (open_opened l es opens) ∙ ap is_some o)
+      by (Some x) o = kind x.start o
+        where
+          kind : (s : Start) → opened l es ≡ Some (record { start = s; before = x.before }) → IsByDial l es
+          kind (ByPeer c) o = lie (sym q ∙ ap (λ y. is_diallers (awaited_by y (taken l es))) o ∙ peers_in c (taken l es))
+          kind (ByDial n c) o = record { peer = n; challenge = c; before = x.before; opened = o; peer_is = ap (λ y. peer_by y (taken l es)) o }
