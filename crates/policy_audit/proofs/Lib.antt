@@ -16,3 +16,4 @@ pub mod Within
 pub mod RowsAfter
 pub mod MessageRows
 pub mod Onward
+pub mod KeptLinks
