@@ -26,13 +26,14 @@ use Rattle.policy_audit.specs.Policy.{IsLegal, IsLegalIn, is_full, judged, verdi
 use Rattle.policy_audit.specs.Checks.{always, first_broken, frame_checks}
 use Rattle.policy_audit.specs.Owed.{drops, frame_owes, if_told, if_visible, is_kept, owed, own_name_frame, refusal_owes, waiting, waiting_in, wide}
 use Rattle.policy_audit.specs.Hearing.{heard, talk, tells, told}
-use Rattle.policy_audit.specs.Links.{is_open, is_opened_by, links}
+use Rattle.policy_audit.specs.Links.{is_open, is_opened_by, links, is_up}
 use Rattle.policy_audit.specs.Contents.{local_rows, row}
-use Rattle.policy_audit.specs.Own.{own, running_scopes}
+use Rattle.policy_audit.specs.Own.{own, running_scopes, is_running}
 use Rattle.policy_audit.proofs.Accepted.{accepted, lie, no_value}
-use Rattle.policy_audit.proofs.UpLinks.{and_both, and_left, and_right}
+use Rattle.policy_audit.proofs.UpLinks.{and_both, and_left, and_right, other}
 use Rattle.policy_audit.proofs.Walked.{but, frame_fits, open_opened, unborn}
-use Rattle.policy_audit.proofs.Heard.{has_sync}
+use Rattle.policy_audit.proofs.Heard.{has_sync, has_discover, heard_runs, told_talk_runs}
+use Rattle.policy_audit.proofs.Finished.{kept}
 
 -- ---- what is owed to a link that isn't open: nothing, but the own Name at its Dial
 
@@ -231,3 +232,11 @@ links_below h legal = (below h.opening h.entries legal).0
 
 pub links_fall : (h : History) → IsLegal h → Falls (links h.entries)
 links_fall h legal = (below h.opening h.entries legal).1
+
+-- ---- who is told and heard
+
+pub told_runs : (h : History) → IsLegal h → (l : ℕ) (s : List ℕ) → told l s h.entries ≡ true → is_running h s ≡ true
+told_runs h legal l s t = told_talk_runs h.opening h.entries legal l s (and_right (is_up l h.entries) (has_discover s (talk l h.entries)) t)
+
+pub heard_runs' : (h : History) → IsLegal h → (l : ℕ) (s : List ℕ) → heard l s h.entries ≡ true → is_running h s ≡ true
+heard_runs' h legal l s t = heard_runs h.opening h.entries legal l s (and_right (is_up l h.entries) (has_sync s (talk l h.entries)) t)

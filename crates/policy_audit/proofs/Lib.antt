@@ -17,3 +17,4 @@ pub mod RowsAfter
 pub mod MessageRows
 pub mod Onward
 pub mod KeptLinks
+pub mod NewLinks

@@ -122,7 +122,7 @@ module _ (o : Opening) (es : List Entry) (legal : IsLegalIn o es) (n : List ℕ)
   pub none_opened : (l : ℕ) → (e.number == l) ≡ true → opened l es ≡ None
   none_opened l q = (let there : e.number ≡ l = eqb-true e.number l q in unborn o es legal l (omega (arith, numbered, there)))
 
-  none_taken : (l : ℕ) → (e.number == l) ≡ true → taken l es ≡ []
+  pub none_taken : (l : ℕ) → (e.number == l) ≡ true → taken l es ≡ []
   none_taken l q = subst (λ x. (elim x as (λ _. Type 0) [ None ↦ taken l es ≡ [] | Some y ↦ Unit {0} ])) (none_opened l q) (weaken (opened l es) (far o es legal l))
     where
       weaken : (x : Option Opened) → Far o x (taken l es) → elim x as (λ _. Type 0) [ None ↦ taken l es ≡ [] | Some y ↦ Unit {0} ]
