@@ -149,21 +149,21 @@ module _ (h k : History) where
 -- ---- scopes
 
 -- a scope that runs was started
-running_started : (s : List ℕ) (es : List Event) → unwrap_or (first_of (starts s) es) false ≡ true → is_among s (flat_map scopes_started es) ≡ true
-running_started s [] q = lie (sym q)
-running_started s (event.StartScope t ∷ es) q = by (running_started s es) (same t s) q
+pub was_started : (s : List ℕ) (es : List Event) → unwrap_or (first_of (starts s) es) false ≡ true → is_among s (flat_map scopes_started es) ≡ true
+was_started s [] q = lie (sym q)
+was_started s (event.StartScope t ∷ es) q = by (was_started s es) (same t s) q
   where
     by : (unwrap_or (first_of (starts s) es) false ≡ true → is_among s (flat_map scopes_started es) ≡ true) → (b : Bool)
         → unwrap_or (elim (cond {A = Option Bool} b (Some true) None) as (λ _. Option Bool) [ Some y ↦ Some y | None ↦ first_of (starts s) es ]) false ≡ true → (b || is_among s (flat_map scopes_started es)) ≡ true
     by others true q = refl
     by others false q = others q
-running_started s (event.StopScope t ∷ es) q = by (running_started s es) (same t s) q
+was_started s (event.StopScope t ∷ es) q = by (was_started s es) (same t s) q
   where
     by : (unwrap_or (first_of (starts s) es) false ≡ true → is_among s (flat_map scopes_started es) ≡ true) → (b : Bool)
         → unwrap_or (elim (cond {A = Option Bool} b (Some false) None) as (λ _. Option Bool) [ Some y ↦ Some y | None ↦ first_of (starts s) es ]) false ≡ true → is_among s (flat_map scopes_started es) ≡ true
     by others true q = lie (sym q)
     by others false q = others q
-running_started s (e ∷ es) q = running_started s es q
+was_started s (e ∷ es) q = was_started s es q
 
 -- a scope that doesn't run lists nobody
 pub stopped_lists : (h : History) (s g : List ℕ) (p : Pid) → is_running h s ≡ false → listed h s g p ≡ 0
@@ -241,10 +241,10 @@ change_is h k = record {
             go true q = lie (sym (started q) ∙ sym (ascending_stands text_cmp same texts_total exact_bytes same_decides s (flat_map scopes_started (events_of h k))) ∙ e)
 
         h_stopped : is_running h s ≡ false
-        h_stopped = stopped h (λ q. ap (is_among s) (flat_append scopes_started (events h.entries) (events k.entries)) ∙ any_before (λ t. same t s) (flat_map scopes_started (events h.entries)) (flat_map scopes_started (events k.entries)) (running_started s (events h.entries) q))
+        h_stopped = stopped h (λ q. ap (is_among s) (flat_append scopes_started (events h.entries) (events k.entries)) ∙ any_before (λ t. same t s) (flat_map scopes_started (events h.entries)) (flat_map scopes_started (events k.entries)) (was_started s (events h.entries) q))
 
         k_stopped : is_running k s ≡ false
-        k_stopped = stopped k (λ q. ap (is_among s) (flat_append scopes_started (events h.entries) (events k.entries)) ∙ any_behind (λ t. same t s) (flat_map scopes_started (events h.entries)) (flat_map scopes_started (events k.entries)) (running_started s (events k.entries) q))
+        k_stopped = stopped k (λ q. ap (is_among s) (flat_append scopes_started (events h.entries) (events k.entries)) ∙ any_behind (λ t. same t s) (flat_map scopes_started (events h.entries)) (flat_map scopes_started (events k.entries)) (was_started s (events k.entries) q))
 
         nothing : (g : List ℕ) (p : Pid) → 0 ≡ listed h s g p - listed k s g p
         nothing g p = (let a : listed h s g p ≡ 0 = stopped_lists h s g p h_stopped in omega (arith, a))

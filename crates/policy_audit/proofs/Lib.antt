@@ -18,3 +18,4 @@ pub mod MessageRows
 pub mod Onward
 pub mod KeptLinks
 pub mod NewLinks
+pub mod ScopesNow
