@@ -19,3 +19,5 @@ pub mod Onward
 pub mod KeptLinks
 pub mod NewLinks
 pub mod ScopesNow
+pub mod OneDifference
+pub mod ScopeChanges
