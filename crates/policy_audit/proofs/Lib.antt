@@ -21,3 +21,4 @@ pub mod NewLinks
 pub mod ScopesNow
 pub mod OneDifference
 pub mod ScopeChanges
+pub mod Different
