@@ -22,3 +22,4 @@ pub mod ScopesNow
 pub mod OneDifference
 pub mod ScopeChanges
 pub mod Different
+pub mod Foreign
