@@ -1,5 +1,5 @@
 -- The peer of a link never has the node's own name.
-use Rattle.std.specs.Prelude.{◌≡◌, ℕ, ◌==◌, Bool, true, false, cond, not, List, [], ◌∷◌, Option, Some, None}
+use Rattle.std.specs.Prelude.{◌≡◌, ℕ, ◌==◌, Bool, true, false, cond, not, List, [], ◌∷◌, Option, Some, None, is_some}
 use Rattle.std.proofs.Common.{refl, ap, ◌∙◌, sym, subst}
 use Rattle.std.proofs.lemmas.Bool.{eqb-true}
 use Rattle.std.specs.Option.{option_map_or}
@@ -14,16 +14,16 @@ use Rattle.policy_audit.specs.declared.opening.Opening.{Opening}
 use Rattle.policy_audit.specs.declared.reply.Reply.{Reply}
 use Rattle.policy_audit.specs.declared.event.Event.TheVariants as event
 use Rattle.policy_audit.specs.declared.rule.Rule.TheVariants as rule
-use Rattle.policy_audit.specs.Sides.{AwaitAck, AwaitAnswer, AwaitChallenge, AwaitMessage, AwaitName, AwaitReply, AwaitStatus, Awaited, ByDial, ByPeer, Opened, Start, awaits, opened, peer_in, peer_of, taken}
-use Rattle.policy_audit.specs.History.{History, past}
+use Rattle.policy_audit.specs.Sides.{AwaitAck, AwaitAnswer, AwaitChallenge, AwaitMessage, AwaitName, AwaitReply, AwaitStatus, Awaited, ByDial, ByPeer, Opened, Start, awaits, opened, peer_in, peer_of, taken, is_name_up, present_link}
+use Rattle.policy_audit.specs.History.{History, past, is_accepted}
 use Rattle.policy_audit.specs.Policy.{IsAnswered, IsLegal, IsLegalIn, verdict}
-use Rattle.policy_audit.specs.Checks.{always, challenge_checks, dial_checks, first_broken, frame_checks, name_checks}
+use Rattle.policy_audit.specs.Checks.{always, challenge_checks, dial_checks, first_broken, frame_checks, name_checks, checks}
 use Rattle.policy_audit.specs.Links.{is_open}
-use Rattle.policy_audit.proofs.Accepted.{accepted, all_hold, lie, no_value, open_first, peer_by}
+use Rattle.policy_audit.proofs.Accepted.{accepted, all_hold, lie, no_value, open_first, peer_by, unbroken}
 use Rattle.policy_audit.proofs.Onward.{ack_taken, answer_taken, challenge_taken, message_taken_on, name_taken, reply_taken, status_taken}
 use Rattle.policy_audit.proofs.Walked.{but}
-use Rattle.policy_audit.proofs.UpLinks.{none_taken, value_of}
-use Rattle.policy_audit.proofs.Effects.{others_peer}
+use Rattle.policy_audit.proofs.UpLinks.{none_taken, value_of, agrees}
+use Rattle.policy_audit.proofs.Effects.{others_peer, by_made}
 
 unlike : (b : Bool) → not (not b) ≡ false → b ≡ false
 unlike true q = lie q
@@ -83,3 +83,11 @@ foreign_in o (e ∷ es) legal l n q = by_event e.event e.verdict legal.0.verdict
 
 pub peer_foreign : (h : History) → IsLegal h → (l : ℕ) (n : List ℕ) → peer_of l h.entries ≡ Some n → same n h.opening.name ≡ false
 peer_foreign h legal l n q = foreign_in h.opening h.entries legal l n q
+
+-- nor has a node that is disconnected
+pub left_foreign : (h : History) → IsLegal h → (e : Entry) → IsAnswered h e → is_accepted e.verdict ≡ true → (n : List ℕ) → e.event ≡ event.Disconnect n → same n h.opening.name ≡ false
+left_foreign h legal e made accepts n is = by_made h e (event.Disconnect n) (λ x. same n h.opening.name ≡ false) made accepts is (λ r q. by (present_link n h.entries) refl (unbroken (is_name_up n h.entries) (all_hold (checks h e.seat (event.Disconnect n)) (accepted h e.seat (event.Disconnect n) r q).0).0))
+  where
+    by : (x : Option ℕ) → present_link n h.entries ≡ x → is_some x ≡ true → same n h.opening.name ≡ false
+    by None q s = lie (sym s)
+    by (Some l) q s = peer_foreign h legal l n ((agrees h.opening h.entries legal n l).0 q).1

@@ -1,5 +1,5 @@
 -- What entries leave alone.
-use Rattle.std.specs.Prelude.{◌≡◌, ℕ, ◌==◌, Bool, true, false, ◌&&◌, ◌||◌, not, List, ◌∷◌, Option, Some, None}
+use Rattle.std.specs.Prelude.{◌≡◌, ℕ, ◌==◌, Bool, true, false, ◌&&◌, ◌||◌, not, List, ◌∷◌, Option, Some, None, IsTrue}
 use Rattle.std.specs.Option.{option_map_or}
 use Rattle.dist_types.specs.declared.pid.Pid.{Pid}
 use Rattle.dist_types.specs.Listing.{same, same_pid, stands_in}
@@ -8,9 +8,10 @@ use Rattle.link_frames.specs.declared.message.Message.TheVariants as said
 use Rattle.policy_audit.specs.declared.event.Event.{Event}
 use Rattle.policy_audit.specs.declared.event.Event.TheVariants as event
 use Rattle.policy_audit.specs.declared.entry.Entry.{Entry}
-use Rattle.policy_audit.specs.History.{is_accepted}
-use Rattle.policy_audit.specs.Sides.{present_link, opened, taken, given, peer_of, is_peer, awaits, is_whole}
+use Rattle.policy_audit.specs.History.{History, is_accepted}
+use Rattle.policy_audit.specs.Sides.{present_link, opened, taken, given, peer_of, is_peer, AwaitMessage, awaits, is_whole}
 use Rattle.policy_audit.specs.Hearing.{message_taken, talk}
+use Rattle.policy_audit.specs.Policy.{IsAnswered, IsLegal}
 
 -- cookies, the allow list, new processes, queries, monitors and taken frames concern no row
 abbrev pub is_quiet : Event → Bool
@@ -70,3 +71,18 @@ pub record IsSameLink (l : ℕ) (old new : List Entry) : Type 0 where
   pub awaits : awaits l new ≡ awaits l old
   pub whole : is_whole l new ≡ is_whole l old
   pub talk : talk l new ≡ talk l old
+
+-- the entry accepts this event, as the policy does after this legal history
+pub record IsAccepted (h : History) (e : Entry) (ev : Event) : Type 0 where
+  pub legal : IsLegal h
+  pub answered : IsAnswered h e
+  pub accepts : IsTrue (is_accepted e.verdict)
+  pub is : e.event ≡ ev
+
+-- the entry accepts this message of the peer n, on link l, which is up
+pub record IsMessage (h : History) (e : Entry) (l : ℕ) (n : List ℕ) (m : Message) : Type 0 where
+  pub body : List ℕ
+  pub accepted : IsAccepted h e (event.Frame l body)
+  pub awaited : awaits l h.entries ≡ AwaitMessage
+  pub peer : peer_of l h.entries ≡ Some n
+  pub says : message_taken body ≡ Some m

@@ -1,9 +1,11 @@
 //! Laws of the written policy. Each function does nothing; its contract is the law.
 ghost use Rattle.std.specs.Prelude.{◌≡◌, ◌↔◌, ℕ, ◌+◌, ◌-◌, ◌==◌, ◌&&◌, not, Bool, true, false, cond, List, [], ◌∷◌, Some, IsTrue};
 ghost use Rattle.dist_types.specs.declared.pid.Pid.{Pid};
+ghost use Rattle.dist_types.specs.declared.row.Row.{Row};
 ghost use Rattle.dist_types.specs.Listing.{same, same_pid, mentions, IsPidListing, IsRowListing, IsGroupListing};
 ghost use Rattle.dist_types.specs.Flags.{has_bit};
 ghost use Rattle.handshake_frames.specs.Frame.{Name};
+ghost use Rattle.link_frames.specs.declared.message.Message.TheVariants as messages;
 ghost use Rattle.policy_audit.specs.declared.event.Event.{Event};
 ghost use Rattle.policy_audit.specs.declared.event.Event.TheVariants as events;
 ghost use Rattle.policy_audit.specs.declared.reply.Reply.{Reply};
@@ -11,12 +13,13 @@ ghost use Rattle.policy_audit.specs.declared.entry.Verdict.{Verdict};
 ghost use Rattle.policy_audit.specs.declared.entry.Entry.{Entry};
 ghost use Rattle.policy_audit.specs.History.{History, is_accepted};
 ghost use Rattle.policy_audit.specs.Own.{is_running, own};
-ghost use Rattle.policy_audit.specs.Sides.{present_link, peer_of, given, is_visible};
+ghost use Rattle.policy_audit.specs.Sides.{present_link, peer_of, given, is_visible, awaits, is_whole, is_last};
 ghost use Rattle.policy_audit.specs.Links.{is_open, is_up};
+ghost use Rattle.policy_audit.specs.Hearing.{rows_of};
 ghost use Rattle.policy_audit.specs.Listed.{listed};
 ghost use Rattle.policy_audit.specs.Contents.{members, local_members, groups, local_groups, local_rows};
 ghost use Rattle.policy_audit.specs.Changes.{IsChange, change};
-ghost use Rattle.policy_audit.specs.Effects.{leaves_rows, may_change, IsSameLink};
+ghost use Rattle.policy_audit.specs.Effects.{leaves_rows, may_change, IsSameLink, IsAccepted, IsMessage};
 ghost use Rattle.policy_audit.specs.Stages.{stages, is_up_at, name_up};
 ghost use Rattle.policy_audit.specs.Admitted.{IsAdmitted};
 ghost use Rattle.policy_audit.specs.Policy.{is_full, with_entry, entry_of, IsNext, IsLegal};
@@ -79,6 +82,51 @@ pub fn own_counts()
         → (t f : List ℕ) (p : Pid) → own (with_entry h e) t f p ≡ cond (same s t && same g f) (own h t f p - mentions p ps) (own h t f p) }
     ensures exited { (h : History) (e : Entry) (q : Pid) → e.event ≡ events.Exit q → IsTrue (is_accepted e.verdict)
         → (t f : List ℕ) (p : Pid) → own (with_entry h e) t f p ≡ cond (same_pid q p) 0 (own h t f p) }
+{}
+
+/// How often a process is listed after an accepted event. A Join adds and a Leave takes away, an Exit, a stop and a restart clear,
+/// and a link that becomes up, is lost or is disconnected clears what its peer had listed.
+pub fn rows_after()
+    ensures joined { (h : History) (e : Entry) (s g : List ℕ) (ps : List Pid) → IsAccepted h e (events.Join s g ps)
+        → (t f : List ℕ) (p : Pid) → listed (with_entry h e) t f p ≡ cond (same t s) (listed h t f p + cond (same f g) (mentions p ps) 0) (listed h t f p) }
+    ensures left { (h : History) (e : Entry) (s g : List ℕ) (ps : List Pid) → IsAccepted h e (events.Leave s g ps)
+        → (t f : List ℕ) (p : Pid) → listed (with_entry h e) t f p ≡ cond (same t s) (listed h t f p - cond (same f g) (mentions p ps) 0) (listed h t f p) }
+    ensures exited { (h : History) (e : Entry) (q : Pid) → IsAccepted h e (events.Exit q)
+        → (t f : List ℕ) (p : Pid) → listed (with_entry h e) t f p ≡ cond (same_pid p q) 0 (listed h t f p) }
+    ensures started { (h : History) (e : Entry) (s : List ℕ) → IsAccepted h e (events.StartScope s)
+        → (t f : List ℕ) (p : Pid) → listed (with_entry h e) t f p ≡ listed h t f p }
+    ensures stopped { (h : History) (e : Entry) (s : List ℕ) → IsAccepted h e (events.StopScope s)
+        → (t f : List ℕ) (p : Pid) → listed (with_entry h e) t f p ≡ cond (same t s) 0 (listed h t f p) }
+    ensures restarted { (h : History) (e : Entry) → IsAccepted h e events.Restart → (t f : List ℕ) (p : Pid) → listed (with_entry h e) t f p ≡ 0 }
+    ensures opened { (h : History) (e : Entry) (c : ℕ) → IsAccepted h e (events.Opened c)
+        → (t f : List ℕ) (p : Pid) → listed (with_entry h e) t f p ≡ listed h t f p }
+    ensures dialled { (h : History) (e : Entry) (n : List ℕ) (c : ℕ) → IsAccepted h e (events.Dial n c)
+        → (t f : List ℕ) (p : Pid) → listed (with_entry h e) t f p ≡ listed h t f p }
+    ensures unfinished { (h : History) (e : Entry) (l : ℕ) (body : List ℕ) → IsAccepted h e (events.Frame l body) → is_whole l h.entries ≡ false → is_last (awaits l h.entries) ≡ false
+        → (t f : List ℕ) (p : Pid) → listed (with_entry h e) t f p ≡ listed h t f p }
+    ensures up { (h : History) (e : Entry) (l : ℕ) (body n : List ℕ) → IsAccepted h e (events.Frame l body) → IsTrue (is_last (awaits l h.entries)) → peer_of l h.entries ≡ Some n
+        → (t f : List ℕ) (p : Pid) → listed (with_entry h e) t f p ≡ cond (same p.node n) 0 (listed h t f p) }
+    ensures lost { (h : History) (e : Entry) (l : ℕ) (n : List ℕ) → IsAccepted h e (events.Lost l) → IsTrue (is_up l h.entries) → peer_of l h.entries ≡ Some n
+        → (t f : List ℕ) (p : Pid) → listed (with_entry h e) t f p ≡ cond (same p.node n) 0 (listed h t f p) }
+    ensures lost_unfinished { (h : History) (e : Entry) (l : ℕ) → IsAccepted h e (events.Lost l) → is_up l h.entries ≡ false
+        → (t f : List ℕ) (p : Pid) → listed (with_entry h e) t f p ≡ listed h t f p }
+    ensures disconnected { (h : History) (e : Entry) (n : List ℕ) → IsAccepted h e (events.Disconnect n)
+        → (t f : List ℕ) (p : Pid) → listed (with_entry h e) t f p ≡ cond (same p.node n) 0 (listed h t f p) }
+{}
+
+/// How often a process is listed after an accepted message of a peer: a Sync says all rows of the peer in the scope, a Join
+/// adds, a Leave takes away, a Down clears.
+pub fn rows_after_messages()
+    ensures synced { (h : History) (e : Entry) (l : ℕ) (n s : List ℕ) (rows : List Row) → IsMessage h e l n (messages.Sync s rows)
+        → (t f : List ℕ) (p : Pid) → listed (with_entry h e) t f p ≡ cond (same t s) (cond (same p.node n) (rows_of f p rows) (listed h t f p)) (listed h t f p) }
+    ensures joined { (h : History) (e : Entry) (l : ℕ) (n s : List ℕ) (rows : List Row) → IsMessage h e l n (messages.Join s rows)
+        → (t f : List ℕ) (p : Pid) → listed (with_entry h e) t f p ≡ cond (same t s) (listed h t f p + rows_of f p rows) (listed h t f p) }
+    ensures left { (h : History) (e : Entry) (l : ℕ) (n s : List ℕ) (rows : List Row) → IsMessage h e l n (messages.Leave s rows)
+        → (t f : List ℕ) (p : Pid) → listed (with_entry h e) t f p ≡ cond (same t s) (listed h t f p - rows_of f p rows) (listed h t f p) }
+    ensures down { (h : History) (e : Entry) (l : ℕ) (n s : List ℕ) → IsMessage h e l n (messages.Down s)
+        → (t f : List ℕ) (p : Pid) → listed (with_entry h e) t f p ≡ cond (same t s) (cond (same p.node n) 0 (listed h t f p)) (listed h t f p) }
+    ensures discovered { (h : History) (e : Entry) (l : ℕ) (n s : List ℕ) → IsMessage h e l n (messages.Discover s)
+        → (t f : List ℕ) (p : Pid) → listed (with_entry h e) t f p ≡ listed h t f p }
 {}
 
 /// What `==` finds equal has the same value, and the other way round.
