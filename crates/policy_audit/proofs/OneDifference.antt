@@ -14,7 +14,6 @@ use Rattle.dist_types.specs.declared.pid.Pid.{Pid}
 use Rattle.dist_types.proofs.Orders.{exact_pids, pids_total, same_decides, same_pid_decides, texts_total}
 use Rattle.dist_types.specs.Order.{pid_cmp, text_cmp}
 use Rattle.dist_types.proofs.Listings.{same_ascending}
-use Rattle.policy_audit.specs.Own.{joined}
 use Rattle.policy_audit.proofs.Accepted.{lie}
 
 -- a text that comes before another isn't the same

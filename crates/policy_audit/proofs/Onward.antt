@@ -8,7 +8,7 @@ use Rattle.handshake_frames.specs.Reading.{challenge_frame, name_frame}
 use Rattle.policy_audit.specs.declared.entry.Entry.{Entry}
 use Rattle.policy_audit.specs.declared.event.Event.TheVariants as event
 use Rattle.policy_audit.specs.Sides.{Opened, Taken, Awaited, AwaitName, AwaitAnswer, AwaitReply, AwaitStatus, AwaitChallenge, AwaitAck, AwaitMessage, ByDial, ByPeer, Start, and_frame, awaited_in, is_name_up, is_whole, peer_of, taken, was_up, whole_side, awaits, given, opened}
-use Rattle.policy_audit.specs.History.{History, creation, is_accepted}
+use Rattle.policy_audit.specs.History.{History, is_accepted}
 use Rattle.policy_audit.specs.Policy.{IsAnswered}
 use Rattle.policy_audit.specs.Links.{is_open}
 use Rattle.policy_audit.proofs.Accepted.{accepted, lie, peer_by}

@@ -7,7 +7,6 @@ use Rattle.std.specs.Option.{option_map_or, unwrap_or}
 use Rattle.dist_types.specs.declared.pid.Pid.{Pid}
 use Rattle.dist_types.specs.Listing.{mentions, occurrences, same, same_pid}
 use Rattle.dist_types.proofs.Orders.{same_decides, same_pid_decides, same_sym}
-use Rattle.link_frames.specs.declared.message.Message.TheVariants as said
 use Rattle.policy_audit.specs.declared.event.Event.{Event}
 use Rattle.policy_audit.specs.declared.reply.Reply.{Reply}
 use Rattle.policy_audit.specs.declared.entry.Verdict.TheVariants.{Accepted}
