@@ -23,3 +23,4 @@ pub mod OneDifference
 pub mod ScopeChanges
 pub mod Different
 pub mod Foreign
+pub mod KeptNumbers
