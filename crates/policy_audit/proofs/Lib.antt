@@ -24,3 +24,4 @@ pub mod ScopeChanges
 pub mod Different
 pub mod Foreign
 pub mod KeptNumbers
+pub mod OwnRows

@@ -20,7 +20,7 @@ use Rattle.policy_audit.proofs.Named.{stands_occurs, or_true}
 
 -- ---- what a filter leaves
 
-filter_all : {A : Type 0} (P : A → Type 0) (test : A → Bool) (xs : List A) → AllByRecursion P xs → AllByRecursion P (filter test xs)
+pub filter_all : {A : Type 0} (P : A → Type 0) (test : A → Bool) (xs : List A) → AllByRecursion P xs → AllByRecursion P (filter test xs)
 filter_all P test [] a = tt
 filter_all P test (x ∷ xs) a = elim (test x) as (λ b. AllByRecursion P (cond b (x ∷ filter test xs) (filter test xs))) [ true ↦ (a.0, filter_all P test xs a.1) | false ↦ filter_all P test xs a.1 ]
 
@@ -85,7 +85,7 @@ module _ (count : List ℕ → Pid → ℕ) (pids : List ℕ → List Pid) (name
 
 -- ---- rows
 
-rows_of_group : (g : List ℕ) (ps : List Pid) → Ascends pid_cmp ps → Ascends row_cmp (map (row g) ps)
+pub rows_of_group : (g : List ℕ) (ps : List Pid) → Ascends pid_cmp ps → Ascends row_cmp (map (row g) ps)
 rows_of_group g [] a = tt
 rows_of_group g (p ∷ ps) a = (each ps a.0, rows_of_group g ps a.1)
   where
@@ -97,7 +97,7 @@ ascends_append : {A : Type 0} (R : A → A → Ordering) (xs ys : List A) → As
 ascends_append R [] ys a b c = b
 ascends_append R (x ∷ xs) ys a b c = (all_append (λ y. is_gt (R x y) ≡ false) xs ys a.0 c.0, ascends_append R xs ys a.1 b c.1)
 
-count_in_group : (r : Row) (g : List ℕ) (ps : List Pid) → occurrences same_row r (map (row g) ps) ≡ cond (same g r.group) (mentions r.pid ps) 0
+pub count_in_group : (r : Row) (g : List ℕ) (ps : List Pid) → occurrences same_row r (map (row g) ps) ≡ cond (same g r.group) (mentions r.pid ps) 0
 count_in_group r g ps = by (same g r.group) refl ps
   where
     by : (b : Bool) → same g r.group ≡ b → (qs : List Pid) → occurrences same_row r (map (row g) qs) ≡ cond b (mentions r.pid qs) 0
