@@ -25,3 +25,4 @@ pub mod Different
 pub mod Foreign
 pub mod KeptNumbers
 pub mod OwnRows
+pub mod LivesNow
