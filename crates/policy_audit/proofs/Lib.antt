@@ -26,3 +26,4 @@ pub mod Foreign
 pub mod KeptNumbers
 pub mod OwnRows
 pub mod LivesNow
+pub mod LinkFrames
