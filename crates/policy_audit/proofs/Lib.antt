@@ -27,3 +27,4 @@ pub mod KeptNumbers
 pub mod OwnRows
 pub mod LivesNow
 pub mod LinkFrames
+pub mod LinksLeft

@@ -189,6 +189,14 @@ refused_links h e j body r is no_more unwhole l = now h (with_entry h e) l (is_o
 
 -- ---- accepted frames
 
+-- a Name on link j gives up own dials to that peer, where no link of it is up
+abbrev pub given_up_by : ℕ → Name → List Entry → ℕ → Bool
+given_up_by j f es l = not (j == l) && not (is_name_up f.name es) && is_unfinished_dial f.name l es
+
+-- the last frame of the side of link j ends another link of its peer n that is up
+abbrev pub replaced_by : ℕ → List ℕ → List Entry → ℕ → Bool
+replaced_by j n es l = not (j == l) && is_whole l es && is_peer n l es
+
 module _ (h : History) (e : Entry) (made : IsAnswered h e) (yes : is_accepted e.verdict ≡ true) (j : ℕ) (body : List ℕ) (is : e.event ≡ event.Frame j body) where
   -- the links that it ends lose their frames, and its own is owed more
   framed : (gone : Bool) (more : List OutFrame) (l : ℕ) → (not (j == l) && frame_ends j body l h.entries) ≡ gone → ((j == l) ≡ true → frame_owes h l body (awaits l h.entries) ≡ more)
@@ -203,13 +211,10 @@ module _ (h : History) (e : Entry) (made : IsAnswered h e) (yes : is_accepted e.
       owed true m = owes m
       owed false m = refl
 
-  -- a Name: it gives up own dials to the peer, where no link of it is up
-  abbrev pub given_up_by : Name → ℕ → Bool
-  given_up_by f l = not (j == l) && not (is_name_up f.name h.entries) && is_unfinished_dial f.name l h.entries
-
+  -- a Name
   pub named_links : (f : Name) → awaits j h.entries ≡ AwaitName → name_frame body ≡ Some f → (l : ℕ)
-      → IsLinkNow (with_entry h e) l (is_open l h.entries && not (given_up_by f l)) (cond (is_open l h.entries && given_up_by f l) [] (cond (j == l) (waiting h l ++ welcome h l f.name) (waiting h l))) (is_kept h l && not (is_open l h.entries && given_up_by f l))
-  named_links f a named l = framed (given_up_by f l) (welcome h l f.name) l
+      → IsLinkNow (with_entry h e) l (is_open l h.entries && not (given_up_by j f h.entries l)) (cond (is_open l h.entries && given_up_by j f h.entries l) [] (cond (j == l) (waiting h l ++ welcome h l f.name) (waiting h l))) (is_kept h l && not (is_open l h.entries && given_up_by j f h.entries l))
+  named_links f a named l = framed (given_up_by j f h.entries l) (welcome h l f.name) l
       (ap (λ b. not (j == l) && b)
       (ap (λ x. cond (is_last x) (is_whole l h.entries && share_peer j l h.entries) (option_map_or (λ g. not (is_name_up g.name h.entries) && is_unfinished_dial g.name l h.entries) (named_by x body) false)) a
       ∙ ap (λ x. option_map_or {T = Name} {U = Bool} (λ g. not (is_name_up g.name h.entries) && is_unfinished_dial g.name l h.entries) x false) named)
@@ -220,13 +225,10 @@ module _ (h : History) (e : Entry) (made : IsAnswered h e) (yes : is_accepted e.
       assoc true b c = refl
       assoc false b c = refl
 
-  -- the last of a side: it ends another link of the peer that is up
-  abbrev pub replaced_by : List ℕ → ℕ → Bool
-  replaced_by n l = not (j == l) && is_whole l h.entries && is_peer n l h.entries
-
+  -- the last frame of a side
   pub proved_links : (n : List ℕ) → is_last (awaits j h.entries) ≡ true → peer_of j h.entries ≡ Some n → (l : ℕ)
-      → IsLinkNow (with_entry h e) l (is_open l h.entries && not (replaced_by n l)) (cond (is_open l h.entries && replaced_by n l) [] (cond (j == l) (waiting h l ++ frame_owes h l body (awaits l h.entries)) (waiting h l))) (is_kept h l && not (is_open l h.entries && replaced_by n l))
-  proved_links n last of l = framed (replaced_by n l) (frame_owes h l body (awaits l h.entries)) l
+      → IsLinkNow (with_entry h e) l (is_open l h.entries && not (replaced_by j n h.entries l)) (cond (is_open l h.entries && replaced_by j n h.entries l) [] (cond (j == l) (waiting h l ++ frame_owes h l body (awaits l h.entries)) (waiting h l))) (is_kept h l && not (is_open l h.entries && replaced_by j n h.entries l))
+  proved_links n last of l = framed (replaced_by j n h.entries l) (frame_owes h l body (awaits l h.entries)) l
       (ap (λ b. not (j == l) && b)
       (ap (λ b. cond b (is_whole l h.entries && share_peer j l h.entries) (gives_up j body l h.entries)) last ∙ ap (λ x. is_whole l h.entries && option_map_or {T = List ℕ} {U = Bool} (λ m. is_peer m l h.entries) x false) of)
       ∙ assoc (not (j == l)) (is_whole l h.entries) (is_peer n l h.entries))
