@@ -12,7 +12,7 @@ use Rattle.group_monitors.specs.declared.monitor.Monitor.{Monitor}
 use Rattle.group_monitors.specs.Monitors.{is_of, monitor_of, IsFree, IsNumbered, without, without_scope, with_place, at_place}
 use Rattle.group_monitors.proofs.Found.{nobodys}
 
-both : (a b : Bool) → (a && b) ≡ true → (a ≡ true) × (b ≡ true)
+pub both : (a b : Bool) → (a && b) ≡ true → (a ≡ true) × (b ≡ true)
 both true b is = (refl, is)
 both false b is = absurd (true≢false (sym is))
 

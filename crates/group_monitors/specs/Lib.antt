@@ -1,3 +1,4 @@
 pub mod Monitors
 pub mod Fetches
 pub mod Counts
+pub mod Follows

@@ -1,18 +1,23 @@
 //! Laws of monitors. Each function does nothing; its contract is the law.
-ghost use Rattle.std.specs.Prelude.{◌≡◌, ◌+◌, ◌≤◌, ◌==◌, ◌&&◌, ◌++◌, ℕ, false, cond, List, [], ◌∷◌, Some, None, length, IsTrue};
-ghost use Rattle.std.specs.Option.{option_map, option_and_then};
+ghost use Rattle.std.specs.Prelude.{◌≡◌, ◌+◌, ◌≤◌, ◌==◌, ◌&&◌, ◌++◌, ℕ, true, false, cond, List, [], ◌∷◌, Some, None, length, IsTrue};
+ghost use Rattle.std.specs.Option.{IsSome, option_map, option_and_then};
 ghost use Rattle.dist_types.specs.declared.pid.Pid.{Pid};
 ghost use Rattle.dist_types.specs.Listing.{same, mentions};
+ghost use Rattle.policy_audit.specs.declared.opening.Opening.{Opening};
+ghost use Rattle.policy_audit.specs.declared.event.Event.TheVariants as event;
+ghost use Rattle.policy_audit.specs.declared.rule.Rule.TheVariants as rule;
 ghost use Rattle.policy_audit.specs.declared.entry.Entry.{Entry};
 ghost use Rattle.policy_audit.specs.declared.reply.Update.{Update};
-ghost use Rattle.policy_audit.specs.History.{History};
+ghost use Rattle.policy_audit.specs.History.{History, past, is_accepted};
 ghost use Rattle.policy_audit.specs.Listed.{listed};
 ghost use Rattle.policy_audit.specs.Contents.{members, contents};
 ghost use Rattle.policy_audit.specs.Monitors.{is_fetch, monitor, updates, updates_since};
-ghost use Rattle.policy_audit.specs.Policy.{IsLegal};
+ghost use Rattle.policy_audit.specs.Policy.{next_number, with_entry, IsLegal};
+ghost use Rattle.policy_audit.specs.Checks.{first_broken, checks};
 ghost use Rattle.group_monitors.specs.declared.monitor.Monitor.{Monitor as Watch};
-ghost use Rattle.group_monitors.specs.Monitors.{target, at_place, monitor_of, IsFree, IsNumbered, updates_behind, without, without_scope, with_place};
+ghost use Rattle.group_monitors.specs.Monitors.{target, at_place, monitor_of, IsFree, IsNumbered, HasSeen, updates_behind, without, without_scope, with_place};
 ghost use Rattle.group_monitors.specs.Fetches.{IsLastFetch};
+ghost use Rattle.group_monitors.specs.Follows.{FollowsPolicy, concerns_monitors};
 ghost use Rattle.group_monitors.specs.Counts.{counted, times_in, Watches, Extends};
 
 use policy_audit::lists_ascend;
@@ -53,4 +58,33 @@ pub fn found_after()
         → (seat k : ℕ) → monitor_of (with_place own n place ms) seat k ≡ cond (k == n && own == seat) (option_map (at_place place) (monitor_of ms seat k)) (monitor_of ms seat k) }
     ensures dropped { (ms : List (ℕ × Watch)) (s : List ℕ) → IsNumbered ms
         → (seat k : ℕ) → monitor_of (without_scope s ms) seat k ≡ option_and_then (λ m. cond (same m.scope s) None (Some m)) (monitor_of ms seat k) }
+{}
+
+/// Monitors follow the policy at the start, and again behind each further entry, once what its event asks for is done to them.
+/// While they do, the next number is free, and what they say of a seat's monitor is the policy's verdict and answer.
+pub fn follows_the_policy()
+    ensures start { (o : Opening) → FollowsPolicy (past o []) [] }
+    ensures other { (h : History) (e : Entry) (ms : List (ℕ × Watch)) → e.number ≡ next_number h → FollowsPolicy h ms
+        → (is_accepted e.verdict && concerns_monitors e.event) ≡ false → FollowsPolicy (with_entry h e) ms }
+    ensures group { (h : History) (e : Entry) (ms : List (ℕ × Watch)) → e.number ≡ next_number h → FollowsPolicy h ms → is_accepted e.verdict ≡ true → (s g : List ℕ) → e.event ≡ event.Monitor s g
+        → FollowsPolicy (with_entry h e) (ms ++ (length h.entries + 1, record { seat = e.seat; scope = s; group = Some g; place = length h.entries + 1 }) ∷ []) }
+    ensures scope { (h : History) (e : Entry) (ms : List (ℕ × Watch)) → e.number ≡ next_number h → FollowsPolicy h ms → is_accepted e.verdict ≡ true → (s : List ℕ) → e.event ≡ event.MonitorScope s
+        → FollowsPolicy (with_entry h e) (ms ++ (length h.entries + 1, record { seat = e.seat; scope = s; group = None; place = length h.entries + 1 }) ∷ []) }
+    ensures removed { (h : History) (e : Entry) (ms : List (ℕ × Watch)) → e.number ≡ next_number h → FollowsPolicy h ms → is_accepted e.verdict ≡ true → (n : ℕ) → e.event ≡ event.Demonitor n
+        → FollowsPolicy (with_entry h e) (without e.seat n ms) }
+    ensures moved { (h : History) (e : Entry) (ms : List (ℕ × Watch)) → e.number ≡ next_number h → FollowsPolicy h ms → is_accepted e.verdict ≡ true → (n : ℕ) → e.event ≡ event.Updates n
+        → FollowsPolicy (with_entry h e) (with_place e.seat n (length (e ∷ h.entries)) ms) }
+    ensures dropped { (h : History) (e : Entry) (ms : List (ℕ × Watch)) → e.number ≡ next_number h → FollowsPolicy h ms → is_accepted e.verdict ≡ true → (s : List ℕ) → e.event ≡ event.StopScope s
+        → FollowsPolicy (with_entry h e) (without_scope s ms) }
+    ensures cleared { (h : History) (e : Entry) → is_accepted e.verdict ≡ true → e.event ≡ event.Restart → FollowsPolicy (with_entry h e) [] }
+    ensures free { (h : History) (ms : List (ℕ × Watch)) → FollowsPolicy h ms → IsFree (length h.entries + 1) ms }
+    ensures answer { (h : History) (ms : List (ℕ × Watch)) → FollowsPolicy h ms → (seat k : ℕ) (m : Watch) → monitor_of ms seat k ≡ Some m → updates h seat k ≡ updates_behind h.entries m }
+    ensures told { (h : History) (ms : List (ℕ × Watch)) → FollowsPolicy h ms → (seat k : ℕ) (us : List Update) → option_map (updates_behind h.entries) (monitor_of ms seat k) ≡ Some us
+        → (first_broken (checks h seat (event.Updates k)) ≡ None) × (updates h seat k ≡ us) }
+    ensures seen { (h : History) (ms : List (ℕ × Watch)) → FollowsPolicy h ms → (seat k : ℕ) → HasSeen (monitor_of ms seat k) h.entries }
+    ensures seen_later { (h : History) (ms : List (ℕ × Watch)) → FollowsPolicy h ms → (seat k : ℕ) (later : List Entry) → length h.entries ≤ length later → HasSeen (monitor_of ms seat k) later }
+    ensures checked { (h : History) (ms : List (ℕ × Watch)) → FollowsPolicy h ms → (seat k : ℕ) → IsSome (monitor_of ms seat k)
+        → (first_broken (checks h seat (event.Updates k)) ≡ None) × (first_broken (checks h seat (event.Demonitor k)) ≡ None) }
+    ensures refused { (h : History) (ms : List (ℕ × Watch)) → FollowsPolicy h ms → (seat k : ℕ) → monitor_of ms seat k ≡ None
+        → (first_broken (checks h seat (event.Updates k)) ≡ Some rule.NoMonitor) × (first_broken (checks h seat (event.Demonitor k)) ≡ Some rule.NoMonitor) }
 {}

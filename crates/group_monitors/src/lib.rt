@@ -8,7 +8,7 @@ mod monitors;
 mod told;
 
 pub use fault::{NoMonitor, UpdatesFault};
-pub use laws::{found_after, since_the_place, tells_the_listing};
+pub use laws::{follows_the_policy, found_after, since_the_place, tells_the_listing};
 pub use monitors::Monitors;
 
 #[cfg(test)]
