@@ -6,7 +6,7 @@ use Rattle.dist_types.specs.declared.row.Row.{Row}
 use Rattle.scope_core.specs.declared.counted.Counted.{Counted}
 use Rattle.dist_types.specs.Listing.{same, same_row, occurrences, spread, same_pid, mentions, how_many, IsPidListing}
 use Rattle.dist_types.specs.Difference.{IsDifference, change_unless_empty}
-use Rattle.scope_core.proofs.Shares.{each, of_node, own_flat}
+use Rattle.scope_core.proofs.Shares.{each, of_node, node_flat}
 use Rattle.dist_types.proofs.Listings.{fewer_length, length-spread}
 use Rattle.scope_core.specs.Table.{Table, local_count, local_total, is_row, is_of_node, tally, IsKept}
 use Rattle.scope_core.specs.Added.{row_in, Adds, HasRoomFor}
@@ -87,7 +87,7 @@ length-part t g ps few =
     let flat = spread (λ (c : Counted). c.row) (each (of_node t.own)) t.rows in
     let l : length (map (row_in g) ps) ≤ length flat = fewer_length same_row same_row_decides (map (row_in g) ps) flat (λ r.
     let a = mentions_in g r.group r.pid ps in
-    let b = own_flat t r in
+    let b = node_flat t.own t r in
     let m = few r.pid in
     elim (same r.group g) as (λ v. same r.group g ≡ v → how_many (is_row r.group r.pid) (map (row_in g) ps) ≡ cond v (mentions r.pid ps) 0 → how_many (is_row r.group r.pid) (map (row_in g) ps) ≤ occurrences same_row r flat) [
       | true ↦ λ e d.

@@ -9,3 +9,5 @@ pub mod Places
 pub mod Added
 pub mod Lessened
 pub mod Joined
+pub mod Moved
+pub mod Members

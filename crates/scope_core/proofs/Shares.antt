@@ -7,7 +7,7 @@ use Rattle.dist_types.specs.declared.row.Row.{Row}
 use Rattle.dist_types.specs.Order.{pid_cmp, row_cmp}
 use Rattle.scope_core.specs.declared.counted.Counted.{Counted}
 use Rattle.dist_types.specs.Listing.{occurrences, same, same_pid, same_row, mentions, total, Rises, IsPidListing, IsRowListing, spread}
-use Rattle.scope_core.specs.Table.{Table, is_row, tally, counted_cmp, local_count, local_total}
+use Rattle.scope_core.specs.Table.{Table, is_row, tally, counted_cmp, count_of, local_count, local_total}
 use Rattle.scope_core.specs.Listed.{is_in}
 use Rattle.dist_types.proofs.Orders.{pids_total, rows_total, same_row_decides}
 use Rattle.dist_types.proofs.Totals.{total_filter}
@@ -126,12 +126,12 @@ node_share node g p (c ∷ cs) =
           b ∙ rest ∙ ap (of_node node p) (sym a)
     ] refl
 
--- how often a row stands among the own rows, also where rows repeat
-pub own_flat : (t : Table) (r : Row) → occurrences same_row r (spread (λ c. c.row) (each (of_node t.own)) t.rows) ≡ local_count t r.group r.pid
-own_flat t r = spread_counts same_row (λ c. c.row) (each (of_node t.own)) r t.rows ∙ node_share t.own r.group r.pid t.rows
+-- how often a row stands among those of a node, also where rows repeat
+pub node_flat : (node : List ℕ) (t : Table) (r : Row) → occurrences same_row r (spread (λ c. c.row) (each (of_node node)) t.rows) ≡ of_node node r.pid (count_of t r.group r.pid)
+node_flat node t r = spread_counts same_row (λ c. c.row) (each (of_node node)) r t.rows ∙ node_share node r.group r.pid t.rows
 
 -- the own rows, listed, are as many as the own node has
 pub length-local_rows : (t : Table) (rows : List Row) → IsRowListing (local_count t) rows → length rows ≡ local_total t
 length-local_rows t rows l =
-    same_length same_row same_row_decides rows (spread (λ (c : Counted). c.row) (each (of_node t.own)) t.rows) (λ r. l.counts r ∙ sym (own_flat t r))
+    same_length same_row same_row_decides rows (spread (λ (c : Counted). c.row) (each (of_node t.own)) t.rows) (λ r. l.counts r ∙ sym (node_flat t.own t r))
     ∙ length-spread (λ (c : Counted). c.row) (each (of_node t.own)) t.rows

@@ -1,9 +1,11 @@
 -- Rows that are put in, and taken.
-use Rattle.std.specs.Prelude.{◌≡◌, ℕ, ◌+◌, ◌≤◌, Bool, true, false, List, [], ◌∷◌}
+use Rattle.std.specs.Prelude.{◌≡◌, ℕ, ◌+◌, ◌≤◌, Bool, true, false, List, [], ◌∷◌, map}
+use Rattle.std.specs.List.{flat_map}
 use Rattle.std.specs.List.Sorted.{IsPartitionPoint}
 use Rattle.std.specs.declared.cmp.Ordering.TheVariants.{Less, Greater}
 use Rattle.dist_types.specs.declared.pid.Pid.{Pid}
 use Rattle.dist_types.specs.declared.row.Row.{Row}
+use Rattle.dist_types.specs.declared.change.GroupChange.{GroupChange}
 use Rattle.scope_core.specs.declared.counted.Counted.{Counted}
 use Rattle.dist_types.specs.Listing.{how_many}
 use Rattle.dist_types.specs.Order.{row_cmp}
@@ -25,6 +27,14 @@ HasRoomFor rows old = (node : List ℕ) → tally (is_of_node node) old + how_ma
 abbrev pub Takes : Bool → Row → List Counted → List Counted → Type 0
 Takes true row old new = Adds (row ∷ []) new old
 Takes false row old new = (new ≡ old) × (tally (is_row row.group row.pid) old ≡ 0)
+
+-- the rows of what left
+abbrev pub rows_left : List GroupChange → List Row
+rows_left changes = flat_map (λ c. map (row_in c.group) c.left) changes
+
+-- the rows of what joined
+abbrev pub rows_joined : List GroupChange → List Row
+rows_joined changes = flat_map (λ c. map (row_in c.group) c.joined) changes
 
 -- the rows below the row end here, and those above it begin
 abbrev pub IsGap : Row → List Counted → ℕ → Type 0

@@ -1,5 +1,5 @@
 pub mod Table
 pub mod Part
 pub mod Listed
-pub mod Calls
 pub mod Added
+pub mod Calls

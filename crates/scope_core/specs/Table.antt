@@ -37,6 +37,10 @@ count_of t g p = tally (is_row g p) t.rows
 abbrev pub local_count : Table → List ℕ → Pid → ℕ
 local_count t g p = cond (same p.node t.own) (count_of t g p) 0
 
+-- how often the processes of the node are in groups, all groups together
+abbrev pub node_total : Table → List ℕ → ℕ
+node_total t node = tally (is_of_node node) t.rows
+
 -- how often the own processes are in groups, all groups together
 abbrev pub local_total : Table → ℕ
 local_total t = tally (is_of_node t.own) t.rows

@@ -11,7 +11,9 @@ mod reads;
 mod table;
 
 pub use fault::TableFault;
-pub use laws::{part_of_own_rows, total_of_counts};
+pub use laws::{
+    part_of_all_own_rows, part_of_own_rows, rows_of_difference, total_of_counts, total_of_members,
+};
 pub use table::ScopeTable;
 
 #[cfg(test)]
