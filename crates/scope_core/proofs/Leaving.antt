@@ -1,5 +1,5 @@
 -- The changes where a part of all groups leaves.
-use Rattle.std.specs.Prelude.{◌≡◌, ℕ, ◌+◌, ◌-◌, ◌<◌, true, false, cond, ◌&&◌, List, [], ◌∷◌, map, None}
+use Rattle.std.specs.Prelude.{◌≡◌, ℕ, ◌+◌, ◌-◌, ◌<◌, Bool, true, false, cond, ◌&&◌, List, [], ◌∷◌, map, None}
 use Rattle.std.proofs.Common.{refl, ap, ◌∙◌, sym, subst, arith, inl, inr}
 use Rattle.std.specs.List.{AllByRecursion}
 use Rattle.std.proofs.lemmas.Bool.{or_right, or_left, cases_lt}
@@ -32,6 +32,15 @@ total_map f m (x ∷ xs) = ap (λ n. f (m x) + n) (total_map f m xs)
 not_empty : (p : Pid) (ps : List Pid) → 0 < mentions p ps → (is_empty ps && true) ≡ false
 not_empty p [] l = absurd (omega (arith, l))
 not_empty p (q ∷ ps) l = refl
+
+-- what is less, and what is more, where a part of a count ends
+pub less : (b : Bool) (n : ℕ) → n - cond b 0 n ≡ cond b n 0
+less true n = omega arith
+less false n = omega arith
+
+pub more : (b : Bool) (n : ℕ) → cond b 0 n - n ≡ 0
+more true n = omega arith
+more false n = omega arith
 
 module _ (f : Pid → ℕ → ℕ) (part : IsPart f) (cs : List Counted) (r : Rises counted_cmp cs) where
   abbrev gs : List (List ℕ)

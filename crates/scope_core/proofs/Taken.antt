@@ -43,19 +43,22 @@ module _ (keep : Counted → Bool) where
         | false ↦ λ e. let all = tally_all test h cs in rw (h c e) (omega (arith, all))
       ] refl
 
--- what is counted once the rows of q are gone
-pub exit_counts : (g : List ℕ) (q p : Pid) (cs : List Counted) → tally (is_row g p) (filter (λ c. not (same_pid c.row.pid q)) cs) ≡ cond (same_pid p q) 0 (tally (is_row g p) cs)
-exit_counts g q p cs =
-    let keep = λ (c : Counted). not (same_pid c.row.pid q) in
-    elim (same_pid p q) as (λ v. same_pid p q ≡ v → tally (is_row g p) (filter keep cs) ≡ cond v 0 (tally (is_row g p) cs)) [
-      | true ↦ λ e.
-          let s : p ≡ q = (same_pid_decides p q).0 e in
-          tally_none keep (is_row g p) (λ c k. and_right (same c.row.group g) (same_pid c.row.pid p) (ap (λ r. same_pid c.row.pid r) s ∙ not-true (same_pid c.row.pid q) k)) cs
-      | false ↦ λ e.
-          tally_all keep (is_row g p) (λ c k.
-          let s : c.row.pid ≡ q = (same_pid_decides c.row.pid q).0 (not-false (same_pid c.row.pid q) k) in
-          and_right (same c.row.group g) (same_pid c.row.pid p) (elim (same_pid c.row.pid p) as (λ v. same_pid c.row.pid p ≡ v → v ≡ false) [
-            | true ↦ λ f. let z : p ≡ q = sym ((same_pid_decides c.row.pid p).0 f) ∙ s in sym ((same_pid_decides p q).1 z) ∙ e
-            | false ↦ λ f. refl
-          ] refl)) cs
+unlike : (hits : Pid → Bool) (q p : Pid) (v : Bool) → hits q ≡ not v → hits p ≡ v → same_pid q p ≡ false
+unlike hits q p v a b =
+    elim (same_pid q p) as (λ w. same_pid q p ≡ w → w ≡ false) [
+      | true ↦ λ e. absurd (never v (sym a ∙ ap hits ((same_pid_decides q p).0 e) ∙ b))
+      | false ↦ λ e. refl
+    ] refl
+  where
+    never : (v : Bool) → not v ≡ v → ⊥
+    never true h = let f : false ≡ true = h in cc
+    never false h = let f : true ≡ false = h in cc
+
+-- what is counted once the rows of some processes are gone
+pub gone_counts : (hits : Pid → Bool) (g : List ℕ) (p : Pid) (cs : List Counted) → tally (is_row g p) (filter (λ c. not (hits c.row.pid)) cs) ≡ cond (hits p) 0 (tally (is_row g p) cs)
+gone_counts hits g p cs =
+    let keep = λ (c : Counted). not (hits c.row.pid) in
+    elim (hits p) as (λ v. hits p ≡ v → tally (is_row g p) (filter keep cs) ≡ cond v 0 (tally (is_row g p) cs)) [
+      | true ↦ λ e. tally_none keep (is_row g p) (λ c k. and_right (same c.row.group g) (same_pid c.row.pid p) (unlike hits c.row.pid p true (not-true (hits c.row.pid) k) e)) cs
+      | false ↦ λ e. tally_all keep (is_row g p) (λ c k. and_right (same c.row.group g) (same_pid c.row.pid p) (unlike hits c.row.pid p false (not-false (hits c.row.pid) k) e)) cs
     ] refl

@@ -1,13 +1,15 @@
 -- What the calls of a table change, and when they are refused.
-use Rattle.std.specs.Prelude.{◌≡◌, ℕ, ◌+◌, ◌-◌, ◌≤◌, ◌<◌, Bool, true, false, cond, nat_lt, List, length}
-use Rattle.std.specs.List.{list_any}
+use Rattle.std.specs.Prelude.{◌≡◌, ℕ, ◌+◌, ◌-◌, ◌≤◌, ◌<◌, Bool, true, false, cond, nat_lt, nat_le, List, length}
+use Rattle.std.specs.List.{list_any, list_all}
 use Rattle.dist_types.specs.declared.pid.Pid.{Pid}
+use Rattle.dist_types.specs.declared.row.Row.{Row}
 use Rattle.dist_types.specs.declared.change.GroupChange.{GroupChange}
 use Rattle.scope_core.specs.declared.fault.TableFault.{TableFault}
-use Rattle.scope_core.specs.declared.fault.TableFault.TheVariants.{RowsFull, NotJoined, OutOfMemory}
-use Rattle.dist_types.specs.Listing.{same, same_pid, mentions}
+use Rattle.scope_core.specs.declared.fault.TableFault.TheVariants.{RowsFull, NotJoined, NotListed, OutOfMemory}
+use Rattle.dist_types.specs.Listing.{same, same_pid, same_row, occurrences, mentions}
 use Rattle.dist_types.specs.Difference.{IsDifference}
-use Rattle.scope_core.specs.Table.{Table, count_of, local_total, max_rows}
+use Rattle.scope_core.specs.Table.{Table, count_of, node_total, local_total, max_rows}
+use Rattle.scope_core.specs.Added.{row_in}
 
 -- new is of the same node as old, and counts what count says
 pub record Counts (old new : Table) (count : List ℕ → Pid → ℕ) : Type 0 where
@@ -30,6 +32,22 @@ count_after_leave t g ps h p = count_of t h p - cond (same h g) (mentions p ps) 
 abbrev pub count_after_exit : Table → Pid → List ℕ → Pid → ℕ
 count_after_exit t q g p = cond (same_pid p q) 0 (count_of t g p)
 
+-- the processes of the node are in no group
+abbrev pub count_after_drop : Table → List ℕ → List ℕ → Pid → ℕ
+count_after_drop t n g p = cond (same p.node n) 0 (count_of t g p)
+
+-- the processes of the node are in groups as often as the rows say
+abbrev pub count_after_sync : Table → List ℕ → List Row → List ℕ → Pid → ℕ
+count_after_sync t n rows g p = cond (same p.node n) (occurrences same_row (row_in g p) rows) (count_of t g p)
+
+-- one more for each of the rows
+abbrev pub count_after_add : Table → List Row → List ℕ → Pid → ℕ
+count_after_add t rows g p = count_of t g p + occurrences same_row (row_in g p) rows
+
+-- one less for each of the rows
+abbrev pub count_after_take : Table → List Row → List ℕ → Pid → ℕ
+count_after_take t rows g p = count_of t g p - occurrences same_row (row_in g p) rows
+
 -- the changes are the difference between two tables
 abbrev pub IsChange : Table → Table → List GroupChange → Type 0
 IsChange old new changes = IsDifference (count_of old) (count_of new) changes
@@ -38,6 +56,7 @@ IsChange old new changes = IsDifference (count_of old) (count_of new) changes
 abbrev pub IsJoinFault : Table → List Pid → TableFault → Type 0
 IsJoinFault t ps RowsFull = max_rows < local_total t + length ps
 IsJoinFault t ps NotJoined = ⊥
+IsJoinFault t ps NotListed = ⊥
 IsJoinFault t ps OutOfMemory = local_total t + length ps ≤ max_rows
 
 -- whether one of these processes is in the group
@@ -48,4 +67,30 @@ is_any_joined t g ps = list_any (λ p. nat_lt 0 (count_of t g p)) ps
 abbrev pub IsLeaveFault : Table → List ℕ → List Pid → TableFault → Type 0
 IsLeaveFault t g ps RowsFull = ⊥
 IsLeaveFault t g ps NotJoined = is_any_joined t g ps ≡ false
+IsLeaveFault t g ps NotListed = ⊥
 IsLeaveFault t g ps OutOfMemory = is_any_joined t g ps ≡ true
+
+-- why the rows of a peer were not replaced
+abbrev pub IsSyncFault : List Row → TableFault → Type 0
+IsSyncFault rows RowsFull = max_rows < length rows
+IsSyncFault rows NotJoined = ⊥
+IsSyncFault rows NotListed = ⊥
+IsSyncFault rows OutOfMemory = length rows ≤ max_rows
+
+-- why rows of the node were not added
+abbrev pub IsAddFault : Table → List ℕ → List Row → TableFault → Type 0
+IsAddFault t n rows RowsFull = max_rows < node_total t n + length rows
+IsAddFault t n rows NotJoined = ⊥
+IsAddFault t n rows NotListed = ⊥
+IsAddFault t n rows OutOfMemory = node_total t n + length rows ≤ max_rows
+
+-- whether each of the rows stands among them at most as often as it is counted
+abbrev pub are_counted : Table → List Row → Bool
+are_counted t rows = list_all (λ r. nat_le (occurrences same_row r rows) (count_of t r.group r.pid)) rows
+
+-- why rows were not taken
+abbrev pub IsTakeFault : Table → List Row → TableFault → Type 0
+IsTakeFault t rows RowsFull = ⊥
+IsTakeFault t rows NotJoined = ⊥
+IsTakeFault t rows NotListed = are_counted t rows ≡ false
+IsTakeFault t rows OutOfMemory = are_counted t rows ≡ true

@@ -18,6 +18,13 @@ pub fn remove_pid(rows: &mut Vec<Counted>, pid: &Pid)
     rows.retain(|counted| counted.row.pid != *pid);
 }
 
+/// Takes all rows of a node's processes away.
+pub fn remove_node(rows: &mut Vec<Counted>, node: &NodeName)
+    ensures { rows.new.items ≡ filter (λ c. not (same c.row.pid.node node.now)) rows.old.items }
+{
+    rows.retain(|counted| counted.row.pid.node != *node);
+}
+
 /// Takes one away for each mention of a process, as far as it is in the group. Answers how many the node loses.
 pub fn take_all(rows: &mut Vec<Counted>, group: &Group, pids: &[Pid], node: &NodeName) -> usize
     requires { IsKept rows.old.items }

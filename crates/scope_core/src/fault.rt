@@ -13,6 +13,8 @@ pub enum TableFault {
     RowsFull,
     #[error("no process of the list is in the group")]
     NotJoined,
+    #[error("a row of the list is not in the table as often")]
+    NotListed,
     #[error("out of memory")]
     OutOfMemory,
 }

@@ -4,11 +4,11 @@ ghost use Rattle.dist_types.specs.declared.pid.Pid.{Pid};
 ghost use Rattle.dist_types.specs.Listing.{IsPidListing, IsRowListing, IsGroupListing};
 ghost use Rattle.dist_types.specs.Difference.{IsDifference};
 ghost use Rattle.scope_core.specs.Table.{count_of, local_count, local_total, max_rows};
-ghost use Rattle.scope_core.specs.Calls.{Counts, is_any_joined, no_count, count_after_join, count_after_leave, count_after_exit, IsChange, IsJoinFault, IsLeaveFault};
+ghost use Rattle.scope_core.specs.Calls.{Counts, is_any_joined, no_count, count_after_join, count_after_leave, count_after_exit, count_after_drop, IsChange, IsJoinFault, IsLeaveFault};
 
 use crate::changes::{changes_of, in_order, one_change, rows_in};
 use crate::counted::Counted;
-use crate::edits::{add_all, remove_pid, take_all};
+use crate::edits::{add_all, remove_node, remove_pid, take_all};
 use crate::fault::TableFault;
 use crate::part::Part;
 use crate::reads::{groups_of, in_group, is_any_joined, pids_of, rows_of, total_of};
@@ -114,6 +114,22 @@ impl ScopeTable {
         ensures limits { local_total self.now ≤ max_rows }
     {
         let changes = changes_of(self.alloc, &self.rows, Part::Process(pid))?;
+        Ok(changes)
+    }
+
+    /// The processes of another node leave all groups.
+    pub fn drop_peer(&mut self, peer: &NodeName)
+        ensures { Counts self.old self.new (count_after_drop self.old peer.now) }
+    {
+        remove_node(&mut self.rows, peer);
+        self.own_rows = total_of(&self.rows, &self.own);
+    }
+
+    /// What `drop_peer` will change.
+    pub fn drop_change(&self, peer: &NodeName) -> Result<Vec<GroupChange>, OutOfMemory>
+        ensures { IfOk result (λ changes. IsDifference (count_of self.now) (count_after_drop self.now peer.now) changes.items) }
+    {
+        let changes = changes_of(self.alloc, &self.rows, Part::Node(peer))?;
         Ok(changes)
     }
 

@@ -1,7 +1,7 @@
 use Rattle.std.proofs.Common.{not, ap, ◌∙◌}
 use Rattle.dist_types.specs.Listing.{same_pid}
 use Rattle.scope_core.specs.Calls.{count_after_exit}
-use Rattle.scope_core.proofs.Taken.{filter_kept, exit_counts}
+use Rattle.scope_core.proofs.Taken.{filter_kept, gone_counts}
 use Rattle.scope_core.proofs.table.ScopeTable.exit.Goals as goal
 
 pub total_of-self-inside-requires : goal.total_of-self-inside-requires
@@ -16,5 +16,5 @@ invariant_of-self c = record {
 pub returns : goal.returns
 returns c = record {
   own = ap (λ t. t.own) c.self.view_is;
-  counts = λ g p. rw c.remove_pid.ensures (exit_counts g c.args.pid.now p c.self.inside.rows.items) ∙ ap (λ t. count_after_exit t c.args.pid.now g p) c.self.view_is;
+  counts = λ g p. rw c.remove_pid.ensures (gone_counts (λ q. same_pid q c.args.pid.now) g p c.self.inside.rows.items) ∙ ap (λ t. count_after_exit t c.args.pid.now g p) c.self.view_is;
 }

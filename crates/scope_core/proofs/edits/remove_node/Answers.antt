@@ -1,0 +1,7 @@
+use Rattle.std.proofs.Common.{rules, not}
+use Rattle.std.proofs.lemmas.Fn.{filter_same}
+use Rattle.dist_types.specs.Listing.{same}
+use Rattle.scope_core.proofs.edits.remove_node.Goals as goal
+
+pub returns : goal.returns
+returns c = filter_same _ (λ e. not (same e.row.pid.node c.args.node.now)) _ (λ x b f' k. search rules) _ _ c.retain.ensures.filtered
