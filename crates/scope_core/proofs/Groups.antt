@@ -12,13 +12,13 @@ use Rattle.dist_types.specs.Order.{text_cmp}
 use Rattle.scope_core.specs.declared.counted.Counted.{Counted}
 use Rattle.dist_types.specs.Listing.{same, same_pid, is_among, Rises, IsGroupListing}
 use Rattle.scope_core.specs.Table.{is_row, tally, counted_cmp}
-use Rattle.scope_core.specs.Listed.{is_in, heads, differs, last_of}
+use Rattle.scope_core.specs.Listed.{is_in, heads, differs, last_of, share}
 use Rattle.dist_types.proofs.Orders.{texts_total, same_decides, same_pid_decides}
 use Rattle.scope_core.proofs.Rising.{all_map, groups_above}
-use Rattle.scope_core.proofs.Shares.{share, share_is, each, IsPart}
+use Rattle.scope_core.proofs.Shares.{share_is, each, IsPart}
 
 -- a text that isn't above another, and isn't the same, is below it
-below : (g h : List ℕ) → is_gt (text_cmp g h) ≡ false → not (same g h) ≡ true → text_cmp g h ≡ Less
+pub below : (g h : List ℕ) → is_gt (text_cmp g h) ≡ false → not (same g h) ≡ true → text_cmp g h ≡ Less
 below g h n d = elim (text_cmp g h) as (λ o. text_cmp g h ≡ o → is_gt o ≡ false → o ≡ Less) [
   | Less ↦ λ e _. refl
   | Equal ↦ λ e _. absurd (let f : false ≡ true = sym (ap not ((same_decides g h).1 (exact_bytes g h e))) ∙ d in cc)
@@ -142,15 +142,23 @@ shared_row times g p (c ∷ cs) l =
       | false ↦ λ e m. or_right _ _ (shared_row times g p cs (omega (arith, m)))
     ] refl l
 
-pub groups_listing : (f : Pid → ℕ → ℕ) → IsPart f → (cs : List Counted) → Rises counted_cmp cs → IsGroupListing (λ g p. f p (tally (is_row g p) cs)) (heads (each f) None cs)
-groups_listing f part cs r = record {
-  rises = heads_rises (each f) None cs r;
-  found = λ g h.
-      let one = row_shared (each f) g cs (heads_found (each f) None g cs h) in
-      (one.0, subst (λ n. 0 < n) (share_is f part g one.0 cs r) one.1);
-  only = λ g p l. or_none _ (heads_only (each f) None g cs (shared_row (each f) g p cs (subst (λ n. 0 < n) (sym (share_is f part g p cs r)) l)));
+-- the groups with a share
+pub groups_shared : (times : Counted → ℕ) (cs : List Counted) → Rises counted_cmp cs → IsGroupListing (λ g p. share times g p cs) (heads times None cs)
+groups_shared times cs r = record {
+  rises = heads_rises times None cs r;
+  found = λ g h. row_shared times g cs (heads_found times None g cs h);
+  only = λ g p l. or_none _ (heads_only times None g cs (shared_row times g p cs l));
 }
   where
     or_none : (a : Bool) → (a || not true) ≡ true → a ≡ true
     or_none true h = refl
     or_none false h = h
+
+pub groups_listing : (f : Pid → ℕ → ℕ) → IsPart f → (cs : List Counted) → Rises counted_cmp cs → IsGroupListing (λ g p. f p (tally (is_row g p) cs)) (heads (each f) None cs)
+groups_listing f part cs r =
+    let listing = groups_shared (each f) cs r in
+    record {
+      rises = listing.rises;
+      found = λ g h. let one = listing.found g h in (one.0, subst (λ n. 0 < n) (share_is f part g one.0 cs r) one.1);
+      only = λ g p l. listing.only g p (subst (λ n. 0 < n) (sym (share_is f part g p cs r)) l);
+    }

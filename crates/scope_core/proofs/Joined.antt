@@ -1,17 +1,17 @@
 -- One more for each mention.
 use Rattle.std.specs.Prelude.{◌≡◌, ℕ, suc, ◌+◌, ◌-◌, ◌≤◌, Bool, true, false, cond, ◌&&◌, map, List, [], ◌∷◌, length, All}
-use Rattle.std.proofs.Common.{refl, ap, ◌∙◌, sym, arith}
+use Rattle.std.proofs.Common.{refl, ap, ◌∙◌, sym, subst, arith}
 use Rattle.dist_types.specs.declared.pid.Pid.{Pid}
 use Rattle.dist_types.specs.declared.row.Row.{Row}
 use Rattle.scope_core.specs.declared.counted.Counted.{Counted}
 use Rattle.dist_types.specs.Listing.{same, same_row, occurrences, spread, same_pid, mentions, how_many, IsPidListing}
 use Rattle.dist_types.specs.Difference.{IsDifference, change_unless_empty}
+use Rattle.scope_core.proofs.Peers.{AreOf, all_pass, rows_fit}
 use Rattle.scope_core.proofs.Shares.{each, of_node, node_flat}
 use Rattle.dist_types.proofs.Listings.{fewer_length, length-spread}
 use Rattle.scope_core.specs.Table.{Table, local_count, local_total, is_row, is_of_node, tally, IsKept}
 use Rattle.scope_core.specs.Added.{row_in, Adds, HasRoomFor}
 use Rattle.dist_types.proofs.Orders.{same_decides, same_sym, same_row_decides}
-use Rattle.dist_types.proofs.Totals.{how_many_le}
 use Rattle.dist_types.proofs.Sorts.{all_from}
 use Rattle.dist_types.proofs.Differences.{one_difference}
 use Rattle.std.specs.List.{AllByRecursion}
@@ -46,40 +46,23 @@ joined_change g ps sorted before after listing is =
     let m : after h p - before h p ≡ cond (same h g) (mentions p ps) 0 = omega (arith, a) in
     m ∙ ap (λ (t : Bool × ℕ). cond t.0 t.1 0) (λ i. (same_sym h g i, sym (listing.counts p) i)))
 
-none_of_node : (g node own : List ℕ) (ps : List Pid) → AllByRecursion (λ p. p.node ≡ own) ps → same own node ≡ false → how_many (is_of_node node) (map (row_in g) ps) ≡ 0
-none_of_node g node own [] a e = refl
-none_of_node g node own (p ∷ ps) a e =
-    ap (λ n. cond (same n node) (suc (how_many (is_of_node node) (map (row_in g) ps))) (how_many (is_of_node node) (map (row_in g) ps))) a.0
-    ∙ ap (λ b. cond b (suc (how_many (is_of_node node) (map (row_in g) ps))) (how_many (is_of_node node) (map (row_in g) ps))) e
-    ∙ none_of_node g node own ps a.1 e
-
-all_of_node : (g own : List ℕ) (ps : List Pid) → AllByRecursion (λ p. p.node ≡ own) ps → how_many (is_of_node own) (map (row_in g) ps) ≡ length ps
-all_of_node g own [] a = refl
-all_of_node g own (p ∷ ps) a =
-    ap (λ b. cond b (suc (how_many (is_of_node own) (map (row_in g) ps))) (how_many (is_of_node own) (map (row_in g) ps))) ((same_decides p.node own).1 a.0)
-    ∙ ap suc (all_of_node g own ps a.1)
+rows_of_own : (g own : List ℕ) (ps : List Pid) → AllByRecursion (λ p. p.node ≡ own) ps → AreOf own (map (row_in g) ps)
+rows_of_own g own [] a = tt
+rows_of_own g own (p ∷ ps) a = (a.0, rows_of_own g own ps a.1)
 
 -- how many rows the own node has after a join
 pub joined_total : (g own : List ℕ) (ps : List Pid) (rows : List Row) (old new : List Counted) → rows ≡ map (row_in g) ps → Adds rows old new → All (λ p. p.node ≡ own) ps
     → (n : ℕ) → n ≡ tally (is_of_node own) old → n + length ps ≡ tally (is_of_node own) new
 joined_total g own ps rows old new e a all n is =
     let added = a (is_of_node own) in
-    let many : how_many (is_of_node own) rows ≡ length ps = ap (how_many (is_of_node own)) e ∙ all_of_node g own ps (all_from (λ p. p.node ≡ own) ps (λ k d l h. all k d h)) in
-    omega (arith, added, many, is)
+    let many : how_many (is_of_node own) rows ≡ length (map (row_in g) ps) = ap (how_many (is_of_node own)) e ∙ all_pass own (map (row_in g) ps) (rows_of_own g own ps (all_from (λ p. p.node ≡ own) ps (λ k d l h. all k d h))) in
+    omega (arith, added, many, is, length-map ps (row_in g))
 
 -- own processes have room where the own node has
 pub room_for : (g own : List ℕ) (ps : List Pid) (rows : List Row) (old : List Counted) → rows ≡ map (row_in g) ps → IsKept old → All (λ p. p.node ≡ own) ps → tally (is_of_node own) old + length ps ≤ 4096 → HasRoomFor rows old
-room_for g own ps rows old e kept all few node =
-    let many : how_many (is_of_node node) rows ≡ how_many (is_of_node node) (map (row_in g) ps) = ap (how_many (is_of_node node)) e in
-    elim (same own node) as (λ v. same own node ≡ v → tally (is_of_node node) old + how_many (is_of_node node) rows ≤ 4096) [
-      | true ↦ λ t.
-          let s : tally (is_of_node own) old ≡ tally (is_of_node node) old = ap (λ n. tally (is_of_node n) old) ((same_decides own node).0 t) in
-          omega (arith, many, s, few, how_many_le (is_of_node node) (map (row_in g) ps), length-map ps (row_in g))
-      | false ↦ λ f.
-          let none = none_of_node g node own ps (all_from (λ p. p.node ≡ own) ps (λ k d l h. all k d h)) f in
-          let old_few = kept.few node in
-          omega (arith, many, none, old_few)
-    ] refl
+room_for g own ps rows old e kept all few =
+    subst (λ rs. HasRoomFor rs old) (sym e)
+    (rows_fit own (map (row_in g) ps) old (rows_of_own g own ps (all_from (λ p. p.node ≡ own) ps (λ k d l h. all k d h))) kept.few (omega (arith, few, length-map ps (row_in g))))
 
 -- own processes of one group are no more than all own rows
 pub length-part : (t : Table) (g : List ℕ) (ps : List Pid) → ((p : Pid) → mentions p ps ≤ local_count t g p) → length ps ≤ local_total t

@@ -2,12 +2,15 @@ pub mod Rising
 pub mod Shares
 pub mod Runs
 pub mod Groups
-pub mod Leaving
+pub mod Unions
+pub mod Between
 pub mod Taken
 pub mod Left
 pub mod Places
 pub mod Added
 pub mod Lessened
+pub mod Peers
 pub mod Joined
+pub mod Beyond
 pub mod Moved
 pub mod Members

@@ -19,7 +19,7 @@ use Rattle.scope_core.specs.Added.{row_in, IsGap}
 use Rattle.dist_types.proofs.Orders.{rows_total, exact_rows, same_decides, same_pid_decides}
 use Rattle.dist_types.proofs.Totals.{total_is}
 use Rattle.dist_types.proofs.Sorts.{all_from}
-use Rattle.scope_core.proofs.Rising.{row_is}
+use Rattle.scope_core.proofs.Rising.{row_is, once}
 use Rattle.scope_core.proofs.Runs.{all_at}
 use Rattle.scope_core.proofs.Shares.{share_absent}
 
@@ -76,6 +76,22 @@ present cs g p i l counted at =
     let le = get_or-le-sum_by f cs i d l in
     let whole = total_is f cs in
     omega (arith, some, is, le, whole)
+
+-- where a row stands, its count is what is counted
+pub found_counts : (cs : List Counted) (g : List ℕ) (p : Pid) (i : ℕ) (d : Counted) → i < length cs → Rises counted_cmp cs → HoldsAt (λ c. c.row ≡ row_in g p) cs i → (get_or cs i d).count ≡ tally (is_row g p) cs
+found_counts [] g p i d l r at = absurd (omega (arith, l))
+found_counts (c ∷ cs) g p zero d l r at =
+    let e = ap (is_row g p) (at c) ∙ itself g p in
+    let none = share_absent (λ x. x.count) g p cs (once g p c cs e r.0) in
+    let first : cond (is_row g p c.row) c.count 0 ≡ c.count = ap (λ b. cond b c.count 0) e in
+    omega (arith, none, first)
+found_counts (c ∷ cs) g p (suc i) d l r at =
+    let k : i < length cs = omega (arith, l) in
+    let rest = found_counts cs g p i d k r.1 at in
+    let below = ap (row_cmp c.row) (sym (at c)) ∙ all_at (λ x. counted_cmp c x ≡ Less) cs i c r.0 k in
+    let e = other g p c.row (λ f. let x : Less ≡ Equal = sym below ∙ f in cc) in
+    let first : cond (is_row g p c.row) c.count 0 ≡ 0 = ap (λ b. cond b c.count 0) e in
+    omega (arith, rest, first)
 
 pub joined_is : (cs : List Counted) (g : List ℕ) (p : Pid) (r : Result ℕ ℕ) → AllByRecursion (λ c. 0 < c.count) cs
     → IfOk r (λ i. i < length cs) → IfOk r (HoldsAt (λ c. c.row ≡ row_in g p) cs) → IfErr r (λ i. i ≤ length cs) → IfErr r (IsGap (row_in g p) cs) → is_ok r ≡ nat_lt 0 (tally (is_row g p) cs)

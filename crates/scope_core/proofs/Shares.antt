@@ -8,15 +8,11 @@ use Rattle.dist_types.specs.Order.{pid_cmp, row_cmp}
 use Rattle.scope_core.specs.declared.counted.Counted.{Counted}
 use Rattle.dist_types.specs.Listing.{occurrences, same, same_pid, same_row, mentions, total, Rises, IsPidListing, IsRowListing, spread}
 use Rattle.scope_core.specs.Table.{Table, is_row, tally, counted_cmp, count_of, local_count, local_total}
-use Rattle.scope_core.specs.Listed.{is_in}
+use Rattle.scope_core.specs.Listed.{is_in, share}
 use Rattle.dist_types.proofs.Orders.{pids_total, rows_total, same_row_decides}
 use Rattle.dist_types.proofs.Totals.{total_filter}
 use Rattle.dist_types.proofs.Listings.{spread_ascends, spread_counts, length-spread, same_length}
 use Rattle.scope_core.proofs.Rising.{in_group_rises, row_is, once}
-
--- how often p is listed in g, where times says how often each row is
-abbrev pub share : (Counted → ℕ) → List ℕ → Pid → List Counted → ℕ
-share times g p cs = total (λ c. cond (is_row g p c.row) (times c) 0) cs
 
 pub share_absent : (times : Counted → ℕ) (g : List ℕ) (p : Pid) (cs : List Counted) → AllByRecursion (λ c. is_row g p c.row ≡ false) cs → share times g p cs ≡ 0
 share_absent times g p [] a = refl
@@ -78,14 +74,18 @@ pub mentions_part : (ps : List Pid) → IsPart (of_mentions ps)
 mentions_part ps p = omega arith
 
 -- the processes of the rows of a group
-pub pids_listing : (f : Pid → ℕ → ℕ) → IsPart f → (g : List ℕ) (cs : List Counted) → Rises counted_cmp cs → IsPidListing (λ p. f p (tally (is_row g p) cs)) (spread (λ c. c.row.pid) (each f) (filter (is_in g) cs))
-pids_listing f part g cs r = record {
-  ascends = spread_ascends pid_cmp pids_total (λ c. c.row.pid) (each f) (filter (is_in g) cs) (in_group_rises g cs r);
+pub shares_listing : (times : Counted → ℕ) (g : List ℕ) (cs : List Counted) → Rises counted_cmp cs → IsPidListing (λ p. share times g p cs) (spread (λ c. c.row.pid) times (filter (is_in g) cs))
+shares_listing times g cs r = record {
+  ascends = spread_ascends pid_cmp pids_total (λ c. c.row.pid) times (filter (is_in g) cs) (in_group_rises g cs r);
   counts = λ p.
-      spread_counts same_pid (λ c. c.row.pid) (each f) p (filter (is_in g) cs)
-      ∙ total_filter (is_in g) (λ c. same_pid c.row.pid p) (each f) cs
-      ∙ share_is f part g p cs r;
+      spread_counts same_pid (λ c. c.row.pid) times p (filter (is_in g) cs)
+      ∙ total_filter (is_in g) (λ c. same_pid c.row.pid p) times cs;
 }
+
+pub pids_listing : (f : Pid → ℕ → ℕ) → IsPart f → (g : List ℕ) (cs : List Counted) → Rises counted_cmp cs → IsPidListing (λ p. f p (tally (is_row g p) cs)) (spread (λ c. c.row.pid) (each f) (filter (is_in g) cs))
+pids_listing f part g cs r =
+    let listing = shares_listing (each f) g cs r in
+    record { ascends = listing.ascends; counts = λ p. listing.counts p ∙ share_is f part g p cs r }
 
 -- the rows themselves
 pub rows_listing : (f : Pid → ℕ → ℕ) → IsPart f → (cs : List Counted) → Rises counted_cmp cs → IsRowListing (λ g p. f p (tally (is_row g p) cs)) (spread (λ c. c.row) (each f) cs)

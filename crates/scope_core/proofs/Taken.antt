@@ -26,7 +26,7 @@ module _ (keep : Counted → Bool) where
   }
 
   -- where each that is kept fails the test, none is counted
-  tally_none : (test : Row → Bool) → ((c : Counted) → keep c ≡ true → test c.row ≡ false) → (cs : List Counted) → tally test (filter keep cs) ≡ 0
+  pub tally_none : (test : Row → Bool) → ((c : Counted) → keep c ≡ true → test c.row ≡ false) → (cs : List Counted) → tally test (filter keep cs) ≡ 0
   tally_none test h [] = refl
   tally_none test h (c ∷ cs) =
       elim (keep c) as (λ v. keep c ≡ v → tally test (cond v (c ∷ filter keep cs) (filter keep cs)) ≡ 0) [

@@ -5,7 +5,7 @@ ghost use Rattle.scope_core.specs.Added.{row_in};
 ghost use Rattle.scope_core.specs.Table.{counted_cmp};
 ghost use Rattle.scope_core.specs.Part.{times_of};
 ghost use Rattle.dist_types.specs.Difference.{change_unless_empty};
-ghost use Rattle.scope_core.specs.Listed.{heads, leaving};
+ghost use Rattle.scope_core.specs.Listed.{heads, moving, IsUnion, Tells};
 
 use crate::counted::Counted;
 use crate::part::Part;
@@ -34,38 +34,60 @@ pub fn one_change(
     Ok(changes)
 }
 
-/// The changes of the groups where all memberships of the part end.
+/// The changes where the memberships of the part left, and these rows joined.
 pub fn changes_of(
     alloc: Global,
     rows: &[Counted],
     part: Part<'_>,
+    joined: &[Counted],
 ) -> Result<Vec<GroupChange>, OutOfMemory>
-    requires { Rises counted_cmp rows.now }
-    ensures { IfOk result (λ changes. changes.items ≡ map (leaving (times_of part.entry) rows.now) (heads (times_of part.entry) None rows.now)) }
+    requires left { Rises counted_cmp rows.now }
+    requires joined { Rises counted_cmp joined.now }
+    ensures { IfOk result (λ changes. Tells (times_of part.entry) rows.now joined.now changes.items) }
 {
-    let groups = groups_of(alloc, rows, part)?;
+    let groups = groups_moved(alloc, rows, part, joined)?;
     let mut changes = Vec::with_capacity(alloc, groups.len())?;
     for group in &groups {
-        changes.push(leaving_of(alloc, rows, group, part)?)?;
+        changes.push(change_in(alloc, group, rows, part, joined)?)?;
     }
     Ok(changes)
 }
 
-/// What leaves one group where all memberships of the part end.
-fn leaving_of(
+/// The groups that processes left or joined.
+fn groups_moved(
     alloc: Global,
     rows: &[Counted],
-    group: &Group,
     part: Part<'_>,
+    joined: &[Counted],
+) -> Result<Vec<Group>, OutOfMemory>
+    ensures { IfOk result (λ groups. IsUnion (heads (times_of part.entry) None rows.now) (heads (λ c. c.count) None joined.now) groups.items) }
+{
+    let mut groups = groups_of(alloc, rows, part)?;
+    let mut more = groups_of(alloc, joined, Part::All)?;
+    groups.append(&mut more)?;
+    groups.sort_unstable();
+    groups.dedup();
+    Ok(groups)
+}
+
+/// The processes that left and joined a group.
+fn change_in(
+    alloc: Global,
+    group: &Group,
+    rows: &[Counted],
+    part: Part<'_>,
+    joined: &[Counted],
 ) -> Result<GroupChange, OutOfMemory>
-    requires { Rises counted_cmp rows.now }
-    ensures { IfOk result (λ change. change ≡ leaving (times_of part.entry) rows.now group.now) }
+    requires left { Rises counted_cmp rows.now }
+    requires joined { Rises counted_cmp joined.now }
+    ensures { IfOk result (λ change. change ≡ moving (times_of part.entry) rows.now joined.now group.now) }
 {
     let left = pids_of(alloc, in_group(rows, group), part)?;
+    let joined = pids_of(alloc, in_group(joined, group), Part::All)?;
     Ok(GroupChange {
         group: group.try_clone(alloc)?,
         left: Items::of(left),
-        joined: Items::of(Vec::new(alloc)),
+        joined: Items::of(joined),
     })
 }
 
@@ -92,13 +114,13 @@ pub fn in_order(alloc: Global, pids: &[Pid]) -> Result<Vec<Pid>, OutOfMemory>
     Ok(copies)
 }
 
-/// Copies of the processes.
-fn copies_of(alloc: Global, pids: &[Pid]) -> Result<Vec<Pid>, OutOfMemory>
-    ensures { IfOk result (λ copies. copies.items ≡ pids.now) }
+/// Copies of the items.
+pub fn copies_of<T: TryClone + Drop>(alloc: Global, items: &[T]) -> Result<Vec<T>, OutOfMemory>
+    ensures { IfOk result (λ copies. copies.items ≡ items.now) }
 {
-    let mut copies = Vec::with_capacity(alloc, pids.len())?;
-    for pid in pids {
-        copies.push(pid.try_clone(alloc)?)?;
+    let mut copies = Vec::with_capacity(alloc, items.len())?;
+    for item in items {
+        copies.push(item.try_clone(alloc)?)?;
     }
     Ok(copies)
 }

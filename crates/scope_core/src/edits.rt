@@ -20,7 +20,9 @@ pub fn remove_pid(rows: &mut Vec<Counted>, pid: &Pid)
 
 /// Takes all rows of a node's processes away.
 pub fn remove_node(rows: &mut Vec<Counted>, node: &NodeName)
-    ensures { rows.new.items ≡ filter (λ c. not (same c.row.pid.node node.now)) rows.old.items }
+    ensures items { rows.new.items ≡ filter (λ c. not (same c.row.pid.node node.now)) rows.old.items }
+    ensures room { vec_len rows.new ≤ vec_len rows.old }
+    ensures capacity { vec_capacity rows.new ≡ vec_capacity rows.old }
 {
     rows.retain(|counted| counted.row.pid.node != *node);
 }

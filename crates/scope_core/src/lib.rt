@@ -5,6 +5,7 @@ mod changes;
 mod counted;
 mod edits;
 mod fault;
+mod incoming;
 mod laws;
 mod part;
 mod reads;

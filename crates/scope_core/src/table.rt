@@ -3,13 +3,14 @@ ghost use Rattle.std.specs.Prelude.{◌≡◌, ℕ, ◌+◌, ◌≤◌, IsTrue, 
 ghost use Rattle.dist_types.specs.declared.pid.Pid.{Pid};
 ghost use Rattle.dist_types.specs.Listing.{IsPidListing, IsRowListing, IsGroupListing};
 ghost use Rattle.dist_types.specs.Difference.{IsDifference};
-ghost use Rattle.scope_core.specs.Table.{count_of, local_count, local_total, max_rows};
-ghost use Rattle.scope_core.specs.Calls.{Counts, is_any_joined, no_count, count_after_join, count_after_leave, count_after_exit, count_after_drop, IsChange, IsJoinFault, IsLeaveFault};
+ghost use Rattle.scope_core.specs.Table.{count_of, local_count, local_total, node_total, max_rows};
+ghost use Rattle.scope_core.specs.Calls.{Counts, is_any_joined, no_count, count_after_join, count_after_leave, count_after_exit, count_after_drop, count_after_sync, count_after_add, IsChange, IsJoinFault, IsLeaveFault, IsSyncFault, IsAddFault};
 
 use crate::changes::{changes_of, in_order, one_change, rows_in};
 use crate::counted::Counted;
 use crate::edits::{add_all, remove_node, remove_pid, take_all};
 use crate::fault::TableFault;
+use crate::incoming::{beyond, counted_rows, falling};
 use crate::part::Part;
 use crate::reads::{groups_of, in_group, is_any_joined, pids_of, rows_of, total_of};
 use dist_types::{Group, GroupChange, NodeName, OutOfMemory, Pid, Row};
@@ -100,6 +101,55 @@ impl ScopeTable {
         Ok(changes)
     }
 
+    /// These are the rows of the peer's processes, in place of those that it had.
+    pub fn sync(&mut self, peer: &NodeName, rows: &[Row]) -> Result<Vec<GroupChange>, TableFault>
+        requires { All (λ r. r.pid.node ≡ peer.now) rows.now }
+        ensures ok { OnOk result (Counts self.old self.new (count_after_sync self.old peer.now rows.now)) }
+        ensures change { IfOk result (λ changes. IsChange self.old self.new changes.items) }
+        ensures refused { IfErr result (IsSyncFault rows.now) }
+        ensures limits { OnOk result (length rows.now ≤ max_rows) }
+        ensures same { OnErr result (self.new ≡ self.old) }
+    {
+        if rows.len() > ScopeTable::MAX_ROWS {
+            return Err(TableFault::RowsFull);
+        }
+        let counted = counted_rows(self.alloc, rows)?;
+        let left = beyond(self.alloc, &self.rows, peer, &counted)?;
+        let joined = beyond(self.alloc, &counted, peer, &self.rows)?;
+        let changes = changes_of(self.alloc, &left, Part::All, &joined)?;
+        let fresh = falling(self.alloc, rows)?;
+        self.rows.reserve(fresh.len())?;
+        remove_node(&mut self.rows, peer);
+        add_all(&mut self.rows, fresh);
+        self.own_rows = total_of(&self.rows, &self.own);
+        Ok(changes)
+    }
+
+    /// One more for each row, all of them of the peer's processes.
+    pub fn join_remote(
+        &mut self,
+        peer: &NodeName,
+        rows: &[Row],
+    ) -> Result<Vec<GroupChange>, TableFault>
+        requires { All (λ r. r.pid.node ≡ peer.now) rows.now }
+        ensures ok { OnOk result (Counts self.old self.new (count_after_add self.old rows.now)) }
+        ensures change { IfOk result (λ changes. IsChange self.old self.new changes.items) }
+        ensures refused { IfErr result (IsAddFault self.old peer.now rows.now) }
+        ensures limits { OnOk result (node_total self.old peer.now + length rows.now ≤ max_rows) }
+        ensures same { OnErr result (self.new ≡ self.old) }
+    {
+        if rows.len() > ScopeTable::MAX_ROWS - total_of(&self.rows, peer) {
+            return Err(TableFault::RowsFull);
+        }
+        let counted = counted_rows(self.alloc, rows)?;
+        let changes = changes_of(self.alloc, &[], Part::All, &counted)?;
+        let fresh = falling(self.alloc, rows)?;
+        self.rows.reserve(fresh.len())?;
+        add_all(&mut self.rows, fresh);
+        self.own_rows = total_of(&self.rows, &self.own);
+        Ok(changes)
+    }
+
     /// The process leaves all groups.
     pub fn exit(&mut self, pid: &Pid)
         ensures { Counts self.old self.new (count_after_exit self.old pid.now) }
@@ -113,7 +163,7 @@ impl ScopeTable {
         ensures change { IfOk result (λ changes. IsDifference (count_of self.now) (count_after_exit self.now pid.now) changes.items) }
         ensures limits { local_total self.now ≤ max_rows }
     {
-        let changes = changes_of(self.alloc, &self.rows, Part::Process(pid))?;
+        let changes = changes_of(self.alloc, &self.rows, Part::Process(pid), &[])?;
         Ok(changes)
     }
 
@@ -129,7 +179,7 @@ impl ScopeTable {
     pub fn drop_change(&self, peer: &NodeName) -> Result<Vec<GroupChange>, OutOfMemory>
         ensures { IfOk result (λ changes. IsDifference (count_of self.now) (count_after_drop self.now peer.now) changes.items) }
     {
-        let changes = changes_of(self.alloc, &self.rows, Part::Node(peer))?;
+        let changes = changes_of(self.alloc, &self.rows, Part::Node(peer), &[])?;
         Ok(changes)
     }
 
@@ -145,7 +195,7 @@ impl ScopeTable {
     pub fn clear_change(&self) -> Result<Vec<GroupChange>, OutOfMemory>
         ensures { IfOk result (λ changes. IsDifference (count_of self.now) no_count changes.items) }
     {
-        let changes = changes_of(self.alloc, &self.rows, Part::All)?;
+        let changes = changes_of(self.alloc, &self.rows, Part::All, &[])?;
         Ok(changes)
     }
 

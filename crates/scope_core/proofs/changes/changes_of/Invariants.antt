@@ -1,9 +1,9 @@
 use Rattle.std.proofs.Common.{◌≡◌, map}
 use Rattle.std.specs.Prelude.{take}
 use Rattle.scope_core.specs.Part.{times_of}
-use Rattle.scope_core.specs.Listed.{leaving}
+use Rattle.scope_core.specs.Listed.{moving}
 use Rattle.scope_core.proofs.changes.changes_of.Given as goal
 
 -- the changes of the groups so far
 abbrev pub invariant-loop-group : goal.invariant-loop-group
-invariant-loop-group l = l.changes.items ≡ map (leaving (times_of l.part) l.rows) (take l.group-index l.group-items)
+invariant-loop-group l = l.changes.items ≡ map (moving (times_of l.part) l.rows l.joined) (take l.group-index l.group-items)

@@ -3,5 +3,5 @@ use Rattle.std.proofs.lemmas.Fn.{filter_same}
 use Rattle.dist_types.specs.Listing.{same}
 use Rattle.scope_core.proofs.edits.remove_node.Goals as goal
 
-pub returns : goal.returns
-returns c = filter_same _ (λ e. not (same e.row.pid.node c.args.node.now)) _ (λ x b f' k. search rules) _ _ c.retain.ensures.filtered
+pub returns-clause-items : goal.returns-clause-items
+returns-clause-items c = filter_same _ (λ e. not (same e.row.pid.node c.args.node.now)) _ (λ x b f' k. search rules) _ _ c.retain.ensures.filtered

@@ -1,0 +1,73 @@
+-- Two lists of groups, put together, sorted and without repeats.
+use Rattle.std.specs.Prelude.{◌≡◌, ℕ, suc, Bool, true, false, cond, not, ◌||◌, nat_lt, List, [], ◌∷◌, ◌++◌}
+use Rattle.std.proofs.Common.{refl, ap, ◌∙◌, sym, subst, arith}
+use Rattle.std.specs.declared.cmp.Ordering.TheVariants.{Less}
+use Rattle.std.specs.Ordering.{is_gt}
+use Rattle.std.specs.List.{AllByRecursion, dedup, dedup_from}
+use Rattle.std.specs.List.Sorted.{IsSorted, IsPermutation}
+use Rattle.std.specs.List.Retain.{IsFiltered, DiffersFromLast}
+use Rattle.std.proofs.lemmas.Bool.{lt-ltb}
+use Rattle.std.proofs.lemmas.List.Filters.{dedup_is}
+use Rattle.dist_types.specs.Order.{text_cmp}
+use Rattle.dist_types.specs.Listing.{same, is_among, occurrences, Rises, Ascends}
+use Rattle.dist_types.proofs.Orders.{texts_total, same_decides, same_sym}
+use Rattle.dist_types.proofs.Sorts.{sorted_listing}
+use Rattle.scope_core.specs.Listed.{IsUnion}
+use Rattle.scope_core.proofs.Groups.{below}
+
+among_counts : (g : List ℕ) (gs : List (List ℕ)) → is_among g gs ≡ nat_lt 0 (occurrences same g gs)
+among_counts g [] = refl
+among_counts g (h ∷ gs) = elim (same h g) as (λ v. (v || is_among g gs) ≡ nat_lt 0 (cond v (suc (occurrences same g gs)) (occurrences same g gs))) [
+  | true ↦ sym (lt-ltb 0 (suc (occurrences same g gs)) (omega arith))
+  | false ↦ among_counts g gs
+]
+
+among_append : (g : List ℕ) (gs hs : List (List ℕ)) → is_among g (gs ++ hs) ≡ (is_among g gs || is_among g hs)
+among_append g [] hs = refl
+among_append g (k ∷ gs) hs = elim (same k g) as (λ v. (v || is_among g (gs ++ hs)) ≡ ((v || is_among g gs) || is_among g hs)) [ true ↦ refl | false ↦ among_append g gs hs ]
+
+above_dedup : (j k : List ℕ) (gs : List (List ℕ)) → text_cmp j k ≡ Less → AllByRecursion (λ g. is_gt (text_cmp k g) ≡ false) gs → Ascends text_cmp gs → AllByRecursion (λ g. text_cmp j g ≡ Less) (dedup_from same k gs)
+above_dedup j k [] l a s = (l, tt)
+above_dedup j k (g ∷ gs) l a s =
+    elim (same g k) as (λ v. same g k ≡ v → AllByRecursion (λ h. text_cmp j h ≡ Less) (cond v (dedup_from same k gs) (k ∷ dedup_from same g gs))) [
+      | true ↦ λ e. above_dedup j k gs l a.1 s.1
+      | false ↦ λ e. (l, above_dedup j g gs (texts_total.trans j k g l (below k g a.0 (ap not (same_sym k g ∙ e)))) s.0 s.1)
+    ] refl
+
+dedup_rises : (k : List ℕ) (gs : List (List ℕ)) → AllByRecursion (λ g. is_gt (text_cmp k g) ≡ false) gs → Ascends text_cmp gs → Rises text_cmp (dedup_from same k gs)
+dedup_rises k [] a s = (tt, tt)
+dedup_rises k (g ∷ gs) a s =
+    elim (same g k) as (λ v. same g k ≡ v → Rises text_cmp (cond v (dedup_from same k gs) (k ∷ dedup_from same g gs))) [
+      | true ↦ λ e. dedup_rises k gs a.1 s.1
+      | false ↦ λ e. (above_dedup k g gs (below k g a.0 (ap not (same_sym k g ∙ e))) s.0 s.1, dedup_rises g gs s.0 s.1)
+    ] refl
+
+dedup_among : (g k : List ℕ) (gs : List (List ℕ)) → is_among g (dedup_from same k gs) ≡ is_among g (k ∷ gs)
+dedup_among g k [] = refl
+dedup_among g k (h ∷ gs) =
+    elim (same h k) as (λ v. same h k ≡ v → is_among g (cond v (dedup_from same k gs) (k ∷ dedup_from same h gs)) ≡ (same k g || (same h g || is_among g gs))) [
+      | true ↦ λ e. dedup_among g k gs ∙ twice (same k g) (is_among g gs) ∙ ap (λ x. same k g || (same x g || is_among g gs)) (sym ((same_decides h k).0 e))
+      | false ↦ λ e. ap (λ b. same k g || b) (dedup_among g h gs)
+    ] refl
+  where
+    twice : (a b : Bool) → (a || b) ≡ (a || (a || b))
+    twice true b = refl
+    twice false b = refl
+
+pub union_is : (gs hs sorted union : List (List ℕ)) → IsPermutation (gs ++ hs) sorted → IsSorted text_cmp sorted → IsFiltered (DiffersFromLast same) [] sorted union → IsUnion gs hs union
+union_is gs hs sorted union p s f =
+    let listing = sorted_listing text_cmp same texts_total (gs ++ hs) sorted p s in
+    record {
+      rises = subst (Rises text_cmp) (sym (dedup_is same sorted union f)) (rises sorted listing.ascends);
+      either = λ g.
+          ap (is_among g) (dedup_is same sorted union f) ∙ among g sorted ∙ among_counts g sorted
+          ∙ ap (nat_lt 0) (listing.counts g) ∙ sym (among_counts g (gs ++ hs)) ∙ among_append g gs hs;
+    }
+  where
+    rises : (ks : List (List ℕ)) → Ascends text_cmp ks → Rises text_cmp (dedup same ks)
+    rises [] a = tt
+    rises (k ∷ ks) a = dedup_rises k ks a.0 a.1
+
+    among : (g : List ℕ) (ks : List (List ℕ)) → is_among g (dedup same ks) ≡ is_among g ks
+    among g [] = refl
+    among g (k ∷ ks) = dedup_among g k ks

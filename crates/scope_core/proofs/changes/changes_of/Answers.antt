@@ -1,0 +1,16 @@
+use Rattle.std.specs.Prelude.{map}
+use Rattle.std.proofs.Common.{ap, ◌∙◌, sym, subst}
+use Rattle.std.proofs.lemmas.List.{take_all}
+use Rattle.scope_core.specs.Part.{times_of}
+use Rattle.scope_core.specs.Listed.{moving, Tells}
+use Rattle.scope_core.proofs.Between.{tells}
+use Rattle.scope_core.proofs.changes.changes_of.Goals as goal
+
+pub returns : goal.returns
+returns c =
+    let times = times_of c.args.part in
+    let cs = c.args.rows.now in
+    let ds = c.args.joined.now in
+    let named = take_all c.loop-group.group-index c.deref-group-items.result.now c.loop-group-test.false ∙ c.deref-group-items.ensures.value in
+    subst (Tells times cs ds) (sym (c.loop-group.invariant ∙ ap (map (moving times cs ds)) named))
+    (tells times cs ds c.requires.left c.requires.joined c.in_ok-groups.groups.items c.in_ok-groups.ensures)

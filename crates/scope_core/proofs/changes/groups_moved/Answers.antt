@@ -1,0 +1,11 @@
+use Rattle.std.specs.Prelude.{None}
+use Rattle.scope_core.specs.Part.{times_of}
+use Rattle.scope_core.specs.Listed.{heads}
+use Rattle.scope_core.proofs.Unions.{union_is}
+use Rattle.scope_core.proofs.changes.groups_moved.Goals as goal
+
+pub returns : goal.returns
+returns c =
+    union_is (heads (times_of c.args.part) None c.args.rows.now) (heads (λ d. d.count) None c.args.joined.now) c.sort_unstable.new.self.items c.dedup.new.self.items
+    (rw (c.in_ok-append.ensures.items, c.in_ok-groups.ensures, c.in_ok-more.ensures) at c.sort_unstable.ensures.permutation)
+    c.sort_unstable.ensures.sorted c.dedup.ensures.filtered

@@ -1,0 +1,8 @@
+use Rattle.std.proofs.Common.{◌≡◌}
+use Rattle.std.specs.Prelude.{take}
+use Rattle.scope_core.specs.Beyond.{times_beyond, picked}
+use Rattle.scope_core.proofs.incoming.beyond.Given as goal
+
+-- what is more of the rows so far
+abbrev pub invariant-loop-counted : goal.invariant-loop-counted
+invariant-loop-counted l = l.more.items ≡ picked (times_beyond l.node l.others) (take l.counted-index l.rows)

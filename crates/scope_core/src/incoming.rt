@@ -1,0 +1,80 @@
+//! Rows that come from another node, counted, and what they change.
+ghost use Rattle.std.specs.Prelude.{◌≡◌, IfOk, Bool, []};
+ghost use Rattle.dist_types.specs.declared.row.Row.{Row};
+ghost use Rattle.dist_types.specs.Listing.{Rises, how_many};
+ghost use Rattle.scope_core.specs.Table.{tally, counted_cmp, is_row, IsKept};
+ghost use Rattle.scope_core.specs.Added.{Adds, HasRoomFor};
+ghost use Rattle.scope_core.specs.Beyond.{times_beyond, picked};
+
+use crate::changes::copies_of;
+use crate::counted::Counted;
+use crate::edits::add_all;
+use crate::reads::place_of;
+use dist_types::{NodeName, OutOfMemory, Row, TryClone};
+use std::alloc::Global;
+
+/// The rows in order, each with its count.
+pub fn counted_rows(alloc: Global, rows: &[Row]) -> Result<Vec<Counted>, OutOfMemory>
+    requires { HasRoomFor rows.now [] }
+    ensures added { IfOk result (λ counted. Adds rows.now [] counted.items) }
+    ensures kept { IfOk result (λ counted. IsKept counted.items) }
+{
+    let fresh = falling(alloc, rows)?;
+    let mut counted = Vec::with_capacity(alloc, fresh.len())?;
+    add_all(&mut counted, fresh);
+    Ok(counted)
+}
+
+/// Copies of the rows, the last in order first. So `add_all` moves few rows.
+pub fn falling(alloc: Global, rows: &[Row]) -> Result<Vec<Row>, OutOfMemory>
+    ensures { IfOk result (λ copies. (test : Row → Bool) → how_many test copies.items ≡ how_many test rows.now) }
+{
+    let mut copies = copies_of(alloc, rows)?;
+    copies.sort_unstable();
+    copies.reverse();
+    Ok(copies)
+}
+
+/// The rows of a node that are counted more often than among the others, and how much more often.
+pub fn beyond(
+    alloc: Global,
+    rows: &[Counted],
+    node: &NodeName,
+    others: &[Counted],
+) -> Result<Vec<Counted>, OutOfMemory>
+    requires { Rises counted_cmp others.now }
+    ensures { IfOk result (λ more. more.items ≡ picked (times_beyond node.now others.now) rows.now) }
+{
+    let mut more = Vec::new(alloc);
+    for counted in rows {
+        let count = count_beyond(counted, node, others);
+        if count > 0 {
+            let row = counted.row.try_clone(alloc)?;
+            more.push(Counted { row, count })?;
+        }
+    }
+    Ok(more)
+}
+
+/// How much more often a row of the node is counted than among the others.
+fn count_beyond(counted: &Counted, node: &NodeName, others: &[Counted]) -> u32
+    requires { Rises counted_cmp others.now }
+    ensures { result ≡ times_beyond node.now others.now counted.now }
+{
+    if counted.row.pid.node == *node {
+        counted.count.saturating_sub(count_at(others, &counted.row))
+    } else {
+        0
+    }
+}
+
+/// How often a row is counted.
+pub fn count_at(rows: &[Counted], row: &Row) -> u32
+    requires { Rises counted_cmp rows.now }
+    ensures { result ≡ tally (is_row row.now.group row.now.pid) rows.now }
+{
+    match place_of(rows, &row.group, &row.pid) {
+        Ok(at) => rows[at].count,
+        Err(_) => 0,
+    }
+}
