@@ -11,7 +11,7 @@ use Rattle.dist_types.specs.declared.row.Row.{Row}
 use Rattle.dist_types.specs.Order.{row_cmp}
 use Rattle.scope_core.specs.declared.counted.Counted.{Counted}
 use Rattle.dist_types.specs.Listing.{how_many, Rises}
-use Rattle.scope_core.specs.Table.{is_of_node, counted_cmp, IsKept}
+use Rattle.scope_core.specs.Table.{tally, is_of_node, counted_cmp, IsKept}
 use Rattle.scope_core.specs.Added.{Adds, HasRoomFor, IsGap}
 use Rattle.dist_types.proofs.Orders.{rows_total, same_decides}
 use Rattle.dist_types.proofs.Totals.{total_is, how_many_append}
@@ -67,15 +67,15 @@ inserted (Ok x) new a b h e = e
 inserted (Err x) new a b h e = absurd (let f : false ≡ true = h in cc)
 
 -- a count has room for one more
-pub count_fits : (cs : List Counted) (i : ℕ) (c : Counted) → i < length cs → c ≡ get_or cs i c → IsKept cs → c.count ≤ 4096
-count_fits cs i c l e kept =
+pub count_fits : (cs : List Counted) (i : ℕ) (c : Counted) → i < length cs → c ≡ get_or cs i c → ((node : List ℕ) → tally (is_of_node node) cs ≤ 4096) → c.count ≤ 4096
+count_fits cs i c l e all_few =
     let node = c.row.pid.node in
     let f = λ (d : Counted). cond (is_of_node node d.row) d.count 0 in
     let a = get_or-le-sum_by f cs i c l in
     let g : f (get_or cs i c) ≡ f c = ap f (sym e) in
     let n : f c ≡ c.count = ap (λ b. cond b c.count 0) ((same_decides node node).1 refl) in
     let b = total_is f cs in
-    let few = kept.few node in
+    let few = all_few node in
     omega (arith, a, g, n, b, few)
 
 pub inserted_kept : (cs : List Counted) (i : ℕ) (row : Row) → i ≤ length cs → IsKept cs → HasRoomFor (row ∷ []) cs

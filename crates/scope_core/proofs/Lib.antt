@@ -14,3 +14,4 @@ pub mod Joined
 pub mod Beyond
 pub mod Moved
 pub mod Members
+pub mod Lower

@@ -18,11 +18,11 @@ use Rattle.scope_core.specs.Added.{row_in, rows_left, rows_joined}
 use Rattle.scope_core.proofs.Joined.{mentions_in}
 
 module _ {A B : Type 0} (P : B → Type 0) (f : A → B) where
-  all_mapped : (xs : List A) → AllByRecursion (λ x. P (f x)) xs → AllByRecursion P (map f xs)
+  pub all_mapped : (xs : List A) → AllByRecursion (λ x. P (f x)) xs → AllByRecursion P (map f xs)
   all_mapped [] a = tt
   all_mapped (x ∷ xs) a = (a.0, all_mapped xs a.1)
 
-  all_unmapped : (xs : List A) → AllByRecursion P (map f xs) → AllByRecursion (λ x. P (f x)) xs
+  pub all_unmapped : (xs : List A) → AllByRecursion P (map f xs) → AllByRecursion (λ x. P (f x)) xs
   all_unmapped [] a = tt
   all_unmapped (x ∷ xs) a = (a.0, all_unmapped xs a.1)
 

@@ -26,7 +26,7 @@ permuted test xs ys p = how_many_is test ys ∙ sum_by-IsPermutation (λ x. cond
 pub alone_fit : (rows : List Row) → length rows ≤ 4096 → HasRoomFor rows []
 alone_fit rows l node = let m = how_many_le (is_of_node node) rows in omega (arith, l, m)
 
-none_pass : (test : Row → Bool) (rows : List Row) → AllByRecursion (λ r. test r ≡ false) rows → how_many test rows ≡ 0
+pub none_pass : (test : Row → Bool) (rows : List Row) → AllByRecursion (λ r. test r ≡ false) rows → how_many test rows ≡ 0
 none_pass test [] a = refl
 none_pass test (r ∷ rows) a = ap (λ b. cond b (suc (how_many test rows)) (how_many test rows)) a.0 ∙ none_pass test rows a.1
 
@@ -87,6 +87,14 @@ added_change rows fresh cs counted new changes told counts alike added =
     told (λ g p. tally (is_row g p) cs) (λ g p. tally (is_row g p) new)
     (λ g p. let a = added (is_row g p) in omega (arith, a))
     (λ g p. let a = added (is_row g p) in let b = alike (is_row g p) in let c = counts (is_row g p) in omega (arith, a, b, c))
+
+-- the change where rows are taken
+pub taken_change : (rows : List Row) (cs counted new : List Counted) (changes : List GroupChange) → Tells (λ c. c.count) counted [] changes → Adds rows [] counted → Adds rows new cs
+    → IsDifference (λ g p. tally (is_row g p) cs) (λ g p. tally (is_row g p) new) changes
+taken_change rows cs counted new changes told counts taken =
+    told (λ g p. tally (is_row g p) cs) (λ g p. tally (is_row g p) new)
+    (λ g p. let a = taken (is_row g p) in let c = counts (is_row g p) in omega (arith, a, c))
+    (λ g p. let a = taken (is_row g p) in omega (arith, a))
 
 module _ (n : List ℕ) (rows fresh : List Row) (cs : List Counted) (kept : IsKept cs) (own : AreOf n rows) (alike : AreAlike fresh rows) where
   -- the rows of other nodes

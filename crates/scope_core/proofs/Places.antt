@@ -57,14 +57,18 @@ other g p r n = elim (is_row g p r) as (λ v. is_row g p r ≡ v → v ≡ false
   | false ↦ λ e. refl
 ] refl
 
--- where there is a gap in the place of a row, it isn't counted
-pub absent : (cs : List Counted) (g : List ℕ) (p : Pid) (i : ℕ) → i ≤ length cs → IsGap (row_in g p) cs i → tally (is_row g p) cs ≡ 0
-absent cs g p i l gap = share_absent (λ c. c.count) g p cs (all_from (λ c. is_row g p c.row ≡ false) cs (λ k d m h.
+-- where there is a gap in the place of a row, no row is it
+pub none_is : (cs : List Counted) (g : List ℕ) (p : Pid) (i : ℕ) → i ≤ length cs → IsGap (row_in g p) cs i → AllByRecursion (λ c. is_row g p c.row ≡ false) cs
+none_is cs g p i l gap = all_from (λ c. is_row g p c.row ≡ false) cs (λ k d m h.
     other g p (get_or cs k d).row (λ e.
     elim (nat_lt k i) as (λ v. nat_lt k i ≡ v → ⊥) [
       | true ↦ λ b. let f : Less ≡ Equal = sym (gap.0 k d (omega arith) (ltb-true k i b)) ∙ e in cc
       | false ↦ λ b. let f : Greater ≡ Equal = sym (gap.1 k d (grind (arith, b)) h) ∙ e in cc
-    ] refl)))
+    ] refl))
+
+-- and it isn't counted
+pub absent : (cs : List Counted) (g : List ℕ) (p : Pid) (i : ℕ) → i ≤ length cs → IsGap (row_in g p) cs i → tally (is_row g p) cs ≡ 0
+absent cs g p i l gap = share_absent (λ c. c.count) g p cs (none_is cs g p i l gap)
 
 -- where a row stands, it is counted
 pub present : (cs : List Counted) (g : List ℕ) (p : Pid) (i : ℕ) → i < length cs → AllByRecursion (λ c. 0 < c.count) cs → HoldsAt (λ c. c.row ≡ row_in g p) cs i → 0 < tally (is_row g p) cs

@@ -1,19 +1,27 @@
 -- Rows that are put in, and taken.
-use Rattle.std.specs.Prelude.{◌≡◌, ℕ, ◌+◌, ◌≤◌, Bool, true, false, List, [], ◌∷◌, map}
-use Rattle.std.specs.List.{flat_map}
+use Rattle.std.specs.Prelude.{◌≡◌, ℕ, ◌+◌, ◌≤◌, Bool, true, false, nat_le, List, [], ◌∷◌, map}
+use Rattle.std.specs.List.{flat_map, list_all}
 use Rattle.std.specs.List.Sorted.{IsPartitionPoint}
 use Rattle.std.specs.declared.cmp.Ordering.TheVariants.{Less, Greater}
 use Rattle.dist_types.specs.declared.pid.Pid.{Pid}
 use Rattle.dist_types.specs.declared.row.Row.{Row}
 use Rattle.dist_types.specs.declared.change.GroupChange.{GroupChange}
 use Rattle.scope_core.specs.declared.counted.Counted.{Counted}
-use Rattle.dist_types.specs.Listing.{how_many}
+use Rattle.dist_types.specs.Listing.{how_many, same_row, occurrences}
 use Rattle.dist_types.specs.Order.{row_cmp}
 use Rattle.scope_core.specs.Table.{tally, is_row, is_of_node, max_rows}
 
 -- the row of the process in the group
 abbrev pub row_in : List ℕ → Pid → Row
 row_in g p = record { group = g; pid = p }
+
+-- the rows without their counts
+abbrev pub bare_rows : List Counted → List Row
+bare_rows rows = map (λ c. c.row) rows
+
+-- whether each row of the list stands in it at most as often as it is counted
+abbrev pub are_all_in : List Counted → List Row → Bool
+are_all_in rows gone = list_all (λ r. nat_le (occurrences same_row r gone) (tally (is_row r.group r.pid) rows)) gone
 
 -- new has just these rows more than old
 abbrev pub Adds : List Row → List Counted → List Counted → Type 0

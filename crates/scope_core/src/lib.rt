@@ -7,6 +7,7 @@ mod edits;
 mod fault;
 mod incoming;
 mod laws;
+mod lowered;
 mod part;
 mod reads;
 mod table;

@@ -4,13 +4,14 @@ ghost use Rattle.dist_types.specs.declared.pid.Pid.{Pid};
 ghost use Rattle.dist_types.specs.Listing.{IsPidListing, IsRowListing, IsGroupListing};
 ghost use Rattle.dist_types.specs.Difference.{IsDifference};
 ghost use Rattle.scope_core.specs.Table.{count_of, local_count, local_total, node_total, max_rows};
-ghost use Rattle.scope_core.specs.Calls.{Counts, is_any_joined, no_count, count_after_join, count_after_leave, count_after_exit, count_after_drop, count_after_sync, count_after_add, IsChange, IsJoinFault, IsLeaveFault, IsSyncFault, IsAddFault};
+ghost use Rattle.scope_core.specs.Calls.{Counts, is_any_joined, no_count, count_after_join, count_after_leave, count_after_exit, count_after_drop, count_after_sync, count_after_add, count_after_take, are_counted, IsChange, IsJoinFault, IsLeaveFault, IsSyncFault, IsAddFault, IsTakeFault};
 
 use crate::changes::{changes_of, in_order, one_change, rows_in};
 use crate::counted::Counted;
 use crate::edits::{add_all, remove_node, remove_pid, take_all};
 use crate::fault::TableFault;
 use crate::incoming::{beyond, counted_rows, falling};
+use crate::lowered::{are_all_in, take_rows};
 use crate::part::Part;
 use crate::reads::{groups_of, in_group, is_any_joined, pids_of, rows_of, total_of};
 use dist_types::{Group, GroupChange, NodeName, OutOfMemory, Pid, Row};
@@ -146,6 +147,29 @@ impl ScopeTable {
         let fresh = falling(self.alloc, rows)?;
         self.rows.reserve(fresh.len())?;
         add_all(&mut self.rows, fresh);
+        self.own_rows = total_of(&self.rows, &self.own);
+        Ok(changes)
+    }
+
+    /// One less for each row, all of them of the peer's processes.
+    pub fn leave_remote(
+        &mut self,
+        peer: &NodeName,
+        rows: &[Row],
+    ) -> Result<Vec<GroupChange>, TableFault>
+        requires { All (λ r. r.pid.node ≡ peer.now) rows.now }
+        ensures ok { OnOk result (Counts self.old self.new (count_after_take self.old rows.now)) }
+        ensures change { IfOk result (λ changes. IsChange self.old self.new changes.items) }
+        ensures refused { IfErr result (IsTakeFault self.old rows.now) }
+        ensures only { OnOk result (IsTrue (are_counted self.old rows.now)) }
+        ensures same { OnErr result (self.new ≡ self.old) }
+    {
+        if !are_all_in(&mut self.rows, rows) {
+            return Err(TableFault::NotListed);
+        }
+        let counted = counted_rows(self.alloc, rows)?;
+        let changes = changes_of(self.alloc, &counted, Part::All, &[])?;
+        take_rows(&mut self.rows, rows);
         self.own_rows = total_of(&self.rows, &self.own);
         Ok(changes)
     }

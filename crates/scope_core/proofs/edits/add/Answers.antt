@@ -7,7 +7,7 @@ use Rattle.scope_core.proofs.edits.add.Goals as goal
 
 pub overflow_add-index_mut : goal.overflow_add-index_mut
 overflow_add-index_mut c =
-    let l = count_fits c.args.rows.now.items c.in-Ok.at c.index_mut.result.now (search rules) c.index_mut.ensures.value c.requires.kept in
+    let l = count_fits c.args.rows.now.items c.in-Ok.at c.index_mut.result.now (search rules) c.index_mut.ensures.value c.requires.kept.few in
     omega (arith, l)
 
 pub returns-in-Ok-clause-added : goal.returns-in-Ok-clause-added

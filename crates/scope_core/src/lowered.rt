@@ -1,0 +1,109 @@
+//! Counts that are lowered for rows that go. The rows stay, so counts can be raised again without memory.
+ghost use Rattle.std.specs.Prelude.{◌≡◌, ◌<◌, ◌≤◌, ℕ, Bool, true, List, [], ◌∷◌, IsTrue, length, take, vec_len};
+ghost use Rattle.std.specs.List.{HoldsAt};
+ghost use Rattle.dist_types.specs.declared.pid.Pid.{Pid};
+ghost use Rattle.dist_types.specs.declared.row.Row.{Row};
+ghost use Rattle.dist_types.specs.Listing.{Rises, how_many};
+ghost use Rattle.scope_core.specs.Table.{tally, counted_cmp, is_row, IsKept};
+ghost use Rattle.scope_core.specs.Added.{row_in, bare_rows, are_all_in, Adds, Takes, HasRoomFor};
+
+use crate::counted::Counted;
+use crate::reads::place_of;
+use dist_types::Row;
+
+/// Whether each row stands in the list at most as often as it is counted. Counts are lowered as far as this goes, and
+/// raised again.
+pub fn are_all_in(rows: &mut Vec<Counted>, gone: &[Row]) -> bool
+    requires { IsKept rows.old.items }
+    ensures value { result ≡ are_all_in rows.old.items gone.now }
+    ensures fit { IsTrue result → HasRoomFor gone.now [] }
+    ensures same { rows.new.items ≡ rows.old.items }
+{
+    let lowered = lower(rows, gone);
+    let (back, _) = gone.split_at(lowered);
+    raise(rows, back);
+    lowered == gone.len()
+}
+
+/// One less for each row.
+pub fn take_rows(rows: &mut Vec<Counted>, gone: &[Row])
+    requires kept { IsKept rows.old.items }
+    requires counted { IsTrue (are_all_in rows.old.items gone.now) }
+    ensures taken { Adds gone.now rows.new.items rows.old.items }
+    ensures kept { IsKept rows.new.items }
+{
+    lower(rows, gone);
+    rows.retain(|counted| counted.count != 0);
+}
+
+/// One less for each row, up to the first that isn't there any more. Answers how many were.
+fn lower(rows: &mut Vec<Counted>, gone: &[Row]) -> usize
+    requires { Rises counted_cmp rows.old.items }
+    ensures bound { result ≤ length gone.now }
+    ensures lowered { Adds (take result gone.now) rows.new.items rows.old.items }
+    ensures stopped { result < length gone.now → HoldsAt (λ r. tally (is_row r.group r.pid) rows.new.items ≡ 0) gone.now result }
+    ensures same { bare_rows rows.new.items ≡ bare_rows rows.old.items }
+{
+    let mut lowered = 0;
+    for row in gone {
+        if !lower_one(rows, row) {
+            return lowered;
+        }
+        lowered += 1;
+    }
+    lowered
+}
+
+/// One less of a row. Answers whether there is one.
+fn lower_one(rows: &mut Vec<Counted>, row: &Row) -> bool
+    requires { Rises counted_cmp rows.old.items }
+    ensures taken { Takes result row.now rows.old.items rows.new.items }
+    ensures same { bare_rows rows.new.items ≡ bare_rows rows.old.items }
+{
+    match place_of(rows, &row.group, &row.pid) {
+        Ok(at) => lower_at(rows, at),
+        Err(_) => false,
+    }
+}
+
+/// One less at this place. Answers whether there is one.
+fn lower_at(rows: &mut Vec<Counted>, at: usize) -> bool
+    requires bound { at < vec_len rows.old }
+    requires rises { Rises counted_cmp rows.old.items }
+    ensures taken { (row : Row) → HoldsAt (λ c. c.row ≡ row) rows.old.items at → Takes result row rows.old.items rows.new.items }
+    ensures same { bare_rows rows.new.items ≡ bare_rows rows.old.items }
+{
+    if rows[at].count == 0 {
+        return false;
+    }
+    rows[at].count -= 1;
+    true
+}
+
+/// One more for each row, of rows that stand there.
+fn raise(rows: &mut Vec<Counted>, back: &[Row])
+    requires rises { Rises counted_cmp rows.old.items }
+    requires few { HasRoomFor back.now rows.old.items }
+    requires stand { (g : List ℕ) (p : Pid) → 0 < how_many (is_row g p) back.now → 0 < how_many (is_row g p) (bare_rows rows.old.items) }
+    ensures raised { Adds back.now rows.old.items rows.new.items }
+    ensures same { bare_rows rows.new.items ≡ bare_rows rows.old.items }
+{
+    for row in back {
+        raise_one(rows, row);
+    }
+}
+
+/// One more of a row that stands there.
+fn raise_one(rows: &mut Vec<Counted>, row: &Row)
+    requires rises { Rises counted_cmp rows.old.items }
+    requires few { HasRoomFor (row.now ∷ []) rows.old.items }
+    requires stands { 0 < how_many (is_row row.now.group row.now.pid) (bare_rows rows.old.items) }
+    ensures raised { Adds (row.now ∷ []) rows.old.items rows.new.items }
+    ensures same { bare_rows rows.new.items ≡ bare_rows rows.old.items }
+{
+    match place_of(rows, &row.group, &row.pid) {
+        Ok(at) => rows[at].count += 1,
+        // It stands there.
+        Err(_) => {}
+    }
+}
