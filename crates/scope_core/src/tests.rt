@@ -5,6 +5,8 @@ use dist_types::{Group, GroupChange, NodeName, Pid, Row, TryClone};
 use std::alloc::Global;
 use std::test::Fail;
 
+mod peers;
+
 /// A table of b@h.
 #[derive(Drop)]
 struct Own {

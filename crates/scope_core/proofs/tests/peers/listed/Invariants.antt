@@ -1,0 +1,7 @@
+use Rattle.std.proofs.Common.{◌≡◌}
+use Rattle.std.specs.Prelude.{All}
+use Rattle.scope_core.proofs.tests.peers.listed.Given as goal
+
+-- the rows so far are of the peer
+abbrev pub invariant-loop-group : goal.invariant-loop-group
+invariant-loop-group l = All (λ row. row.pid.node ≡ l.peer) l.rows.items

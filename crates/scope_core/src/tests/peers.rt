@@ -1,0 +1,163 @@
+ghost use Rattle.std.specs.Prelude.{◌≡◌, All};
+
+use super::*;
+
+/// Rows of a process of a peer.
+#[derive(Drop)]
+struct PeerRows {
+    peer: NodeName,
+    rows: Vec<Row>,
+    ghost own: { All (λ row. row.pid.node ≡ peer) rows.items },
+}
+
+/// What is done with the rows.
+#[derive(Clone, Copy)]
+enum Step {
+    Sync,
+    Join,
+    Leave,
+}
+
+/// A row of the process with this number in each of the groups.
+fn listed(alloc: Global, peer: &[u8], number: u64, groups: &[u8]) -> Result<PeerRows, Fail> {
+    let peer = NodeName::parse(alloc, peer)?;
+    let mut rows = Vec::new(alloc);
+    for group in groups {
+        let node = peer.try_clone(alloc)?;
+        let pid = Pid {
+            node,
+            creation: 4,
+            number,
+        };
+        let group = Group::parse(alloc, &[*group])?;
+        rows.push(Row { group, pid })?;
+    }
+    Ok(PeerRows { peer, rows })
+}
+
+/// Tells how many joined and left, or why none did.
+fn apply(table: &mut ScopeTable, step: Step, listed: &PeerRows) -> Result<usize, TableFault> {
+    let changes = match step {
+        Step::Sync => table.sync(&listed.peer, &listed.rows)?,
+        Step::Join => table.join_remote(&listed.peer, &listed.rows)?,
+        Step::Leave => table.leave_remote(&listed.peer, &listed.rows)?,
+    };
+    Ok(moved(&changes))
+}
+
+/// Each group with its members, as digits.
+fn all(alloc: Global, table: &ScopeTable) -> Result<u64, Fail> {
+    let mut digits = 0;
+    for group in &table.groups()? {
+        digits = then(digits, digit(group));
+        for pid in &table.members(group)? {
+            digits = then(digits, pid.number);
+        }
+    }
+    Ok(digits)
+}
+
+#[test]
+fn counts_a_peers_rows_up_to_4096(rt: HostRuntime) -> Result<(), Fail> {
+    let mut table = Own::new(rt.alloc())?.table;
+    let most: &[u8] = &[b'1'; 4095];
+    for (row, (groups, moved)) in [
+        (most, Ok(4095)),
+        (b"11", Err(TableFault::RowsFull)),
+        (b"2", Ok(1)),
+        (b"1", Err(TableFault::RowsFull)),
+        (b"", Ok(0)),
+    ]
+    .into_iter()
+    .enumerate()
+    {
+        let rows = listed(rt.alloc(), b"p@h", 1, groups)?;
+        assert_eq!(rt; apply(&mut table, Step::Join, &rows), moved, "at {row}");
+    }
+    let group = Group::parse(rt.alloc(), b"1")?;
+    assert_eq!(rt; table.members(&group)?.len(), 4095);
+    Ok(())
+}
+
+#[test]
+fn replaces_at_most_4096_rows(rt: HostRuntime) -> Result<(), Fail> {
+    let mut table = Own::new(rt.alloc())?.table;
+    let many = listed(rt.alloc(), b"p@h", 1, &[b'1'; 4097])?;
+    assert_eq!(rt;
+        apply(&mut table, Step::Sync, &many),
+        Err(TableFault::RowsFull)
+    );
+    assert_eq!(rt; table.groups()?.len(), 0);
+    Ok(())
+}
+
+/// A peer's rows come and go between an own process, 1 and 2, and one of another peer, 9.
+#[test]
+fn moves_rows_of_the_peer_alone(rt: HostRuntime) -> Result<(), Fail> {
+    let mut table = filled(rt.alloc())?.table;
+    let other = listed(rt.alloc(), b"q@h", 9, b"23")?;
+    assert_eq!(rt; apply(&mut table, Step::Sync, &other), Ok(2));
+    for (row, (step, groups, moved, state)) in [
+        (Step::Sync, b"2114", Ok(4), 1_11_55_2_12_5_9_3_9_4_5),
+        (Step::Sync, b"2225", Ok(6), 1_11_2_12_555_9_3_9_5_5),
+        (
+            Step::Leave,
+            b"2222",
+            Err(TableFault::NotListed),
+            1_11_2_12_555_9_3_9_5_5,
+        ),
+        (
+            Step::Leave,
+            b"2552",
+            Err(TableFault::NotListed),
+            1_11_2_12_555_9_3_9_5_5,
+        ),
+        (Step::Leave, b"2522", Ok(4), 1_11_2_12_9_3_9),
+        (
+            Step::Leave,
+            b"3123",
+            Err(TableFault::NotListed),
+            1_11_2_12_9_3_9,
+        ),
+        (Step::Join, b"3223", Ok(4), 1_11_2_12_55_9_3_55_9),
+    ]
+    .into_iter()
+    .enumerate()
+    {
+        let rows = listed(rt.alloc(), b"p@h", 5, groups)?;
+        assert_eq!(rt; apply(&mut table, step, &rows), moved, "at {row}");
+        assert_eq!(rt; all(rt.alloc(), &table)?, state, "after {row}");
+    }
+    Ok(())
+}
+
+#[test]
+fn tells_beforehand_what_drop_peer_changes(rt: HostRuntime) -> Result<(), Fail> {
+    let mut table = filled(rt.alloc())?.table;
+    let rows = listed(rt.alloc(), b"p@h", 5, b"2113")?;
+    apply(&mut table, Step::Sync, &rows)?;
+    assert_eq!(rt; left(&table.drop_change(&rows.peer)?), 1_55_2_5_3_5);
+    table.drop_peer(&rows.peer);
+    assert_eq!(rt; all(rt.alloc(), &table)?, 1_11_2_12);
+    Ok(())
+}
+
+/// Where one growth is refused, the call is made again: `rt try --test --fail-alloc N`.
+#[test]
+fn keeps_a_peers_rows_where_a_growth_is_refused(rt: HostRuntime) -> Result<(), Fail> {
+    let mut table = Own::new(rt.alloc())?.table;
+    for (step, groups, state) in [
+        (Step::Sync, b"211", 1_55_2_5),
+        (Step::Join, b"231", 1_555_2_55_3_5),
+        (Step::Leave, b"321", 1_55_2_5),
+    ] {
+        let before = all(rt.alloc(), &table)?;
+        let rows = listed(rt.alloc(), b"p@h", 5, groups)?;
+        if apply(&mut table, step, &rows).is_err() {
+            assert_eq!(rt; all(rt.alloc(), &table)?, before);
+            apply(&mut table, step, &rows)?;
+        }
+        assert_eq!(rt; all(rt.alloc(), &table)?, state);
+    }
+    Ok(())
+}
