@@ -1,7 +1,7 @@
 -- Rows of one node that are put in.
 use Rattle.std.specs.Prelude.{◌≡◌, ℕ, suc, ◌+◌, ◌≤◌, Bool, true, false, cond, not, List, [], ◌∷◌, length}
 use Rattle.std.proofs.Common.{refl, ap, ◌∙◌, sym, arith}
-use Rattle.std.specs.List.{AllByRecursion, filter}
+use Rattle.std.specs.List.{AllByRecursion}
 use Rattle.std.specs.List.Sorted.{IsPermutation}
 use Rattle.std.proofs.lemmas.Bool.{and_right, not-true}
 use Rattle.std.proofs.lemmas.List.Sorted.{sum_by-IsPermutation}
@@ -14,7 +14,7 @@ use Rattle.dist_types.proofs.Orders.{same_decides, same_pid_decides}
 use Rattle.dist_types.proofs.Totals.{how_many_is, how_many_le}
 use Rattle.scope_core.specs.declared.counted.Counted.{Counted}
 use Rattle.scope_core.specs.Table.{is_row, is_of_node, tally, IsKept}
-use Rattle.scope_core.specs.Added.{Adds, HasRoomFor}
+use Rattle.scope_core.specs.Added.{without_node, Adds, HasRoomFor}
 use Rattle.scope_core.specs.Listed.{Tells}
 use Rattle.scope_core.proofs.Taken.{tally_none, filter_kept, gone_counts}
 
@@ -97,26 +97,19 @@ taken_change rows cs counted new changes told counts taken =
     (λ g p. let a = taken (is_row g p) in omega (arith, a))
 
 module _ (n : List ℕ) (rows fresh : List Row) (cs : List Counted) (kept : IsKept cs) (own : AreOf n rows) (alike : AreAlike fresh rows) where
-  -- the rows of other nodes
-  abbrev pub others : List Counted
-  others = filter (λ c. not (same c.row.pid.node n)) cs
-
-  pub sync_kept : IsKept others
-  sync_kept = filter_kept (λ c. not (same c.row.pid.node n)) cs kept
-
   -- the rows have room in place of those of the node
-  pub sync_fit : length rows ≤ 4096 → HasRoomFor fresh others
+  pub sync_fit : length rows ≤ 4096 → HasRoomFor fresh (without_node n cs)
   sync_fit l =
       let none = tally_none (λ c. not (same c.row.pid.node n)) (is_of_node n) (λ c k. not-true (same c.row.pid.node n) k) cs in
-      alike_fit fresh rows others alike (rows_fit n rows others own sync_kept.few (omega (arith, none, l)))
+      alike_fit fresh rows (without_node n cs) alike (rows_fit n rows (without_node n cs) own (filter_kept (λ c. not (same c.row.pid.node n)) cs kept).few (omega (arith, none, l)))
 
   -- what is counted with them in place of those of the node
-  pub sync_counts : (new : List Counted) → Adds fresh others new → (g : List ℕ) (p : Pid) → tally (is_row g p) new ≡ cond (same p.node n) (how_many (is_row g p) rows) (tally (is_row g p) cs)
+  pub sync_counts : (new : List Counted) → Adds fresh (without_node n cs) new → (g : List ℕ) (p : Pid) → tally (is_row g p) new ≡ cond (same p.node n) (how_many (is_row g p) rows) (tally (is_row g p) cs)
   sync_counts new added g p =
       let a = added (is_row g p) in
       let b = alike (is_row g p) in
       let gone = gone_counts (λ q. same q.node n) g p cs in
-      elim (same p.node n) as (λ v. same p.node n ≡ v → tally (is_row g p) others ≡ cond v 0 (tally (is_row g p) cs) → tally (is_row g p) new ≡ cond v (how_many (is_row g p) rows) (tally (is_row g p) cs)) [
+      elim (same p.node n) as (λ v. same p.node n ≡ v → tally (is_row g p) (without_node n cs) ≡ cond v 0 (tally (is_row g p) cs) → tally (is_row g p) new ≡ cond v (how_many (is_row g p) rows) (tally (is_row g p) cs)) [
         | true ↦ λ e o. omega (arith, a, b, o)
         | false ↦ λ e o. let none = none_of_other n g p rows own e in omega (arith, a, b, o, none)
       ] refl gone

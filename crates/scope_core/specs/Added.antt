@@ -1,13 +1,13 @@
 -- Rows that are put in, and taken.
-use Rattle.std.specs.Prelude.{◌≡◌, ℕ, ◌+◌, ◌≤◌, Bool, true, false, nat_le, List, [], ◌∷◌, map}
-use Rattle.std.specs.List.{flat_map, list_all}
+use Rattle.std.specs.Prelude.{◌≡◌, ℕ, ◌+◌, ◌≤◌, Bool, true, false, not, nat_le, List, [], ◌∷◌, map}
+use Rattle.std.specs.List.{filter, flat_map, list_all}
 use Rattle.std.specs.List.Sorted.{IsPartitionPoint}
 use Rattle.std.specs.declared.cmp.Ordering.TheVariants.{Less, Greater}
 use Rattle.dist_types.specs.declared.pid.Pid.{Pid}
 use Rattle.dist_types.specs.declared.row.Row.{Row}
 use Rattle.dist_types.specs.declared.change.GroupChange.{GroupChange}
 use Rattle.scope_core.specs.declared.counted.Counted.{Counted}
-use Rattle.dist_types.specs.Listing.{how_many, same_row, occurrences}
+use Rattle.dist_types.specs.Listing.{how_many, same, same_row, occurrences}
 use Rattle.dist_types.specs.Order.{row_cmp}
 use Rattle.scope_core.specs.Table.{tally, is_row, is_of_node, max_rows}
 
@@ -18,6 +18,10 @@ row_in g p = record { group = g; pid = p }
 -- the rows without their counts
 abbrev pub bare_rows : List Counted → List Row
 bare_rows rows = map (λ c. c.row) rows
+
+-- the rows of the processes of other nodes
+abbrev pub without_node : List ℕ → List Counted → List Counted
+without_node node rows = filter (λ c. not (same c.row.pid.node node)) rows
 
 -- whether each row of the list stands in it at most as often as it is counted
 abbrev pub are_all_in : List Counted → List Row → Bool

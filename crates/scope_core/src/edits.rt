@@ -5,7 +5,7 @@ ghost use Rattle.dist_types.specs.declared.pid.Pid.{Pid};
 ghost use Rattle.dist_types.specs.declared.row.Row.{Row};
 ghost use Rattle.dist_types.specs.Listing.{same, same_pid, mentions};
 ghost use Rattle.scope_core.specs.Table.{tally, is_row, is_of_node, IsKept};
-ghost use Rattle.scope_core.specs.Added.{row_in, Adds, Takes, HasRoomFor};
+ghost use Rattle.scope_core.specs.Added.{row_in, without_node, Adds, Takes, HasRoomFor};
 
 use crate::counted::Counted;
 use crate::reads::place_of;
@@ -20,11 +20,23 @@ pub fn remove_pid(rows: &mut Vec<Counted>, pid: &Pid)
 
 /// Takes all rows of a node's processes away.
 pub fn remove_node(rows: &mut Vec<Counted>, node: &NodeName)
-    ensures items { rows.new.items ≡ filter (λ c. not (same c.row.pid.node node.now)) rows.old.items }
+    ensures items { rows.new.items ≡ without_node node.now rows.old.items }
     ensures room { vec_len rows.new ≤ vec_len rows.old }
     ensures capacity { vec_capacity rows.new ≡ vec_capacity rows.old }
 {
     rows.retain(|counted| counted.row.pid.node != *node);
+}
+
+/// Puts rows in place of those of a node's processes, into the room that there is.
+pub fn replace_node(rows: &mut Vec<Counted>, node: &NodeName, fresh: Vec<Row>)
+    requires room { vec_len rows.old + vec_len fresh ≤ vec_capacity rows.old }
+    requires kept { IsKept rows.old.items }
+    requires few { HasRoomFor fresh.items (without_node node.now rows.old.items) }
+    ensures added { Adds fresh.items (without_node node.now rows.old.items) rows.new.items }
+    ensures kept { IsKept rows.new.items }
+{
+    remove_node(rows, node);
+    add_all(rows, fresh);
 }
 
 /// Takes one away for each mention of a process, as far as it is in the group. Answers how many the node loses.

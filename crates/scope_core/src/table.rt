@@ -8,7 +8,7 @@ ghost use Rattle.scope_core.specs.Calls.{Counts, is_any_joined, no_count, count_
 
 use crate::changes::{changes_of, in_order, one_change, rows_in};
 use crate::counted::Counted;
-use crate::edits::{add_all, remove_node, remove_pid, take_all};
+use crate::edits::{add_all, remove_node, remove_pid, replace_node, take_all};
 use crate::fault::TableFault;
 use crate::incoming::{beyond, counted_rows, falling};
 use crate::lowered::{are_all_in, take_rows};
@@ -120,8 +120,7 @@ impl ScopeTable {
         let changes = changes_of(self.alloc, &left, Part::All, &joined)?;
         let fresh = falling(self.alloc, rows)?;
         self.rows.reserve(fresh.len())?;
-        remove_node(&mut self.rows, peer);
-        add_all(&mut self.rows, fresh);
+        replace_node(&mut self.rows, peer, fresh);
         self.own_rows = total_of(&self.rows, &self.own);
         Ok(changes)
     }
