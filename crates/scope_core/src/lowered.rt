@@ -1,11 +1,11 @@
 //! Counts that are lowered for rows that go. The rows stay, so counts can be raised again without memory.
-ghost use Rattle.std.specs.Prelude.{◌≡◌, ◌<◌, ◌≤◌, ℕ, Bool, true, List, [], ◌∷◌, IsTrue, length, take, vec_len};
+ghost use Rattle.std.specs.Prelude.{◌≡◌, ◌<◌, ◌≤◌, ℕ, true, List, [], ◌∷◌, IsTrue, length, take, vec_len};
 ghost use Rattle.std.specs.List.{HoldsAt};
 ghost use Rattle.dist_types.specs.declared.pid.Pid.{Pid};
 ghost use Rattle.dist_types.specs.declared.row.Row.{Row};
 ghost use Rattle.dist_types.specs.Listing.{Rises, how_many};
 ghost use Rattle.scope_core.specs.Table.{tally, counted_cmp, is_row, IsKept};
-ghost use Rattle.scope_core.specs.Added.{row_in, bare_rows, are_all_in, Adds, Takes, HasRoomFor};
+ghost use Rattle.scope_core.specs.Added.{bare_rows, are_all_in, Adds, Takes, HasRoomFor};
 
 use crate::counted::Counted;
 use crate::reads::place_of;

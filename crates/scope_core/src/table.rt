@@ -178,7 +178,8 @@ impl ScopeTable {
         ensures { Counts self.old self.new (count_after_exit self.old pid.now) }
     {
         remove_pid(&mut self.rows, pid);
-        self.own_rows = total_of(&self.rows, &self.own);
+        let own = &self.own;
+        self.own_rows = total_of(&self.rows, own);
     }
 
     /// What `exit` will change.
