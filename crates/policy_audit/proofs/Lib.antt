@@ -28,3 +28,4 @@ pub mod OwnRows
 pub mod LivesNow
 pub mod LinkFrames
 pub mod LinksLeft
+pub mod HeardNow
