@@ -29,3 +29,4 @@ pub mod LivesNow
 pub mod LinkFrames
 pub mod LinksLeft
 pub mod HeardNow
+pub mod HeardSaid
