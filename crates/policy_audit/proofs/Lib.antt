@@ -30,3 +30,4 @@ pub mod LinkFrames
 pub mod LinksLeft
 pub mod HeardNow
 pub mod HeardSaid
+pub mod Refusals
