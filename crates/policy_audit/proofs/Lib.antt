@@ -31,3 +31,4 @@ pub mod LinksLeft
 pub mod HeardNow
 pub mod HeardSaid
 pub mod Refusals
+pub mod ScopeFrames
