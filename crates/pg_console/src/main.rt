@@ -1,21 +1,22 @@
-//! Plays scripts on a node that accepts links.
+//! Plays scripts on a node of process groups.
 #![tactic(auto)]
 
-mod acceptor;
 mod answers;
+mod argument;
+mod arguments;
 mod command;
 mod console;
-mod event;
+mod event_kind;
 mod laws;
-mod link;
-mod node;
-mod opening;
+mod link_commands;
+mod node_commands;
 mod options;
-mod rule;
+mod printed;
+mod query_commands;
 mod script;
 #[cfg(test)]
 mod tests;
-mod waiting;
+mod values;
 mod words;
 
 use clap::error::ErrorKind as LineFault;

@@ -1,0 +1,10 @@
+pub mod Entered
+pub mod Calm
+pub mod Found
+pub mod Scopes
+pub mod Once
+pub mod Cookies
+pub mod Quiet
+pub mod Lives
+pub mod Watching
+pub mod Written

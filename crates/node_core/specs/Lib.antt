@@ -1,0 +1,12 @@
+pub mod Links
+pub mod Hearing
+pub mod LinkFacts
+pub mod ScopeFacts
+pub mod Processes
+pub mod ProcessFacts
+pub mod AdmissionFacts
+pub mod Core
+pub mod Step
+pub mod Parting
+pub mod Calm
+pub mod Messages
