@@ -1,22 +1,21 @@
-//! Plays scripts on a node of process groups.
+//! Plays scripts on a node that accepts links.
 #![tactic(auto)]
 
+mod acceptor;
 mod answers;
-mod argument;
-mod arguments;
 mod command;
 mod console;
-mod event_kind;
+mod event;
 mod laws;
-mod link_commands;
-mod node_commands;
+mod link;
+mod node;
+mod opening;
 mod options;
-mod printed;
-mod query_commands;
+mod rule;
 mod script;
 #[cfg(test)]
 mod tests;
-mod values;
+mod waiting;
 mod words;
 
 use clap::error::ErrorKind as LineFault;

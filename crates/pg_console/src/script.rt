@@ -6,12 +6,11 @@ ghost use Rattle.std.specs.declared.io.ErrorKind.TheVariants as kinds;
 ghost use Rattle.pg_console.specs.Runs.{RunsAs};
 ghost use Rattle.pg_console.specs.declared.script.RunFault.TheVariants as faults;
 
+use crate::answers::put_numbered_line;
 use crate::command::LineFault;
 use crate::console::Console;
-use crate::printed::put_numbered_line;
+use crate::opening::Opening;
 use crate::words::without_feed;
-use node_core::OpenFault;
-use policy_audit::Opening;
 use std::io::{BufRead, Error, ErrorKind, Write};
 use thiserror::Error as ErrorDerive;
 
@@ -46,12 +45,11 @@ pub fn run<A: AllocGlobal, R: BufRead, W: Write>(
     ensures text { 0 < opening.entries → IfSome (R.remaining reader.old) (λ script.
         RunsAs opening script (W.contents writer.old) (W.contents writer.new) result) }
 {
+    if opening.entries == 0 {
+        return Err(RunFault::BadOpening);
+    }
     let alloc = rt.alloc();
-    let mut console = match Console::open(alloc, opening) {
-        Ok(console) => console,
-        Err(OpenFault::BadLimit) => return Err(RunFault::BadOpening),
-        Err(OpenFault::OutOfMemory) => return Err(RunFault::Memory),
-    };
+    let mut console = Console::open(alloc, opening);
     let mut line = Vec::new(alloc);
     let mut out = Vec::new(alloc);
     for turn in 0..TURNS {

@@ -11,12 +11,7 @@ use Rattle.pg_console.proofs.script.run.Goals as goal
 
 pub loop-turn-init : goal.loop-turn-init
 loop-turn-init g c = if_known (g.R.Read.remaining c.args.reader.now)
-    (λ script tells. (script, tells, rw c.in-Ok.ensures.ok (played_start c.args.opening script (g.W.Write.contents c.args.writer.now))))
-
--- no memory for the node
-pub returns-in-Err-OutOfMemory-clause-text : goal.returns-in-Err-OutOfMemory-clause-text
-returns-in-Err-OutOfMemory-clause-text g c = λ positive. if_known (g.R.Read.remaining c.args.reader.now)
-    (λ script tells. played_part (played_start c.args.opening script (g.W.Write.contents c.args.writer.now)))
+    (λ script tells. (script, tells, rw c.open-console.ensures (played_start c.args.opening script (g.W.Write.contents c.args.writer.now))))
 
 -- the script is at its end
 pub returns-in-Ok-eq0-clause-text : goal.returns-in-Ok-eq0-clause-text
@@ -42,7 +37,7 @@ returns-in-Err-Memory-clause-text g c = λ positive. weaken (g.R.Read.remaining 
 -- a line that can't be read
 pub returns-in-Err-Script-clause-text : goal.returns-in-Err-Script-clause-text
 returns-in-Err-Script-clause-text g c = λ positive. weaken (g.R.Read.remaining c.args.reader.now) (λ script kept.
-    let bytes : c.read_until.new.buf.items ≡ take_through 10 kept.0 = (rw kept.1 at c.in-Ok-read_until.ensures.bytes) ∙ ap (λ (l : List ℕ). l ++ take_through 10 kept.0) c.clear.ensures.items in
+    let bytes : c.read_until.new.buf.items ≡ take_through 10 kept.0 = (rw kept.1 at c.in-Ok.ensures.bytes) ∙ ap (λ (l : List ℕ). l ++ take_through 10 kept.0) c.clear.ensures.items in
     let some : 0 < length c.read_until.new.buf.items = search rules in
     let is = c.without_feed.ensures ∙ ap (strip_last 10) (c.as_slice.ensures.value ∙ bytes) in
     let said : c.as_slice-in-Err-Script.result.now ≡ fault_line (c.loop-turn.turn + 1) = rw (c.as_slice-in-Err-Script.ensures.value, c.in-Ok-put_numbered_line.ensures, c.clear-in-Err-Script.ensures.items) refl in
@@ -51,13 +46,13 @@ returns-in-Err-Script-clause-text g c = λ positive. weaken (g.R.Read.remaining 
 -- a line that was answered
 pub loop-turn-preserved : goal.loop-turn-preserved
 loop-turn-preserved g c = weaken (g.R.Read.remaining c.args.reader.now) (λ script kept.
-    let bytes : c.read_until.new.buf.items ≡ take_through 10 kept.0 = (rw kept.1 at c.in-Ok-read_until.ensures.bytes) ∙ ap (λ (l : List ℕ). l ++ take_through 10 kept.0) c.clear.ensures.items in
+    let bytes : c.read_until.new.buf.items ≡ take_through 10 kept.0 = (rw kept.1 at c.in-Ok.ensures.bytes) ∙ ap (λ (l : List ℕ). l ++ take_through 10 kept.0) c.clear.ensures.items in
     let some : 0 < length c.read_until.new.buf.items = search rules in
     let is = c.without_feed.ensures ∙ ap (strip_last 10) (c.as_slice.ensures.value ∙ bytes) in
     let answered = c.in-Ok-answer.ensures.ok in
     let said = c.as_slice-in-Ok-answer.ensures.value ∙ answered.2 ∙ ap (λ (l : List ℕ). l ++ line_text answered.0 c.loop-turn.console c.without_feed.result.now) c.clear-in-loop-turn.ensures.items in (
       drop_through 10 kept.0,
-      rw kept.1 at c.in-Ok-read_until.ensures.rest,
+      rw kept.1 at c.in-Ok.ensures.rest,
       played_next kept.2 c.as_slice-in-Ok-answer.result.now answered.0 (came kept.0 (rw bytes at some)) is answered.1 said answered.3 c.in_ok-send-in-Ok-answer.ensures.ok,
     )) c.loop-turn.invariant
 
