@@ -12,7 +12,7 @@ use Rattle.dist_types.specs.Order.{row_cmp}
 use Rattle.scope_core.specs.declared.counted.Counted.{Counted}
 use Rattle.dist_types.specs.Listing.{how_many, Rises}
 use Rattle.scope_core.specs.Table.{tally, is_of_node, counted_cmp, IsKept}
-use Rattle.scope_core.specs.Added.{Adds, HasRoomFor, IsGap}
+use Rattle.scope_core.specs.Added.{Adds, Joins, HasRoomBeside, IsGap}
 use Rattle.dist_types.proofs.Orders.{rows_total, same_decides}
 use Rattle.dist_types.proofs.Totals.{total_is, how_many_append}
 use Rattle.dist_types.proofs.Sorts.{all_from}
@@ -47,11 +47,6 @@ rises_set (c ∷ cs) (suc i) x l e r = (
   rises_set cs i x (omega (arith, l)) e r.1,
 )
 
-pub tally-insert : (cs : List Counted) (i : ℕ) (row : Row) → Adds (row ∷ []) cs (insert cs i (record { row = row; count = 1 }))
-tally-insert cs i row test =
-    let f = λ (c : Counted). cond (test c.row) c.count 0 in
-    total_is f (insert cs i (record { row = row; count = 1 })) ∙ sum_by-insert f cs i (record { row = row; count = 1 }) ∙ ap (λ n. n + cond (test row) 1 0) (sym (total_is f cs))
-
 pub tally-more : (cs : List Counted) (i : ℕ) (c : Counted) → i < length cs → c ≡ get_or cs i c → Adds (c.row ∷ []) cs (set cs i (record { row = c.row; count = c.count + 1 }))
 tally-more cs i c l e test =
     let f = λ (d : Counted). cond (test d.row) d.count 0 in
@@ -61,6 +56,27 @@ tally-more cs i c l e test =
     let g : f (get_or cs i c) ≡ f c = ap f (sym e) in
     let n : f (record { row = c.row; count = c.count + 1 }) ≡ f c + cond (test c.row) 1 0 = elim (test c.row) as (λ v. cond v (c.count + 1) 0 ≡ cond v c.count 0 + cond v 1 0) [ true ↦ refl | false ↦ omega arith ] in
     omega (arith, a, b, s, g, n)
+
+-- one more entry
+pub tally-put : (cs : List Counted) (i : ℕ) (x : Counted) → Joins (x ∷ []) cs (insert cs i x)
+tally-put cs i x test =
+    let f = λ (c : Counted). cond (test c.row) c.count 0 in
+    let a = total_is f (insert cs i x) in
+    let b = total_is f cs in
+    let s = sum_by-insert f cs i x in
+    omega (arith, a, b, s)
+
+-- an entry that is there already
+pub tally-grown : (cs : List Counted) (i : ℕ) (c x : Counted) → i < length cs → c ≡ get_or cs i c → c.row ≡ x.row → Joins (x ∷ []) cs (set cs i (record { row = c.row; count = c.count + x.count }))
+tally-grown cs i c x l e same test =
+    let f = λ (d : Counted). cond (test d.row) d.count 0 in
+    let a = total_is f (set cs i (record { row = c.row; count = c.count + x.count })) in
+    let b = total_is f cs in
+    let s = sum_by-set f cs i (record { row = c.row; count = c.count + x.count }) c l in
+    let g : f (get_or cs i c) ≡ f c = ap f (sym e) in
+    let n : f (record { row = c.row; count = c.count + x.count }) ≡ f c + cond (test c.row) x.count 0 = elim (test c.row) as (λ v. cond v (c.count + x.count) 0 ≡ cond v c.count 0 + cond v x.count 0) [ true ↦ refl | false ↦ omega arith ] in
+    let m : cond (test c.row) x.count 0 ≡ f x = ap (λ r. cond (test r) x.count 0) same in
+    omega (arith, a, b, s, g, n, m)
 
 pub inserted : {T E : Type 0} {A : Type 0} (r : Result T E) (new a b : A) → IsOk r → new ≡ cond (is_ok r) a b → new ≡ a
 inserted (Ok x) new a b h e = e
@@ -78,19 +94,27 @@ count_fits cs i c l e all_few =
     let few = all_few node in
     omega (arith, a, g, n, b, few)
 
-pub inserted_kept : (cs : List Counted) (i : ℕ) (row : Row) → i ≤ length cs → IsKept cs → HasRoomFor (row ∷ []) cs
-    → IsGap row cs i → IsKept (insert cs i (record { row = row; count = 1 }))
-inserted_kept cs i row l kept few gap = record {
-  rises = rises_insert cs i (record { row = row; count = 1 }) l kept.rises gap;
-  counted = all_insert (λ c. 0 < c.count) cs i (record { row = row; count = 1 }) (omega arith) kept.counted;
-  few = λ n. let a = tally-insert cs i row (is_of_node n) in let b = few n in omega (arith, a, b);
+-- a count that has room is no more than a node may have
+pub one_fits : (cs : List Counted) (x : Counted) → HasRoomBeside (x ∷ []) cs → x.count ≤ 4096
+one_fits cs x few =
+    let node = x.row.pid.node in
+    let n : cond (is_of_node node x.row) x.count 0 ≡ x.count = ap (λ b. cond b x.count 0) ((same_decides node node).1 refl) in
+    let m = few node in
+    omega (arith, m, n)
+
+pub put_kept : (cs : List Counted) (i : ℕ) (x : Counted) → i ≤ length cs → IsKept cs → 0 < x.count → HasRoomBeside (x ∷ []) cs → IsGap x.row cs i → IsKept (insert cs i x)
+put_kept cs i x l kept some few gap = record {
+  rises = rises_insert cs i x l kept.rises gap;
+  counted = all_insert (λ c. 0 < c.count) cs i x some kept.counted;
+  few = λ n. let a = tally-put cs i x (is_of_node n) in let b = few n in omega (arith, a, b);
 }
 
-pub more_kept : (cs : List Counted) (i : ℕ) (c : Counted) → i < length cs → c ≡ get_or cs i c → IsKept cs → HasRoomFor (c.row ∷ []) cs → IsKept (set cs i (record { row = c.row; count = c.count + 1 }))
-more_kept cs i c l e kept few = record {
-  rises = rises_set cs i (record { row = c.row; count = c.count + 1 }) l (ap (λ x. x.row) (e ∙ get_or_default cs i c (record { row = c.row; count = c.count + 1 }) l)) kept.rises;
-  counted = all_set (λ x. 0 < x.count) cs i (record { row = c.row; count = c.count + 1 }) (omega arith) kept.counted;
-  few = λ n. let a = tally-more cs i c l e (is_of_node n) in let b = few n in omega (arith, a, b);
+pub grown_kept : (cs : List Counted) (i : ℕ) (c x : Counted) → i < length cs → c ≡ get_or cs i c → c.row ≡ x.row → IsKept cs → 0 < x.count → HasRoomBeside (x ∷ []) cs
+    → IsKept (set cs i (record { row = c.row; count = c.count + x.count }))
+grown_kept cs i c x l e same kept some few = record {
+  rises = rises_set cs i (record { row = c.row; count = c.count + x.count }) l (ap (λ y. y.row) (e ∙ get_or_default cs i c (record { row = c.row; count = c.count + x.count }) l)) kept.rises;
+  counted = all_set (λ y. 0 < y.count) cs i (record { row = c.row; count = c.count + x.count }) (omega (arith, some)) kept.counted;
+  few = λ n. let a = tally-grown cs i c x l e same (is_of_node n) in let b = few n in omega (arith, a, b);
 }
 
 -- the last of the rows to put in counts as one

@@ -15,3 +15,4 @@ pub mod Beyond
 pub mod Moved
 pub mod Members
 pub mod Lower
+pub mod Merging

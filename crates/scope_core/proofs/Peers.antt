@@ -14,7 +14,7 @@ use Rattle.dist_types.proofs.Orders.{same_decides, same_pid_decides}
 use Rattle.dist_types.proofs.Totals.{how_many_is, how_many_le}
 use Rattle.scope_core.specs.declared.counted.Counted.{Counted}
 use Rattle.scope_core.specs.Table.{is_row, is_of_node, tally, IsKept}
-use Rattle.scope_core.specs.Added.{without_node, Adds, HasRoomFor}
+use Rattle.scope_core.specs.Added.{without_node, Adds, Joins, HasRoomFor, HasRoomBeside}
 use Rattle.scope_core.specs.Listed.{Tells}
 use Rattle.scope_core.proofs.Taken.{tally_none, filter_kept, gone_counts}
 
@@ -73,20 +73,13 @@ module _ (n : List ℕ) where
         other rs b.1,
       )
 
--- as many pass each test
-abbrev pub AreAlike : List Row → List Row → Type 0
-AreAlike fresh rows = (test : Row → Bool) → how_many test fresh ≡ how_many test rows
-
-pub alike_fit : (fresh rows : List Row) (old : List Counted) → AreAlike fresh rows → HasRoomFor rows old → HasRoomFor fresh old
-alike_fit fresh rows old alike fit node = let a = alike (is_of_node node) in let b = fit node in omega (arith, a, b)
-
 -- the change where rows are added
-pub added_change : (rows fresh : List Row) (cs counted new : List Counted) (changes : List GroupChange) → Tells (λ c. c.count) [] counted changes → Adds rows [] counted → AreAlike fresh rows → Adds fresh cs new
+pub added_change : (rows : List Row) (cs counted new : List Counted) (changes : List GroupChange) → Tells (λ c. c.count) [] counted changes → Adds rows [] counted → Joins counted cs new
     → IsDifference (λ g p. tally (is_row g p) cs) (λ g p. tally (is_row g p) new) changes
-added_change rows fresh cs counted new changes told counts alike added =
+added_change rows cs counted new changes told counts joins =
     told (λ g p. tally (is_row g p) cs) (λ g p. tally (is_row g p) new)
-    (λ g p. let a = added (is_row g p) in omega (arith, a))
-    (λ g p. let a = added (is_row g p) in let b = alike (is_row g p) in let c = counts (is_row g p) in omega (arith, a, b, c))
+    (λ g p. let a = joins (is_row g p) in omega (arith, a))
+    (λ g p. let a = joins (is_row g p) in let b = counts (is_row g p) in omega (arith, a, b))
 
 -- the change where rows are taken
 pub taken_change : (rows : List Row) (cs counted new : List Counted) (changes : List GroupChange) → Tells (λ c. c.count) counted [] changes → Adds rows [] counted → Adds rows new cs
@@ -96,20 +89,26 @@ taken_change rows cs counted new changes told counts taken =
     (λ g p. let a = taken (is_row g p) in let c = counts (is_row g p) in omega (arith, a, c))
     (λ g p. let a = taken (is_row g p) in omega (arith, a))
 
-module _ (n : List ℕ) (rows fresh : List Row) (cs : List Counted) (kept : IsKept cs) (own : AreOf n rows) (alike : AreAlike fresh rows) where
+-- rows and the list that counts them
+pub counted_fit : (rows : List Row) (counted old : List Counted) → Adds rows [] counted → HasRoomFor rows old → HasRoomBeside counted old
+counted_fit rows counted old counts fit node = let a = counts (is_of_node node) in let b = fit node in omega (arith, a, b)
+
+pub counted_add : (rows : List Row) (counted old new : List Counted) → Adds rows [] counted → Joins counted old new → Adds rows old new
+counted_add rows counted old new counts joins test = let a = counts test in let b = joins test in omega (arith, a, b)
+
+module _ (n : List ℕ) (rows : List Row) (cs : List Counted) (own : AreOf n rows) where
   -- the rows have room in place of those of the node
-  pub sync_fit : length rows ≤ 4096 → HasRoomFor fresh (without_node n cs)
-  sync_fit l =
+  pub sync_fit : IsKept cs → length rows ≤ 4096 → HasRoomFor rows (without_node n cs)
+  sync_fit kept l =
       let none = tally_none (λ c. not (same c.row.pid.node n)) (is_of_node n) (λ c k. not-true (same c.row.pid.node n) k) cs in
-      alike_fit fresh rows (without_node n cs) alike (rows_fit n rows (without_node n cs) own (filter_kept (λ c. not (same c.row.pid.node n)) cs kept).few (omega (arith, none, l)))
+      rows_fit n rows (without_node n cs) own (filter_kept (λ c. not (same c.row.pid.node n)) cs kept).few (omega (arith, none, l))
 
   -- what is counted with them in place of those of the node
-  pub sync_counts : (new : List Counted) → Adds fresh (without_node n cs) new → (g : List ℕ) (p : Pid) → tally (is_row g p) new ≡ cond (same p.node n) (how_many (is_row g p) rows) (tally (is_row g p) cs)
+  pub sync_counts : (new : List Counted) → Adds rows (without_node n cs) new → (g : List ℕ) (p : Pid) → tally (is_row g p) new ≡ cond (same p.node n) (how_many (is_row g p) rows) (tally (is_row g p) cs)
   sync_counts new added g p =
       let a = added (is_row g p) in
-      let b = alike (is_row g p) in
       let gone = gone_counts (λ q. same q.node n) g p cs in
       elim (same p.node n) as (λ v. same p.node n ≡ v → tally (is_row g p) (without_node n cs) ≡ cond v 0 (tally (is_row g p) cs) → tally (is_row g p) new ≡ cond v (how_many (is_row g p) rows) (tally (is_row g p) cs)) [
-        | true ↦ λ e o. omega (arith, a, b, o)
-        | false ↦ λ e o. let none = none_of_other n g p rows own e in omega (arith, a, b, o, none)
+        | true ↦ λ e o. omega (arith, a, o)
+        | false ↦ λ e o. let none = none_of_other n g p rows own e in omega (arith, a, o, none)
       ] refl gone

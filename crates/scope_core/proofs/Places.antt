@@ -1,6 +1,7 @@
 -- Where a row is among rows that rise, and what is counted there.
 use Rattle.std.specs.Prelude.{◌≡◌, ℕ, zero, suc, ◌<◌, ◌≤◌, true, false, cond, nat_lt, List, [], ◌∷◌, length, Result, Ok, Err, IfOk, IfErr, is_ok}
 use Rattle.std.proofs.Common.{refl, ap, ◌∙◌, sym, arith, get_or, add-one}
+use Rattle.std.specs.declared.cmp.Ordering.{Ordering}
 use Rattle.std.specs.declared.cmp.Ordering.TheVariants.{Less, Equal, Greater}
 use Rattle.std.specs.Ordering.{is_lt, ordering_reverse, ordering_index}
 use Rattle.std.specs.List.{HoldsAt, AllByRecursion}
@@ -43,6 +44,25 @@ found_is cs row (Err i) h = tt
 pub gap_is : (cs : List Counted) (row : Row) (r : Result ℕ ℕ) → Rises counted_cmp cs → IsBinarySearchResult (λ c. row_cmp c.row row) cs r → IfErr r (IsGap row cs)
 gap_is cs row (Ok i) r h = tt
 gap_is cs row (Err i) r h = h (searchable cs row r)
+
+pub lt_is : (o : Ordering) → is_lt o ≡ true → o ≡ Less
+lt_is Less e = refl
+lt_is Equal e = absurd (let f : false ≡ true = e in cc)
+lt_is Greater e = absurd (let f : false ≡ true = e in cc)
+
+-- rows whose last is below a row are all below it
+all_below : (cs : List Counted) (row : Row) (n : ℕ) (d : Counted) → Rises counted_cmp cs → suc n ≡ length cs → row_cmp (get_or cs n d).row row ≡ Less → AllByRecursion (λ c. row_cmp c.row row ≡ Less) cs
+all_below [] row n d r l h = tt
+all_below (c ∷ []) row zero d r l h = (h, tt)
+all_below (c ∷ []) row (suc n) d r l h = absurd (omega (arith, l))
+all_below (c ∷ x ∷ xs) row zero d r l h = absurd (omega (arith, l))
+all_below (c ∷ x ∷ xs) row (suc n) d r l h =
+    let rest = all_below (x ∷ xs) row n d r.1 (omega (arith, l)) h in
+    (rows_total.trans c.row x.row row r.0.0 rest.0, rest)
+
+-- so the row goes behind them
+pub gap_behind : (cs : List Counted) (row : Row) (n : ℕ) (d : Counted) → Rises counted_cmp cs → suc n ≡ length cs → row_cmp (get_or cs n d).row row ≡ Less → IsGap row cs (length cs)
+gap_behind cs row n d r l h = ((λ k e m b. all_at (λ c. row_cmp c.row row ≡ Less) cs k e (all_below cs row n d r l h) b), (λ k e m b. absurd (omega (arith, m, b))))
 
 -- the row of g and p is that of g and p
 itself : (g : List ℕ) (p : Pid) → is_row g p (row_in g p) ≡ true

@@ -31,6 +31,14 @@ are_all_in rows gone = list_all (λ r. nat_le (occurrences same_row r gone) (tal
 abbrev pub Adds : List Row → List Counted → List Counted → Type 0
 Adds rows old new = (test : Row → Bool) → tally test new ≡ tally test old + how_many test rows
 
+-- new has just these counted rows more than old
+abbrev pub Joins : List Counted → List Counted → List Counted → Type 0
+Joins more old new = (test : Row → Bool) → tally test new ≡ tally test old + tally test more
+
+-- with these counted rows too no node has more than it may
+abbrev pub HasRoomBeside : List Counted → List Counted → Type 0
+HasRoomBeside more old = (node : List ℕ) → tally (is_of_node node) old + tally (is_of_node node) more ≤ max_rows
+
 -- with these rows too no node has more than it may
 abbrev pub HasRoomFor : List Row → List Counted → Type 0
 HasRoomFor rows old = (node : List ℕ) → tally (is_of_node node) old + how_many (is_of_node node) rows ≤ max_rows

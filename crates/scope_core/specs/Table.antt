@@ -49,6 +49,10 @@ local_total t = tally (is_of_node t.own) t.rows
 abbrev pub counted_cmp : Counted → Counted → Ordering
 counted_cmp c d = row_cmp c.row d.row
 
+-- each of the rows is counted
+abbrev pub AreCounted : List Counted → Type 0
+AreCounted rows = AllByRecursion (λ c. 0 < c.count) rows
+
 -- the rows rise, each is counted, and no node has more than it may
 pub record IsKept (rows : List Counted) : Type 0 where
   pub rises : Rises counted_cmp rows

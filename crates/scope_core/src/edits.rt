@@ -4,10 +4,11 @@ ghost use Rattle.std.specs.List.{filter, HoldsAt};
 ghost use Rattle.dist_types.specs.declared.pid.Pid.{Pid};
 ghost use Rattle.dist_types.specs.declared.row.Row.{Row};
 ghost use Rattle.dist_types.specs.Listing.{same, same_pid, mentions};
-ghost use Rattle.scope_core.specs.Table.{tally, is_row, is_of_node, IsKept};
-ghost use Rattle.scope_core.specs.Added.{row_in, without_node, Adds, Takes, HasRoomFor};
+ghost use Rattle.scope_core.specs.Table.{tally, is_row, is_of_node, IsKept, AreCounted};
+ghost use Rattle.scope_core.specs.Added.{row_in, without_node, Adds, Joins, Takes, HasRoomFor, HasRoomBeside};
 
 use crate::counted::Counted;
+use crate::merged::merge;
 use crate::reads::place_of;
 use dist_types::{Group, NodeName, Pid, Row};
 
@@ -27,16 +28,40 @@ pub fn remove_node(rows: &mut Vec<Counted>, node: &NodeName)
     rows.retain(|counted| counted.row.pid.node != *node);
 }
 
-/// Puts rows in place of those of a node's processes, into the room that there is.
-pub fn replace_node(rows: &mut Vec<Counted>, node: &NodeName, fresh: Vec<Row>)
-    requires room { vec_len rows.old + vec_len fresh ≤ vec_capacity rows.old }
+/// Puts rows in place of those of a node's processes.
+pub fn replace_node(
+    rows: &mut Vec<Counted>,
+    node: &NodeName,
+    more: Vec<Counted>,
+    spare: Vec<Counted>,
+)
+    requires room { vec_len rows.old + vec_len more ≤ vec_capacity rows.old }
+    requires empty { spare.items ≡ [] }
     requires kept { IsKept rows.old.items }
-    requires few { HasRoomFor fresh.items (without_node node.now rows.old.items) }
-    ensures added { Adds fresh.items (without_node node.now rows.old.items) rows.new.items }
+    requires more { IsKept more.items }
+    requires few { HasRoomBeside more.items (without_node node.now rows.old.items) }
+    ensures added { Joins more.items (without_node node.now rows.old.items) rows.new.items }
     ensures kept { IsKept rows.new.items }
 {
     remove_node(rows, node);
-    add_all(rows, fresh);
+    put_in(rows, more, spare);
+}
+
+/// Puts rows in, into the room that there is: by a merge, where there is spare room for all.
+pub fn put_in(rows: &mut Vec<Counted>, more: Vec<Counted>, spare: Vec<Counted>)
+    requires room { vec_len rows.old + vec_len more ≤ vec_capacity rows.old }
+    requires empty { spare.items ≡ [] }
+    requires kept { IsKept rows.old.items }
+    requires more { IsKept more.items }
+    requires few { HasRoomBeside more.items rows.old.items }
+    ensures added { Joins more.items rows.old.items rows.new.items }
+    ensures kept { IsKept rows.new.items }
+{
+    if spare.capacity() < rows.capacity() {
+        add_each(rows, more);
+    } else {
+        merge(rows, more, spare);
+    }
 }
 
 /// Takes one away for each mention of a process, as far as it is in the group. Answers how many the node loses.
@@ -93,25 +118,41 @@ pub fn add_all(rows: &mut Vec<Counted>, fresh: Vec<Row>)
 {
     let mut left = fresh;
     while let Some(row) = left.pop() {
-        add(rows, row);
+        add(rows, Counted { row, count: 1 });
     }
 }
 
-/// Puts a row in, into the room that there is.
-fn add(rows: &mut Vec<Counted>, row: Row)
+/// Puts counted rows in, into the room that there is. The rows behind each are moved.
+fn add_each(rows: &mut Vec<Counted>, more: Vec<Counted>)
+    requires room { vec_len rows.old + vec_len more ≤ vec_capacity rows.old }
+    requires kept { IsKept rows.old.items }
+    requires more { AreCounted more.items }
+    requires few { HasRoomBeside more.items rows.old.items }
+    ensures added { Joins more.items rows.old.items rows.new.items }
+    ensures kept { IsKept rows.new.items }
+{
+    let mut more = more;
+    while let Some(counted) = more.pop() {
+        add(rows, counted);
+    }
+}
+
+/// Puts a counted row in, into the room that there is.
+pub fn add(rows: &mut Vec<Counted>, fresh: Counted)
     requires room { vec_len rows.old < vec_capacity rows.old }
     requires kept { IsKept rows.old.items }
-    requires few { HasRoomFor (row ∷ []) rows.old.items }
-    ensures added { Adds (row ∷ []) rows.old.items rows.new.items }
+    requires some { 0 < fresh.count }
+    requires few { HasRoomBeside (fresh ∷ []) rows.old.items }
+    ensures added { Joins (fresh ∷ []) rows.old.items rows.new.items }
     ensures kept { IsKept rows.new.items }
     ensures room { vec_len rows.new ≤ vec_len rows.old + 1 }
     ensures capacity { vec_capacity rows.old ≤ vec_capacity rows.new }
 {
-    match place_of(rows, &row.group, &row.pid) {
-        Ok(at) => rows[at].count += 1,
+    match place_of(rows, &fresh.row.group, &fresh.row.pid) {
+        Ok(at) => rows[at].count += fresh.count,
         Err(at) => {
             // This can't fail, since there is room.
-            let _ = rows.insert(at, Counted { row, count: 1 });
+            let _ = rows.insert(at, fresh);
         }
     }
 }

@@ -1,5 +1,5 @@
 //! Rows that come from another node, counted, and what they change.
-ghost use Rattle.std.specs.Prelude.{◌≡◌, IfOk, Bool, []};
+ghost use Rattle.std.specs.Prelude.{◌≡◌, ◌+◌, ◌≤◌, IfOk, OnOk, Bool, [], vec_len, vec_capacity};
 ghost use Rattle.dist_types.specs.declared.row.Row.{Row};
 ghost use Rattle.dist_types.specs.Listing.{Rises, how_many};
 ghost use Rattle.scope_core.specs.Table.{tally, counted_cmp, is_row, IsKept};
@@ -13,6 +13,9 @@ use crate::reads::place_of;
 use dist_types::{NodeName, OutOfMemory, Row, TryClone};
 use std::alloc::Global;
 
+/// A merge moves all rows of the table, so fewer rows than these are put in one by one.
+const FEW: usize = 16;
+
 /// The rows in order, each with its count.
 pub fn counted_rows(alloc: Global, rows: &[Row]) -> Result<Vec<Counted>, OutOfMemory>
     requires { HasRoomFor rows.now [] }
@@ -25,8 +28,23 @@ pub fn counted_rows(alloc: Global, rows: &[Row]) -> Result<Vec<Counted>, OutOfMe
     Ok(counted)
 }
 
+/// Room for so many more rows, and spare room to merge them, unless they are few.
+pub fn room_for(
+    alloc: Global,
+    rows: &mut Vec<Counted>,
+    more: usize,
+) -> Result<Vec<Counted>, OutOfMemory>
+    ensures same { rows.new.items ≡ rows.old.items }
+    ensures room { OnOk result (vec_len rows.new + more ≤ vec_capacity rows.new) }
+    ensures empty { IfOk result (λ spare. spare.items ≡ []) }
+{
+    rows.reserve(more)?;
+    let spare = if more < FEW { 0 } else { rows.capacity() };
+    Ok(Vec::with_capacity(alloc, spare)?)
+}
+
 /// Copies of the rows, the last in order first. So `add_all` moves few rows.
-pub fn falling(alloc: Global, rows: &[Row]) -> Result<Vec<Row>, OutOfMemory>
+fn falling(alloc: Global, rows: &[Row]) -> Result<Vec<Row>, OutOfMemory>
     ensures { IfOk result (λ copies. (test : Row → Bool) → how_many test copies.items ≡ how_many test rows.now) }
 {
     let mut copies = copies_of(alloc, rows)?;

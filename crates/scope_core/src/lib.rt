@@ -8,6 +8,7 @@ mod fault;
 mod incoming;
 mod laws;
 mod lowered;
+mod merged;
 mod part;
 mod reads;
 mod table;

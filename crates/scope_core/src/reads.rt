@@ -1,5 +1,5 @@
 //! What is read off the sorted rows.
-ghost use Rattle.std.specs.Prelude.{◌≡◌, ◌++◌, ℕ, ◌<◌, ◌≤◌, IfOk, IfErr, OnOk, None, length, replicate, ◌&&◌, nat_lt};
+ghost use Rattle.std.specs.Prelude.{◌≡◌, ◌++◌, ℕ, ◌<◌, ◌≤◌, IfOk, IfErr, IsTrue, OnOk, None, length, replicate, ◌&&◌, nat_lt};
 ghost use Rattle.std.specs.List.{filter, list_any, HoldsAt};
 ghost use Rattle.dist_types.specs.Order.{row_cmp};
 ghost use Rattle.dist_types.specs.Listing.{Rises, spread};
@@ -119,7 +119,21 @@ pub fn place_of(rows: &[Counted], group: &Group, pid: &Pid) -> Result<usize, usi
     ensures end { IfErr result (λ i. i ≤ length rows.now) }
     ensures gap { IfErr result (IsGap (row_in group.now pid.now) rows.now) }
 {
+    if is_behind(rows, group, pid) {
+        return Err(rows.len());
+    }
     rows.binary_search_by(|counted| order_of(&counted.row, group, pid))
+}
+
+/// Whether the row of a group and a process goes behind all others, as each does where rows come in order.
+fn is_behind(rows: &[Counted], group: &Group, pid: &Pid) -> bool
+    requires { Rises counted_cmp rows.now }
+    ensures { IsTrue result → IsGap (row_in group.now pid.now) rows.now (length rows.now) }
+{
+    match rows.last() {
+        Some(last) => order_of(&last.row, group, pid).is_lt(),
+        None => true,
+    }
 }
 
 /// How a row stands to the one of a group and a process.

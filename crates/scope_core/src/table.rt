@@ -8,9 +8,9 @@ ghost use Rattle.scope_core.specs.Calls.{Counts, is_any_joined, no_count, count_
 
 use crate::changes::{changes_of, in_order, one_change, rows_in};
 use crate::counted::Counted;
-use crate::edits::{add_all, remove_node, remove_pid, replace_node, take_all};
+use crate::edits::{add_all, put_in, remove_node, remove_pid, replace_node, take_all};
 use crate::fault::TableFault;
-use crate::incoming::{beyond, counted_rows, falling};
+use crate::incoming::{beyond, counted_rows, room_for};
 use crate::lowered::{are_all_in, take_rows};
 use crate::part::Part;
 use crate::reads::{groups_of, in_group, is_any_joined, pids_of, rows_of, total_of};
@@ -118,9 +118,8 @@ impl ScopeTable {
         let left = beyond(self.alloc, &self.rows, peer, &counted)?;
         let joined = beyond(self.alloc, &counted, peer, &self.rows)?;
         let changes = changes_of(self.alloc, &left, Part::All, &joined)?;
-        let fresh = falling(self.alloc, rows)?;
-        self.rows.reserve(fresh.len())?;
-        replace_node(&mut self.rows, peer, fresh);
+        let spare = room_for(self.alloc, &mut self.rows, counted.len())?;
+        replace_node(&mut self.rows, peer, counted, spare);
         self.own_rows = total_of(&self.rows, &self.own);
         Ok(changes)
     }
@@ -143,9 +142,8 @@ impl ScopeTable {
         }
         let counted = counted_rows(self.alloc, rows)?;
         let changes = changes_of(self.alloc, &[], Part::All, &counted)?;
-        let fresh = falling(self.alloc, rows)?;
-        self.rows.reserve(fresh.len())?;
-        add_all(&mut self.rows, fresh);
+        let spare = room_for(self.alloc, &mut self.rows, counted.len())?;
+        put_in(&mut self.rows, counted, spare);
         self.own_rows = total_of(&self.rows, &self.own);
         Ok(changes)
     }

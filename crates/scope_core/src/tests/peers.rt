@@ -91,42 +91,95 @@ fn replaces_at_most_4096_rows(rt: HostRuntime) -> Result<(), Fail> {
     Ok(())
 }
 
-/// A peer's rows come and go between an own process, 1 and 2, and one of another peer, 9.
+/// Steps with groups of process 5 of a peer, how many rows each moves (0: it is refused), and each group with its members
+/// then. The rows come and go between own processes, 1 and 2, and one of another peer, 9.
+const STEPS: [[&[u8]; 4]; 7] = [
+    [b"sync", b"2114", b"4", b"11155 21259 39 45"],
+    [b"sync", b"2225", b"6", b"111 2125559 39 55"],
+    [b"leave", b"2222", b"0", b"111 2125559 39 55"],
+    [b"leave", b"2552", b"0", b"111 2125559 39 55"],
+    [b"leave", b"2522", b"4", b"111 2129 39"],
+    [b"leave", b"3123", b"0", b"111 2129 39"],
+    [b"join", b"3223", b"4", b"111 212559 3559"],
+];
+
+fn step_of(name: &[u8]) -> Step {
+    match name.first() {
+        Some(b's') => Step::Sync,
+        Some(b'j') => Step::Join,
+        _ => Step::Leave,
+    }
+}
+
+/// The number with these digits, whatever stands between them.
+fn number(text: &[u8]) -> u64 {
+    let mut digits = 0;
+    for byte in text {
+        if byte.is_ascii_digit() {
+            digits = then(digits, u64::from(byte.wrapping_sub(b'0')));
+        }
+    }
+    digits
+}
+
+/// Does the step. Tells how many rows it moves, none where it is refused, and what is listed then.
+fn play(
+    alloc: Global,
+    table: &mut ScopeTable,
+    step: &[u8],
+    groups: &[u8],
+) -> Result<(u64, u64), Fail> {
+    let rows = listed(alloc, b"p@h", 5, groups)?;
+    let moved = match apply(table, step_of(step), &rows) {
+        Err(TableFault::NotListed) => 0,
+        moved => moved? as u64,
+    };
+    Ok((moved, all(alloc, table)?))
+}
+
 #[test]
 fn moves_rows_of_the_peer_alone(rt: HostRuntime) -> Result<(), Fail> {
     let mut table = filled(rt.alloc())?.table;
     let other = listed(rt.alloc(), b"q@h", 9, b"23")?;
     assert_eq!(rt; apply(&mut table, Step::Sync, &other), Ok(2));
-    for (row, (step, groups, moved, state)) in [
-        (Step::Sync, b"2114", Ok(4), 1_11_55_2_12_5_9_3_9_4_5),
-        (Step::Sync, b"2225", Ok(6), 1_11_2_12_555_9_3_9_5_5),
-        (
-            Step::Leave,
-            b"2222",
-            Err(TableFault::NotListed),
-            1_11_2_12_555_9_3_9_5_5,
-        ),
-        (
-            Step::Leave,
-            b"2552",
-            Err(TableFault::NotListed),
-            1_11_2_12_555_9_3_9_5_5,
-        ),
-        (Step::Leave, b"2522", Ok(4), 1_11_2_12_9_3_9),
-        (
-            Step::Leave,
-            b"3123",
-            Err(TableFault::NotListed),
-            1_11_2_12_9_3_9,
-        ),
-        (Step::Join, b"3223", Ok(4), 1_11_2_12_55_9_3_55_9),
-    ]
-    .into_iter()
-    .enumerate()
-    {
-        let rows = listed(rt.alloc(), b"p@h", 5, groups)?;
-        assert_eq!(rt; apply(&mut table, step, &rows), moved, "at {row}");
-        assert_eq!(rt; all(rt.alloc(), &table)?, state, "after {row}");
+    for (row, [step, groups, moved, state]) in STEPS.iter().enumerate() {
+        assert_eq!(rt;
+            play(rt.alloc(), &mut table, step, groups)?,
+            (number(moved), number(state)),
+            "at {row}"
+        );
+    }
+    Ok(())
+}
+
+/// Does the step, and where a growth is refused, does it again.
+fn insist(table: &mut ScopeTable, step: Step, rows: &PeerRows) -> Result<usize, TableFault> {
+    match apply(table, step, rows) {
+        Err(TableFault::OutOfMemory) => apply(table, step, rows),
+        moved => moved,
+    }
+}
+
+/// A table with as many rows of a peer as are merged, on both sides of the own ones.
+fn merged(alloc: Global) -> Result<ScopeTable, Fail> {
+    let mut table = filled(alloc)?.table;
+    let rows = listed(alloc, b"p@h", 5, b"0123456789abcdef")?;
+    insist(&mut table, Step::Sync, &rows)?;
+    insist(&mut table, Step::Join, &rows)?;
+    insist(&mut table, Step::Leave, &rows)?;
+    Ok(table)
+}
+
+/// Groups of that table, and the processes in each.
+const MERGED: [(&[u8], u64); 4] = [(b"0", 5), (b"1", 115), (b"2", 125), (b"f", 5)];
+
+#[test]
+fn merges_many_rows(rt: HostRuntime) -> Result<(), Fail> {
+    let table = merged(rt.alloc())?;
+    assert_eq!(rt; table.groups()?.len(), 16);
+    for (name, numbers) in &MERGED {
+        let group = Group::parse(rt.alloc(), name)?;
+        assert_eq!(rt; pids(&table.members(&group)?), *numbers);
     }
     Ok(())
 }

@@ -1,24 +1,24 @@
 use Rattle.std.proofs.Common.{◌≡◌, arith}
 use Rattle.dist_types.proofs.Sorts.{all_from}
-use Rattle.scope_core.proofs.Peers.{alone_fit, alike_fit, rows_fit, added_change}
+use Rattle.scope_core.proofs.Peers.{alone_fit, counted_fit, rows_fit, added_change}
 use Rattle.scope_core.proofs.table.ScopeTable.join_remote.Goals as goal
 
 pub counted_rows-requires : goal.counted_rows-requires
 counted_rows-requires c = alone_fit c.args.rows.now (omega (arith, c.if-rows-total_of.false))
 
-pub add_all-requires-clause-few : goal.add_all-requires-clause-few
-add_all-requires-clause-few c =
+pub put_in-requires-clause-few : goal.put_in-requires-clause-few
+put_in-requires-clause-few c =
     let n = c.args.peer.now in
     let rows = c.args.rows.now in
     let cs = c.self.inside.rows.items in
     let has = rw c.deref.ensures.value at c.total_of.ensures in
     let few = c.self.invariant.kept.few n in
-    rw c.reserve.ensures.items
-    (alike_fit c.in_ok-fresh.fresh.items rows cs c.in_ok-fresh.ensures
+    rw c.in_ok-spare.ensures.same
+    (counted_fit rows c.in_ok-counted.counted.items cs c.in_ok-counted.ensures.added
     (rows_fit n rows cs (all_from (λ r. r.pid.node ≡ n) rows (λ k d l h. c.requires k d h)) c.self.invariant.kept.few (omega (arith, c.if-rows-total_of.false, has, few))))
 
 pub returns-clause-change : goal.returns-clause-change
 returns-clause-change c =
     rw (← c.self.view_is)
-    (added_change c.args.rows.now c.in_ok-fresh.fresh.items c.self.inside.rows.items c.in_ok-counted.counted.items c.add_all.new.rows.items c.in_ok-changes.changes.items (rw c.deref-2.ensures.value at c.in_ok-changes.ensures)
-    c.in_ok-counted.ensures.added c.in_ok-fresh.ensures (rw c.reserve.ensures.items at c.add_all.ensures.added))
+    (added_change c.args.rows.now c.self.inside.rows.items c.in_ok-counted.counted.items c.put_in.new.rows.items c.in_ok-changes.changes.items (rw c.deref-2.ensures.value at c.in_ok-changes.ensures)
+    c.in_ok-counted.ensures.added (rw c.in_ok-spare.ensures.same at c.put_in.ensures.added))

@@ -2,7 +2,8 @@ use Rattle.std.proofs.Common.{◌≡◌, arith, ap, ◌∙◌}
 use Rattle.dist_types.proofs.Sorts.{all_from}
 use Rattle.scope_core.specs.Beyond.{times_beyond}
 use Rattle.scope_core.specs.Calls.{count_after_sync}
-use Rattle.scope_core.proofs.Peers.{alone_fit, sync_fit, sync_counts}
+use Rattle.scope_core.specs.Added.{without_node}
+use Rattle.scope_core.proofs.Peers.{alone_fit, sync_fit, sync_counts, counted_fit, counted_add}
 use Rattle.scope_core.proofs.Beyond.{picked_rises, synced_change}
 use Rattle.scope_core.proofs.table.ScopeTable.sync.Goals as goal
 
@@ -23,20 +24,21 @@ pub replace_node-requires-clause-few : goal.replace_node-requires-clause-few
 replace_node-requires-clause-few c =
     let n = c.args.peer.now in
     let rows = c.args.rows.now in
-    rw c.reserve.ensures.items
-    (sync_fit n rows c.in_ok-fresh.fresh.items c.self.inside.rows.items c.self.invariant.kept (all_from (λ r. r.pid.node ≡ n) rows (λ k d l h. c.requires k d h)) c.in_ok-fresh.ensures (omega (arith, c.if-rows-gt-MAX_ROWS.false)))
+    let cs = c.self.inside.rows.items in
+    let own = all_from (λ r. r.pid.node ≡ n) rows (λ k d l h. c.requires k d h) in
+    rw c.in_ok-spare.ensures.same
+    (counted_fit rows c.in_ok-counted.counted.items (without_node n cs) c.in_ok-counted.ensures.added (sync_fit n rows cs own c.self.invariant.kept (omega (arith, c.if-rows-gt-MAX_ROWS.false))))
 
 pub returns-clause-ok : goal.returns-clause-ok
 returns-clause-ok c =
     let n = c.args.peer.now in
     let rows = c.args.rows.now in
+    let cs = c.self.inside.rows.items in
     let own = all_from (λ r. r.pid.node ≡ n) rows (λ k d l h. c.requires k d h) in
-    let added = rw c.reserve.ensures.items at c.replace_node.ensures.added in
+    let added = counted_add rows c.in_ok-counted.counted.items (without_node n cs) c.replace_node.new.rows.items c.in_ok-counted.ensures.added (rw c.in_ok-spare.ensures.same at c.replace_node.ensures.added) in
     record {
       own = ap (λ t. t.own) c.self.view_is;
-      counts = λ g p.
-          sync_counts n rows c.in_ok-fresh.fresh.items c.self.inside.rows.items c.self.invariant.kept own c.in_ok-fresh.ensures c.replace_node.new.rows.items added g p
-          ∙ ap (λ t. count_after_sync t n rows g p) c.self.view_is;
+      counts = λ g p. sync_counts n rows cs own c.replace_node.new.rows.items added g p ∙ ap (λ t. count_after_sync t n rows g p) c.self.view_is;
     }
 
 pub returns-clause-change : goal.returns-clause-change
@@ -45,10 +47,10 @@ returns-clause-change c =
     let rows = c.args.rows.now in
     let cs = c.self.inside.rows.items in
     let own = all_from (λ r. r.pid.node ≡ n) rows (λ k d l h. c.requires k d h) in
-    let added = rw c.reserve.ensures.items at c.replace_node.ensures.added in
+    let added = counted_add rows c.in_ok-counted.counted.items (without_node n cs) c.replace_node.new.rows.items c.in_ok-counted.ensures.added (rw c.in_ok-spare.ensures.same at c.replace_node.ensures.added) in
     let left = rw (c.deref.ensures.value, c.deref-2.ensures.value) at c.in_ok-left.ensures in
     let joined = rw (c.deref-3.ensures.value, c.deref-4.ensures.value) at c.in_ok-joined.ensures in
     rw (← c.self.view_is)
     (synced_change n rows cs c.in_ok-counted.counted.items c.replace_node.new.rows.items c.in_ok-changes.changes.items c.self.invariant.kept.rises c.in_ok-counted.ensures.kept.rises c.in_ok-counted.ensures.added
     (rw (c.deref-5.ensures.value, c.deref-6.ensures.value, left, joined) at c.in_ok-changes.ensures)
-    (sync_counts n rows c.in_ok-fresh.fresh.items cs c.self.invariant.kept own c.in_ok-fresh.ensures c.replace_node.new.rows.items added))
+    (sync_counts n rows cs own c.replace_node.new.rows.items added))

@@ -1,0 +1,42 @@
+use Rattle.std.proofs.Common.{◌≡◌, arith, rules, ap, length, vec_len}
+use Rattle.scope_core.specs.Table.{is_of_node}
+use Rattle.scope_core.proofs.Merging.{reversed_tally, reversed_counted, none_kept}
+use Rattle.scope_core.proofs.merged.merge.Goals as goal
+
+pub loop-next-init : goal.loop-next-init
+loop-next-init c = record {
+  room =
+      let none = ap length c.requires.empty in
+      let len : length c.args.spare.items ≡ vec_len c.args.spare = search rules in
+      omega (arith, none, len, c.requires.room, c.reverse.ensures.len, c.reverse-2.ensures.len);
+  kept = none_kept c.args.spare.items c.requires.empty;
+  rows = reversed_counted c.args.rows.now.items c.reverse.new.self.items (vec_len c.args.rows.now) (search rules) (search rules) c.reverse.ensures.by_index c.requires.kept.counted;
+  more = reversed_counted c.args.more.items c.reverse-2.new.self.items (vec_len c.args.more) (search rules) (search rules) c.reverse-2.ensures.by_index c.requires.more.counted;
+  added = λ test.
+      let rows = reversed_tally test c.args.rows.now.items c.reverse.new.self.items c.reverse.ensures.permutation in
+      let more = reversed_tally test c.args.more.items c.reverse-2.new.self.items c.reverse-2.ensures.permutation in
+      rw c.requires.empty (omega (arith, rows, more));
+}
+
+pub add-requires-clause-few : goal.add-requires-clause-few
+add-requires-clause-few c = λ node.
+    let few = c.requires.few node in
+    let so_far = c.loop-next.invariant.added (is_of_node node) in
+    let taken = c.in-Some.ensures.taken (is_of_node node) in
+    omega (arith, few, so_far, taken)
+
+pub add-requires-clause-some : goal.add-requires-clause-some
+add-requires-clause-some c = (c.in-Some.ensures.counted c.loop-next.invariant.rows c.loop-next.invariant.more).0
+
+pub loop-next-preserved : goal.loop-next-preserved
+loop-next-preserved c = record {
+  room = omega (arith, c.in-Some.ensures.len, c.add.ensures.room, c.add.ensures.capacity);
+  kept = c.add.ensures.kept;
+  rows = c.in-Some.ensures.rows c.loop-next.invariant.rows;
+  more = c.in-Some.ensures.more c.loop-next.invariant.more;
+  added = λ test.
+      let so_far = c.loop-next.invariant.added test in
+      let taken = c.in-Some.ensures.taken test in
+      let one = c.add.ensures.added test in
+      omega (arith, so_far, taken, one);
+}

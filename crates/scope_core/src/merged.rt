@@ -1,0 +1,54 @@
+//! Two lists of sorted rows, made one.
+ghost use Rattle.std.specs.Prelude.{◌≡◌, ℕ, ◌+◌, ◌<◌, ◌≤◌, Bool, List, [], IsTrue, MatchOption, length, vec_len, vec_capacity};
+ghost use Rattle.std.specs.Option.{option_to_list};
+ghost use Rattle.dist_types.specs.declared.row.Row.{Row};
+ghost use Rattle.scope_core.specs.Table.{tally, IsKept, AreCounted};
+ghost use Rattle.scope_core.specs.Added.{Joins, HasRoomBeside};
+
+use crate::counted::Counted;
+use crate::edits::add;
+
+/// Puts rows in among others. All are moved in order into the spare room, so that each goes behind those that are there.
+pub fn merge(rows: &mut Vec<Counted>, more: Vec<Counted>, spare: Vec<Counted>)
+    requires room { vec_len rows.old + vec_len more ≤ vec_capacity spare }
+    requires empty { spare.items ≡ [] }
+    requires kept { IsKept rows.old.items }
+    requires more { IsKept more.items }
+    requires few { HasRoomBeside more.items rows.old.items }
+    ensures added { Joins more.items rows.old.items rows.new.items }
+    ensures kept { IsKept rows.new.items }
+{
+    let mut more = more;
+    let mut merged = spare;
+    rows.reverse();
+    more.reverse();
+    while let Some(next) = take_next(rows, &mut more) {
+        add(&mut merged, next);
+    }
+    *rows = merged;
+}
+
+/// Takes out the lower one of the rows at the ends of both lists.
+fn take_next(rows: &mut Vec<Counted>, more: &mut Vec<Counted>) -> Option<Counted>
+    ensures taken { (test : Row → Bool) → tally test rows.old.items + tally test more.old.items ≡ tally test rows.new.items + tally test more.new.items + tally test (option_to_list result) }
+    ensures rows { AreCounted rows.old.items → AreCounted rows.new.items }
+    ensures more { AreCounted more.old.items → AreCounted more.new.items }
+    ensures counted { AreCounted rows.old.items → AreCounted more.old.items → AreCounted (option_to_list result) }
+    ensures len { MatchOption result (vec_len rows.old + vec_len more.old ≡ 0) (λ _. vec_len rows.new + vec_len more.new + 1 ≡ vec_len rows.old + vec_len more.old) }
+{
+    if more.is_empty() || is_next_in(rows, more) {
+        rows.pop()
+    } else {
+        more.pop()
+    }
+}
+
+/// Whether the first list ends with a row that is lower than the last of the other.
+fn is_next_in(rows: &[Counted], more: &[Counted]) -> bool
+    ensures { IsTrue result → 0 < length rows.now }
+{
+    match (rows.last(), more.last()) {
+        (Some(row), Some(other)) => row.row < other.row,
+        _ => false,
+    }
+}
