@@ -26,7 +26,7 @@ differ : (node other : List ℕ) → node ≢ other → bytes_eq node other ≡ 
 differ node other apart = false_from_ne_true (bytes_eq node other) (λ yes. apart ((bytes_eq-Decides node other).0 yes))
 
 -- the peer has the cookie that was put
-lookup_put : (peers : List (List ℕ × List ℕ)) (node cookie : List ℕ) → lookup (bytes_eq node) (insert_entry bytes_eq peers node cookie) ≡ Some cookie
+pub lookup_put : (peers : List (List ℕ × List ℕ)) (node cookie : List ℕ) → lookup (bytes_eq node) (insert_entry bytes_eq peers node cookie) ≡ Some cookie
 lookup_put [] node cookie = ap (λ b. cond b (Some cookie) None) (same node)
 lookup_put (peer ∷ peers) node cookie = by (bytes_eq node peer.0) refl (lookup_put peers node cookie)
   where
@@ -39,7 +39,7 @@ lookup_put (peer ∷ peers) node cookie = by (bytes_eq node peer.0) refl (lookup
     by false is later = ap (λ b. cond b (Some peer.1) (lookup (bytes_eq node) rest)) is ∙ later
 
 -- and each other peer has what it had
-lookup_kept : (peers : List (List ℕ × List ℕ)) (node cookie other : List ℕ) → other ≢ node
+pub lookup_kept : (peers : List (List ℕ × List ℕ)) (node cookie other : List ℕ) → other ≢ node
     → lookup (bytes_eq other) (insert_entry bytes_eq peers node cookie) ≡ lookup (bytes_eq other) peers
 lookup_kept [] node cookie other apart = ap (λ b. cond b (Some cookie) None) (differ other node apart)
 lookup_kept (peer ∷ peers) node cookie other apart = by (bytes_eq node peer.0) refl (lookup_kept peers node cookie other apart)

@@ -1,10 +1,8 @@
 pub mod LineLemmas
 pub mod NumberLemmas
-pub mod CheckLemmas
+pub mod CutLemmas
+pub mod TextLemmas
 pub mod StepLemmas
-pub mod KeptLemmas
-pub mod NodeLemmas
-pub mod HeardLemmas
 pub mod Played
 pub mod Unlacking
 pub mod WorkedScripts

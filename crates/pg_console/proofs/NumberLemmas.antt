@@ -6,7 +6,7 @@ use Rattle.std.proofs.lemmas.Fmt.{digits_value-decimal}
 use Rattle.std.proofs.lemmas.Str.Parse.{numerals_by_value, tells_all_ascii_digits}
 use Rattle.std.proofs.lemmas.Slice.Eq.{bytes_eq-Decides}
 use Rattle.std.proofs.lemmas.Bool.{ltb-true, lt-ltb}
-use Rattle.pg_console.specs.Words.{number_of}
+use Rattle.pg_console.specs.Words.{long_number_of}
 
 -- `==` of bytes
 pub bytes_eq_same : (xs ys : List ℕ) → bytes_eq xs ys ≡ true → xs ≡ ys
@@ -15,21 +15,18 @@ bytes_eq_same xs ys h = search (rules, bytes_eq-Decides)
 pub bytes_eq_refl : (xs : List ℕ) → bytes_eq xs xs ≡ true
 bytes_eq_refl xs = search (rules, bytes_eq-Decides)
 
-value_of_decimal : (n : ℕ) → n < 2 ^ 32 → digits_value 10 (decimal n) ≡ n
+value_of_decimal : (n : ℕ) → n < 2 ^ 64 → digits_value 10 (decimal n) ≡ n
 value_of_decimal n small = digits_value-decimal (numerals_by_value _ tells_all_ascii_digits) n (omega arith)
 
 -- the decimal text of a number says it
-pub number_is : (n : ℕ) (word : List ℕ) → n < 2 ^ 32 → decimal n ≡ word → number_of word ≡ Some n
-number_is n word small is = subst (λ (w : List ℕ). number_of w ≡ Some n) is (rw (value_of_decimal n small, bytes_eq_refl (decimal n), lt-ltb n (2 ^ 32) small) refl)
+pub number_is : (n : ℕ) (word : List ℕ) → n < 2 ^ 64 → decimal n ≡ word → long_number_of word ≡ Some n
+number_is n word small is = subst (λ (w : List ℕ). long_number_of w ≡ Some n) is (rw (value_of_decimal n small, bytes_eq_refl (decimal n), lt-ltb n (2 ^ 64) small) refl)
 
 -- and nothing else does
-pub number_none : (word : List ℕ) → ((n : ℕ) → n < 2 ^ 32 → decimal n ≡ word → ⊥) → number_of word ≡ None
-number_none word never = at (bytes_eq (decimal n) word) (nat_lt n (2 ^ 32)) refl refl
+pub number_none : (word : List ℕ) → ((n : ℕ) → n < 2 ^ 64 → decimal n ≡ word → ⊥) → long_number_of word ≡ None
+number_none word never = at (bytes_eq (decimal (digits_value 10 word)) word) (nat_lt (digits_value 10 word) (2 ^ 64)) refl refl
   where
-    n : ℕ
-    n = digits_value 10 word
-
-    at : (same small : Bool) → bytes_eq (decimal (digits_value 10 word)) word ≡ same → nat_lt (digits_value 10 word) (2 ^ 32) ≡ small → cond (same && small) (Some (digits_value 10 word)) None ≡ None
+    at : (same small : Bool) → bytes_eq (decimal (digits_value 10 word)) word ≡ same → nat_lt (digits_value 10 word) (2 ^ 64) ≡ small → cond (same && small) (Some (digits_value 10 word)) None ≡ None
     at true true is fits = absurd (never _ (ltb-true _ _ fits) (bytes_eq_same _ _ is))
     at true false is fits = refl
     at false small is fits = refl

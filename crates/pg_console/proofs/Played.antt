@@ -1,18 +1,20 @@
 -- What the loop over the lines keeps.
-use Rattle.std.proofs.Common.{◌≡◌, ℕ, ◌+◌, ◌<◌, Bool, true, false, List, [], ◌∷◌, ◌++◌, length, Option, Some, None, refl, sym, ap, ◌∙◌, append_assoc, append-nil, arith, IfSome}
+use Rattle.std.proofs.Common.{◌≡◌, ℕ, ◌+◌, ◌<◌, Bool, true, false, List, [], ◌∷◌, ◌++◌, length, Option, Some, None, refl, sym, ap, ◌∙◌, append_assoc, append-nil, arith, IfSome, Err, inl, inr}
+use Rattle.std.specs.Prelude.{◌⊎◌}
 use Rattle.std.specs.Io.KnownBytes.{Appends}
 use Rattle.std.specs.Io.BufRead.{take_through, drop_through, strip_last}
-use Rattle.pg_console.specs.declared.opening.Opening.{Opening}
-use Rattle.pg_console.specs.History.{History}
-use Rattle.pg_console.specs.Policy.{opened_with}
+use Rattle.policy_audit.specs.declared.opening.Opening.{Opening}
+use Rattle.pg_console.specs.Playing.{Playing, opened_with}
 use Rattle.pg_console.specs.Answers.{fault_line}
 use Rattle.pg_console.specs.Lines.{lines_of}
 use Rattle.pg_console.specs.Transcript.{text_from, fault_in, fault_from, line_text, line_left, is_fault}
-use Rattle.pg_console.specs.Runs.{Writes, Begins}
+use Rattle.pg_console.specs.declared.script.RunFault.{RunFault}
+use Rattle.pg_console.specs.declared.script.RunFault.TheVariants as faults
+use Rattle.pg_console.specs.Runs.{Writes, Begins, RunsAs}
 use Rattle.pg_console.proofs.LineLemmas.{lines_step}
 
 -- the writer holds the answers to the lines before line k, and what is left of the script gives the others
-pub record Played (o : Opening) (script : List ℕ) (old holds : Option (List ℕ)) (now : History) (k : ℕ) (rest : List ℕ) : Type 0 where
+pub record Played (o : Opening) (script : List ℕ) (old holds : Option (List ℕ)) (now : Playing) (k : ℕ) (rest : List ℕ) : Type 0 where
   pub past : List Bool
   pub written : List ℕ
   pub appended : Appends old holds written
@@ -44,9 +46,9 @@ first_of : (rest : List ℕ) → 0 < length rest → lines_of rest ≡ strip_las
 first_of [] some = absurd (omega arith)
 first_of (b ∷ bytes) some = lines_step b bytes
 
-module _ {o : Opening} {k : ℕ} {script rest line : List ℕ} {old holds : Option (List ℕ)} {now : History} (p : Played o script old holds now k rest) where
+module _ {o : Opening} {k : ℕ} {script rest line : List ℕ} {old holds : Option (List ℕ)} {now : Playing} (p : Played o script old holds now k rest) where
   -- a line that was answered
-  pub played_next : {next : History} {then : Option (List ℕ)} (bytes : List ℕ) (lacks : Bool) → 0 < length rest → line ≡ strip_last 10 (take_through 10 rest) → is_fault line ≡ false
+  pub played_next : {next : Playing} {then : Option (List ℕ)} (bytes : List ℕ) (lacks : Bool) → 0 < length rest → line ≡ strip_last 10 (take_through 10 rest) → is_fault line ≡ false
       → bytes ≡ line_text lacks now line → next ≡ line_left lacks now line → Appends holds then bytes → Played o script old then next (k + 1) (drop_through 10 rest)
   played_next {next} {then} bytes lacks some is sound said left sent = record {
     past = p.past ++ lacks ∷ [];
@@ -83,7 +85,7 @@ module _ {o : Opening} {k : ℕ} {script rest line : List ℕ} {old holds : Opti
       last : text_from [] now k (lines_of rest) ≡ fault_line k
       last = ap (text_from [] now k) lines ∙ rw bad refl
 
-module _ {o : Opening} {k : ℕ} {script rest : List ℕ} {old holds : Option (List ℕ)} {now : History} (p : Played o script old holds now k rest) where
+module _ {o : Opening} {k : ℕ} {script rest : List ℕ} {old holds : Option (List ℕ)} {now : Playing} (p : Played o script old holds now k rest) where
   -- nothing is left
   pub played_end : rest ≡ [] → (fault_in script ≡ None) × Writes o script old holds
   played_end none = (
@@ -103,6 +105,16 @@ module _ {o : Opening} {k : ℕ} {script rest : List ℕ} {old holds : Option (L
     parts = p.whole [];
     appended = p.appended;
   }
+
+  -- after the last line of a script that can't be read further: it was written, or a part of the text, or it is not known what
+  pub played_told : {then : Option (List ℕ)} {line : List ℕ} (fault : RunFault)
+      → 0 < length rest → line ≡ strip_last 10 (take_through 10 rest) → is_fault line ≡ true
+      → (fault ≡ faults.Script k) ⊎ (fault ≡ faults.Memory) ⊎ (fault ≡ faults.Write)
+      → (fault ≡ faults.Script k → Appends holds then (fault_line k)) → (fault ≡ faults.Memory → then ≡ holds)
+      → RunsAs {U = Unit {0}} o script old then (Err fault)
+  played_told fault some is bad (inl e) told untold = rw e (played_fault p some is bad (told e))
+  played_told fault some is bad (inr (inl e)) told untold = rw (e, untold e) played_part
+  played_told fault some is bad (inr (inr e)) told untold = rw e tt
 
 -- what follows from what is known of known bytes
 pub weaken : (known : Option (List ℕ)) {P Q : List ℕ → Type 0} → ((xs : List ℕ) → P xs → Q xs) → IfSome known P → IfSome known Q

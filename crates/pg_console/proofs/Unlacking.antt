@@ -1,14 +1,13 @@
 -- A text in whose steps memory never lacks.
 use Rattle.std.proofs.Common.{◌≡◌, ℕ, ◌+◌, Bool, true, false, cond, List, [], ◌∷◌, ◌++◌, refl, ap}
 use Rattle.std.specs.List.{list_any}
-use Rattle.pg_console.specs.declared.opening.Opening.{Opening}
-use Rattle.pg_console.specs.History.{History}
-use Rattle.pg_console.specs.Policy.{opened_with}
+use Rattle.policy_audit.specs.declared.opening.Opening.{Opening}
+use Rattle.pg_console.specs.Playing.{Playing, opened_with}
 use Rattle.pg_console.specs.Lines.{lines_of}
 use Rattle.pg_console.specs.Answers.{fault_line}
 use Rattle.pg_console.specs.Transcript.{text, text_from, is_fault, line_text, line_left}
 
-unlacking : (lines : List (List ℕ)) (lacking : List Bool) (h : History) (k : ℕ) → list_any (λ lacks. lacks) lacking ≡ false → text_from lacking h k lines ≡ text_from [] h k lines
+unlacking : (lines : List (List ℕ)) (lacking : List Bool) (h : Playing) (k : ℕ) → list_any (λ lacks. lacks) lacking ≡ false → text_from lacking h k lines ≡ text_from [] h k lines
 unlacking [] lacking h k never = refl
 unlacking (line ∷ lines) [] h k never = refl
 unlacking (line ∷ lines) (true ∷ others) h k never = absurd (cc)

@@ -2,7 +2,7 @@
 use Rattle.std.specs.Prelude.{◌≡◌, ℕ, Bool, List, ◌++◌, Option, Some, None, Ok, Err}
 use Rattle.std.specs.declared.result.Result.{Result}
 use Rattle.std.specs.Io.KnownBytes.{Appends}
-use Rattle.pg_console.specs.declared.opening.Opening.{Opening}
+use Rattle.policy_audit.specs.declared.opening.Opening.{Opening}
 use Rattle.pg_console.specs.declared.script.RunFault.{RunFault}
 use Rattle.pg_console.specs.declared.script.RunFault.TheVariants as faults
 use Rattle.pg_console.specs.Transcript.{text, fault_in}

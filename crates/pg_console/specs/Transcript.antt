@@ -1,40 +1,52 @@
 -- The text that a script is answered.
-use Rattle.std.specs.Prelude.{ℕ, ◌+◌, Bool, false, cond, List, [], ◌∷◌, ◌++◌, Option, Some, None, is_none, not, ◌&&◌}
-use Rattle.pg_console.specs.declared.opening.Opening.{Opening}
+use Rattle.std.specs.Prelude.{ℕ, ◌+◌, Bool, false, cond, List, [], ◌∷◌, ◌++◌, length, Option, Some, None, is_none, not, ◌&&◌}
+use Rattle.policy_audit.specs.declared.opening.Opening.{Opening}
+use Rattle.policy_audit.specs.History.{History}
+use Rattle.policy_audit.specs.Policy.{verdict, after, is_full}
+use Rattle.policy_audit.specs.Log.{entry_at}
 use Rattle.pg_console.specs.declared.command.Command.{Command}
 use Rattle.pg_console.specs.declared.command.Command.TheVariants as command
-use Rattle.pg_console.specs.History.{History}
-use Rattle.pg_console.specs.Policy.{verdict, after, opened_with}
+use Rattle.pg_console.specs.Playing.{Playing, opened_with}
 use Rattle.pg_console.specs.Lines.{lines_of, is_quiet}
 use Rattle.pg_console.specs.Commands.{said_by}
-use Rattle.pg_console.specs.Answers.{verdict_line, memory_line, fault_line}
+use Rattle.pg_console.specs.Answers.{verdict_line, memory_line, seat_line, size_line, entry_line, fault_line}
+
+-- memory lacks in a step, which a full audit never gets so far as to need
+abbrev pub finds_none : Bool → History → Bool
+finds_none lacks h = lacks && not (is_full h)
 
 -- the line for a command. Where memory lacks in a step, it says so.
-abbrev pub answer_to : Bool → History → Command → List ℕ
-answer_to lacks h (command.Step event) = cond lacks memory_line (verdict_line (verdict h event))
+abbrev pub answer_to : Bool → Playing → Command → List ℕ
+answer_to lacks p (command.Step event) = cond (finds_none lacks p.history) memory_line (verdict_line (verdict p.history p.seat event))
+answer_to lacks p (command.Seat seat) = seat_line
+answer_to lacks p command.Size = size_line (length p.history.entries)
+answer_to lacks p (command.Audit number) = entry_line (entry_at number p.history.entries)
 
 -- what a command leaves. A step where memory lacks leaves all as it was.
-abbrev pub left_by : Bool → History → Command → History
-left_by lacks h (command.Step event) = cond lacks h (after h event)
+abbrev pub left_by : Bool → Playing → Command → Playing
+left_by lacks p (command.Step event) = record p { history = cond (finds_none lacks p.history) p.history (after p.history p.seat event) }
+left_by lacks p (command.Seat seat) = record p { seat = seat }
+left_by lacks p command.Size = p
+left_by lacks p (command.Audit number) = p
 
-abbrev pub answer_of : Bool → History → Option Command → List ℕ
-answer_of lacks h None = []
-answer_of lacks h (Some command) = answer_to lacks h command
+abbrev pub answer_of : Bool → Playing → Option Command → List ℕ
+answer_of lacks p None = []
+answer_of lacks p (Some command) = answer_to lacks p command
 
-abbrev pub left_of : Bool → History → Option Command → History
-left_of lacks h None = h
-left_of lacks h (Some command) = left_by lacks h command
+abbrev pub left_of : Bool → Playing → Option Command → Playing
+left_of lacks p None = p
+left_of lacks p (Some command) = left_by lacks p command
 
 -- a line that has to say a command, and says none
 abbrev pub is_fault : List ℕ → Bool
 is_fault line = not (is_quiet line) && is_none (said_by line)
 
 -- the answer to a line, and what the line leaves
-abbrev pub line_text : Bool → History → List ℕ → List ℕ
-line_text lacks h line = cond (is_quiet line) [] (answer_of lacks h (said_by line))
+abbrev pub line_text : Bool → Playing → List ℕ → List ℕ
+line_text lacks p line = cond (is_quiet line) [] (answer_of lacks p (said_by line))
 
-abbrev pub line_left : Bool → History → List ℕ → History
-line_left lacks h line = cond (is_quiet line) h (left_of lacks h (said_by line))
+abbrev pub line_left : Bool → Playing → List ℕ → Playing
+line_left lacks p line = cond (is_quiet line) p (left_of lacks p (said_by line))
 
 -- whether memory lacks at the first of some lines, and at the others; past the end of the list it lacks nowhere
 abbrev pub at_first : List Bool → Bool
@@ -46,11 +58,11 @@ at_others [] = []
 at_others (lacks ∷ others) = others
 
 -- the answers to lines in turn, of which the first is line k, up to the first fault
-abbrev pub text_from : List Bool → History → ℕ → List (List ℕ) → List ℕ
-text_from lacking h k [] = []
-text_from lacking h k (line ∷ lines) =
+abbrev pub text_from : List Bool → Playing → ℕ → List (List ℕ) → List ℕ
+text_from lacking p k [] = []
+text_from lacking p k (line ∷ lines) =
     cond (is_fault line) (fault_line k)
-    (line_text (at_first lacking) h line ++ text_from (at_others lacking) (line_left (at_first lacking) h line) (k + 1) lines)
+    (line_text (at_first lacking) p line ++ text_from (at_others lacking) (line_left (at_first lacking) p line) (k + 1) lines)
 
 -- the number of the first line that has a fault
 abbrev pub fault_from : ℕ → List (List ℕ) → Option ℕ

@@ -1,18 +1,26 @@
 //! Commands, and how a line says one.
 ghost use Rattle.std.specs.Prelude.{◌≡◌, IfOk, IfErr, Some};
-ghost use Rattle.pg_console.specs.Commands.{only_number, opened_of, frame_of, take_of, said_by};
+ghost use Rattle.pg_console.specs.Commands.{alone, said_by};
+ghost use Rattle.pg_console.specs.Faults.{IsUnread, fault_of};
 ghost use Rattle.pg_console.specs.WordsLeft.{words_left};
-ghost use Rattle.pg_console.specs.Faults.{IsUnread};
 
-use crate::event::Event;
-use crate::words::{body, first_word, next_word, number, only_word};
-use dist_types::OutOfMemory;
-use std::alloc::Global;
+use crate::node_commands::node_command;
+use crate::words::{first_word, next_word};
+use dist_types::{OutOfMemory, TextFault};
+use policy_audit::Event;
+use std::alloc::{AllocFailed, Global};
 
 /// What a line may ask for.
 #[derive(Debug, Drop)]
 pub enum Command {
+    /// An event, by the present seat.
     Step(Event),
+    /// The seat of the lines that follow.
+    Seat(u32),
+    /// How many entries there are.
+    Size,
+    /// The entry of that number.
+    Audit(u32),
 }
 
 /// Why a line has no answer.
@@ -33,51 +41,45 @@ impl From<OutOfMemory> for LineFault {
     }
 }
 
+impl<T: Drop> From<AllocFailed<T>> for LineFault {
+    ghost use Rattle.pg_console.specs.declared.command.LineFault.TheVariants as faults;
+
+    ghost from_gives = { λ _ fault. fault ≡ faults.Memory };
+
+    fn from(_error: AllocFailed<T>) -> LineFault {
+        LineFault::Memory
+    }
+}
+
+impl From<TextFault> for LineFault {
+    ghost use Rattle.pg_console.specs.Faults.{fault_of};
+
+    ghost from_gives = { λ text fault. fault ≡ fault_of text };
+
+    fn from(error: TextFault) -> LineFault {
+        match error {
+            TextFault::OutOfMemory => LineFault::Memory,
+            _ => LineFault::Script,
+        }
+    }
+}
+
 /// What a line that is not quiet says.
 pub fn parse(alloc: Global, line: &[u8]) -> Result<Command, LineFault>
     ensures ok { IfOk result (λ command. said_by line.now ≡ Some command) }
     ensures fault { IfErr result (λ fault. IsUnread fault (said_by line.now)) }
 {
     let (name, words) = first_word(line);
-    let said = if name == b"opened".as_slice() {
-        opened(words)
-    } else if name == b"frame".as_slice() {
-        return frame(alloc, words);
-    } else if name == b"take".as_slice() {
-        take(words)
-    } else {
-        None
-    };
-    said.ok_or(LineFault::Script)
+    node_command(alloc, name, words)
 }
 
-fn opened(words: Option<&[u8]>) -> Option<Command>
-    ensures { result ≡ opened_of (words_left words.entry) }
+/// A command that no word may stand behind.
+pub fn alone(command: Command, words: Option<&[u8]>) -> Result<Command, LineFault>
+    ensures ok { IfOk result (λ said. alone command (words_left words.entry) ≡ Some said) }
+    ensures fault { IfErr result (λ fault. IsUnread fault (alone command (words_left words.entry))) }
 {
-    let challenge = number(only_word(words)?)?;
-    Some(Command::Step(Event::Opened(challenge)))
-}
-
-fn frame(alloc: Global, words: Option<&[u8]>) -> Result<Command, LineFault>
-    ensures ok { IfOk result (λ command. frame_of (words_left words.entry) ≡ Some command) }
-    ensures fault { IfErr result (λ fault. IsUnread fault (frame_of (words_left words.entry))) }
-{
-    let Some((link, words)) = next_word(words) else {
+    if next_word(words).is_some() {
         return Err(LineFault::Script);
-    };
-    let Some(word) = only_word(words) else {
-        return Err(LineFault::Script);
-    };
-    let Some(link) = number(link) else {
-        return Err(LineFault::Script);
-    };
-    let body = body(alloc, word)?;
-    Ok(Command::Step(Event::Frame(link, body)))
-}
-
-fn take(words: Option<&[u8]>) -> Option<Command>
-    ensures { result ≡ take_of (words_left words.entry) }
-{
-    let link = number(only_word(words)?)?;
-    Some(Command::Step(Event::Take(link)))
+    }
+    Ok(command)
 }

@@ -1,44 +1,44 @@
 //! A node as the lines of a script see it.
-ghost use Rattle.std.specs.Prelude.{◌≡◌, ◌++◌, IfErr, OnOk, true, false, Bool};
-ghost use Rattle.pg_console.specs.Policy.{opened_with};
+ghost use Rattle.std.specs.Prelude.{◌≡◌, ◌++◌, ◌↔◌, ◌⊎◌, ◌<◌, Bool, true, false, IfOk, IfErr, OnOk, Err};
+ghost use Rattle.pg_console.specs.Playing.{opened_with};
 ghost use Rattle.pg_console.specs.Transcript.{answer_to, left_by, line_text, line_left, is_fault};
 ghost use Rattle.pg_console.specs.declared.command.LineFault.TheVariants as faults;
+ghost use Rattle.node_core.specs.declared.fault.OpenFault.TheVariants as opens;
 
-use crate::answers::put_step;
+use crate::answers::{put_entry, put_step};
 use crate::command::{Command, LineFault, parse};
-use crate::event::Event;
-use crate::node::Node;
-use crate::opening::Opening;
+use crate::printed::{put_numbered_line, put_word};
 use crate::words::is_quiet;
 use dist_types::OutOfMemory;
+use node_core::{NodeCore, OpenFault};
+use policy_audit::{Event, Opening};
 use std::alloc::Global;
 use std::marker::Model;
 
-/// The node that a script is played on.
+/// The node that a script is played on, and the seat that asks.
 #[derive(Debug)]
 pub struct Console {
-    node: Node,
+    core: NodeCore,
+    seat: u32,
 }
 
 impl Model for Console {
-    ghost use Rattle.pg_console.specs.History.{History};
-    ghost use Rattle.pg_console.specs.LinkKept.{IsNode, history_of};
+    ghost use Rattle.pg_console.specs.Playing.{Playing};
 
-    ghost Value = { History };
+    ghost Value = { Playing };
 
-    ghost view = { λ console. history_of console.node };
-
-    ghost invariant = { λ console. IsNode console.node };
+    ghost view = { λ console. record { history = console.core; seat = console.seat } };
 }
 
 impl Console {
-    /// A console over a node that has seen nothing.
-    pub fn open(alloc: Global, opening: Opening) -> Console
-        ensures { result ≡ opened_with opening }
+    /// A console over a node that has seen nothing, asked by seat 0.
+    pub fn open(alloc: Global, opening: Opening) -> Result<Console, OpenFault>
+        ensures ok { IfOk result (λ console. console ≡ opened_with opening) }
+        ensures limit { OnOk result (0 < opening.entries) }
+        ensures refused { IfErr result (λ fault. (fault ≡ opens.BadLimit) ↔ (opening.entries ≡ 0)) }
     {
-        Console {
-            node: Node::new(alloc, opening),
-        }
+        let core = NodeCore::new(alloc, opening)?;
+        Ok(Console { core, seat: 0 })
     }
 
     /// Adds the answer to a line. After a fault nothing more is asked.
@@ -51,18 +51,38 @@ impl Console {
         if is_quiet(line) {
             return Ok(());
         }
-        match parse(alloc, line)? {
-            Command::Step(event) => self.step(alloc, event, out)?,
-        }
+        let command = parse(alloc, line)?;
+        self.follow(alloc, command, out)?;
         Ok(())
     }
 
-    /// Adds the answer to an event. Without memory for the answer the console is not used again.
+    /// Adds the answer to a command. Without memory for the answer the console is not used again.
+    fn follow(
+        &mut self,
+        alloc: Global,
+        command: Command,
+        out: &mut Vec<u8>,
+    ) -> Result<(), OutOfMemory>
+        ensures { OnOk result ((lacks : Bool) × (out.new.items ≡ out.old.items ++ answer_to lacks self.old command)
+            × (self.new ≡ left_by lacks self.old command)) }
+    {
+        match command {
+            Command::Step(event) => self.step(alloc, event, out),
+            Command::Seat(seat) => {
+                self.seat = seat;
+                put_word("ok\n", out)
+            }
+            Command::Size => put_numbered_line("size ", self.core.audit().len() as u64, out),
+            Command::Audit(number) => put_entry(self.core.audit().get(number), out),
+        }
+    }
+
+    /// Adds the answer to an event.
     fn step(&mut self, alloc: Global, event: Event, out: &mut Vec<u8>) -> Result<(), OutOfMemory>
         ensures { OnOk result ((lacks : Bool) × (out.new.items ≡ out.old.items ++ answer_to lacks self.old (Command.Step event))
             × (self.new ≡ left_by lacks self.old (Command.Step event))) }
     {
-        let stepped = self.node.step(event);
+        let stepped = self.core.step(self.seat, event);
         put_step(alloc, &stepped, out)
     }
 }
@@ -70,6 +90,6 @@ impl Console {
 /// Lets go of the node in one call, so that the proof of a caller has one step for it.
 impl Drop for Console {
     fn drop(self) {
-        let Console { node: _ } = self;
+        let Console { core: _, seat: _ } = self;
     }
 }

@@ -1,10 +1,10 @@
 //! A law of the transcripts. The function does nothing; its contract is the law.
 ghost use Rattle.std.specs.Prelude.{◌≡◌, Bool, List, ℕ, [], false};
 ghost use Rattle.std.specs.List.{list_any};
-ghost use Rattle.pg_console.specs.declared.opening.Opening.{Opening};
+ghost use Rattle.policy_audit.specs.declared.opening.Opening.{Opening};
 ghost use Rattle.pg_console.specs.Transcript.{text};
 
-use crate::opening::Opening;
+use policy_audit::Opening;
 
 /// A script in whose steps memory never lacks is answered by the policy alone.
 pub fn text_without_lack()

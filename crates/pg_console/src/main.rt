@@ -1,25 +1,28 @@
-//! Plays scripts on a node that accepts links.
+//! Plays scripts on a node of process groups.
 #![tactic(auto)]
 
-mod acceptor;
 mod answers;
+mod argument;
+mod arguments;
 mod command;
 mod console;
-mod event;
+mod event_kind;
 mod laws;
-mod link;
-mod node;
-mod opening;
+mod link_commands;
+mod node_commands;
 mod options;
-mod rule;
+mod printed;
+mod query_commands;
 mod script;
 #[cfg(test)]
 mod tests;
-mod waiting;
+mod values;
 mod words;
 
-use clap::error::ErrorKind as LineFault;
+use clap::ArgMatches;
+use clap::error::{Error as LineError, ErrorKind as LineFault};
 use options::{command, opening};
+use policy_audit::Opening;
 use script::{RunFault, run};
 use std::io::{self, BufReader, ErrorKind};
 use std::process::ExitCode;
@@ -41,38 +44,52 @@ fn main(rt: HostRuntime) -> io::Result<ExitCode> {
     let Ok(command) = command(alloc) else {
         return failed(&rt, 1, "error: out of memory");
     };
-    let matches = match command.try_get_matches_from(words.as_slice()) {
-        Ok(matches) => matches,
-        Err(error) if error.kind() == LineFault::OutOfMemory => {
-            return failed(&rt, 1, "error: out of memory");
-        }
-        Err(error) if error.use_stderr() => {
-            let text = error.to_string(alloc)?;
-            return failed(&rt, 2, text.as_str());
-        }
-        Err(error) => {
-            error.print(&rt)?;
-            return Ok(ExitCode::SUCCESS);
-        }
+    match command.try_get_matches_from(words.as_slice()) {
+        Ok(matches) => follow(&rt, &matches),
+        Err(error) => unmatched(&rt, error),
+    }
+}
+
+/// Ends a program whose command line has no matches: it is refused, or it asks for a text, as `--help` does.
+fn unmatched<R: AllocGlobal + Print + Eprint>(rt: &R, error: LineError) -> io::Result<ExitCode> {
+    if error.kind() == LineFault::OutOfMemory {
+        return failed(rt, 1, "error: out of memory");
+    }
+    if error.use_stderr() {
+        let text = error.to_string(rt.alloc())?;
+        return failed(rt, 2, text.as_str());
+    }
+    error.print(rt)?;
+    Ok(ExitCode::SUCCESS)
+}
+
+/// Does what the command line asks for.
+fn follow<R: AllocGlobal + Input + Print + Eprint>(
+    rt: &R,
+    matches: &ArgMatches<'_>,
+) -> io::Result<ExitCode> {
+    let Some(run) = matches.subcommand_matches("run") else {
+        return failed(rt, 2, "error: no command was given");
     };
-    let Some(matches) = matches.subcommand_matches("run") else {
-        return failed(&rt, 2, "error: no command was given");
-    };
-    let opening = match opening(alloc, matches) {
-        Ok(opening) => opening,
+    match opening(rt.alloc(), run) {
+        Ok(opening) => play(rt, opening),
         Err(fault) => {
-            let text = format!(in alloc; "{fault}")?;
-            return failed(&rt, fault.status(), text.as_str());
+            let text = format!(in rt.alloc(); "{fault}")?;
+            failed(rt, fault.status(), text.as_str())
         }
-    };
-    let mut reader = BufReader::new(alloc, rt.reader())?;
-    let mut writer = io::writer(&rt);
-    match run(&rt, opening, &mut reader, &mut writer) {
+    }
+}
+
+/// Plays standard input on a node that is opened so.
+fn play<R: AllocGlobal + Input + Print + Eprint>(rt: &R, opening: Opening) -> io::Result<ExitCode> {
+    let mut reader = BufReader::new(rt.alloc(), rt.reader())?;
+    let mut writer = io::writer(rt);
+    match run(rt, opening, &mut reader, &mut writer) {
         Ok(()) => Ok(ExitCode::SUCCESS),
         Err(RunFault::Script(_)) => Ok(ExitCode::from(1)),
         Err(fault) => {
-            let text = format!(in alloc; "error: {fault}")?;
-            failed(&rt, 1, text.as_str())
+            let text = format!(in rt.alloc(); "error: {fault}")?;
+            failed(rt, 1, text.as_str())
         }
     }
 }

@@ -1,12 +1,10 @@
 //! The command line.
-ghost use Rattle.std.specs.Prelude.{◌≡◌, IfOk};
-
-use crate::opening::Opening;
 use clap::{Arg, ArgAction, ArgMatches, Command, Error, value_parser};
 use dist_types::{Cookie, NodeName, TextFault};
+use policy_audit::Opening;
 use std::alloc::Global;
 
-/// The most entries of a history.
+/// The most entries of an audit, where none are given.
 const ENTRIES: u32 = 1_000_000;
 
 /// Why NAME or COOKIE is refused.
@@ -43,6 +41,12 @@ pub fn command<'a>(alloc: Global) -> Result<Command<'a>, Error> {
         .help("The node's creation")
         .value_parser(value_parser!(u32))
         .default_value("1");
+    let entries = Arg::new(alloc, "entries")
+        .long("entries")
+        .value_name("N")
+        .help("The most entries of the node's audit, at least 1")
+        .value_parser(value_parser!(u32).range(1..))
+        .default_value("1000000");
     let hidden = Arg::new(alloc, "hidden")
         .long("hidden")
         .help("Makes each link a hidden one")
@@ -52,6 +56,7 @@ pub fn command<'a>(alloc: Global) -> Result<Command<'a>, Error> {
         .arg(name)?
         .arg(cookie)?
         .arg(creation)?
+        .arg(entries)?
         .arg(hidden)?;
     let program = Command::new(alloc, "pg_console")
         .version("0.1.0")
@@ -62,9 +67,7 @@ pub fn command<'a>(alloc: Global) -> Result<Command<'a>, Error> {
 }
 
 /// What `run` opens its node with.
-pub fn opening(alloc: Global, run: &ArgMatches<'_>) -> Result<Opening, OptionsFault>
-    ensures { IfOk result (λ opening. opening.entries ≡ 1000000) }
-{
+pub fn opening(alloc: Global, run: &ArgMatches<'_>) -> Result<Opening, OptionsFault> {
     let name = run.get_str("NAME").unwrap_or("");
     let cookie = run.get_str("COOKIE").unwrap_or("");
     Ok(Opening {
@@ -72,6 +75,6 @@ pub fn opening(alloc: Global, run: &ArgMatches<'_>) -> Result<Opening, OptionsFa
         cookie: Cookie::parse(alloc, cookie.as_bytes()).map_err(OptionsFault::Cookie)?,
         hidden: run.get_flag("hidden"),
         creation: run.get_one::<u32>("creation").unwrap_or(1),
-        entries: ENTRIES,
+        entries: run.get_one::<u32>("entries").unwrap_or(ENTRIES),
     })
 }

@@ -3,14 +3,16 @@ ghost use Rattle.std.specs.Prelude.{◌≡◌, ◌⊎◌, ◌<◌, ◌↔◌, On
 ghost use Rattle.std.specs.Io.KnownBytes.{Appends};
 ghost use Rattle.std.specs.IoError.{error_kind};
 ghost use Rattle.std.specs.declared.io.ErrorKind.TheVariants as kinds;
+ghost use Rattle.pg_console.specs.Answers.{fault_line};
 ghost use Rattle.pg_console.specs.Runs.{RunsAs};
 ghost use Rattle.pg_console.specs.declared.script.RunFault.TheVariants as faults;
 
-use crate::answers::put_numbered_line;
 use crate::command::LineFault;
 use crate::console::Console;
-use crate::opening::Opening;
+use crate::printed::put_numbered_line;
 use crate::words::without_feed;
+use node_core::OpenFault;
+use policy_audit::Opening;
 use std::io::{BufRead, Error, ErrorKind, Write};
 use thiserror::Error as ErrorDerive;
 
@@ -45,11 +47,12 @@ pub fn run<A: AllocGlobal, R: BufRead, W: Write>(
     ensures text { 0 < opening.entries → IfSome (R.remaining reader.old) (λ script.
         RunsAs opening script (W.contents writer.old) (W.contents writer.new) result) }
 {
-    if opening.entries == 0 {
-        return Err(RunFault::BadOpening);
-    }
     let alloc = rt.alloc();
-    let mut console = Console::open(alloc, opening);
+    let mut console = match Console::open(alloc, opening) {
+        Ok(console) => console,
+        Err(OpenFault::BadLimit) => return Err(RunFault::BadOpening),
+        Err(OpenFault::OutOfMemory) => return Err(RunFault::Memory),
+    };
     let mut line = Vec::new(alloc);
     let mut out = Vec::new(alloc);
     for turn in 0..TURNS {
@@ -63,19 +66,26 @@ pub fn run<A: AllocGlobal, R: BufRead, W: Write>(
         match console.answer(alloc, without_feed(line.as_slice()), &mut out) {
             Ok(()) => send(out.as_slice(), writer)?,
             Err(LineFault::Memory) => return Err(RunFault::Memory),
-            Err(LineFault::Script) => {
-                out.clear();
-                let Ok(()) = put_numbered_line("fault line ", turn + 1, &mut out) else {
-                    return Err(RunFault::Memory);
-                };
-                let Ok(()) = send(out.as_slice(), writer) else {
-                    return Err(RunFault::Write);
-                };
-                return Err(RunFault::Script(turn + 1));
-            }
+            Err(LineFault::Script) => return Err(tell_fault(turn + 1, &mut out, writer)),
         }
     }
     Err(RunFault::Read)
+}
+
+/// Writes the last line of a script that can't be read further, and says what the run ends with.
+fn tell_fault<W: Write>(line: u64, out: &mut Vec<u8>, writer: &mut W) -> RunFault
+    ensures ended { (result ≡ faults.Script line) ⊎ (result ≡ faults.Memory) ⊎ (result ≡ faults.Write) }
+    ensures told { result ≡ faults.Script line → Appends (W.contents writer.old) (W.contents writer.new) (fault_line line) }
+    ensures untold { result ≡ faults.Memory → writer.new ≡ writer.old }
+{
+    out.clear();
+    if put_numbered_line("fault line ", line, out).is_err() {
+        return RunFault::Memory;
+    }
+    if send(out.as_slice(), writer).is_err() {
+        return RunFault::Write;
+    }
+    RunFault::Script(line)
 }
 
 /// What a reader's error ends a run with.

@@ -1,16 +1,8 @@
-//! The words of a line, and the numbers and bodies that they say.
-ghost use Rattle.std.specs.Prelude.{◌≡◌, ◌∷◌, [], IfSome, IfOk, IfErr, IsNone, Some, None};
+//! The lines of a script, and the words of a line.
+ghost use Rattle.std.specs.Prelude.{◌≡◌, ◌∷◌, [], IfSome, IsNone, Some, None};
 ghost use Rattle.std.specs.Io.BufRead.{strip_last};
 ghost use Rattle.pg_console.specs.Lines.{words_of, is_quiet, only_of};
-ghost use Rattle.pg_console.specs.Words.{number_of, body_of};
 ghost use Rattle.pg_console.specs.WordsLeft.{words_left};
-ghost use Rattle.pg_console.specs.Faults.{IsUnread};
-
-use crate::command::LineFault;
-use hex::FromHexError;
-use itoa::Buffer;
-use link_states::Body;
-use std::alloc::Global;
 
 /// A line without the line feed at its end.
 pub fn without_feed(line: &[u8]) -> &[u8]
@@ -62,38 +54,5 @@ pub fn only_word(rest: Option<&[u8]>) -> Option<&[u8]>
     match next_word(rest) {
         Some(_) => None,
         None => Some(word),
-    }
-}
-
-/// The number of 32 bits that a word says in decimal, with no sign and no needless zero.
-pub fn number(word: &[u8]) -> Option<u32>
-    ensures { result ≡ number_of word.now }
-{
-    let Ok(text) = str::from_utf8(word) else {
-        return None;
-    };
-    let Ok(number) = text.parse::<u32>() else {
-        return None;
-    };
-    let mut digits = Buffer::new();
-    if digits.format(number).as_bytes() == word {
-        Some(number)
-    } else {
-        None
-    }
-}
-
-/// The bytes that a word says in hex.
-pub fn body(alloc: Global, word: &[u8]) -> Result<Body, LineFault>
-    ensures ok { IfOk result (λ bytes. body_of word.now ≡ Some bytes) }
-    ensures fault { IfErr result (λ fault. IsUnread fault (body_of word.now)) }
-{
-    if word.is_empty() {
-        return Err(LineFault::Script);
-    }
-    match hex::decode(alloc, word) {
-        Ok(bytes) => Ok(Body::of(bytes)),
-        Err(FromHexError::OutOfMemory) => Err(LineFault::Memory),
-        Err(_) => Err(LineFault::Script),
     }
 }

@@ -4,9 +4,9 @@ use crate::script::{RunFault, run};
 use std::io::{self, BufReader, Error, ErrorKind, Read, Write};
 use std::test::Fail;
 
-const SCRIPT: &[u8] = b"opened 1\ntake 1\n\ntake 2\n";
+const SCRIPT: &[u8] = b"seat 1\nsize\n\naudit 2\n";
 
-const ANSWERS: [&str; 3] = ["link 1\n", "out\n", "refused 2 NoSuchLink\n"];
+const ANSWERS: [&str; 3] = ["ok\n", "size 0\n", "none\n"];
 
 /// Gives one byte a read, and fails when it has given this many.
 #[derive(Drop)]

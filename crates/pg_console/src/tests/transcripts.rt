@@ -1,129 +1,162 @@
-//! Scripts with their answers, a command a line. The node is `b@h` with the cookie `password` and creation 4.
+//! Scripts with their answers, played on a node over memory.
+use super::opening;
+use crate::script::run;
+use limits::Long;
+use policy_audit::Opening;
+use std::process::Abort;
+use std::test::Fail;
 
-pub const ALL: [(&str, &str); 11] = [
-    ("acceptor_handshake", ACCEPTOR_HANDSHAKE),
-    ("wrong_digest", WRONG_DIGEST),
-    (
-        "keeps_frames_of_an_ended_link",
-        KEEPS_FRAMES_OF_AN_ENDED_LINK,
-    ),
-    ("bytes_after_the_name", BYTES_AFTER_THE_NAME),
-    ("truncated_name", TRUNCATED_NAME),
-    ("no_handshake23", NO_HANDSHAKE23),
-    ("dynamic_name", DYNAMIC_NAME),
-    ("bad_name", BAD_NAME),
-    ("own_name", OWN_NAME),
-    ("hidden_peer", HIDDEN_PEER),
-    ("one_link_at_a_time", ONE_LINK_AT_A_TIME),
-];
+mod ended;
+mod handshakes;
+mod hostile;
+mod limits;
+mod links;
+mod remote;
+mod scopes;
+mod watched;
 
-/// The handshake of `a@h`, creation 5, with the challenges 123 and 1.
-pub const ACCEPTOR_HANDSHAKE: &str = "\
-opened 123 -> link 1
-frame 1 4e0000000001000001000000050003614068 -> ok
-take 1 -> out 736f6b 4e00000000010000010000007b000000040003624068
-frame 1 7200000001482c811da5d5b4bc6d497ffa98491e38 -> up a@h 5 visible
-take 1 -> out 617c6a180b36896a0a8c02787eeafb0e4c
-";
+/// Plays the left sides of a transcript, and compares the answers with the right sides.
+fn play<R: AllocGlobal + Abort>(
+    rt: &R,
+    name: &str,
+    opening: Opening,
+    transcript: &str,
+) -> Result<(), Fail> {
+    let mut script = String::new(rt.alloc());
+    let mut wanted = String::new(rt.alloc());
+    for line in transcript.lines() {
+        let (command, answer) = line.split_once(" -> ").unwrap_or((line, ""));
+        script.push_str(command)?;
+        script.push('\n')?;
+        wanted.push_str(answer)?;
+        wanted.push('\n')?;
+    }
+    compare(rt, name, opening, script.as_str(), wanted.as_str())
+}
 
-/// A challenge judges one digest: after a wrong one the right one comes too late.
-pub const WRONG_DIGEST: &str = "\
-opened 123 -> link 1
-frame 1 4e0000000001000001000000050003614068 -> ok
-take 1 -> out 736f6b 4e00000000010000010000007b000000040003624068
-frame 1 7200000001482c811da5d5b4bc6d497ffa98491e39 -> refused 12 BadDigest
-frame 1 7200000001482c811da5d5b4bc6d497ffa98491e38 -> refused 2 NoSuchLink
-take 1 -> refused 2 NoSuchLink
-";
+/// Plays a script, and compares its answers with these.
+fn compare<R: AllocGlobal + Abort>(
+    rt: &R,
+    name: &str,
+    opening: Opening,
+    script: &str,
+    wanted: &str,
+) -> Result<(), Fail> {
+    let mut reader = script.as_bytes();
+    let mut writer: Vec<u8> = Vec::new(rt.alloc());
+    let ended = run(rt, opening, &mut reader, &mut writer);
+    assert_eq!(rt; ended, Ok(()), "{name}");
+    let answers = String::from_utf8_lossy(rt.alloc(), writer.as_slice())?;
+    for (i, (got, want)) in answers.lines().zip(wanted.lines()).enumerate() {
+        assert_eq!(rt; got, want, "{name}, answer {}", i + 1);
+    }
+    assert_eq!(rt; answers.as_str(), wanted, "{name}");
+    Ok(())
+}
 
-/// A link that its own frame ended is kept until its frames are taken.
-pub const KEEPS_FRAMES_OF_AN_ENDED_LINK: &str = "\
-opened 123 -> link 1
-frame 1 4e0000000001000001000000050003614068 -> ok
-frame 1 7200000001482c811da5d5b4bc6d497ffa98491e39 -> refused 12 BadDigest
-opened 1 -> refused 27 LinksFull
-frame 1 7200000001482c811da5d5b4bc6d497ffa98491e38 -> refused 2 NoSuchLink
-take 1 -> out 736f6b 4e00000000010000010000007b000000040003624068
-take 1 -> refused 2 NoSuchLink
-opened 1 -> link 8
-";
+#[test]
+fn plays_handshakes(rt: HostRuntime) -> Result<(), Fail> {
+    for (name, transcript) in handshakes::ALL {
+        play(&rt, name, opening(&rt, 1_000_000)?, transcript)?;
+    }
+    Ok(())
+}
 
-/// Any bytes may follow the name.
-pub const BYTES_AFTER_THE_NAME: &str = "\
-opened 123 -> link 1
-frame 1 4e0000000001000001000000050003614068aabbcc -> ok
-frame 1 7200000001482c811da5d5b4bc6d497ffa98491e38 -> up a@h 5 visible
-";
+#[test]
+fn plays_links(rt: HostRuntime) -> Result<(), Fail> {
+    for (name, transcript) in links::ALL {
+        play(&rt, name, opening(&rt, 1_000_000)?, transcript)?;
+    }
+    Ok(())
+}
 
-/// A name frame without its last byte.
-pub const TRUNCATED_NAME: &str = "\
-opened 123 -> link 1
-frame 1 4e00000000010000010000000500036140 -> refused 3 BadFrame
-take 1 -> refused 2 NoSuchLink
-";
+#[test]
+fn plays_scopes(rt: HostRuntime) -> Result<(), Fail> {
+    for (name, transcript) in scopes::ALL {
+        play(&rt, name, opening(&rt, 1_000_000)?, transcript)?;
+    }
+    Ok(())
+}
 
-/// Flag bit 24 is missing.
-pub const NO_HANDSHAKE23: &str = "\
-opened 123 -> link 1
-frame 1 4e0000000000000001000000050003614068 -> refused 4 NoHandshake23
-";
+#[test]
+fn plays_rows_of_peers(rt: HostRuntime) -> Result<(), Fail> {
+    for (name, transcript) in remote::ALL {
+        play(&rt, name, opening(&rt, 1_000_000)?, transcript)?;
+    }
+    Ok(())
+}
 
-/// Flag bit 33 is set: it is tested before the name.
-pub const DYNAMIC_NAME: &str = "\
-opened 123 -> link 1
-frame 1 4e000000020100000100000005000161 -> refused 5 DynamicName
-";
+#[test]
+fn plays_frames_on_ended_links(rt: HostRuntime) -> Result<(), Fail> {
+    for (name, transcript) in ended::ALL {
+        play(&rt, name, opening(&rt, 1_000_000)?, transcript)?;
+    }
+    Ok(())
+}
 
-/// A name without `@`.
-pub const BAD_NAME: &str = "\
-opened 123 -> link 1
-frame 1 4e000000000100000100000005000161 -> refused 6 BadName
-";
+#[test]
+fn plays_hostile_peers(rt: HostRuntime) -> Result<(), Fail> {
+    for (name, transcript) in hostile::ALL {
+        play(&rt, name, opening(&rt, 1_000_000)?, transcript)?;
+    }
+    Ok(())
+}
 
-/// The peer has the node's own name.
-pub const OWN_NAME: &str = "\
-opened 123 -> link 1
-frame 1 4e0000000001000001000000050003624068 -> refused 7 OwnName
-";
+#[test]
+fn plays_monitors(rt: HostRuntime) -> Result<(), Fail> {
+    for (name, transcript) in watched::ALL {
+        play(&rt, name, opening(&rt, 1_000_000)?, transcript)?;
+    }
+    Ok(())
+}
 
-/// The peer's flag bit 0 is missing.
-pub const HIDDEN_PEER: &str = "\
-opened 123 -> link 1
-frame 1 4e0000000001000000000000050003614068 -> ok
-frame 1 7200000001482c811da5d5b4bc6d497ffa98491e38 -> up a@h 5 hidden
-take 1 -> out 736f6b 4e00000000010000010000007b000000040003624068 617c6a180b36896a0a8c02787eeafb0e4c
-take 1 -> out
-";
+#[test]
+fn a_hidden_node_has_hidden_links(rt: HostRuntime) -> Result<(), Fail> {
+    let hidden = Opening {
+        hidden: true,
+        ..opening(&rt, 1_000_000)?
+    };
+    play(&rt, "hidden_node", hidden, links::HIDDEN_NODE)
+}
 
-/// While a link is kept no other is opened. What comes for other links is refused and ends nothing.
-pub const ONE_LINK_AT_A_TIME: &str = "\
-take 1 -> refused 2 NoSuchLink
-opened 123 -> link 2
-opened 7 -> refused 27 LinksFull
-frame 1 4e0000000001000001000000050003614068 -> refused 2 NoSuchLink
-frame 3 4e0000000001000001000000050003614068 -> refused 2 NoSuchLink
-take 0 -> refused 2 NoSuchLink
-take 2 -> out
-frame 2 4E0000000001000001000000050003614068 -> ok
-frame 2 7200000001482c811da5d5b4bc6d497ffa98491e38 -> up a@h 5 visible
-frame 2 7200000001482c811da5d5b4bc6d497ffa98491e38 -> refused 3 BadFrame
-opened 7 -> refused 27 LinksFull
-take 2 -> out 736f6b 4e00000000010000010000007b000000040003624068 617c6a180b36896a0a8c02787eeafb0e4c
-";
+#[test]
+fn the_last_creation_is_spent(rt: HostRuntime) -> Result<(), Fail> {
+    let last = Opening {
+        creation: u32::MAX,
+        ..opening(&rt, 1_000_000)?
+    };
+    play(&rt, "creation_spent", last, scopes::CREATION_SPENT)
+}
 
-/// A node that is hidden sends no flag bit 0.
-pub const HIDDEN_NODE: &str = "\
-opened 123 -> link 1
-frame 1 4e0000000001000001000000050003614068 -> ok
-take 1 -> out 736f6b 4e00000000010000000000007b000000040003624068
-frame 1 7200000001482c811da5d5b4bc6d497ffa98491e38 -> up a@h 5 hidden
-";
+#[test]
+fn a_full_audit_takes_nothing_more(rt: HostRuntime) -> Result<(), Fail> {
+    play(&rt, "entry_limit", opening(&rt, 2)?, scopes::ENTRY_LIMIT)
+}
 
-/// A history of two entries takes nothing more, and its last link stays as it was.
-pub const FULL_HISTORY: &str = "\
-opened 123 -> link 1
-frame 1 4e0000000001000001000000050003614068 -> ok
-take 1 -> refused 1 EntriesFull
-frame 1 7200000001482c811da5d5b4bc6d497ffa98491e39 -> refused 1 EntriesFull
-opened 1 -> refused 1 EntriesFull
-";
+/// Plays a long script.
+fn meet<R: AllocGlobal + Abort>(rt: &R, name: &str, long: &Long) -> Result<(), Fail> {
+    let (script, wanted) = (long.script.as_str(), long.wanted.as_str());
+    compare(rt, name, opening(rt, 1_000_000)?, script, wanted)
+}
+
+#[test]
+fn meets_the_limits(rt: HostRuntime) -> Result<(), Fail> {
+    let alloc = rt.alloc();
+    meet(&rt, "allow_limit", &limits::allow_limit(alloc)?)?;
+    meet(&rt, "cookie_limit", &limits::cookie_limit(alloc)?)?;
+    meet(&rt, "local_row_limit", &limits::local_row_limit(alloc)?)
+}
+
+#[test]
+fn meets_the_limit_of_processes(rt: HostRuntime) -> Result<(), Fail> {
+    meet(&rt, "process_limit", &limits::process_limit(rt.alloc())?)
+}
+
+#[test]
+fn meets_the_limit_of_a_peers_rows(rt: HostRuntime) -> Result<(), Fail> {
+    meet(
+        &rt,
+        "remote_row_limit",
+        &limits::remote_row_limit(rt.alloc())?,
+    )
+}

@@ -1,12 +1,14 @@
-use Rattle.std.proofs.Common.{◌++◌, ℕ, List, ap, subst, ◌∙◌}
-use Rattle.pg_console.specs.LinkKept.{history_of}
-use Rattle.pg_console.specs.Stepped.{Stepped}
-use Rattle.pg_console.proofs.StepLemmas.{stepped_line, on_ok}
+use Rattle.std.proofs.Common.{◌≡◌, ◌++◌, ℕ, Bool, List, ap, subst, ◌∙◌, OnOk}
+use Rattle.pg_console.specs.declared.command.Command.TheVariants as command
+use Rattle.pg_console.specs.Playing.{Playing}
+use Rattle.pg_console.specs.Transcript.{answer_to, left_by}
+use Rattle.pg_console.proofs.StepLemmas.{seated, stepped_line, on_ok}
 use Rattle.pg_console.proofs.console.Console.step.Goals as goal
 
 pub returns : goal.returns
 returns c =
-    let new = history_of c.step-stepped.new.self in
-    let stepped = subst (λ h. Stepped h c.args.event new c.step-stepped.result) c.self.view_is c.step-stepped.ensures.stepped in
-    let line = stepped_line c.args.self.now c.args.event new c.step-stepped.result stepped in
-    on_ok c.put_step.result (λ out. (line.0, out ∙ ap (λ (l : List ℕ). c.args.out.now.items ++ l) line.1, line.2)) c.put_step.ensures
+    let node = c.self.inside in
+    let line = stepped_line node.core node.seat c.args.event c.step-stepped.new.self c.step-stepped.result c.step-stepped.ensures in
+    subst (λ (p : Playing). OnOk c.put_step.result ((lacks : Bool) × (c.put_step.new.out.items ≡ c.args.out.now.items ++ answer_to lacks p (command.Step c.args.event))
+    × (seated node.seat c.step-stepped.new.self ≡ left_by lacks p (command.Step c.args.event)))) c.self.view_is
+    (on_ok c.put_step.result (λ out. (line.0, out ∙ ap (λ (l : List ℕ). c.args.out.now.items ++ l) line.1, line.2)) c.put_step.ensures)

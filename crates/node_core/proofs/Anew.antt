@@ -1,0 +1,71 @@
+-- A node that begins anew.
+use Rattle.std.specs.Prelude.{◌≡◌, ℕ, ◌+◌, Bool, true, false, cond, not, ◌==◌, List, [], Option, Some, None}
+use Rattle.std.proofs.Common.{refl, ap, ◌∙◌, sym, arith}
+use Rattle.std.proofs.lemmas.Bool.{eqb-true, eq-eqb}
+use Rattle.dist_types.specs.declared.pid.Pid.{Pid}
+use Rattle.dist_types.specs.Listing.{same}
+use Rattle.group_monitors.proofs.Followed.{follows_cleared}
+use Rattle.policy_audit.specs.declared.change.Change.{Change}
+use Rattle.policy_audit.specs.declared.event.Event.TheVariants as event
+use Rattle.policy_audit.specs.declared.reply.Reply.TheVariants as reply
+use Rattle.policy_audit.specs.declared.rule.Rule.TheVariants as rule
+use Rattle.policy_audit.specs.declared.entry.Verdict.TheVariants.{Accepted}
+use Rattle.policy_audit.specs.History.{History, creation}
+use Rattle.policy_audit.specs.Checks.{checks, first_broken}
+use Rattle.policy_audit.specs.Policy.{is_full, IsNext, with_entry}
+use Rattle.policy_audit.specs.Listed.{listed}
+use Rattle.policy_audit.proofs.ChangeLemmas.{stopped_lists}
+use Rattle.policy_audit.proofs.LivesNow.{own_pid, lives_restarted}
+use Rattle.node_core.specs.declared.changes.Part.TheVariants as part
+use Rattle.node_core.specs.Parting.{ArePartings}
+use Rattle.node_core.specs.Core.{Parts, Follows}
+use Rattle.node_core.proofs.Entered.{made, accepted_now, next_now, sound_now}
+use Rattle.node_core.proofs.PartingChange.{partings_change}
+
+nothing : (b : Bool) → None ≡ cond {A = Option (List ℕ)} b None None
+nothing true = refl
+nothing false = refl
+
+module _ (h : History) (seat : ℕ) where
+  abbrev anew : List Change → History
+  anew cs = with_entry h (made h seat event.Restart (Accepted reply.Done) cs)
+
+  pub creation_spent : creation h ≡ 4294967295 → first_broken (checks h seat event.Restart) ≡ Some rule.CreationSpent
+  creation_spent q = ap (λ b. cond (not (not b)) (Some rule.CreationSpent) None) (eq-eqb (creation h) 4294967295 q)
+
+  pub creation_left : (n : ℕ) → n ≡ creation h → (n ≡ 4294967295 → ⊥) → first_broken (checks h seat event.Restart) ≡ None
+  creation_left n is q = ap (λ b. cond (not (not b)) (Some rule.CreationSpent) None) (by (creation h == 4294967295) refl)
+    where
+      by : (b : Bool) → (creation h == 4294967295) ≡ b → b ≡ false
+      by false e = refl
+      by true e = absurd (q (is ∙ eqb-true (creation h) 4294967295 e))
+
+  creation_more : (cs : List Change) → creation (anew cs) ≡ creation h + 1
+  creation_more cs = omega arith
+
+  module _ (parts : Parts) (t : Follows h parts) (cs : List Change) (gone : ArePartings part.All parts.scopes cs) where
+    pub anew_next : is_full h ≡ false → first_broken (checks h seat event.Restart) ≡ None → IsNext h (made h seat event.Restart (Accepted reply.Done) cs)
+    anew_next space holds = next_now h seat event.Restart space (Accepted reply.Done) cs (accepted_now h seat event.Restart space reply.Done holds refl)
+        (partings_change h (anew cs) part.All (λ r f g p. sym (nobody r.scope g p)) parts.scopes t.scopes (λ s stopped g p. nobody s g p) cs gone)
+      where
+        nobody : (s g : List ℕ) (p : Pid) → listed (anew cs) s g p ≡ 0
+        nobody s g p = stopped_lists (anew cs) s g p refl
+
+    pub anew_follows : IsNext h (made h seat event.Restart (Accepted reply.Done) cs) → (own cookie : List ℕ) (number : ℕ) → own ≡ h.opening.name → cookie ≡ h.opening.cookie → number ≡ parts.admission.creation + 1
+        → Follows (anew cs) (record { limit = parts.limit; admission = record { own = own; cookie = cookie; hidden = h.opening.hidden; creation = number; peers = []; allowed = [] }; processes = record { spawned = 0; live = [] }; scopes = []; links = []; monitors = [] })
+    anew_follows next own cookie number named kept more = record {
+      sound = sound_now h parts.limit _ t.sound next;
+      admission = record {
+        own = named;
+        hidden = refl;
+        creation = (let was : parts.admission.creation ≡ creation h = t.admission.creation in let is : creation (anew cs) ≡ creation h + 1 = creation_more cs in omega (arith, more, was, is));
+        own_cookie = kept;
+        cookie = λ n. nothing (same n h.opening.name);
+        peers = λ n. refl;
+        allowed = λ n. refl;
+      };
+      processes = record { spawned = refl; live = λ n. sym (lives_restarted h (made h seat event.Restart (Accepted reply.Done) cs) (record { room = next.room; number = next.number; verdict = next.verdict }) refl refl (own_pid (anew cs) n)); count = refl };
+      scopes = record { running = refl; each = tt };
+      links = record { numbers = refl; each = tt };
+      monitors = follows_cleared h _ refl refl;
+    }

@@ -1,0 +1,52 @@
+-- A node that has seen nothing.
+use Rattle.std.specs.Prelude.{◌≡◌, ℕ, zero, suc, ◌+◌, ◌<◌, ◌≤◌, ◌^◌, ◌==◌, nat_le, Bool, true, false, cond, ◌&&◌, List, [], Option, None}
+use Rattle.std.proofs.Common.{refl, ap, ◌∙◌, sym, arith}
+use Rattle.std.proofs.lemmas.Bool.{leb-true}
+use Rattle.policy_audit.proofs.UpLinks.{and_false}
+use Rattle.dist_types.specs.Listing.{same}
+use Rattle.admission_rules.specs.Admission.{AdmissionRules}
+use Rattle.group_monitors.proofs.Followed.{follows_start}
+use Rattle.policy_audit.specs.declared.opening.Opening.{Opening}
+use Rattle.policy_audit.specs.History.{past}
+use Rattle.node_core.specs.Core.{Follows}
+
+-- the rules of admission at the start
+abbrev pub first_rules : Opening → AdmissionRules
+first_rules o = record { own = o.name; cookie = o.cookie; hidden = o.hidden; creation = o.creation; peers = []; allowed = [] }
+
+neither : (b : Bool) → ◌≡◌ {A = Option (List ℕ)} None (cond b None None)
+neither true = refl
+neither false = refl
+
+-- no process was spawned
+none_numbered : (n : ℕ) → (nat_le 1 n && nat_le n 0) ≡ false
+none_numbered zero = refl
+none_numbered (suc n) = ap (λ b. nat_le 1 (suc n) && b) (by (nat_le (suc n) 0) refl) ∙ and_false (nat_le 1 (suc n))
+  where
+    by : (b : Bool) → nat_le (suc n) 0 ≡ b → b ≡ false
+    by true q = absurd (let less : suc n ≤ 0 = leb-true (suc n) 0 q in omega (arith, less))
+    by false q = refl
+
+none_lives : (a b c : Bool) → (b && c) ≡ false → false ≡ (a && b && c && true)
+none_lives true true true q = sym q
+none_lives true true false q = refl
+none_lives true false c q = refl
+none_lives false b c q = refl
+
+pub begun : (o : Opening) → o.entries < 2 ^ 32 → Follows (past o []) (record { limit = o.entries; admission = first_rules o; processes = record { spawned = 0; live = [] }; scopes = []; links = []; monitors = [] })
+begun o fits = record {
+  sound = record { legal = tt; limit_is = refl; fits = fits; few = omega arith; few_spawned = omega arith };
+  admission = record {
+    own = refl;
+    hidden = refl;
+    creation = omega arith;
+    own_cookie = refl;
+    cookie = λ n. neither (same n o.name);
+    peers = λ n. refl;
+    allowed = λ n. refl;
+  };
+  processes = record { spawned = refl; live = λ n. none_lives (same o.name o.name && o.creation + 0 == o.creation + 0) (nat_le 1 n) (nat_le n 0) (none_numbered n); count = refl };
+  scopes = record { running = refl; each = tt };
+  links = record { numbers = refl; each = tt };
+  monitors = follows_start o;
+}

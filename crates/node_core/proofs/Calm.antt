@@ -1,0 +1,159 @@
+-- Entries that leave alone all that a node keeps.
+use Rattle.std.specs.Prelude.{◌≡◌, ℕ, Bool, true, false, cond, ◌&&◌, ◌||◌, not, ◌==◌, List, [], ◌∷◌, ◌++◌, ◌+◌, length, reverse}
+use Rattle.std.proofs.Common.{refl, ap, ◌∙◌, sym, subst}
+use Rattle.std.proofs.lemmas.Bool.{eqb-true}
+use Rattle.std.specs.List.{filter}
+use Rattle.std.specs.Option.{unwrap_or}
+use Rattle.dist_types.specs.Difference.{is_empty}
+use Rattle.policy_audit.specs.declared.event.Event.{Event}
+use Rattle.policy_audit.specs.declared.event.Event.TheVariants as event
+use Rattle.policy_audit.specs.declared.reply.Reply.{Reply}
+use Rattle.policy_audit.specs.declared.rule.Rule.{Rule}
+use Rattle.policy_audit.specs.declared.entry.Verdict.TheVariants.{Accepted, Refused}
+use Rattle.policy_audit.specs.declared.entry.Entry.{Entry}
+use Rattle.group_monitors.specs.Follows.{concerns_monitors}
+use Rattle.group_monitors.proofs.Followed.{follows_other}
+use Rattle.policy_audit.specs.History.{is_accepted, History, first_of}
+use Rattle.policy_audit.specs.Sides.{is_whole}
+use Rattle.policy_audit.specs.Links.{is_open, links, ends}
+use Rattle.policy_audit.specs.Hearing.{hears, tells, talk}
+use Rattle.policy_audit.specs.Changes.{IsChange}
+use Rattle.policy_audit.specs.Owed.{refusal_owes, waiting, owed}
+use Rattle.policy_audit.specs.Policy.{with_entry, IsNext}
+use Rattle.policy_audit.specs.Effects.{is_quiet}
+use Rattle.policy_audit.proofs.Accepted.{lie}
+use Rattle.policy_audit.proofs.Effects.{entry_rows}
+use Rattle.policy_audit.proofs.UpLinks.{and_left, and_right}
+use Rattle.std.proofs.lemmas.List.{append-nil}
+use Rattle.policy_audit.specs.Own.{running_scopes}
+use Rattle.node_core.specs.LinkFacts.{LinksFollow}
+use Rattle.node_core.specs.ScopeFacts.{ScopesFollow}
+use Rattle.node_core.specs.ProcessFacts.{ProcessesFollow}
+use Rattle.node_core.specs.AdmissionFacts.{AdmissionFollows}
+use Rattle.policy_audit.proofs.ChangeLemmas.{no_change}
+use Rattle.node_core.specs.LinkFacts.{facts, link_words}
+use Rattle.node_core.specs.ScopeFacts.{scope_words}
+use Rattle.node_core.specs.ProcessFacts.{process_words}
+use Rattle.node_core.specs.AdmissionFacts.{admission_words}
+use Rattle.node_core.specs.Core.{Parts, Follows}
+use Rattle.node_core.specs.Calm.{is_query, refuses_calmly}
+use Rattle.node_core.proofs.Entered.{made, sound_now}
+
+-- all that the policy's words say of what a node keeps is the same after k as after h
+pub record IsSame (h k : History) : Type 0 where
+  pub admission : admission_words k ≡ admission_words h
+  pub processes : process_words k ≡ process_words h
+  pub scopes : scope_words k ≡ scope_words h
+  pub links : link_words k ≡ link_words h
+
+pub follows_same : (h : History) (e : Entry) (parts : Parts) → IsSame h (with_entry h e) → (is_accepted e.verdict && concerns_monitors e.event) ≡ false → IsNext h e → Follows h parts → Follows (with_entry h e) parts
+follows_same h e parts same calm next t = record {
+  sound = sound_now h parts.limit e t.sound next;
+  admission = subst (λ w. AdmissionFollows w parts.admission) (sym same.admission) t.admission;
+  processes = subst (λ w. ProcessesFollow w parts.processes) (sym same.processes) t.processes;
+  scopes = subst (λ w. ScopesFollow w parts.scopes) (sym same.scopes) t.scopes;
+  links = subst (λ w. LinksFollow w parts.links) (sym same.links) t.links;
+  monitors = follows_other h e parts.monitors next.number t.monitors calm;
+}
+
+pub nothing_behind : {A : Type 0} (xs ys : List A) → ys ≡ [] → xs ++ ys ≡ xs
+nothing_behind xs ys q = ap (λ zs. xs ++ zs) q ∙ append-nil xs
+
+-- the words of all links, link by link
+pub same_links : (h k : History) → links k.entries ≡ links h.entries → ((l : ℕ) → facts k l ≡ facts h l) → ((l : ℕ) → waiting k l ≡ waiting h l) → link_words k ≡ link_words h
+same_links h k numbers same frames = λ i. record {
+  numbers = reverse (filter (λ l. (same l i).open_now || not (is_empty (frames l i))) (numbers i));
+  facts = λ l. same l i;
+  waiting = λ l. frames l i;
+}
+
+-- ---- refusals
+
+whole_stays : (o w : Bool) → (not o || w) ≡ true → (not (true && not w) && o) ≡ o
+whole_stays true true q = refl
+whole_stays true false q = lie (sym q)
+whole_stays false true q = refl
+whole_stays false false q = refl
+
+empty_is : {A : Type 0} (xs : List A) → is_empty xs ≡ true → xs ≡ []
+empty_is [] q = refl
+empty_is (x ∷ xs) q = lie (sym q)
+
+opens_still : (h : History) (l : ℕ) (r : Rule) (ev : Event) → refuses_calmly h ev r ≡ true → (not (ends l h.entries (Refused r) ev) && is_open l h.entries) ≡ is_open l h.entries
+opens_still h l r (event.Frame j body) calm = by (j == l) refl
+  where
+    by : (b : Bool) → (j == l) ≡ b → (not (j == l && not (is_whole l h.entries)) && is_open l h.entries) ≡ is_open l h.entries
+    by false q = ap (λ b. not (b && not (is_whole l h.entries)) && is_open l h.entries) q
+    by true q =
+        ap (λ b. not (b && not (is_whole l h.entries)) && is_open l h.entries) q
+        ∙ whole_stays (is_open l h.entries) (is_whole l h.entries) (subst (λ x. (not (is_open x h.entries) || is_whole x h.entries) ≡ true) (eqb-true j l q) (and_left _ _ calm))
+opens_still h l r ev calm = refl
+
+waits_still : (h : History) (l : ℕ) (r : Rule) (ev : Event) → refuses_calmly h ev r ≡ true → (waiting h l ++ owed h l (length h.entries + 1) ev (Refused r)) ≡ waiting h l
+waits_still h l r (event.Frame j body) calm = nothing_behind (waiting h l) (cond (j == l) (refusal_owes r) []) (by (j == l))
+  where
+    by : (b : Bool) → cond b (refusal_owes r) [] ≡ []
+    by true = empty_is (refusal_owes r) (and_right (not (is_open j h.entries) || is_whole j h.entries) _ calm)
+    by false = refl
+waits_still h l r ev calm = append-nil (waiting h l)
+
+module _ (h : History) (seat : ℕ) (ev : Event) (r : Rule) (calm : refuses_calmly h ev r ≡ true) where
+  abbrev k : History
+  k = with_entry h (made h seat ev (Refused r) [])
+
+  still_open : (l : ℕ) → is_open l k.entries ≡ is_open l h.entries
+  still_open l = opens_still h l r ev calm
+
+  still_waiting : (l : ℕ) → waiting k l ≡ waiting h l
+  still_waiting l = waits_still h l r ev calm
+
+  same_facts : (l : ℕ) → facts k l ≡ facts h l
+  same_facts l = λ i. record (facts h l) { open_now = still_open l i }
+
+  pub refused_same : IsSame h k
+  refused_same = record {
+    admission = refl;
+    processes = refl;
+    scopes = λ i. record {
+      own = h.opening.name;
+      running = running_scopes h;
+      listed = λ s g p. entry_rows h (made h seat ev (Refused r) []) refl s g p i;
+      heard = λ l s. (still_open l i && is_whole l h.entries) && unwrap_or (first_of (hears s) (talk l h.entries)) false;
+      told = λ l s. (still_open l i && is_whole l h.entries) && unwrap_or (first_of (tells s) (talk l h.entries)) false;
+    };
+    links = same_links h k refl same_facts still_waiting;
+  }
+
+  pub refused_change : IsChange h k []
+  refused_change = no_change h k (λ s g p. sym (entry_rows h (made h seat ev (Refused r) []) refl s g p))
+
+-- ---- queries
+
+-- the history with an accepted entry that changes no row
+abbrev pub answered : History → ℕ → Event → Reply → History
+answered h seat ev r = with_entry h (made h seat ev (Accepted r) [])
+
+module _ (h : History) (seat : ℕ) (r : Reply) where
+  pub query_same : (ev : Event) → is_query ev ≡ true → IsSame h (answered h seat ev r)
+  query_same (event.Members s g) q = record { admission = refl; processes = refl; scopes = refl; links = same_links h (answered h seat (event.Members s g) r) refl (λ l. refl) (λ l. append-nil (waiting h l)) }
+  query_same (event.LocalMembers s g) q = record { admission = refl; processes = refl; scopes = refl; links = same_links h (answered h seat (event.LocalMembers s g) r) refl (λ l. refl) (λ l. append-nil (waiting h l)) }
+  query_same (event.Groups s) q = record { admission = refl; processes = refl; scopes = refl; links = same_links h (answered h seat (event.Groups s) r) refl (λ l. refl) (λ l. append-nil (waiting h l)) }
+  query_same (event.LocalGroups s) q = record { admission = refl; processes = refl; scopes = refl; links = same_links h (answered h seat (event.LocalGroups s) r) refl (λ l. refl) (λ l. append-nil (waiting h l)) }
+  query_same ev q = lie (sym q)
+
+  pub quiet_change : (ev : Event) → is_quiet ev ≡ true → IsChange h (answered h seat ev r) []
+  quiet_change ev q = no_change h _ (λ s g p. sym (entry_rows h (made h seat ev (Accepted r) []) q s g p))
+
+  pub query_change : (ev : Event) → is_query ev ≡ true → IsChange h (answered h seat ev r) []
+  query_change (event.Members s g) q = quiet_change (event.Members s g) refl
+  query_change (event.LocalMembers s g) q = quiet_change (event.LocalMembers s g) refl
+  query_change (event.Groups s) q = quiet_change (event.Groups s) refl
+  query_change (event.LocalGroups s) q = quiet_change (event.LocalGroups s) refl
+  query_change ev q = lie (sym q)
+
+  pub query_watches : (ev : Event) → is_query ev ≡ true → concerns_monitors ev ≡ false
+  query_watches (event.Members s g) q = refl
+  query_watches (event.LocalMembers s g) q = refl
+  query_watches (event.Groups s) q = refl
+  query_watches (event.LocalGroups s) q = refl
+  query_watches ev q = lie (sym q)

@@ -1,0 +1,154 @@
+-- The kept links after one has come up: the older link of its peer is gone.
+use Rattle.std.specs.Prelude.{◌≡◌, ℕ, ◌==◌, nat_eq, Bool, true, false, cond, ◌&&◌, not, List, [], ◌++◌, Option, Some, None, find, is_some}
+use Rattle.std.proofs.Common.{refl, ap, ◌∙◌, sym}
+use Rattle.std.proofs.lemmas.Bool.{eq-eqb, eqb-true}
+use Rattle.std.specs.Option.{option_map, option_map_or, unwrap_or}
+use Rattle.dist_types.specs.Listing.{same}
+use Rattle.dist_types.proofs.Orders.{same_decides}
+use Rattle.link_states.specs.States.{Linked}
+use Rattle.policy_audit.specs.declared.entry.Entry.{Entry}
+use Rattle.policy_audit.specs.declared.event.Event.TheVariants as event
+use Rattle.policy_audit.specs.History.{History, is_accepted}
+use Rattle.policy_audit.specs.Sides.{awaits, is_peer, is_whole, peer_of, present_link}
+use Rattle.policy_audit.specs.Links.{is_open, is_up}
+use Rattle.policy_audit.specs.Owed.{discovers, frame_owes, waiting}
+use Rattle.policy_audit.specs.Policy.{IsAnswered, IsLegal, with_entry}
+use Rattle.policy_audit.proofs.Accepted.{lie, no_value}
+use Rattle.policy_audit.proofs.LinkFrames.{proved_links, replaced_by}
+use Rattle.policy_audit.proofs.LinksLeft.{proved_numbers}
+use Rattle.policy_audit.proofs.UpLinks.{agrees, and_both, and_false, and_left, and_right, number_of}
+use Rattle.node_core.specs.declared.link_state.LinkState.TheVariants as state
+use Rattle.node_core.specs.Handshakes.{older_of}
+use Rattle.node_core.specs.LinkFacts.{kept_numbers, link_words, IsLinkOf, LinksFollow}
+use Rattle.node_core.specs.Links.{KeptLink, narrow_frames, up_peer}
+use Rattle.node_core.proofs.Found.{found_in, none_found}
+use Rattle.node_core.proofs.FrameFacts.{other_facts, own_awaits, same_stay, still_introduced}
+use Rattle.node_core.proofs.MovedOn.{AreMoves, stays_but}
+use Rattle.node_core.proofs.Pendings.{up_among, up_is_state}
+use Rattle.node_core.proofs.ProofChecked.{ComesUp}
+
+-- a peer by the test is the peer
+pub peer_by_test : (n : List ℕ) (x : Option (List ℕ)) → option_map_or (λ m. same m n) x false ≡ true → x ≡ Some n
+peer_by_test n None q = lie (sym q)
+peer_by_test n (Some m) q = ap Some ((same_decides m n).0 q)
+
+no_link : (x : Option ℕ) → is_some x ≡ false → x ≡ None
+no_link None q = refl
+no_link (Some l) q = lie q
+
+module _ (h : History) (legal : IsLegal h) (n : List ℕ) where
+  -- a link of n that is up is the present one
+  pub is_present : (l : ℕ) → is_up l h.entries ≡ true → is_peer n l h.entries ≡ true → present_link n h.entries ≡ Some l
+  is_present l up of = (agrees h.opening h.entries legal n l).1 (up, peer_by_test n (peer_of l h.entries) of)
+
+  -- the link that is up with n, among those that are kept
+  pub older_present : (kept : List KeptLink) → LinksFollow (link_words h) kept → older_of n kept ≡ present_link n h.entries
+  older_present kept t = by (find (λ (y : KeptLink). option_map_or (λ m. same m n) (up_peer y.state) false) kept) refl
+    where
+      by : (x : Option KeptLink) → find (λ y. option_map_or (λ m. same m n) (up_peer y.state) false) kept ≡ x → option_map (λ y. y.number) (find (λ y. option_map_or (λ m. same m n) (up_peer y.state) false) kept) ≡ present_link n h.entries
+      by None q =
+          ap (option_map (λ (y : KeptLink). y.number)) q
+          ∙ sym (no_link (present_link n h.entries) (sym (up_among h legal kept t n) ∙ none_found (λ (y : KeptLink). option_map_or (λ m. same m n) (up_peer y.state) false) kept q))
+      by (Some x) q =
+          let found = found_in (λ (y : KeptLink). option_map_or (λ m. same m n) (up_peer y.state) false) (IsLinkOf (link_words h)) kept t.each x q in
+          let both = sym (up_is_state h x.number n x.state found.1.state) ∙ found.0 in
+          ap (option_map (λ (y : KeptLink). y.number)) q
+          ∙ sym (is_present x.number (and_left (is_up x.number h.entries) (is_peer n x.number h.entries) both) (and_right (is_up x.number h.entries) (is_peer n x.number h.entries) both))
+
+  module _ (j : ℕ) (unwhole : is_whole j h.entries ≡ false) where
+    -- the last frame of link j ends the present link of n, and no other
+    pub replaced_is : (l : ℕ) → not (is_open l h.entries && replaced_by j n h.entries l) ≡ stays_but (present_link n h.entries) l
+    replaced_is l = by (present_link n h.entries) refl
+      where
+        its : (is_open l h.entries && replaced_by j n h.entries l) ≡ true → present_link n h.entries ≡ Some l
+        its q =
+            let inner = and_right (is_open l h.entries) (replaced_by j n h.entries l) q in
+            let apart_whole = and_left (not (j == l) && is_whole l h.entries) (is_peer n l h.entries) inner in
+            is_present l (and_both (is_open l h.entries) (is_whole l h.entries) (and_left (is_open l h.entries) (replaced_by j n h.entries l) q) (and_right (not (j == l)) (is_whole l h.entries) apart_whole))
+            (and_right (not (j == l) && is_whole l h.entries) (is_peer n l h.entries) inner)
+
+        none : (b : Bool) → (is_open l h.entries && replaced_by j n h.entries l) ≡ b → present_link n h.entries ≡ None → not b ≡ true
+        none false q p = refl
+        none true q p = no_value (sym (its q) ∙ p)
+
+        -- the present link is another than j
+        present : (m : ℕ) → present_link n h.entries ≡ Some m → l ≡ m → (is_open l h.entries && replaced_by j n h.entries l) ≡ true
+        present m p q =
+            let here = (agrees h.opening h.entries legal n l).0 (p ∙ ap Some (sym q)) in
+            let opens = and_left (is_open l h.entries) (is_whole l h.entries) here.0 in
+            let whole = and_right (is_open l h.entries) (is_whole l h.entries) here.0 in
+            let of = ap (λ x. option_map_or (λ k. same k n) x false) here.1 ∙ (same_decides n n).1 refl in
+            λ i. opens i && (not (apart (j == l) refl i) && whole i && of i)
+          where
+            apart : (b : Bool) → (j == l) ≡ b → (j == l) ≡ false
+            apart false e = e
+            apart true e = lie (sym (and_right (is_open l h.entries) (is_whole l h.entries) ((agrees h.opening h.entries legal n l).0 (p ∙ ap Some (sym q))).0) ∙ sym (ap (λ x. is_whole x h.entries) (eqb-true j l e)) ∙ unwhole)
+
+        some : (m : ℕ) → present_link n h.entries ≡ Some m → (a : Bool) → (is_open l h.entries && replaced_by j n h.entries l) ≡ a → (b : Bool) → nat_eq l m ≡ b → not a ≡ not b
+        some m p true q true e = refl
+        some m p false q false e = refl
+        some m p true q false e = lie (sym (eq-eqb l m (number_of l m (sym (its q) ∙ p))) ∙ e)
+        some m p false q true e = lie (sym (present m p (eqb-true l m e)) ∙ q)
+
+        by : (x : Option ℕ) → present_link n h.entries ≡ x → not (is_open l h.entries && replaced_by j n h.entries l) ≡ stays_but (present_link n h.entries) l
+        by None p = none (is_open l h.entries && replaced_by j n h.entries l) refl p ∙ sym (ap (λ x. stays_but x l) p)
+        by (Some m) p = some m p (is_open l h.entries && replaced_by j n h.entries l) refl (nat_eq l m) refl ∙ sym (ap (λ x. stays_but x l) p)
+
+    -- what is so over links that are up alone, is so over those that stay: j itself is not up
+    pub but_replaced : (l : ℕ) (b : Bool) → (b ≡ true → is_up l h.entries ≡ true) → (b && not (replaced_by j n h.entries l)) ≡ (b && not (nat_eq l (unwrap_or (present_link n h.entries) j)))
+    but_replaced l false up = refl
+    but_replaced l true up =
+        let here = up refl in
+        let opens = and_left (is_open l h.entries) (is_whole l h.entries) here in
+        ap (λ b. not (b && replaced_by j n h.entries l)) (sym opens) ∙ replaced_is l ∙ by (present_link n h.entries)
+      where
+        apart : (b : Bool) → nat_eq l j ≡ b → nat_eq l j ≡ false
+        apart false e = e
+        apart true e = lie (sym (and_right (is_open l h.entries) (is_whole l h.entries) (up refl)) ∙ ap (λ x. is_whole x h.entries) (eqb-true l j e) ∙ unwhole)
+
+        by : (x : Option ℕ) → stays_but x l ≡ not (nat_eq l (unwrap_or x j))
+        by None = sym (ap not (apart (nat_eq l j) refl))
+        by (Some m) = refl
+
+module _ (h : History) (legal : IsLegal h) (j : ℕ) (body : List ℕ) (up : Linked) (frames : List (List ℕ)) (c : ComesUp h j body up frames)
+    (e : Entry) (answered : IsAnswered h e) (yes : is_accepted e.verdict ≡ true) (is : e.event ≡ event.Frame j body) where
+  abbrev k : History
+  k = with_entry h e
+
+  stays : (l : ℕ) → stays_but (present_link up.peer h.entries) l ≡ true → (is_open l h.entries && replaced_by j up.peer h.entries l) ≡ false
+  stays l q = by (is_open l h.entries && replaced_by j up.peer h.entries l) refl
+    where
+      by : (b : Bool) → (is_open l h.entries && replaced_by j up.peer h.entries l) ≡ b → b ≡ false
+      by false w = refl
+      by true w = lie (sym q ∙ sym (replaced_is h legal up.peer j c.unwhole l) ∙ ap not w)
+
+  plain : (a b : Bool) → (a && b) ≡ false → (a && not b) ≡ a
+  plain false b w = refl
+  plain true false w = refl
+  plain true true w = lie w
+
+  open_still : (l : ℕ) → stays_but (present_link up.peer h.entries) l ≡ true → is_open l k.entries ≡ is_open l h.entries
+  open_still l q = (proved_links h e answered yes j body is up.peer c.last c.known.peer.peer l).open_is ∙ plain (is_open l h.entries) (replaced_by j up.peer h.entries l) (stays l q)
+
+  own_stays : (is_open j h.entries && replaced_by j up.peer h.entries j) ≡ false
+  own_stays = ap (λ b. is_open j h.entries && (not b && is_whole j h.entries && is_peer up.peer j h.entries)) (eq-eqb j j refl) ∙ and_false (is_open j h.entries)
+
+  own_open : is_open j k.entries ≡ is_open j h.entries
+  own_open = (proved_links h e answered yes j body is up.peer c.last c.known.peer.peer j).open_is ∙ plain (is_open j h.entries) (replaced_by j up.peer h.entries j) own_stays
+
+  pub came_up_moves : AreMoves h k j (state.Up up) (narrow_frames frames ++ discovers h j) (stays_but (present_link up.peer h.entries))
+  came_up_moves = record {
+    state =
+        let on = c.on e answered yes is in
+        (own_awaits h e answered yes j body is on own_open, still_introduced h e answered yes j body is on up.peer up.creation up.visible up.proof c.known);
+    frames =
+        (proved_links h e answered yes j body is up.peer c.last c.known.peer.peer j).waiting_is
+        ∙ (λ i. cond (own_stays i) [] (cond (eq-eqb j j refl i) (waiting h j ++ c.owes i) (waiting h j)));
+    others = λ l apart q. other_facts h e answered yes j body is l apart (open_still l q);
+    waits = λ l apart q.
+        (proved_links h e answered yes j body is up.peer c.last c.known.peer.peer l).waiting_is
+        ∙ (λ i. cond (stays l q i) [] (cond (apart i) (waiting h l ++ frame_owes h l body (awaits l h.entries)) (waiting h l)));
+    numbers =
+        proved_numbers h e yes answered j body is up.peer c.last c.known.peer.peer
+        ∙ same_stay (λ l. not (is_open l h.entries && replaced_by j up.peer h.entries l)) (stays_but (present_link up.peer h.entries)) (kept_numbers h) (replaced_is h legal up.peer j c.unwhole);
+  }

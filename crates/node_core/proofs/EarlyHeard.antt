@@ -1,0 +1,188 @@
+-- The node after an accepted frame that isn't the last of a handshake.
+use Rattle.std.specs.Prelude.{◌≡◌, ℕ, Bool, true, false, cond, not, List, [], Option, Some, None}
+use Rattle.std.proofs.Common.{refl, ap, ◌∙◌, sym, subst}
+use Rattle.std.specs.Option.{option_map}
+use Rattle.dist_types.specs.Flags.{has_bit}
+use Rattle.dist_types.specs.Listing.{same}
+use Rattle.dist_types.specs.Text.{is_node_name}
+use Rattle.dist_types.proofs.Orders.{same_decides}
+use Rattle.handshake_frames.specs.Frame.{Name, Challenge}
+use Rattle.handshake_frames.specs.declared.frame.StatusWord.{StatusWord}
+use Rattle.handshake_frames.specs.Reading.{name_frame, challenge_frame, reply_frame, ack_frame, status_of}
+use Rattle.admission_rules.specs.Admission.{AdmissionRules}
+use Rattle.link_states.specs.declared.pending.Pending.{Pending}
+use Rattle.link_states.specs.declared.state_rule.StateRule.{StateRule}
+use Rattle.link_states.specs.Checks as state_checked
+use Rattle.link_states.specs.Frames.{status_owed, reply_owed}
+use Rattle.link_states.specs.Named.{named_by}
+use Rattle.link_states.specs.Peer.{found}
+use Rattle.link_states.specs.States.{Dialled}
+use Rattle.link_states.specs.Pending.{is_up, is_dialled}
+use Rattle.policy_audit.specs.declared.event.Event.TheVariants as event
+use Rattle.policy_audit.specs.declared.reply.Reply.TheVariants as reply
+use Rattle.policy_audit.specs.declared.rule.Rule.{Rule}
+use Rattle.policy_audit.specs.declared.rule.Rule.TheVariants as rule
+use Rattle.policy_audit.specs.declared.entry.Verdict.TheVariants.{Accepted}
+use Rattle.policy_audit.specs.declared.entry.Entry.{Entry}
+use Rattle.policy_audit.specs.History.{History}
+use Rattle.dist_types.specs.declared.pid.Pid.{Pid}
+use Rattle.policy_audit.specs.Listed.{listed}
+use Rattle.policy_audit.specs.Own.{running_scopes}
+use Rattle.policy_audit.specs.Sides.{is_name_up, Awaited, awaits, is_last}
+use Rattle.policy_audit.specs.Links.{is_open, is_dialling}
+use Rattle.policy_audit.specs.Checks.{checks, first_broken, frame_checks, always}
+use Rattle.policy_audit.specs.Policy.{is_full, up_answer, verdict, with_entry, IsAnswered, IsLegal, IsNext}
+use Rattle.policy_audit.proofs.Accepted.{lie, no_value}
+use Rattle.policy_audit.proofs.ChangeLemmas.{no_change}
+use Rattle.policy_audit.proofs.Finished.{is_message}
+use Rattle.policy_audit.proofs.HeardNow.{framed_heard}
+use Rattle.policy_audit.proofs.RowsAfter.{unfinished_rows}
+use Rattle.node_core.specs.declared.hearing.Heard.{Heard}
+use Rattle.node_core.specs.declared.hearing.Heard.TheVariants as heard
+use Rattle.node_core.specs.declared.link_state.LinkState.{LinkState}
+use Rattle.node_core.specs.declared.link_state.LinkState.TheVariants as state
+use Rattle.node_core.specs.AdmissionFacts.{admission_words, AdmissionFollows}
+use Rattle.node_core.specs.Hearing.{rule_of, is_handshake, state_checks, accepted_as, heard_named}
+use Rattle.node_core.specs.LinkFacts.{facts, link_words, IsState, LinksFollow}
+use Rattle.node_core.specs.Links.{KeptLink, dialled_peer, dial_beside, narrow_frames}
+use Rattle.node_core.specs.ScopeFacts.{scope_words}
+use Rattle.node_core.proofs.EarlyMoves.{answer_moves, status_moves, challenge_moves}
+use Rattle.node_core.proofs.Entered.{made, accepted_now, answered_now}
+use Rattle.node_core.proofs.Found.{some_is}
+use Rattle.node_core.proofs.FrameRules.{name_rules, answer_rules, reply_rules, status_rules, challenge_rules, ack_rules}
+use Rattle.node_core.proofs.MovedOn.{AreMoves, stays_but}
+use Rattle.node_core.proofs.NameMoves.{Goes, name_goes}
+
+-- a state in which a frame that isn't the last is awaited
+abbrev pub is_early : LinkState → Bool
+is_early (state.Name c) = true
+is_early (state.Answer s) = true
+is_early (state.Status dial) = true
+is_early (state.Challenge dial) = true
+is_early s = false
+
+-- a check that isn't broken, and the others
+passes : (b : Bool) (r : StateRule) (x : Option StateRule) → cond (not b) (Some r) x ≡ None → (b ≡ true) × (x ≡ None)
+passes true r x q = (refl, q)
+passes false r x q = no_value q
+
+unbroken_not : (b : Bool) → not b ≡ true → b ≡ false
+unbroken_not true n = sym n
+unbroken_not false n = refl
+
+-- an accepted Name isn't the own one
+not_own : (rules : AdmissionRules) (pending : Pending) (f : Name) → state_checked.first_broken (state_checked.name_checks rules pending (Some f)) ≡ None → same f.name rules.own ≡ false
+not_own rules pending f holds =
+    let flags = passes (has_bit 24 f.flags) _ _ holds in
+    let fixed = passes (not (has_bit 33 f.flags)) _ _ flags.1 in
+    let proper = passes (is_node_name f.name) _ _ fixed.1 in
+    unbroken_not (same f.name rules.own) (passes (not (same f.name rules.own)) _ _ proper.1).0
+
+no_rule : (x : Option StateRule) (y : Option Rule) → y ≡ option_map rule_of x → x ≡ None → y ≡ None
+no_rule x y q none = q ∙ ap (option_map rule_of) none
+
+module _ (h : History) (rules : AdmissionRules) (t : AdmissionFollows (admission_words h) rules) (pending : Pending) (seat j : ℕ) (body : List ℕ) where
+  abbrev their_checks : LinkState → Option Rule
+  their_checks s = option_map rule_of (state_checked.first_broken (state_checks rules pending s body))
+
+  checks_of : (open_now : is_open j h.entries ≡ true) (a : Awaited) → awaits j h.entries ≡ a → first_broken (checks h seat (event.Frame j body)) ≡ first_broken (frame_checks h j body a)
+  checks_of opens a awaited = λ i. first_broken (cond (opens i) (frame_checks h j body (awaited i)) (always rule.NoSuchLink))
+
+  -- the rules of the last frame
+  pub last_rules : (s : LinkState) → is_handshake s ≡ true → is_early s ≡ false → IsState (facts h j) s → first_broken (checks h seat (event.Frame j body)) ≡ their_checks s
+  last_rules (state.Reply s) q late a = checks_of a.0.open_now _ a.0.awaited ∙ reply_rules h rules t j s.peer a.1.peer.peer s.challenge a.1.challenge (reply_frame body)
+  last_rules (state.Ack s) q late a = checks_of a.0.open_now _ a.0.awaited ∙ ack_rules h rules t j s.peer a.1.peer.peer s.challenge a.1.challenge (ack_frame body)
+  last_rules (state.Up up) q late a = lie (sym q)
+  last_rules state.Ended q late a = lie (sym q)
+  last_rules s q late a = lie late
+
+  module _ (ups : (n : List ℕ) → is_up pending n ≡ is_name_up n h.entries) (dials : (n : List ℕ) → is_dialled pending n ≡ is_dialling n h.entries) where
+    pub early_rules : (s : LinkState) → is_early s ≡ true → IsState (facts h j) s → first_broken (checks h seat (event.Frame j body)) ≡ their_checks s
+    early_rules (state.Name c) q a = checks_of a.0.open_now _ a.0.awaited ∙ name_rules h rules t pending ups dials (name_frame body)
+    early_rules (state.Answer s) q a = checks_of a.0.open_now _ a.0.awaited ∙ answer_rules h rules t (status_of body)
+    early_rules (state.Status dial) q a = checks_of a.0.open_now _ a.0.awaited ∙ status_rules h rules t j dial.peer a.1.peer.peer pending ups (status_of body)
+    early_rules (state.Challenge dial) q a = checks_of a.0.open_now _ a.0.awaited ∙ challenge_rules h rules t j dial.peer a.1.peer.peer (challenge_frame body)
+    early_rules s q a = lie (sym q)
+
+    -- what was awaited
+    pub early_awaits : (s : LinkState) → is_early s ≡ true → IsState (facts h j) s → is_last (awaits j h.entries) ≡ false
+    early_awaits (state.Name c) q a = ap is_last a.0.awaited
+    early_awaits (state.Answer s) q a = ap is_last a.0.awaited
+    early_awaits (state.Status dial) q a = ap is_last a.0.awaited
+    early_awaits (state.Challenge dial) q a = ap is_last a.0.awaited
+    early_awaits s q a = lie (sym q)
+
+    pub early_unlike : (s : LinkState) → is_early s ≡ true → IsState (facts h j) s → is_message (awaits j h.entries) ≡ false
+    early_unlike (state.Name c) q a = ap is_message a.0.awaited
+    early_unlike (state.Answer s) q a = ap is_message a.0.awaited
+    early_unlike (state.Status dial) q a = ap is_message a.0.awaited
+    early_unlike (state.Challenge dial) q a = ap is_message a.0.awaited
+    early_unlike s q a = lie (sym q)
+
+    -- the entry
+    abbrev pub e : Entry
+    e = made h seat (event.Frame j body) (Accepted reply.Done) []
+
+    abbrev pub k : History
+    k = with_entry h e
+
+    module _ (answered : IsAnswered h e) (kept : List KeptLink) (follow : LinksFollow (link_words h) kept) (legal : IsLegal h) (old : List KeptLink) where
+      -- a Name is not the own one
+      named : (c : ℕ) (a : IsState (facts h j) (state.Name c)) (beside : (now : LinkState) → dial_beside now old ≡ dial_beside now kept) (x : Option Name) → name_frame body ≡ x
+          → state_checked.first_broken (state_checked.name_checks rules pending x) ≡ None → (r : Heard) → option_map (λ f. heard_named (named_by rules pending c f)) x ≡ Some r → Goes h k j old r
+      named c a beside None said holds r q = no_value (sym q)
+      named c a beside (Some f) said holds r q = subst (Goes h k j old) (some_is q) (over (heard_named (named_by rules pending c f))
+          (name_goes h legal rules t e answered refl j body refl c a f said other kept follow pending (ups f.name) (dials f.name)))
+        where
+          over : (r : Heard) → Goes h k j kept r → Goes h k j old r
+          over (heard.On now frames gives_up) moves = subst (λ o. AreMoves h k j now (narrow_frames frames) (stays_but (cond gives_up o None))) (sym (beside now)) moves
+          over (heard.Up up frames) moves = tt
+          over (heard.Ended r frames) moves = tt
+          over (heard.OutOfMemory s) moves = tt
+
+          other : same f.name h.opening.name ≡ false
+          other = ap (same f.name) (sym t.own) ∙ not_own rules pending f holds
+
+      said_status : (dial : Dialled) (a : IsState (facts h j) (state.Status dial)) (x : Option StatusWord) → status_of body ≡ x
+          → (r : Heard) → option_map (λ w. heard.On (state.Challenge dial) (status_owed w) false) x ≡ Some r → Goes h k j old r
+      said_status dial a None said r q = no_value (sym q)
+      said_status dial a (Some w) said r q = subst (Goes h k j old) (some_is q) (status_moves h rules t e answered refl j body refl dial w said a)
+
+      asked : (dial : Dialled) (a : IsState (facts h j) (state.Challenge dial)) (x : Option Challenge) → challenge_frame body ≡ x → state_checked.first_broken (state_checked.challenge_checks dial.peer x) ≡ None
+          → (r : Heard) → option_map (λ f. heard.On (state.Ack (found rules dial f)) (reply_owed rules dial.peer dial.challenge f.challenge) false) x ≡ Some r → Goes h k j old r
+      asked dial a None said holds r q = no_value (sym q)
+      asked dial a (Some f) said holds r q =
+          let flags = passes _ _ _ holds in
+          let its = passes _ _ _ flags.1 in
+          subst (Goes h k j old) (some_is q) (challenge_moves h rules t e answered refl j body refl dial f said ((same_decides f.name dial.peer).0 its.0) a)
+
+      pub early_goes : (s : LinkState) → is_early s ≡ true → (a : IsState (facts h j) s) → state_checked.first_broken (state_checks rules pending s body) ≡ None
+          → (dialled_peer s ≡ None → (now : LinkState) → dial_beside now old ≡ dial_beside now kept) → (r : Heard) → accepted_as rules pending s body ≡ Some r → Goes h k j old r
+      early_goes (state.Name c) early a holds beside r q = named c a (beside refl) (name_frame body) refl holds r q
+      early_goes (state.Answer s) early a holds beside r q = subst (Goes h k j old) (some_is q) (answer_moves h rules t e answered refl j body refl s a)
+      early_goes (state.Status dial) early a holds beside r q = said_status dial a (status_of body) refl r q
+      early_goes (state.Challenge dial) early a holds beside r q = asked dial a (challenge_frame body) refl holds r q
+      early_goes s early a holds beside r q = lie (sym early)
+
+    module _ (answered : IsAnswered h e) (legal : IsLegal h) (inner : is_last (awaits j h.entries) ≡ false) (unlike : is_message (awaits j h.entries) ≡ false) where
+      same_rows : (s g : List ℕ) (p : Pid) → listed k s g p ≡ listed h s g p
+      same_rows s g p = unfinished_rows h legal e answered refl j body refl unlike inner s g p
+
+      pub early_next : IsNext h e
+      early_next = record { room = answered.room; number = answered.number; verdict = answered.verdict; change = no_change h k (λ s g p. sym (same_rows s g p)) }
+
+      pub early_scopes : scope_words k ≡ scope_words h
+      early_scopes = λ i. record {
+        own = h.opening.name;
+        running = running_scopes h;
+        listed = λ s g p. same_rows s g p i;
+        heard = λ l s. (framed_heard h legal e answered refl j body refl unlike inner l s).heard_is i;
+        told = λ l s. (framed_heard h legal e answered refl j body refl unlike inner l s).told_is i;
+      }
+
+    module _ (space : is_full h ≡ false) (s : LinkState) (early : is_early s ≡ true) (a : IsState (facts h j) s) (holds : state_checked.first_broken (state_checks rules pending s body) ≡ None) where
+      accepts : Accepted reply.Done ≡ verdict h seat (event.Frame j body)
+      accepts = accepted_now h seat (event.Frame j body) space reply.Done (no_rule _ _ (early_rules s early a) holds) (ap (λ b. cond b (up_answer h j) reply.Done) (early_awaits s early a))
+
+      pub early_answered : IsAnswered h e
+      early_answered = answered_now h seat (event.Frame j body) space (Accepted reply.Done) [] accepts

@@ -1,0 +1,82 @@
+-- A history with one entry more: what the policy says of it, and what a step that made it answers.
+use Rattle.std.specs.Prelude.{◌≡◌, ℕ, suc, ◌<◌, ◌≤◌, Bool, true, false, cond, not, nat_lt, List, [], ◌∷◌, map, Option, Some, None, length, Ok, Err}
+use Rattle.std.proofs.Common.{refl, ap, ◌∙◌, sym, subst, arith}
+use Rattle.std.proofs.lemmas.Bool.{ltb-true}
+use Rattle.dist_types.specs.Listing.{how_many}
+use Rattle.policy_audit.specs.declared.event.Event.{Event}
+use Rattle.policy_audit.specs.declared.reply.Reply.{Reply}
+use Rattle.policy_audit.specs.declared.rule.Rule.{Rule}
+use Rattle.policy_audit.specs.declared.rule.Rule.TheVariants as rule
+use Rattle.policy_audit.specs.declared.change.Change.{Change}
+use Rattle.policy_audit.specs.declared.entry.Entry.{Entry}
+use Rattle.policy_audit.specs.declared.entry.Verdict.{Verdict}
+use Rattle.policy_audit.specs.declared.entry.Verdict.TheVariants.{Accepted, Refused}
+use Rattle.policy_audit.specs.History.{History, past, Moment, present, events, is_accepted, is_restart}
+use Rattle.policy_audit.specs.Own.{is_spawn}
+use Rattle.policy_audit.specs.Changes.{IsChange}
+use Rattle.policy_audit.specs.Checks.{first_broken, checks}
+use Rattle.policy_audit.specs.Policy.{is_full, next_number, verdict, judged, answer, with_entry, IsAnswered, IsNext}
+use Rattle.node_core.specs.declared.fault.CoreFault.TheVariants as faults
+use Rattle.node_core.specs.Core.{IsSound}
+use Rattle.node_core.specs.Step.{Steps}
+
+-- the entry of an event with this verdict and this change
+abbrev pub made : History → ℕ → Event → Verdict → List Change → Entry
+made h seat ev v cs = record { number = next_number h; seat = seat; event = ev; verdict = v; change = cs }
+
+module _ (h : History) (seat : ℕ) (ev : Event) (space : is_full h ≡ false) where
+  judge : (o : Option Rule) → first_broken (checks h seat ev) ≡ o → verdict h seat ev ≡ judged h seat ev o
+  judge o found = ap (λ b. cond b (Refused rule.EntriesFull) (judged h seat ev (first_broken (checks h seat ev)))) space ∙ ap (judged h seat ev) found
+
+  pub accepted_now : (r : Reply) → first_broken (checks h seat ev) ≡ None → answer h seat ev ≡ r → Accepted r ≡ verdict h seat ev
+  accepted_now r none is = ap Accepted (sym is) ∙ sym (judge None none)
+
+  pub refused_now : (r : Rule) → first_broken (checks h seat ev) ≡ Some r → Refused r ≡ verdict h seat ev
+  refused_now r found = sym (judge (Some r) found)
+
+  room : (b : Bool) → nat_lt (length h.entries) h.opening.entries ≡ b → not b ≡ false → length h.entries < h.opening.entries
+  room true q n = ltb-true _ _ q
+  room false q n = absurd (true_isnt (n))
+    where
+      true_isnt : true ≡ false → ⊥
+      true_isnt q = subst (λ b. cond b (Unit {0}) ⊥) q tt
+
+  pub space_is : length h.entries < h.opening.entries
+  space_is = room (nat_lt (length h.entries) h.opening.entries) refl space
+
+  pub answered_now : (v : Verdict) (cs : List Change) → v ≡ verdict h seat ev → IsAnswered h (made h seat ev v cs)
+  answered_now v cs is = record { room = space_is; number = refl; verdict = is }
+
+  pub next_now : (v : Verdict) (cs : List Change) → v ≡ verdict h seat ev → IsChange h (with_entry h (made h seat ev v cs)) cs → IsNext h (made h seat ev v cs)
+  next_now v cs is changes = record { room = space_is; number = refl; verdict = is; change = changes }
+
+-- at most one more was spawned
+more_spawned : (m : Moment) (ms : List Moment) (a b c : Bool) → is_spawn m.event ≡ c
+    → how_many is_spawn (map (λ x. x.event) (cond a (cond b [] (m ∷ ms)) ms)) ≤ suc (how_many is_spawn (map (λ x. x.event) ms))
+more_spawned m ms true true c q = omega arith
+more_spawned m ms true false true q = rw q (omega arith)
+more_spawned m ms true false false q = rw q (omega arith)
+more_spawned m ms false b c q = omega arith
+
+spawned_more : (e : Entry) (es : List Entry) → how_many is_spawn (events (e ∷ es)) ≤ suc (how_many is_spawn (events es))
+spawned_more e es = more_spawned (record { number = e.number; seat = e.seat; event = e.event; before = es }) (present es) (is_accepted e.verdict) (is_restart e.event) (is_spawn e.event) refl
+
+pub sound_now : (h : History) (limit : ℕ) (e : Entry) → IsSound h limit → IsNext h e → IsSound (with_entry h e) limit
+sound_now h limit e sound next = record {
+  legal = (next, sound.legal);
+  limit_is = sound.limit_is;
+  fits = sound.fits;
+  few = let space = next.room in let is = sound.limit_is in omega (arith, space, is);
+  few_spawned = let more = spawned_more e h.entries in let so_far = sound.few_spawned in omega (arith, more, so_far);
+}
+
+-- ---- answers of steps
+
+module _ {h now : History} (is : h ≡ now) (seat : ℕ) (ev : Event) {entries : List Entry} where
+  pub steps_on : (r : Reply) (cs : List Change) → IsNext h (made h seat ev (Accepted r) cs) → entries ≡ made h seat ev (Accepted r) cs ∷ h.entries → Steps now seat ev (past h.opening entries) (Ok r)
+  unfolding Steps
+  steps_on r cs next pushed = subst (λ old. Steps old seat ev (past h.opening entries) (Ok r)) is (made h seat ev (Accepted r) cs, refl, refl, refl, next, ap (past h.opening) pushed)
+
+  pub steps_refused : (r : Rule) (cs : List Change) → IsNext h (made h seat ev (Refused r) cs) → entries ≡ made h seat ev (Refused r) cs ∷ h.entries → Steps now seat ev (past h.opening entries) (Err (faults.Refused r))
+  unfolding Steps
+  steps_refused r cs next pushed = subst (λ old. Steps old seat ev (past h.opening entries) (Err (faults.Refused r))) is (made h seat ev (Refused r) cs, refl, refl, refl, next, ap (past h.opening) pushed)

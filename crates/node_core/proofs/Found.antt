@@ -1,0 +1,45 @@
+-- Elements that pass a test.
+use Rattle.std.specs.Prelude.{◌≡◌, Bool, true, false, cond, ◌||◌, List, [], ◌∷◌, Some, None, find, map}
+use Rattle.std.proofs.Common.{refl, ap, ◌∙◌, sym, subst}
+use Rattle.std.specs.List.{list_any, AllByRecursion}
+use Rattle.policy_audit.proofs.Accepted.{no_value}
+
+-- the value in an option
+pub some_is : {A : Type 0} {x y : A} → Some x ≡ Some y → x ≡ y
+some_is {A} {x} {y} q = ap (λ o. elim o as (λ _. A) [ Some z ↦ z | None ↦ x ]) q
+
+module _ {A : Type 0} (test : A → Bool) where
+  first_is : (b : Bool) (y : A) (ys : List A) → test y ≡ b → find test (y ∷ ys) ≡ cond b (Some y) (find test ys)
+  first_is b y ys e = ap (λ b. cond b (Some y) (find test ys)) e
+
+  -- what is found passes the test, and is as all are
+  pub found_in : (P : A → Type 0) (xs : List A) → AllByRecursion P xs → (x : A) → find test xs ≡ Some x → (test x ≡ true) × P x
+  found_in P [] all x q = no_value (sym q)
+  found_in P (y ∷ ys) all x q = by (test y) refl (found_in P ys all.1 x)
+    where
+      by : (b : Bool) → test y ≡ b → (find test ys ≡ Some x → (test x ≡ true) × P x) → (test x ≡ true) × P x
+      by true e later = let is = some_is (sym (first_is true y ys e) ∙ q) in (ap test (sym is) ∙ e, subst P is all.0)
+      by false e later = later (sym (first_is false y ys e) ∙ q)
+
+  -- where nothing is found, nothing passes
+  pub none_found : (xs : List A) → find test xs ≡ None → list_any test xs ≡ false
+  none_found [] q = refl
+  none_found (y ∷ ys) q = by (test y) refl (none_found ys)
+    where
+      by : (b : Bool) → test y ≡ b → (find test ys ≡ None → list_any test ys ≡ false) → (test y || list_any test ys) ≡ false
+      by true e later = no_value (sym (first_is true y ys e) ∙ q)
+      by false e later = ap (λ b. b || list_any test ys) e ∙ later (sym (first_is false y ys e) ∙ q)
+
+  -- where one is found, one passes
+  pub some_found : (xs : List A) (x : A) → find test xs ≡ Some x → list_any test xs ≡ true
+  some_found [] x q = no_value (sym q)
+  some_found (y ∷ ys) x q = by (test y) refl (some_found ys x)
+    where
+      by : (b : Bool) → test y ≡ b → (find test ys ≡ Some x → list_any test ys ≡ true) → (test y || list_any test ys) ≡ true
+      by true e later = ap (λ b. b || list_any test ys) e
+      by false e later = ap (λ b. b || list_any test ys) e ∙ later (sym (first_is false y ys e) ∙ q)
+
+-- a test of a value of the elements
+pub any_map : {A B : Type 0} (test : B → Bool) (f : A → B) (xs : List A) → list_any test (map f xs) ≡ list_any (λ x. test (f x)) xs
+any_map test f [] = refl
+any_map test f (x ∷ xs) = ap (λ b. test (f x) || b) (any_map test f xs)

@@ -1,0 +1,70 @@
+-- What the state of a kept link says of the frame that it awaits.
+use Rattle.std.specs.Prelude.{◌≡◌, ℕ, nat_eq, Bool, true, false, cond, ◌&&◌, ◌||◌, not, List, position, Some, None}
+use Rattle.std.proofs.Common.{refl, ap, ◌∙◌, sym, subst, get_or, ◌⊎◌, inl, inr}
+use Rattle.dist_types.specs.Difference.{is_empty}
+use Rattle.link_states.specs.States.{Introduced, Linked}
+use Rattle.policy_audit.specs.declared.event.Event.TheVariants as event
+use Rattle.policy_audit.specs.declared.rule.Rule.TheVariants as rule
+use Rattle.policy_audit.specs.History.{History}
+use Rattle.policy_audit.specs.Sides.{awaits, is_last, is_whole}
+use Rattle.policy_audit.specs.Links.{is_open, is_up}
+use Rattle.policy_audit.specs.Owed.{waiting}
+use Rattle.policy_audit.specs.Checks.{always, checks, first_broken, frame_checks}
+use Rattle.policy_audit.specs.Policy.{IsLegal}
+use Rattle.policy_audit.proofs.UpLinks.{and_both}
+use Rattle.node_core.specs.Calm.{refuses_calmly}
+use Rattle.node_core.specs.declared.link_state.LinkState.{LinkState}
+use Rattle.node_core.specs.declared.link_state.LinkState.TheVariants as state
+use Rattle.node_core.specs.Links.{KeptLink}
+use Rattle.node_core.specs.LinkFacts.{LinkFacts, facts, IsState, link_words, LinksFollow}
+use Rattle.node_core.proofs.Places.{link_at, not_kept}
+
+-- a frame is awaited that isn't the last
+pub record IsEarly (f : LinkFacts) : Type 0 where
+  pub opens : f.open_now ≡ true
+  pub unwhole : f.whole ≡ false
+  pub inner : is_last f.awaited ≡ false
+
+pub early_by : (f : LinkFacts) (s : LinkState) → IsState f s → ((x : Introduced) → s ≡ state.Reply x → ⊥) → ((x : Introduced) → s ≡ state.Ack x → ⊥) → ((x : Linked) → s ≡ state.Up x → ⊥) → (s ≡ state.Ended → ⊥) → IsEarly f
+early_by f (state.Name c) t a b u e = record { opens = t.0.open_now; unwhole = t.0.whole; inner = ap is_last t.0.awaited }
+early_by f (state.Answer x) t a b u e = record { opens = t.0.open_now; unwhole = t.0.whole; inner = ap is_last t.0.awaited }
+early_by f (state.Reply x) t a b u e = absurd (a x refl)
+early_by f (state.Status x) t a b u e = record { opens = t.0.open_now; unwhole = t.0.whole; inner = ap is_last t.0.awaited }
+early_by f (state.Challenge x) t a b u e = record { opens = t.0.open_now; unwhole = t.0.whole; inner = ap is_last t.0.awaited }
+early_by f (state.Ack x) t a b u e = absurd (b x refl)
+early_by f (state.Up x) t a b u e = absurd (u x refl)
+early_by f state.Ended t a b u e = absurd (e refl)
+
+-- the last frame of a side is awaited
+pub record IsAtLast (f : LinkFacts) : Type 0 where
+  pub opens : f.open_now ≡ true
+  pub last : is_last f.awaited ≡ true
+
+pub last_by : (f : LinkFacts) (s : LinkState) → IsState f s → ((x : Introduced) × (s ≡ state.Reply x)) ⊎ ((x : Introduced) × (s ≡ state.Ack x)) → IsAtLast f
+last_by f s t (inl q) = (let at = subst (IsState f) q.1 t in record { opens = at.0.open_now; last = ap is_last at.0.awaited })
+last_by f s t (inr q) = (let at = subst (IsState f) q.1 t in record { opens = at.0.open_now; last = ap is_last at.0.awaited })
+
+-- a frame of a link that isn't open
+pub closed_rule : (h : History) (seat l : ℕ) (body : List ℕ) → is_open l h.entries ≡ false → first_broken (checks h seat (event.Frame l body)) ≡ Some rule.NoSuchLink
+closed_rule h seat l body closed = ap (λ b. first_broken (cond b (frame_checks h l body (awaits l h.entries)) (always rule.NoSuchLink))) closed
+
+pub closed_calm : (h : History) (l : ℕ) (body : List ℕ) → is_open l h.entries ≡ false → refuses_calmly h (event.Frame l body) rule.NoSuchLink ≡ true
+closed_calm h l body closed = ap (λ b. (not b || is_whole l h.entries) && true) closed
+
+module _ (h : History) (legal : IsLegal h) (kept : List KeptLink) (t : LinksFollow (link_words h) kept) (l : ℕ) where
+  -- no link of that number is kept
+  pub none_open : position (λ x. nat_eq x.number l) kept ≡ None → is_open l h.entries ≡ false
+  none_open none = by (is_open l h.entries) (not_kept h legal kept t l none)
+    where
+      by : (b : Bool) → (b || not (is_empty (waiting h l))) ≡ false → b ≡ false
+      by true q = q
+      by false q = refl
+
+  -- the state of the link at its place
+  pub state_at : (p : ℕ) (x : KeptLink) → position (λ y. nat_eq y.number l) kept ≡ Some p → x ≡ get_or kept p x → (s : LinkState) → s ≡ x.state → IsState (facts h l) s
+  state_at p x found is s same =
+      let at = link_at h legal kept t l p x found in
+      subst (IsState (facts h l)) (sym (same ∙ ap (λ y. y.state) is)) (subst (λ n. IsState (facts h n) (get_or kept p x).state) at.1 at.0.state)
+
+  pub up_by : (u : Linked) → IsState (facts h l) (state.Up u) → is_up l h.entries ≡ true
+  up_by u s = and_both (is_open l h.entries) (is_whole l h.entries) s.0.open_now s.0.whole

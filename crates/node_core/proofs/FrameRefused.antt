@@ -1,0 +1,112 @@
+-- The node after a refused frame of the handshake.
+use Rattle.std.specs.Prelude.{◌≡◌, ℕ, ◌==◌, ◌<◌, Bool, true, false, cond, ◌&&◌, not, List, [], ◌++◌, Option, Some, None, length}
+use Rattle.std.proofs.Common.{refl, ap, ◌∙◌, sym, subst, get_or, set}
+use Rattle.std.proofs.lemmas.Bool.{eq-eqb, eqb-true}
+use Rattle.dist_types.specs.Difference.{is_empty}
+use Rattle.group_monitors.proofs.Followed.{follows_other}
+use Rattle.link_states.specs.declared.state_rule.StateRule.{StateRule}
+use Rattle.link_states.specs.declared.state_rule.StateRule.TheVariants as broken
+use Rattle.link_states.specs.Frames.{refusal_frames}
+use Rattle.policy_audit.specs.declared.event.Event.TheVariants as event
+use Rattle.policy_audit.specs.declared.entry.Verdict.TheVariants.{Refused}
+use Rattle.policy_audit.specs.declared.entry.Entry.{Entry}
+use Rattle.policy_audit.specs.declared.rule.Rule.{Rule}
+use Rattle.policy_audit.specs.declared.out_frame.OutFrame.{OutFrame}
+use Rattle.policy_audit.specs.History.{History}
+use Rattle.policy_audit.specs.Own.{running_scopes}
+use Rattle.policy_audit.specs.Sides.{is_whole}
+use Rattle.policy_audit.specs.Links.{is_open}
+use Rattle.policy_audit.specs.Owed.{refusal_owes, waiting}
+use Rattle.policy_audit.specs.Checks.{checks, first_broken}
+use Rattle.policy_audit.specs.Policy.{is_full, with_entry, IsNext}
+use Rattle.policy_audit.proofs.ChangeLemmas.{no_change}
+use Rattle.policy_audit.proofs.Effects.{entry_rows}
+use Rattle.policy_audit.proofs.HeardNow.{refused_heard}
+use Rattle.policy_audit.proofs.LinkFrames.{refused_links}
+use Rattle.policy_audit.proofs.LinksLeft.{refused_numbers}
+use Rattle.policy_audit.proofs.UpLinks.{and_false, flip}
+use Rattle.node_core.specs.declared.link_state.LinkState.TheVariants as state
+use Rattle.node_core.specs.Core.{Parts, Follows}
+use Rattle.node_core.specs.Handshakes.{moved_on, without_link, HaveEnded}
+use Rattle.node_core.specs.Hearing.{rule_of}
+use Rattle.node_core.specs.LinkFacts.{facts, kept_numbers, link_words, LinksFollow}
+use Rattle.node_core.specs.Links.{KeptLink, narrow_frames}
+use Rattle.node_core.specs.ScopeFacts.{scope_words, ScopesFollow}
+use Rattle.node_core.proofs.Emptied.{IsEmptied, moved_from}
+use Rattle.node_core.proofs.Entered.{made, next_now, refused_now, sound_now}
+use Rattle.node_core.proofs.FrameFacts.{same_stay}
+use Rattle.node_core.proofs.KeptOn.{each_at}
+use Rattle.node_core.proofs.MovedOn.{AreMoves, stays_but, moved_follow}
+
+-- what a rule of the handshake is owed
+pub owes_alike : (b : StateRule) → refusal_owes (rule_of b) ≡ narrow_frames (refusal_frames b)
+owes_alike broken.NotAllowed = refl
+owes_alike broken.Simultaneous = refl
+owes_alike broken.LinkUp = refl
+owes_alike b = refl
+
+module _ (h : History) (seat j : ℕ) (body : List ℕ) (r : Rule) where
+  abbrev pub e : Entry
+  e = made h seat (event.Frame j body) (Refused r) []
+
+  abbrev pub k : History
+  k = with_entry h e
+
+  pub refused_next : is_full h ≡ false → first_broken (checks h seat (event.Frame j body)) ≡ Some r → IsNext h e
+  refused_next space found = next_now h seat (event.Frame j body) space (Refused r) [] (refused_now h seat (event.Frame j body) space r found) (no_change h k (λ s g p. sym (entry_rows h e refl s g p)))
+
+  module _ (opens : is_open j h.entries ≡ true) (unwhole : is_whole j h.entries ≡ false) (more : List OutFrame) (owed : refusal_owes r ≡ more) where
+    -- the link goes where nothing waits for it
+    abbrev gone : Option ℕ
+    gone = cond (is_empty (waiting h j ++ more)) (Some j) None
+
+    stays_if : (l : ℕ) (b : Bool) → (j == l) ≡ b → (nothing : Bool) → is_empty (waiting h j ++ more) ≡ nothing → not (b && is_empty (waiting h l ++ refusal_owes r)) ≡ stays_but (cond nothing (Some j) None) l
+    stays_if l false m true n = ap not (sym (flip l j ∙ m))
+    stays_if l false m false n = refl
+    stays_if l true m nothing n = ap not ((λ i. is_empty (waiting h (sym (eqb-true j l m) i) ++ owed i)) ∙ n) ∙ each nothing
+      where
+        each : (b : Bool) → not b ≡ stays_but (cond b (Some j) None) l
+        each true = ap not (sym (flip l j ∙ m))
+        each false = refl
+
+    refused_moves : AreMoves h k j state.Ended more (stays_but gone)
+    refused_moves = record {
+      state = (refused_links h e j body r refl refl unwhole j).open_is ∙ ap (λ b. is_open j h.entries && not b) (eq-eqb j j refl) ∙ and_false (is_open j h.entries);
+      frames = (refused_links h e j body r refl refl unwhole j).waiting_is ∙ (λ i. cond (eq-eqb j j refl i) (waiting h j ++ owed i) (waiting h j));
+      others = λ l apart stays. λ i. record (facts h l) { open_now = ((refused_links h e j body r refl refl unwhole l).open_is ∙ ap (λ b. is_open l h.entries && not b) apart ∙ plain (is_open l h.entries)) i };
+      waits = λ l apart stays. (refused_links h e j body r refl refl unwhole l).waiting_is ∙ ap (λ b. cond b (waiting h l ++ refusal_owes r) (waiting h l)) apart;
+      numbers = refused_numbers h e j body r refl refl opens unwhole
+          ∙ same_stay (λ l. not (j == l && is_empty (waiting h l ++ refusal_owes r))) (stays_but gone) (kept_numbers h) (λ l. stays_if l (j == l) refl (is_empty (waiting h j ++ more)) refl);
+    }
+      where
+        plain : (b : Bool) → (b && true) ≡ b
+        plain true = refl
+        plain false = refl
+
+    refused_scopes : scope_words k ≡ scope_words h
+    refused_scopes = λ i. record {
+      own = h.opening.name;
+      running = running_scopes h;
+      listed = λ s g p. entry_rows h e refl s g p i;
+      heard = λ l s. (refused_heard h e j body r refl refl unwhole l s).heard_is i;
+      told = λ l s. (refused_heard h e j body r refl refl unwhole l s).told_is i;
+    }
+
+    module _ (parts : Parts) (t : Follows h parts) (p : ℕ) (d : KeptLink) (less : p < length parts.links) (is : (get_or parts.links p d).number ≡ j) where
+      refused_follow : (room : ℕ) → LinksFollow (link_words k) (without_link gone (set parts.links p (moved_on state.Ended more room (get_or parts.links p d))))
+      refused_follow room = moved_follow h k t.sound.legal j state.Ended more gone refused_moves parts.links t.links p d less is room
+
+      pub refused_follows : IsNext h e → (out_room : ℕ) (old new : List KeptLink) → IsEmptied parts.links p out_room old → (frames : List (List ℕ)) → narrow_frames frames ≡ more → HaveEnded p frames old new → Follows k (record parts { links = new })
+      refused_follows next out_room old new out frames these ends = record {
+        sound = sound_now h parts.limit e t.sound next;
+        admission = t.admission;
+        processes = t.processes;
+        scopes = subst (λ w. ScopesFollow w parts.scopes) (sym refused_scopes) t.scopes;
+        links =
+            let was = each_at _ parts.links p d t.links.each less in
+            subst (LinksFollow (link_words k)) (sym (
+            moved_from parts.links p less out_room old out (λ x. x.state) (narrow_frames frames) _ new ends d
+            ∙ (λ i. without_link (cond (is_empty ((was.frames ∙ ap (waiting h) is) i ++ these i)) (Some (is i)) None) (set parts.links p (moved_on state.Ended (these i) ends.room (get_or parts.links p d))))))
+            (refused_follow ends.room);
+        monitors = follows_other h e parts.monitors next.number t.monitors refl;
+      }

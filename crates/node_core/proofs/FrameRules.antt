@@ -1,0 +1,110 @@
+-- The rules for a frame of the handshake, as a state knows them, are those of the policy.
+use Rattle.std.specs.Prelude.{◌≡◌, ℕ, ◌==◌, Bool, true, false, cond, ◌&&◌, ◌||◌, not, List, [], ◌∷◌, Option, Some, None, length, bytes_eq}
+use Rattle.std.proofs.Common.{refl, ap, ◌∙◌, sym}
+use Rattle.std.specs.Option.{option_map, option_map_or}
+use Rattle.std.specs.Ordering.{is_gt}
+use Rattle.dist_types.specs.Text.{is_node_name}
+use Rattle.dist_types.specs.Flags.{has_bit}
+use Rattle.dist_types.specs.Order.{text_cmp}
+use Rattle.dist_types.specs.Listing.{same, is_among}
+use Rattle.dist_types.specs.Difference.{is_empty}
+use Rattle.dist_types.proofs.Orders.{same_decides, same_sym}
+use Rattle.handshake_frames.specs.Frame.{Name, Challenge}
+use Rattle.handshake_frames.specs.declared.frame.StatusWord.{StatusWord}
+use Rattle.handshake_frames.specs.declared.frame.StatusWord.TheVariants as word
+use Rattle.handshake_frames.specs.declared.frame.ReplyFrame.{ReplyFrame}
+use Rattle.handshake_frames.specs.declared.frame.AckFrame.{AckFrame}
+use Rattle.cookie_digest.specs.Digest.{digest_of}
+use Rattle.admission_rules.specs.Admission.{AdmissionRules, cookie_of}
+use Rattle.link_states.specs.declared.pending.Pending.{Pending}
+use Rattle.link_states.specs.declared.state_rule.StateRule.{StateRule}
+use Rattle.link_states.specs.declared.state_rule.StateRule.TheVariants as broken
+use Rattle.link_states.specs.Checks as state
+use Rattle.link_states.specs.Pending.{is_up, is_dialled}
+use Rattle.policy_audit.specs.declared.rule.Rule.{Rule}
+use Rattle.policy_audit.specs.declared.rule.Rule.TheVariants as rule
+use Rattle.policy_audit.specs.History.{History}
+use Rattle.policy_audit.specs.Admission.{allowed, allow_list, cookie}
+use Rattle.policy_audit.specs.Sides.{peer_of, is_peer, is_name_up}
+use Rattle.policy_audit.specs.Links.{is_dialling}
+use Rattle.policy_audit.specs.Owed.{own_challenge, digest_for}
+use Rattle.policy_audit.specs.Checks.{first_broken, always, name_checks, answer_checks, status_checks, challenge_checks, digest_checks, is_peer_up, is_simultaneous}
+use Rattle.policy_audit.proofs.Accepted.{lie}
+use Rattle.node_core.specs.AdmissionFacts.{admission_words, AdmissionFollows}
+use Rattle.node_core.specs.Hearing.{rule_of}
+use Rattle.node_core.proofs.Cookies.{cookie_is}
+use Rattle.node_core.proofs.Moves.{none_is_empty}
+use Rattle.node_core.proofs.Once.{same_names}
+
+-- one check before others
+pub further : (b c : Bool) (r : StateRule) (x : Option Rule) (y : Option StateRule) → b ≡ c → x ≡ option_map rule_of y → cond (not b) (Some (rule_of r)) x ≡ option_map rule_of (cond (not c) (Some r) y)
+further true true r x y q others = others
+further false false r x y q others = refl
+further true false r x y q others = lie q
+further false true r x y q others = lie (sym q)
+
+module _ (h : History) (rules : AdmissionRules) (t : AdmissionFollows (admission_words h) rules) where
+  -- nobody is named in either list, or somebody in both
+  empty_too : (xs ys : List (List ℕ)) → ((n : List ℕ) → is_among n xs ≡ is_among n ys) → is_empty ys ≡ is_empty xs
+  empty_too [] [] q = refl
+  empty_too (x ∷ xs) (y ∷ ys) q = refl
+  empty_too [] (y ∷ ys) q = lie (sym (q y ∙ ap (λ b. b || is_among y ys) ((same_decides y y).1 refl)))
+  empty_too (x ∷ xs) [] q = lie (sym (ap (λ b. b || is_among x xs) ((same_decides x x).1 refl)) ∙ q x)
+
+  allowed_is : (n : List ℕ) → allowed h n ≡ state.allows rules n
+  allowed_is n =
+      let same_ones = same_names rules.allowed (allow_list h) t.allowed in
+      (λ i. (empty_too rules.allowed (allow_list h) same_ones ∙ none_is_empty rules.allowed (length rules.allowed == 0) refl) i || sym (same_ones n) i)
+
+  -- the digest that is awaited of a peer
+  pub digest_is : (l : ℕ) (n : List ℕ) (c : ℕ) → peer_of l h.entries ≡ Some n → digest_for h l c ≡ digest_of (cookie_of rules n) c
+  digest_is l n c of = ap (λ x. digest_of (option_map_or (cookie h) x []) c) of ∙ ap (λ k. digest_of k c) (sym (cookie_is h rules t n))
+
+  module _ (l : ℕ) (peer : List ℕ) (of : peer_of l h.entries ≡ Some peer) where
+    digests : (challenge : ℕ) (digest : List ℕ) → challenge ≡ own_challenge l h.entries
+        → first_broken (digest_checks h l digest) ≡ option_map rule_of (state.first_broken (state.unless (state.is_answer rules peer challenge digest) broken.BadDigest ∷ []))
+    digests challenge digest own =
+        further (bytes_eq digest (digest_for h l (own_challenge l h.entries))) (state.is_answer rules peer challenge digest) broken.BadDigest None None
+        (ap (λ c. bytes_eq digest (digest_for h l c)) (sym own) ∙ ap (bytes_eq digest) (digest_is l peer challenge of)) refl
+
+    pub reply_rules : (challenge : ℕ) → challenge ≡ own_challenge l h.entries → (x : Option ReplyFrame)
+        → first_broken (option_map_or (λ f. digest_checks h l f.digest) x (always rule.BadFrame)) ≡ option_map rule_of (state.first_broken (state.reply_checks rules peer challenge x))
+    reply_rules challenge own None = refl
+    reply_rules challenge own (Some f) = digests challenge f.digest own
+
+    pub ack_rules : (challenge : ℕ) → challenge ≡ own_challenge l h.entries → (x : Option AckFrame)
+        → first_broken (option_map_or (λ f. digest_checks h l f.digest) x (always rule.BadFrame)) ≡ option_map rule_of (state.first_broken (state.ack_checks rules peer challenge x))
+    ack_rules challenge own None = refl
+    ack_rules challenge own (Some f) = digests challenge f.digest own
+
+    pub challenge_rules : (x : Option Challenge) → first_broken (option_map_or (challenge_checks h l) x (always rule.BadFrame)) ≡ option_map rule_of (state.first_broken (state.challenge_checks peer x))
+    challenge_rules None = refl
+    challenge_rules (Some f) =
+        further (has_bit 24 f.flags) (has_bit 24 f.flags) broken.NoHandshake23 _ _ refl
+        (further (is_peer f.name l h.entries) (bytes_eq f.name peer) broken.WrongName None None (ap (λ x. option_map_or (λ m. same m f.name) x false) of ∙ same_sym peer f.name) refl)
+
+    pub status_rules : (pending : Pending) → ((n : List ℕ) → is_up pending n ≡ is_name_up n h.entries) → (x : Option StatusWord)
+        → first_broken (option_map_or (status_checks (is_peer_up h l)) x (always rule.BadFrame)) ≡ option_map rule_of (state.first_broken (state.status_checks pending peer x))
+    status_rules pending ups None = refl
+    status_rules pending ups (Some word.Ok) = refl
+    status_rules pending ups (Some word.OkSimultaneous) = refl
+    status_rules pending ups (Some word.Alive) =
+        further (not (is_peer_up h l)) (not (is_up pending peer)) broken.LinkUp None None (ap (λ x. not (option_map_or (λ n. is_name_up n h.entries) x false)) of ∙ ap not (sym (ups peer))) refl
+    status_rules pending ups (Some w) = refl
+
+  pub answer_rules : (x : Option StatusWord) → first_broken (option_map_or answer_checks x (always rule.BadFrame)) ≡ option_map rule_of (state.first_broken (state.answer_checks x))
+  answer_rules None = refl
+  answer_rules (Some word.True) = refl
+  answer_rules (Some w) = refl
+
+  pub name_rules : (pending : Pending) → ((n : List ℕ) → is_up pending n ≡ is_name_up n h.entries) → ((n : List ℕ) → is_dialled pending n ≡ is_dialling n h.entries) → (x : Option Name)
+      → first_broken (option_map_or (name_checks h) x (always rule.BadFrame)) ≡ option_map rule_of (state.first_broken (state.name_checks rules pending x))
+  name_rules pending ups dials None = refl
+  name_rules pending ups dials (Some f) =
+      further (has_bit 24 f.flags) (has_bit 24 f.flags) broken.NoHandshake23 _ _ refl
+      (further (not (has_bit 33 f.flags)) (not (has_bit 33 f.flags)) broken.DynamicName _ _ refl
+      (further (is_node_name f.name) (is_node_name f.name) broken.BadName _ _ refl
+      (further (not (same f.name h.opening.name)) (not (bytes_eq f.name rules.own)) broken.OwnName _ _ (ap (λ o. not (same f.name o)) (sym t.own))
+      (further (allowed h f.name) (state.allows rules f.name) broken.NotAllowed _ _ (allowed_is f.name)
+      (further (not (is_simultaneous h f.name)) (not (state.outranks rules pending f.name)) broken.Simultaneous None None
+      (λ i. not (not (sym (ups f.name) i) && sym (dials f.name) i && is_gt (text_cmp (sym t.own i) f.name))) refl)))))

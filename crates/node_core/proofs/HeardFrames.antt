@@ -1,0 +1,192 @@
+-- A frame of the handshake, as the node hears it: the state of its link, and what is heard of it.
+use Rattle.std.specs.Prelude.{◌≡◌, ℕ, ◌+◌, ◌==◌, ◌<◌, ◌≤◌, nat_eq, Bool, true, false, cond, ◌||◌, not, if◌then◌else◌, List, [], ◌∷◌, Option, Some, None, length, position}
+use Rattle.std.proofs.Common.{refl, ap, ◌∙◌, sym, subst, arith, get_or}
+use Rattle.std.proofs.lemmas.Iterator.Adapters.{position_from-zero}
+use Rattle.std.specs.List.{list_any, position_from}
+use Rattle.std.specs.Option.{option_map}
+use Rattle.dist_types.specs.Difference.{is_empty}
+use Rattle.handshake_frames.specs.Frame.{Name, Challenge}
+use Rattle.handshake_frames.specs.declared.frame.StatusWord.{StatusWord}
+use Rattle.handshake_frames.specs.declared.frame.StatusWord.TheVariants as word
+use Rattle.handshake_frames.specs.declared.frame.ReplyFrame.{ReplyFrame}
+use Rattle.handshake_frames.specs.Reading.{name_frame, challenge_frame, reply_frame, status_of}
+use Rattle.admission_rules.specs.Admission.{AdmissionRules}
+use Rattle.link_states.specs.declared.await_name.Named.TheVariants as named
+use Rattle.link_states.specs.declared.pending.Pending.{Pending}
+use Rattle.link_states.specs.declared.state_rule.StateRule.{StateRule}
+use Rattle.link_states.specs.declared.state_rule.StateRule.TheVariants as broken
+use Rattle.link_states.specs.Frames.{refusal_frames, status_owed, reply_owed, ack_owed, greeting_owed}
+use Rattle.link_states.specs.Named as says
+use Rattle.link_states.specs.Peer.{found, introduced}
+use Rattle.link_states.specs.Pending.{is_up, is_dialled}
+use Rattle.link_states.specs.States.{linked}
+use Rattle.policy_audit.specs.History.{History}
+use Rattle.policy_audit.specs.Sides.{awaits, is_last, is_whole}
+use Rattle.policy_audit.specs.Links.{is_open}
+use Rattle.policy_audit.specs.Owed.{is_kept, waiting}
+use Rattle.policy_audit.proofs.KeptNumbers.{kept_among}
+use Rattle.policy_audit.proofs.Accepted.{lie, no_value}
+use Rattle.node_core.specs.declared.hearing.Heard.{Heard}
+use Rattle.node_core.specs.declared.hearing.Heard.TheVariants as heard
+use Rattle.node_core.specs.declared.link_state.LinkState.{LinkState}
+use Rattle.node_core.specs.declared.link_state.LinkState.TheVariants as state
+use Rattle.node_core.specs.Core.{Parts, Follows}
+use Rattle.node_core.specs.Hearing.{is_handshake, heard_named, accepted_as}
+use Rattle.node_core.specs.LinkFacts.{facts, link_words, IsState, IsLinkOf}
+use Rattle.node_core.specs.Links.{KeptLink}
+use Rattle.node_core.proofs.EarlyHeard.{is_early}
+use Rattle.node_core.proofs.Found.{any_map, some_is}
+use Rattle.node_core.proofs.KeptOn.{each_at, place_is}
+
+-- ---- the state of the link
+
+module _ (h : History) (j : ℕ) (opens : is_open j h.entries ≡ true) where
+  pub early_state : is_whole j h.entries ≡ false → is_last (awaits j h.entries) ≡ false → (s : LinkState) → IsState (facts h j) s → (is_early s ≡ true) × (is_handshake s ≡ true)
+  early_state unwhole inner (state.Name c) a = (refl, refl)
+  early_state unwhole inner (state.Answer s) a = (refl, refl)
+  early_state unwhole inner (state.Status dial) a = (refl, refl)
+  early_state unwhole inner (state.Challenge dial) a = (refl, refl)
+  early_state unwhole inner (state.Reply s) a = lie (sym (ap is_last a.0.awaited) ∙ inner)
+  early_state unwhole inner (state.Ack s) a = lie (sym (ap is_last a.0.awaited) ∙ inner)
+  early_state unwhole inner (state.Up up) a = lie (sym a.0.whole ∙ unwhole)
+  early_state unwhole inner state.Ended a = lie (sym opens ∙ a)
+
+  pub last_state : is_last (awaits j h.entries) ≡ true → (s : LinkState) → IsState (facts h j) s → (is_early s ≡ false) × (is_handshake s ≡ true)
+  last_state last (state.Reply s) a = (refl, refl)
+  last_state last (state.Ack s) a = (refl, refl)
+  last_state last (state.Name c) a = lie (sym last ∙ ap is_last a.0.awaited)
+  last_state last (state.Answer s) a = lie (sym last ∙ ap is_last a.0.awaited)
+  last_state last (state.Status dial) a = lie (sym last ∙ ap is_last a.0.awaited)
+  last_state last (state.Challenge dial) a = lie (sym last ∙ ap is_last a.0.awaited)
+  last_state last (state.Up up) a = lie (sym last ∙ ap is_last a.0.awaited)
+  last_state last state.Ended a = lie (sym opens ∙ a)
+
+-- a state of the handshake is of a link that isn't whole
+pub unwhole_state : (h : History) (j : ℕ) (s : LinkState) → is_handshake s ≡ true → IsState (facts h j) s → is_whole j h.entries ≡ false
+unwhole_state h j (state.Name c) q a = a.0.whole
+unwhole_state h j (state.Answer s) q a = a.0.whole
+unwhole_state h j (state.Reply s) q a = a.0.whole
+unwhole_state h j (state.Status s) q a = a.0.whole
+unwhole_state h j (state.Challenge s) q a = a.0.whole
+unwhole_state h j (state.Ack s) q a = a.0.whole
+unwhole_state h j (state.Up up) q a = lie (sym q)
+unwhole_state h j state.Ended q a = lie (sym q)
+
+-- the link at the place of a number
+module _ (h : History) (parts : Parts) (t : Follows h parts) (j p : ℕ) (at : position (λ x. nat_eq x.number j) parts.links ≡ Some p) (d : KeptLink) where
+  pub is_there : (p < length parts.links) × ((get_or parts.links p d).number ≡ j)
+  is_there = place_is parts.links j p d at
+
+  pub link_there : IsLinkOf (link_words h) (get_or parts.links p d)
+  link_there = each_at (IsLinkOf (link_words h)) parts.links p d t.links.each is_there.0
+
+  pub state_there : IsState (facts h j) (get_or parts.links p d).state
+  state_there = subst (λ (n : ℕ). IsState (facts h n) (get_or parts.links p d).state) is_there.1 link_there.state
+
+-- ---- how many frames are owed
+
+-- at most two
+abbrev pub IsFew : Heard → Type 0
+IsFew (heard.On s frames gives_up) = length frames ≤ 2
+IsFew (heard.Up up frames) = length frames ≤ 2
+IsFew r = Unit {0}
+
+pub few_refused : (b : StateRule) → length (refusal_frames b) ≤ 2
+few_refused broken.NotAllowed = omega arith
+few_refused broken.Simultaneous = omega arith
+few_refused broken.LinkUp = omega arith
+few_refused b = omega arith
+
+module _ (rules : AdmissionRules) (pending : Pending) (body : List ℕ) where
+  few_named : (c : ℕ) (f : Name) (up dialled : Bool) → IsFew (heard_named (if up then named.Alive (introduced rules c f) (greeting_owed rules c (says.welcome up dialled)) else named.Reply (introduced rules c f) (greeting_owed rules c (says.welcome up dialled)) dialled))
+  few_named c f true dialled = omega arith
+  few_named c f false true = omega arith
+  few_named c f false false = omega arith
+
+  few_truth : (w : StatusWord) → length (status_owed w) ≤ 2
+  few_truth word.Alive = omega arith
+  few_truth w = omega arith
+
+  pub few_frames : (s : LinkState) (r : Heard) → accepted_as rules pending s body ≡ Some r → IsFew r
+  few_frames (state.Name c) r q = by (name_frame body) q
+    where
+      by : (x : Option Name) → option_map (λ f. heard_named (says.named_by rules pending c f)) x ≡ Some r → IsFew r
+      by None q = no_value (sym q)
+      by (Some f) q = subst IsFew (some_is q) (few_named c f (is_up pending f.name) (is_dialled pending f.name))
+  few_frames (state.Answer s) r q = subst IsFew (some_is q) (omega arith)
+  few_frames (state.Reply s) r q = by (reply_frame body) q
+    where
+      by : (x : Option ReplyFrame) → option_map (λ f. heard.Up (linked s) (ack_owed rules s.peer f.challenge)) x ≡ Some r → IsFew r
+      by None q = no_value (sym q)
+      by (Some f) q = subst IsFew (some_is q) (omega arith)
+  few_frames (state.Status dial) r q = by (status_of body) q
+    where
+      by : (x : Option StatusWord) → option_map (λ w. heard.On (state.Challenge dial) (status_owed w) false) x ≡ Some r → IsFew r
+      by None q = no_value (sym q)
+      by (Some w) q = subst IsFew (some_is q) (few_truth w)
+  few_frames (state.Challenge dial) r q = by (challenge_frame body) q
+    where
+      by : (x : Option Challenge) → option_map (λ f. heard.On (state.Ack (found rules dial f)) (reply_owed rules dial.peer dial.challenge f.challenge) false) x ≡ Some r → IsFew r
+      by None q = no_value (sym q)
+      by (Some f) q = subst IsFew (some_is q) (omega arith)
+  few_frames (state.Ack s) r q = subst IsFew (some_is q) (omega arith)
+  few_frames s r q = no_value (sym q)
+
+  -- ---- what isn't heard
+
+  abbrev goes_on : Heard → Bool
+  goes_on (heard.On s frames gives_up) = true
+  goes_on r = false
+
+  abbrev comes_up : Heard → Bool
+  comes_up (heard.Up up frames) = true
+  comes_up r = false
+
+  on_named : (c : ℕ) (f : Name) (up dialled : Bool) → goes_on (heard_named (if up then named.Alive (introduced rules c f) (greeting_owed rules c (says.welcome up dialled)) else named.Reply (introduced rules c f) (greeting_owed rules c (says.welcome up dialled)) dialled)) ≡ true
+  on_named c f true dialled = refl
+  on_named c f false dialled = refl
+
+  on_some : {A : Type 0} (f : A → Heard) → ((x : A) → goes_on (f x) ≡ true) → (o : Option A) (r : Heard) → option_map f o ≡ Some r → goes_on r ≡ true
+  on_some f all None r q = no_value (sym q)
+  on_some f all (Some x) r q = ap goes_on (sym (some_is q)) ∙ all x
+
+  up_some : {A : Type 0} (f : A → Heard) → ((x : A) → comes_up (f x) ≡ true) → (o : Option A) (r : Heard) → option_map f o ≡ Some r → comes_up r ≡ true
+  up_some f all None r q = no_value (sym q)
+  up_some f all (Some x) r q = ap comes_up (sym (some_is q)) ∙ all x
+
+  -- a frame that isn't the last leads on
+  pub early_goes_on : (s : LinkState) → is_early s ≡ true → (r : Heard) → accepted_as rules pending s body ≡ Some r → goes_on r ≡ true
+  early_goes_on (state.Name c) early r q = on_some (λ f. heard_named (says.named_by rules pending c f)) (λ f. on_named c f (is_up pending f.name) (is_dialled pending f.name)) (name_frame body) r q
+  early_goes_on (state.Answer s) early r q = ap goes_on (sym (some_is q))
+  early_goes_on (state.Status dial) early r q = on_some (λ w. heard.On (state.Challenge dial) (status_owed w) false) (λ w. refl) (status_of body) r q
+  early_goes_on (state.Challenge dial) early r q = on_some (λ f. heard.On (state.Ack (found rules dial f)) (reply_owed rules dial.peer dial.challenge f.challenge) false) (λ f. refl) (challenge_frame body) r q
+  early_goes_on s early r q = lie (sym early)
+
+  -- the last one makes the link up
+  pub last_comes_up : (s : LinkState) → is_early s ≡ false → (r : Heard) → accepted_as rules pending s body ≡ Some r → comes_up r ≡ true
+  last_comes_up (state.Reply s) late r q = up_some (λ f. heard.Up (linked s) (ack_owed rules s.peer f.challenge)) (λ f. refl) (reply_frame body) r q
+  last_comes_up (state.Ack s) late r q = ap comes_up (sym (some_is q))
+  last_comes_up (state.Up up) late r q = no_value (sym q)
+  last_comes_up state.Ended late r q = no_value (sym q)
+  last_comes_up s late r q = lie late
+
+-- ---- where no link has the number
+
+none_from : {A : Type 0} (test : A → Bool) (i : ℕ) (xs : List A) → position_from test i xs ≡ None → list_any test xs ≡ false
+none_from test i [] q = refl
+none_from test i (x ∷ xs) q = by (test x) (none_from test (i + 1) xs) q
+  where
+    by : (b : Bool) → (position_from test (i + 1) xs ≡ None → list_any test xs ≡ false) → cond b (Some i) (position_from test (i + 1) xs) ≡ None → (b || list_any test xs) ≡ false
+    by true later q = no_value q
+    by false later q = later q
+
+pub closed_without : (h : History) (parts : Parts) → Follows h parts → (j : ℕ) → position (λ x. nat_eq x.number j) parts.links ≡ None → is_open j h.entries ≡ false
+closed_without h parts t j none = by (is_open j h.entries) refl
+  where
+    unkept : is_kept h j ≡ false
+    unkept = kept_among h t.sound.legal j ∙ ap (list_any (λ (n : ℕ). n == j)) (sym t.links.numbers) ∙ any_map (λ (n : ℕ). n == j) (λ (x : KeptLink). x.number) parts.links
+        ∙ none_from (λ (x : KeptLink). nat_eq x.number j) 0 parts.links (sym (position_from-zero (λ (x : KeptLink). nat_eq x.number j) parts.links) ∙ none)
+
+    by : (b : Bool) → is_open j h.entries ≡ b → b ≡ false
+    by false q = refl
+    by true q = lie (sym (ap (λ b. b || not (is_empty (waiting h j))) q) ∙ unkept)

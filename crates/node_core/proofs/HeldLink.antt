@@ -1,0 +1,76 @@
+-- A link with room for frames, whose state is held apart while a frame is heard.
+use Rattle.std.specs.Prelude.{◌≡◌, ℕ, ◌<◌, ◌≤◌, nat_eq, List, Some, length, position}
+use Rattle.std.proofs.Common.{refl, ap, ◌∙◌, sym, subst, get_or, set}
+use Rattle.std.proofs.lemmas.List.{get_or-set_same, set-set}
+use Rattle.policy_audit.specs.History.{History}
+use Rattle.policy_audit.proofs.KeptNumbers.{kept_climbs}
+use Rattle.node_core.specs.declared.link_state.LinkState.{LinkState}
+use Rattle.node_core.specs.declared.link_state.LinkState.TheVariants as states
+use Rattle.node_core.specs.Core.{Parts, Follows}
+use Rattle.node_core.specs.Handshakes.{IsReady}
+use Rattle.node_core.specs.LinkFacts.{facts, link_words, IsState, IsLinkOf}
+use Rattle.node_core.specs.Links.{KeptLink, with_room}
+use Rattle.node_core.proofs.Emptied.{IsEmptied, taken_out, ready}
+use Rattle.node_core.proofs.HeardFrames.{is_there, link_there, state_there}
+use Rattle.node_core.proofs.KeptOn.{each_at, one_follows}
+
+-- the link v at a place, w with more room, and without its state
+pub record IsHeld (kept : List KeptLink) (p : ℕ) (v w next last : KeptLink) (s : LinkState) : Type 0 where
+  pub first : v ≡ get_or kept p v
+  pub roomy : w ≡ with_room v w.room
+  pub then : next ≡ get_or (set kept p w) p next
+  pub emptied : last ≡ record next { state = states.Ended }
+  pub state : s ≡ next.state
+
+pub held_now : (kept : List KeptLink) (p : ℕ) (v w next last : KeptLink) (s : LinkState) → v ≡ get_or kept p v → w ≡ with_room v w.room → next ≡ get_or (set kept p w) p next → last ≡ record next { state = states.Ended } → s ≡ next.state → IsHeld kept p v w next last s
+held_now kept p v w next last s a b c d e = record { first = a; roomy = b; then = c; emptied = d; state = e }
+
+-- more room alone changes nothing
+pub room_follows : (h : History) (parts : Parts) (t : Follows h parts) (p : ℕ) → p < length parts.links → (v w : KeptLink) → v ≡ get_or parts.links p v → w ≡ with_room v w.room → Follows h (record parts { links = set parts.links p w })
+room_follows h parts t p here v w is roomy = record {
+  sound = t.sound;
+  admission = t.admission;
+  processes = t.processes;
+  scopes = t.scopes;
+  links = one_follows (link_words h) (link_words h) w same (λ x apart a. a) parts.links p v t.links (kept_climbs h t.sound.legal) refl here (ap (λ (x : KeptLink). x.number) (roomy ∙ ap (λ (x : KeptLink). with_room x w.room) is));
+  monitors = t.monitors;
+}
+  where
+    was : IsLinkOf (link_words h) (get_or parts.links p v)
+    was = each_at (IsLinkOf (link_words h)) parts.links p v t.links.each here
+
+    same : IsLinkOf (link_words h) w
+    same = subst (IsLinkOf (link_words h)) (sym (roomy ∙ ap (λ (x : KeptLink). with_room x w.room) is)) (record { state = was.state; frames = was.frames; idle = was.idle })
+
+module _ (h : History) (parts : Parts) (t : Follows h parts) (j p : ℕ) (at : position (λ x. nat_eq x.number j) parts.links ≡ Some p) (v w next last : KeptLink) (s : LinkState) (held : IsHeld parts.links p v w next last s) where
+  here : p < length parts.links
+  here = (is_there h parts t j p at v).0
+
+  with_state : next ≡ w
+  with_state = held.then ∙ get_or-set_same parts.links p w next here
+
+  pub held_is : s ≡ (get_or parts.links p v).state
+  held_is = held.state ∙ ap (λ (x : KeptLink). x.state) (with_state ∙ held.roomy ∙ ap (λ (x : KeptLink). with_room x w.room) held.first)
+
+  pub held_state : IsState (facts h j) s
+  held_state = subst (IsState (facts h j)) (sym held_is) (state_there h parts t j p at v)
+
+  pub held_out : IsEmptied parts.links p w.room (set (set parts.links p w) p last)
+  held_out = taken_out parts.links p here v v held.first w held.roomy next next held.then last held.emptied
+
+  pub held_ready : (n : ℕ) → n ≤ w.room → IsReady (set (set parts.links p w) p last) p n
+  held_ready n fits = ready parts.links p here w.room (set (set parts.links p w) p last) held_out n fits (λ d. (link_there h parts t j p at d).idle)
+
+  -- the state is given back
+  pub held_restored : (third : KeptLink) → third ≡ get_or (set (set parts.links p w) p last) p third → (back : LinkState) → back ≡ s → (fin : KeptLink) → fin ≡ record third { state = back }
+      → Follows h (record parts { links = set (set (set parts.links p w) p last) p fin })
+  held_restored third is back same fin now = subst (λ xs. Follows h (record parts { links = xs })) (sym all) (room_follows h parts t p here v w held.first held.roomy)
+    where
+      there : third ≡ last
+      there = is ∙ ap (λ xs. get_or xs p third) (set-set parts.links p w last) ∙ get_or-set_same parts.links p last third here
+
+      again : fin ≡ w
+      again = now ∙ (λ i. record (there i) { state = (same ∙ held.state) i }) ∙ ap (λ (x : KeptLink). record x { state = next.state }) held.emptied ∙ with_state
+
+      all : set (set (set parts.links p w) p last) p fin ≡ set parts.links p w
+      all = ap (λ xs. set xs p fin) (set-set parts.links p w last) ∙ set-set parts.links p last fin ∙ ap (set parts.links p) again

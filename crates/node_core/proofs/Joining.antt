@@ -1,0 +1,175 @@
+-- Own processes that join groups.
+use Rattle.std.specs.Prelude.{◌≡◌, ℕ, zero, suc, ◌+◌, ◌==◌, ◌<◌, ◌≤◌, nat_le, Bool, true, false, cond, ◌&&◌, not, List, [], ◌∷◌, ◌++◌, Option, Some, None, map, length, position, All}
+use Rattle.std.proofs.Common.{refl, ap, ◌∙◌, sym, arith, get_or, set}
+use Rattle.std.proofs.lemmas.Bool.{le-leb, leb-true}
+use Rattle.std.specs.List.{list_all}
+use Rattle.dist_types.specs.declared.pid.Pid.{Pid}
+use Rattle.dist_types.specs.Listing.{listing, mentions, same}
+use Rattle.dist_types.specs.Order.{pid_cmp}
+use Rattle.dist_types.proofs.Orders.{same_decides}
+use Rattle.link_frames.specs.declared.message.Message.{Message}
+use Rattle.link_frames.specs.declared.message.Message.TheVariants as said
+use Rattle.scope_core.specs.Table.{local_total, max_rows}
+use Rattle.scope_core.specs.Calls.{count_after_join}
+use Rattle.group_monitors.proofs.Followed.{follows_other}
+use Rattle.policy_audit.specs.declared.change.Change.{Change}
+use Rattle.policy_audit.specs.declared.entry.Entry.{Entry}
+use Rattle.policy_audit.specs.declared.entry.Verdict.TheVariants.{Accepted}
+use Rattle.policy_audit.specs.declared.event.Event.TheVariants as event
+use Rattle.policy_audit.specs.declared.reply.Reply.TheVariants as reply
+use Rattle.policy_audit.specs.declared.rule.Rule.{Rule}
+use Rattle.policy_audit.specs.declared.rule.Rule.TheVariants as rule
+use Rattle.policy_audit.specs.History.{History, creation}
+use Rattle.policy_audit.specs.Own.{is_local, is_running, lives}
+use Rattle.policy_audit.specs.Checks.{checks, first_broken}
+use Rattle.policy_audit.specs.Contents.{local_rows, row}
+use Rattle.policy_audit.specs.Listed.{listed}
+use Rattle.policy_audit.specs.Owed.{wide, waiting}
+use Rattle.policy_audit.specs.Policy.{is_full, IsAnswered, IsNext, with_entry}
+use Rattle.policy_audit.proofs.Accepted.{all_hold, lie, no_value, unbroken}
+use Rattle.policy_audit.proofs.LivesNow.{lives_of}
+use Rattle.policy_audit.proofs.RowsAfter.{joined_rows}
+use Rattle.policy_audit.proofs.ScopeFrames.{joined_links, told_numbers}
+use Rattle.policy_audit.proofs.UpLinks.{and_left, and_right}
+use Rattle.node_core.specs.declared.running.Running.{Running}
+use Rattle.node_core.specs.Processes.{Spawned}
+use Rattle.node_core.specs.ProcessFacts.{process_words, ProcessesFollow}
+use Rattle.node_core.specs.Links.{KeptLink}
+use Rattle.node_core.specs.LinkFacts.{link_words}
+use Rattle.node_core.specs.ScopeFacts.{scope_words, is_number, IsRunningOf}
+use Rattle.node_core.specs.Core.{Parts, Follows}
+use Rattle.node_core.specs.Moving.{IsMoved, own_checks}
+use Rattle.node_core.specs.Telling.{if_among, said_to}
+use Rattle.node_core.proofs.Entered.{made, accepted_now, answered_now, next_now, sound_now}
+use Rattle.node_core.proofs.OwnTotal.{rows_total}
+use Rattle.node_core.proofs.Placed.{follows_there, runs_there, scope_is}
+use Rattle.node_core.proofs.Told.{told_follow}
+use Rattle.node_core.proofs.Moved.{moved_change, moved_frames, moved_scopes}
+
+-- own processes live where their numbers do
+pub alive_all : (h : History) (p : Spawned) → ProcessesFollow (process_words h) p → (ps : List Pid) → list_all (is_local h) ps ≡ true → list_all (λ q. is_number q.number p.live) ps ≡ list_all (lives h) ps
+alive_all h p t [] local = refl
+alive_all h p t (q ∷ qs) local =
+    (λ i. (t.live q.number ∙ sym (lives_of h q (and_left (is_local h q) (list_all (is_local h) qs) local))) i && alive_all h p t qs (and_right (is_local h q) (list_all (is_local h) qs) local) i)
+
+-- own processes are of the own node
+pub own_nodes : (h : History) (n : List ℕ) → n ≡ h.opening.name → (ps : List Pid) → list_all (is_local h) ps ≡ true → All (λ p. p.node ≡ n) ps
+own_nodes h n is [] local k d l = absurd (omega (arith, l))
+own_nodes h n is (q ∷ qs) local zero d l = (same_decides q.node h.opening.name).0 (and_left (same q.node h.opening.name) (q.creation == creation h) (and_left (is_local h q) (list_all (is_local h) qs) local)) ∙ sym is
+own_nodes h n is (q ∷ qs) local (suc k) d l = own_nodes h n is qs (and_right (is_local h q) (list_all (is_local h) qs) local) k d (omega (arith, l))
+
+too_many : (n m : ℕ) → m < n → nat_le n m ≡ false
+too_many n m over = by (nat_le n m) refl
+  where
+    by : (b : Bool) → nat_le n m ≡ b → b ≡ false
+    by true e = (let within = leb-true n m e in absurd (omega (arith, over, within)))
+    by false e = refl
+
+more_yet : (n m : ℕ) → nat_le m 4096 ≡ false → nat_le (n + m) 4096 ≡ false
+more_yet n m q = by (nat_le (n + m) 4096) refl
+  where
+    by : (b : Bool) → nat_le (n + m) 4096 ≡ b → b ≡ false
+    by true e = (let within = leb-true (n + m) 4096 e in lie (sym (le-leb m 4096 (omega (arith, within))) ∙ q))
+    by false e = refl
+
+-- ---- the rules of a Join
+
+module _ (h : History) (seat : ℕ) (s g : List ℕ) (ps : List Pid) where
+  abbrev join_broken : Bool → Bool → Bool → Bool → Option Rule
+  join_broken runs local alive fit = cond (not runs) (Some rule.NoScope) (cond (not local) (Some rule.NotLocal) (cond (not alive) (Some rule.NoProcess) (cond (not fit) (Some rule.RowsFull) None)))
+
+  pub join_nowhere : is_running h s ≡ false → first_broken (checks h seat (event.Join s g ps)) ≡ Some rule.NoScope
+  join_nowhere q = ap (λ b. join_broken b (list_all (is_local h) ps) (list_all (lives h) ps) (nat_le (length (local_rows h s) + length ps) 4096)) q
+
+  -- the first rule that processes break by themselves
+  pub join_own : is_running h s ≡ true → (r : Rule) → first_broken (own_checks h ps) ≡ Some r → first_broken (checks h seat (event.Join s g ps)) ≡ Some r
+  join_own runs r q =
+      ap (λ b. join_broken b (list_all (is_local h) ps) (list_all (lives h) ps) (nat_le (length (local_rows h s) + length ps) 4096)) runs
+      ∙ by (list_all (is_local h) ps) (list_all (lives h) ps) (nat_le (length ps) 4096) refl q
+    where
+      by : (local alive short : Bool) → nat_le (length ps) 4096 ≡ short → cond (not local) (Some rule.NotLocal) (cond (not alive) (Some rule.NoProcess) (cond (not short) (Some rule.RowsFull) None)) ≡ Some r
+          → join_broken true local alive (nat_le (length (local_rows h s) + length ps) 4096) ≡ Some r
+      by false alive short e q = q
+      by true false short e q = q
+      by true true false e q = ap (join_broken true true true) (more_yet (length (local_rows h s)) (length ps) e) ∙ q
+      by true true true e q = no_value (sym q)
+
+  module _ (runs : is_running h s ≡ true) (q : first_broken (own_checks h ps) ≡ None) where
+    pub all_local : list_all (is_local h) ps ≡ true
+    all_local = unbroken (list_all (is_local h) ps) (all_hold (own_checks h ps) q).0
+
+    all_alive : list_all (lives h) ps ≡ true
+    all_alive = unbroken (list_all (lives h) ps) (all_hold (own_checks h ps) q).1.0
+
+    pub join_full : 4096 < length (local_rows h s) + length ps → first_broken (checks h seat (event.Join s g ps)) ≡ Some rule.RowsFull
+    join_full many = λ i. join_broken (runs i) (all_local i) (all_alive i) (too_many (length (local_rows h s) + length ps) 4096 many i)
+
+    pub join_holds : length (local_rows h s) + length ps ≤ 4096 → first_broken (checks h seat (event.Join s g ps)) ≡ None
+    join_holds few = λ i. join_broken (runs i) (all_local i) (all_alive i) (le-leb (length (local_rows h s) + length ps) 4096 few i)
+
+pub joins_few : (h : History) (ps : List Pid) → first_broken (own_checks h ps) ≡ None → length ps ≤ 4096
+joins_few h ps q = leb-true (length ps) 4096 (unbroken (nat_le (length ps) 4096) (all_hold (own_checks h ps) q).1.1.0)
+
+pub more_rows : (rows held more : ℕ) → rows ≡ held → max_rows < held + more → 4096 < rows + more
+more_rows rows held more is over = omega (arith, is, over)
+
+-- ---- a Join
+
+module _ (h : History) (seat : ℕ) (parts : Parts) (t : Follows h parts) (s g : List ℕ) (ps : List Pid) (p : ℕ) (here : position (λ r. same r.scope s) parts.scopes ≡ Some p) (a : Running) (at : a ≡ get_or parts.scopes p a) where
+  abbrev there : IsRunningOf (scope_words h) a
+  there = follows_there h parts.scopes t.scopes s p here a at
+
+  abbrev its_scope : a.scope ≡ s
+  its_scope = scope_is h parts.scopes t.scopes s p here a at
+
+  pub runs : is_running h s ≡ true
+  runs = runs_there h parts.scopes t.scopes s p here a at
+
+  pub own_total : length (local_rows h s) ≡ local_total a.table
+  own_total = rows_total h s a its_scope there t.sound.legal
+
+  pub joins_own : first_broken (own_checks h ps) ≡ None → All (λ q. q.node ≡ a.table.own) ps
+  joins_own q = own_nodes h a.table.own there.own ps (all_local h seat s g ps runs q)
+
+  abbrev said_joined : Message
+  said_joined = said.Join a.scope (map (row g) (listing pid_cmp (λ q. mentions q ps) ps))
+
+  module _ (b : Running) (links : List KeptLink) (cs : List Change) (moved : IsMoved said_joined (count_after_join a.table g ps) a b parts.links links cs) where
+    abbrev joined_entry : Entry
+    joined_entry = made h seat (event.Join s g ps) (Accepted reply.Done) cs
+
+    abbrev pub joined_now : History
+    joined_now = with_entry h joined_entry
+
+    module _ (its : IsAnswered h joined_entry) where
+      rows_now : (f : List ℕ) (q : Pid) → listed joined_now s f q ≡ count_after_join a.table g ps f q
+      rows_now f q =
+          joined_rows h joined_entry its refl s g ps refl s f q
+          ∙ ap (λ c. cond c (listed h s f q + cond (same f g) (mentions q ps) 0) (listed h s f q)) ((same_decides s s).1 refl)
+          ∙ ap (λ n. n + cond (same f g) (mentions q ps) 0) (sym (there.rows f q ∙ ap (λ u. listed h u f q) its_scope))
+
+      others_now : (u f : List ℕ) (q : Pid) → same u s ≡ false → listed h u f q ≡ listed joined_now u f q
+      others_now u f q other = sym (joined_rows h joined_entry its refl s g ps refl u f q ∙ ap (λ c. cond c (listed h u f q + cond (same f g) (mentions q ps) 0) (listed h u f q)) other)
+
+    pub join_next : is_full h ≡ false → first_broken (own_checks h ps) ≡ None → local_total a.table + length ps ≤ max_rows → IsNext h joined_entry
+    join_next space q few =
+        let holds = join_holds h seat s g ps runs q (let is = own_total in omega (arith, is, few)) in
+        let verdict = accepted_now h seat (event.Join s g ps) space reply.Done holds refl in
+        let its = answered_now h seat (event.Join s g ps) space (Accepted reply.Done) cs verdict in
+        next_now h seat (event.Join s g ps) space (Accepted reply.Done) cs verdict
+        (moved_change h seat parts t s p here a b at said_joined (count_after_join a.table g ps) links cs moved joined_now (rows_now its) (others_now its))
+
+    pub join_follows : IsNext h joined_entry → Follows joined_now (record parts { scopes = set parts.scopes p b; links = links })
+    join_follows next =
+        let its : IsAnswered h joined_entry = record { room = next.room; number = next.number; verdict = next.verdict } in
+        record {
+          sound = sound_now h parts.limit joined_entry t.sound next;
+          admission = t.admission;
+          processes = t.processes;
+          scopes = moved_scopes h seat parts t s p here a b at said_joined (count_after_join a.table g ps) links cs moved joined_now (rows_now its) (others_now its) refl refl (λ l u. refl) (λ l u. refl);
+          links = told_follow (link_words h) (link_words joined_now) (if_among (said_to a.told.items said_joined) (wide said_joined)) (λ l. refl)
+              (told_numbers h joined_entry its refl refl (λ l. (joined_links h joined_entry its refl s g ps refl l).kept_is)) parts.links links
+              (λ l near. ap (λ f. waiting h l ++ f) (moved_frames h seat parts t s p here a b at said_joined (count_after_join a.table g ps) links cs moved said.Join (map (row g) (listing pid_cmp (λ q. mentions q ps) ps)) l))
+              moved.links t.links;
+          monitors = follows_other h joined_entry parts.monitors next.number t.monitors refl;
+        }

@@ -1,0 +1,86 @@
+-- The kept links after an entry: which of them stay, and how one of them or each is changed.
+use Rattle.std.specs.Prelude.{◌≡◌, ℕ, zero, suc, ◌<◌, nat_eq, nat_lt, Bool, true, false, cond, List, [], ◌∷◌, map, length, Some, position}
+use Rattle.std.proofs.Common.{refl, ap, ◌∙◌, sym, subst, arith, get_or, set}
+use Rattle.std.proofs.lemmas.Bool.{eqb-true, ltb-true}
+use Rattle.std.proofs.lemmas.List.Quantifiers.{position-Some}
+use Rattle.std.specs.List.{filter, list_all, AllByRecursion}
+use Rattle.policy_audit.proofs.KeptNumbers.{Climbs}
+use Rattle.policy_audit.proofs.UpLinks.{and_left, and_right}
+use Rattle.node_core.specs.Links.{KeptLink}
+use Rattle.node_core.specs.LinkFacts.{LinkWords, IsLinkOf, LinksFollow}
+
+-- ---- all links
+
+module _ (w v : LinkWords) (f : KeptLink → KeptLink) (stays : ℕ → Bool) (same : (x : KeptLink) → (f x).number ≡ x.number) where
+  numbers_on : (kept : List KeptLink) → map (λ x. x.number) (filter (λ x. stays x.number) (map f kept)) ≡ filter stays (map (λ x. x.number) kept)
+  numbers_on [] = refl
+  numbers_on (x ∷ xs) = ap (λ n. map (λ y. y.number) (cond (stays n) (f x ∷ filter (λ y. stays y.number) (map f xs)) (filter (λ y. stays y.number) (map f xs)))) (same x) ∙ by (stays x.number) (numbers_on xs)
+    where
+      by : (b : Bool) → map (λ y. y.number) (filter (λ y. stays y.number) (map f xs)) ≡ filter stays (map (λ y. y.number) xs)
+          → map (λ y. y.number) (cond b (f x ∷ filter (λ y. stays y.number) (map f xs)) (filter (λ y. stays y.number) (map f xs))) ≡ cond b (x.number ∷ filter stays (map (λ y. y.number) xs)) (filter stays (map (λ y. y.number) xs))
+      by true later = λ i. same x i ∷ later i
+      by false later = later
+
+  each_on : ((x : KeptLink) → stays x.number ≡ true → IsLinkOf w x → IsLinkOf v (f x)) → (kept : List KeptLink) → AllByRecursion (IsLinkOf w) kept → AllByRecursion (IsLinkOf v) (filter (λ x. stays x.number) (map f kept))
+  each_on on [] a = tt
+  each_on on (x ∷ xs) a = by (stays (f x).number) refl (each_on on xs a.1)
+    where
+      by : (b : Bool) → stays (f x).number ≡ b → AllByRecursion (IsLinkOf v) (filter (λ y. stays y.number) (map f xs))
+          → AllByRecursion (IsLinkOf v) (cond b (f x ∷ filter (λ y. stays y.number) (map f xs)) (filter (λ y. stays y.number) (map f xs)))
+      by true e later = (on x (ap stays (sym (same x)) ∙ e) a.0, later)
+      by false e later = later
+
+  pub all_follow : (kept : List KeptLink) → LinksFollow w kept → v.numbers ≡ filter stays w.numbers
+      → ((x : KeptLink) → stays x.number ≡ true → IsLinkOf w x → IsLinkOf v (f x))
+      → LinksFollow v (filter (λ x. stays x.number) (map f kept))
+  all_follow kept t numbers on = record {
+    numbers = numbers_on kept ∙ ap (filter stays) t.numbers ∙ sym numbers;
+    each = each_on on kept t.each;
+  }
+
+-- ---- one link at a place
+
+-- the place of a number is within the list, and the link there has that number
+pub place_is : (kept : List KeptLink) (j p : ℕ) (d : KeptLink) → position (λ x. nat_eq x.number j) kept ≡ Some p → (p < length kept) × ((get_or kept p d).number ≡ j)
+place_is kept j p d q = let is = position-Some (λ x. nat_eq x.number j) kept p d q in (is.0, eqb-true (get_or kept p d).number j is.1)
+
+-- what holds of each holds of the one at a place
+pub each_at : {A : Type 0} (P : A → Type 0) (xs : List A) (p : ℕ) (d : A) → AllByRecursion P xs → p < length xs → P (get_or xs p d)
+each_at P [] p d a less = absurd (omega (arith, less))
+each_at P (x ∷ xs) zero d a less = a.0
+each_at P (x ∷ xs) (suc p) d a less = each_at P xs p d a.1 (omega (arith, less))
+
+-- one link is changed, all others are as before
+module _ (w v : LinkWords) (y : KeptLink) (here : IsLinkOf v y) (on : (x : KeptLink) → nat_eq x.number y.number ≡ false → IsLinkOf w x → IsLinkOf v x) where
+  above : (n : ℕ) (xs : List KeptLink) → list_all (λ m. nat_lt n m) (map (λ x. x.number) xs) ≡ true → n ≡ y.number → AllByRecursion (IsLinkOf w) xs → AllByRecursion (IsLinkOf v) xs
+  above n [] l e a = tt
+  above n (x ∷ xs) l e a = (on x (apart (nat_eq x.number y.number) refl) a.0, above n xs (and_right (nat_lt n x.number) (list_all (λ m. nat_lt n m) (map (λ z. z.number) xs)) l) e a.1)
+    where
+      apart : (b : Bool) → nat_eq x.number y.number ≡ b → b ≡ false
+      apart false q = refl
+      apart true q = absurd (let less : n < x.number = ltb-true n x.number (and_left (nat_lt n x.number) (list_all (λ m. nat_lt n m) (map (λ z. z.number) xs)) l) in let is : x.number ≡ y.number = eqb-true x.number y.number q in omega (arith, less, is, e))
+
+  below : (n : ℕ) (xs : List KeptLink) (p : ℕ) (d : KeptLink) → list_all (λ m. nat_lt n m) (map (λ x. x.number) xs) ≡ true → p < length xs → n < (get_or xs p d).number
+  below n [] p d l less = absurd (omega (arith, less))
+  below n (x ∷ xs) zero d l less = ltb-true n x.number (and_left (nat_lt n x.number) (list_all (λ m. nat_lt n m) (map (λ z. z.number) xs)) l)
+  below n (x ∷ xs) (suc p) d l less = below n xs p d (and_right (nat_lt n x.number) (list_all (λ m. nat_lt n m) (map (λ z. z.number) xs)) l) (omega (arith, less))
+
+  changed : (xs : List KeptLink) (p : ℕ) (d : KeptLink) → Climbs (map (λ x. x.number) xs) → AllByRecursion (IsLinkOf w) xs → p < length xs → y.number ≡ (get_or xs p d).number → AllByRecursion (IsLinkOf v) (set xs p y)
+  changed [] p d c a less is = tt
+  changed (x ∷ xs) zero d c a less is = (here, above x.number xs c.0 (sym is) a.1)
+  changed (x ∷ xs) (suc p) d c a less is = (on x (apart (nat_eq x.number y.number) refl) a.0, changed xs p d c.1 a.1 (omega (arith, less)) is)
+    where
+      apart : (b : Bool) → nat_eq x.number y.number ≡ b → b ≡ false
+      apart false q = refl
+      apart true q = absurd (let above_it : x.number < (get_or xs p d).number = below x.number xs p d c.0 (omega (arith, less)) in let same : x.number ≡ y.number = eqb-true x.number y.number q in omega (arith, above_it, same, is))
+
+  same_numbers : (xs : List KeptLink) (p : ℕ) (d : KeptLink) → p < length xs → y.number ≡ (get_or xs p d).number → map (λ x. x.number) (set xs p y) ≡ map (λ x. x.number) xs
+  same_numbers [] p d less is = refl
+  same_numbers (x ∷ xs) zero d less is = ap (λ n. n ∷ map (λ z. z.number) xs) is
+  same_numbers (x ∷ xs) (suc p) d less is = ap (λ ns. x.number ∷ ns) (same_numbers xs p d (omega (arith, less)) is)
+
+  pub one_follows : (kept : List KeptLink) (p : ℕ) (d : KeptLink) → LinksFollow w kept → Climbs w.numbers → v.numbers ≡ w.numbers → p < length kept → y.number ≡ (get_or kept p d).number → LinksFollow v (set kept p y)
+  one_follows kept p d t climbs numbers less is = record {
+    numbers = same_numbers kept p d less is ∙ t.numbers ∙ sym numbers;
+    each = changed kept p d (subst Climbs (sym t.numbers) climbs) t.each less is;
+  }

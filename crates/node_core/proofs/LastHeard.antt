@@ -1,0 +1,101 @@
+-- What the last frame of a handshake makes of a node: its link comes up, or ends.
+use Rattle.std.specs.Prelude.{◌≡◌, ℕ, ◌≤◌, nat_eq, Bool, true, false, List, [], Some, length, map, position}
+use Rattle.std.proofs.Common.{refl, ap, ◌∙◌, sym, subst, get_or, set}
+use Rattle.std.proofs.lemmas.List.{get_or_default}
+use Rattle.std.specs.List.{AllZip}
+use Rattle.std.specs.Option.{unwrap_or}
+use Rattle.link_frames.specs.declared.message.Message.TheVariants as said
+use Rattle.link_states.specs.declared.pending.Pending.{Pending}
+use Rattle.link_states.specs.States.{Linked}
+use Rattle.policy_audit.specs.declared.change.Change.{Change}
+use Rattle.policy_audit.specs.declared.entry.Verdict.TheVariants.{Accepted, Refused}
+use Rattle.policy_audit.specs.declared.event.Event.TheVariants as event
+use Rattle.policy_audit.specs.declared.out_frame.OutFrame.{OutFrame}
+use Rattle.policy_audit.specs.declared.reply.Reply.{Reply}
+use Rattle.policy_audit.specs.declared.reply.Reply.TheVariants as reply
+use Rattle.policy_audit.specs.declared.rule.Rule.{Rule}
+use Rattle.policy_audit.specs.History.{History}
+use Rattle.policy_audit.specs.Sides.{awaits, is_last}
+use Rattle.policy_audit.specs.Links.{is_open}
+use Rattle.policy_audit.specs.Checks.{first_broken, frame_checks}
+use Rattle.policy_audit.specs.Owed.{refusal_owes, wide}
+use Rattle.policy_audit.specs.Policy.{IsNext, answer, is_full, with_entry}
+use Rattle.policy_audit.proofs.Accepted.{lie}
+use Rattle.scope_core.specs.Calls.{count_after_drop}
+use Rattle.scope_core.specs.Table.{Table}
+use Rattle.node_core.specs.declared.changes.Part.{Part}
+use Rattle.node_core.specs.declared.hearing.Heard.TheVariants as heard
+use Rattle.node_core.specs.declared.link_state.LinkState.{LinkState}
+use Rattle.node_core.specs.declared.running.Running.{Running}
+use Rattle.node_core.specs.Core.{Parts, Follows}
+use Rattle.node_core.specs.Handshakes.{HaveComeUp, HaveEnded, older_of}
+use Rattle.node_core.specs.Hearing.{Hears, is_handshake}
+use Rattle.node_core.specs.LinkFacts.{facts, IsState}
+use Rattle.node_core.specs.Links.{KeptLink, known_peer, narrow_frames, up_peer}
+use Rattle.node_core.specs.Parting.{ArePartings, IsCutOff, count_but}
+use Rattle.node_core.proofs.Entered.{made}
+use Rattle.node_core.proofs.Found.{some_is}
+use Rattle.node_core.proofs.FrameRefused.{refused_follows, refused_next}
+use Rattle.node_core.proofs.HeardFrames.{few_frames, few_refused, is_there, last_comes_up, last_state, unwhole_state}
+use Rattle.node_core.proofs.HeldLink.{IsHeld, held_is, held_out, held_state}
+use Rattle.node_core.proofs.LastFrame.{up_follows, up_next}
+use Rattle.node_core.proofs.ProofChecked.{ComesUp, answered_up, awaits_last, comes, ended_by, fails, is_last_state, not_up_yet}
+
+module _ (h : History) (parts : Parts) (t : Follows h parts) (seat j p : ℕ) (body : List ℕ) (space : is_full h ≡ false) (opens : is_open j h.entries ≡ true) (final : is_last (awaits j h.entries) ≡ true)
+    (at : position (λ x. nat_eq x.number j) parts.links ≡ Some p) (v w next last : KeptLink) (s : LinkState) (held : IsHeld parts.links p v w next last s) where
+  its_state : IsState (facts h j) s
+  its_state = held_state h parts t j p at v w next last s held
+
+  late : is_last_state s ≡ true
+  late = awaits_last h j s its_state opens final
+
+  pub handshakes : is_handshake s ≡ true
+  handshakes = (last_state h j opens final s its_state).1
+
+  module _ (pending : Pending) where
+    pub last_never_on : (now : LinkState) (frames : List (List ℕ)) (gives_up : Bool) → Hears parts.admission pending s body (heard.On now frames gives_up) → ⊥
+    last_never_on now frames gives_up hears = lie (sym (last_comes_up parts.admission pending body s (last_state h j opens final s its_state).0 (heard.On now frames gives_up) hears.1))
+
+    pub last_few_ended : (r : Rule) (frames : List (List ℕ)) → Hears parts.admission pending s body (heard.Ended r frames) → length frames ≤ 2
+    last_few_ended r frames hears = subst (λ fs. length fs ≤ 2) (sym hears.3) (few_refused hears.0)
+
+    module _ (r : Rule) (frames : List (List ℕ)) (hears : Hears parts.admission pending s body (heard.Ended r frames)) where
+      breaks : (first_broken (frame_checks h j body (awaits j h.entries)) ≡ Some r) × (refusal_owes r ≡ narrow_frames frames)
+      breaks = ended_by h j parts.admission t.admission body pending s late its_state r frames hears
+
+      pub last_broke : IsNext h (made h seat (event.Frame j body) (Refused r) [])
+      last_broke = refused_next h seat j body r space (fails h seat j body r opens breaks.0)
+
+      pub last_ended : (new : List KeptLink) → HaveEnded p frames (set (set parts.links p w) p last) new → Follows (with_entry h (made h seat (event.Frame j body) (Refused r) [])) (record parts { links = new })
+      last_ended new ends =
+          let there = is_there h parts t j p at v in
+          refused_follows h seat j body r opens (unwhole_state h j s handshakes its_state) (narrow_frames frames) breaks.1 parts t p v there.0 there.1 last_broke w.room (set (set parts.links p w) p last) new (held_out h parts t j p at v w next last s held) frames refl ends
+
+    module _ (up : Linked) (frames : List (List ℕ)) (hears : Hears parts.admission pending s body (heard.Up up frames)) where
+      it : ComesUp h j body up frames × (known_peer s ≡ Some up.peer)
+      it = comes h j parts.admission t.admission body pending s late its_state up frames hears
+
+      pub last_few : length frames ≤ 2
+      last_few = few_frames parts.admission pending body s (heard.Up up frames) hears.1
+
+      -- the peer as it was named before, and the answer
+      module _ (u : KeptLink) (u_is : u ≡ get_or parts.links p u) (peer : List ℕ) (known : known_peer u.state ≡ Some peer) (r : Reply) (q : r ≡ reply.Up peer up.creation up.visible) (cs : List Change) where
+        peer_is : peer ≡ up.peer
+        peer_is =
+            let there = is_there h parts t j p at v in
+            some_is (sym known ∙ ap (λ (x : KeptLink). known_peer x.state) (u_is ∙ get_or_default parts.links p u v there.0) ∙ ap known_peer (sym (held_is h parts t j p at v w next last s held)) ∙ it.1)
+
+        reply_is : answer h seat (event.Frame j body) ≡ r
+        reply_is = answered_up h j body up frames it.0 seat ∙ sym (q ∙ ap (λ n. reply.Up n up.creation up.visible) peer_is)
+
+        pub last_next : (away : Part) (scopes : List Running) → ArePartings away scopes cs → scopes ≡ parts.scopes → ((x : Table) → count_but away x ≡ count_after_drop x peer) → IsNext h (made h seat (event.Frame j body) (Accepted r) cs)
+        last_next away scopes gone these drops = up_next h seat j body up frames it.0 r cs space reply_is parts t away (λ x. drops x ∙ ap (count_after_drop x) peer_is) (subst (λ rs. ArePartings away rs cs) these gone)
+
+        pub last_came_up : IsNext h (made h seat (event.Frame j body) (Accepted r) cs) → (new : List KeptLink) (asked : List OutFrame) (running : List Running) → asked ≡ map (λ x. wide (said.Discover x.scope)) running → running ≡ parts.scopes
+            → HaveComeUp p up frames asked (set (set parts.links p w) p last) new
+            → (scopes : List Running) → AllZip (IsCutOff (unwrap_or (older_of up.peer (set (set parts.links p w) p last)) j) up.peer) parts.scopes scopes
+            → Follows (with_entry h (made h seat (event.Frame j body) (Accepted r) cs)) (record parts { links = new; scopes = scopes })
+        last_came_up enters new asked running discover these ups scopes cut =
+            let there = is_there h parts t j p at v in
+            up_follows h seat j body up frames it.0 r cs space reply_is parts t p v there.0 there.1 (ap up_peer (sym (held_is h parts t j p at v w next last s held)) ∙ not_up_yet s late)
+            enters w.room (set (set parts.links p w) p last) new (held_out h parts t j p at v w next last s held) asked (discover ∙ ap (map (λ (x : Running). wide (said.Discover x.scope))) these) ups scopes cut

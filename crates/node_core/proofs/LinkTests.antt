@@ -1,0 +1,150 @@
+-- Which peers are up and which are dialled, by the states of the kept links.
+use Rattle.std.specs.Prelude.{◌≡◌, ℕ, ◌+◌, ◌==◌, Bool, true, false, cond, ◌&&◌, ◌||◌, not, List, [], ◌∷◌, Option, Some, None, length, is_some, position, nat_lt, suc}
+use Rattle.std.proofs.Common.{refl, ap, ◌∙◌, sym, arith}
+use Rattle.std.proofs.lemmas.Bool.{eqb-true, lt-ltb, ltb-true, ltb-false}
+use Rattle.std.specs.List.{list_any, position_or_len, AllByRecursion}
+use Rattle.std.specs.Option.{option_map_or}
+use Rattle.dist_types.specs.Listing.{same, is_among}
+use Rattle.dist_types.specs.Difference.{is_empty}
+use Rattle.dist_types.proofs.Orders.{same_decides}
+use Rattle.admission_rules.specs.Admission.{AdmissionRules}
+use Rattle.link_states.specs.Checks.{allows}
+use Rattle.policy_audit.specs.History.{History}
+use Rattle.policy_audit.specs.Admission.{allowed, allow_list}
+use Rattle.policy_audit.specs.Sides.{awaits, is_peer, is_name_up, is_whole, opened, peer_of}
+use Rattle.policy_audit.specs.Links.{is_open, is_up, is_dial_to, is_dialling, is_unfinished_dial}
+use Rattle.policy_audit.specs.declared.rule.Rule.TheVariants as rule
+use Rattle.policy_audit.specs.Checks.{dial_checks, first_broken, kept_links}
+use Rattle.policy_audit.specs.Policy.{IsLegal}
+use Rattle.policy_audit.proofs.Accepted.{lie}
+use Rattle.policy_audit.proofs.UpLinks.{and_false}
+use Rattle.policy_audit.proofs.KeptNumbers.{name_up_kept, dialling_kept}
+use Rattle.policy_audit.proofs.Onward.{is_acceptors, is_diallers, by_peer, by_dial}
+use Rattle.node_core.specs.declared.link_state.LinkState.{LinkState}
+use Rattle.node_core.specs.declared.link_state.LinkState.TheVariants as state
+use Rattle.node_core.specs.Links.{KeptLink, up_peer, dialled_peer}
+use Rattle.node_core.specs.LinkFacts.{facts, link_words, Awaits, IsState, IsLinkOf, LinksFollow}
+use Rattle.node_core.specs.AdmissionFacts.{admission_words, AdmissionFollows}
+use Rattle.node_core.proofs.Found.{any_map}
+use Rattle.node_core.proofs.Once.{same_names}
+
+-- tests that agree on all
+agree : {A : Type 0} (P : A → Type 0) (f g : A → Bool) → ((x : A) → P x → f x ≡ g x) → (xs : List A) → AllByRecursion P xs → list_any f xs ≡ list_any g xs
+agree P f g each [] a = refl
+agree P f g each (x ∷ xs) a = λ i. each x a.0 i || agree P f g each xs a.1 i
+
+module _ (h : History) (n : List ℕ) where
+  down : (l : ℕ) → is_whole l h.entries ≡ false → false ≡ (is_up l h.entries && is_peer n l h.entries)
+  down l unwhole = sym (ap (λ b. (is_open l h.entries && b) && is_peer n l h.entries) unwhole ∙ ap (λ b. b && is_peer n l h.entries) (and_false (is_open l h.entries)))
+
+  -- a link is up with n exactly where its state says so
+  pub up_by : (l : ℕ) (s : LinkState) → IsState (facts h l) s → option_map_or (λ m. same m n) (up_peer s) false ≡ (is_up l h.entries && is_peer n l h.entries)
+  up_by l (state.Name c) t = down l t.0.whole
+  up_by l (state.Answer s) t = down l t.0.whole
+  up_by l (state.Reply s) t = down l t.0.whole
+  up_by l (state.Status s) t = down l t.0.whole
+  up_by l (state.Challenge s) t = down l t.0.whole
+  up_by l (state.Ack s) t = down l t.0.whole
+  up_by l (state.Up s) t = sym (λ i. (t.0.open_now i && t.0.whole i) && option_map_or (λ m. same m n) (t.1.peer.peer i) false)
+  up_by l state.Ended t = sym (ap (λ b. (b && is_whole l h.entries) && is_peer n l h.entries) t)
+
+  undialled : (l : ℕ) → Awaits (facts h l) (awaits l h.entries) false → is_acceptors (awaits l h.entries) ≡ true → false ≡ (is_open l h.entries && is_unfinished_dial n l h.entries)
+  undialled l t a = sym ((λ i. t.open_now i && (option_map_or (λ o. is_dial_to n o.start) ((by_peer l h.entries t.open_now a).opened i) false && not (is_whole l h.entries))))
+
+  dialled : (l : ℕ) (m : List ℕ) → is_open l h.entries ≡ true → is_whole l h.entries ≡ false → is_diallers (awaits l h.entries) ≡ true → peer_of l h.entries ≡ Some m → same m n ≡ (is_open l h.entries && is_unfinished_dial n l h.entries)
+  dialled l m opens unwhole a of =
+      let it = by_dial l h.entries opens a in
+      ap (λ o. option_map_or (λ x. same x n) o false) (sym of ∙ it.peer_is)
+      ∙ sym (plain (same it.peer n)) ∙ sym (λ i. opens i && (option_map_or (λ o. is_dial_to n o.start) (it.opened i) false && not (unwhole i)))
+    where
+      plain : (b : Bool) → (b && true) ≡ b
+      plain true = refl
+      plain false = refl
+
+  -- a link is an own dial to n exactly where its state says so
+  pub dialled_by : (l : ℕ) (s : LinkState) → IsState (facts h l) s → option_map_or (λ m. same m n) (dialled_peer s) false ≡ (is_open l h.entries && is_unfinished_dial n l h.entries)
+  dialled_by l (state.Name c) t = undialled l (record { open_now = t.0.open_now; whole = t.0.whole; awaited = refl }) (ap is_acceptors t.0.awaited)
+  dialled_by l (state.Answer s) t = undialled l (record { open_now = t.0.open_now; whole = t.0.whole; awaited = refl }) (ap is_acceptors t.0.awaited)
+  dialled_by l (state.Reply s) t = undialled l (record { open_now = t.0.open_now; whole = t.0.whole; awaited = refl }) (ap is_acceptors t.0.awaited)
+  dialled_by l (state.Status s) t = dialled l s.peer t.0.open_now t.0.whole (ap is_diallers t.0.awaited) t.1.peer.peer
+  dialled_by l (state.Challenge s) t = dialled l s.peer t.0.open_now t.0.whole (ap is_diallers t.0.awaited) t.1.peer.peer
+  dialled_by l (state.Ack s) t = dialled l s.peer t.0.open_now t.0.whole (ap is_diallers t.0.awaited) t.1.peer.peer
+  dialled_by l (state.Up s) t = sym (ap (λ b. is_open l h.entries && (option_map_or (λ o. is_dial_to n o.start) (opened l h.entries) false && not b)) t.0.whole
+      ∙ ap (λ b. is_open l h.entries && b) (and_false (option_map_or (λ o. is_dial_to n o.start) (opened l h.entries) false)) ∙ and_false (is_open l h.entries))
+  dialled_by l state.Ended t = sym (ap (λ b. b && is_unfinished_dial n l h.entries) t)
+
+  module _ (legal : IsLegal h) (kept : List KeptLink) (t : LinksFollow (link_words h) kept) where
+    -- a peer is up where a kept link is up with it
+    pub up_is : list_any (λ x. option_map_or (λ m. same m n) (up_peer x.state) false) kept ≡ is_name_up n h.entries
+    up_is =
+        agree (IsLinkOf (link_words h)) (λ x. option_map_or (λ m. same m n) (up_peer x.state) false) (λ x. is_up x.number h.entries && is_peer n x.number h.entries) (λ x it. up_by x.number x.state it.state) kept t.each
+        ∙ sym (any_map (λ l. is_up l h.entries && is_peer n l h.entries) (λ x. x.number) kept)
+        ∙ ap (list_any (λ l. is_up l h.entries && is_peer n l h.entries)) t.numbers ∙ sym (name_up_kept h legal n)
+
+    -- a peer is dialled where a kept link is a dial to it
+    pub dialling_is : list_any (λ x. option_map_or (λ m. same m n) (dialled_peer x.state) false) kept ≡ is_dialling n h.entries
+    dialling_is =
+        agree (IsLinkOf (link_words h)) (λ x. option_map_or (λ m. same m n) (dialled_peer x.state) false) (λ x. is_open x.number h.entries && is_unfinished_dial n x.number h.entries) (λ x it. dialled_by x.number x.state it.state) kept t.each
+        ∙ sym (any_map (λ l. is_open l h.entries && is_unfinished_dial n l h.entries) (λ x. x.number) kept)
+        ∙ ap (list_any (λ l. is_open l h.entries && is_unfinished_dial n l h.entries)) t.numbers ∙ sym (dialling_kept h legal n)
+
+one_less : (n m : ℕ) → nat_lt (1 + n) (suc m) ≡ nat_lt n m
+one_less n m = by (nat_lt (1 + n) (suc m)) refl (nat_lt n m) refl
+  where
+    by : (a : Bool) → nat_lt (1 + n) (suc m) ≡ a → (b : Bool) → nat_lt n m ≡ b → a ≡ b
+    by true p true q = refl
+    by false p false q = refl
+    by true p false q = absurd (let less = ltb-true (1 + n) (suc m) p in let more = ltb-false n m q in omega (arith, less, more))
+    by false p true q = absurd (let less = ltb-true n m q in let more = ltb-false (1 + n) (suc m) p in omega (arith, less, more))
+
+-- a place is found where one passes
+module _ {A : Type 0} (test : A → Bool) where
+  place_by : (xs : List A) → (nat_lt (position_or_len test xs) (length xs) ≡ list_any test xs)
+  place_by [] = refl
+  place_by (x ∷ xs) = by (test x) refl (place_by xs)
+    where
+      by : (b : Bool) → test x ≡ b → nat_lt (position_or_len test xs) (length xs) ≡ list_any test xs → nat_lt (position_or_len test (x ∷ xs)) (length (x ∷ xs)) ≡ (test x || list_any test xs)
+      by true q later = ap (λ b. nat_lt (cond (not b) (1 + position_or_len test xs) 0) (suc (length xs))) q ∙ lt-ltb 0 (suc (length xs)) (omega arith) ∙ sym (ap (λ b. b || list_any test xs) q)
+      by false q later = ap (λ b. nat_lt (cond (not b) (1 + position_or_len test xs) 0) (suc (length xs))) q ∙ one_less (position_or_len test xs) (length xs) ∙ later ∙ sym (ap (λ b. b || list_any test xs) q)
+
+  pub place_found : (xs : List A) → is_some (position test xs) ≡ list_any test xs
+  place_found xs = one (nat_lt (position_or_len test xs) (length xs)) ∙ place_by xs
+    where
+      one : (b : Bool) → is_some {T = ℕ} (cond b (Some (position_or_len test xs)) None) ≡ b
+      one true = refl
+      one false = refl
+
+-- ---- who is allowed
+
+module _ (h : History) (rules : AdmissionRules) (t : AdmissionFollows (admission_words h) rules) where
+  none_named : (xs ys : List (List ℕ)) → ((q : List ℕ) → is_among q xs ≡ is_among q ys) → (length xs == 0) ≡ is_empty ys
+  none_named [] [] q = refl
+  none_named [] (y ∷ ys) q = lie (sym (q y ∙ ap (λ b. b || is_among y ys) ((same_decides y y).1 refl)))
+  none_named (x ∷ xs) [] q = lie (sym (ap (λ b. b || is_among x xs) ((same_decides x x).1 refl)) ∙ q x)
+  none_named (x ∷ xs) (y ∷ ys) q = some (length (x ∷ xs) == 0) refl
+    where
+      some : (b : Bool) → (length (x ∷ xs) == 0) ≡ b → b ≡ false
+      some false e = refl
+      some true e = absurd (let none : length (x ∷ xs) ≡ 0 = eqb-true (length (x ∷ xs)) 0 e in omega (arith, none))
+
+  -- a name is allowed by the rules where it is allowed by the policy
+  pub allowed_by : (n : List ℕ) → allows rules n ≡ allowed h n
+  allowed_by n = λ i. none_named rules.allowed (allow_list h) (same_names rules.allowed (allow_list h) t.allowed) i || same_names rules.allowed (allow_list h) t.allowed n i
+
+-- ---- a dial
+
+-- the first rule that a dial breaks, by what is tested
+pub dial_by : (h : History) (n : List ℕ) (own granted up dials room : Bool) → same n h.opening.name ≡ own → allowed h n ≡ granted → is_name_up n h.entries ≡ up → is_dialling n h.entries ≡ dials → nat_lt (kept_links h) 64 ≡ room
+    → first_broken (dial_checks h n) ≡ cond own (Some rule.OwnName) (cond (not granted) (Some rule.NotAllowed) (cond up (Some rule.LinkUp) (cond dials (Some rule.LinkPending) (cond (not room) (Some rule.LinksFull) None))))
+dial_by h n own granted up dials room a b c d e =
+    (λ i. cond (not (not (a i))) (Some rule.OwnName) (cond (not (b i)) (Some rule.NotAllowed) (cond (not (not (c i))) (Some rule.LinkUp) (cond (not (not (d i))) (Some rule.LinkPending) (cond (not (e i)) (Some rule.LinksFull) None)))))
+    ∙ (λ i. cond (twice own i) (Some rule.OwnName) (cond (not granted) (Some rule.NotAllowed) (cond (twice up i) (Some rule.LinkUp) (cond (twice dials i) (Some rule.LinkPending) (cond (not room) (Some rule.LinksFull) None)))))
+  where
+    twice : (x : Bool) → not (not x) ≡ x
+    twice true = refl
+    twice false = refl
+
+-- an option that is no value
+pub not_some : {A : Type 0} (o : Option A) → ((x : A) → o ≡ Some x → ⊥) → o ≡ None
+not_some None f = refl
+not_some (Some x) f = absurd (f x refl)

@@ -1,0 +1,61 @@
+-- The processes of a node after those that were spawned.
+use Rattle.std.specs.Prelude.{◌≡◌, ℕ, ◌+◌, ◌<◌, nat_eq, nat_le, nat_lt, Bool, true, false, cond, List, [], length}
+use Rattle.std.proofs.Common.{refl, ap, ◌∙◌, sym, arith}
+use Rattle.std.proofs.lemmas.Bool.{le-leb, leb-true, lt-ltb, ltb-true, ltb-false}
+use Rattle.policy_audit.specs.declared.event.Event.TheVariants as event
+use Rattle.policy_audit.specs.declared.reply.Reply.{Reply}
+use Rattle.policy_audit.specs.declared.entry.Verdict.TheVariants.{Accepted}
+use Rattle.policy_audit.specs.History.{History}
+use Rattle.policy_audit.specs.Own.{spawned, living, lives}
+use Rattle.policy_audit.specs.History.{creation}
+use Rattle.policy_audit.specs.declared.reply.Reply.TheVariants as reply
+use Rattle.policy_audit.specs.Policy.{answer}
+use Rattle.policy_audit.specs.Policy.{IsLegal, IsNext}
+use Rattle.policy_audit.proofs.Accepted.{lie}
+use Rattle.policy_audit.proofs.UpLinks.{and_left, and_right}
+use Rattle.policy_audit.proofs.LivesNow.{own_pid, lives_spawned}
+use Rattle.node_core.specs.Processes.{Spawned}
+use Rattle.node_core.specs.ProcessFacts.{process_words, ProcessesFollow}
+use Rattle.node_core.specs.ScopeFacts.{is_number}
+use Rattle.node_core.proofs.Entered.{made}
+use Rattle.node_core.proofs.Calm.{answered}
+
+pub under : (n m : ℕ) → nat_le n m ≡ false → m < n
+under n m q = by (nat_lt m n) refl
+  where
+    by : (b : Bool) → nat_lt m n ≡ b → m < n
+    by true e = ltb-true m n e
+    by false e = (let least = ltb-false m n e in lie (sym (le-leb n m (omega (arith, least))) ∙ q))
+
+not_true : (b : Bool) → (b ≡ true → ⊥) → b ≡ false
+not_true true f = absurd (f refl)
+not_true false f = refl
+
+module _ (h : History) (p : Spawned) (t : ProcessesFollow (process_words h) p) where
+  -- where there is room among those that live, one more may be spawned
+  pub pids_fit : nat_le 65536 (length p.live) ≡ false → nat_lt (living h) 65536 ≡ true
+  pids_fit q = lt-ltb (living h) 65536 (let few = under 65536 (length p.live) q in let count = t.count in omega (arith, few, count))
+
+  -- the next process doesn't live yet
+  pub next_is_new : is_number (p.spawned + 1) p.live ≡ false
+  next_is_new = t.live (p.spawned + 1) ∙ not_true (lives h (own_pid h (p.spawned + 1))) (λ q.
+      let born = and_right _ (nat_le (p.spawned + 1) (spawned h)) (and_left _ _ q) in
+      let within = leb-true (p.spawned + 1) (spawned h) born in
+      let is = t.spawned in
+      omega (arith, within, is))
+
+  pub spawned_follow : (seat : ℕ) (r : Reply) (q : Spawned) → IsLegal h → IsNext h (made h seat event.Spawn (Accepted r) []) → q.spawned ≡ p.spawned + 1
+      → ((n : ℕ) → is_number n q.live ≡ cond (nat_eq (p.spawned + 1) n) true (is_number n p.live)) → length q.live ≡ length p.live + 1
+      → ProcessesFollow (process_words (answered h seat event.Spawn r)) q
+  spawned_follow seat r q legal next more live count = record {
+    spawned = let is = t.spawned in omega (arith, more, is);
+    live = λ n.
+        live n ∙ ap (λ k. cond (nat_eq (k + 1) n) true (is_number n p.live)) t.spawned
+        ∙ ap (λ b. cond (nat_eq (spawned h + 1) n) true b) (t.live n)
+        ∙ sym (lives_spawned h (made h seat event.Spawn (Accepted r) []) (record { room = next.room; number = next.number; verdict = next.verdict }) refl legal refl n);
+    count = let was = t.count in omega (arith, count, was);
+  }
+
+-- the next process, as the policy names it
+pub spawn_answer : (h : History) (seat : ℕ) (name : List ℕ) (made_by number : ℕ) → name ≡ h.opening.name → made_by ≡ creation h → number ≡ spawned h → answer h seat event.Spawn ≡ reply.Pid (record { node = name; creation = made_by; number = number + 1 })
+spawn_answer h seat name made_by number a b c = sym (λ i. reply.Pid (record { node = a i; creation = b i; number = c i + 1 }))

@@ -1,0 +1,194 @@
+-- What a node keeps after a message that is accepted.
+use Rattle.std.specs.Prelude.{◌≡◌, ℕ, nat_eq, ◌<◌, Bool, true, false, cond, ◌||◌, ◌==◌, not, List, [], ◌∷◌, ◌++◌, length, position, Some, None}
+use Rattle.std.proofs.Common.{refl, ap, ◌∙◌, sym, subst, get_or, set}
+use Rattle.std.proofs.lemmas.Bool.{eqb-true, eq-eqb}
+use Rattle.std.proofs.lemmas.List.{append-nil}
+use Rattle.std.specs.Option.{option_map_or}
+use Rattle.std.specs.List.{filter}
+use Rattle.dist_types.specs.declared.pid.Pid.{Pid}
+use Rattle.dist_types.specs.declared.change.GroupChange.{GroupChange}
+use Rattle.dist_types.specs.Listing.{same}
+use Rattle.dist_types.specs.Difference.{IsDifference, is_empty}
+use Rattle.dist_types.proofs.Orders.{same_sym}
+use Rattle.link_frames.specs.declared.message.Message.{Message}
+use Rattle.policy_audit.specs.declared.event.Event.TheVariants as event
+use Rattle.policy_audit.specs.declared.reply.Reply.TheVariants as reply
+use Rattle.policy_audit.specs.declared.rule.Rule.TheVariants as rule
+use Rattle.policy_audit.specs.declared.change.Change.{Change}
+use Rattle.policy_audit.specs.declared.entry.Entry.{Entry}
+use Rattle.policy_audit.specs.declared.entry.Verdict.TheVariants.{Accepted}
+use Rattle.policy_audit.specs.History.{History}
+use Rattle.policy_audit.specs.Sides.{AwaitMessage, awaits, is_whole, is_last, challenge_in}
+use Rattle.policy_audit.specs.Links.{is_open, is_up, links, named_by}
+use Rattle.policy_audit.specs.Hearing.{message_taken, heard, told}
+use Rattle.policy_audit.specs.Listed.{listed}
+use Rattle.policy_audit.specs.Checks.{checks, first_broken, frame_checks, message_checks, always}
+use Rattle.policy_audit.specs.Owed.{waiting, message_owes, frame_owes}
+use Rattle.policy_audit.specs.Changes.{IsChange, if_some}
+use Rattle.policy_audit.specs.Policy.{is_full, with_entry, up_answer, verdict, IsAnswered, IsNext, IsLegal}
+use Rattle.policy_audit.specs.Effects.{IsSameLink}
+use Rattle.policy_audit.proofs.UpLinks.{and_left, and_right, flip}
+use Rattle.policy_audit.proofs.Effects.{entry_link}
+use Rattle.policy_audit.proofs.Onward.{message_taken_on}
+use Rattle.policy_audit.proofs.LinkFrames.{message_links}
+use Rattle.policy_audit.proofs.LinksLeft.{framed_numbers}
+use Rattle.policy_audit.proofs.KeptNumbers.{kept_climbs}
+use Rattle.policy_audit.proofs.ScopeChanges.{changes_are}
+use Rattle.policy_audit.proofs.ScopesNow.{running_rises}
+use Rattle.group_monitors.proofs.Followed.{follows_other}
+use Rattle.node_core.specs.declared.running.Running.{Running}
+use Rattle.node_core.specs.Links.{KeptLink}
+use Rattle.node_core.specs.LinkFacts.{facts, IsState, kept_numbers, link_words, LinksFollow}
+use Rattle.node_core.specs.ScopeFacts.{scope_words, IsRunningOf, ScopesFollow}
+use Rattle.node_core.specs.Core.{Parts, Follows}
+use Rattle.node_core.proofs.Entered.{made, accepted_now, answered_now, next_now, sound_now}
+use Rattle.node_core.proofs.Calm.{same_links}
+use Rattle.node_core.proofs.KeptOn.{one_follows, place_is}
+use Rattle.node_core.proofs.OneScope.{one_scope_follows}
+use Rattle.node_core.proofs.MessagePlaces.{IsUpHere}
+
+-- the rules for a message on a link that awaits one
+pub message_rules : (h : History) (seat l : ℕ) (body : List ℕ) → is_up l h.entries ≡ true → awaits l h.entries ≡ AwaitMessage
+    → first_broken (checks h seat (event.Frame l body)) ≡ first_broken (option_map_or (message_checks h l) (message_taken body) (always rule.BadFrame))
+message_rules h seat l body up awaited =
+    ap (λ b. first_broken (cond b (frame_checks h l body (awaits l h.entries)) (always rule.NoSuchLink))) (and_left (is_open l h.entries) (is_whole l h.entries) up)
+    ∙ ap (λ a. first_broken (frame_checks h l body a)) awaited
+
+-- a change of one scope, perhaps none
+pub one_scope_change : (h k : History) (s : List ℕ) (groups : List GroupChange) → IsDifference (listed h s) (listed k s) groups
+    → ((t : List ℕ) → same t s ≡ false → (g : List ℕ) (p : Pid) → listed h t g p ≡ listed k t g p) → IsChange h k (if_some s groups)
+one_scope_change h k s groups difference others = by groups (changes_are h k (record { scope = s; groups = groups } ∷ []) (tt, tt) (difference, tt) (λ t apart. others t (same_sym t s ∙ first (same s t) apart)))
+  where
+    first : (b : Bool) → (b || false) ≡ false → b ≡ false
+    first true q = q
+    first false q = refl
+
+    by : (gs : List GroupChange) → IsChange h k (filter (λ c. not (is_empty c.groups)) (record { scope = s; groups = gs } ∷ [])) → IsChange h k (if_some s gs)
+    by [] is = is
+    by (g ∷ gs) is = is
+
+module _ (h : History) (seat l : ℕ) (body : List ℕ) (m : Message) (space : is_full h ≡ false) (up : is_up l h.entries ≡ true) (awaited : awaits l h.entries ≡ AwaitMessage)
+    (says : message_taken body ≡ Some m) (holds : first_broken (message_checks h l m) ≡ None) (cs : List Change) where
+  abbrev pub entry : Entry
+  entry = made h seat (event.Frame l body) (Accepted reply.Done) cs
+
+  abbrev pub now : History
+  now = with_entry h entry
+
+  its_verdict : Accepted reply.Done ≡ verdict h seat (event.Frame l body)
+  its_verdict = accepted_now h seat (event.Frame l body) space reply.Done
+      (message_rules h seat l body up awaited ∙ ap (λ o. first_broken (option_map_or (message_checks h l) o (always rule.BadFrame))) says ∙ holds)
+      (ap (λ a. cond (is_last a) (up_answer h l) reply.Done) awaited)
+
+  pub its_answered : IsAnswered h entry
+  its_answered = answered_now h seat (event.Frame l body) space (Accepted reply.Done) cs its_verdict
+
+  pub its_next : IsChange h now cs → IsNext h entry
+  its_next change = next_now h seat (event.Frame l body) space (Accepted reply.Done) cs its_verdict change
+
+  -- ---- links
+
+  whole : is_whole l h.entries ≡ true
+  whole = and_right (is_open l h.entries) (is_whole l h.entries) up
+
+  -- what the policy's words say of each link is the same
+  same_facts : (j : ℕ) → facts now j ≡ facts h j
+  same_facts j = by (l == j) refl
+    where
+      opens : is_open j now.entries ≡ is_open j h.entries
+      opens = (message_links h entry its_answered refl l body refl awaited j).open_is
+
+      by : (b : Bool) → (l == j) ≡ b → facts now j ≡ facts h j
+      by true e =
+          let it = message_taken_on h entry its_answered refl l body refl awaited in
+          let here : l ≡ j = eqb-true l j e in
+          subst (λ x. is_open x now.entries ≡ is_open x h.entries → facts now x ≡ facts h x) here
+          (λ still. λ i. record (facts h l) {
+            open_now = still i;
+            whole = (it.whole ∙ sym whole) i;
+            awaited = (it.awaits ∙ sym awaited) i;
+            peer = it.peer i;
+            said = it.given i;
+            challenge = option_map_or (λ o. challenge_in o.start) (it.opened i) 0;
+          }) opens
+      by false e =
+          let it : IsSameLink j h.entries now.entries = entry_link h.entries entry l j body refl e in
+          λ i. record (facts h j) {
+            open_now = opens i;
+            whole = it.whole i;
+            awaited = it.awaits i;
+            peer = it.peer i;
+            said = it.given i;
+            challenge = option_map_or (λ o. challenge_in o.start) (it.opened i) 0;
+          }
+
+  owes : frame_owes h l body AwaitMessage ≡ message_owes h l m
+  owes = ap (λ o. option_map_or (message_owes h l) o []) says
+
+  waits : (j : ℕ) → waiting now j ≡ cond (l == j) (waiting h j ++ message_owes h j m) (waiting h j)
+  waits j = (message_links h entry its_answered refl l body refl awaited j).waiting_is ∙ by (l == j) refl
+    where
+      by : (b : Bool) → (l == j) ≡ b → cond b (waiting h j ++ frame_owes h j body AwaitMessage) (waiting h j) ≡ cond b (waiting h j ++ message_owes h j m) (waiting h j)
+      by true e = ap (λ o. waiting h j ++ option_map_or (message_owes h j) o []) says
+      by false e = refl
+
+  same_numbers : kept_numbers now ≡ kept_numbers h
+  same_numbers = framed_numbers h entry refl its_answered l body refl (ap is_last awaited) (ap (λ a. named_by a body) awaited)
+
+  -- a message to which nothing is owed leaves the links
+  pub silent_links : ((j : ℕ) → message_owes h j m ≡ []) → (kept : List KeptLink) → LinksFollow (link_words h) kept → LinksFollow (link_words now) kept
+  silent_links nothing kept t = subst (λ w. LinksFollow w kept) (sym (same_links h now refl same_facts (λ j. waits j ∙ by j (l == j)))) t
+    where
+      by : (j : ℕ) (b : Bool) → cond b (waiting h j ++ message_owes h j m) (waiting h j) ≡ waiting h j
+      by j true = ap (λ fs. waiting h j ++ fs) (nothing j) ∙ append-nil (waiting h j)
+      by j false = refl
+
+  -- else what is owed waits for its link
+  pub owed_links : (kept : List KeptLink) → IsLegal h → LinksFollow (link_words h) kept → (p : ℕ) (x y : KeptLink) → position (λ z. nat_eq z.number l) kept ≡ Some p → IsUpHere h l x → y.number ≡ x.number → y.state ≡ x.state
+      → y.prepared ≡ [] → y.frames ≡ x.frames ++ message_owes h l m → LinksFollow (link_words now) (set kept p y)
+  owed_links kept legal t p x y q here number state idle frames =
+      let place = place_is kept l p x q in
+      one_follows (link_words h) (link_words now) y
+      (record {
+        state = subst (λ f. IsState f y.state) (sym (same_facts y.number)) (subst (λ s. IsState (facts h y.number) s) (sym state) (subst (λ n. IsState (facts h n) x.state) (sym number) here.link.state));
+        frames = frames ∙ ap (λ fs. fs ++ message_owes h l m) (here.link.frames ∙ ap (waiting h) here.number) ∙ sym (its_own y.number (number ∙ here.number));
+        idle = idle;
+      })
+      (λ z apart t. record {
+        state = subst (λ f. IsState f z.state) (sym (same_facts z.number)) t.state;
+        frames = t.frames ∙ sym (waits z.number ∙ ap (λ b. cond b (waiting h z.number ++ message_owes h z.number m) (waiting h z.number)) (flip l z.number ∙ ap (λ n. nat_eq z.number n) (sym (number ∙ here.number)) ∙ apart));
+        idle = t.idle;
+      })
+      kept p x t (kept_climbs h legal) same_numbers place.0 (number ∙ here.number ∙ sym place.1)
+    where
+      its_own : (n : ℕ) → n ≡ l → waiting now n ≡ waiting h l ++ message_owes h l m
+      its_own n e = ap (waiting now) e ∙ waits l ∙ ap (λ b. cond b (waiting h l ++ message_owes h l m) (waiting h l)) (eq-eqb l l refl)
+
+  -- ---- scopes
+
+  -- one scope has changed, all others list the same and have the same links
+  pub scope_on : (rs : List Running) → ScopesFollow (scope_words h) rs → (p : ℕ) (d y : Running) (s : List ℕ) → p < length rs → (get_or rs p d).scope ≡ s → y.scope ≡ s → IsRunningOf (scope_words now) y
+      → ((t : List ℕ) → same t s ≡ false → (g : List ℕ) (x : Pid) → listed now t g x ≡ listed h t g x)
+      → ((t : List ℕ) → same t s ≡ false → (j : ℕ) → heard j t now.entries ≡ heard j t h.entries)
+      → ((t : List ℕ) → same t s ≡ false → (j : ℕ) → told j t now.entries ≡ told j t h.entries)
+      → ScopesFollow (scope_words now) (set rs p y)
+  scope_on rs t p d y s within is named here rows hears tells = one_scope_follows (scope_words h) (scope_words now) s y here named
+      (λ r apart u. record {
+        own = u.own;
+        rows = λ g x. u.rows g x ∙ sym (rows r.scope apart g x);
+        heard = λ j. u.heard j ∙ sym (hears r.scope apart j);
+        told = λ j. u.told j ∙ sym (tells r.scope apart j);
+      })
+      rs p d t (running_rises h) refl within is
+
+  -- ---- all that is kept
+
+  pub message_follows : (parts : Parts) (rs : List Running) (kept : List KeptLink) → Follows h parts → IsNext h entry → ScopesFollow (scope_words now) rs → LinksFollow (link_words now) kept → Follows now (record parts { scopes = rs; links = kept })
+  message_follows parts rs kept t next scopes links = record {
+    sound = sound_now h parts.limit entry t.sound next;
+    admission = t.admission;
+    processes = t.processes;
+    scopes = scopes;
+    links = links;
+    monitors = follows_other h entry parts.monitors next.number t.monitors refl;
+  }

@@ -1,0 +1,252 @@
+-- The rules that a message breaks, by what a node keeps of its link and of its scope.
+use Rattle.std.specs.Prelude.{◌≡◌, ℕ, ◌+◌, ◌≤◌, ◌<◌, nat_le, Bool, true, false, cond, ◌&&◌, ◌||◌, ◌==◌, not, List, [], ◌∷◌, ◌++◌, length, Some, None, All}
+use Rattle.std.proofs.Common.{refl, ap, ◌∙◌, sym, subst, arith}
+use Rattle.std.proofs.lemmas.Bool.{le-leb, leb-true}
+use Rattle.std.proofs.lemmas.List.Elements.{All-from_recursion}
+use Rattle.std.specs.List.{list_all, flat_map, filter, AllByRecursion}
+use Rattle.std.specs.Option.{option_map_or}
+use Rattle.dist_types.specs.declared.pid.Pid.{Pid}
+use Rattle.dist_types.specs.declared.row.Row.{Row}
+use Rattle.dist_types.specs.Flags.{has_bit}
+use Rattle.dist_types.specs.Listing.{same, IsPidListing, IsGroupListing}
+use Rattle.dist_types.specs.Difference.{is_empty}
+use Rattle.dist_types.proofs.Orders.{same_decides, same_sym}
+use Rattle.scope_core.specs.Table.{count_of, node_total, max_rows}
+use Rattle.scope_core.specs.Calls.{are_counted}
+use Rattle.scope_core.proofs.Members.{length-members}
+use Rattle.handshake_frames.specs.Frame.{Name}
+use Rattle.link_frames.specs.declared.message.Message.{Message}
+use Rattle.link_frames.specs.declared.message.Message.TheVariants as said
+use Rattle.policy_audit.specs.declared.event.Event.TheVariants as event
+use Rattle.policy_audit.specs.declared.rule.Rule.{Rule}
+use Rattle.policy_audit.specs.declared.rule.Rule.TheVariants as rule
+use Rattle.policy_audit.specs.History.{History, events}
+use Rattle.policy_audit.specs.Own.{is_running}
+use Rattle.policy_audit.specs.Sides.{AwaitMessage, awaits, peer_of, is_visible, is_whole}
+use Rattle.policy_audit.specs.Links.{is_open, is_up}
+use Rattle.policy_audit.specs.Hearing.{message_taken, heard, rows_of}
+use Rattle.policy_audit.specs.Listed.{listed, is_from}
+use Rattle.policy_audit.specs.Contents.{members, groups, groups_named, pids_named}
+use Rattle.policy_audit.specs.Checks.{Check, checks, are_from, hears_in, runs, first_broken, message_checks, always, unless, peer_rows, are_listed}
+use Rattle.policy_audit.specs.Owed.{refusal_owes}
+use Rattle.policy_audit.proofs.Accepted.{no_value, unbroken, all_hold}
+use Rattle.policy_audit.proofs.UpLinks.{and_left, and_right, flip}
+use Rattle.policy_audit.proofs.Onward.{whole_is_message}
+use Rattle.policy_audit.proofs.Named.{listed_named, group_named, pid_named}
+use Rattle.policy_audit.proofs.Lists as lists
+use Rattle.node_core.specs.declared.running.Running.{Running}
+use Rattle.node_core.specs.Links.{KeptLink, up_peer, is_shown, are_of_peer}
+use Rattle.node_core.specs.LinkFacts.{facts, IsGiven}
+use Rattle.node_core.specs.Messages.{scope_in, refusal}
+use Rattle.node_core.specs.MessageRules.{early_checks}
+use Rattle.node_core.specs.ScopeFacts.{is_number, scope_words, IsRunningOf}
+use Rattle.node_core.specs.Calm.{refuses_calmly}
+use Rattle.node_core.proofs.Found.{some_is}
+use Rattle.node_core.proofs.MessagePlaces.{IsUpHere}
+use Rattle.node_core.proofs.MessageKept.{message_rules}
+
+-- ---- checks
+
+-- the rules that the table tells
+abbrev pub late_checks : History → ℕ → Message → List Check
+late_checks h l (said.Join s rows) = unless (nat_le (peer_rows h l s + length rows) 4096) rule.RowsFull ∷ []
+late_checks h l (said.Leave s rows) = are_listed h s rows ∷ []
+late_checks h l m = []
+
+split : (h : History) (l : ℕ) (m : Message) → message_checks h l m ≡ early_checks h l m ++ late_checks h l m
+split h l (said.Discover s) = refl
+split h l (said.Sync s rows) = refl
+split h l (said.Join s rows) = refl
+split h l (said.Leave s rows) = refl
+split h l (said.Down s) = refl
+
+broken_first : (cs ds : List Check) (r : Rule) → first_broken cs ≡ Some r → first_broken (cs ++ ds) ≡ Some r
+broken_first [] ds r q = no_value (sym q)
+broken_first (c ∷ cs) ds r q = by c.broken q (broken_first cs ds r)
+  where
+    by : (b : Bool) → cond b (Some c.rule) (first_broken cs) ≡ Some r → (first_broken cs ≡ Some r → first_broken (cs ++ ds) ≡ Some r) → cond b (Some c.rule) (first_broken (cs ++ ds)) ≡ Some r
+    by true q later = q
+    by false q later = later q
+
+broken_later : (cs ds : List Check) → first_broken cs ≡ None → first_broken (cs ++ ds) ≡ first_broken ds
+broken_later [] ds q = refl
+broken_later (c ∷ cs) ds q = by c.broken q (broken_later cs ds)
+  where
+    by : (b : Bool) → cond b (Some c.rule) (first_broken cs) ≡ None → (first_broken cs ≡ None → first_broken (cs ++ ds) ≡ first_broken ds) → cond b (Some c.rule) (first_broken (cs ++ ds)) ≡ first_broken ds
+    by true q later = no_value q
+    by false q later = later q
+
+pub early_broken : (h : History) (l : ℕ) (m : Message) (r : Rule) → first_broken (early_checks h l m) ≡ Some r → first_broken (message_checks h l m) ≡ Some r
+early_broken h l m r q = ap first_broken (split h l m) ∙ broken_first (early_checks h l m) (late_checks h l m) r q
+
+pub early_held : (h : History) (l : ℕ) (m : Message) → first_broken (early_checks h l m) ≡ None → first_broken (message_checks h l m) ≡ first_broken (late_checks h l m)
+early_held h l m q = ap first_broken (split h l m) ∙ broken_later (early_checks h l m) (late_checks h l m) q
+
+-- a frame that is a message breaks what the message does
+pub says_broken : (h : History) (seat l : ℕ) (body : List ℕ) (m : Message) (r : Rule) → is_up l h.entries ≡ true → awaits l h.entries ≡ AwaitMessage → message_taken body ≡ Some m → first_broken (message_checks h l m) ≡ Some r
+    → first_broken (checks h seat (event.Frame l body)) ≡ Some r
+says_broken h seat l body m r up awaited says q = message_rules h seat l body up awaited ∙ ap (λ o. first_broken (option_map_or (message_checks h l) o (always rule.BadFrame))) says ∙ q
+
+-- a frame that is none
+pub none_broken : (h : History) (seat l : ℕ) (body : List ℕ) → is_up l h.entries ≡ true → awaits l h.entries ≡ AwaitMessage → message_taken body ≡ None → first_broken (checks h seat (event.Frame l body)) ≡ Some rule.BadFrame
+none_broken h seat l body up awaited says = message_rules h seat l body up awaited ∙ ap (λ o. first_broken (option_map_or (message_checks h l) o (always rule.BadFrame))) says
+
+-- the link is not visible
+pub hidden_first : (h : History) (l : ℕ) (m : Message) → is_visible h l ≡ false → first_broken (early_checks h l m) ≡ Some rule.HiddenLink
+hidden_first h l (said.Discover s) q = ap (λ b. first_broken (unless b rule.HiddenLink ∷ runs h s ∷ [])) q
+hidden_first h l (said.Sync s rows) q = ap (λ b. first_broken (unless b rule.HiddenLink ∷ runs h s ∷ are_from h l rows ∷ [])) q
+hidden_first h l (said.Join s rows) q = ap (λ b. first_broken (unless b rule.HiddenLink ∷ runs h s ∷ hears_in h l s ∷ are_from h l rows ∷ [])) q
+hidden_first h l (said.Leave s rows) q = ap (λ b. first_broken (unless b rule.HiddenLink ∷ runs h s ∷ hears_in h l s ∷ are_from h l rows ∷ [])) q
+hidden_first h l (said.Down s) q = ap (λ b. first_broken (unless b rule.HiddenLink ∷ runs h s ∷ [])) q
+
+-- or the scope doesn't run
+pub stopped_first : (h : History) (l : ℕ) (m : Message) → is_visible h l ≡ true → is_running h (scope_in m) ≡ false → first_broken (early_checks h l m) ≡ Some rule.NoScope
+stopped_first h l (said.Discover s) v q = λ i. first_broken (unless (v i) rule.HiddenLink ∷ unless (q i) rule.NoScope ∷ [])
+stopped_first h l (said.Sync s rows) v q = λ i. first_broken (unless (v i) rule.HiddenLink ∷ unless (q i) rule.NoScope ∷ are_from h l rows ∷ [])
+stopped_first h l (said.Join s rows) v q = λ i. first_broken (unless (v i) rule.HiddenLink ∷ unless (q i) rule.NoScope ∷ hears_in h l s ∷ are_from h l rows ∷ [])
+stopped_first h l (said.Leave s rows) v q = λ i. first_broken (unless (v i) rule.HiddenLink ∷ unless (q i) rule.NoScope ∷ hears_in h l s ∷ are_from h l rows ∷ [])
+stopped_first h l (said.Down s) v q = λ i. first_broken (unless (v i) rule.HiddenLink ∷ unless (q i) rule.NoScope ∷ [])
+
+-- where none of them is broken, the scope runs
+pub scope_runs : (h : History) (l : ℕ) (m : Message) → first_broken (early_checks h l m) ≡ None → is_running h (scope_in m) ≡ true
+scope_runs h l (said.Discover s) q = unbroken (is_running h s) (all_hold (early_checks h l (said.Discover s)) q).1.0
+scope_runs h l (said.Sync s rows) q = unbroken (is_running h s) (all_hold (early_checks h l (said.Sync s rows)) q).1.0
+scope_runs h l (said.Join s rows) q = unbroken (is_running h s) (all_hold (early_checks h l (said.Join s rows)) q).1.0
+scope_runs h l (said.Leave s rows) q = unbroken (is_running h s) (all_hold (early_checks h l (said.Leave s rows)) q).1.0
+scope_runs h l (said.Down s) q = unbroken (is_running h s) (all_hold (early_checks h l (said.Down s)) q).1.0
+
+-- and each row is of its link's peer
+pub rows_from : (h : History) (l : ℕ) (s : List ℕ) (rows : List Row) → first_broken (early_checks h l (said.Sync s rows)) ≡ None → list_all (λ r. is_from l h.entries r.pid) rows ≡ true
+rows_from h l s rows q = unbroken (list_all (λ r. is_from l h.entries r.pid) rows) (all_hold (early_checks h l (said.Sync s rows)) q).1.1.0
+
+pub joined_from : (h : History) (l : ℕ) (s : List ℕ) (rows : List Row) → first_broken (early_checks h l (said.Join s rows)) ≡ None → list_all (λ r. is_from l h.entries r.pid) rows ≡ true
+joined_from h l s rows q = unbroken (list_all (λ r. is_from l h.entries r.pid) rows) (all_hold (early_checks h l (said.Join s rows)) q).1.1.1.0
+
+pub left_from : (h : History) (l : ℕ) (s : List ℕ) (rows : List Row) → first_broken (early_checks h l (said.Leave s rows)) ≡ None → list_all (λ r. is_from l h.entries r.pid) rows ≡ true
+left_from h l s rows q = unbroken (list_all (λ r. is_from l h.entries r.pid) rows) (all_hold (early_checks h l (said.Leave s rows)) q).1.1.1.0
+
+turned : {A : Type 0} (b : Bool) (x y : A) → cond (not b) x y ≡ cond b y x
+turned true x y = refl
+turned false x y = refl
+
+module _ (h : History) (l : ℕ) (x : KeptLink) (here : IsUpHere h l x) where
+  -- whether the link is visible
+  pub visible_is : is_shown x.state ≡ is_visible h l
+  visible_is = ap is_shown here.is ∙ gave.1.visible_is ∙ ap (λ b. not h.opening.hidden && b) (sym (ap (λ o. option_map_or {T = Name} {U = Bool} (λ f. has_bit 0 f.flags) o false) gave.1.said))
+    where
+      gave : (n : Name) × IsGiven (facts h l) n here.far.peer here.far.creation here.far.visible
+      gave = here.introduced.said
+
+  from_is : (p : Pid) → is_from l h.entries p ≡ (same p.node here.far.peer && p.creation == here.far.creation)
+  from_is p =
+      (λ i. option_map_or {T = List ℕ} {U = Bool} (λ m. same m p.node) (here.introduced.peer.peer i) false && option_map_or {T = Name} {U = Bool} (λ f. f.creation == p.creation) (gave.1.said i) false)
+      ∙ (λ i. same_sym here.far.peer p.node i && made_by i)
+    where
+      gave : (n : Name) × IsGiven (facts h l) n here.far.peer here.far.creation here.far.visible
+      gave = here.introduced.said
+
+      made_by : (gave.0.creation == p.creation) ≡ (p.creation == here.far.creation)
+      made_by = ap (λ n. n == p.creation) (sym gave.1.creation_is) ∙ flip here.far.creation p.creation
+
+  -- whether rows are of its peer
+  pub of_peer_is : (rows : List Row) → are_of_peer x.state rows ≡ list_all (λ r. is_from l h.entries r.pid) rows
+  of_peer_is rows = ap (λ s. are_of_peer s rows) here.is ∙ sym (λ i. list_all (λ r. from_is r.pid i) rows)
+
+  -- then each of their processes is of that node
+  pub all_of_peer : (rows : List Row) → list_all (λ r. is_from l h.entries r.pid) rows ≡ true → All (λ r. r.pid.node ≡ here.far.peer) rows
+  all_of_peer rows q = All-from_recursion (λ r. r.pid.node ≡ here.far.peer) rows (each rows q)
+    where
+      each : (rs : List Row) → list_all (λ r. is_from l h.entries r.pid) rs ≡ true → AllByRecursion (λ r. r.pid.node ≡ here.far.peer) rs
+      each [] q = tt
+      each (r ∷ rs) q = (
+        (same_decides r.pid.node here.far.peer).0 (and_left (same r.pid.node here.far.peer) (r.pid.creation == here.far.creation) (sym (from_is r.pid) ∙ and_left (is_from l h.entries r.pid) (list_all (λ z. is_from l h.entries z.pid) rs) q)),
+        each rs (and_right (is_from l h.entries r.pid) (list_all (λ z. is_from l h.entries z.pid) rs) q),
+      )
+
+  -- the first rule that is broken, but for those that the table tells
+  pub refusal_is : (hs : List ℕ) (m : Message) → is_visible h l ≡ true → is_running h (scope_in m) ≡ true → is_number l hs ≡ heard l (scope_in m) h.entries → first_broken (early_checks h l m) ≡ refusal x hs m
+  refusal_is hs (said.Discover s) v q hears = λ i. first_broken (unless (v i) rule.HiddenLink ∷ unless (q i) rule.NoScope ∷ [])
+  refusal_is hs (said.Sync s rows) v q hears =
+      (λ i. first_broken (unless (v i) rule.HiddenLink ∷ unless (q i) rule.NoScope ∷ unless (sym (of_peer_is rows) i) rule.ForeignPid ∷ []))
+      ∙ turned (are_of_peer x.state rows) (Some rule.ForeignPid) None
+  refusal_is hs (said.Join s rows) v q hears =
+      (λ i. first_broken (unless (v i) rule.HiddenLink ∷ unless (q i) rule.NoScope ∷ unless (sym hears i) rule.NotHeard ∷ unless (sym (of_peer_is rows) i) rule.ForeignPid ∷ []))
+      ∙ turned (is_number l hs) (Some rule.NotHeard) (cond (not (are_of_peer x.state rows)) (Some rule.ForeignPid) None)
+      ∙ (λ i. cond (is_number (sym here.number i) hs) (turned (are_of_peer x.state rows) (Some rule.ForeignPid) None i) (Some rule.NotHeard))
+  refusal_is hs (said.Leave s rows) v q hears =
+      (λ i. first_broken (unless (v i) rule.HiddenLink ∷ unless (q i) rule.NoScope ∷ unless (sym hears i) rule.NotHeard ∷ unless (sym (of_peer_is rows) i) rule.ForeignPid ∷ []))
+      ∙ turned (is_number l hs) (Some rule.NotHeard) (cond (not (are_of_peer x.state rows)) (Some rule.ForeignPid) None)
+      ∙ (λ i. cond (is_number (sym here.number i) hs) (turned (are_of_peer x.state rows) (Some rule.ForeignPid) None i) (Some rule.NotHeard))
+  refusal_is hs (said.Down s) v q hears = λ i. first_broken (unless (v i) rule.HiddenLink ∷ unless (q i) rule.NoScope ∷ [])
+
+-- ---- refusals end no link
+
+module _ (h : History) (l : ℕ) (body : List ℕ) (up : is_up l h.entries ≡ true) where
+  pub calm : (r : Rule) → refusal_owes r ≡ [] → refuses_calmly h (event.Frame l body) r ≡ true
+  calm r nothing = λ i. (not (and_left (is_open l h.entries) (is_whole l h.entries) up i) || and_right (is_open l h.entries) (is_whole l h.entries) up i) && is_empty (nothing i)
+
+foreign_silent : (b : Bool) (r : Rule) → cond b None (Some rule.ForeignPid) ≡ Some r → refusal_owes r ≡ []
+foreign_silent true r q = no_value (sym q)
+foreign_silent false r q = ap refusal_owes (sym (some_is q))
+
+unheard_silent : (a b : Bool) (r : Rule) → cond a (cond b None (Some rule.ForeignPid)) (Some rule.NotHeard) ≡ Some r → refusal_owes r ≡ []
+unheard_silent true b r q = foreign_silent b r q
+unheard_silent false b r q = ap refusal_owes (sym (some_is q))
+
+-- what a message breaks early is owed nothing
+pub refusal_silent : (x : KeptLink) (hs : List ℕ) (m : Message) (r : Rule) → refusal x hs m ≡ Some r → refusal_owes r ≡ []
+refusal_silent x hs (said.Discover s) r q = no_value (sym q)
+refusal_silent x hs (said.Sync s rows) r q = foreign_silent (are_of_peer x.state rows) r q
+refusal_silent x hs (said.Join s rows) r q = unheard_silent (is_number x.number hs) (are_of_peer x.state rows) r q
+refusal_silent x hs (said.Leave s rows) r q = unheard_silent (is_number x.number hs) (are_of_peer x.state rows) r q
+refusal_silent x hs (said.Down s) r q = no_value (sym q)
+
+-- ---- what the table tells
+
+members_listing : (h : History) (s g : List ℕ) → IsPidListing (listed h s g) (members h s g)
+members_listing h s = lists.members_are (listed h s) (λ f. pids_named s f (events h.entries)) (groups_named s (events h.entries)) (λ f p q. pid_named s f p (events h.entries) (listed_named s f p h q)) (λ f p q. group_named s f p (events h.entries) (listed_named s f p h q))
+
+groups_listing : (h : History) (s : List ℕ) → IsGroupListing (listed h s) (groups h s)
+groups_listing h s = lists.groups_are (listed h s) (λ f. pids_named s f (events h.entries)) (groups_named s (events h.entries)) (λ f p q. pid_named s f p (events h.entries) (listed_named s f p h q)) (λ f p q. group_named s f p (events h.entries) (listed_named s f p h q))
+
+module _ (h : History) (l : ℕ) (s : List ℕ) (r : Running) (named : r.scope ≡ s) (t : IsRunningOf (scope_words h) r) where
+  table_lists : count_of r.table ≡ listed h s
+  table_lists = λ i g p. (t.rows g p ∙ ap (λ u. listed h u g p) named) i
+
+  pub total_is : (n : List ℕ) → peer_of l h.entries ≡ Some n → peer_rows h l s ≡ node_total r.table n
+  total_is n of =
+      (λ i. length (filter (λ p. (ap (λ o. option_map_or {T = List ℕ} {U = Bool} (λ m. same m p.node) o false) of ∙ same_sym n p.node) i) (flat_map (members h s) (groups h s))))
+      ∙ length-members r.table n (groups h s) (members h s) (subst (λ f. IsGroupListing f (groups h s)) (sym table_lists) (groups_listing h s)) (λ g. subst (λ f. IsPidListing (f g) (members h s g)) (sym table_lists) (members_listing h s g))
+
+  pub counted_is : (rows : List Row) → are_counted r.table rows ≡ list_all (λ w. nat_le (rows_of w.group w.pid rows) (listed h s w.group w.pid)) rows
+  counted_is rows = λ i. list_all (λ w. nat_le (rows_of w.group w.pid rows) (table_lists i w.group w.pid)) rows
+
+  -- a Join that makes too many rows
+  pub join_full : (rows : List Row) (n : List ℕ) → peer_of l h.entries ≡ Some n → max_rows < node_total r.table n + length rows → first_broken (early_checks h l (said.Join s rows)) ≡ None → first_broken (message_checks h l (said.Join s rows)) ≡ Some rule.RowsFull
+  join_full rows n of many q = early_held h l (said.Join s rows) q ∙ ap (λ b. cond (not b) (Some rule.RowsFull) None) (above (nat_le (peer_rows h l s + length rows) 4096) refl)
+    where
+      above : (b : Bool) → nat_le (peer_rows h l s + length rows) 4096 ≡ b → b ≡ false
+      above false e = refl
+      above true e = absurd (let most = leb-true (peer_rows h l s + length rows) 4096 e in let is = total_is n of in omega (arith, most, is, many))
+
+  pub join_fits : (rows : List Row) (n : List ℕ) → peer_of l h.entries ≡ Some n → node_total r.table n + length rows ≤ max_rows → first_broken (early_checks h l (said.Join s rows)) ≡ None → first_broken (message_checks h l (said.Join s rows)) ≡ None
+  join_fits rows n of few q = early_held h l (said.Join s rows) q ∙ ap (λ b. cond (not b) (Some rule.RowsFull) None) (le-leb (peer_rows h l s + length rows) 4096 (let is = total_is n of in omega (arith, is, few)))
+
+  -- a Leave of rows that aren't listed
+  pub leave_unlisted : (rows : List Row) → are_counted r.table rows ≡ false → first_broken (early_checks h l (said.Leave s rows)) ≡ None → first_broken (message_checks h l (said.Leave s rows)) ≡ Some rule.NotListed
+  leave_unlisted rows out q = early_held h l (said.Leave s rows) q ∙ ap (λ b. cond (not b) (Some rule.NotListed) None) (sym (counted_is rows) ∙ out)
+
+  pub leave_listed : (rows : List Row) → are_counted r.table rows ≡ true → first_broken (early_checks h l (said.Leave s rows)) ≡ None → first_broken (message_checks h l (said.Leave s rows)) ≡ None
+  leave_listed rows all q = early_held h l (said.Leave s rows) q ∙ ap (λ b. cond (not b) (Some rule.NotListed) None) (sym (counted_is rows) ∙ all)
+
+-- ---- the peer of a link that is up
+
+pub peer_is : (h : History) (l : ℕ) (x : KeptLink) (here : IsUpHere h l x) (n : List ℕ) → Some n ≡ up_peer x.state → n ≡ here.far.peer
+peer_is h l x here n q = some_is (q ∙ ap up_peer here.is)
+
+pub has_peer : (h : History) (l : ℕ) (x : KeptLink) → IsUpHere h l x → None ≡ up_peer x.state → ⊥
+has_peer h l x here q = no_value {P = ⊥} (sym (q ∙ ap up_peer here.is))
+
+-- a link that is up awaits messages
+pub up_awaits : (h : History) (l : ℕ) → is_up l h.entries ≡ true → awaits l h.entries ≡ AwaitMessage
+up_awaits h l up = (whole_is_message l h.entries (and_left (is_open l h.entries) (is_whole l h.entries) up)).0 (and_right (is_open l h.entries) (is_whole l h.entries) up)

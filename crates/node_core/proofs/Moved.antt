@@ -1,0 +1,96 @@
+-- One scope whose own rows have changed, and the links that are told of it.
+use Rattle.std.specs.Prelude.{◌≡◌, ℕ, Bool, true, false, cond, ◌||◌, not, List, [], ◌∷◌, Some, position}
+use Rattle.std.proofs.Common.{refl, ap, ◌∙◌, sym, subst, get_or, set}
+use Rattle.std.proofs.lemmas.List.{set-get_or}
+use Rattle.dist_types.specs.declared.pid.Pid.{Pid}
+use Rattle.dist_types.specs.declared.row.Row.{Row}
+use Rattle.dist_types.specs.Difference.{IsDifference, is_empty}
+use Rattle.dist_types.specs.Listing.{same}
+use Rattle.link_frames.specs.declared.message.Message.{Message}
+use Rattle.scope_core.specs.Table.{count_of}
+use Rattle.policy_audit.specs.declared.change.Change.{Change}
+use Rattle.policy_audit.specs.declared.out_frame.OutFrame.{OutFrame}
+use Rattle.policy_audit.specs.History.{History}
+use Rattle.policy_audit.specs.Own.{running_scopes}
+use Rattle.policy_audit.specs.Changes.{IsChange, if_some}
+use Rattle.policy_audit.specs.Hearing.{heard, told}
+use Rattle.policy_audit.specs.Listed.{listed}
+use Rattle.policy_audit.specs.Owed.{if_told, wide}
+use Rattle.node_core.specs.declared.running.Running.{Running}
+use Rattle.node_core.specs.Links.{KeptLink}
+use Rattle.node_core.specs.ScopeFacts.{scope_words, is_number, IsRunningOf, ScopesFollow}
+use Rattle.node_core.specs.Core.{Parts, Follows}
+use Rattle.node_core.specs.Moving.{IsMoved}
+use Rattle.node_core.specs.Telling.{Alike, if_among}
+use Rattle.node_core.proofs.PartingChange.{counted_in}
+use Rattle.node_core.proofs.Placed.{follows_there, one_scope_follows, scope_is}
+use Rattle.node_core.proofs.Stopping.{scope_change}
+use Rattle.node_core.proofs.Told.{alike_again}
+
+-- ---- what waits for the links that are told
+
+pub told_frames : (rows : List Row) (numbers : List ℕ) (frame : OutFrame) (l : ℕ) (b : Bool) → is_number l numbers ≡ b → (cond (is_empty rows || not b) [] (frame ∷ [])) ≡ if_among (cond (not (is_empty rows)) numbers []) frame l
+told_frames [] numbers frame l b q = refl
+told_frames (r ∷ rs) numbers frame l b q = ap (λ c. cond (not c) [] (frame ∷ [])) (sym q) ∙ by (is_number l numbers)
+  where
+    by : (c : Bool) → cond (not c) [] (frame ∷ []) ≡ cond c (frame ∷ []) []
+    by true = refl
+    by false = refl
+
+-- ---- one scope after a change of its own rows
+
+module _ (h : History) (seat : ℕ) (parts : Parts) (t : Follows h parts) (s : List ℕ) (p : ℕ) (here : position (λ r. same r.scope s) parts.scopes ≡ Some p) (a b : Running) (at : a ≡ get_or parts.scopes p a)
+    (m : Message) (count : List ℕ → Pid → ℕ) (links : List KeptLink) (cs : List Change) (moved : IsMoved m count a b parts.links links cs) where
+  its_scope : a.scope ≡ s
+  its_scope = scope_is h parts.scopes t.scopes s p here a at
+
+  module _ (k : History) (rows : (f : List ℕ) (q : Pid) → listed k s f q ≡ count f q) (others : (u f : List ℕ) (q : Pid) → same u s ≡ false → listed h u f q ≡ listed k u f q) where
+    now_counted : (f : List ℕ) (q : Pid) → count_of b.table f q ≡ listed k b.scope f q
+    now_counted f q = moved.rows.counts f q ∙ sym (rows f q) ∙ ap (λ u. listed k u f q) (sym (moved.scope ∙ its_scope))
+
+    pub moved_change : IsChange h k cs
+    moved_change = subst (IsChange h k) (sym (moved.changes ∙ ap (λ u. if_some u moved.groups) its_scope))
+        (scope_change h k s moved.groups
+        (subst (λ f. IsDifference f (listed k s) moved.groups) (counted_in h s a its_scope (follows_there h parts.scopes t.scopes s p here a at))
+        (subst (λ f. IsDifference (count_of a.table) f moved.groups) (λ i f q. (now_counted f q ∙ ap (λ u. listed k u f q) (moved.scope ∙ its_scope)) i) moved.difference))
+        others)
+
+  -- the scopes after it
+  module _ (k : History) (rows : (f : List ℕ) (q : Pid) → listed k s f q ≡ count f q) (others : (u f : List ℕ) (q : Pid) → same u s ≡ false → listed h u f q ≡ listed k u f q)
+      (running : running_scopes k ≡ running_scopes h) (own_name : k.opening.name ≡ h.opening.name) (hears : (l : ℕ) (u : List ℕ) → heard l u k.entries ≡ heard l u h.entries) (tells : (l : ℕ) (u : List ℕ) → told l u k.entries ≡ told l u h.entries) where
+    abbrev there : IsRunningOf (scope_words h) a
+    there = follows_there h parts.scopes t.scopes s p here a at
+
+    changed : IsRunningOf (scope_words k) b
+    changed = record {
+      own = moved.rows.own ∙ there.own ∙ sym own_name;
+      rows = now_counted k rows others;
+      heard = λ l. ap (is_number l) moved.heard ∙ there.heard l ∙ ap (λ u. heard l u h.entries) (sym moved.scope) ∙ sym (hears l b.scope);
+      told = λ l. ap (is_number l) moved.told ∙ there.told l ∙ ap (λ u. told l u h.entries) (sym moved.scope) ∙ sym (tells l b.scope);
+    }
+
+    still : (r : Running) → same r.scope s ≡ false → IsRunningOf (scope_words h) r → IsRunningOf (scope_words k) r
+    still r other q = record {
+      own = q.own ∙ sym own_name;
+      rows = λ f x. q.rows f x ∙ others r.scope f x other;
+      heard = λ l. q.heard l ∙ sym (hears l r.scope);
+      told = λ l. q.told l ∙ sym (tells l r.scope);
+    }
+
+    pub moved_scopes : ScopesFollow (scope_words k) (set parts.scopes p b)
+    moved_scopes = one_scope_follows h parts.scopes t.scopes s p here a at (scope_words k) running b moved.scope changed still
+
+  -- what is told of rows, to links of which as many are told as the policy says
+  pub moved_frames : (say : List ℕ → List Row → Message) (brought : List Row) (l : ℕ)
+      → if_told h l s (say s) brought ≡ if_among (cond (not (is_empty brought)) a.told.items []) (wide (say a.scope brought)) l
+  moved_frames say brought l =
+      let there = follows_there h parts.scopes t.scopes s p here a at in
+      told_frames brought a.told.items (wide (say s brought)) l (told l s h.entries) (there.told l ∙ ap (λ u. told l u h.entries) its_scope)
+      ∙ ap (λ u. if_among (cond (not (is_empty brought)) a.told.items []) (wide (say u brought)) l) (sym its_scope)
+
+-- ---- where nothing was moved
+
+-- all is as before where the scope at the place is the same, and the links are but for their room
+pub unmoved : (h : History) (parts : Parts) → Follows h parts → (p : ℕ) (a b : Running) → a ≡ get_or parts.scopes p a → b ≡ a → (links : List KeptLink) → Alike parts.links links → Follows h (record parts { scopes = set parts.scopes p b; links = links })
+unmoved h parts t p a b at same links alike =
+    subst (λ rs. Follows h (record parts { scopes = rs; links = links })) (sym ((λ i. set parts.scopes p ((same ∙ at) i)) ∙ set-get_or parts.scopes p a)) (alike_again h parts t links alike)

@@ -1,0 +1,99 @@
+-- The kept links after an entry by which one moves on, and perhaps another goes.
+use Rattle.std.specs.Prelude.{◌≡◌, ℕ, ◌==◌, ◌<◌, nat_eq, Bool, true, false, cond, ◌||◌, not, List, [], ◌∷◌, ◌++◌, Option, Some, None, map, length}
+use Rattle.std.proofs.Common.{refl, ap, ◌∙◌, sym, subst, get_or, set}
+use Rattle.std.proofs.lemmas.Bool.{eq-eqb}
+use Rattle.std.specs.List.{filter}
+use Rattle.policy_audit.specs.declared.out_frame.OutFrame.{OutFrame}
+use Rattle.policy_audit.specs.History.{History}
+use Rattle.policy_audit.specs.Owed.{waiting}
+use Rattle.policy_audit.specs.Policy.{IsLegal}
+use Rattle.policy_audit.proofs.KeptNumbers.{kept_climbs}
+use Rattle.policy_audit.proofs.UpLinks.{flip}
+use Rattle.node_core.specs.declared.link_state.LinkState.{LinkState}
+use Rattle.node_core.specs.Links.{KeptLink}
+use Rattle.node_core.specs.LinkFacts.{LinkWords, facts, kept_numbers, link_words, IsState, IsLinkOf, LinksFollow}
+use Rattle.node_core.specs.Handshakes.{moved_on, without_link}
+use Rattle.node_core.proofs.KeptOn.{all_follow, one_follows, each_at}
+
+-- a link stays unless it has this number
+abbrev pub stays_but : Option ℕ → ℕ → Bool
+stays_but None l = true
+stays_but (Some n) l = not (nat_eq l n)
+
+all_stay : (xs : List KeptLink) → filter (λ x. true) xs ≡ xs
+all_stay [] = refl
+all_stay (x ∷ xs) = ap (λ ys. x ∷ ys) (all_stay xs)
+
+as_they_are : (xs : List KeptLink) → map (λ x. x) xs ≡ xs
+as_they_are [] = refl
+as_they_are (x ∷ xs) = ap (λ ys. x ∷ ys) (as_they_are xs)
+
+pub without_is : (gone : Option ℕ) (xs : List KeptLink) → filter (λ x. stays_but gone x.number) xs ≡ without_link gone xs
+without_is None xs = all_stay xs
+without_is (Some n) xs = refl
+
+-- between two histories link j moves on to this state with these further frames, and of the others those that stay are as before
+pub record AreMoves (h k : History) (j : ℕ) (now : LinkState) (more : List OutFrame) (stays : ℕ → Bool) : Type 0 where
+  pub state : IsState (facts k j) now
+  pub frames : waiting k j ≡ waiting h j ++ more
+  pub others : (l : ℕ) → (j == l) ≡ false → stays l ≡ true → facts k l ≡ facts h l
+  pub waits : (l : ℕ) → (j == l) ≡ false → stays l ≡ true → waiting k l ≡ waiting h l
+  pub numbers : kept_numbers k ≡ filter stays (kept_numbers h)
+
+with_words : (w v : LinkWords) (x : KeptLink) → v.facts x.number ≡ w.facts x.number → v.waiting x.number ≡ w.waiting x.number → IsLinkOf w x → IsLinkOf v x
+with_words w v x same_facts same_frames a = record { state = subst (λ f. IsState f x.state) (sym same_facts) a.state; frames = a.frames ∙ sym same_frames; idle = a.idle }
+
+module _ (h k : History) (legal : IsLegal h) (j : ℕ) (state : LinkState) (frames : List OutFrame) (stays : ℕ → Bool) (moves : AreMoves h k j state frames stays)
+    (kept : List KeptLink) (t : LinksFollow (link_words h) kept) (p : ℕ) (d : KeptLink) (less : p < length kept) (is : (get_or kept p d).number ≡ j) (room : ℕ) where
+  -- new words for those that stay, and the old ones for the others
+  abbrev pick : {A : Type 0} → (ℕ → A) → (ℕ → A) → ℕ → A
+  pick new old l = cond (j == l || stays l) (new l) (old l)
+
+  abbrev between : LinkWords
+  between = record { numbers = kept_numbers h; facts = pick (facts k) (facts h); waiting = pick (waiting k) (waiting h) }
+
+  abbrev moved : KeptLink
+  moved = moved_on state frames room (get_or kept p d)
+
+  picked : {A : Type 0} (new old : ℕ → A) (l : ℕ) → j ≡ l → pick new old l ≡ new l
+  picked new old l q = ap (λ b. cond (b || stays l) (new l) (old l)) (eq-eqb j l q)
+
+  here : IsLinkOf between moved
+  here = record {
+    state = subst (λ f. IsState f state) (sym (picked (facts k) (facts h) (get_or kept p d).number (sym is) ∙ ap (facts k) is)) moves.state;
+    frames =
+        let was = each_at (IsLinkOf (link_words h)) kept p d t.each less in
+        ap (λ fs. fs ++ frames) (was.frames ∙ ap (waiting h) is) ∙ sym moves.frames ∙ ap (waiting k) (sym is) ∙ sym (picked (waiting k) (waiting h) (get_or kept p d).number (sym is));
+    idle = refl;
+  }
+
+  other : (x : KeptLink) → nat_eq x.number moved.number ≡ false → IsLinkOf (link_words h) x → IsLinkOf between x
+  other x apart a = by (stays x.number) refl
+    where
+      unlike : (j == x.number) ≡ false
+      unlike = flip j x.number ∙ ap (λ (n : ℕ). x.number == n) (sym is) ∙ apart
+
+      by : (b : Bool) → stays x.number ≡ b → IsLinkOf between x
+      by true q = with_words (link_words h) between x ((λ i. cond (unlike i || q i) (facts k x.number) (facts h x.number)) ∙ moves.others x.number unlike q) ((λ i. cond (unlike i || q i) (waiting k x.number) (waiting h x.number)) ∙ moves.waits x.number unlike q) a
+      by false q = with_words (link_words h) between x (λ i. cond (unlike i || q i) (facts k x.number) (facts h x.number)) (λ i. cond (unlike i || q i) (waiting k x.number) (waiting h x.number)) a
+
+  stayed : (x : KeptLink) → stays x.number ≡ true → IsLinkOf between x → IsLinkOf (link_words k) x
+  stayed x q a = with_words between (link_words k) x (sym (new (facts k) (facts h))) (sym (new (waiting k) (waiting h))) a
+    where
+      new : {A : Type 0} (f g : ℕ → A) → pick f g x.number ≡ f x.number
+      new f g = ap (λ b. cond (j == x.number || b) (f x.number) (g x.number)) q ∙ either (j == x.number)
+        where
+          either : (b : Bool) → cond (b || true) (f x.number) (g x.number) ≡ f x.number
+          either true = refl
+          either false = refl
+
+  pub moves_follow : LinksFollow (link_words k) (filter (λ x. stays x.number) (set kept p moved))
+  moves_follow = subst (λ xs. LinksFollow (link_words k) (filter (λ (x : KeptLink). stays x.number) xs)) (as_they_are (set kept p moved))
+      (all_follow between (link_words k) (λ x. x) stays (λ x. refl) (set kept p moved) (one_follows (link_words h) between moved here other kept p d t (kept_climbs h legal) refl less refl) moves.numbers stayed)
+
+-- the same, where at most one link goes
+pub moved_follow : (h k : History) → IsLegal h → (j : ℕ) (state : LinkState) (frames : List OutFrame) (gone : Option ℕ) → AreMoves h k j state frames (stays_but gone)
+    → (kept : List KeptLink) → LinksFollow (link_words h) kept → (p : ℕ) (d : KeptLink) → p < length kept → (get_or kept p d).number ≡ j → (room : ℕ)
+    → LinksFollow (link_words k) (without_link gone (set kept p (moved_on state frames room (get_or kept p d))))
+moved_follow h k legal j state frames gone moves kept t p d less is room =
+    subst (LinksFollow (link_words k)) (without_is gone (set kept p (moved_on state frames room (get_or kept p d)))) (moves_follow h k legal j state frames (stays_but gone) moves kept t p d less is room)

@@ -1,0 +1,175 @@
+-- What an accepted Name makes of its link, and of the own dial to that peer.
+use Rattle.std.specs.Prelude.{◌≡◌, ℕ, ◌==◌, nat_eq, Bool, true, false, cond, ◌&&◌, not, if◌then◌else◌, List, [], ◌∷◌, ◌++◌, Option, Some, None}
+use Rattle.std.proofs.Common.{refl, ap, ◌∙◌, sym, subst}
+use Rattle.std.proofs.lemmas.Bool.{eqb-true, eq-eqb}
+use Rattle.std.specs.Option.{option_map, option_map_or}
+use Rattle.dist_types.specs.Listing.{same}
+use Rattle.handshake_frames.specs.Frame.{Name}
+use Rattle.handshake_frames.specs.declared.frame.StatusWord.TheVariants as word
+use Rattle.handshake_frames.specs.Reading.{name_frame}
+use Rattle.admission_rules.specs.Admission.{AdmissionRules}
+use Rattle.link_states.specs.declared.await_name.Named.{Named}
+use Rattle.link_states.specs.declared.await_name.Named.TheVariants as named
+use Rattle.link_states.specs.declared.pending.Pending.{Pending}
+use Rattle.link_states.specs.Frames as owes
+use Rattle.link_states.specs.Named as says
+use Rattle.link_states.specs.Peer.{introduced, is_visible}
+use Rattle.link_states.specs.Pending.{is_up, is_dialled}
+use Rattle.policy_audit.specs.declared.entry.Entry.{Entry}
+use Rattle.policy_audit.specs.declared.event.Event.TheVariants as event
+use Rattle.policy_audit.specs.declared.out_frame.OutFrame.{OutFrame}
+use Rattle.policy_audit.specs.History.{History, is_accepted}
+use Rattle.policy_audit.specs.Sides.{is_name_up, AwaitAnswer, AwaitReply}
+use Rattle.policy_audit.specs.Links.{is_open, is_dialling, is_unfinished_dial}
+use Rattle.policy_audit.specs.Owed.{own_challenge_frame, status_frame, welcome, waiting}
+use Rattle.policy_audit.specs.Policy.{IsAnswered, IsLegal, with_entry}
+use Rattle.policy_audit.proofs.Accepted.{lie}
+use Rattle.policy_audit.proofs.LinkFrames.{named_links, given_up_by}
+use Rattle.policy_audit.proofs.LinksLeft.{named_numbers}
+use Rattle.policy_audit.proofs.Onward.{name_taken}
+use Rattle.policy_audit.proofs.UpLinks.{and_left, and_right}
+use Rattle.node_core.specs.declared.hearing.Heard.{Heard}
+use Rattle.node_core.specs.declared.hearing.Heard.TheVariants as heard
+use Rattle.node_core.specs.declared.link_state.LinkState.{LinkState}
+use Rattle.node_core.specs.declared.link_state.LinkState.TheVariants as state
+use Rattle.node_core.specs.Links.{KeptLink, dialled_peer, dial_to, dial_beside, narrow_frames}
+use Rattle.node_core.specs.Hearing.{heard_named}
+use Rattle.node_core.specs.LinkFacts.{facts, kept_numbers, link_words, IsIntroduced, IsState, IsLinkOf, LinksFollow}
+use Rattle.node_core.specs.AdmissionFacts.{admission_words, AdmissionFollows}
+use Rattle.node_core.proofs.EarlyMoves.{own_challenge_is, visible_is}
+use Rattle.node_core.proofs.FrameFacts.{other_facts, own_awaits, same_challenge, same_stay}
+use Rattle.node_core.proofs.Found.{found_in, none_found}
+use Rattle.node_core.proofs.MovedOn.{AreMoves, stays_but}
+use Rattle.node_core.proofs.OneDial.{dials, one_dial, is_known_dial}
+use Rattle.node_core.proofs.Pendings.{dial_among, dial_is_state}
+
+-- the link moves on as heard
+abbrev pub Goes : History → History → ℕ → List KeptLink → Heard → Type 0
+Goes h k j kept (heard.On now frames gives_up) = AreMoves h k j now (narrow_frames frames) (stays_but (cond gives_up (dial_beside now kept) None))
+Goes h k j kept r = Unit {0}
+
+-- where a link isn't given up, it is as open as before
+open_still : (o g : Bool) → (o && g) ≡ false → (o && not g) ≡ o
+open_still true true q = sym q
+open_still true false q = refl
+open_still false g q = refl
+
+pub not_so : (b : Bool) → (b ≡ true → ⊥) → b ≡ false
+not_so true f = absurd (f refl)
+not_so false f = refl
+
+twice : (b : Bool) → not (not b) ≡ b
+twice true = refl
+twice false = refl
+
+-- the own dial among the kept links
+pub find_dial : (h : History) → IsLegal h → (kept : List KeptLink) → LinksFollow (link_words h) kept → (n : List ℕ) → is_dialling n h.entries ≡ true
+    → (d : ℕ) × (option_map (λ x. x.number) (dial_to n kept) ≡ Some d) × (dials n h.entries d ≡ true)
+find_dial h legal kept t n q = by (dial_to n kept) refl
+  where
+    by : (o : Option KeptLink) → dial_to n kept ≡ o → (d : ℕ) × (option_map (λ x. x.number) (dial_to n kept) ≡ Some d) × (dials n h.entries d ≡ true)
+    by None e = lie (sym q ∙ sym (dial_among h legal kept t n) ∙ none_found (λ x. option_map_or (λ m. same m n) (dialled_peer x.state) false) kept e)
+    by (Some x) e =
+        let here = found_in (λ x. option_map_or (λ m. same m n) (dialled_peer x.state) false) (IsLinkOf (link_words h)) kept t.each x e in
+        (x.number, ap (option_map (λ (y : KeptLink). y.number)) e, sym (dial_is_state h x.number n x.state here.1.state) ∙ here.0)
+
+module _ (h : History) (legal : IsLegal h) (rules : AdmissionRules) (t : AdmissionFollows (admission_words h) rules) (e : Entry) (answered : IsAnswered h e) (yes : is_accepted e.verdict ≡ true)
+    (j : ℕ) (body : List ℕ) (is : e.event ≡ event.Frame j body) (c : ℕ) (a : IsState (facts h j) (state.Name c)) (f : Name) (said : name_frame body ≡ Some f) (other : same f.name h.opening.name ≡ false) where
+  abbrev k : History
+  k = with_entry h e
+
+  kept_open : (l : ℕ) → (is_open l h.entries && given_up_by j f h.entries l) ≡ false → is_open l k.entries ≡ is_open l h.entries
+  kept_open l q = (named_links h e answered yes j body is f a.0.awaited said l).open_is ∙ open_still (is_open l h.entries) (given_up_by j f h.entries l) q
+
+  -- its own link isn't given up
+  not_itself : (is_open j h.entries && given_up_by j f h.entries j) ≡ false
+  not_itself = (λ i. a.0.open_now i && (not (eq-eqb j j refl i) && not (is_name_up f.name h.entries) && is_unfinished_dial f.name j h.entries))
+
+  introduced_now : IsIntroduced (facts k j) f.name f.creation (is_visible rules f.flags) c
+  introduced_now =
+      let on = name_taken h e answered yes j body is f a.0.awaited said in
+      record {
+        peer = record { peer = on.peer; other = other };
+        said = (f, record { said = on.given; name_is = refl; creation_is = refl; visible_is = visible_is h rules t f.flags });
+        challenge = a.1 ∙ sym (same_challenge h e answered yes j body is on);
+      }
+
+  name_moves : (next : LinkState) (more : List OutFrame) (gone : Option ℕ) → IsState (facts k j) next → welcome h j f.name ≡ more
+      → ((l : ℕ) → (is_open l h.entries && given_up_by j f h.entries l) ≡ not (stays_but gone l)) → AreMoves h k j next more (stays_but gone)
+  name_moves next more gone state frames ends = record {
+    state = state;
+    frames = (named_links h e answered yes j body is f a.0.awaited said j).waiting_is ∙ (λ i. cond (not_itself i) [] (cond (eq-eqb j j refl i) (waiting h j ++ frames i) (waiting h j)));
+    others = λ l apart stays. other_facts h e answered yes j body is l apart (kept_open l (ends l ∙ ap not stays));
+    waits = λ l apart stays. (named_links h e answered yes j body is f a.0.awaited said l).waiting_is ∙ (λ i. cond ((ends l ∙ ap not stays) i) [] (cond (apart i) (waiting h l ++ welcome h l f.name) (waiting h l)));
+    numbers = named_numbers h e yes answered j body is f a.0.awaited said ∙ same_stay (λ l. not (is_open l h.entries && given_up_by j f h.entries l)) (stays_but gone) (kept_numbers h) (λ l. ap not (ends l) ∙ twice (stays_but gone l));
+  }
+
+  -- a dial that it gives up
+  given_up_dial : (l : ℕ) → (is_open l h.entries && given_up_by j f h.entries l) ≡ true → dials f.name h.entries l ≡ true
+  given_up_dial l q = λ i. and_left (is_open l h.entries) (given_up_by j f h.entries l) q i && and_right (not (j == l) && not (is_name_up f.name h.entries)) (is_unfinished_dial f.name l h.entries) (and_right (is_open l h.entries) (given_up_by j f h.entries l) q) i
+
+  where_up : is_name_up f.name h.entries ≡ true → (l : ℕ) → (is_open l h.entries && given_up_by j f h.entries l) ≡ false
+  where_up up l = ap (λ b. is_open l h.entries && ((not (j == l) && not b) && is_unfinished_dial f.name l h.entries)) up ∙ none (is_open l h.entries) (not (j == l)) (is_unfinished_dial f.name l h.entries)
+    where
+      none : (a b d : Bool) → (a && ((b && false) && d)) ≡ false
+      none true true d = refl
+      none true false d = refl
+      none false b d = refl
+
+  where_undialled : is_dialling f.name h.entries ≡ false → (l : ℕ) → (is_open l h.entries && given_up_by j f h.entries l) ≡ false
+  where_undialled free l = not_so (is_open l h.entries && given_up_by j f h.entries l) (λ q. lie (sym (is_known_dial f.name h.entries l (given_up_dial l q)) ∙ free))
+
+  where_dialled : is_name_up f.name h.entries ≡ false → (d : ℕ) → dials f.name h.entries d ≡ true → (l : ℕ) → (is_open l h.entries && given_up_by j f h.entries l) ≡ not (not (nat_eq l d))
+  where_dialled down d here l = by (nat_eq l d) refl
+    where
+      its_own : dials f.name h.entries j ≡ false
+      its_own = sym (dial_is_state h j f.name (state.Name c) a)
+
+      by : (b : Bool) → nat_eq l d ≡ b → (is_open l h.entries && given_up_by j f h.entries l) ≡ not (not b)
+      by true q =
+          let it = ap (dials f.name h.entries) (eqb-true l d q) ∙ here in
+          let apart = not_so (j == l) (λ m. lie (sym it ∙ ap (dials f.name h.entries) (sym (eqb-true j l m)) ∙ its_own)) in
+          λ i. and_left (is_open l h.entries) (is_unfinished_dial f.name l h.entries) it i && ((not (apart i) && not (down i)) && and_right (is_open l h.entries) (is_unfinished_dial f.name l h.entries) it i)
+      by false q = not_so (is_open l h.entries && given_up_by j f h.entries l) (λ m. lie (sym (eq-eqb l d (one_dial h legal f.name l d (given_up_dial l m) here)) ∙ q))
+
+  abbrev welcome_frames : Bool → Bool → List OutFrame
+  welcome_frames up dialled = cond up (status_frame word.Alive ∷ []) (cond dialled (status_frame word.OkSimultaneous ∷ own_challenge_frame h j ∷ []) (status_frame word.Ok ∷ own_challenge_frame h j ∷ []))
+
+  -- the frames of a welcome
+  welcome_is : (up dialled : Bool) → welcome_frames up dialled ≡ narrow_frames (owes.greeting_owed rules c (says.welcome up dialled))
+  welcome_is true dialled = refl
+  welcome_is false true = ap (λ x. status_frame word.OkSimultaneous ∷ x ∷ []) (own_challenge_is h rules t j c a.1)
+  welcome_is false false = ap (λ x. status_frame word.Ok ∷ x ∷ []) (own_challenge_is h rules t j c a.1)
+
+  -- what the state makes of the Name
+  abbrev named_of : Bool → Bool → Named
+  named_of up dialled =
+      let frames = owes.greeting_owed rules c (says.welcome up dialled) in
+      if up then named.Alive (introduced rules c f) frames else named.Reply (introduced rules c f) frames dialled
+
+  module _ (kept : List KeptLink) (follow : LinksFollow (link_words h) kept) where
+    goes_by : (up dialled : Bool) → is_name_up f.name h.entries ≡ up → is_dialling f.name h.entries ≡ dialled → Goes h k j kept (heard_named (named_of up dialled))
+    goes_by true dialled u d =
+        let on = name_taken h e answered yes j body is f a.0.awaited said in
+        let opens = kept_open j not_itself in
+        let awaited = own_awaits h e answered yes j body is on opens in
+        name_moves (state.Answer (introduced rules c f)) (narrow_frames (owes.greeting_owed rules c word.Alive)) None
+        (record { open_now = awaited.open_now; whole = awaited.whole; awaited = awaited.awaited ∙ ap (λ b. cond b AwaitAnswer AwaitReply) u }, introduced_now)
+        (ap (λ b. welcome_frames b (is_dialling f.name h.entries)) u) (where_up u)
+    goes_by false false u d =
+        let on = name_taken h e answered yes j body is f a.0.awaited said in
+        let awaited = own_awaits h e answered yes j body is on (kept_open j not_itself) in
+        name_moves (state.Reply (introduced rules c f)) (narrow_frames (owes.greeting_owed rules c (says.welcome false false))) None
+        (record { open_now = awaited.open_now; whole = awaited.whole; awaited = awaited.awaited ∙ ap (λ b. cond b AwaitAnswer AwaitReply) u }, introduced_now)
+        ((λ i. welcome_frames (u i) (d i)) ∙ welcome_is false false) (where_undialled d)
+    goes_by false true u d =
+        let on = name_taken h e answered yes j body is f a.0.awaited said in
+        let awaited = own_awaits h e answered yes j body is on (kept_open j not_itself) in
+        let dial = find_dial h legal kept follow f.name d in
+        subst (λ gone. AreMoves h k j (state.Reply (introduced rules c f)) (narrow_frames (owes.greeting_owed rules c (says.welcome false true))) (stays_but gone)) (sym dial.1)
+        (name_moves (state.Reply (introduced rules c f)) (narrow_frames (owes.greeting_owed rules c (says.welcome false true))) (Some dial.0)
+        (record { open_now = awaited.open_now; whole = awaited.whole; awaited = awaited.awaited ∙ ap (λ b. cond b AwaitAnswer AwaitReply) u }, introduced_now)
+        ((λ i. welcome_frames (u i) (d i)) ∙ welcome_is false true) (where_dialled u dial.0 dial.2))
+
+    pub name_goes : (pending : Pending) → is_up pending f.name ≡ is_name_up f.name h.entries → is_dialled pending f.name ≡ is_dialling f.name h.entries → Goes h k j kept (heard_named (says.named_by rules pending c f))
+    name_goes pending up dialled = goes_by (is_up pending f.name) (is_dialled pending f.name) (sym up) (sym dialled)

@@ -1,0 +1,111 @@
+-- One own dial to a peer is unfinished at a time.
+use Rattle.std.specs.Prelude.{◌≡◌, ℕ, ◌==◌, Bool, true, false, cond, ◌&&◌, ◌||◌, not, List, [], ◌∷◌, ◌++◌, Option, Some, None}
+use Rattle.std.proofs.Common.{refl, ap, ◌∙◌, sym}
+use Rattle.std.proofs.lemmas.Bool.{eqb-true}
+use Rattle.std.specs.Option.{option_map_or}
+use Rattle.dist_types.specs.Listing.{same}
+use Rattle.dist_types.proofs.Orders.{same_decides}
+use Rattle.policy_audit.specs.declared.opening.Opening.{Opening}
+use Rattle.policy_audit.specs.declared.event.Event.{Event}
+use Rattle.policy_audit.specs.declared.reply.Reply.{Reply}
+use Rattle.policy_audit.specs.declared.event.Event.TheVariants as event
+use Rattle.policy_audit.specs.declared.entry.Verdict.{Verdict}
+use Rattle.policy_audit.specs.declared.entry.Verdict.TheVariants.{Accepted, Refused}
+use Rattle.policy_audit.specs.declared.entry.Entry.{Entry}
+use Rattle.policy_audit.specs.History.{History, past}
+use Rattle.policy_audit.specs.Sides.{Start, ByPeer, ByDial, Opened, Taken, and_frame, opened, taken, is_whole}
+use Rattle.policy_audit.specs.Links.{is_open, links, ends, is_dialling, is_dial_to, is_unfinished_dial}
+use Rattle.policy_audit.specs.Checks.{dial_checks, first_broken}
+use Rattle.policy_audit.specs.Policy.{IsLegal, IsLegalIn, verdict}
+use Rattle.policy_audit.proofs.Accepted.{lie, accepted, all_hold, unbroken}
+use Rattle.policy_audit.proofs.Walked.{but, open_opened}
+use Rattle.policy_audit.proofs.Finished.{whole_by, whole_kept}
+use Rattle.policy_audit.proofs.KeptLinks.{opened_linked}
+use Rattle.policy_audit.proofs.KeptNumbers.{some_of}
+use Rattle.policy_audit.proofs.UpLinks.{and_left, and_right, was_before}
+
+-- the link is an own dial to n that is unfinished
+abbrev pub dials : List ℕ → List Entry → ℕ → Bool
+dials n es l = is_open l es && is_unfinished_dial n l es
+
+module _ (n : List ℕ) (es : List Entry) (e : Entry) (l : ℕ) where
+  -- the same, by how the link was opened and its frames
+  abbrev shown : Bool → Option Opened → List Taken → Bool
+  shown opens oe ts = opens && (option_map_or (λ o. is_dial_to n o.start) oe false && not (whole_by oe ts))
+
+  abbrev opened_by : Start → Bool → Option Opened
+  opened_by s b = elim (cond {A = Option Opened} b (Some (record { start = s; before = es })) None) as (λ _. Option Opened) [ Some y ↦ Some y | None ↦ opened l es ]
+
+  -- the entry opens no dial of this number
+  abbrev pub is_new : Event → Verdict → Bool
+  is_new (event.Dial m c) (Accepted r) = e.number == l
+  is_new ev v = false
+
+  received : (c : ℕ) (b : Bool) → shown (b || is_open l es) (opened_by (ByPeer c) b) (taken l es) ≡ true → dials n es l ≡ true
+  received c true q = lie (sym q)
+  received c false q = q
+
+  dialled : (m : List ℕ) (c : ℕ) (b : Bool) → b ≡ false → shown (b || is_open l es) (opened_by (ByDial m c) b) (taken l es) ≡ true → dials n es l ≡ true
+  dialled m c true old q = lie old
+  dialled m c false old q = q
+
+  framed : (g : Bool) (body : List ℕ) (a : Bool) → shown (not g && is_open l es) (opened l es) (and_frame (taken l es) (cond a (Some (record { body = body; before = es })) None)) ≡ true → dials n es l ≡ true
+  framed g body false q = was_before g (is_open l es) _ q
+  framed g body true q = by (is_whole l es) refl
+    where
+      moment : Taken
+      moment = record { body = body; before = es }
+
+      so_far : shown (is_open l es) (opened l es) (taken l es ++ moment ∷ []) ≡ true
+      so_far = was_before g (is_open l es) _ q
+
+      by : (w : Bool) → is_whole l es ≡ w → dials n es l ≡ true
+      by true w = lie (sym (and_right (option_map_or (λ o. is_dial_to n o.start) (opened l es) false) _ (and_right (is_open l es) _ so_far)) ∙ ap not (whole_kept moment (opened l es) (taken l es) w))
+      by false w = ap (λ b. is_open l es && (option_map_or (λ o. is_dial_to n o.start) (opened l es) false && not b)) w
+          ∙ both (is_open l es) (option_map_or (λ o. is_dial_to n o.start) (opened l es) false) (and_left (is_open l es) _ so_far) (and_left (option_map_or (λ o. is_dial_to n o.start) (opened l es) false) _ (and_right (is_open l es) _ so_far))
+        where
+          both : (a b : Bool) → a ≡ true → b ≡ true → (a && (b && true)) ≡ true
+          both a b p q = λ i. p i && (q i && true)
+
+  pub older_dial : (ev : Event) (v : Verdict) → is_new ev v ≡ false → dials n (but e ev v ∷ es) l ≡ true → dials n es l ≡ true
+  older_dial ev (Refused r) old q = was_before (ends l es (Refused r) ev) (is_open l es) _ q
+  older_dial event.Restart (Accepted r) old q = lie (sym q)
+  older_dial (event.Opened c) (Accepted r) old q = received c (e.number == l) q
+  older_dial (event.Dial m c) (Accepted r) old q = dialled m c (e.number == l) old q
+  older_dial (event.Frame k body) (Accepted r) old q = framed (ends l es (Accepted r) (event.Frame k body)) body (k == l) q
+  older_dial ev (Accepted r) old q = was_before (ends l es (Accepted r) ev) (is_open l es) _ q
+
+  -- a new dial is to its peer
+  pub its_peer : (m : List ℕ) (c : ℕ) → (b : Bool) → b ≡ true → shown (b || is_open l es) (opened_by (ByDial m c) b) (taken l es) ≡ true → m ≡ n
+  its_peer m c true b q = (same_decides m n).0 (and_left (same m n) _ q)
+  its_peer m c false b q = lie (sym b)
+
+module _ (o : Opening) (n : List ℕ) where
+  module _ (es : List Entry) (e : Entry) (l j : ℕ) (so_far : dials n es l ≡ true → dials n es j ≡ true → l ≡ j) where
+    -- where one is unfinished, a second is refused
+    no_second : (m : List ℕ) → first_broken (dial_checks (past o es) m) ≡ None → m ≡ n → (k : ℕ) → dials n es k ≡ true → ⊥
+    no_second m holds is k here =
+        let one = some_of (dials n es) k (links es) here (sym (opened_linked k es) ∙ open_opened k es (and_left (is_open k es) (is_unfinished_dial n k es) here)) in
+        lie (sym (unbroken (not (is_dialling m es)) (all_hold (dial_checks (past o es) m) holds).1.1.1.0) ∙ ap (λ x. not (is_dialling x es)) is ∙ ap not one)
+
+    dialled_both : (m : List ℕ) (c : ℕ) (r : Reply) → first_broken (dial_checks (past o es) m) ≡ None → dials n (but e (event.Dial m c) (Accepted r) ∷ es) l ≡ true → dials n (but e (event.Dial m c) (Accepted r) ∷ es) j ≡ true
+        → (a : Bool) → (e.number == l) ≡ a → (b : Bool) → (e.number == j) ≡ b → l ≡ j
+    dialled_both m c r holds p q true x true y = sym (eqb-true e.number l x) ∙ eqb-true e.number j y
+    dialled_both m c r holds p q false x false y = so_far (older_dial n es e l (event.Dial m c) (Accepted r) x p) (older_dial n es e j (event.Dial m c) (Accepted r) y q)
+    dialled_both m c r holds p q true x false y = absurd (no_second m holds (its_peer n es e l m c (e.number == l) x p) j (older_dial n es e j (event.Dial m c) (Accepted r) y q))
+    dialled_both m c r holds p q false x true y = absurd (no_second m holds (its_peer n es e j m c (e.number == j) y q) l (older_dial n es e l (event.Dial m c) (Accepted r) x p))
+
+    by_event : (ev : Event) (v : Verdict) → v ≡ verdict (past o es) e.seat ev → dials n (but e ev v ∷ es) l ≡ true → dials n (but e ev v ∷ es) j ≡ true → l ≡ j
+    by_event (event.Dial m c) (Accepted r) is p q = dialled_both m c r (accepted (past o es) e.seat (event.Dial m c) r is).0 p q (e.number == l) refl (e.number == j) refl
+    by_event ev v is p q = so_far (older_dial n es e l ev v refl p) (older_dial n es e j ev v refl q)
+
+  one_in : (es : List Entry) → IsLegalIn o es → (l j : ℕ) → dials n es l ≡ true → dials n es j ≡ true → l ≡ j
+  one_in [] legal l j p q = lie (sym p)
+  one_in (e ∷ es) legal l j p q = by_event es e l j (one_in es legal.1 l j) e.event e.verdict legal.0.verdict p q
+
+pub one_dial : (h : History) → IsLegal h → (n : List ℕ) (l j : ℕ) → dials n h.entries l ≡ true → dials n h.entries j ≡ true → l ≡ j
+one_dial h legal n l j p q = one_in h.opening n h.entries legal l j p q
+
+-- a dial that is unfinished is known
+pub is_known_dial : (n : List ℕ) (es : List Entry) (l : ℕ) → dials n es l ≡ true → is_dialling n es ≡ true
+is_known_dial n es l here = some_of (dials n es) l (links es) here (sym (opened_linked l es) ∙ open_opened l es (and_left (is_open l es) (is_unfinished_dial n l es) here))

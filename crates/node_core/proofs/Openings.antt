@@ -1,0 +1,224 @@
+-- Links that open: the new link follows its opening, and all others are as before.
+use Rattle.std.specs.Prelude.{◌≡◌, ℕ, ◌+◌, ◌<◌, ◌≤◌, ◌==◌, nat_le, nat_lt, Bool, true, false, cond, not, ◌||◌, List, [], ◌∷◌, ◌++◌, Some, None, length, map}
+use Rattle.std.proofs.Common.{refl, ap, ◌∙◌, sym, subst, arith}
+use Rattle.std.proofs.lemmas.Bool.{eqb-true, eq-eqb, leb-true, lt-ltb, ltb-true}
+use Rattle.std.proofs.lemmas.List.{length-map, map-append}
+use Rattle.std.specs.List.{list_all, AllByRecursion}
+use Rattle.std.specs.Option.{option_map_or}
+use Rattle.dist_types.specs.Listing.{same}
+use Rattle.dist_types.specs.Flags.{own_flags}
+use Rattle.handshake_frames.specs.Spelling.{name_bytes}
+use Rattle.admission_rules.specs.Admission.{AdmissionRules}
+use Rattle.link_states.specs.Frames.{own_name}
+use Rattle.link_states.specs.States.{Dialled}
+use Rattle.policy_audit.specs.declared.event.Event.TheVariants as event
+use Rattle.policy_audit.specs.declared.reply.Reply.TheVariants as reply
+use Rattle.policy_audit.specs.declared.rule.Rule.TheVariants as rule
+use Rattle.policy_audit.specs.declared.entry.Entry.{Entry}
+use Rattle.policy_audit.specs.declared.entry.Verdict.TheVariants.{Accepted}
+use Rattle.policy_audit.specs.declared.out_frame.OutFrame.{OutFrame}
+use Rattle.policy_audit.specs.History.{History, is_accepted}
+use Rattle.policy_audit.specs.Sides.{Start, ByPeer, ByDial, start_of, challenge_in}
+use Rattle.policy_audit.specs.Links.{is_open}
+use Rattle.policy_audit.specs.Own.{running_scopes}
+use Rattle.policy_audit.specs.Owed.{narrow, own_name_frame, is_kept}
+use Rattle.policy_audit.specs.Checks.{kept_links, first_broken, dial_checks}
+use Rattle.policy_audit.specs.Policy.{IsAnswered, IsLegal, IsNext, with_entry, next_number, is_full}
+use Rattle.policy_audit.proofs.Accepted.{lie, all_hold, unbroken}
+use Rattle.policy_audit.proofs.UpLinks.{and_left, and_right}
+use Rattle.policy_audit.proofs.ChangeLemmas.{no_change}
+use Rattle.policy_audit.proofs.KeptLinks.{links_below}
+use Rattle.policy_audit.proofs.KeptNumbers.{kept_numbers, kept_count, kept_opening, opening_waiting, all_left, all_reverse}
+use Rattle.policy_audit.proofs.NewLinks.{IsNewLink, opened_apart, opened_new, opened_open}
+use Rattle.policy_audit.proofs.ScopeFrames.{opened_waiting, dialled_waiting}
+use Rattle.policy_audit.proofs.HeardNow.{opening_heard}
+use Rattle.policy_audit.proofs.RowsAfter.{opened_rows, dialled_rows}
+use Rattle.group_monitors.proofs.Followed.{follows_other}
+use Rattle.node_core.specs.declared.link_state.LinkState.TheVariants as state
+use Rattle.node_core.specs.Links.{KeptLink}
+use Rattle.node_core.specs.LinkFacts.{facts, link_words, IsState, IsLinkOf, LinksFollow}
+use Rattle.node_core.specs.ScopeFacts.{scope_words, ScopesFollow}
+use Rattle.node_core.specs.AdmissionFacts.{admission_words, AdmissionFollows}
+use Rattle.node_core.specs.Core.{Parts, Follows}
+use Rattle.node_core.proofs.Entered.{made, accepted_now, answered_now, next_now, sound_now}
+
+-- ---- how many links are kept
+
+pub kept_are : (h : History) (kept : List KeptLink) → LinksFollow (link_words h) kept → kept_links h ≡ length kept
+kept_are h kept t = kept_count h ∙ ap length (sym t.numbers) ∙ length-map kept (λ x. x.number)
+
+pub not_below : (n m : ℕ) → m ≤ n → nat_lt n m ≡ false
+not_below n m over = by (nat_lt n m) refl
+  where
+    by : (b : Bool) → nat_lt n m ≡ b → b ≡ false
+    by true e = (let less = ltb-true n m e in absurd (omega (arith, over, less)))
+    by false e = refl
+
+pub links_full : (h : History) (kept : List KeptLink) → LinksFollow (link_words h) kept → 64 ≤ length kept → nat_lt (kept_links h) 64 ≡ false
+links_full h kept t over = not_below (kept_links h) 64 (let is = kept_are h kept t in omega (arith, is, over))
+
+pub links_fit : (h : History) (kept : List KeptLink) → LinksFollow (link_words h) kept → length kept < 64 → nat_lt (kept_links h) 64 ≡ true
+links_fit h kept t few = lt-ltb (kept_links h) 64 (let is = kept_are h kept t in omega (arith, is, few))
+
+-- ---- the links after an opening
+
+module _ (h : History) (legal : IsLegal h) (e : Entry) (is_made : IsAnswered h e) (yes : is_accepted e.verdict ≡ true) (st : Start) (begins : start_of e.event ≡ Some st) where
+  abbrev k : History
+  k = with_entry h e
+
+  -- of every other link the same is said
+  other_facts : (l : ℕ) → (e.number == l) ≡ false → facts k l ≡ facts h l
+  other_facts l other =
+      let it = opened_apart h.entries e l st yes begins other in
+      let opens = opened_open h.entries e l st yes begins ∙ ap (λ b. b || is_open l h.entries) other in
+      λ i. record {
+        own = h.opening.name;
+        hidden = h.opening.hidden;
+        open_now = opens i;
+        whole = it.whole i;
+        awaited = it.awaits i;
+        peer = it.peer i;
+        said = it.given i;
+        challenge = option_map_or (λ o. challenge_in o.start) (it.opened i) 0;
+      }
+
+  others_link : (x : KeptLink) → (e.number == x.number) ≡ false → IsLinkOf (link_words h) x → IsLinkOf (link_words k) x
+  others_link x other it = record {
+    state = subst (λ f. IsState f x.state) (sym (other_facts x.number other)) it.state;
+    frames = it.frames ∙ sym (opening_waiting h legal e is_made yes st begins x.number other);
+    idle = it.idle;
+  }
+
+  older : (n : ℕ) → nat_le n (length h.entries) ≡ true → (e.number == n) ≡ false
+  older n below = by (e.number == n) refl
+    where
+      by : (b : Bool) → (e.number == n) ≡ b → b ≡ false
+      by false q = refl
+      by true q = absurd (let here : e.number ≡ length h.entries + 1 = is_made.number in let there : e.number ≡ n = eqb-true e.number n q in let less = leb-true n (length h.entries) below in omega (arith, here, there, less))
+
+  each_more : (new : KeptLink) → IsLinkOf (link_words k) new → (xs : List KeptLink) → list_all (λ n. nat_le n (length h.entries)) (map (λ x. x.number) xs) ≡ true → AllByRecursion (IsLinkOf (link_words h)) xs
+      → AllByRecursion (IsLinkOf (link_words k)) (xs ++ new ∷ [])
+  each_more new it [] below all = (it, tt)
+  each_more new it (x ∷ xs) below all = (
+    others_link x (older x.number (and_left (nat_le x.number (length h.entries)) (list_all (λ n. nat_le n (length h.entries)) (map (λ y. y.number) xs)) below)) all.0,
+    each_more new it xs (and_right (nat_le x.number (length h.entries)) (list_all (λ n. nat_le n (length h.entries)) (map (λ y. y.number) xs)) below) all.1,
+  )
+
+  kept_below : list_all (λ n. nat_le n (length h.entries)) (kept_numbers h) ≡ true
+  kept_below = all_reverse (λ n. nat_le n (length h.entries)) _ ∙ all_left (λ n. nat_le n (length h.entries)) (is_kept h) _ (links_below h legal)
+
+  -- one link more
+  pub new_follows : (kept : List KeptLink) (new : KeptLink) → LinksFollow (link_words h) kept → new.number ≡ e.number → IsLinkOf (link_words k) new → LinksFollow (link_words k) (kept ++ new ∷ [])
+  new_follows kept new t named it = record {
+    numbers = map-append (λ x. x.number) kept (new ∷ []) ∙ (λ i. t.numbers i ++ named i ∷ []) ∙ sym (kept_opening h legal e is_made yes st begins);
+    each = each_more new it kept (ap (list_all (λ n. nat_le n (length h.entries))) t.numbers ∙ kept_below) t.each;
+  }
+
+  its : IsNewLink e.number h.entries k.entries st
+  its = opened_new h.entries e e.number st yes begins h.opening legal is_made.number (eq-eqb e.number e.number refl)
+
+  opens_now : is_open e.number k.entries ≡ true
+  opens_now = opened_open h.entries e e.number st yes begins ∙ ap (λ b. b || is_open e.number h.entries) (eq-eqb e.number e.number refl)
+
+-- ---- a link from a peer
+
+module _ (h : History) (legal : IsLegal h) (seat c n : ℕ) (numbered : n ≡ next_number h) where
+  abbrev opening : Entry
+  opening = made h seat (event.Opened c) (Accepted (reply.Link n)) []
+
+  pub opened_next : is_full h ≡ false → nat_lt (kept_links h) 64 ≡ true → IsNext h opening
+  opened_next space fits =
+      let now = accepted_now h seat (event.Opened c) space (reply.Link n) (ap (λ b. cond (not b) (Some rule.LinksFull) None) fits) (ap reply.Link (sym numbered)) in
+      next_now h seat (event.Opened c) space (Accepted (reply.Link n)) [] now
+      (no_change h (with_entry h opening) (λ s g p. sym (opened_rows h legal opening (answered_now h seat (event.Opened c) space (Accepted (reply.Link n)) [] now) refl c refl s g p)))
+
+  module _ (next : IsNext h opening) where
+    answer_is : IsAnswered h opening
+    answer_is = record { room = next.room; number = next.number; verdict = next.verdict }
+
+    opened_scopes : scope_words (with_entry h opening) ≡ scope_words h
+    opened_scopes = λ i. record {
+      own = h.opening.name;
+      running = running_scopes h;
+      listed = λ s g p. opened_rows h legal opening answer_is refl c refl s g p i;
+      heard = λ l s. (opening_heard h opening refl legal answer_is (ByPeer c) refl l s).heard_is i;
+      told = λ l s. (opening_heard h opening refl legal answer_is (ByPeer c) refl l s).told_is i;
+    }
+
+    pub opened_follows : (parts : Parts) (challenge room : ℕ) → Follows h parts → challenge ≡ c
+        → Follows (with_entry h opening) (record parts { links = parts.links ++ record { number = n; state = state.Name challenge; frames = []; prepared = []; room = room } ∷ [] })
+    opened_follows parts challenge room t same_challenge = record {
+      sound = sound_now h parts.limit _ t.sound next;
+      admission = t.admission;
+      processes = t.processes;
+      scopes = subst (λ w. ScopesFollow w parts.scopes) (sym opened_scopes) t.scopes;
+      links = new_follows h legal opening answer_is refl (ByPeer c) refl parts.links (record { number = n; state = state.Name challenge; frames = []; prepared = []; room = room }) t.links numbered
+          (subst (λ j. IsLinkOf (link_words (with_entry h opening)) (record { number = j; state = state.Name challenge; frames = []; prepared = []; room = room })) (sym numbered) (record {
+            state = (
+              record { open_now = opens_now h legal opening answer_is refl (ByPeer c) refl; whole = (its h legal opening answer_is refl (ByPeer c) refl).whole; awaited = (its h legal opening answer_is refl (ByPeer c) refl).awaits },
+              same_challenge ∙ sym (ap (λ o. option_map_or (λ x. challenge_in x.start) o 0) (its h legal opening answer_is refl (ByPeer c) refl).opened),
+            );
+            frames = sym (opened_waiting h opening answer_is refl legal c refl);
+            idle = refl;
+          }));
+      monitors = follows_other h _ parts.monitors next.number t.monitors refl;
+    }
+
+-- ---- a link to a peer
+
+-- the own Name, by the rules of the admission
+pub own_name_is : (h : History) (rules : AdmissionRules) → AdmissionFollows (admission_words h) rules → narrow (own_name rules) ≡ own_name_frame h
+own_name_is h rules t = λ i. narrow (name_bytes (record { flags = own_flags (t.hidden i); creation = t.creation i; name = t.own i }))
+
+module _ (h : History) (legal : IsLegal h) (seat : ℕ) (peer : List ℕ) (c n : ℕ) (numbered : n ≡ next_number h) (holds : first_broken (dial_checks h peer) ≡ None) where
+  abbrev dial : Entry
+  dial = made h seat (event.Dial peer c) (Accepted (reply.Link n)) []
+
+  pub dialled_next : is_full h ≡ false → IsNext h dial
+  dialled_next space =
+      let now = accepted_now h seat (event.Dial peer c) space (reply.Link n) holds (ap reply.Link (sym numbered)) in
+      next_now h seat (event.Dial peer c) space (Accepted (reply.Link n)) [] now
+      (no_change h (with_entry h dial) (λ s g p. sym (dialled_rows h legal dial (answered_now h seat (event.Dial peer c) space (Accepted (reply.Link n)) [] now) refl peer c refl s g p)))
+
+  module _ (next : IsNext h dial) where
+    dial_is : IsAnswered h dial
+    dial_is = record { room = next.room; number = next.number; verdict = next.verdict }
+
+    dialled_scopes : scope_words (with_entry h dial) ≡ scope_words h
+    dialled_scopes = λ i. record {
+      own = h.opening.name;
+      running = running_scopes h;
+      listed = λ s g p. dialled_rows h legal dial dial_is refl peer c refl s g p i;
+      heard = λ l s. (opening_heard h dial refl legal dial_is (ByDial peer c) refl l s).heard_is i;
+      told = λ l s. (opening_heard h dial refl legal dial_is (ByDial peer c) refl l s).told_is i;
+    }
+
+    other_node : same peer h.opening.name ≡ false
+    other_node = flipped (same peer h.opening.name) (unbroken (not (same peer h.opening.name)) (all_hold (dial_checks h peer) holds).0)
+      where
+        flipped : (b : Bool) → not b ≡ true → b ≡ false
+        flipped false q = refl
+        flipped true q = lie (sym q)
+
+    pub dialled_follows : (parts : Parts) (dialled : Dialled) (frames : List OutFrame) (room : ℕ) → Follows h parts → dialled ≡ record { peer = peer; challenge = c } → frames ≡ narrow (own_name parts.admission) ∷ []
+        → Follows (with_entry h dial) (record parts { links = parts.links ++ record { number = n; state = state.Status dialled; frames = frames; prepared = []; room = room } ∷ [] })
+    dialled_follows parts dialled frames room t same_dialled same_frames = record {
+      sound = sound_now h parts.limit _ t.sound next;
+      admission = t.admission;
+      processes = t.processes;
+      scopes = subst (λ w. ScopesFollow w parts.scopes) (sym dialled_scopes) t.scopes;
+      links = new_follows h legal dial dial_is refl (ByDial peer c) refl parts.links (record { number = n; state = state.Status dialled; frames = frames; prepared = []; room = room }) t.links numbered
+          (subst (λ j. IsLinkOf (link_words (with_entry h dial)) (record { number = j; state = state.Status dialled; frames = frames; prepared = []; room = room })) (sym numbered)
+          (subst (λ d. IsLinkOf (link_words (with_entry h dial)) (record { number = next_number h; state = state.Status d; frames = frames; prepared = []; room = room })) (sym same_dialled) (record {
+            state = (
+              record { open_now = opens_now h legal dial dial_is refl (ByDial peer c) refl; whole = (its h legal dial dial_is refl (ByDial peer c) refl).whole; awaited = (its h legal dial dial_is refl (ByDial peer c) refl).awaits },
+              record {
+                peer = record { peer = (its h legal dial dial_is refl (ByDial peer c) refl).peer; other = other_node };
+                challenge = sym (ap (λ o. option_map_or (λ x. challenge_in x.start) o 0) (its h legal dial dial_is refl (ByDial peer c) refl).opened);
+              },
+            );
+            frames = same_frames ∙ ap (λ f. f ∷ []) (own_name_is h parts.admission t.admission) ∙ sym (dialled_waiting h dial dial_is refl legal peer c refl);
+            idle = refl;
+          })));
+      monitors = follows_other h _ parts.monitors next.number t.monitors refl;
+    }

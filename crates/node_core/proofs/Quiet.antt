@@ -1,0 +1,67 @@
+-- Events that change no row and no link.
+use Rattle.std.specs.Prelude.{◌≡◌, ℕ, true, false, List, [], None}
+use Rattle.std.proofs.Common.{refl, subst, sym}
+use Rattle.std.proofs.lemmas.List.{append-nil}
+use Rattle.admission_rules.specs.Admission.{AdmissionRules}
+use Rattle.group_monitors.proofs.Followed.{follows_other}
+use Rattle.policy_audit.specs.declared.event.Event.{Event}
+use Rattle.policy_audit.specs.declared.event.Event.TheVariants as event
+use Rattle.policy_audit.specs.declared.reply.Reply.{Reply}
+use Rattle.policy_audit.specs.declared.entry.Verdict.TheVariants.{Accepted}
+use Rattle.policy_audit.specs.History.{History}
+use Rattle.policy_audit.specs.Owed.{waiting}
+use Rattle.policy_audit.specs.Effects.{is_quiet}
+use Rattle.policy_audit.specs.Checks.{checks, first_broken}
+use Rattle.policy_audit.specs.Policy.{is_full, answer, IsNext}
+use Rattle.node_core.specs.LinkFacts.{LinksFollow}
+use Rattle.node_core.specs.AdmissionFacts.{admission_words, AdmissionFollows}
+use Rattle.node_core.specs.ProcessFacts.{process_words, ProcessesFollow}
+use Rattle.node_core.specs.Processes.{Spawned}
+use Rattle.node_core.specs.Core.{Parts, Follows}
+use Rattle.node_core.proofs.Entered.{made, accepted_now, next_now, sound_now}
+use Rattle.node_core.proofs.Calm.{answered, quiet_change, same_links}
+
+-- an accepted event that changes no row is the next entry
+pub quiet_next : (h : History) (seat : ℕ) (r : Reply) (ev : Event) → is_full h ≡ false → first_broken (checks h seat ev) ≡ None → answer h seat ev ≡ r → is_quiet ev ≡ true → IsNext h (made h seat ev (Accepted r) [])
+quiet_next h seat r ev space holds is quiet = next_now h seat ev space (Accepted r) [] (accepted_now h seat ev space r holds is) (quiet_change h seat r ev quiet)
+
+module _ (h : History) (seat : ℕ) (r : Reply) (parts : Parts) (t : Follows h parts) where
+  pub set_cookie_follows : (c : List ℕ) (rules : AdmissionRules) → IsNext h (made h seat (event.SetCookie c) (Accepted r) []) → AdmissionFollows (admission_words (answered h seat (event.SetCookie c) r)) rules → Follows (answered h seat (event.SetCookie c) r) (record parts { admission = rules })
+  set_cookie_follows c rules next follows = record {
+    sound = sound_now h parts.limit _ t.sound next;
+    admission = follows;
+    processes = t.processes;
+    scopes = t.scopes;
+    links = subst (λ w. LinksFollow w parts.links) (sym (same_links h (answered h seat (event.SetCookie c) r) refl (λ l. refl) (λ l. append-nil (waiting h l)))) t.links;
+    monitors = follows_other h _ parts.monitors next.number t.monitors refl;
+  }
+
+  pub set_cookie_for_follows : (n c : List ℕ) (rules : AdmissionRules) → IsNext h (made h seat (event.SetCookieFor n c) (Accepted r) []) → AdmissionFollows (admission_words (answered h seat (event.SetCookieFor n c) r)) rules → Follows (answered h seat (event.SetCookieFor n c) r) (record parts { admission = rules })
+  set_cookie_for_follows n c rules next follows = record {
+    sound = sound_now h parts.limit _ t.sound next;
+    admission = follows;
+    processes = t.processes;
+    scopes = t.scopes;
+    links = subst (λ w. LinksFollow w parts.links) (sym (same_links h (answered h seat (event.SetCookieFor n c) r) refl (λ l. refl) (λ l. append-nil (waiting h l)))) t.links;
+    monitors = follows_other h _ parts.monitors next.number t.monitors refl;
+  }
+
+  pub allow_follows : (ns : List (List ℕ)) (rules : AdmissionRules) → IsNext h (made h seat (event.Allow ns) (Accepted r) []) → AdmissionFollows (admission_words (answered h seat (event.Allow ns) r)) rules → Follows (answered h seat (event.Allow ns) r) (record parts { admission = rules })
+  allow_follows ns rules next follows = record {
+    sound = sound_now h parts.limit _ t.sound next;
+    admission = follows;
+    processes = t.processes;
+    scopes = t.scopes;
+    links = subst (λ w. LinksFollow w parts.links) (sym (same_links h (answered h seat (event.Allow ns) r) refl (λ l. refl) (λ l. append-nil (waiting h l)))) t.links;
+    monitors = follows_other h _ parts.monitors next.number t.monitors refl;
+  }
+
+  pub spawn_follows : (processes : Spawned) → IsNext h (made h seat event.Spawn (Accepted r) []) → ProcessesFollow (process_words (answered h seat event.Spawn r)) processes → Follows (answered h seat event.Spawn r) (record parts { processes = processes })
+  spawn_follows processes next follows = record {
+    sound = sound_now h parts.limit _ t.sound next;
+    admission = t.admission;
+    processes = follows;
+    scopes = t.scopes;
+    links = subst (λ w. LinksFollow w parts.links) (sym (same_links h (answered h seat event.Spawn r) refl (λ l. refl) (λ l. append-nil (waiting h l)))) t.links;
+    monitors = follows_other h _ parts.monitors next.number t.monitors refl;
+  }

@@ -1,0 +1,102 @@
+-- Messages of own rows, and the links that are told them.
+use Rattle.std.specs.Prelude.{◌≡◌, ℕ, ◌<◌, min, Bool, true, false, cond, not, List, [], ◌∷◌, ◌++◌, map, length, Result, OnErr}
+use Rattle.std.proofs.Common.{refl, ap, ◌∙◌, sym, subst, arith}
+use Rattle.std.specs.List.{AllZip}
+use Rattle.dist_types.specs.declared.pid.Pid.{Pid}
+use Rattle.dist_types.specs.declared.row.Row.{Row}
+use Rattle.dist_types.specs.Difference.{is_empty}
+use Rattle.dist_types.specs.Order.{pid_cmp}
+use Rattle.dist_types.specs.Listing.{same, same_pid, listing, mentions, stands_in, IsListing, IsRowListing, IsPidListing}
+use Rattle.dist_types.proofs.Orders.{exact_pids, pids_total, same_pid_decides}
+use Rattle.dist_types.proofs.Listings.{listing_counts}
+use Rattle.link_frames.specs.declared.message.Message.{Message}
+use Rattle.link_frames.specs.declared.message.Message.TheVariants as said
+use Rattle.link_frames.specs.Spelling.{HasSpelling}
+use Rattle.scope_core.specs.declared.fault.TableFault.{TableFault}
+use Rattle.scope_core.specs.declared.fault.TableFault.TheVariants as fault
+use Rattle.scope_core.specs.Table.{Table}
+use Rattle.scope_core.specs.Calls.{IsJoinFault, IsLeaveFault}
+use Rattle.policy_audit.specs.declared.out_frame.OutFrame.{OutFrame}
+use Rattle.policy_audit.specs.Contents.{row}
+use Rattle.policy_audit.specs.Owed.{wide}
+use Rattle.policy_audit.proofs.Accepted.{lie}
+use Rattle.policy_audit.proofs.Named.{occurs_stands}
+use Rattle.policy_audit.proofs.OwnRows.{one_row_listing, rows_in_group}
+use Rattle.node_core.specs.declared.running.Running.{Running}
+use Rattle.node_core.specs.Links.{KeptLink, unroomed, with_prepared, prepared_for}
+use Rattle.node_core.specs.ScopeFacts.{is_number}
+use Rattle.node_core.specs.Telling.{AreIdle, Alike, IsBrief, is_said, said_to}
+use Rattle.node_core.specs.Moving.{fault_of, IsJoinRefusal, IsLeaveRefusal}
+use Rattle.node_core.proofs.Told.{at_errors, forgotten, zip_map}
+
+some_left : {A : Type 0} (xs : List A) → not (is_empty xs) ≡ true → 0 < length xs
+some_left [] q = lie (sym q)
+some_left (x ∷ xs) q = omega arith
+
+-- a message that is said can be spelled
+pub spelled : (m : Message) → IsBrief m → is_said m ≡ true → HasSpelling m
+spelled (said.Discover s) b q = tt
+spelled (said.Sync s rows) b q = b
+spelled (said.Join s rows) b q = (some_left rows q, b)
+spelled (said.Leave s rows) b q = (some_left rows q, b)
+spelled (said.Down s) b q = tt
+
+module _ (numbers : List ℕ) (m : Message) (old : List KeptLink) where
+  abbrev prepared_as : Bool → List KeptLink
+  prepared_as b = map (λ x. unroomed (prepared_for (cond b numbers []) (wide m) x)) old
+
+  pub said_prepared : (new : List KeptLink) → is_said m ≡ true → map unroomed new ≡ map (λ x. unroomed (prepared_for numbers (wide m) x)) old → map unroomed new ≡ map (λ x. unroomed (prepared_for (said_to numbers m) (wide m) x)) old
+  said_prepared new q is = is ∙ sym (ap prepared_as q)
+
+  pub unsaid_prepared : is_said m ≡ false → map unroomed old ≡ map (λ x. unroomed (prepared_for (said_to numbers m) (wide m) x)) old
+  unsaid_prepared q = sym (ap prepared_as q)
+
+-- ---- rows of one group
+
+-- the rows of a group are the listing of its processes
+pub moved_listing : (g : List ℕ) (ps : List Pid) (count : Pid → ℕ) (rows : List Row) → ((p : Pid) → 0 < count p → stands_in same_pid p ps ≡ true)
+    → IsRowListing (λ f q. cond (same f g) (count q) 0) rows → rows ≡ map (row g) (listing pid_cmp count ps)
+moved_listing g ps count rows named a = one_row_listing (λ f q. cond (same f g) (count q) 0) rows (map (row g) (listing pid_cmp count ps)) a
+    (rows_in_group g count (listing pid_cmp count ps) (listing_counts pid_cmp same_pid pids_total exact_pids same_pid_decides count ps named))
+
+pub joined_rows_are : (g : List ℕ) (ps : List Pid) (rows : List Row) → IsRowListing (λ f q. cond (same f g) (mentions q ps) 0) rows → rows ≡ map (row g) (listing pid_cmp (λ p. mentions p ps) ps)
+joined_rows_are g ps rows a = moved_listing g ps (λ p. mentions p ps) rows (λ p some. occurs_stands same_pid p ps some) a
+
+pub left_rows_are : (g : List ℕ) (ps gone members : List Pid) (count : Pid → ℕ) (rows : List Row) → IsPidListing count members → ((p : Pid) → mentions p gone ≡ min (mentions p ps) (mentions p members))
+    → IsRowListing (λ f q. cond (same f g) (mentions q gone) 0) rows → rows ≡ map (row g) (listing pid_cmp (λ p. min (mentions p ps) (count p)) ps)
+left_rows_are g ps gone members count rows all both a =
+    moved_listing g ps (λ p. min (mentions p ps) (count p)) rows (λ p some. occurs_stands same_pid p ps (omega (arith, some)))
+    (subst (λ (c : Pid → ℕ). IsRowListing (λ f q. cond (same f g) (c q) 0) rows) (λ i q. (both q ∙ ap (λ n. min (mentions q ps) n) (IsListing.counts all q)) i) a)
+
+-- ---- faults
+
+pub join_fault : (t : Table) (ps : List Pid) (f : TableFault) → IsJoinFault t ps f → IsJoinRefusal t ps (fault_of f)
+join_fault t ps fault.RowsFull q = (refl, q)
+join_fault t ps fault.NotJoined q = absurd q
+join_fault t ps fault.NotListed q = absurd q
+join_fault t ps fault.OutOfMemory q = tt
+
+pub leave_fault : (t : Table) (g : List ℕ) (ps : List Pid) (f : TableFault) → IsLeaveFault t g ps f → IsLeaveRefusal t g ps (fault_of f)
+leave_fault t g ps fault.RowsFull q = absurd q
+leave_fault t g ps fault.NotJoined q = (refl, q)
+leave_fault t g ps fault.NotListed q = absurd q
+leave_fault t g ps fault.OutOfMemory q = tt
+
+-- what is prepared and then dropped leaves all as it was
+pub dropped_again : (numbers : List ℕ) (frame : OutFrame) (old mid new : List KeptLink) → AreIdle old → map unroomed mid ≡ map (λ x. unroomed (prepared_for numbers frame x)) old
+    → map unroomed new ≡ map (λ x. unroomed (with_prepared x [])) mid → Alike old new
+dropped_again numbers frame old mid new idle prepared dropped = dropped ∙ all old mid idle (zip_map unroomed (λ x. unroomed (prepared_for numbers frame x)) old mid prepared)
+  where
+    all : (xs ys : List KeptLink) → AreIdle xs → AllZip (λ x y. unroomed y ≡ unroomed (prepared_for numbers frame x)) xs ys → map (λ x. unroomed (with_prepared x [])) ys ≡ map unroomed xs
+    all [] [] idle a = refl
+    all [] (y ∷ ys) idle a = absurd a
+    all (x ∷ xs) [] idle a = absurd a
+    all (x ∷ xs) (y ∷ ys) idle a = λ i. (ap (λ z. with_prepared z []) a.0 ∙ by x idle.0 (is_number x.number numbers)) i ∷ all xs ys idle.1 a.1 i
+      where
+        by : (x : KeptLink) → x.prepared ≡ [] → (b : Bool) → with_prepared (unroomed (cond b (with_prepared x (x.prepared ++ frame ∷ [])) x)) [] ≡ unroomed x
+        by x idle true = λ i. record (unroomed x) { prepared = sym idle i }
+        by x idle false = λ i. record (unroomed x) { prepared = sym idle i }
+
+-- where a message finds no memory, nothing has changed
+pub untold : {T E : Type 0} (o : Result T E) (r : Running) (old new : List KeptLink) → AreIdle old → map unroomed new ≡ map (λ x. unroomed (with_prepared x [])) old → OnErr o ((r ≡ r) × Alike old new)
+untold o r old new idle forgot = at_errors {P = (r ≡ r) × Alike old new} o (refl, forgot ∙ forgotten old idle)

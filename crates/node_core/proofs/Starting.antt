@@ -1,0 +1,195 @@
+-- A scope that starts.
+use Rattle.std.specs.Prelude.{◌≡◌, ℕ, zero, suc, ◌<◌, ◌≤◌, Bool, true, false, cond, nat_lt, ◌||◌, not, List, [], ◌∷◌, ◌++◌, Option, Some, None, map, length}
+use Rattle.std.proofs.Common.{refl, ap, ◌∙◌, sym, arith, get_or}
+use Rattle.std.proofs.lemmas.Bool.{lt-ltb, ltb-true}
+use Rattle.std.proofs.lemmas.Map.Lookups.{exact_bytes}
+use Rattle.std.specs.declared.cmp.Ordering.{Ordering}
+use Rattle.std.specs.declared.cmp.Ordering.TheVariants.{Less, Equal, Greater}
+use Rattle.std.specs.Ordering.{is_lt, ordering_reverse, match_ordering}
+use Rattle.std.specs.List.{AllByRecursion, insert}
+use Rattle.std.specs.List.Sorted.{IsPartitionedBy, IsPartitionPoint}
+use Rattle.dist_types.specs.declared.pid.Pid.{Pid}
+use Rattle.dist_types.specs.Listing.{Rises, is_among, placed, same}
+use Rattle.dist_types.specs.Order.{text_cmp}
+use Rattle.dist_types.proofs.Orders.{same_decides, texts_total}
+use Rattle.link_frames.specs.declared.message.Message.TheVariants as said
+use Rattle.scope_core.specs.Table.{count_of}
+use Rattle.group_monitors.proofs.Followed.{follows_other}
+use Rattle.policy_audit.specs.declared.event.Event.TheVariants as event
+use Rattle.policy_audit.specs.declared.reply.Reply.TheVariants as reply
+use Rattle.policy_audit.specs.declared.rule.Rule.{Rule}
+use Rattle.policy_audit.specs.declared.rule.Rule.TheVariants as rule
+use Rattle.policy_audit.specs.declared.entry.Entry.{Entry}
+use Rattle.policy_audit.specs.declared.entry.Verdict.TheVariants.{Accepted}
+use Rattle.policy_audit.specs.History.{History}
+use Rattle.policy_audit.specs.Own.{is_running, running_scopes}
+use Rattle.policy_audit.specs.Hearing.{heard, told}
+use Rattle.policy_audit.specs.Listed.{listed}
+use Rattle.policy_audit.specs.Owed.{wide, waiting}
+use Rattle.policy_audit.specs.Checks.{checks, first_broken}
+use Rattle.policy_audit.specs.Policy.{is_full, IsAnswered, IsNext, with_entry}
+use Rattle.policy_audit.proofs.Accepted.{lie}
+use Rattle.policy_audit.proofs.ChangeLemmas.{no_change, stopped_lists}
+use Rattle.policy_audit.proofs.KeptLinks.{told_runs, heard_runs'}
+use Rattle.policy_audit.proofs.RowsAfter.{started_rows}
+use Rattle.policy_audit.proofs.ScopeFrames.{started_links, told_numbers}
+use Rattle.policy_audit.proofs.ScopesNow.{running_among, running_started}
+use Rattle.node_core.specs.declared.running.Running.{Running}
+use Rattle.node_core.specs.Links.{KeptLink}
+use Rattle.node_core.specs.LinkFacts.{link_words}
+use Rattle.node_core.specs.ScopeFacts.{scope_words, is_number, IsRunningOf, ScopesFollow}
+use Rattle.node_core.specs.Core.{Parts, Follows}
+use Rattle.node_core.specs.Telling.{AreTold, if_among, shown_numbers, put_scope}
+use Rattle.node_core.proofs.Entered.{made, accepted_now, answered_now, next_now, sound_now}
+use Rattle.node_core.proofs.Told.{told_follow, shown_number}
+
+-- ---- a scope put among others
+
+pub put_each : (P : Running → Type 0) (r : Running) (xs : List Running) → P r → AllByRecursion P xs → AllByRecursion P (put_scope r xs)
+put_each P r [] p a = (p, tt)
+put_each P r (x ∷ xs) p a = elim (is_lt (text_cmp x.scope r.scope)) as (λ b. AllByRecursion P (cond b (x ∷ put_scope r xs) (r ∷ x ∷ xs))) [ true ↦ (a.0, put_each P r xs p a.1) | false ↦ (p, a) ]
+
+-- the names of the scopes
+abbrev pub names : List Running → List (List ℕ)
+names rs = map (λ r. r.scope) rs
+
+pub put_names : (r : Running) (xs : List Running) → is_among r.scope (names xs) ≡ false → names (put_scope r xs) ≡ placed text_cmp r.scope (names xs)
+put_names r [] none = refl
+put_names r (x ∷ xs) none = by (put_names r xs) (text_cmp r.scope x.scope) refl (same x.scope r.scope) refl none
+  where
+    by : (is_among r.scope (names xs) ≡ false → names (put_scope r xs) ≡ placed text_cmp r.scope (names xs)) → (o : Ordering) → text_cmp r.scope x.scope ≡ o → (b : Bool) → same x.scope r.scope ≡ b → (b || is_among r.scope (names xs)) ≡ false
+        → names (cond (is_lt (text_cmp x.scope r.scope)) (x ∷ put_scope r xs) (r ∷ x ∷ xs)) ≡ placed text_cmp r.scope (x.scope ∷ names xs)
+    by others o e true s n = lie n
+    by others Less e false s n =
+        ap (λ o. names (cond (is_lt o) (x ∷ put_scope r xs) (r ∷ x ∷ xs))) (texts_total.antisymm x.scope r.scope ∙ ap ordering_reverse e)
+        ∙ sym (ap (λ o. match_ordering o (r.scope ∷ x.scope ∷ names xs) (x.scope ∷ names xs) (x.scope ∷ placed text_cmp r.scope (names xs))) e)
+    by others Equal e false s n = lie (sym ((same_decides x.scope r.scope).1 (sym (exact_bytes r.scope x.scope e))) ∙ s)
+    by others Greater e false s n =
+        ap (λ o. names (cond (is_lt o) (x ∷ put_scope r xs) (r ∷ x ∷ xs))) (texts_total.antisymm x.scope r.scope ∙ ap ordering_reverse e)
+        ∙ ap (λ ys. x.scope ∷ ys) (others n)
+        ∙ sym (ap (λ o. match_ordering o (r.scope ∷ x.scope ∷ names xs) (x.scope ∷ names xs) (x.scope ∷ placed text_cmp r.scope (names xs))) e)
+
+-- whether a scope comes before s
+abbrev pub is_before : List ℕ → Running → Bool
+is_before s r = is_lt (text_cmp r.scope s)
+
+all_names : (P : List ℕ → Type 0) (rs : List Running) (j : ℕ) (d : Running) → AllByRecursion P (names rs) → j < length rs → P (get_or rs j d).scope
+all_names P [] j d a l = absurd (omega (arith, l))
+all_names P (r ∷ rs) zero d a l = a.0
+all_names P (r ∷ rs) (suc j) d a l = all_names P rs j d a.1 (omega (arith, l))
+
+rising_before : (s : List ℕ) (rs : List Running) → Rises text_cmp (names rs) → (i j : ℕ) (d : Running) → i ≤ j → j < length rs → is_before s (get_or rs i d) ≡ false → is_before s (get_or rs j d) ≡ false
+rising_before s [] r i j d l h n = absurd (omega (arith, h))
+rising_before s (x ∷ xs) r zero zero d l h n = n
+rising_before s (x ∷ xs) r zero (suc j) d l h n = by (text_cmp (get_or xs j d).scope s) refl
+  where
+    by : (o : Ordering) → text_cmp (get_or xs j d).scope s ≡ o → is_lt o ≡ false
+    by Less e = lie (sym (ap is_lt (texts_total.trans x.scope (get_or xs j d).scope s (all_names (λ t. text_cmp x.scope t ≡ Less) xs j d r.0 (omega (arith, h))) e)) ∙ n)
+    by Equal e = refl
+    by Greater e = refl
+rising_before s (x ∷ xs) r (suc i) zero d l h n = absurd (omega (arith, l))
+rising_before s (x ∷ xs) r (suc i) (suc j) d l h n = rising_before s xs r.1 i j d (omega (arith, l)) (omega (arith, h)) n
+
+pub before_partitions : (s : List ℕ) (rs : List Running) → Rises text_cmp (names rs) → IsPartitionedBy (is_before s) rs
+before_partitions s rs r i j d l h e = by (is_before s (get_or rs i d)) refl
+  where
+    by : (b : Bool) → is_before s (get_or rs i d) ≡ b → b ≡ true
+    by true n = refl
+    by false n = lie (sym e ∙ rising_before s rs r i j d l h n)
+
+pub put_at : (r : Running) (rs : List Running) (i : ℕ) → i ≤ length rs → IsPartitionPoint (λ y. is_before r.scope y ≡ true) (λ y. is_before r.scope y ≡ false) rs i → insert rs i r ≡ put_scope r rs
+put_at r [] zero l p = refl
+put_at r [] (suc i) l p = absurd (omega (arith, l))
+put_at r (x ∷ xs) zero l p = sym (ap (λ b. cond b (x ∷ put_scope r xs) (r ∷ x ∷ xs)) (p.1 0 x (omega arith) (omega arith)))
+put_at r (x ∷ xs) (suc i) l p =
+    ap (λ ys. x ∷ ys) (put_at r xs i (omega (arith, l)) ((λ k d a b. p.0 (suc k) d (omega arith) (omega (arith, b))), (λ k d a b. p.1 (suc k) d (omega (arith, a)) (omega (arith, b)))))
+    ∙ sym (ap (λ b. cond b (x ∷ put_scope r xs) (r ∷ x ∷ xs)) (p.0 0 x (omega arith) (omega arith)))
+
+-- ---- a start
+
+pub running_length : (h : History) (rs : List Running) → ScopesFollow (scope_words h) rs → length (running_scopes h) ≡ length rs
+running_length h rs t = ap length (sym t.running) ∙ long rs
+  where
+    long : (rs : List Running) → length (names rs) ≡ length rs
+    long [] = refl
+    long (r ∷ rs) = ap suc (long rs)
+
+module _ (h : History) (seat : ℕ) (s : List ℕ) where
+  abbrev e : Entry
+  e = made h seat (event.StartScope s) (Accepted reply.Done) []
+
+  abbrev pub started : History
+  started = with_entry h e
+
+  -- the first rule that is broken, where the scope runs or not and there is room for one or not
+  abbrev checked : Bool → Bool → Option Rule
+  checked runs room = cond (not (not runs)) (Some rule.ScopeRunning) (cond (not room) (Some rule.ScopesFull) None)
+
+  pub scope_running : is_running h s ≡ true → first_broken (checks h seat (event.StartScope s)) ≡ Some rule.ScopeRunning
+  scope_running q = ap (λ b. checked b (nat_lt (length (running_scopes h)) 64)) q
+
+  module _ (parts : Parts) (t : Follows h parts) (stopped : is_running h s ≡ false) where
+    pub scopes_full : 64 ≤ length parts.scopes → first_broken (checks h seat (event.StartScope s)) ≡ Some rule.ScopesFull
+    scopes_full many = λ i. checked (stopped i) (crowded i)
+      where
+        crowded : nat_lt (length (running_scopes h)) 64 ≡ false
+        crowded = by (nat_lt (length (running_scopes h)) 64) refl
+          where
+            by : (b : Bool) → nat_lt (length (running_scopes h)) 64 ≡ b → b ≡ false
+            by false q = refl
+            by true q = absurd (let few = ltb-true (length (running_scopes h)) 64 q in let is = running_length h parts.scopes t.scopes in omega (arith, few, is, many))
+
+    pub scopes_fit : length parts.scopes < 64 → first_broken (checks h seat (event.StartScope s)) ≡ None
+    scopes_fit few = λ i. checked (stopped i) (lt-ltb (length (running_scopes h)) 64 (let is = running_length h parts.scopes t.scopes in omega (arith, is, few)) i)
+
+    pub start_next : is_full h ≡ false → length parts.scopes < 64 → IsNext h e
+    start_next space few = next_now h seat (event.StartScope s) space (Accepted reply.Done) [] (accepted_now h seat (event.StartScope s) space reply.Done (scopes_fit few) refl)
+        (no_change h started (λ u g p. sym (started_rows h t.sound.legal e (answered_now h seat (event.StartScope s) space (Accepted reply.Done) [] (accepted_now h seat (event.StartScope s) space reply.Done (scopes_fit few) refl)) refl s refl u g p)))
+
+    module _ (next : IsNext h e) where
+      its : IsAnswered h e
+      its = record { room = next.room; number = next.number; verdict = next.verdict }
+
+      still : (r : Running) → IsRunningOf (scope_words h) r → IsRunningOf (scope_words started) r
+      still r q = record {
+        own = q.own;
+        rows = λ g p. q.rows g p ∙ sym (started_rows h t.sound.legal e its refl s refl r.scope g p);
+        heard = q.heard;
+        told = q.told;
+      }
+
+      all_still : (rs : List Running) → AllByRecursion (IsRunningOf (scope_words h)) rs → AllByRecursion (IsRunningOf (scope_words started)) rs
+      all_still [] a = tt
+      all_still (r ∷ rs) a = (still r a.0, all_still rs a.1)
+
+      nobody : (b : Bool) → (b ≡ true → is_running h s ≡ true) → false ≡ b
+      nobody false f = refl
+      nobody true f = lie (sym (f refl) ∙ stopped)
+
+      new_one : (r : Running) → r.scope ≡ s → r.table.own ≡ h.opening.name → ((g : List ℕ) (p : Pid) → count_of r.table g p ≡ 0) → r.heard.items ≡ [] → r.told.items ≡ [] → IsRunningOf (scope_words started) r
+      new_one r named own none unheard untold = record {
+        own = own;
+        rows = λ g p. none g p ∙ sym (ap (λ x. listed started x g p) named ∙ started_rows h t.sound.legal e its refl s refl s g p ∙ stopped_lists h s g p stopped);
+        heard = λ l. ap (is_number l) unheard ∙ nobody (heard l s h.entries) (heard_runs' h t.sound.legal l s) ∙ ap (λ x. heard l x h.entries) (sym named);
+        told = λ l. ap (is_number l) untold ∙ nobody (told l s h.entries) (told_runs h t.sound.legal l s) ∙ ap (λ x. told l x h.entries) (sym named);
+      }
+
+      pub start_follows : (r : Running) → r.scope ≡ s → r.table.own ≡ h.opening.name → ((g : List ℕ) (p : Pid) → count_of r.table g p ≡ 0) → r.heard.items ≡ [] → r.told.items ≡ []
+          → (links : List KeptLink) → AreTold (if_among (shown_numbers parts.links) (wide (said.Discover s))) parts.links links
+          → Follows started (record parts { scopes = put_scope r parts.scopes; links = links })
+      start_follows r named own none unheard untold links tells = record {
+        sound = sound_now h parts.limit e t.sound next;
+        admission = t.admission;
+        processes = t.processes;
+        scopes = record {
+          running =
+              put_names r parts.scopes (ap (λ x. is_among x (names parts.scopes)) named ∙ ap (is_among s) t.scopes.running ∙ running_among h s ∙ stopped)
+              ∙ (λ i. placed text_cmp (named i) (t.scopes.running i)) ∙ sym (running_started h e refl s refl);
+          each = put_each (IsRunningOf (scope_words started)) r parts.scopes (new_one r named own none unheard untold) (all_still parts.scopes t.scopes.each);
+        };
+        links = told_follow (link_words h) (link_words started) (if_among (shown_numbers parts.links) (wide (said.Discover s))) (λ l. refl)
+            (told_numbers h e its refl refl (λ l. (started_links h e its refl s refl l).kept_is)) parts.links links
+            (λ l here. ap (λ b. waiting h l ++ cond b (wide (said.Discover s) ∷ []) []) (sym (shown_number (link_words h) parts.links t.links l here)))
+            tells t.links;
+        monitors = follows_other h e parts.monitors next.number t.monitors refl;
+      }

@@ -1,0 +1,45 @@
+-- What a step answers, from what it enters.
+use Rattle.std.specs.Prelude.{◌≡◌, ℕ, false, true, cond, Ok, Err}
+use Rattle.std.specs.declared.result.Result.{Result}
+use Rattle.std.proofs.Common.{ap, ◌∙◌, sym, subst}
+use Rattle.policy_audit.specs.declared.event.Event.{Event}
+use Rattle.policy_audit.specs.declared.reply.Reply.{Reply}
+use Rattle.policy_audit.specs.declared.rule.Rule.TheVariants as rule
+use Rattle.policy_audit.specs.declared.entry.Entry.{Entry}
+use Rattle.policy_audit.specs.declared.entry.Verdict.{Verdict}
+use Rattle.policy_audit.specs.declared.entry.Verdict.TheVariants.{Accepted, Refused}
+use Rattle.policy_audit.specs.History.{History}
+use Rattle.policy_audit.specs.Checks.{first_broken, checks}
+use Rattle.policy_audit.specs.Policy.{is_full, verdict, judged, after, with_entry, entry_of, IsNext}
+use Rattle.policy_audit.proofs.ScopeChanges.{next_is_after}
+use Rattle.node_core.specs.declared.fault.CoreFault.{CoreFault}
+use Rattle.node_core.specs.declared.fault.CoreFault.TheVariants as faults
+use Rattle.node_core.specs.Step.{Enters, Steps, IsStepped}
+
+-- the entry has the policy's verdict, and makes its history
+entered : (old new : History) (seat : ℕ) (e : Event) (v : Verdict) → Enters old seat e v new → (verdict old seat e ≡ v) × (new ≡ after old seat e)
+entered old new seat e v x = by x.0 x.1 x.2 x.3 x.4 x.5
+  where
+    by : (entry : Entry) → entry.seat ≡ seat → entry.event ≡ e → entry.verdict ≡ v → IsNext old entry → new ≡ with_entry old entry → (verdict old seat e ≡ v) × (new ≡ after old seat e)
+    by entry seat_is event_is verdict_is next is = (
+      sym (λ i. verdict old (seat_is i) (event_is i)) ∙ sym next.verdict ∙ verdict_is,
+      is ∙ next_is_after old entry next ∙ (λ i. after old (seat_is i) (event_is i)),
+    )
+
+pub steps_is : (old new : History) (seat : ℕ) (e : Event) (result : Result Reply CoreFault) → is_full old ≡ false → Steps old seat e new result → IsStepped old seat e new result
+unfolding Steps IsStepped
+steps_is old new seat e (Ok reply) space x = entered old new seat e (Accepted reply) x
+steps_is old new seat e (Err (faults.Refused r)) space x = entered old new seat e (Refused r) x
+steps_is old new seat e (Err faults.OutOfMemory) space x = (space, x)
+
+-- where the audit is full nothing is entered
+pub full_step : (old : History) (seat : ℕ) (e : Event) → is_full old ≡ true → IsStepped old seat e old (Err (faults.Refused rule.EntriesFull))
+unfolding IsStepped
+full_step old seat e full = (
+  ap (λ b. cond b (Refused rule.EntriesFull) (judged old seat e (first_broken (checks old seat e)))) full,
+  sym (ap (λ b. cond b old (with_entry old (entry_of old seat e))) full),
+)
+
+-- the event is what a handler was called for
+pub handled : (old new : History) (seat : ℕ) (e its : Event) (result : Result Reply CoreFault) → e ≡ its → is_full old ≡ false → Steps old seat its new result → IsStepped old seat e new result
+handled old new seat e its result is space x = subst (λ v. IsStepped old seat v new result) (sym is) (steps_is old new seat its result space x)

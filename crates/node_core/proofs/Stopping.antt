@@ -1,0 +1,136 @@
+-- A scope that stops.
+use Rattle.std.specs.Prelude.{◌≡◌, ℕ, Bool, true, false, cond, ◌&&◌, ◌||◌, not, List, [], ◌∷◌, ◌++◌, Some, None}
+use Rattle.std.proofs.Common.{refl, ap, ◌∙◌, sym, subst}
+use Rattle.std.specs.List.{AllByRecursion, filter}
+use Rattle.dist_types.specs.declared.pid.Pid.{Pid}
+use Rattle.dist_types.specs.declared.change.GroupChange.{GroupChange}
+use Rattle.dist_types.specs.Difference.{IsDifference, is_empty}
+use Rattle.dist_types.specs.Listing.{same, is_among}
+use Rattle.dist_types.proofs.Orders.{same_decides, same_sym}
+use Rattle.link_frames.specs.declared.message.Message.TheVariants as said
+use Rattle.scope_core.specs.Calls.{no_count}
+use Rattle.group_monitors.specs.Monitors.{without_scope}
+use Rattle.group_monitors.proofs.Followed.{follows_dropped}
+use Rattle.policy_audit.specs.declared.event.Event.TheVariants as event
+use Rattle.policy_audit.specs.declared.reply.Reply.TheVariants as reply
+use Rattle.policy_audit.specs.declared.rule.Rule.TheVariants as rule
+use Rattle.policy_audit.specs.declared.entry.Entry.{Entry}
+use Rattle.policy_audit.specs.declared.entry.Verdict.TheVariants.{Accepted}
+use Rattle.policy_audit.specs.History.{History}
+use Rattle.policy_audit.specs.Own.{is_running}
+use Rattle.policy_audit.specs.Hearing.{heard, told}
+use Rattle.policy_audit.specs.Changes.{IsChange, if_some}
+use Rattle.policy_audit.specs.Listed.{listed}
+use Rattle.policy_audit.specs.Owed.{wide, waiting}
+use Rattle.policy_audit.specs.Checks.{checks, first_broken}
+use Rattle.policy_audit.specs.Policy.{is_full, IsAnswered, IsNext, with_entry}
+use Rattle.policy_audit.proofs.Accepted.{lie}
+use Rattle.policy_audit.proofs.HeardNow.{stopped_heard}
+use Rattle.policy_audit.proofs.RowsAfter.{stopped_rows}
+use Rattle.policy_audit.proofs.ScopeChanges.{changes_are}
+use Rattle.policy_audit.proofs.ScopeFrames.{stopped_links, told_numbers}
+use Rattle.policy_audit.proofs.ScopesNow.{running_stopped}
+use Rattle.node_core.specs.declared.running.Running.{Running}
+use Rattle.node_core.specs.Links.{KeptLink}
+use Rattle.node_core.specs.LinkFacts.{link_words}
+use Rattle.node_core.specs.ScopeFacts.{scope_words, IsRunningOf}
+use Rattle.node_core.specs.Core.{Parts, Follows}
+use Rattle.node_core.specs.Telling.{AreTold, if_among, shown_numbers}
+use Rattle.node_core.proofs.Entered.{made, accepted_now, answered_now, next_now, sound_now}
+use Rattle.node_core.proofs.Starting.{names}
+use Rattle.node_core.proofs.Told.{told_follow, shown_number}
+
+-- ---- changes of one scope
+
+one_change : (s : List ℕ) (gs : List GroupChange) → filter (λ c. not (is_empty c.groups)) (record { scope = s; groups = gs } ∷ []) ≡ if_some s gs
+one_change s [] = refl
+one_change s (g ∷ gs) = refl
+
+other_scope : (s u : List ℕ) → is_among u (s ∷ []) ≡ false → same u s ≡ false
+other_scope s u none = same_sym u s ∙ by (same s u) none
+  where
+    by : (b : Bool) → (b || false) ≡ false → b ≡ false
+    by true q = lie q
+    by false q = refl
+
+-- where the rows of one scope alone change
+pub scope_change : (h k : History) (s : List ℕ) (gs : List GroupChange) → IsDifference (listed h s) (listed k s) gs
+    → ((u g : List ℕ) (p : Pid) → same u s ≡ false → listed h u g p ≡ listed k u g p) → IsChange h k (if_some s gs)
+scope_change h k s gs d others = subst (IsChange h k) (one_change s gs)
+    (changes_are h k (record { scope = s; groups = gs } ∷ []) (tt, tt) (d, tt) (λ u none g p. others u g p (other_scope s u none)))
+
+-- ---- scopes but one
+
+-- the scopes but this one
+abbrev pub all_but : List ℕ → List Running → List Running
+all_but s rs = filter (λ r. not (same r.scope s)) rs
+
+names_left : (s : List ℕ) (rs : List Running) → names (all_but s rs) ≡ filter (λ t. not (same t s)) (names rs)
+names_left s [] = refl
+names_left s (r ∷ rs) = by (not (same r.scope s)) (names_left s rs)
+  where
+    by : (b : Bool) → names (all_but s rs) ≡ filter (λ t. not (same t s)) (names rs)
+        → names (cond b (r ∷ all_but s rs) (all_but s rs)) ≡ cond b (r.scope ∷ filter (λ t. not (same t s)) (names rs)) (filter (λ t. not (same t s)) (names rs))
+    by true others = ap (λ ys. r.scope ∷ ys) others
+    by false others = others
+
+module _ (h : History) (seat : ℕ) (s : List ℕ) (gs : List GroupChange) where
+  abbrev e : Entry
+  e = made h seat (event.StopScope s) (Accepted reply.Done) (if_some s gs)
+
+  abbrev pub stopped : History
+  stopped = with_entry h e
+
+  plain : (a : Bool) → (a && true) ≡ a
+  plain true = refl
+  plain false = refl
+
+  module _ (parts : Parts) (t : Follows h parts) (runs : is_running h s ≡ true) (groups : IsDifference (listed h s) no_count gs) where
+    holds : first_broken (checks h seat (event.StopScope s)) ≡ None
+    holds = ap (λ b. cond (not b) (Some rule.NoScope) None) runs
+
+    pub stop_next : is_full h ≡ false → IsNext h e
+    stop_next space =
+        let verdict = accepted_now h seat (event.StopScope s) space reply.Done holds refl in
+        let made_so = answered_now h seat (event.StopScope s) space (Accepted reply.Done) (if_some s gs) verdict in
+        next_now h seat (event.StopScope s) space (Accepted reply.Done) (if_some s gs) verdict
+        (scope_change h stopped s gs
+        (subst (λ f. IsDifference (listed h s) f gs) (λ i g p. sym (stopped_rows h t.sound.legal e made_so refl s refl s g p ∙ ap (λ b. cond b 0 (listed h s g p)) ((same_decides s s).1 refl)) i) groups)
+        (λ u g p other. sym (stopped_rows h t.sound.legal e made_so refl s refl u g p ∙ ap (λ b. cond b 0 (listed h u g p)) other)))
+
+    module _ (next : IsNext h e) where
+      its : IsAnswered h e
+      its = record { room = next.room; number = next.number; verdict = next.verdict }
+
+      still : (r : Running) → same r.scope s ≡ false → IsRunningOf (scope_words h) r → IsRunningOf (scope_words stopped) r
+      still r other q = record {
+        own = q.own;
+        rows = λ g p. q.rows g p ∙ sym (stopped_rows h t.sound.legal e its refl s refl r.scope g p ∙ ap (λ b. cond b 0 (listed h r.scope g p)) other);
+        heard = λ l. q.heard l ∙ sym ((stopped_heard h e refl s refl l r.scope).heard_is ∙ ap (λ b. heard l r.scope h.entries && not b) (same_sym s r.scope ∙ other) ∙ plain (heard l r.scope h.entries));
+        told = λ l. q.told l ∙ sym ((stopped_heard h e refl s refl l r.scope).told_is ∙ ap (λ b. told l r.scope h.entries && not b) (same_sym s r.scope ∙ other) ∙ plain (told l r.scope h.entries));
+      }
+
+      all_still : (rs : List Running) → AllByRecursion (IsRunningOf (scope_words h)) rs → AllByRecursion (IsRunningOf (scope_words stopped)) (all_but s rs)
+      all_still [] a = tt
+      all_still (r ∷ rs) a = by (same r.scope s) refl (all_still rs a.1)
+        where
+          by : (b : Bool) → same r.scope s ≡ b → AllByRecursion (IsRunningOf (scope_words stopped)) (all_but s rs) → AllByRecursion (IsRunningOf (scope_words stopped)) (cond (not b) (r ∷ all_but s rs) (all_but s rs))
+          by true q others = others
+          by false q others = (still r q a.0, others)
+
+      pub stop_follows : (links : List KeptLink) → AreTold (if_among (shown_numbers parts.links) (wide (said.Down s))) parts.links links
+          → Follows stopped (record parts { scopes = all_but s parts.scopes; links = links; monitors = without_scope s parts.monitors })
+      stop_follows links tells = record {
+        sound = sound_now h parts.limit e t.sound next;
+        admission = t.admission;
+        processes = t.processes;
+        scopes = record {
+          running = names_left s parts.scopes ∙ ap (filter (λ u. not (same u s))) t.scopes.running ∙ sym (running_stopped h e refl s refl);
+          each = all_still parts.scopes t.scopes.each;
+        };
+        links = told_follow (link_words h) (link_words stopped) (if_among (shown_numbers parts.links) (wide (said.Down s))) (λ l. refl)
+            (told_numbers h e its refl refl (λ l. (stopped_links h e its refl s refl l).kept_is)) parts.links links
+            (λ l here. ap (λ b. waiting h l ++ cond b (wide (said.Down s) ∷ []) []) (sym (shown_number (link_words h) parts.links t.links l here)))
+            tells t.links;
+        monitors = follows_dropped h e parts.monitors next.number t.monitors refl s refl;
+      }

@@ -1,0 +1,122 @@
+-- The frames that wait for a link are handed over.
+use Rattle.std.specs.Prelude.{◌≡◌, ℕ, ◌<◌, ◌==◌, nat_eq, Bool, true, false, cond, ◌&&◌, not, List, [], Some, None, length, position}
+use Rattle.std.proofs.Common.{refl, ap, ◌∙◌, sym, subst, get_or, set}
+use Rattle.std.proofs.lemmas.Bool.{eqb-true, eq-eqb}
+use Rattle.std.specs.List.{filter}
+use Rattle.policy_audit.specs.declared.event.Event.TheVariants as event
+use Rattle.policy_audit.specs.declared.reply.Reply.TheVariants as reply
+use Rattle.policy_audit.specs.declared.rule.Rule.TheVariants as rule
+use Rattle.policy_audit.specs.declared.entry.Entry.{Entry}
+use Rattle.policy_audit.specs.declared.entry.Verdict.TheVariants.{Accepted}
+use Rattle.policy_audit.specs.declared.out_frame.OutFrame.{OutFrame}
+use Rattle.policy_audit.specs.History.{History}
+use Rattle.policy_audit.specs.Links.{is_open}
+use Rattle.policy_audit.specs.Owed.{waiting}
+use Rattle.policy_audit.specs.Policy.{IsNext, is_full, with_entry}
+use Rattle.policy_audit.proofs.Accepted.{lie}
+use Rattle.policy_audit.proofs.UpLinks.{flip}
+use Rattle.policy_audit.proofs.KeptNumbers.{kept_climbs}
+use Rattle.policy_audit.proofs.LinkFrames.{taken_links}
+use Rattle.policy_audit.proofs.LinksLeft.{taken_numbers}
+use Rattle.group_monitors.proofs.Followed.{follows_other}
+use Rattle.node_core.specs.declared.link_state.LinkState.{LinkState}
+use Rattle.node_core.specs.declared.link_state.LinkState.TheVariants as state
+use Rattle.node_core.specs.Links.{KeptLink, is_ended}
+use Rattle.node_core.specs.Gone.{without_ended}
+use Rattle.node_core.specs.LinkFacts.{facts, link_words, IsState, IsLinkOf, LinksFollow}
+use Rattle.node_core.specs.Core.{Parts, Follows}
+use Rattle.node_core.proofs.Entered.{made, sound_now}
+use Rattle.node_core.proofs.Quiet.{quiet_next}
+use Rattle.node_core.proofs.KeptOn.{one_follows}
+use Rattle.node_core.proofs.Places.{stay_follow, filter_set, filter_all, is_kept_at, link_at}
+
+-- a link is open unless its state is the end
+pub open_by : (h : History) (l : ℕ) (s : LinkState) → IsState (facts h l) s → is_open l h.entries ≡ not (is_ended s)
+open_by h l (state.Name c) t = t.0.open_now
+open_by h l (state.Answer s) t = t.0.open_now
+open_by h l (state.Reply s) t = t.0.open_now
+open_by h l (state.Status s) t = t.0.open_now
+open_by h l (state.Challenge s) t = t.0.open_now
+open_by h l (state.Ack s) t = t.0.open_now
+open_by h l (state.Up s) t = t.0.open_now
+open_by h l state.Ended t = t
+
+-- a link for which nothing waits any more
+abbrev pub emptied : KeptLink → ℕ → KeptLink
+emptied x room = record { number = x.number; state = x.state; frames = []; prepared = []; room = room }
+
+module _ (h : History) (seat j : ℕ) (frames : List OutFrame) (parts : Parts) (t : Follows h parts) (p : ℕ) (d : KeptLink) (found : position (λ x. nat_eq x.number j) parts.links ≡ Some p) where
+  abbrev take : Entry
+  take = made h seat (event.Take j) (Accepted (reply.Out frames)) []
+
+  abbrev link : KeptLink
+  link = get_or parts.links p d
+
+  it : IsLinkOf (link_words h) link × (link.number ≡ j) × (p < length parts.links)
+  it = link_at h t.sound.legal parts.links t.links j p d found
+
+  -- what waits for it
+  pub taken_frames : link.frames ≡ waiting h j
+  taken_frames = it.0.frames ∙ ap (waiting h) it.1
+
+  pub taken_next : is_full h ≡ false → frames ≡ link.frames → IsNext h take
+  taken_next space is = quiet_next h seat (reply.Out frames) (event.Take j) space (ap (λ b. cond (not b) (Some rule.NoSuchLink) None) (is_kept_at h t.sound.legal parts.links t.links j p found)) (ap reply.Out (sym (is ∙ taken_frames))) refl
+
+  opens : (ended : Bool) → is_ended link.state ≡ ended → is_open j h.entries ≡ not ended
+  opens ended is = sym (ap (λ l. is_open l h.entries) it.1) ∙ open_by h link.number link.state it.0.state ∙ ap not is
+
+  -- of each other link the same frames wait
+  other_link : (x : KeptLink) → (j == x.number) ≡ false → IsLinkOf (link_words h) x → IsLinkOf (link_words (with_entry h take)) x
+  other_link x other y = record { state = y.state; frames = y.frames ∙ sym ((taken_links h take refl j refl x.number).waiting_is ∙ ap (λ b. cond b [] (waiting h x.number)) other); idle = y.idle }
+
+  its_frames : (l : ℕ) → l ≡ j → waiting (with_entry h take) l ≡ []
+  its_frames l is = (taken_links h take refl j refl l).waiting_is ∙ ap (λ b. cond b [] (waiting h l)) (eq-eqb j l (sym is))
+
+  module _ (next : IsNext h take) where
+    -- all but the links
+    taken_parts : (kept : List KeptLink) → LinksFollow (link_words (with_entry h take)) kept → Follows (with_entry h take) (record parts { links = kept })
+    taken_parts kept follows = record {
+      sound = sound_now h parts.limit _ t.sound next;
+      admission = t.admission;
+      processes = t.processes;
+      scopes = t.scopes;
+      links = follows;
+      monitors = follows_other h _ parts.monitors next.number t.monitors refl;
+    }
+
+    -- an open link is kept
+    pub open_taken : (room : ℕ) → is_ended link.state ≡ false → Follows (with_entry h take) (record parts { links = set parts.links p (emptied link room) })
+    open_taken room opened = taken_parts (set parts.links p (emptied link room))
+        (one_follows (link_words h) (link_words (with_entry h take)) (emptied link room) (record { state = it.0.state; frames = sym (its_frames link.number it.1); idle = refl })
+        (λ x other y. other_link x (flip j x.number ∙ ap (λ l. nat_eq x.number l) (sym it.1) ∙ other) y) parts.links p d t.links (kept_climbs h t.sound.legal)
+        (taken_numbers h take refl j refl ∙ filter_all (λ l. not (j == l && not (is_open l h.entries))) (λ l. stays l (j == l) refl) (link_words h).numbers) it.2 refl)
+      where
+        stays : (l : ℕ) (b : Bool) → (j == l) ≡ b → not (b && not (is_open l h.entries)) ≡ true
+        stays l false q = refl
+        stays l true q = ap (λ b. not (not b)) (sym (ap (λ x. is_open x h.entries) (eqb-true j l q)) ∙ opens false opened)
+
+    -- an ended one is gone
+    pub ended_taken : (room : ℕ) → is_ended link.state ≡ true → Follows (with_entry h take) (record parts { links = filter (λ x. not (nat_eq x.number j)) (set parts.links p (emptied link room)) })
+    ended_taken room ended = taken_parts (filter (λ x. not (nat_eq x.number j)) (set parts.links p (emptied link room)))
+        (subst (LinksFollow (link_words (with_entry h take))) (sym (filter_set (λ x. not (nat_eq x.number j)) parts.links p d (emptied link room) it.2 (ap not (eq-eqb link.number j it.1)) (ap not (eq-eqb link.number j it.1))))
+        (stay_follow (link_words h) (link_words (with_entry h take)) (λ l. not (nat_eq l j)) parts.links t.links
+        (taken_numbers h take refl j refl ∙ (λ i. filter (λ l. not (goes l (j == l) refl i)) (link_words h).numbers))
+        (λ x stays y. other_link x (apart x.number (j == x.number) refl (flip j x.number) stays) y)))
+      where
+        goes : (l : ℕ) (b : Bool) → (j == l) ≡ b → (j == l && not (is_open l h.entries)) ≡ nat_eq l j
+        goes l false q = ap (λ b. b && not (is_open l h.entries)) q ∙ sym q ∙ flip j l
+        goes l true q = ap (λ b. b && not (is_open l h.entries)) q ∙ ap not (sym (ap (λ x. is_open x h.entries) (eqb-true j l q)) ∙ opens true ended) ∙ sym q ∙ flip j l
+
+        apart : (n : ℕ) (b : Bool) → (j == n) ≡ b → (j == n) ≡ nat_eq n j → not (nat_eq n j) ≡ true → (j == n) ≡ false
+        apart n false q same stays = q
+        apart n true q same stays = lie (sym stays ∙ ap not (sym same ∙ q))
+
+    -- the link is changed, and gone if it has ended
+    pub taken_follows : (new at : KeptLink) (room : ℕ) → new ≡ emptied link room → at ≡ new → Follows (with_entry h take) (record parts { links = without_ended at (set parts.links p new) })
+    taken_follows new at room is same = subst (λ x. Follows (with_entry h take) (record parts { links = without_ended x (set parts.links p new) })) (sym same)
+        (subst (λ x. Follows (with_entry h take) (record parts { links = without_ended x (set parts.links p x) })) (sym is) (by (is_ended link.state) refl))
+      where
+        by : (b : Bool) → is_ended link.state ≡ b → Follows (with_entry h take) (record parts { links = without_ended (emptied link room) (set parts.links p (emptied link room)) })
+        by false e = subst (λ xs. Follows (with_entry h take) (record parts { links = xs })) (sym (ap (λ b. cond b (filter (λ x. not (nat_eq x.number link.number)) (set parts.links p (emptied link room))) (set parts.links p (emptied link room))) e)) (open_taken room e)
+        by true e = subst (λ xs. Follows (with_entry h take) (record parts { links = xs })) (sym (ap (λ b. cond b (filter (λ x. not (nat_eq x.number link.number)) (set parts.links p (emptied link room))) (set parts.links p (emptied link room))) e
+            ∙ ap (λ l. filter (λ x. not (nat_eq x.number l)) (set parts.links p (emptied link room))) it.1)) (ended_taken room e)

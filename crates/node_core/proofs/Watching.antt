@@ -1,0 +1,65 @@
+-- Events that change monitors alone.
+use Rattle.std.specs.Prelude.{◌≡◌, ℕ, Bool, true, false, List, [], ◌∷◌, ◌++◌, Option, Some, None, length, Ok, Err, OnOk, OnErr, IsSome}
+use Rattle.std.specs.declared.result.Result.{Result}
+use Rattle.std.specs.Option.{option_map}
+use Rattle.std.proofs.Common.{refl, subst, sym}
+use Rattle.std.proofs.lemmas.List.{append-nil}
+use Rattle.group_monitors.specs.declared.monitor.Monitor.{Monitor}
+use Rattle.group_monitors.specs.Monitors.{without, with_place}
+use Rattle.group_monitors.specs.Follows.{FollowsPolicy}
+use Rattle.group_monitors.proofs.Followed.{follows_group, follows_scope, follows_removed, follows_moved}
+use Rattle.policy_audit.specs.declared.event.Event.{Event}
+use Rattle.policy_audit.specs.declared.event.Event.TheVariants as event
+use Rattle.policy_audit.specs.declared.reply.Reply.{Reply}
+use Rattle.policy_audit.specs.declared.entry.Verdict.TheVariants.{Accepted}
+use Rattle.policy_audit.specs.History.{History}
+use Rattle.policy_audit.specs.Owed.{waiting}
+use Rattle.policy_audit.specs.Policy.{IsNext, next_number}
+use Rattle.policy_audit.proofs.Accepted.{lie, no_value}
+use Rattle.node_core.specs.LinkFacts.{LinksFollow}
+use Rattle.node_core.specs.Core.{Parts, Follows}
+use Rattle.node_core.proofs.Entered.{made, sound_now}
+use Rattle.node_core.proofs.Calm.{answered, same_links}
+
+-- the event adds, moves or takes away a monitor
+abbrev pub is_watch : Event → Bool
+is_watch (event.Monitor s g) = true
+is_watch (event.MonitorScope s) = true
+is_watch (event.Demonitor k) = true
+is_watch (event.Updates k) = true
+is_watch e = false
+
+module _ (h : History) (seat : ℕ) (r : Reply) (parts : Parts) (t : Follows h parts) where
+  -- all else follows as before
+  watch_follows : (ev : Event) → is_watch ev ≡ true → (ms : List (ℕ × Monitor)) → IsNext h (made h seat ev (Accepted r) []) → FollowsPolicy (answered h seat ev r) ms → Follows (answered h seat ev r) (record parts { monitors = ms })
+  watch_follows (event.Monitor s g) q ms next follows = record { sound = sound_now h parts.limit _ t.sound next; admission = t.admission; processes = t.processes; scopes = t.scopes; links = subst (λ w. LinksFollow w parts.links) (sym (same_links h (answered h seat (event.Monitor s g) r) refl (λ l. refl) (λ l. append-nil (waiting h l)))) t.links; monitors = follows }
+  watch_follows (event.MonitorScope s) q ms next follows = record { sound = sound_now h parts.limit _ t.sound next; admission = t.admission; processes = t.processes; scopes = t.scopes; links = subst (λ w. LinksFollow w parts.links) (sym (same_links h (answered h seat (event.MonitorScope s) r) refl (λ l. refl) (λ l. append-nil (waiting h l)))) t.links; monitors = follows }
+  watch_follows (event.Demonitor k) q ms next follows = record { sound = sound_now h parts.limit _ t.sound next; admission = t.admission; processes = t.processes; scopes = t.scopes; links = subst (λ w. LinksFollow w parts.links) (sym (same_links h (answered h seat (event.Demonitor k) r) refl (λ l. refl) (λ l. append-nil (waiting h l)))) t.links; monitors = follows }
+  watch_follows (event.Updates k) q ms next follows = record { sound = sound_now h parts.limit _ t.sound next; admission = t.admission; processes = t.processes; scopes = t.scopes; links = subst (λ w. LinksFollow w parts.links) (sym (same_links h (answered h seat (event.Updates k) r) refl (λ l. refl) (λ l. append-nil (waiting h l)))) t.links; monitors = follows }
+  watch_follows ev q ms next follows = lie (sym q)
+
+  pub group_watched : (s g : List ℕ) (n : ℕ) → n ≡ next_number h → IsNext h (made h seat (event.Monitor s g) (Accepted r) [])
+      → Follows (answered h seat (event.Monitor s g) r) (record parts { monitors = parts.monitors ++ (n, record { seat = seat; scope = s; group = Some g; place = n }) ∷ [] })
+  group_watched s g n is next = subst (λ m. Follows (answered h seat (event.Monitor s g) r) (record parts { monitors = parts.monitors ++ (m, record { seat = seat; scope = s; group = Some g; place = m }) ∷ [] })) (sym is)
+      (watch_follows (event.Monitor s g) refl _ next (follows_group h (made h seat (event.Monitor s g) (Accepted r) []) parts.monitors next.number t.monitors refl s g refl))
+
+  pub scope_watched : (s : List ℕ) (n : ℕ) → n ≡ next_number h → IsNext h (made h seat (event.MonitorScope s) (Accepted r) [])
+      → Follows (answered h seat (event.MonitorScope s) r) (record parts { monitors = parts.monitors ++ (n, record { seat = seat; scope = s; group = None; place = n }) ∷ [] })
+  scope_watched s n is next = subst (λ m. Follows (answered h seat (event.MonitorScope s) r) (record parts { monitors = parts.monitors ++ (m, record { seat = seat; scope = s; group = None; place = m }) ∷ [] })) (sym is)
+      (watch_follows (event.MonitorScope s) refl _ next (follows_scope h (made h seat (event.MonitorScope s) (Accepted r) []) parts.monitors next.number t.monitors refl s refl))
+
+  pub unwatched : (k : ℕ) → IsNext h (made h seat (event.Demonitor k) (Accepted r) []) → Follows (answered h seat (event.Demonitor k) r) (record parts { monitors = without seat k parts.monitors })
+  unwatched k next = watch_follows (event.Demonitor k) refl _ next (follows_removed h (made h seat (event.Demonitor k) (Accepted r) []) parts.monitors next.number t.monitors refl k refl)
+
+  pub fetched : (k : ℕ) → IsNext h (made h seat (event.Updates k) (Accepted r) []) → Follows (answered h seat (event.Updates k) r) (record parts { monitors = with_place seat k (length (answered h seat (event.Updates k) r).entries) parts.monitors })
+  fetched k next = watch_follows (event.Updates k) refl _ next (follows_moved h (made h seat (event.Updates k) (Accepted r) []) parts.monitors next.number t.monitors refl k refl)
+
+-- the place of a monitor that is there is moved
+pub advanced : {E : Type 0} (o : Result (Unit {0}) E) (found : Option Monitor) (ms new : List (ℕ × Monitor)) → IsSome found → OnOk o (IsSome found × (new ≡ ms)) → OnErr o (found ≡ None) → new ≡ ms
+advanced (Ok u) found ms new some ok refused = ok.1
+advanced (Err e) found ms new some ok refused = lie (sym (subst IsSome refused some))
+
+-- what is told is told of a monitor
+pub told_one : {A : Type 0} (f : Monitor → A) (found : Option Monitor) (a : A) → option_map f found ≡ Some a → IsSome found
+told_one f None a is = no_value (sym is)
+told_one f (Some m) a is = refl

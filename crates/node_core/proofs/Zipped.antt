@@ -1,0 +1,72 @@
+-- A list whose elements are changed one after the other, each to one that it is related to.
+use Rattle.std.specs.Prelude.{◌≡◌, ℕ, zero, suc, ◌+◌, ◌<◌, ◌≤◌, List, [], ◌∷◌, ◌++◌, map, take, drop, length}
+use Rattle.std.proofs.lemmas.List.{set-get_or}
+use Rattle.std.specs.List.{AllZip}
+use Rattle.std.proofs.Common.{refl, ap, subst, arith, get_or, set}
+
+-- the first i elements are related to what they were, and the others are what they were
+pub record SoFar {A : Type 0} (R : A → A → Type 0) (i : ℕ) (old items : List A) : Type 0 where
+  pub done : AllZip R (take i old) (take i items)
+  pub rest : drop i items ≡ drop i old
+
+module _ {A : Type 0} (R : A → A → Type 0) where
+  pub begun : (xs : List A) → SoFar R 0 xs xs
+  begun xs = record { done = tt; rest = refl }
+
+  first : (y : A) (ys xs : List A) (v : A) → y ∷ ys ≡ xs → R y v → SoFar R (suc zero) xs (v ∷ ys)
+  first y ys xs v is r = subst (λ zs. SoFar R (suc zero) zs (v ∷ ys)) is (record { done = (r, tt); rest = refl })
+
+  step : (i : ℕ) (xs items : List A) (d v : A) → SoFar R i xs items → i < length items → R (get_or items i d) v → SoFar R (suc i) xs (set items i v)
+  step i xs [] d v so_far here r = absurd (omega (arith, here))
+  step zero xs (y ∷ ys) d v so_far here r = first y ys xs v so_far.rest r
+  step (suc i) [] (y ∷ ys) d v so_far here r = absurd so_far.done
+  step (suc i) (x ∷ xs) (y ∷ ys) d v so_far here r =
+      let more = step i xs ys d v (record { done = so_far.done.1; rest = so_far.rest }) (omega (arith, here)) r in
+      record { done = (so_far.done.0, more.done); rest = more.rest }
+
+  -- one more is changed
+  pub zipped : (xs items : List A) (i : ℕ) (d v : A) → SoFar R i xs items → i < length items → R (get_or items i d) v → SoFar R (i + 1) xs (set items i v)
+  zipped xs items i d v so_far here r = subst (λ (n : ℕ). SoFar R n xs (set items i v)) (let more : suc i ≡ i + 1 = omega arith in more) (step i xs items d v so_far here r)
+
+  -- all are changed
+  pub all_zipped : (i : ℕ) (xs items : List A) → SoFar R i xs items → length items ≤ i → AllZip R xs items
+  all_zipped zero [] [] so_far out = tt
+  all_zipped zero (x ∷ xs) [] so_far out = absurd (let q : zero ≡ suc (length xs) = ap length so_far.rest in omega (arith, q))
+  all_zipped zero xs (y ∷ ys) so_far out = absurd (omega (arith, out))
+  all_zipped (suc i) [] [] so_far out = tt
+  all_zipped (suc i) (x ∷ xs) [] so_far out = absurd so_far.done
+  all_zipped (suc i) [] (y ∷ ys) so_far out = absurd so_far.done
+  all_zipped (suc i) (x ∷ xs) (y ∷ ys) so_far out = (so_far.done.0, all_zipped i xs ys (record { done = so_far.done.1; rest = so_far.rest }) (omega (arith, out)))
+
+-- where the relation is an equation of values, so are the lists of these
+pub zipped_map : {A B C : Type 0} (f : A → C) (g : B → C) (xs : List A) (ys : List B) → AllZip (λ x y. g y ≡ f x) xs ys → map g ys ≡ map f xs
+zipped_map f g [] [] a = refl
+zipped_map f g [] (y ∷ ys) a = absurd a
+zipped_map f g (x ∷ xs) [] a = absurd a
+zipped_map f g (x ∷ xs) (y ∷ ys) a = λ i. a.0 i ∷ zipped_map f g xs ys a.1 i
+
+-- a list that is written back whole
+pub whole : {A : Type 0} (n : ℕ) (xs ys : List A) → length xs ≡ n → take n (xs ++ ys) ≡ xs
+whole zero [] ys q = refl
+whole zero (x ∷ xs) ys q = absurd (omega (arith, q))
+whole (suc n) [] ys q = absurd (omega (arith, q))
+whole (suc n) (x ∷ xs) ys q = ap (λ zs. x ∷ zs) (whole n xs ys (omega (arith, q)))
+
+-- one more of each
+pub zipped_on : {A B : Type 0} (R : A → B → Type 0) (xs : List A) (ys : List B) (x : A) (y : B) → AllZip R xs ys → R x y → AllZip R (xs ++ x ∷ []) (ys ++ y ∷ [])
+zipped_on R [] [] x y a r = (r, tt)
+zipped_on R [] (z ∷ zs) x y a r = absurd a
+zipped_on R (z ∷ zs) [] x y a r = absurd a
+zipped_on R (z ∷ zs) (w ∷ ws) x y a r = (a.0, zipped_on R zs ws x y a.1 r)
+
+-- one more stays as it was
+pub zipped_still : {A : Type 0} (R : A → A → Type 0) (xs items : List A) (i : ℕ) (d : A) → SoFar R i xs items → i < length items → R (get_or items i d) (get_or items i d) → SoFar R (i + 1) xs items
+zipped_still R xs items i d so_far here r = subst (SoFar R (i + 1) xs) (set-get_or items i d) (zipped R xs items i d (get_or items i d) so_far here r)
+
+-- the list is as long as it was
+pub zipped_long : {A : Type 0} (R : A → A → Type 0) (i : ℕ) (xs items : List A) → SoFar R i xs items → length items ≡ length xs
+zipped_long R zero xs items so_far = ap length so_far.rest
+zipped_long R (suc i) [] [] so_far = refl
+zipped_long R (suc i) (x ∷ xs) [] so_far = absurd so_far.done
+zipped_long R (suc i) [] (y ∷ ys) so_far = absurd so_far.done
+zipped_long R (suc i) (x ∷ xs) (y ∷ ys) so_far = ap suc (zipped_long R i xs ys (record { done = so_far.done.1; rest = so_far.rest }))

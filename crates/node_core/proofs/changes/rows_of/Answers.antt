@@ -1,0 +1,18 @@
+use Rattle.std.proofs.Common.{◌∙◌, ap, map}
+use Rattle.std.proofs.lemmas.List.{take_all}
+use Rattle.dist_types.specs.Order.{row_cmp}
+use Rattle.dist_types.specs.Listing.{same_row}
+use Rattle.dist_types.proofs.Orders.{rows_total}
+use Rattle.dist_types.proofs.Sorts.{sorted_listing}
+use Rattle.policy_audit.specs.Contents.{row}
+use Rattle.node_core.proofs.InCommon.{rows_listing, rows_length}
+use Rattle.node_core.proofs.changes.rows_of.Goals as goal
+
+pub returns : goal.returns
+returns c =
+    let sorted = sorted_listing row_cmp same_row rows_total c.loop-pid.rows.items c.sort_unstable.new.self.items c.sort_unstable.ensures.permutation c.sort_unstable.ensures.sorted in
+    let all = c.loop-pid.invariant ∙ ap (map (row c.args.group.now)) (take_all _ _ c.loop-pid-test.false) in
+    record {
+      rows = rows_listing c.args.group.now c.args.pids.now c.loop-pid.rows.items c.sort_unstable.new.self.items all sorted;
+      length = rows_length c.args.group.now c.args.pids.now c.loop-pid.rows.items c.sort_unstable.new.self.items all sorted;
+    }

@@ -1,0 +1,8 @@
+use Rattle.std.proofs.Common.{◌≡◌}
+use Rattle.std.specs.Prelude.{take, map}
+use Rattle.policy_audit.specs.Contents.{row}
+use Rattle.node_core.proofs.changes.rows_of.Given as goal
+
+-- the rows so far
+abbrev pub invariant-loop-pid : goal.invariant-loop-pid
+invariant-loop-pid l = l.rows.items ≡ map (row l.group) (take l.pid-index l.pids)

@@ -1,0 +1,15 @@
+use Rattle.std.proofs.Common.{◌≡◌, ◌++◌, ◌+◌, ◌≤◌, length}
+use Rattle.std.specs.Prelude.{vec_len, vec_capacity}
+use Rattle.std.specs.Vec.Iter.{into_iter_items}
+use Rattle.node_core.specs.Links.{narrow_frames}
+use Rattle.node_core.proofs.link.put_bodies.Given as goal
+
+-- the bodies so far wait as frames, and there is room for the others
+abbrev pub invariant-loop-body : goal.invariant-loop-body
+invariant-loop-body l = record {
+  able : (goal.iterator-loop-body).can_next l.body-iterator;
+  finite : (goal.iterator-loop-body).is_finite l.body-iterator;
+  all : l.waiting.items ++ narrow_frames (into_iter_items l.body-iterator) ≡ l.initial.waiting.items ++ narrow_frames l.fn.bodies.items;
+  room : vec_len l.waiting + length (into_iter_items l.body-iterator) ≤ vec_capacity l.waiting;
+  kept : vec_capacity l.initial.waiting ≤ vec_capacity l.waiting;
+}

@@ -1,0 +1,10 @@
+use Rattle.std.proofs.Common.{rules, tests, false}
+use Rattle.std.specs.Option.{option_map_or}
+use Rattle.std.proofs.lemmas.Iterator.{YieldsList-from_slice}
+use Rattle.std.proofs.lemmas.Iterator.Search.{position_from_yields_List}
+use Rattle.dist_types.specs.Listing.{same}
+use Rattle.node_core.specs.Links.{up_peer}
+use Rattle.node_core.proofs.links.place_of_up.Goals as goal
+
+pub returns : goal.returns
+returns c = position_from_yields_List (λ x. option_map_or (λ n. same n c.args.peer.now) (up_peer x.state) false) _ _ c.position.result c.position.ensures.ran (YieldsList-from_slice c.args.links.now cc) (λ x b q k. search (rules, tests))

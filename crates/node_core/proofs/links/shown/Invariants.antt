@@ -1,0 +1,9 @@
+use Rattle.std.proofs.Common.{◌≡◌}
+use Rattle.std.specs.Prelude.{take, map}
+use Rattle.std.specs.List.{filter}
+use Rattle.node_core.specs.Links.{is_shown}
+use Rattle.node_core.proofs.links.shown.Given as goal
+
+-- the numbers so far
+abbrev pub invariant-loop-link : goal.invariant-loop-link
+invariant-loop-link l = l.numbers.items ≡ map (λ x. x.number) (filter (λ x. is_shown x.state) (take l.link-index l.links))

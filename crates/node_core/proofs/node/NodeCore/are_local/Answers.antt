@@ -1,0 +1,8 @@
+use Rattle.std.proofs.Common.{rules, tests}
+use Rattle.std.proofs.lemmas.Iterator.{YieldsList-from_slice}
+use Rattle.std.proofs.lemmas.Iterator.Search.{all_from_yields_List}
+use Rattle.policy_audit.specs.Own.{is_local}
+use Rattle.node_core.proofs.node.NodeCore.are_local.Goals as goal
+
+pub returns : goal.returns
+returns c = all_from_yields_List (is_local c.args.self.now) _ _ c.all.result c.all.ensures.ran (YieldsList-from_slice c.args.pids.now cc) (λ x b q k. search (rules, tests))

@@ -1,0 +1,29 @@
+use Rattle.std.proofs.Common.{◌∙◌, sym, ap, ℕ, ◌+◌}
+use Rattle.policy_audit.specs.declared.event.Event.TheVariants as event
+use Rattle.policy_audit.specs.declared.reply.Reply.TheVariants as reply
+use Rattle.policy_audit.specs.History.{past}
+use Rattle.node_core.proofs.Entered.{steps_on}
+use Rattle.node_core.proofs.Anew.{creation_spent, creation_left, anew_next, anew_follows}
+use Rattle.node_core.proofs.node.NodeCore.restart.Goals as goal
+
+pub refuse-requires-clause-broken : goal.refuse-requires-clause-broken
+refuse-requires-clause-broken c = rw (← c.self.view_is) (creation_spent (past c.self.inside.opening c.self.inside.audit.entries) c.args.seat (sym c.self.invariant.admission.creation ∙ sym c.creation.ensures ∙ c.if-creation.true))
+
+pub invariant_of-self : goal.invariant_of-self
+invariant_of-self c = rw c.in_err-make_room.ensures.same c.self.invariant
+
+pub returns : goal.returns
+returns c =
+    let pushed = rw (c.in_ok-make_room.ensures.ok.1) at c.accept.ensures.entries in
+    let space = rw (← c.self.view_is) at c.requires in
+    let gone = rw c.deref.ensures.value at c.in_ok-changes.ensures in
+    let next = anew_next (past c.self.inside.opening c.self.inside.audit.entries) c.args.seat _ c.self.invariant c.in_ok-changes.changes.items gone space (creation_left (past c.self.inside.opening c.self.inside.audit.entries) c.args.seat c.creation.result (c.creation.ensures ∙ c.self.invariant.admission.creation) c.if-creation.false) in
+    steps_on c.self.view_is c.args.seat event.Restart reply.Done c.in_ok-changes.changes.items next pushed
+
+pub invariant_of-self-2 : goal.invariant_of-self-2
+invariant_of-self-2 c =
+    let space = rw (← c.self.view_is) at c.requires in
+    let gone = rw c.deref.ensures.value at c.in_ok-changes.ensures in
+    let next = anew_next (past c.self.inside.opening c.self.inside.audit.entries) c.args.seat _ c.self.invariant c.in_ok-changes.changes.items gone space (creation_left (past c.self.inside.opening c.self.inside.audit.entries) c.args.seat c.creation.result (c.creation.ensures ∙ c.self.invariant.admission.creation) c.if-creation.false) in
+    rw (c.accept.ensures.entries, c.accept.ensures.limit, c.in_ok-make_room.ensures.ok.1, c.new.ensures, c.new-2.ensures, c.clear.ensures.items, c.clear-2.ensures.items, c.clear-3.ensures)
+    (anew_follows (past c.self.inside.opening c.self.inside.audit.entries) c.args.seat _ c.self.invariant c.in_ok-changes.changes.items gone next c.in_ok-own.own c.in_ok-cookie.cookie (c.creation-creation.result + 1) c.in_ok-own.ensures c.in_ok-cookie.ensures (ap (λ (n : ℕ). n + 1) c.creation-creation.ensures))

@@ -1,0 +1,22 @@
+use Rattle.std.proofs.Common.{refl, []}
+use Rattle.policy_audit.specs.declared.event.Event.TheVariants as event
+use Rattle.policy_audit.specs.declared.reply.Reply.TheVariants as reply
+use Rattle.policy_audit.specs.History.{past}
+use Rattle.node_core.proofs.Entered.{steps_on}
+use Rattle.node_core.proofs.Cookies.{cookie_follows}
+use Rattle.node_core.proofs.Quiet.{quiet_next, set_cookie_follows}
+use Rattle.node_core.proofs.node.NodeCore.set_cookie.Goals as goal
+
+pub returns : goal.returns
+returns c =
+    let pushed = rw (c.in_ok-make_room.ensures.ok.1, c.new.ensures.items) at c.accept.ensures.entries in
+    let space = rw (← c.self.view_is) at c.requires in
+    let next = quiet_next _ c.args.seat reply.Done (event.SetCookie c.args.cookie) space refl refl refl in
+    steps_on c.self.view_is c.args.seat (event.SetCookie c.args.cookie) reply.Done [] next pushed
+
+pub invariant_of-self-2 : goal.invariant_of-self-2
+invariant_of-self-2 c =
+    let space = rw (← c.self.view_is) at c.requires in
+    let next = quiet_next _ c.args.seat reply.Done (event.SetCookie c.args.cookie) space refl refl refl in
+    rw (c.accept.ensures.entries, c.accept.ensures.limit, c.in_ok-make_room.ensures.ok.1, c.new.ensures.items, c.set_cookie.ensures, c.in_ok-kept.ensures)
+    (set_cookie_follows _ c.args.seat reply.Done _ c.self.invariant c.args.cookie _ next (cookie_follows (past c.self.inside.opening c.self.inside.audit.entries) c.self.inside.admission c.self.invariant.admission c.args.seat reply.Done c.args.cookie))

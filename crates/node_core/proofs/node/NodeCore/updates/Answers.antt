@@ -1,0 +1,42 @@
+use Rattle.std.proofs.Common.{refl, [], ◌∷◌, ap, length, arith}
+use Rattle.group_monitors.specs.Monitors.{monitor_of, with_place, updates_behind}
+use Rattle.group_monitors.proofs.FromPolicy.{follows_seen, follows_seen_later, follows_refused, follows_told}
+use Rattle.policy_audit.specs.declared.event.Event.TheVariants as event
+use Rattle.policy_audit.specs.declared.reply.Reply.TheVariants as reply
+use Rattle.policy_audit.specs.declared.entry.Verdict.TheVariants.{Accepted}
+use Rattle.policy_audit.specs.History.{past}
+use Rattle.node_core.proofs.Entered.{made, steps_on}
+use Rattle.node_core.proofs.Quiet.{quiet_next}
+use Rattle.node_core.proofs.Watching.{advanced, fetched, told_one}
+use Rattle.node_core.proofs.node.NodeCore.updates.Goals as goal
+
+pub updates-requires : goal.updates-requires
+updates-requires c = follows_seen (past c.self.inside.opening c.self.inside.audit.entries) c.self.inside.monitors c.self.invariant.monitors c.args.seat c.args.number
+
+pub refuse-requires-clause-broken : goal.refuse-requires-clause-broken
+refuse-requires-clause-broken c =
+    let none = rw c.in-Err-NoMonitor.field-0-is at c.in-Err-NoMonitor.ensures.refused in
+    rw (← c.self.view_is) ((follows_refused (past c.self.inside.opening c.self.inside.audit.entries) c.self.inside.monitors c.self.invariant.monitors c.args.seat c.args.number none).0)
+
+pub advance-requires : goal.advance-requires
+advance-requires c =
+    rw (c.accept.ensures.entries, c.in_ok-make_room.ensures.ok.1)
+    (follows_seen_later (past c.self.inside.opening c.self.inside.audit.entries) c.self.inside.monitors c.self.invariant.monitors c.args.seat c.args.number (made (past c.self.inside.opening c.self.inside.audit.entries) c.args.seat (event.Updates c.args.number) (Accepted (reply.Updates c.in-Ok.updates)) [] ∷ c.self.inside.audit.entries) (omega arith))
+
+pub invariant_of-self-2 : goal.invariant_of-self-2
+invariant_of-self-2 c =
+    let space = rw (← c.self.view_is) at c.requires in
+    let told = follows_told (past c.self.inside.opening c.self.inside.audit.entries) c.self.inside.monitors c.self.invariant.monitors c.args.seat c.args.number c.in-Ok.updates c.in-Ok.ensures.ok in
+    let next = quiet_next (past c.self.inside.opening c.self.inside.audit.entries) c.args.seat (reply.Updates c.in-Ok.updates) (event.Updates c.args.number) space told.0 (ap reply.Updates told.1) refl in
+    let some = told_one (updates_behind c.self.inside.audit.entries) (monitor_of c.self.inside.monitors c.args.seat c.args.number) c.in-Ok.updates c.in-Ok.ensures.ok in
+    let moved = advanced c.advance.result (monitor_of c.self.inside.monitors c.args.seat c.args.number) (with_place c.args.seat c.args.number (length c.accept.new.audit.entries) c.self.inside.monitors) c.advance.new.self some c.advance.ensures.ok c.advance.ensures.refused in
+    rw (moved, c.accept.ensures.entries, c.accept.ensures.limit, c.in_ok-make_room.ensures.ok.1, c.new.ensures.items, c.in_ok-told.ensures)
+    (fetched (past c.self.inside.opening c.self.inside.audit.entries) c.args.seat (reply.Updates c.in-Ok.updates) _ c.self.invariant c.args.number next)
+
+pub returns : goal.returns
+returns c =
+    let pushed = rw (c.in_ok-make_room.ensures.ok.1, c.new.ensures.items, c.in_ok-told.ensures) at c.accept.ensures.entries in
+    let space = rw (← c.self.view_is) at c.requires in
+    let told = follows_told (past c.self.inside.opening c.self.inside.audit.entries) c.self.inside.monitors c.self.invariant.monitors c.args.seat c.args.number c.in-Ok.updates c.in-Ok.ensures.ok in
+    let next = quiet_next (past c.self.inside.opening c.self.inside.audit.entries) c.args.seat (reply.Updates c.in-Ok.updates) (event.Updates c.args.number) space told.0 (ap reply.Updates told.1) refl in
+    steps_on c.self.view_is c.args.seat (event.Updates c.args.number) (reply.Updates c.in-Ok.updates) [] next pushed

@@ -1,0 +1,26 @@
+use Rattle.std.proofs.Common.{◌≡◌, arith, sym, ◌∙◌, ap, cond, length, subst, Some, None}
+use Rattle.policy_audit.specs.History.{past}
+use Rattle.policy_audit.specs.Owed.{waiting, is_kept}
+use Rattle.node_core.proofs.MessagePlaces.{link_within, waits_none, waits_some}
+use Rattle.node_core.proofs.node.NodeCore.waiting.Goals as goal
+
+pub returns-in_err-place : goal.returns-in_err-place
+returns-in_err-place c =
+    let placed = rw c.deref.ensures.value at (sym c.in_err-place.ensures) in
+    c.from_residual.ensures
+    ∙ subst (λ h. None ≡ cond (is_kept h c.args.link) (Some (length (waiting h c.args.link))) None) c.self.view_is
+    (waits_none (past c.self.inside.opening c.self.inside.audit.entries) c.self.inside.links.items c.self.invariant.sound.legal c.self.invariant.links c.args.link placed)
+
+pub index-requires : goal.index-requires
+index-requires c =
+    let placed = rw c.deref.ensures.value at (sym c.in_ok-place.ensures) in
+    let within = link_within c.self.inside.links.items c.args.link c.in_ok-place.place placed in
+    let len = rw c.deref.ensures.value at c.deref.ensures.len in
+    omega (arith, within, len)
+
+pub returns : goal.returns
+returns c =
+    let placed = rw c.deref.ensures.value at (sym c.in_ok-place.ensures) in
+    subst (λ h. Some (length c.frames.result.now) ≡ cond (is_kept h c.args.link) (Some (length (waiting h c.args.link))) None) c.self.view_is
+    (ap (λ fs. Some (length fs)) c.frames.ensures
+    ∙ waits_some (past c.self.inside.opening c.self.inside.audit.entries) c.self.inside.links.items c.self.invariant.sound.legal c.self.invariant.links c.args.link c.in_ok-place.place c.index.result.now placed c.index.ensures)

@@ -1,0 +1,36 @@
+use Rattle.std.proofs.Common.{refl, [], ap, sym, cond, not, Some, None, subst}
+use Rattle.policy_audit.specs.declared.event.Event.TheVariants as event
+use Rattle.policy_audit.specs.declared.reply.Reply.TheVariants as reply
+use Rattle.policy_audit.specs.declared.rule.Rule.TheVariants as rule
+use Rattle.policy_audit.specs.History.{past}
+use Rattle.node_core.proofs.Entered.{steps_on}
+use Rattle.node_core.proofs.Quiet.{quiet_next}
+use Rattle.group_monitors.specs.Monitors.{IsFree}
+use Rattle.group_monitors.proofs.Followed.{follows_free}
+use Rattle.node_core.proofs.Watching.{group_watched}
+use Rattle.node_core.proofs.node.NodeCore.watch_group.Goals as goal
+
+pub add_group-requires : goal.add_group-requires
+add_group-requires c =
+    let number = rw (← c.self.view_is) at c.next_number-number.ensures in
+    subst (λ n. IsFree n c.self.inside.monitors) (sym number) (follows_free (past c.self.inside.opening c.self.inside.audit.entries) c.self.inside.monitors c.self.invariant.monitors)
+
+pub invariant_of-self-2 : goal.invariant_of-self-2
+invariant_of-self-2 c =
+    let space = rw (← c.self.view_is) at c.requires.space in
+    let runs = rw (← c.self.view_is) at c.requires.runs in
+    let number = rw (← c.self.view_is) at c.next_number-number.ensures in
+    let all = rw (← c.self.view_is) at c.requires.members in
+    let next = quiet_next (past c.self.inside.opening c.self.inside.audit.entries) c.args.seat (reply.Ref c.next_number-number.result c.args.pids) (event.Monitor c.args.scope c.args.group) space (ap (λ b. cond (not b) (Some rule.NoScope) None) runs) (sym (λ i. reply.Ref (number i) (all i))) refl in
+    rw (c.accept.ensures.entries, c.accept.ensures.limit, c.in_ok-make_room.ensures.ok.1, c.new.ensures.items, c.in_ok-told.ensures, c.in_ok-add_group.ensures.ok, c.in_ok-place.ensures, c.in_ok-watched.ensures)
+    (group_watched (past c.self.inside.opening c.self.inside.audit.entries) c.args.seat (reply.Ref c.next_number-number.result c.args.pids) _ c.self.invariant c.args.scope c.args.group c.next_number-number.result number next)
+
+pub returns : goal.returns
+returns c =
+    let pushed = rw (c.in_ok-make_room.ensures.ok.1, c.new.ensures.items, c.in_ok-told.ensures) at c.accept.ensures.entries in
+    let space = rw (← c.self.view_is) at c.requires.space in
+    let runs = rw (← c.self.view_is) at c.requires.runs in
+    let number = rw (← c.self.view_is) at c.next_number-number.ensures in
+    let all = rw (← c.self.view_is) at c.requires.members in
+    let next = quiet_next (past c.self.inside.opening c.self.inside.audit.entries) c.args.seat (reply.Ref c.next_number-number.result c.args.pids) (event.Monitor c.args.scope c.args.group) space (ap (λ b. cond (not b) (Some rule.NoScope) None) runs) (sym (λ i. reply.Ref (number i) (all i))) refl in
+    steps_on c.self.view_is c.args.seat (event.Monitor c.args.scope c.args.group) (reply.Ref c.next_number-number.result c.args.pids) [] next pushed

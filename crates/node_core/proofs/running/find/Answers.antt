@@ -1,0 +1,8 @@
+use Rattle.std.proofs.Common.{rules, tests}
+use Rattle.std.proofs.lemmas.Iterator.{YieldsList-from_slice}
+use Rattle.std.proofs.lemmas.Iterator.Search.{find_from_yields_List}
+use Rattle.dist_types.specs.Listing.{same}
+use Rattle.node_core.proofs.running.find.Goals as goal
+
+pub returns : goal.returns
+returns c = find_from_yields_List (λ r. same r.scope c.args.scope.now) _ _ c.find.result c.find.ensures.ran (YieldsList-from_slice c.args.scopes.now cc) (λ x b q k. search (rules, tests))

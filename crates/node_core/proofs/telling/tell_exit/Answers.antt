@@ -1,0 +1,22 @@
+use Rattle.node_core.specs.Exiting.{all_frames}
+use Rattle.node_core.proofs.Exits.{prepared_waits, dropped_all}
+use Rattle.node_core.proofs.telling.tell_exit.Goals as goal
+
+pub returns-in-Ok : goal.returns-in-Ok
+returns-in-Ok c =
+    let told = c.in-Ok.ensures.told in
+    record {
+      told = record {
+        all = told.all;
+        each = told.each;
+        some = told.some;
+        links = rw c.commit.ensures (prepared_waits (all_frames c.args.scopes.now told.all) c.args.links.now.items c.prepare_exit.new.links.items c.requires.idle told.links);
+      };
+      same = tt;
+    }
+
+pub returns-in-Err : goal.returns-in-Err
+returns-in-Err c = record {
+  told = tt;
+  same = dropped_all c.args.links.now.items c.prepare_exit.new.links.items c.forget.new.links.items c.requires.idle c.in-Err.ensures.same c.forget.ensures;
+}

@@ -1,0 +1,41 @@
+-- What a node keeps is what its history says.
+use Rattle.std.specs.Prelude.{◌≡◌, ℕ, ◌≤◌, ◌<◌, ◌^◌, List, length}
+use Rattle.admission_rules.specs.Admission.{AdmissionRules}
+use Rattle.group_monitors.specs.declared.monitor.Monitor.{Monitor}
+use Rattle.group_monitors.specs.Follows.{FollowsPolicy}
+use Rattle.policy_audit.specs.History.{History}
+use Rattle.policy_audit.specs.Own.{spawned}
+use Rattle.policy_audit.specs.Policy.{IsLegal}
+use Rattle.node_core.specs.declared.running.Running.{Running}
+use Rattle.node_core.specs.Links.{KeptLink}
+use Rattle.node_core.specs.Processes.{Spawned}
+use Rattle.node_core.specs.LinkFacts.{link_words, LinksFollow}
+use Rattle.node_core.specs.ScopeFacts.{scope_words, ScopesFollow}
+use Rattle.node_core.specs.ProcessFacts.{process_words, ProcessesFollow}
+use Rattle.node_core.specs.AdmissionFacts.{admission_words, AdmissionFollows}
+
+-- the history is the policy's, within its limit
+pub record IsSound (h : History) (limit : ℕ) : Type 0 where
+  pub legal : IsLegal h
+  pub limit_is : limit ≡ h.opening.entries
+  pub fits : limit < 2 ^ 32
+  pub few : length h.entries ≤ limit
+  pub few_spawned : spawned h ≤ length h.entries
+
+-- all that a node keeps
+pub record Parts : Type 0 where
+  pub limit : ℕ
+  pub admission : AdmissionRules
+  pub processes : Spawned
+  pub scopes : List Running
+  pub links : List KeptLink
+  pub monitors : List (ℕ × Monitor)
+
+-- all parts follow the history
+pub record Follows (h : History) (parts : Parts) : Type 0 where
+  pub sound : IsSound h parts.limit
+  pub admission : AdmissionFollows (admission_words h) parts.admission
+  pub processes : ProcessesFollow (process_words h) parts.processes
+  pub scopes : ScopesFollow (scope_words h) parts.scopes
+  pub links : LinksFollow (link_words h) parts.links
+  pub monitors : FollowsPolicy h parts.monitors

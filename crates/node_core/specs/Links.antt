@@ -1,0 +1,91 @@
+-- A link as contracts see it.
+use Rattle.std.specs.Prelude.{ℕ, Bool, true, false, cond, find, nat_eq, ◌==◌, ◌&&◌, List, ◌++◌, ◌∷◌, [], map, Option, Some, None}
+use Rattle.std.specs.List.{list_any, list_all}
+use Rattle.dist_types.specs.declared.row.Row.{Row}
+use Rattle.dist_types.specs.Listing.{same}
+use Rattle.policy_audit.specs.declared.out_frame.OutFrame.{OutFrame}
+use Rattle.std.specs.Option.{option_map, option_map_or}
+use Rattle.policy_audit.specs.Owed.{narrow}
+use Rattle.node_core.specs.declared.link_state.LinkState.{LinkState}
+use Rattle.node_core.specs.declared.link_state.LinkState.TheVariants as state
+
+-- the number of the entry that opened it, its state, the frames that wait for it, those that are prepared for it,
+-- and how many more it can take without memory
+pub record KeptLink : Type 0 where
+  pub number : ℕ
+  pub state : LinkState
+  pub frames : List OutFrame
+  pub prepared : List OutFrame
+  pub room : ℕ
+
+-- the link, with further frames that wait
+abbrev pub with_frames : KeptLink → List OutFrame → KeptLink
+with_frames link frames = record link { frames = link.frames ++ frames }
+
+-- the link, with these frames prepared
+abbrev pub with_prepared : KeptLink → List OutFrame → KeptLink
+with_prepared link frames = record link { prepared = frames }
+
+-- the link, with this room
+abbrev pub with_room : KeptLink → ℕ → KeptLink
+with_room link room = record link { room = room }
+
+-- bodies of the handshake as frames
+abbrev pub narrow_frames : List (List ℕ) → List OutFrame
+narrow_frames bodies = map narrow bodies
+
+-- the peer of a link that is up
+abbrev pub up_peer : LinkState → Option (List ℕ)
+up_peer (state.Up up) = Some up.peer
+up_peer s = None
+
+-- the peer of an own dial that is unfinished
+abbrev pub dialled_peer : LinkState → Option (List ℕ)
+dialled_peer (state.Status dial) = Some dial.peer
+dialled_peer (state.Challenge dial) = Some dial.peer
+dialled_peer (state.Ack s) = Some s.peer
+dialled_peer s = None
+
+-- the link is up and visible
+abbrev pub is_shown : LinkState → Bool
+is_shown (state.Up up) = up.visible
+is_shown s = false
+
+-- the link ended by a refused frame of its own
+abbrev pub is_ended : LinkState → Bool
+is_ended state.Ended = true
+is_ended s = false
+
+-- the peer, where it is known
+abbrev pub known_peer : LinkState → Option (List ℕ)
+known_peer (state.Name challenge) = None
+known_peer (state.Answer s) = Some s.peer
+known_peer (state.Reply s) = Some s.peer
+known_peer (state.Up up) = Some up.peer
+known_peer s = dialled_peer s
+
+-- the rows are of processes of the peer, with the creation that it gave on the link, which is up
+abbrev pub are_of_peer : LinkState → List Row → Bool
+are_of_peer (state.Up up) rows = list_all (λ r. same r.pid.node up.peer && r.pid.creation == up.creation) rows
+are_of_peer s rows = false
+
+-- the own dial to a peer, if there is one
+abbrev pub dial_to : List ℕ → List KeptLink → Option KeptLink
+dial_to peer links = find (λ x. option_map_or (λ n. same n peer) (dialled_peer x.state) false) links
+
+-- the number of the own dial to the peer of a link in this state, which awaits a reply
+abbrev pub dial_beside : LinkState → List KeptLink → Option ℕ
+dial_beside (state.Reply s) links = option_map (λ x. x.number) (dial_to s.peer links)
+dial_beside s links = None
+
+-- the link, whatever its room
+abbrev pub unroomed : KeptLink → KeptLink
+unroomed link = with_room link 0
+
+-- the link, with the prepared frames waiting
+abbrev pub committed : KeptLink → KeptLink
+committed link = with_prepared (with_frames link link.prepared) []
+
+-- the link, with one frame more prepared if its number is one of these
+abbrev pub prepared_for : List ℕ → OutFrame → KeptLink → KeptLink
+prepared_for numbers frame link = cond (list_any (nat_eq link.number) numbers) (with_prepared link (link.prepared ++ frame ∷ [])) link

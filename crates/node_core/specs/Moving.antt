@@ -1,0 +1,59 @@
+-- Own processes that join and leave groups.
+use Rattle.std.specs.Prelude.{◌≡◌, ℕ, ◌+◌, ◌<◌, nat_le, false, List, [], ◌∷◌, length}
+use Rattle.std.specs.List.{list_all}
+use Rattle.dist_types.specs.declared.pid.Pid.{Pid}
+use Rattle.dist_types.specs.declared.change.GroupChange.{GroupChange}
+use Rattle.dist_types.specs.Difference.{IsDifference}
+use Rattle.link_frames.specs.declared.message.Message.{Message}
+use Rattle.scope_core.specs.declared.fault.TableFault.{TableFault}
+use Rattle.scope_core.specs.declared.fault.TableFault.TheVariants as fault
+use Rattle.scope_core.specs.Table.{Table, count_of, local_total, max_rows}
+use Rattle.scope_core.specs.Calls.{Counts, is_any_joined}
+use Rattle.policy_audit.specs.declared.change.Change.{Change}
+use Rattle.policy_audit.specs.declared.rule.Rule.TheVariants as rule
+use Rattle.policy_audit.specs.History.{History}
+use Rattle.policy_audit.specs.Own.{is_local, lives}
+use Rattle.policy_audit.specs.Changes.{if_some}
+use Rattle.policy_audit.specs.Checks.{Check, unless}
+use Rattle.policy_audit.specs.Owed.{wide}
+use Rattle.node_core.specs.declared.fault.CoreFault.{CoreFault}
+use Rattle.node_core.specs.declared.fault.CoreFault.TheVariants as faults
+use Rattle.node_core.specs.declared.running.Running.{Running}
+use Rattle.node_core.specs.Links.{KeptLink}
+use Rattle.node_core.specs.Telling.{AreTold, if_among, said_to}
+
+-- the rules for processes that join a group, but for those of the scope and of its other rows
+abbrev pub own_checks : History → List Pid → List Check
+own_checks h ps =
+    unless (list_all (is_local h) ps) rule.NotLocal
+    ∷ unless (list_all (lives h) ps) rule.NoProcess
+    ∷ unless (nat_le (length ps) 4096) rule.RowsFull
+    ∷ []
+
+-- one scope after its rows have changed: the links that are told there are told this message
+pub record IsMoved (m : Message) (count : List ℕ → Pid → ℕ) (old new : Running) (links_old links_new : List KeptLink) (cs : List Change) : Type 0 where
+  pub scope : new.scope ≡ old.scope
+  pub heard : new.heard.items ≡ old.heard.items
+  pub told : new.told.items ≡ old.told.items
+  pub rows : Counts old.table new.table count
+  pub groups : List GroupChange
+  pub difference : IsDifference (count_of old.table) (count_of new.table) groups
+  pub changes : cs ≡ if_some old.scope groups
+  pub links : AreTold (if_among (said_to old.told.items m) (wide m)) links_old links_new
+
+-- the rule that a fault of a table is
+abbrev pub fault_of : TableFault → CoreFault
+fault_of fault.RowsFull = faults.Refused rule.RowsFull
+fault_of fault.NotJoined = faults.Refused rule.NotJoined
+fault_of fault.NotListed = faults.Refused rule.NotListed
+fault_of fault.OutOfMemory = faults.OutOfMemory
+
+-- why processes did not join
+abbrev pub IsJoinRefusal : Table → List Pid → CoreFault → Type 0
+IsJoinRefusal t ps (faults.Refused r) = (r ≡ rule.RowsFull) × (max_rows < local_total t + length ps)
+IsJoinRefusal t ps faults.OutOfMemory = Unit {0}
+
+-- why processes did not leave
+abbrev pub IsLeaveRefusal : Table → List ℕ → List Pid → CoreFault → Type 0
+IsLeaveRefusal t g ps (faults.Refused r) = (r ≡ rule.NotJoined) × (is_any_joined t g ps ≡ false)
+IsLeaveRefusal t g ps faults.OutOfMemory = Unit {0}

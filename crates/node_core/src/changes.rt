@@ -1,0 +1,144 @@
+//! What leaves the scopes.
+ghost use Rattle.std.specs.Prelude.{◌≡◌, ◌<◌, ◌++◌, cond, length, vec_len, vec_capacity, IfOk, map};
+ghost use Rattle.dist_types.specs.Listing.{same, mentions, IsRowListing};
+ghost use Rattle.policy_audit.specs.Changes.{if_some};
+ghost use Rattle.dist_types.specs.Difference.{IsDifference};
+ghost use Rattle.scope_core.specs.Table.{count_of};
+ghost use Rattle.scope_core.specs.Calls.{Counts};
+ghost use Rattle.std.specs.List.{AllZip};
+ghost use Rattle.node_core.specs.Parting.{count_but, ArePartings, HasParted, IsCutOff, rows_left};
+
+use crate::fault::CoreFault;
+use crate::running::Running;
+use dist_types::{
+    Group, GroupChange, Items, NodeName, OutOfMemory, Pid, Pids, Row, Scope, TryClone,
+};
+use policy_audit::Change;
+use scope_core::ScopeTable;
+use std::alloc::Global;
+
+/// Rows that leave together.
+#[derive(Clone, Copy)]
+pub enum Part<'a> {
+    /// Those of a process.
+    Process(&'a Pid),
+    /// Those of a node.
+    Node(&'a NodeName),
+    /// All.
+    All,
+}
+
+/// What the leaving of a part will change.
+fn change_of(table: &ScopeTable, part: Part<'_>) -> Result<Vec<GroupChange>, OutOfMemory>
+    ensures { IfOk result (λ groups. IsDifference (count_of table.now) (count_but part.entry table.now) groups.items) }
+{
+    match part {
+        Part::Process(pid) => table.exit_change(pid),
+        Part::Node(node) => table.drop_change(node),
+        Part::All => table.clear_change(),
+    }
+}
+
+/// A part leaves.
+fn leave(table: &mut ScopeTable, part: Part<'_>)
+    ensures { Counts table.old table.new (count_but part.entry table.old) }
+{
+    match part {
+        Part::Process(pid) => table.exit(pid),
+        Part::Node(node) => table.drop_peer(node),
+        Part::All => table.clear(),
+    }
+}
+
+/// What the leaving of a part will change in each scope.
+pub fn changes_of(
+    alloc: Global,
+    scopes: &[Running],
+    part: Part<'_>,
+) -> Result<Vec<Change>, OutOfMemory>
+    ensures { IfOk result (λ changes. ArePartings part.entry scopes.now changes.items) }
+{
+    let mut changes = Vec::new(alloc);
+    for running in scopes {
+        let groups = change_of(&running.table, part)?;
+        if !groups.is_empty() {
+            changes.push(Change {
+                scope: running.scope.try_clone(alloc)?,
+                groups: Items::of(groups),
+            })?;
+        }
+    }
+    Ok(changes)
+}
+
+/// A part leaves all scopes.
+pub fn leave_all(scopes: &mut Vec<Running>, part: Part<'_>)
+    ensures { AllZip (HasParted part.entry) scopes.old.items scopes.new.items }
+{
+    for running in scopes.iter_mut() {
+        leave(&mut running.table, part);
+    }
+}
+
+/// A link of a peer is gone, for one scope: nobody is heard or told over it, and the rows of the peer leave.
+pub fn cut_off(running: &mut Running, number: u32, peer: &NodeName)
+    ensures { IsCutOff number peer.now running.old running.new }
+{
+    running.heard.retain(|link| *link != number);
+    running.told.retain(|link| *link != number);
+    running.table.drop_peer(peer);
+}
+
+/// A link of a peer is gone, for all scopes.
+pub fn end_link(scopes: &mut Vec<Running>, number: u32, peer: &NodeName)
+    ensures { AllZip (IsCutOff number peer.now) scopes.old.items scopes.new.items }
+{
+    for running in scopes.iter_mut() {
+        cut_off(running, number, peer);
+    }
+}
+
+/// The change of one scope, in a list that has room for it.
+pub fn put_change(changes: &mut Vec<Change>, scope: Scope, groups: Vec<GroupChange>)
+    requires { vec_len changes.old < vec_capacity changes.old }
+    ensures { changes.new.items ≡ changes.old.items ++ if_some scope groups.items }
+{
+    if !groups.is_empty() {
+        changes.push_reserved(Change {
+            scope,
+            groups: Items::of(groups),
+        });
+    }
+}
+
+/// The rows that leave by these changes.
+pub fn rows_left(alloc: Global, groups: &[GroupChange]) -> Result<Vec<Row>, OutOfMemory>
+    ensures { IfOk result (λ rows. rows.items ≡ rows_left groups.now) }
+{
+    let mut rows = Vec::new(alloc);
+    for change in groups {
+        for pid in change.left.as_slice() {
+            rows.push(Row {
+                group: change.group.try_clone(alloc)?,
+                pid: pid.try_clone(alloc)?,
+            })?;
+        }
+    }
+    Ok(rows)
+}
+
+/// The rows of processes in a group, ascending.
+pub fn rows_of(alloc: Global, group: &Group, pids: &[Pid]) -> Result<Vec<Row>, OutOfMemory>
+    ensures rows { IfOk result (λ rows. IsRowListing (λ g p. cond (same g group.now) (mentions p pids.now) 0) rows.items) }
+    ensures length { IfOk result (λ rows. length rows.items ≡ length pids.now) }
+{
+    let mut rows = Vec::new(alloc);
+    for pid in pids {
+        rows.push(Row {
+            group: group.try_clone(alloc)?,
+            pid: pid.try_clone(alloc)?,
+        })?;
+    }
+    rows.sort_unstable();
+    Ok(rows)
+}

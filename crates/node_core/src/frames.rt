@@ -1,0 +1,22 @@
+//! Messages as frames.
+ghost use Rattle.std.specs.Prelude.{◌≡◌, IfOk};
+ghost use Rattle.link_frames.specs.Spelling.{HasSpelling};
+ghost use Rattle.policy_audit.specs.Owed.{wide};
+
+use dist_types::OutOfMemory;
+use link_frames::{Message, encode};
+use policy_audit::{Body, OutFrame};
+use std::alloc::Global;
+
+/// The frame of a message.
+pub fn frame_of(alloc: Global, message: &Message) -> Result<OutFrame, OutOfMemory>
+    requires { HasSpelling message.now }
+    ensures { IfOk result (λ frame. frame ≡ wide message.now) }
+{
+    let mut body = Vec::new(alloc);
+    encode(message, &mut body)?;
+    Ok(OutFrame {
+        wide: true,
+        body: Body::of(body),
+    })
+}

@@ -1,0 +1,288 @@
+//! Frames of the handshake.
+ghost use Rattle.std.specs.Prelude.{◌≡◌, ◌+◌, ◌≤◌, ◌++◌, [], cond, true, false, length, find, map, Some, None, IfOk};
+ghost use Rattle.std.specs.List.{AllZip};
+ghost use Rattle.std.specs.Option.{option_map, option_map_or, unwrap_or};
+ghost use Rattle.dist_types.specs.Listing.{same};
+ghost use Rattle.policy_audit.specs.Owed.{wide};
+ghost use Rattle.policy_audit.specs.Policy.{is_full};
+ghost use Rattle.policy_audit.specs.Sides.{awaits, is_last, is_whole};
+ghost use Rattle.policy_audit.specs.Links.{is_open};
+ghost use Rattle.node_core.specs.Links.{known_peer, up_peer, dial_beside, narrow_frames};
+ghost use Rattle.node_core.specs.Handshakes.{IsReady, HaveGoneOn, HaveEnded, HaveComeUp, moved_on, older_of, without_link};
+ghost use Rattle.node_core.specs.Parting.{IsCutOff};
+ghost use Rattle.node_core.specs.Step.{Steps};
+
+use crate::changes::{Part, changes_of, end_link};
+use crate::entering::{accept, reject};
+use crate::fault::CoreFault;
+use crate::frames::frame_of;
+use crate::hearing::{Heard, hear};
+use crate::link::Link;
+use crate::link_state::LinkState;
+use crate::links::{dial_to, pending_of, place_of, remove};
+use crate::node::NodeCore;
+use crate::running::Running;
+use dist_types::{NodeName, OutOfMemory, TryClone};
+use link_frames::Message;
+use link_states::{Bodies, Up};
+use policy_audit::{Body, Event, OutFrame, Reply, Rule};
+use std::alloc::Global;
+
+/// The most frames of the handshake that one frame owes.
+const MOST_OWED: usize = 2;
+
+impl NodeCore {
+    /// A frame that came on a link.
+    #[tactic(auto, unfolding(crate::specs::Step::Steps))]
+    pub(crate) fn frame(&mut self, seat: u32, number: u32, body: Body) -> Result<Reply, CoreFault>
+        requires { is_full self.old ≡ false }
+        ensures { Steps self.old seat (Event.Frame number body) self.new result }
+    {
+        let Some(place) = place_of(&self.links, number) else {
+            return self.refuse(seat, Event::Frame(number, body), Rule::NoSuchLink);
+        };
+        match self.links[place].state() {
+            LinkState::Ended => self.refuse(seat, Event::Frame(number, body), Rule::NoSuchLink),
+            LinkState::Up(_) => self.message(seat, number, body),
+            LinkState::Reply(_) | LinkState::Ack(_) => self.last_frame(seat, number, body),
+            _ => self.early_frame(seat, number, body),
+        }
+    }
+
+    /// A frame that is not the last of a handshake.
+    #[tactic(auto, unfolding(crate::specs::Step::Steps))]
+    fn early_frame(&mut self, seat: u32, number: u32, body: Body) -> Result<Reply, CoreFault>
+        requires space { is_full self.old ≡ false }
+        requires opens { is_open number self.old.entries ≡ true }
+        requires unwhole { is_whole number self.old.entries ≡ false }
+        requires early { is_last (awaits number self.old.entries) ≡ false }
+        ensures { Steps self.old seat (Event.Frame number body) self.new result }
+    {
+        let Some(place) = place_of(&self.links, number) else {
+            unreachable!()
+        };
+        let pending = pending_of(self.alloc, &self.links)?;
+        self.links[place].make_room(MOST_OWED)?;
+        self.audit.make_room()?;
+        let state = self.links[place].replace(LinkState::Ended);
+        let bytes = body.as_slice();
+        match hear(self.alloc, state, bytes, &self.admission, &pending) {
+            Heard::On {
+                state,
+                frames,
+                gives_up,
+            } => {
+                go_on(&mut self.links, place, state, frames, gives_up);
+                let event = Event::Frame(number, body);
+                let nothing = Vec::new(self.alloc);
+                accept(&mut self.audit, seat, event, Reply::Done, nothing);
+                Ok(Reply::Done)
+            }
+            Heard::Ended { rule, frames } => {
+                end(&mut self.links, place, frames);
+                let event = Event::Frame(number, body);
+                reject(self.alloc, &mut self.audit, seat, event, rule);
+                Err(CoreFault::Refused(rule))
+            }
+            Heard::OutOfMemory(state) => {
+                let _ended = self.links[place].replace(state);
+                Err(CoreFault::OutOfMemory)
+            }
+            Heard::Up { .. } => unreachable!(),
+        }
+    }
+
+    /// The last frame of a handshake.
+    #[tactic(auto, unfolding(crate::specs::Step::Steps))]
+    fn last_frame(&mut self, seat: u32, number: u32, body: Body) -> Result<Reply, CoreFault>
+        requires space { is_full self.old ≡ false }
+        requires opens { is_open number self.old.entries ≡ true }
+        requires last { is_last (awaits number self.old.entries) ≡ true }
+        ensures { Steps self.old seat (Event.Frame number body) self.new result }
+    {
+        let Some(place) = place_of(&self.links, number) else {
+            unreachable!()
+        };
+        let (peer, kept) = names_of(self.alloc, &self.links[place])?;
+        let discovers = discovers_of(self.alloc, &self.scopes)?;
+        let changes = changes_of(self.alloc, &self.scopes, Part::Node(&peer))?;
+        let pending = pending_of(self.alloc, &[])?;
+        self.links[place].make_room(MOST_OWED + discovers.len())?;
+        self.audit.make_room()?;
+        let state = self.links[place].replace(LinkState::Ended);
+        let bytes = body.as_slice();
+        match hear(self.alloc, state, bytes, &self.admission, &pending) {
+            Heard::Up { up, frames } => {
+                let entered = up_reply(kept, &up);
+                let reply = up_reply(peer, &up);
+                let (links, scopes) = (&mut self.links, &mut self.scopes);
+                settle(links, scopes, place, number, up, frames, discovers);
+                let event = Event::Frame(number, body);
+                accept(&mut self.audit, seat, event, entered, changes);
+                Ok(reply)
+            }
+            Heard::Ended { rule, frames } => {
+                end(&mut self.links, place, frames);
+                let event = Event::Frame(number, body);
+                reject(self.alloc, &mut self.audit, seat, event, rule);
+                Err(CoreFault::Refused(rule))
+            }
+            Heard::OutOfMemory(state) => {
+                let _ended = self.links[place].replace(state);
+                Err(CoreFault::OutOfMemory)
+            }
+            Heard::On { .. } => unreachable!(),
+        }
+    }
+}
+
+/// The handshake of the link at a place goes on. Where it gives an own dial to its peer up, that dial is gone.
+fn go_on(links: &mut Vec<Link>, place: usize, state: LinkState, frames: Bodies, gives_up: bool)
+    requires { IsReady links.old.items place (length frames) }
+    ensures { HaveGoneOn place state frames gives_up links.old.items links.new.items }
+{
+    let dial = given_up(links, &state, gives_up);
+    links[place].owe_bodies(frames);
+    let _ended = links[place].replace(state);
+    remove_some(links, dial);
+}
+
+/// The number of the own dial that is given up for a link in this state, if one is.
+fn given_up(links: &[Link], state: &LinkState, gives_up: bool) -> Option<u32>
+    ensures { result ≡ cond gives_up (dial_beside state.now links.now) None }
+{
+    if gives_up {
+        dial_beside(links, state)
+    } else {
+        None
+    }
+}
+
+/// The link of this number is gone, if there is a number.
+fn remove_some(links: &mut Vec<Link>, number: Option<u32>)
+    ensures { links.new.items ≡ without_link number links.old.items }
+{
+    if let Some(number) = number {
+        remove(links, number);
+    }
+}
+
+/// The link at a place has ended. It is kept as long as frames wait for it.
+fn end(links: &mut Vec<Link>, place: usize, frames: Bodies)
+    requires { IsReady links.old.items place (length frames) }
+    ensures { HaveEnded place frames links.old.items links.new.items }
+{
+    let number = links[place].number();
+    links[place].owe_bodies(frames);
+    if links[place].frames().is_empty() {
+        remove(links, number);
+    }
+}
+
+/// The link at a place is up, and an older one of its peer is gone. Answers the number of the older one.
+fn come_up(
+    links: &mut Vec<Link>,
+    place: usize,
+    up: Up,
+    frames: Bodies,
+    discovers: Vec<OutFrame>,
+) -> Option<u32>
+    requires { IsReady links.old.items place (length frames + length discovers.items) }
+    ensures older { result ≡ older_of up.peer links.old.items }
+    ensures links { HaveComeUp place up frames discovers.items links.old.items links.new.items }
+{
+    let older = older_of(links, up.peer());
+    owe_all(&mut links[place], frames, up.visible(), discovers);
+    let _ended = links[place].replace(LinkState::Up(up));
+    remove_some(links, older);
+    older
+}
+
+/// The link of this number, at a place, is up. Its peer's older one is gone, with all that was shared over it.
+fn settle(
+    links: &mut Vec<Link>,
+    scopes: &mut Vec<Running>,
+    place: usize,
+    number: u32,
+    up: Up,
+    frames: Bodies,
+    discovers: Vec<OutFrame>,
+)
+    requires { IsReady links.old.items place (length frames + length discovers.items) }
+    ensures links { HaveComeUp place up frames discovers.items links.old.items links.new.items }
+    ensures scopes { AllZip (IsCutOff (unwrap_or (older_of up.peer links.old.items) number) up.peer) scopes.old.items scopes.new.items }
+{
+    let gone = older_of(links, up.peer()).unwrap_or(number);
+    end_link(scopes, gone, up.peer());
+    let _older = come_up(links, place, up, frames, discovers);
+}
+
+/// Frames that wait from now on: those of the handshake, and then the Discovers, if the link is visible.
+fn owe_all(link: &mut Link, frames: Bodies, visible: bool, discovers: Vec<OutFrame>)
+    requires room { length frames + length discovers.items ≤ link.old.room }
+    requires idle { link.old.prepared ≡ [] }
+    ensures { link.new ≡ moved_on link.old.state (narrow_frames frames ++ cond visible discovers.items []) link.new.room link.old }
+{
+    link.owe_bodies(frames);
+    if visible {
+        link.owe(discovers);
+    }
+}
+
+/// The number of the link that is up with this peer.
+fn older_of(links: &[Link], peer: &NodeName) -> Option<u32>
+    ensures { result ≡ older_of peer.now links.now }
+{
+    Some(up_with(links, peer)?.number())
+}
+
+/// The link that is up with this peer.
+fn up_with<'a>(links: &'a [Link], peer: &NodeName) -> Option<&'a Link>
+    ensures { option_map (λ x. x.now) result ≡ find (λ x. option_map_or (λ n. same n peer.now) (up_peer x.state) false) links.now }
+{
+    links.iter().find(|link| link.is_up_with(peer))
+}
+
+/// That the link is up.
+fn up_reply(peer: NodeName, up: &Up) -> Reply
+    ensures { result ≡ Reply.Up peer up.now.creation up.now.visible }
+{
+    Reply::Up {
+        peer,
+        creation: up.creation(),
+        visible: up.visible(),
+    }
+}
+
+/// Two copies of the name of the link's peer.
+fn names_of(alloc: Global, link: &Link) -> Result<(NodeName, NodeName), OutOfMemory>
+    ensures first { IfOk result (λ names. known_peer link.now.state ≡ Some names.0) }
+    ensures second { IfOk result (λ names. names.1 ≡ names.0) }
+{
+    let Some(peer) = link.peer() else {
+        return Err(OutOfMemory);
+    };
+    Ok((peer.try_clone(alloc)?, peer.try_clone(alloc)?))
+}
+
+/// The own dial to the peer of a link in this state.
+fn dial_beside(links: &[Link], state: &LinkState) -> Option<u32>
+    ensures { result ≡ dial_beside state.now links.now }
+{
+    let LinkState::Reply(reply) = state else {
+        return None;
+    };
+    Some(dial_to(links, reply.peer())?.number())
+}
+
+/// A Discover for each scope that runs.
+fn discovers_of(alloc: Global, scopes: &[Running]) -> Result<Vec<OutFrame>, OutOfMemory>
+    ensures { IfOk result (λ frames. frames.items ≡ map (λ r. wide (Message.Discover r.scope)) scopes.now) }
+{
+    let mut frames = Vec::new(alloc);
+    for running in scopes {
+        let message = Message::Discover(running.scope.try_clone(alloc)?);
+        frames.push(frame_of(alloc, &message)?)?;
+    }
+    Ok(frames)
+}

@@ -1,0 +1,145 @@
+//! The kept links together.
+ghost use Rattle.std.specs.Prelude.{◌≡◌, ◌++◌, ◌∷◌, [], ◌&&◌, cond, nat_eq, not, false, map, position, is_some, OnOk, OnErr, IfOk, ◌<◌, length, slice_index_or};
+ghost use Rattle.std.specs.List.{list_any, filter, flat_map, AllByRecursion};
+ghost use Rattle.std.specs.Option.{option_map, option_map_or, option_to_list};
+ghost use Rattle.dist_types.specs.Listing.{same};
+ghost use Rattle.link_frames.specs.Spelling.{HasSpelling};
+ghost use Rattle.policy_audit.specs.Owed.{wide};
+ghost use Rattle.node_core.specs.Links.{KeptLink, up_peer, dialled_peer, dial_to, is_shown, with_prepared, unroomed, committed, prepared_for};
+ghost use Rattle.node_core.specs.Gone.{without_ended};
+ghost use Rattle.node_core.specs.ScopeFacts.{is_number};
+
+use crate::frames::frame_of;
+use crate::link::Link;
+use dist_types::{NodeName, OutOfMemory, TryClone};
+use link_frames::Message;
+use link_states::{Names, Pending};
+use std::alloc::Global;
+
+/// The most links that are kept.
+pub const MAX_LINKS: usize = 64;
+
+/// The place of the link of this number.
+pub fn place_of(links: &[Link], number: u32) -> Option<usize>
+    ensures { result ≡ position (λ x. nat_eq x.number number) links.now }
+{
+    links.iter().position(|link| link.number() == number)
+}
+
+/// The place of the link that is up with this peer.
+pub fn place_of_up(links: &[Link], peer: &NodeName) -> Option<usize>
+    ensures { result ≡ position (λ x. option_map_or (λ n. same n peer.now) (up_peer x.state) false) links.now }
+{
+    links.iter().position(|link| link.is_up_with(peer))
+}
+
+/// Whether an own dial to this peer is unfinished.
+pub fn is_dialling(links: &[Link], peer: &NodeName) -> bool
+    ensures { result ≡ list_any (λ x. option_map_or (λ n. same n peer.now) (dialled_peer x.state) false) links.now }
+{
+    links.iter().any(|link| link.is_dial_to(peer))
+}
+
+/// The own dial to this peer.
+pub fn dial_to<'a>(links: &'a [Link], peer: &NodeName) -> Option<&'a Link>
+    ensures { option_map (λ x. x.now) result ≡ dial_to peer.now links.now }
+{
+    links.iter().find(|link| link.is_dial_to(peer))
+}
+
+/// The peers that are up, and the own dials.
+pub fn pending_of(alloc: Global, links: &[Link]) -> Result<Pending, OutOfMemory>
+    ensures up { IfOk result (λ p. p.up ≡ flat_map (λ x. option_to_list (up_peer x.state)) links.now) }
+    ensures dials { IfOk result (λ p. p.dials ≡ flat_map (λ x. option_to_list (dialled_peer x.state)) links.now) }
+{
+    let mut up = Vec::new(alloc);
+    let mut dials = Vec::new(alloc);
+    for link in links {
+        if let Some(peer) = link.up_peer() {
+            up.push(peer.try_clone(alloc)?)?;
+        }
+        if let Some(peer) = link.dialled_peer() {
+            dials.push(peer.try_clone(alloc)?)?;
+        }
+    }
+    Ok(Pending {
+        up: Names::of(up),
+        dials: Names::of(dials),
+    })
+}
+
+/// The numbers of the links that are up and visible.
+pub fn shown(alloc: Global, links: &[Link]) -> Result<Vec<u32>, OutOfMemory>
+    ensures { IfOk result (λ ns. ns.items ≡ map (λ x. x.number) (filter (λ x. is_shown x.state) links.now)) }
+{
+    let mut numbers = Vec::new(alloc);
+    for link in links {
+        if link.is_shown() {
+            numbers.push(link.number())?;
+        }
+    }
+    Ok(numbers)
+}
+
+/// Prepares a message for the links of these numbers. Where memory is wanting, what was prepared before is dropped, too.
+pub fn prepare(
+    alloc: Global,
+    links: &mut Vec<Link>,
+    numbers: &[u32],
+    message: &Message,
+) -> Result<(), OutOfMemory>
+    requires { HasSpelling message.now }
+    ensures ok { OnOk result (map unroomed links.new.items ≡ map (λ x. unroomed (prepared_for numbers.now (wide message.now) x)) links.old.items) }
+    ensures forgot { OnErr result (map unroomed links.new.items ≡ map (λ x. unroomed (with_prepared x [])) links.old.items) }
+{
+    for place in 0..links.len() {
+        if !numbers.contains(&links[place].number()) {
+            continue;
+        }
+        let prepared = match frame_of(alloc, message) {
+            Ok(frame) => links[place].prepare(frame),
+            Err(fault) => Err(fault),
+        };
+        if prepared.is_err() {
+            forget(links);
+            return Err(OutOfMemory);
+        }
+    }
+    Ok(())
+}
+
+/// The prepared frames of all links wait from now on.
+pub fn commit(links: &mut Vec<Link>)
+    ensures { links.new.items ≡ map committed links.old.items }
+{
+    for link in links.iter_mut() {
+        link.commit();
+    }
+}
+
+/// The prepared frames of all links are dropped.
+pub fn forget(links: &mut Vec<Link>)
+    ensures { map unroomed links.new.items ≡ map (λ x. unroomed (with_prepared x [])) links.old.items }
+{
+    for link in links.iter_mut() {
+        link.forget();
+    }
+}
+
+/// The link of this number is gone.
+pub fn remove(links: &mut Vec<Link>, number: u32)
+    ensures { links.new.items ≡ filter (λ x. not (nat_eq x.number number)) links.old.items }
+{
+    links.retain(|link| link.number() != number);
+}
+
+/// The link at a place is gone if it has ended.
+pub fn drop_ended(links: &mut Vec<Link>, place: usize)
+    requires { place < length links.old.items }
+    ensures { (d : KeptLink) → links.new.items ≡ without_ended (slice_index_or links.old.items place d) links.old.items }
+{
+    let number = links[place].number();
+    if links[place].is_ended() {
+        remove(links, number);
+    }
+}

@@ -1,0 +1,412 @@
+//! Messages of linked nodes.
+ghost use Rattle.std.specs.Prelude.{◌≡◌, ◌<◌, ◌≤◌, ◌+◌, ◌==◌, ◌&&◌, false, true, cond, Some, None, vec_len, vec_capacity, length, All, IsTrue, IfOk, IfErr, OnOk, OnErr};
+ghost use Rattle.std.specs.List.{list_all};
+ghost use Rattle.dist_types.specs.Listing.{same};
+ghost use Rattle.dist_types.specs.Difference.{IsDifference};
+ghost use Rattle.scope_core.specs.Table.{count_of, node_total, max_rows};
+ghost use Rattle.scope_core.specs.Calls.{count_after_sync, count_after_add, count_after_take, are_counted, IsAddFault, IsTakeFault};
+ghost use Rattle.policy_audit.specs.Policy.{is_full};
+ghost use Rattle.policy_audit.specs.Links.{is_up};
+ghost use Rattle.policy_audit.specs.Hearing.{message_taken};
+ghost use Rattle.policy_audit.specs.Checks.{first_broken};
+ghost use Rattle.node_core.specs.Step.{Steps};
+ghost use Rattle.node_core.specs.Links.{are_of_peer};
+ghost use Rattle.node_core.specs.Messages.{scope_in, refusal};
+ghost use Rattle.node_core.specs.MessageRules.{early_checks, HasBecome, AnswersDiscover};
+ghost use Rattle.node_core.specs.ScopeFacts.{is_number, with_number};
+
+use crate::changes::{cut_off, put_change};
+use crate::entering::accept;
+use crate::fault::CoreFault;
+use crate::frames::frame_of;
+use crate::link::Link;
+use crate::link_state::LinkState;
+use crate::links;
+use crate::node::NodeCore;
+use crate::running::{Running, place_of};
+use dist_types::{GroupChange, NodeName, OutOfMemory, Row, Scope, TryClone};
+use link_frames::{Message, MessageFault, Rows, decode};
+use link_states::Up;
+use policy_audit::{Body, Event, OutFrame, Reply, Rule};
+use scope_core::TableFault;
+use std::alloc::Global;
+
+impl NodeCore {
+    /// A message that came on a link that is up.
+    #[tactic(auto, unfolding(crate::specs::Step::Steps))]
+    pub(crate) fn message(&mut self, seat: u32, number: u32, body: Body) -> Result<Reply, CoreFault>
+        requires space { is_full self.old ≡ false }
+        requires up { is_up number self.old.entries ≡ true }
+        ensures { Steps self.old seat (Event.Frame number body) self.new result }
+    {
+        let Some(place) = links::place_of(&self.links, number) else {
+            unreachable!()
+        };
+        let message = match decode(self.alloc, body.as_slice()) {
+            Ok(message) => message,
+            Err(MessageFault::BadFrame) => {
+                return self.refuse(seat, Event::Frame(number, body), Rule::BadFrame);
+            }
+            Err(MessageFault::OutOfMemory) => return Err(CoreFault::OutOfMemory),
+        };
+        if !self.links[place].is_shown() {
+            return self.refuse(seat, Event::Frame(number, body), Rule::HiddenLink);
+        }
+        let Some(at) = place_of(&self.scopes, scope_in(&message)) else {
+            return self.refuse(seat, Event::Frame(number, body), Rule::NoScope);
+        };
+        if let Some(rule) = refusal(&self.links[place], &self.scopes[at], &message) {
+            return self.refuse(seat, Event::Frame(number, body), rule);
+        }
+        match message {
+            Message::Discover(scope) => self.discovered(seat, number, scope, body),
+            Message::Sync(scope, rows) => self.synced(seat, number, scope, rows, body),
+            Message::Join(scope, rows) => self.added(seat, number, scope, rows, body),
+            Message::Leave(scope, rows) => self.taken(seat, number, scope, rows, body),
+            Message::Down(scope) => self.downed(seat, number, scope, body),
+        }
+    }
+
+    /// The peer is told the own rows, and asked for its own where they aren't known.
+    #[tactic(auto, unfolding(crate::specs::Step::Steps))]
+    fn discovered(
+        &mut self,
+        seat: u32,
+        number: u32,
+        scope: Scope,
+        body: Body,
+    ) -> Result<Reply, CoreFault>
+        requires space { is_full self.old ≡ false }
+        requires up { is_up number self.old.entries ≡ true }
+        requires says { message_taken body ≡ Some (Message.Discover scope) }
+        requires holds { first_broken (early_checks self.old number (Message.Discover scope)) ≡ None }
+        ensures { Steps self.old seat (Event.Frame number body) self.new result }
+    {
+        let Some(place) = links::place_of(&self.links, number) else {
+            unreachable!()
+        };
+        let Some(at) = place_of(&self.scopes, &scope) else {
+            unreachable!()
+        };
+        let frames = answer_to_discover(self.alloc, &self.scopes[at], number, scope)?;
+        self.audit.make_room()?;
+        self.links[place].make_room(frames.len())?;
+        tell(&mut self.scopes[at], number)?;
+        self.links[place].owe(frames);
+        let event = Event::Frame(number, body);
+        accept(
+            &mut self.audit,
+            seat,
+            event,
+            Reply::Done,
+            Vec::new(self.alloc),
+        );
+        Ok(Reply::Done)
+    }
+
+    /// The peer's rows are replaced.
+    #[tactic(auto, unfolding(crate::specs::Step::Steps))]
+    fn synced(
+        &mut self,
+        seat: u32,
+        number: u32,
+        scope: Scope,
+        rows: Rows,
+        body: Body,
+    ) -> Result<Reply, CoreFault>
+        requires space { is_full self.old ≡ false }
+        requires up { is_up number self.old.entries ≡ true }
+        requires says { message_taken body ≡ Some (Message.Sync scope rows) }
+        requires holds { first_broken (early_checks self.old number (Message.Sync scope rows)) ≡ None }
+        requires few { length rows ≤ max_rows }
+        ensures { Steps self.old seat (Event.Frame number body) self.new result }
+    {
+        let Some(place) = links::place_of(&self.links, number) else {
+            unreachable!()
+        };
+        let Some(at) = place_of(&self.scopes, &scope) else {
+            unreachable!()
+        };
+        let mut changes = Vec::new(self.alloc);
+        changes.reserve(1)?;
+        self.audit.make_room()?;
+        let Some(peer) = self.links[place].up_peer() else {
+            unreachable!()
+        };
+        let groups = hear_rows(&mut self.scopes[at], number, peer, rows.as_slice())?;
+        put_change(&mut changes, scope, groups);
+        let event = Event::Frame(number, body);
+        accept(&mut self.audit, seat, event, Reply::Done, changes);
+        Ok(Reply::Done)
+    }
+
+    /// Rows are added to the peer's.
+    #[tactic(auto, unfolding(crate::specs::Step::Steps))]
+    fn added(
+        &mut self,
+        seat: u32,
+        number: u32,
+        scope: Scope,
+        rows: Rows,
+        body: Body,
+    ) -> Result<Reply, CoreFault>
+        requires space { is_full self.old ≡ false }
+        requires up { is_up number self.old.entries ≡ true }
+        requires says { message_taken body ≡ Some (Message.Join scope rows) }
+        requires holds { first_broken (early_checks self.old number (Message.Join scope rows)) ≡ None }
+        ensures { Steps self.old seat (Event.Frame number body) self.new result }
+    {
+        let Some(place) = links::place_of(&self.links, number) else {
+            unreachable!()
+        };
+        let Some(at) = place_of(&self.scopes, &scope) else {
+            unreachable!()
+        };
+        let mut changes = Vec::new(self.alloc);
+        changes.reserve(1)?;
+        self.audit.make_room()?;
+        let Some(peer) = self.links[place].up_peer() else {
+            unreachable!()
+        };
+        let groups = match add_rows(&mut self.scopes[at], peer, rows.as_slice()) {
+            Ok(groups) => groups,
+            Err(TableFault::RowsFull) => {
+                return self.refuse(seat, Event::Frame(number, body), Rule::RowsFull);
+            }
+            Err(_) => return Err(CoreFault::OutOfMemory),
+        };
+        put_change(&mut changes, scope, groups);
+        let event = Event::Frame(number, body);
+        accept(&mut self.audit, seat, event, Reply::Done, changes);
+        Ok(Reply::Done)
+    }
+
+    /// Rows are taken from the peer's.
+    #[tactic(auto, unfolding(crate::specs::Step::Steps))]
+    fn taken(
+        &mut self,
+        seat: u32,
+        number: u32,
+        scope: Scope,
+        rows: Rows,
+        body: Body,
+    ) -> Result<Reply, CoreFault>
+        requires space { is_full self.old ≡ false }
+        requires up { is_up number self.old.entries ≡ true }
+        requires says { message_taken body ≡ Some (Message.Leave scope rows) }
+        requires holds { first_broken (early_checks self.old number (Message.Leave scope rows)) ≡ None }
+        ensures { Steps self.old seat (Event.Frame number body) self.new result }
+    {
+        let Some(place) = links::place_of(&self.links, number) else {
+            unreachable!()
+        };
+        let Some(at) = place_of(&self.scopes, &scope) else {
+            unreachable!()
+        };
+        let mut changes = Vec::new(self.alloc);
+        changes.reserve(1)?;
+        self.audit.make_room()?;
+        let Some(peer) = self.links[place].up_peer() else {
+            unreachable!()
+        };
+        let groups = match take_rows(&mut self.scopes[at], peer, rows.as_slice()) {
+            Ok(groups) => groups,
+            Err(TableFault::NotListed) => {
+                return self.refuse(seat, Event::Frame(number, body), Rule::NotListed);
+            }
+            Err(_) => return Err(CoreFault::OutOfMemory),
+        };
+        put_change(&mut changes, scope, groups);
+        let event = Event::Frame(number, body);
+        accept(&mut self.audit, seat, event, Reply::Done, changes);
+        Ok(Reply::Done)
+    }
+
+    /// The peer stopped the scope.
+    #[tactic(auto, unfolding(crate::specs::Step::Steps))]
+    fn downed(
+        &mut self,
+        seat: u32,
+        number: u32,
+        scope: Scope,
+        body: Body,
+    ) -> Result<Reply, CoreFault>
+        requires space { is_full self.old ≡ false }
+        requires up { is_up number self.old.entries ≡ true }
+        requires says { message_taken body ≡ Some (Message.Down scope) }
+        requires holds { first_broken (early_checks self.old number (Message.Down scope)) ≡ None }
+        ensures { Steps self.old seat (Event.Frame number body) self.new result }
+    {
+        let Some(place) = links::place_of(&self.links, number) else {
+            unreachable!()
+        };
+        let Some(at) = place_of(&self.scopes, &scope) else {
+            unreachable!()
+        };
+        let mut changes = Vec::new(self.alloc);
+        changes.reserve(1)?;
+        self.audit.make_room()?;
+        let Some(peer) = self.links[place].up_peer() else {
+            unreachable!()
+        };
+        let groups = self.scopes[at].table.drop_change(peer)?;
+        cut_off(&mut self.scopes[at], number, peer);
+        put_change(&mut changes, scope, groups);
+        let event = Event::Frame(number, body);
+        accept(&mut self.audit, seat, event, Reply::Done, changes);
+        Ok(Reply::Done)
+    }
+}
+
+/// All own rows, and a Discover where the link of this number isn't heard.
+fn answer_to_discover(
+    alloc: Global,
+    running: &Running,
+    number: u32,
+    scope: Scope,
+) -> Result<Vec<OutFrame>, OutOfMemory>
+    ensures { IfOk result (λ frames. AnswersDiscover running.now number scope frames.items) }
+{
+    let mut frames = Vec::new(alloc);
+    let rows = Rows::of(running.table.local_rows()?);
+    let sync = Message::Sync(scope.try_clone(alloc)?, rows);
+    frames.push(frame_of(alloc, &sync)?)?;
+    if !running.heard.contains(&number) {
+        frames.push(frame_of(alloc, &Message::Discover(scope))?)?;
+    }
+    Ok(frames)
+}
+
+/// The peer of this link is told from now on.
+fn tell(running: &mut Running, number: u32) -> Result<(), OutOfMemory>
+    ensures ok { OnOk result (HasBecome running.old running.new (count_of running.old.table) running.old.heard.items (with_number number running.old.told.items)) }
+    ensures same { OnErr result (HasBecome running.old running.new (count_of running.old.table) running.old.heard.items running.old.told.items) }
+{
+    running.told.reserve(1)?;
+    note(&mut running.told, number);
+    Ok(())
+}
+
+/// The peer's rows are replaced, and it is heard over this link from now on.
+fn hear_rows(
+    running: &mut Running,
+    number: u32,
+    peer: &NodeName,
+    rows: &[Row],
+) -> Result<Vec<GroupChange>, OutOfMemory>
+    requires of_peer { All (λ r. r.pid.node ≡ peer.now) rows.now }
+    requires few { length rows.now ≤ max_rows }
+    ensures ok { OnOk result (HasBecome running.old running.new (count_after_sync running.old.table peer.now rows.now) (with_number number running.old.heard.items) running.old.told.items) }
+    ensures change { IfOk result (λ groups. IsDifference (count_of running.old.table) (count_of running.new.table) groups.items) }
+    ensures same { OnErr result (HasBecome running.old running.new (count_of running.old.table) running.old.heard.items running.old.told.items) }
+{
+    running.heard.reserve(1)?;
+    let Ok(groups) = running.table.sync(peer, rows) else {
+        return Err(OutOfMemory);
+    };
+    note(&mut running.heard, number);
+    Ok(groups)
+}
+
+/// Rows are added to the peer's.
+fn add_rows(
+    running: &mut Running,
+    peer: &NodeName,
+    rows: &[Row],
+) -> Result<Vec<GroupChange>, TableFault>
+    requires { All (λ r. r.pid.node ≡ peer.now) rows.now }
+    ensures ok { OnOk result (HasBecome running.old running.new (count_after_add running.old.table rows.now) running.old.heard.items running.old.told.items) }
+    ensures change { IfOk result (λ groups. IsDifference (count_of running.old.table) (count_of running.new.table) groups.items) }
+    ensures refused { IfErr result (IsAddFault running.old.table peer.now rows.now) }
+    ensures limits { OnOk result (node_total running.old.table peer.now + length rows.now ≤ max_rows) }
+    ensures same { OnErr result (running.new ≡ running.old) }
+{
+    running.table.join_remote(peer, rows)
+}
+
+/// Rows are taken from the peer's.
+fn take_rows(
+    running: &mut Running,
+    peer: &NodeName,
+    rows: &[Row],
+) -> Result<Vec<GroupChange>, TableFault>
+    requires { All (λ r. r.pid.node ≡ peer.now) rows.now }
+    ensures ok { OnOk result (HasBecome running.old running.new (count_after_take running.old.table rows.now) running.old.heard.items running.old.told.items) }
+    ensures change { IfOk result (λ groups. IsDifference (count_of running.old.table) (count_of running.new.table) groups.items) }
+    ensures refused { IfErr result (IsTakeFault running.old.table rows.now) }
+    ensures only { OnOk result (IsTrue (are_counted running.old.table rows.now)) }
+    ensures same { OnErr result (running.new ≡ running.old) }
+{
+    running.table.leave_remote(peer, rows)
+}
+
+/// The scope that a message is about.
+fn scope_in(message: &Message) -> &Scope
+    ensures { result.now ≡ scope_in message.now }
+{
+    match message {
+        Message::Discover(scope) => scope,
+        Message::Sync(scope, _) => scope,
+        Message::Join(scope, _) => scope,
+        Message::Leave(scope, _) => scope,
+        Message::Down(scope) => scope,
+    }
+}
+
+/// The first rule that a message on this link breaks, but for those that the table of the scope tells.
+fn refusal(link: &Link, running: &Running, message: &Message) -> Option<Rule>
+    ensures { result ≡ refusal link.now running.now.heard.items message.now }
+{
+    match message {
+        Message::Discover(_) | Message::Down(_) => None,
+        Message::Sync(_, rows) => foreign(link, rows),
+        Message::Join(_, rows) => unheard(link, running, rows),
+        Message::Leave(_, rows) => unheard(link, running, rows),
+    }
+}
+
+/// The first rule that further rows break, where only a heard link may have any.
+fn unheard(link: &Link, running: &Running, rows: &Rows) -> Option<Rule>
+    ensures { result ≡ cond (is_number link.now.number running.now.heard.items) (cond (are_of_peer link.now.state rows.now) None (Some Rule.ForeignPid)) (Some Rule.NotHeard) }
+{
+    if !running.heard.contains(&link.number()) {
+        return Some(Rule::NotHeard);
+    }
+    foreign(link, rows)
+}
+
+/// Whether a row's process isn't of the link's peer, or has another creation than the peer gave.
+fn foreign(link: &Link, rows: &Rows) -> Option<Rule>
+    ensures { result ≡ cond (are_of_peer link.now.state rows.now) None (Some Rule.ForeignPid) }
+{
+    let LinkState::Up(up) = link.state() else {
+        return Some(Rule::ForeignPid);
+    };
+    if are_from(up, rows) {
+        None
+    } else {
+        Some(Rule::ForeignPid)
+    }
+}
+
+fn are_from(up: &Up, rows: &Rows) -> bool
+    ensures { result ≡ list_all (λ r. same r.pid.node up.now.peer && r.pid.creation == up.now.creation) rows.now }
+{
+    rows.as_slice().iter().all(|row| is_from(up, row))
+}
+
+fn is_from(up: &Up, row: &Row) -> bool
+    ensures { result ≡ (same row.now.pid.node up.now.peer && row.now.pid.creation == up.now.creation) }
+{
+    row.pid.node == *up.peer() && row.pid.creation == up.creation()
+}
+
+/// The number is one of these from now on. There is room for it.
+fn note(numbers: &mut Vec<u32>, number: u32)
+    requires { vec_len numbers.old < vec_capacity numbers.old }
+    ensures { numbers.new.items ≡ with_number number numbers.old.items }
+{
+    if !numbers.contains(&number) {
+        numbers.push_reserved(number);
+    }
+}

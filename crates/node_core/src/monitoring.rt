@@ -1,0 +1,167 @@
+//! Monitors of groups and scopes.
+ghost use Rattle.std.specs.Prelude.{◌≡◌, true, false, map, IfOk};
+ghost use Rattle.policy_audit.specs.Own.{is_running};
+ghost use Rattle.policy_audit.specs.Contents.{members, contents};
+ghost use Rattle.std.specs.List.{AllByRecursion};
+ghost use Rattle.dist_types.specs.Listing.{IsPidListing, IsGroupListing};
+ghost use Rattle.scope_core.specs.Table.{count_of};
+ghost use Rattle.policy_audit.specs.Policy.{is_full};
+ghost use Rattle.node_core.specs.Step.{Steps};
+
+use crate::entering::accept;
+use crate::fault::CoreFault;
+use crate::node::NodeCore;
+use crate::running::Running;
+use dist_types::{Group, Items, OutOfMemory, Pids, Scope, TryClone};
+use group_monitors::{NoMonitor, UpdatesFault};
+use policy_audit::{Contents, Event, GroupPids, Reply, Rule};
+use std::alloc::Global;
+
+impl NodeCore {
+    /// The seat watches a group from now on.
+    #[tactic(auto, unfolding(crate::specs::Step::Steps))]
+    pub(crate) fn monitor(
+        &mut self,
+        seat: u32,
+        scope: Scope,
+        group: Group,
+    ) -> Result<Reply, CoreFault>
+        requires { is_full self.old ≡ false }
+        ensures { Steps self.old seat (Event.Monitor scope group) self.new result }
+    {
+        let Some(running) = self.running(&scope) else {
+            return self.refuse(seat, Event::Monitor(scope, group), Rule::NoScope);
+        };
+        let pids = Pids::of(running.table.members(&group)?);
+        self.watch_group(seat, scope, group, pids)
+    }
+
+    /// Enters a monitor of a group that has these members.
+    #[tactic(auto, unfolding(crate::specs::Step::Steps))]
+    fn watch_group(
+        &mut self,
+        seat: u32,
+        scope: Scope,
+        group: Group,
+        pids: Pids,
+    ) -> Result<Reply, CoreFault>
+        requires space { is_full self.old ≡ false }
+        requires runs { is_running self.old scope ≡ true }
+        requires members { pids ≡ members self.old scope group }
+        ensures { Steps self.old seat (Event.Monitor scope group) self.new result }
+    {
+        let number = self.next_number();
+        let told = pids.try_clone(self.alloc)?;
+        let place = scope.try_clone(self.alloc)?;
+        let watched = group.try_clone(self.alloc)?;
+        self.audit.make_room()?;
+        self.monitors.add_group(seat, number, place, watched)?;
+        accept(
+            &mut self.audit,
+            seat,
+            Event::Monitor(scope, group),
+            Reply::Ref { number, pids: told },
+            Vec::new(self.alloc),
+        );
+        Ok(Reply::Ref { number, pids })
+    }
+
+    /// The seat watches all groups of a scope from now on.
+    #[tactic(auto, unfolding(crate::specs::Step::Steps))]
+    pub(crate) fn monitor_scope(&mut self, seat: u32, scope: Scope) -> Result<Reply, CoreFault>
+        requires { is_full self.old ≡ false }
+        ensures { Steps self.old seat (Event.MonitorScope scope) self.new result }
+    {
+        let Some(running) = self.running(&scope) else {
+            return self.refuse(seat, Event::MonitorScope(scope), Rule::NoScope);
+        };
+        let groups = contents_of(self.alloc, running)?;
+        self.watch_scope(seat, scope, groups)
+    }
+
+    /// Enters a monitor of a scope that has these contents.
+    #[tactic(auto, unfolding(crate::specs::Step::Steps))]
+    fn watch_scope(&mut self, seat: u32, scope: Scope, groups: Contents) -> Result<Reply, CoreFault>
+        requires space { is_full self.old ≡ false }
+        requires runs { is_running self.old scope ≡ true }
+        requires contents { groups ≡ contents self.old scope }
+        ensures { Steps self.old seat (Event.MonitorScope scope) self.new result }
+    {
+        let number = self.next_number();
+        let told = groups.try_clone(self.alloc)?;
+        let watched = scope.try_clone(self.alloc)?;
+        self.audit.make_room()?;
+        self.monitors.add_scope(seat, number, watched)?;
+        accept(
+            &mut self.audit,
+            seat,
+            Event::MonitorScope(scope),
+            Reply::ScopeRef {
+                number,
+                groups: told,
+            },
+            Vec::new(self.alloc),
+        );
+        Ok(Reply::ScopeRef { number, groups })
+    }
+
+    /// The end of a monitor.
+    #[tactic(auto, unfolding(crate::specs::Step::Steps))]
+    pub(crate) fn demonitor(&mut self, seat: u32, number: u32) -> Result<Reply, CoreFault>
+        requires { is_full self.old ≡ false }
+        ensures { Steps self.old seat (Event.Demonitor number) self.new result }
+    {
+        self.audit.make_room()?;
+        if let Err(NoMonitor) = self.monitors.remove(seat, number) {
+            return self.refuse(seat, Event::Demonitor(number), Rule::NoMonitor);
+        }
+        accept(
+            &mut self.audit,
+            seat,
+            Event::Demonitor(number),
+            Reply::Done,
+            Vec::new(self.alloc),
+        );
+        Ok(Reply::Done)
+    }
+
+    /// What a monitor has not told yet.
+    #[tactic(auto, unfolding(crate::specs::Step::Steps))]
+    pub(crate) fn updates(&mut self, seat: u32, number: u32) -> Result<Reply, CoreFault>
+        requires { is_full self.old ≡ false }
+        ensures { Steps self.old seat (Event.Updates number) self.new result }
+    {
+        let updates = match self.monitors.updates(seat, number, &self.audit) {
+            Ok(updates) => updates,
+            Err(UpdatesFault::NoMonitor) => {
+                return self.refuse(seat, Event::Updates(number), Rule::NoMonitor);
+            }
+            Err(UpdatesFault::OutOfMemory) => return Err(CoreFault::OutOfMemory),
+        };
+        let told = updates.try_clone(self.alloc)?;
+        self.audit.make_room()?;
+        accept(
+            &mut self.audit,
+            seat,
+            Event::Updates(number),
+            Reply::Updates(told),
+            Vec::new(self.alloc),
+        );
+        // The monitor is there: it has just told its updates.
+        let _ = self.monitors.advance(seat, number, &self.audit);
+        Ok(Reply::Updates(updates))
+    }
+}
+
+/// The groups of a scope with their members.
+fn contents_of(alloc: Global, running: &Running) -> Result<Contents, OutOfMemory>
+    ensures groups { IfOk result (λ contents. IsGroupListing (count_of running.now.table) (map (λ c. c.group) contents)) }
+    ensures pids { IfOk result (λ contents. AllByRecursion (λ c. IsPidListing (count_of running.now.table c.group) c.pids) contents) }
+{
+    let mut contents = Vec::new(alloc);
+    for group in running.table.groups()? {
+        let pids = Pids::of(running.table.members(&group)?);
+        contents.push(GroupPids { group, pids })?;
+    }
+    Ok(Items::of(contents))
+}

@@ -1,0 +1,116 @@
+//! Calls that change nothing but the audit, and refusals.
+ghost use Rattle.std.specs.Prelude.{◌≡◌, Some, None, true, false, IfSome, IfNone};
+ghost use Rattle.policy_audit.specs.Own.{is_running};
+ghost use Rattle.policy_audit.specs.Checks.{checks, first_broken};
+ghost use Rattle.policy_audit.specs.Policy.{is_full, answer, IsLegal};
+ghost use Rattle.node_core.specs.ScopeFacts.{IsRunningOf, scope_words};
+ghost use Rattle.node_core.specs.Step.{Steps};
+ghost use Rattle.node_core.specs.Calm.{is_query, refuses_calmly};
+
+use crate::entering::{accept, reject};
+use crate::fault::CoreFault;
+use crate::node::NodeCore;
+use crate::running::{Running, find};
+use dist_types::{Group, Items, Pids, Scope, TryClone};
+use policy_audit::{Event, Reply, Rule};
+
+impl NodeCore {
+    /// Enters a refusal that ends no link.
+    #[tactic(auto, unfolding(crate::specs::Step::Steps))]
+    pub(crate) fn refuse(&mut self, seat: u32, event: Event, rule: Rule) -> Result<Reply, CoreFault>
+        requires space { is_full self.old ≡ false }
+        requires broken { first_broken (checks self.old seat event) ≡ Some rule }
+        requires calm { refuses_calmly self.old event rule ≡ true }
+        ensures { Steps self.old seat event self.new result }
+    {
+        self.audit.make_room()?;
+        reject(self.alloc, &mut self.audit, seat, event, rule);
+        Err(CoreFault::Refused(rule))
+    }
+
+    /// Enters the answer to a query.
+    #[tactic(auto, unfolding(crate::specs::Step::Steps))]
+    fn reply(&mut self, seat: u32, event: Event, reply: Reply) -> Result<Reply, CoreFault>
+        requires space { is_full self.old ≡ false }
+        requires holds { first_broken (checks self.old seat event) ≡ None }
+        requires answer { answer self.old seat event ≡ reply }
+        requires query { is_query event ≡ true }
+        ensures { Steps self.old seat event self.new result }
+    {
+        let kept = reply.try_clone(self.alloc)?;
+        self.audit.make_room()?;
+        accept(&mut self.audit, seat, event, kept, Vec::new(self.alloc));
+        Ok(reply)
+    }
+
+    /// The scope, if it runs.
+    pub(crate) fn running(&self, scope: &Scope) -> Option<&Running>
+        ensures found { IfSome result (λ r. (r.now.scope ≡ scope.now) × IsRunningOf (scope_words self.now) r.now × (is_running self.now scope.now ≡ true)) }
+        ensures none { IfNone result (is_running self.now scope.now ≡ false) }
+        ensures legal { IsLegal self.now }
+    {
+        find(&self.scopes, scope)
+    }
+
+    /// The processes of a group.
+    #[tactic(auto, unfolding(crate::specs::Step::Steps))]
+    pub(crate) fn members(
+        &mut self,
+        seat: u32,
+        scope: Scope,
+        group: Group,
+    ) -> Result<Reply, CoreFault>
+        requires { is_full self.old ≡ false }
+        ensures { Steps self.old seat (Event.Members scope group) self.new result }
+    {
+        let Some(running) = self.running(&scope) else {
+            return self.refuse(seat, Event::Members(scope, group), Rule::NoScope);
+        };
+        let pids = Pids::of(running.table.members(&group)?);
+        self.reply(seat, Event::Members(scope, group), Reply::Pids(pids))
+    }
+
+    /// The own processes of a group.
+    #[tactic(auto, unfolding(crate::specs::Step::Steps))]
+    pub(crate) fn local_members(
+        &mut self,
+        seat: u32,
+        scope: Scope,
+        group: Group,
+    ) -> Result<Reply, CoreFault>
+        requires { is_full self.old ≡ false }
+        ensures { Steps self.old seat (Event.LocalMembers scope group) self.new result }
+    {
+        let Some(running) = self.running(&scope) else {
+            return self.refuse(seat, Event::LocalMembers(scope, group), Rule::NoScope);
+        };
+        let pids = Pids::of(running.table.local_members(&group)?);
+        self.reply(seat, Event::LocalMembers(scope, group), Reply::Pids(pids))
+    }
+
+    /// The groups with a process.
+    #[tactic(auto, unfolding(crate::specs::Step::Steps))]
+    pub(crate) fn groups(&mut self, seat: u32, scope: Scope) -> Result<Reply, CoreFault>
+        requires { is_full self.old ≡ false }
+        ensures { Steps self.old seat (Event.Groups scope) self.new result }
+    {
+        let Some(running) = self.running(&scope) else {
+            return self.refuse(seat, Event::Groups(scope), Rule::NoScope);
+        };
+        let groups = Items::of(running.table.groups()?);
+        self.reply(seat, Event::Groups(scope), Reply::Groups(groups))
+    }
+
+    /// The groups with an own process.
+    #[tactic(auto, unfolding(crate::specs::Step::Steps))]
+    pub(crate) fn local_groups(&mut self, seat: u32, scope: Scope) -> Result<Reply, CoreFault>
+        requires { is_full self.old ≡ false }
+        ensures { Steps self.old seat (Event.LocalGroups scope) self.new result }
+    {
+        let Some(running) = self.running(&scope) else {
+            return self.refuse(seat, Event::LocalGroups(scope), Rule::NoScope);
+        };
+        let groups = Items::of(running.table.local_groups()?);
+        self.reply(seat, Event::LocalGroups(scope), Reply::Groups(groups))
+    }
+}

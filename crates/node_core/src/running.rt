@@ -1,0 +1,32 @@
+//! The scopes that run.
+ghost use Rattle.std.specs.Prelude.{◌≡◌, find, position};
+ghost use Rattle.std.specs.Option.{option_map};
+ghost use Rattle.dist_types.specs.Listing.{same};
+
+use dist_types::Scope;
+use scope_core::ScopeTable;
+
+/// A scope, with its rows and the links that it is shared over.
+#[derive(Debug, Drop)]
+pub struct Running {
+    pub scope: Scope,
+    pub table: ScopeTable,
+    /// The links whose peer has sent its rows, by number.
+    pub heard: Vec<u32>,
+    /// The links whose peer was sent the own rows, by number.
+    pub told: Vec<u32>,
+}
+
+/// The scope among these.
+pub fn find<'a>(scopes: &'a [Running], scope: &Scope) -> Option<&'a Running>
+    ensures { option_map (λ r. r.now) result ≡ find (λ r. same r.scope scope.now) scopes.now }
+{
+    scopes.iter().find(|running| running.scope == *scope)
+}
+
+/// The place of the scope among these.
+pub fn place_of(scopes: &[Running], scope: &Scope) -> Option<usize>
+    ensures { result ≡ position (λ r. same r.scope scope.now) scopes.now }
+{
+    scopes.iter().position(|running| running.scope == *scope)
+}

@@ -1,0 +1,181 @@
+//! What the told links are told of the own rows.
+ghost use Rattle.std.specs.Prelude.{◌≡◌, ◌≤◌, [], min, length, map, IfOk, OnOk, OnErr};
+ghost use Rattle.dist_types.specs.declared.pid.Pid.{Pid};
+ghost use Rattle.dist_types.specs.Listing.{mentions, Ascends};
+ghost use Rattle.dist_types.specs.Order.{pid_cmp};
+ghost use Rattle.policy_audit.specs.Owed.{wide};
+ghost use Rattle.node_core.specs.Links.{unroomed, with_prepared, prepared_for};
+ghost use Rattle.std.specs.List.{AllByRecursion};
+ghost use Rattle.dist_types.specs.Difference.{IsDifference};
+ghost use Rattle.scope_core.specs.Table.{count_of};
+ghost use Rattle.scope_core.specs.Calls.{count_after_exit};
+ghost use Rattle.node_core.specs.Telling.{AreIdle, Alike, IsBrief, is_said, said_to, from_pid, is_first, others, common};
+ghost use Rattle.node_core.specs.Exiting.{bare, exit_frames, ArePrepared, AreExits, AreExitsTold};
+
+use crate::changes::rows_left;
+use crate::link::Link;
+use crate::links::{commit, forget, prepare};
+use crate::running::Running;
+use dist_types::{GroupChange, Items, OutOfMemory, Pid, TryClone};
+use link_frames::{Message, Rows};
+use policy_audit::Change;
+use std::alloc::Global;
+
+/// Prepares a message for the links of these numbers, unless it brings no rows. Where memory is wanting, what was prepared
+/// before is dropped, too.
+pub fn tell(
+    alloc: Global,
+    links: &mut Vec<Link>,
+    numbers: &[u32],
+    message: Message,
+) -> Result<(), OutOfMemory>
+    requires { IsBrief message }
+    ensures ok { OnOk result (map unroomed links.new.items ≡ map (λ x. unroomed (prepared_for (said_to numbers.now message) (wide message) x)) links.old.items) }
+    ensures forgot { OnErr result (map unroomed links.new.items ≡ map (λ x. unroomed (with_prepared x [])) links.old.items) }
+{
+    if is_said(&message) {
+        prepare(alloc, links, numbers, &message)?;
+    }
+    Ok(())
+}
+
+/// Whether there is something to say: a Join and a Leave bring a row.
+fn is_said(message: &Message) -> bool
+    ensures { result ≡ is_said message.now }
+{
+    match message {
+        Message::Join(_, rows) => !rows.as_slice().is_empty(),
+        Message::Leave(_, rows) => !rows.as_slice().is_empty(),
+        _ => true,
+    }
+}
+
+/// The processes that leave, where those of the list leave that are members, each once per mention and membership.
+pub fn leaving(alloc: Global, members: Vec<Pid>, pids: &[Pid]) -> Result<Vec<Pid>, OutOfMemory>
+    requires { Ascends pid_cmp members.items }
+    ensures counts { IfOk result (λ gone. (p : Pid) → mentions p gone.items ≡ min (mentions p pids.now) (mentions p members.items)) }
+    ensures few { IfOk result (λ gone. length gone.items ≤ length members.items) }
+{
+    let mut named = Vec::new(alloc);
+    for pid in pids {
+        named.push(pid.try_clone(alloc)?)?;
+    }
+    named.sort_unstable();
+    common(alloc, members, &named)
+}
+
+/// What two ascending lists have in common.
+fn common(alloc: Global, members: Vec<Pid>, named: &[Pid]) -> Result<Vec<Pid>, OutOfMemory>
+    requires { Ascends pid_cmp named.now }
+    ensures { IfOk result (λ both. both.items ≡ common named.now members.items) }
+{
+    let mut both = Vec::new(alloc);
+    let mut rest = named;
+    for pid in members {
+        rest = from(rest, &pid);
+        if is_first(&pid, rest) {
+            both.push(pid)?;
+            rest = others(rest);
+        }
+    }
+    Ok(both)
+}
+
+/// Whether the process is the first of these.
+fn is_first(pid: &Pid, named: &[Pid]) -> bool
+    ensures { result ≡ is_first pid.now named.now }
+{
+    match named.first() {
+        Some(first) => *first == *pid,
+        None => false,
+    }
+}
+
+/// All but the first, if there is one.
+fn others(named: &[Pid]) -> &[Pid]
+    ensures { result.now ≡ others named.now }
+{
+    if named.is_empty() {
+        return named;
+    }
+    &named[1..]
+}
+
+/// Those of an ascending list that don't come before a process.
+fn from<'a>(named: &'a [Pid], pid: &Pid) -> &'a [Pid]
+    requires { Ascends pid_cmp named.now }
+    ensures { result.now ≡ from_pid pid.now named.now }
+{
+    let start = named.partition_point(|other| *other < *pid);
+    &named[start..]
+}
+
+/// A process leaves all scopes: a Leave of its rows waits for the links that are told there. Answers what will change. Where
+/// memory is wanting, nothing has changed.
+pub fn tell_exit(
+    alloc: Global,
+    links: &mut Vec<Link>,
+    scopes: &[Running],
+    pid: &Pid,
+) -> Result<Vec<Change>, OutOfMemory>
+    requires own { AllByRecursion (λ r. r.table.own ≡ pid.now.node) scopes.now }
+    requires idle { AreIdle links.old.items }
+    ensures told { IfOk result (λ changes. AreExitsTold pid.now scopes.now links.old.items links.new.items changes.items) }
+    ensures same { OnErr result (Alike links.old.items links.new.items) }
+{
+    match prepare_exit(alloc, links, scopes, pid) {
+        Ok(changes) => {
+            commit(links);
+            Ok(changes)
+        }
+        Err(fault) => {
+            forget(links);
+            Err(fault)
+        }
+    }
+}
+
+/// Prepares a Leave for each scope that the process leaves.
+fn prepare_exit(
+    alloc: Global,
+    links: &mut Vec<Link>,
+    scopes: &[Running],
+    pid: &Pid,
+) -> Result<Vec<Change>, OutOfMemory>
+    requires { AllByRecursion (λ r. r.table.own ≡ pid.now.node) scopes.now }
+    ensures told { IfOk result (λ changes. AreExits pid.now scopes.now links.old.items links.new.items changes.items) }
+    ensures same { OnErr result (map bare links.new.items ≡ map bare links.old.items) }
+{
+    let mut changes = Vec::new(alloc);
+    for running in scopes {
+        let groups = exit_one(alloc, links, running, pid)?;
+        if !groups.is_empty() {
+            changes.push(Change {
+                scope: running.scope.try_clone(alloc)?,
+                groups: Items::of(groups),
+            })?;
+        }
+    }
+    Ok(changes)
+}
+
+/// Prepares a Leave for one scope, if the process leaves it. Answers what will change there.
+fn exit_one(
+    alloc: Global,
+    links: &mut Vec<Link>,
+    running: &Running,
+    pid: &Pid,
+) -> Result<Vec<GroupChange>, OutOfMemory>
+    requires { running.now.table.own ≡ pid.now.node }
+    ensures groups { IfOk result (λ groups. IsDifference (count_of running.now.table) (count_after_exit running.now.table pid.now) groups.items) }
+    ensures told { IfOk result (λ groups. ArePrepared (exit_frames running.now groups.items) links.old.items links.new.items) }
+    ensures same { OnErr result (map bare links.new.items ≡ map bare links.old.items) }
+{
+    let groups = running.table.exit_change(pid)?;
+    if !groups.is_empty() {
+        let rows = Rows::of(rows_left(alloc, &groups)?);
+        let message = Message::Leave(running.scope.try_clone(alloc)?, rows);
+        tell(alloc, links, &running.told, message)?;
+    }
+    Ok(groups)
+}

@@ -1,0 +1,93 @@
+//! What a word can say.
+ghost use Rattle.std.specs.Prelude.{◌≡◌, List, ℕ, Option, Some, IfOk, IfErr};
+ghost use Rattle.pg_console.specs.Words.{number_of, text_of, name_of, pid_of, body_of};
+ghost use Rattle.pg_console.specs.Faults.{IsUnread};
+
+use crate::command::LineFault;
+use crate::values::{cut, long_number, number};
+use dist_types::{Cookie, Group, NodeName, Pid, Scope};
+use hex::FromHexError;
+use policy_audit::Body;
+use std::alloc::Global;
+
+/// A value that one word says.
+pub trait Argument: Sized {
+    ghost read: { List ℕ → Option Self };
+
+    fn of_word(alloc: Global, word: &[u8]) -> Result<Self, LineFault>
+        ensures ok { IfOk result (λ said. read word.now ≡ Some said) }
+        ensures fault { IfErr result (λ fault. IsUnread fault (read word.now)) };
+}
+
+impl Argument for u32 {
+    ghost read = { number_of };
+
+    fn of_word(_alloc: Global, word: &[u8]) -> Result<u32, LineFault> {
+        number(word).ok_or(LineFault::Script)
+    }
+}
+
+impl Argument for Scope {
+    ghost read = { text_of };
+
+    fn of_word(alloc: Global, word: &[u8]) -> Result<Scope, LineFault> {
+        Ok(Scope::parse(alloc, word)?)
+    }
+}
+
+impl Argument for Group {
+    ghost read = { text_of };
+
+    fn of_word(alloc: Global, word: &[u8]) -> Result<Group, LineFault> {
+        Ok(Group::parse(alloc, word)?)
+    }
+}
+
+impl Argument for Cookie {
+    ghost read = { text_of };
+
+    fn of_word(alloc: Global, word: &[u8]) -> Result<Cookie, LineFault> {
+        Ok(Cookie::parse(alloc, word)?)
+    }
+}
+
+impl Argument for NodeName {
+    ghost read = { name_of };
+
+    fn of_word(alloc: Global, word: &[u8]) -> Result<NodeName, LineFault> {
+        Ok(NodeName::parse(alloc, word)?)
+    }
+}
+
+impl Argument for Pid {
+    ghost read = { pid_of };
+
+    /// A process is written `name/creation/number`. The name may have slashes too.
+    fn of_word(alloc: Global, word: &[u8]) -> Result<Pid, LineFault> {
+        let (front, last) = cut(word).ok_or(LineFault::Script)?;
+        let (name, middle) = cut(front).ok_or(LineFault::Script)?;
+        let number = long_number(last).ok_or(LineFault::Script)?;
+        let creation = u32::of_word(alloc, middle)?;
+        let node = NodeName::of_word(alloc, name)?;
+        Ok(Pid {
+            node,
+            creation,
+            number,
+        })
+    }
+}
+
+impl Argument for Body {
+    ghost read = { body_of };
+
+    fn of_word(alloc: Global, word: &[u8]) -> Result<Body, LineFault> {
+        if word.is_empty() {
+            return Err(LineFault::Script);
+        }
+        match hex::decode(alloc, word) {
+            Ok(bytes) => Ok(Body::of(bytes)),
+            Err(FromHexError::OutOfMemory) => Err(LineFault::Memory),
+            Err(_) => Err(LineFault::Script),
+        }
+    }
+}

@@ -1,0 +1,115 @@
+//! Values as parts of an answer line.
+ghost use Rattle.std.specs.Prelude.{◌≡◌, ◌++◌, List, ℕ, OnOk, codes, decimal};
+ghost use Rattle.pg_console.specs.Answers.{spaced, pid_text, counted_text, group_text, update_text, frame_text};
+
+use dist_types::{Group, OutOfMemory, Pid, Pids};
+use itoa::Buffer;
+use policy_audit::{GroupPids, OutFrame, Update};
+use std::alloc::Global;
+
+/// A value that is printed as one or more words.
+pub trait Printed {
+    ghost text: { Self → List ℕ };
+
+    fn put(&self, alloc: Global, out: &mut Vec<u8>) -> Result<(), OutOfMemory>
+        ensures { OnOk result (out.new.items ≡ out.old.items ++ text self.now) };
+}
+
+impl Printed for Pid {
+    ghost text = { pid_text };
+
+    fn put(&self, _alloc: Global, out: &mut Vec<u8>) -> Result<(), OutOfMemory> {
+        out.extend_from_slice(self.node.as_bytes())?;
+        put_number("/", u64::from(self.creation), out)?;
+        put_number("/", self.number, out)
+    }
+}
+
+impl Printed for Group {
+    ghost text = { λ group. group };
+
+    fn put(&self, _alloc: Global, out: &mut Vec<u8>) -> Result<(), OutOfMemory> {
+        out.extend_from_slice(self.as_bytes())?;
+        Ok(())
+    }
+}
+
+impl Printed for GroupPids {
+    ghost text = { group_text };
+
+    fn put(&self, alloc: Global, out: &mut Vec<u8>) -> Result<(), OutOfMemory> {
+        out.extend_from_slice(self.group.as_bytes())?;
+        put_counted(alloc, &self.pids, out)
+    }
+}
+
+impl Printed for Update {
+    ghost text = { update_text };
+
+    fn put(&self, alloc: Global, out: &mut Vec<u8>) -> Result<(), OutOfMemory> {
+        let happened = if self.leave { "leave " } else { "join " };
+        out.extend_from_slice(happened.as_bytes())?;
+        out.extend_from_slice(self.group.as_bytes())?;
+        put_counted(alloc, &self.pids, out)
+    }
+}
+
+impl Printed for OutFrame {
+    ghost text = { frame_text };
+
+    fn put(&self, alloc: Global, out: &mut Vec<u8>) -> Result<(), OutOfMemory> {
+        out.extend_from_slice(hex::encode(alloc, self.body.as_slice())?.as_bytes())?;
+        Ok(())
+    }
+}
+
+/// Adds each value behind a space.
+pub fn put_each<T: Printed>(
+    alloc: Global,
+    items: &[T],
+    out: &mut Vec<u8>,
+) -> Result<(), OutOfMemory>
+    ensures { OnOk result (out.new.items ≡ out.old.items ++ spaced T.text items.now) }
+{
+    for item in items {
+        out.push(b' ')?;
+        item.put(alloc, out)?;
+    }
+    Ok(())
+}
+
+/// Adds how many processes there are, and each.
+fn put_counted(alloc: Global, pids: &Pids, out: &mut Vec<u8>) -> Result<(), OutOfMemory>
+    ensures { OnOk result (out.new.items ≡ out.old.items ++ counted_text pids.now) }
+{
+    let pids = pids.as_slice();
+    put_number(" ", pids.len() as u64, out)?;
+    put_each(alloc, pids, out)
+}
+
+/// Adds a word and a number.
+pub fn put_number(word: &str, number: u64, out: &mut Vec<u8>) -> Result<(), OutOfMemory>
+    ensures { OnOk result (out.new.items ≡ out.old.items ++ word.now ++ decimal number) }
+{
+    let mut digits = Buffer::new();
+    out.extend_from_slice(word.as_bytes())?;
+    out.extend_from_slice(digits.format(number).as_bytes())?;
+    Ok(())
+}
+
+/// Adds a line of a word and a number.
+pub fn put_numbered_line(word: &str, number: u64, out: &mut Vec<u8>) -> Result<(), OutOfMemory>
+    ensures { OnOk result (out.new.items ≡ out.old.items ++ word.now ++ decimal number ++ codes "\n") }
+{
+    put_number(word, number, out)?;
+    out.push(b'\n')?;
+    Ok(())
+}
+
+/// Adds a word.
+pub fn put_word(word: &str, out: &mut Vec<u8>) -> Result<(), OutOfMemory>
+    ensures { OnOk result (out.new.items ≡ out.old.items ++ word.now) }
+{
+    out.extend_from_slice(word.as_bytes())?;
+    Ok(())
+}

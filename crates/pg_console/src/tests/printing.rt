@@ -1,0 +1,142 @@
+//! Answers as lines.
+use crate::answers::{put_entry, put_step};
+use dist_types::{Group, Items, NodeName, Pid, Pids};
+use node_core::CoreFault;
+use policy_audit::{Body, Entry, Event, GroupPids, OutFrame, Reply, Rule, Update, Verdict};
+use std::alloc::Global;
+use std::process::Abort;
+use std::test::Fail;
+
+/// Processes of a@h with creation 5 and these numbers.
+fn pids(alloc: Global, numbers: &[u64]) -> Result<Pids, Fail> {
+    let mut pids = Vec::new(alloc);
+    for number in numbers {
+        let node = NodeName::parse(alloc, b"a@h")?;
+        pids.push(Pid {
+            node,
+            creation: 5,
+            number: *number,
+        })?;
+    }
+    Ok(Items::of(pids))
+}
+
+fn group(alloc: Global) -> Result<Group, Fail> {
+    Ok(Group::parse(alloc, b"g")?)
+}
+
+/// Sees that a step's answer has this line.
+fn prints<R: AllocGlobal + Abort>(
+    rt: &R,
+    stepped: Result<Reply, CoreFault>,
+    line: &str,
+) -> Result<(), Fail> {
+    let mut out = Vec::new(rt.alloc());
+    put_step(rt.alloc(), &stepped, &mut out)?;
+    assert_eq!(rt; out.as_slice(), line.as_bytes(), "{line}");
+    Ok(())
+}
+
+#[test]
+fn prints_short_answers(rt: HostRuntime) -> Result<(), Fail> {
+    let alloc = rt.alloc();
+    prints(&rt, Ok(Reply::Done), "ok\n")?;
+    prints(&rt, Ok(Reply::Link(7)), "link 7\n")?;
+    let up = Reply::Up {
+        peer: NodeName::parse(alloc, b"a@h")?,
+        creation: 5,
+        visible: true,
+    };
+    prints(&rt, Ok(up), "up a@h 5 visible\n")?;
+    let refused = CoreFault::Refused(Rule::CreationSpent);
+    prints(&rt, Err(refused), "refused 32 CreationSpent\n")?;
+    prints(&rt, Err(CoreFault::OutOfMemory), "memory\n")
+}
+
+#[test]
+fn prints_processes(rt: HostRuntime) -> Result<(), Fail> {
+    let alloc = rt.alloc();
+    for pid in pids(alloc, &[u64::MAX])?.into_vec() {
+        prints(&rt, Ok(Reply::Pid(pid)), "pid a@h/5/18446744073709551615\n")?;
+    }
+    prints(&rt, Ok(Reply::Pids(pids(alloc, &[])?)), "pids\n")?;
+    let two = Reply::Pids(pids(alloc, &[1, 2])?);
+    prints(&rt, Ok(two), "pids a@h/5/1 a@h/5/2\n")?;
+    let pids = pids(alloc, &[1, 1])?;
+    let watched = Reply::Ref { number: 8, pids };
+    prints(&rt, Ok(watched), "ref 8 a@h/5/1 a@h/5/1\n")
+}
+
+#[test]
+fn prints_groups(rt: HostRuntime) -> Result<(), Fail> {
+    let alloc = rt.alloc();
+    let mut groups = Vec::new(alloc);
+    groups.push(group(alloc)?)?;
+    groups.push(Group::parse(alloc, b"h")?)?;
+    prints(&rt, Ok(Reply::Groups(Items::of(groups))), "groups g h\n")?;
+    let mut contents = Vec::new(alloc);
+    contents.push(GroupPids {
+        group: group(alloc)?,
+        pids: pids(alloc, &[1, 2])?,
+    })?;
+    let groups = Items::of(contents);
+    let watched = Reply::ScopeRef { number: 9, groups };
+    prints(&rt, Ok(watched), "ref 9 g 2 a@h/5/1 a@h/5/2\n")
+}
+
+#[test]
+fn prints_updates(rt: HostRuntime) -> Result<(), Fail> {
+    let alloc = rt.alloc();
+    let mut updates = Vec::new(alloc);
+    for leave in [true, false] {
+        updates.push(Update {
+            group: group(alloc)?,
+            leave,
+            pids: pids(alloc, &[3])?,
+        })?;
+    }
+    let told = Reply::Updates(Items::of(updates));
+    prints(
+        &rt,
+        Ok(told),
+        "updates leave g 1 a@h/5/3 join g 1 a@h/5/3\n",
+    )
+}
+
+#[test]
+fn prints_frames(rt: HostRuntime) -> Result<(), Fail> {
+    let alloc = rt.alloc();
+    let mut frames = Vec::new(alloc);
+    for bytes in [b"sok".as_slice(), b"\x00\xff".as_slice()] {
+        let mut body = Vec::new(alloc);
+        body.extend_from_slice(bytes)?;
+        frames.push(OutFrame {
+            wide: false,
+            body: Body::of(body),
+        })?;
+    }
+    prints(&rt, Ok(Reply::Out(Items::of(frames))), "out 736f6b 00ff\n")
+}
+
+/// Sees that an entry has this line.
+fn prints_entry<R: AllocGlobal + Abort>(rt: &R, verdict: Verdict, line: &str) -> Result<(), Fail> {
+    let entry = Entry {
+        number: 2,
+        seat: 4_294_967_295,
+        event: Event::Opened(123),
+        verdict,
+        change: Items::of(Vec::new(rt.alloc())),
+    };
+    let mut out = Vec::new(rt.alloc());
+    put_entry(Some(&entry), &mut out)?;
+    assert_eq!(rt; out.as_slice(), line.as_bytes(), "{line}");
+    Ok(())
+}
+
+#[test]
+fn prints_entries_without_arguments(rt: HostRuntime) -> Result<(), Fail> {
+    let accepted = Verdict::Accepted(Reply::Link(2));
+    prints_entry(&rt, accepted, "2 4294967295 Opened accepted\n")?;
+    let refused = Verdict::Refused(Rule::LinksFull);
+    prints_entry(&rt, refused, "2 4294967295 Opened refused 27 LinksFull\n")
+}

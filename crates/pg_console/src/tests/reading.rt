@@ -1,0 +1,150 @@
+//! Lines that are commands, and lines that are not.
+use crate::command::{Command, LineFault, parse};
+use crate::event_kind::kind;
+use dist_types::{NodeName, Pid};
+use policy_audit::Event;
+use std::test::Fail;
+
+/// Each command on events, with the kind of its event.
+const COMMANDS: [(&str, &str); 29] = [
+    ("restart", "Restart"),
+    ("cookie secret", "SetCookie"),
+    ("cookie_for a@h secret", "SetCookieFor"),
+    ("allow", "Allow"),
+    ("allow a@h c@h a@h", "Allow"),
+    ("start pg", "StartScope"),
+    ("stop pg", "StopScope"),
+    ("spawn", "Spawn"),
+    ("exit b@h/4/1", "Exit"),
+    ("join pg g", "Join"),
+    ("join pg g b@h/4/1 b@h/4/1", "Join"),
+    ("leave pg g", "Leave"),
+    ("leave pg g b@h/4/1", "Leave"),
+    ("members pg g", "Members"),
+    ("local_members pg g", "LocalMembers"),
+    ("groups pg", "Groups"),
+    ("local_groups pg", "LocalGroups"),
+    ("monitor pg g", "Monitor"),
+    ("monitor_scope pg", "MonitorScope"),
+    ("demonitor 8", "Demonitor"),
+    ("updates 8", "Updates"),
+    ("dial a@h 7", "Dial"),
+    ("opened 4294967295", "Opened"),
+    ("lost 1", "Lost"),
+    ("take 0", "Take"),
+    ("disconnect a@h", "Disconnect"),
+    ("frame 1 4e", "Frame"),
+    ("frame 1 4eFf", "Frame"),
+    ("exit b@h/0/18446744073709551615", "Exit"),
+];
+
+/// Unknown commands, wrong numbers of words, and words that are empty or can't be read.
+const FAULTS: [&str; 72] = [
+    "spwan",
+    "SPAWN",
+    " spawn",
+    "spawn ",
+    "spawn 1",
+    "spawn\r",
+    "spawn\t",
+    "restart 1",
+    "size 1",
+    "size ",
+    "seat",
+    "seat ",
+    "seat -1",
+    "seat +1",
+    "seat 01",
+    "seat 00",
+    "seat 4294967296",
+    "seat 1 2",
+    "seat 1\r",
+    "audit",
+    "audit x",
+    "audit 1 2",
+    "cookie",
+    "cookie ",
+    "cookie a b",
+    "cookie \u{7f}",
+    "cookie_for a@h",
+    "cookie_for ah secret",
+    "cookie_for a@h secret more",
+    "allow ",
+    "allow a@h  c@h",
+    "allow a@h c",
+    "start",
+    "start pg pg",
+    "stop",
+    "stop pg ",
+    "exit",
+    "exit b@h",
+    "exit b@h/4",
+    "exit b@h/4/",
+    "exit b@h//1",
+    "exit /4/1",
+    "exit bh/4/1",
+    "exit b@h/04/1",
+    "exit b@h/4/01",
+    "exit b@h/4294967296/1",
+    "exit b@h/4/18446744073709551616",
+    "exit b@h/4/1 b@h/4/1",
+    "join",
+    "join pg",
+    "join pg ",
+    "join pg g ",
+    "join pg g b@h",
+    "leave pg",
+    "leave pg g  b@h/4/1",
+    "members pg",
+    "members pg g g",
+    "local_members pg",
+    "groups",
+    "groups pg g",
+    "local_groups",
+    "monitor pg",
+    "monitor_scope pg g",
+    "demonitor",
+    "updates x",
+    "dial a@h",
+    "dial a@h 4294967296",
+    "dial a@@h 1",
+    "frame 1",
+    "frame 1 ",
+    "frame 1 4",
+    "frame 1 4g",
+];
+
+#[test]
+fn reads_each_command(rt: HostRuntime) -> Result<(), Fail> {
+    for (line, wanted) in COMMANDS {
+        match parse(rt.alloc(), line.as_bytes()) {
+            Ok(Command::Step(event)) => assert_eq!(rt; kind(&event), wanted, "{line}"),
+            _ => assert!(rt; false, "{line}"),
+        }
+    }
+    Ok(())
+}
+
+#[test]
+fn refuses_lines_that_are_no_commands(rt: HostRuntime) -> Result<(), Fail> {
+    for line in FAULTS {
+        let said = parse(rt.alloc(), line.as_bytes());
+        assert_eq!(rt; said.err(), Some(LineFault::Script), "{line}");
+    }
+    Ok(())
+}
+
+/// The last two slashes part a process.
+#[test]
+fn reads_a_name_with_slashes(rt: HostRuntime) -> Result<(), Fail> {
+    let process = Pid {
+        node: NodeName::parse(rt.alloc(), b"a/b@h/1")?,
+        creation: 4,
+        number: 1,
+    };
+    match parse(rt.alloc(), b"exit a/b@h/1/4/1") {
+        Ok(Command::Step(event)) => assert!(rt; event == Event::Exit(process)),
+        _ => assert!(rt; false),
+    }
+    Ok(())
+}
