@@ -56,7 +56,7 @@ impl Model for NodeCore {
 }
 
 impl NodeCore {
-    /// A node that has seen nothing.
+    /// A node that has seen nothing. `BadLimit` where the opening allows no entry.
     pub fn new(alloc: Global, opening: Opening) -> Result<NodeCore, OpenFault>
         ensures ok { IfOk result (λ core. core ≡ past opening []) }
         ensures refused { IfErr result (λ fault. IsOpenFault fault opening) }
@@ -81,7 +81,7 @@ impl NodeCore {
         })
     }
 
-    /// All entries so far.
+    /// All entries so far, refusals among them.
     pub fn audit(&self) -> &Audit
         ensures entries { result.now.entries ≡ self.now.entries }
         ensures limit { result.now.limit ≡ self.now.opening.entries }
@@ -119,7 +119,7 @@ impl NodeCore {
         &self.opening.name
     }
 
-    /// The table of a scope that runs. It is of this node, and counts what is listed.
+    /// The table of a scope, if it runs. It is of this node, and counts what is listed.
     pub fn table(&self, scope: &Scope) -> Option<&ScopeTable>
         ensures runs { is_some result ≡ is_running self.now scope.now }
         ensures own { IfSome result (λ table. table.now.own ≡ self.now.opening.name) }
@@ -128,7 +128,8 @@ impl NodeCore {
         Some(&self.running(scope)?.table)
     }
 
-    /// How many frames wait for a link, if it is kept.
+    /// How many frames wait for a link, if it is kept: while it is open, or has frames that waited when a refused frame of its
+    /// own ended it.
     pub fn waiting(&self, link: u32) -> Option<usize>
         ensures { result ≡ cond (is_kept self.now link) (Some (length (waiting self.now link))) None }
     {
@@ -136,7 +137,8 @@ impl NodeCore {
         Some(self.links[place].frames().len())
     }
 
-    /// Answers an event of a seat by the policy, and enters it.
+    /// Answers an event of a seat by the written policy, and enters it with what it changed. `Refused` names the first rule
+    /// that the event breaks; that is an entry, too, unless the audit is full. After `OutOfMemory` nothing has happened.
     pub fn step(&mut self, seat: u32, event: Event) -> Result<Reply, CoreFault>
         ensures { IsStepped self.old seat event self.new result }
     {
