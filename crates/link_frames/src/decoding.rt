@@ -17,6 +17,9 @@ use std::alloc::Global;
 /// The most rows of a message.
 const MAX_ROWS: u32 = 4096;
 
+/// The fewest bytes of a row: lengths 1 and 2, a group of 1, a name of 3, creation 4, number 8.
+const MIN_ROW: usize = 19;
+
 /// Reads a message: the kind byte `D`, `S`, `J`, `L` or `X`, the scope behind its length of 1 byte, and for `S`, `J` and
 /// `L` the count of the rows in 4 bytes and the rows, with nothing after them. A row is the group behind its length of
 /// 1 byte, the name behind its length of 2 bytes, the creation in 4 and the number in 8.
@@ -84,9 +87,10 @@ fn rows_of(alloc: Global, count: u32, bytes: &[u8]) -> Result<Rows, MessageFault
         MatchResult result (λ read. read ≡ rows) (λ fault. fault ≡ faults.OutOfMemory) }
 {
     let mut rest = bytes;
-    let mut rows = Vec::new(alloc);
+    // Room for no more rows than the bytes can hold, whatever the count.
+    let mut rows = Vec::with_capacity(alloc, (count as usize).min(bytes.len() / MIN_ROW))?;
     for _ in 0..count {
-        let (row, behind) = row_at(alloc, rest)?;
+        let (row, behind) = row_at(alloc, rest, rows.last())?;
         rows.push(row)?;
         rest = behind;
     }

@@ -37,6 +37,22 @@ impl From<TextFault> for MessageFault {
     }
 }
 
+impl From<OutOfMemory> for MessageFault {
+    ghost from_gives = { λ _ fault. fault ≡ faults.OutOfMemory };
+
+    fn from(_error: OutOfMemory) -> MessageFault {
+        MessageFault::OutOfMemory
+    }
+}
+
+impl From<AllocError> for MessageFault {
+    ghost from_gives = { λ _ fault. fault ≡ faults.OutOfMemory };
+
+    fn from(_error: AllocError) -> MessageFault {
+        MessageFault::OutOfMemory
+    }
+}
+
 impl<T: Drop> From<AllocFailed<T>> for MessageFault {
     ghost from_gives = { λ _ fault. fault ≡ faults.OutOfMemory };
 
