@@ -1,5 +1,5 @@
 -- Rows that are counted more often than among others.
-use Rattle.std.specs.Prelude.{◌≡◌, ℕ, ◌+◌, ◌-◌, Bool, true, false, cond, nat_lt, List, [], ◌∷◌, ◌++◌}
+use Rattle.std.specs.Prelude.{◌≡◌, ℕ, ◌+◌, ◌-◌, Bool, true, false, cond, nat_lt, List, [], ◌∷◌, ◌++◌, length}
 use Rattle.std.proofs.Common.{refl, ap, ◌∙◌, sym, arith}
 use Rattle.std.specs.declared.cmp.Ordering.TheVariants.{Less}
 use Rattle.std.specs.List.{AllByRecursion}
@@ -71,12 +71,12 @@ beyond_counts n cs others r g p =
     ∙ share_is (more_in n others g) (more_part n others g) g p cs r
 
 -- the change where the rows take the place of those of the node
-pub synced_change : (n : List ℕ) (rows : List Row) (cs counted new : List Counted) (changes : List GroupChange) → Rises counted_cmp cs → Rises counted_cmp counted → Adds rows [] counted
+pub synced_change : (n : List ℕ) (rows : List Row) (cs counted : List Counted) (changes : List GroupChange) → Rises counted_cmp cs → Rises counted_cmp counted → Adds rows [] counted
     → Tells (λ c. c.count) (picked (times_beyond n counted) cs) (picked (times_beyond n cs) counted) changes
-    → ((g : List ℕ) (p : Pid) → tally (is_row g p) new ≡ cond (same p.node n) (how_many (is_row g p) rows) (tally (is_row g p) cs))
-    → IsDifference (λ g p. tally (is_row g p) cs) (λ g p. tally (is_row g p) new) changes
-synced_change n rows cs counted new changes r s counts told is =
-    told (λ g p. tally (is_row g p) cs) (λ g p. tally (is_row g p) new)
+    → (after : List ℕ → Pid → ℕ) → ((g : List ℕ) (p : Pid) → after g p ≡ cond (same p.node n) (how_many (is_row g p) rows) (tally (is_row g p) cs))
+    → IsDifference (λ g p. tally (is_row g p) cs) after changes
+synced_change n rows cs counted changes r s counts told after is =
+    told (λ g p. tally (is_row g p) cs) after
     (λ g p. fewer (same p.node n) (tally (is_row g p) cs) (tally (is_row g p) counted) (how_many (is_row g p) rows) (counts (is_row g p)) (is g p) ∙ sym (beyond_counts n cs counted r g p))
     (λ g p. further (same p.node n) (tally (is_row g p) cs) (tally (is_row g p) counted) (how_many (is_row g p) rows) (counts (is_row g p)) (is g p) ∙ sym (beyond_counts n counted cs s g p))
   where
@@ -87,3 +87,8 @@ synced_change n rows cs counted new changes r s counts told is =
     further : (b : Bool) (old given listed : ℕ) {after : ℕ} → given ≡ 0 + listed → after ≡ cond b listed old → after - old ≡ cond b (given - old) 0
     further true old given listed e f = omega (arith, e, f)
     further false old given listed e f = omega (arith, f)
+
+-- where no group changes, nothing does
+pub unchanged : (before after : List ℕ → Pid → ℕ) (changes : List GroupChange) → length changes ≡ 0 → IsDifference before after changes → (g : List ℕ) (p : Pid) → before g p ≡ after g p
+unchanged before after [] e d g p = omega (arith, d.left g p, d.joined g p)
+unchanged before after (c ∷ cs) e d g p = absurd (omega (arith, e))

@@ -16,3 +16,4 @@ pub mod Moved
 pub mod Members
 pub mod Lower
 pub mod Merging
+pub mod Own

@@ -39,7 +39,7 @@ module _ (n : List ℕ) where
   all_pass [] a = refl
   all_pass (r ∷ rows) a = ap (λ b. cond b (suc (how_many (is_of_node n) rows)) (how_many (is_of_node n) rows)) ((same_decides r.pid.node n).1 a.0) ∙ ap suc (all_pass rows a.1)
 
-  others_fail : (node : List ℕ) (rows : List Row) → AreOf rows → same n node ≡ false → AllByRecursion (λ r. is_of_node node r ≡ false) rows
+  pub others_fail : (node : List ℕ) (rows : List Row) → AreOf rows → same n node ≡ false → AllByRecursion (λ r. is_of_node node r ≡ false) rows
   others_fail node [] a e = tt
   others_fail node (r ∷ rows) a e = (ap (λ m. same m node) a.0 ∙ e, others_fail node rows a.1 e)
 

@@ -35,7 +35,7 @@ module _ (keep : Counted → Bool) where
       ] refl
 
   -- where each that goes fails the test, all are counted
-  tally_all : (test : Row → Bool) → ((c : Counted) → keep c ≡ false → test c.row ≡ false) → (cs : List Counted) → tally test (filter keep cs) ≡ tally test cs
+  pub tally_all : (test : Row → Bool) → ((c : Counted) → keep c ≡ false → test c.row ≡ false) → (cs : List Counted) → tally test (filter keep cs) ≡ tally test cs
   tally_all test h [] = refl
   tally_all test h (c ∷ cs) =
       elim (keep c) as (λ v. keep c ≡ v → tally test (cond v (c ∷ filter keep cs) (filter keep cs)) ≡ cond (test c.row) c.count 0 + tally test cs) [

@@ -47,7 +47,8 @@ pub fn replace_node(
     put_in(rows, more, spare);
 }
 
-/// Puts rows in, into the room that there is: by a merge, where there is spare room for all.
+/// Puts rows in, into the room that there is: by a merge, where there is spare room for all. Where there are no others, they
+/// need no merge.
 pub fn put_in(rows: &mut Vec<Counted>, more: Vec<Counted>, spare: Vec<Counted>)
     requires room { vec_len rows.old + vec_len more ≤ vec_capacity rows.old }
     requires empty { spare.items ≡ [] }
@@ -57,7 +58,9 @@ pub fn put_in(rows: &mut Vec<Counted>, more: Vec<Counted>, spare: Vec<Counted>)
     ensures added { Joins more.items rows.old.items rows.new.items }
     ensures kept { IsKept rows.new.items }
 {
-    if spare.capacity() < rows.capacity() {
+    if rows.is_empty() {
+        *rows = more;
+    } else if spare.capacity() < rows.capacity() {
         add_each(rows, more);
     } else {
         merge(rows, more, spare);

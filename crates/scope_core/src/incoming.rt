@@ -9,7 +9,7 @@ ghost use Rattle.scope_core.specs.Beyond.{times_beyond, picked};
 use crate::changes::copies_of;
 use crate::counted::Counted;
 use crate::edits::add_all;
-use crate::reads::place_of;
+use crate::reads::place_next;
 use dist_types::{NodeName, OutOfMemory, Row, TryClone};
 use std::alloc::Global;
 
@@ -64,8 +64,9 @@ pub fn beyond(
     ensures { IfOk result (λ more. more.items ≡ picked (times_beyond node.now others.now) rows.now) }
 {
     let mut more = Vec::new(alloc);
+    let mut next = 0;
     for counted in rows {
-        let count = count_beyond(counted, node, others);
+        let count = count_beyond(counted, node, others, &mut next);
         if count > 0 {
             let row = counted.row.try_clone(alloc)?;
             more.push(Counted { row, count })?;
@@ -75,23 +76,25 @@ pub fn beyond(
 }
 
 /// How much more often a row of the node is counted than among the others.
-fn count_beyond(counted: &Counted, node: &NodeName, others: &[Counted]) -> u32
+fn count_beyond(counted: &Counted, node: &NodeName, others: &[Counted], next: &mut usize) -> u32
     requires { Rises counted_cmp others.now }
     ensures { result ≡ times_beyond node.now others.now counted.now }
 {
     if counted.row.pid.node == *node {
-        counted.count.saturating_sub(count_at(others, &counted.row))
+        counted
+            .count
+            .saturating_sub(count_at(others, &counted.row, next))
     } else {
         0
     }
 }
 
 /// How often a row is counted.
-pub fn count_at(rows: &[Counted], row: &Row) -> u32
+fn count_at(rows: &[Counted], row: &Row, next: &mut usize) -> u32
     requires { Rises counted_cmp rows.now }
     ensures { result ≡ tally (is_row row.now.group row.now.pid) rows.now }
 {
-    match place_of(rows, &row.group, &row.pid) {
+    match place_next(rows, next, &row.group, &row.pid) {
         Ok(at) => rows[at].count,
         Err(_) => 0,
     }

@@ -8,7 +8,7 @@ ghost use Rattle.scope_core.specs.Table.{tally, counted_cmp, is_row, IsKept};
 ghost use Rattle.scope_core.specs.Added.{bare_rows, are_all_in, Adds, Takes, HasRoomFor};
 
 use crate::counted::Counted;
-use crate::reads::place_of;
+use crate::reads::place_next;
 use dist_types::Row;
 
 /// Whether each row stands in the list at most as often as it is counted. Counts are lowered as far as this goes, and
@@ -45,8 +45,9 @@ fn lower(rows: &mut Vec<Counted>, gone: &[Row]) -> usize
     ensures same { bare_rows rows.new.items ≡ bare_rows rows.old.items }
 {
     let mut lowered = 0;
+    let mut next = 0;
     for row in gone {
-        if !lower_one(rows, row) {
+        if !lower_one(rows, row, &mut next) {
             return lowered;
         }
         lowered += 1;
@@ -55,12 +56,12 @@ fn lower(rows: &mut Vec<Counted>, gone: &[Row]) -> usize
 }
 
 /// One less of a row. Answers whether there is one.
-fn lower_one(rows: &mut Vec<Counted>, row: &Row) -> bool
+fn lower_one(rows: &mut Vec<Counted>, row: &Row, next: &mut usize) -> bool
     requires { Rises counted_cmp rows.old.items }
     ensures taken { Takes result row.now rows.old.items rows.new.items }
     ensures same { bare_rows rows.new.items ≡ bare_rows rows.old.items }
 {
-    match place_of(rows, &row.group, &row.pid) {
+    match place_next(rows, next, &row.group, &row.pid) {
         Ok(at) => lower_at(rows, at),
         Err(_) => false,
     }
@@ -88,20 +89,21 @@ fn raise(rows: &mut Vec<Counted>, back: &[Row])
     ensures raised { Adds back.now rows.old.items rows.new.items }
     ensures same { bare_rows rows.new.items ≡ bare_rows rows.old.items }
 {
+    let mut next = 0;
     for row in back {
-        raise_one(rows, row);
+        raise_one(rows, row, &mut next);
     }
 }
 
 /// One more of a row that stands there.
-fn raise_one(rows: &mut Vec<Counted>, row: &Row)
+fn raise_one(rows: &mut Vec<Counted>, row: &Row, next: &mut usize)
     requires rises { Rises counted_cmp rows.old.items }
     requires few { HasRoomFor (row.now ∷ []) rows.old.items }
     requires stands { 0 < how_many (is_row row.now.group row.now.pid) (bare_rows rows.old.items) }
     ensures raised { Adds (row.now ∷ []) rows.old.items rows.new.items }
     ensures same { bare_rows rows.new.items ≡ bare_rows rows.old.items }
 {
-    match place_of(rows, &row.group, &row.pid) {
+    match place_next(rows, next, &row.group, &row.pid) {
         Ok(at) => rows[at].count += 1,
         // It stands there.
         Err(_) => {}

@@ -38,6 +38,13 @@ pub fn total_of(rows: &[Counted], node: &NodeName) -> usize
     total
 }
 
+/// Whether a process of the node has a row.
+pub fn has_rows(rows: &[Counted], node: &NodeName) -> bool
+    ensures { result ≡ list_any (λ c. is_of_node node.now c.row) rows.now }
+{
+    rows.iter().any(|counted| counted.row.pid.node == *node)
+}
+
 /// The processes of the rows, each as often as it belongs to the part.
 pub fn pids_of(alloc: Global, rows: &[Counted], part: Part<'_>) -> Result<Vec<Pid>, OutOfMemory>
     ensures { IfOk result (λ pids. pids.items ≡ spread (λ c. c.row.pid) (times_of part.entry) rows.now) }
@@ -125,6 +132,52 @@ pub fn place_of(rows: &[Counted], group: &Group, pid: &Pid) -> Result<usize, usi
     rows.binary_search_by(|counted| order_of(&counted.row, group, pid))
 }
 
+/// The same for rows that are looked for in their order: each is likely to be at the place behind the last one.
+pub fn place_next(
+    rows: &[Counted],
+    next: &mut usize,
+    group: &Group,
+    pid: &Pid,
+) -> Result<usize, usize>
+    requires { Rises counted_cmp rows.now }
+    ensures bound { IfOk result (λ i. i < length rows.now) }
+    ensures found { IfOk result (HoldsAt (λ c. c.row ≡ row_in group.now pid.now) rows.now) }
+    ensures end { IfErr result (λ i. i ≤ length rows.now) }
+    ensures gap { IfErr result (IsGap (row_in group.now pid.now) rows.now) }
+{
+    let place = if is_at(rows, *next, group, pid) {
+        Ok(*next)
+    } else {
+        place_of(rows, group, pid)
+    };
+    *next = match place {
+        Ok(at) => at + 1,
+        Err(at) => at,
+    };
+    place
+}
+
+/// Whether the row of a group and a process is at this place.
+fn is_at(rows: &[Counted], at: usize, group: &Group, pid: &Pid) -> bool
+    ensures bound { IsTrue result → at < length rows.now }
+    ensures found { IsTrue result → HoldsAt (λ c. c.row ≡ row_in group.now pid.now) rows.now at }
+{
+    match rows.get(at) {
+        Some(counted) => is_row(&counted.row, group, pid),
+        None => false,
+    }
+}
+
+/// Whether it is the row of a group and a process. Numbers come first: they differ the most, and are compared the soonest.
+fn is_row(row: &Row, group: &Group, pid: &Pid) -> bool
+    ensures { result ≡ is_row group.now pid.now row.now }
+{
+    row.pid.number == pid.number
+        && row.pid.creation == pid.creation
+        && row.group == *group
+        && row.pid.node == pid.node
+}
+
 /// Whether the row of a group and a process goes behind all others, as each does where rows come in order.
 fn is_behind(rows: &[Counted], group: &Group, pid: &Pid) -> bool
     requires { Rises counted_cmp rows.now }
@@ -140,5 +193,8 @@ fn is_behind(rows: &[Counted], group: &Group, pid: &Pid) -> bool
 fn order_of(row: &Row, group: &Group, pid: &Pid) -> Ordering
     ensures { result ≡ row_cmp row.now (row_in group.now pid.now) }
 {
-    row.group.cmp(group).then(row.pid.cmp(pid))
+    match row.group.cmp(group) {
+        Ordering::Equal => row.pid.cmp(pid),
+        order => order,
+    }
 }

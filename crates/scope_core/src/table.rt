@@ -1,7 +1,7 @@
 //! The table of one scope.
-ghost use Rattle.std.specs.Prelude.{◌≡◌, ℕ, ◌+◌, ◌≤◌, IsTrue, IfOk, IfErr, OnErr, OnOk, List, length, All};
+ghost use Rattle.std.specs.Prelude.{◌≡◌, ℕ, ◌+◌, ◌≤◌, cond, IsTrue, IfOk, IfErr, OnErr, OnOk, List, length, All};
 ghost use Rattle.dist_types.specs.declared.pid.Pid.{Pid};
-ghost use Rattle.dist_types.specs.Listing.{IsPidListing, IsRowListing, IsGroupListing};
+ghost use Rattle.dist_types.specs.Listing.{same, IsPidListing, IsRowListing, IsGroupListing};
 ghost use Rattle.dist_types.specs.Difference.{IsDifference};
 ghost use Rattle.scope_core.specs.Table.{count_of, local_count, local_total, node_total, max_rows};
 ghost use Rattle.scope_core.specs.Calls.{Counts, is_any_joined, no_count, count_after_join, count_after_leave, count_after_exit, count_after_drop, count_after_sync, count_after_add, count_after_take, are_counted, IsChange, IsJoinFault, IsLeaveFault, IsSyncFault, IsAddFault, IsTakeFault};
@@ -13,7 +13,7 @@ use crate::fault::TableFault;
 use crate::incoming::{beyond, counted_rows, room_for};
 use crate::lowered::{are_all_in, take_rows};
 use crate::part::Part;
-use crate::reads::{groups_of, in_group, is_any_joined, pids_of, rows_of, total_of};
+use crate::reads::{groups_of, has_rows, in_group, is_any_joined, pids_of, rows_of, total_of};
 use dist_types::{Group, GroupChange, NodeName, OutOfMemory, Pid, Row};
 use std::alloc::Global;
 use std::marker::Model;
@@ -111,6 +111,10 @@ impl ScopeTable {
         ensures limits { OnOk result (length rows.now ≤ max_rows) }
         ensures same { OnErr result (self.new ≡ self.old) }
     {
+        // Where there are none to replace, they only join.
+        if !has_rows(&self.rows, peer) {
+            return self.join_remote(peer, rows);
+        }
         if rows.len() > ScopeTable::MAX_ROWS {
             return Err(TableFault::RowsFull);
         }
@@ -118,9 +122,13 @@ impl ScopeTable {
         let left = beyond(self.alloc, &self.rows, peer, &counted)?;
         let joined = beyond(self.alloc, &counted, peer, &self.rows)?;
         let changes = changes_of(self.alloc, &left, Part::All, &joined)?;
+        if changes.is_empty() {
+            return Ok(changes);
+        }
         let spare = room_for(self.alloc, &mut self.rows, counted.len())?;
         replace_node(&mut self.rows, peer, counted, spare);
-        self.own_rows = total_of(&self.rows, &self.own);
+        self.own_rows -= share_of(&self.own, peer, self.own_rows);
+        self.own_rows += share_of(&self.own, peer, rows.len());
         Ok(changes)
     }
 
@@ -144,7 +152,7 @@ impl ScopeTable {
         let changes = changes_of(self.alloc, &[], Part::All, &counted)?;
         let spare = room_for(self.alloc, &mut self.rows, counted.len())?;
         put_in(&mut self.rows, counted, spare);
-        self.own_rows = total_of(&self.rows, &self.own);
+        self.own_rows += share_of(&self.own, peer, rows.len());
         Ok(changes)
     }
 
@@ -167,7 +175,7 @@ impl ScopeTable {
         let counted = counted_rows(self.alloc, rows)?;
         let changes = changes_of(self.alloc, &counted, Part::All, &[])?;
         take_rows(&mut self.rows, rows);
-        self.own_rows = total_of(&self.rows, &self.own);
+        self.own_rows -= share_of(&self.own, peer, rows.len());
         Ok(changes)
     }
 
@@ -194,7 +202,7 @@ impl ScopeTable {
         ensures { Counts self.old self.new (count_after_drop self.old peer.now) }
     {
         remove_node(&mut self.rows, peer);
-        self.own_rows = total_of(&self.rows, &self.own);
+        self.own_rows -= share_of(&self.own, peer, self.own_rows);
     }
 
     /// What `drop_peer` will change.
@@ -266,4 +274,11 @@ impl ScopeTable {
         let rows = rows_of(self.alloc, &self.rows, Part::Node(&self.own))?;
         Ok(rows)
     }
+}
+
+/// How many of so many rows of a peer's processes are own ones: all, where the peer is the own node.
+fn share_of(own: &NodeName, peer: &NodeName, rows: usize) -> usize
+    ensures { result ≡ cond (same peer.now own.now) rows 0 }
+{
+    if *peer == *own { rows } else { 0 }
 }

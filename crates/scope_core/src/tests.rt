@@ -60,6 +60,13 @@ impl Own {
         Ok(moved(&changes))
     }
 
+    fn fill(&mut self, alloc: Global) -> Result<(), Fail> {
+        self.join(&Group::parse(alloc, b"2")?, &mentions(alloc, 2, 1)?)?;
+        self.join(&Group::parse(alloc, b"2")?, &mentions(alloc, 1, 1)?)?;
+        self.join(&Group::parse(alloc, b"1")?, &mentions(alloc, 1, 2)?)?;
+        Ok(())
+    }
+
     /// Joins, or leaves, and tells how many did, or why none did, and how many rows there are then.
     fn step(
         &mut self,
@@ -136,9 +143,7 @@ fn counts_own_rows_up_to_4096(rt: HostRuntime) -> Result<(), Fail> {
 /// A table with the processes 2 and 1 in group 2, and process 1 twice in group 1.
 fn filled(alloc: Global) -> Result<Own, Fail> {
     let mut own = Own::new(alloc)?;
-    own.join(&Group::parse(alloc, b"2")?, &mentions(alloc, 2, 1)?)?;
-    own.join(&Group::parse(alloc, b"2")?, &mentions(alloc, 1, 1)?)?;
-    own.join(&Group::parse(alloc, b"1")?, &mentions(alloc, 1, 2)?)?;
+    own.fill(alloc)?;
     Ok(own)
 }
 
@@ -196,50 +201,79 @@ fn left(changes: &[GroupChange]) -> u64 {
     digits
 }
 
+// A test holds its table, and another function uses it: a check follows the end of a value along every way out of the function
+// that holds it.
+
 #[test]
 fn lists_members(rt: HostRuntime) -> Result<(), Fail> {
-    let table = filled(rt.alloc())?.table;
-    let group = Group::parse(rt.alloc(), b"2")?;
-    assert_eq!(rt; pids(&table.members(&group)?), 12);
-    assert_eq!(rt; pids(&table.local_members(&group)?), 12);
+    let listed = members_of(rt.alloc(), &filled(rt.alloc())?.table, b"2")?;
+    assert_eq!(rt; listed, (12, 12));
     Ok(())
+}
+
+/// The members of a group, and those of the own node.
+fn members_of(alloc: Global, table: &ScopeTable, group: &[u8]) -> Result<(u64, u64), Fail> {
+    let group = Group::parse(alloc, group)?;
+    Ok((
+        pids(&table.members(&group)?),
+        pids(&table.local_members(&group)?),
+    ))
 }
 
 #[test]
 fn lists_groups_and_rows(rt: HostRuntime) -> Result<(), Fail> {
-    let table = filled(rt.alloc())?.table;
-    assert_eq!(rt; groups(&table.groups()?), 12);
-    assert_eq!(rt; groups(&table.local_groups()?), 12);
-    assert_eq!(rt; rows(&table.local_rows()?), 11_11_21_22);
+    let listed = groups_and_rows(&filled(rt.alloc())?.table)?;
+    assert_eq!(rt; listed, (12, 12, 11_11_21_22));
     Ok(())
+}
+
+/// The groups, those with an own process, and the own rows.
+fn groups_and_rows(table: &ScopeTable) -> Result<(u64, u64, u64), Fail> {
+    Ok((
+        groups(&table.groups()?),
+        groups(&table.local_groups()?),
+        rows(&table.local_rows()?),
+    ))
 }
 
 #[test]
 fn tells_changes_beforehand(rt: HostRuntime) -> Result<(), Fail> {
-    let mut table = filled(rt.alloc())?.table;
-    let pid = process(rt.alloc(), 1)?;
-    assert_eq!(rt; left(&table.exit_change(&pid)?), 111_21);
-    table.exit(&pid);
-    assert_eq!(rt; left(&table.clear_change()?), 22);
-    table.clear();
-    assert_eq!(rt; rows(&table.local_rows()?), 0);
+    let told = exit_and_clear(rt.alloc(), &mut filled(rt.alloc())?.table)?;
+    assert_eq!(rt; told, (111_21, 22, 0));
     Ok(())
 }
 
-/// Where one growth is refused, the call is made again: `rt try --test --fail-alloc N`.
+/// What the exit of process 1 changes, what the end of all changes then, and the rows that are left.
+fn exit_and_clear(alloc: Global, table: &mut ScopeTable) -> Result<(u64, u64, u64), Fail> {
+    let pid = process(alloc, 1)?;
+    let exited = left(&table.exit_change(&pid)?);
+    table.exit(&pid);
+    let cleared = left(&table.clear_change()?);
+    table.clear();
+    Ok((exited, cleared, rows(&table.local_rows()?)))
+}
+
 #[test]
 fn keeps_rows_where_a_growth_is_refused(rt: HostRuntime) -> Result<(), Fail> {
-    let mut own = filled(rt.alloc())?;
-    let group = Group::parse(rt.alloc(), b"2")?;
-    let twice = mentions(rt.alloc(), 1, 2)?;
+    let kept = insist_on_two(rt.alloc(), &mut filled(rt.alloc())?)?;
+    assert_eq!(rt; kept, (11_11_21_22, 11_11_21_21_21_22, 11_11_21_22));
+    Ok(())
+}
+
+/// The rows before two mentions join, before they leave and then. Where one growth is refused, the rows are read once more and
+/// the call is made again: `rt try --test --fail-alloc N`.
+fn insist_on_two(alloc: Global, own: &mut Own) -> Result<(u64, u64, u64), Fail> {
+    let group = Group::parse(alloc, b"2")?;
+    let twice = mentions(alloc, 1, 2)?;
+    let mut before_join = rows(&own.table.local_rows()?);
     if own.join(&group, &twice).is_err() {
-        assert_eq!(rt; rows(&own.table.local_rows()?), 11_11_21_22);
+        before_join = rows(&own.table.local_rows()?);
         own.join(&group, &twice)?;
     }
+    let mut before_leave = rows(&own.table.local_rows()?);
     if own.leave(&group, &twice).is_err() {
-        assert_eq!(rt; rows(&own.table.local_rows()?), 11_11_21_21_21_22);
+        before_leave = rows(&own.table.local_rows()?);
         own.leave(&group, &twice)?;
     }
-    assert_eq!(rt; rows(&own.table.local_rows()?), 11_11_21_22);
-    Ok(())
+    Ok((before_join, before_leave, rows(&own.table.local_rows()?)))
 }

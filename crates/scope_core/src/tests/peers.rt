@@ -91,11 +91,12 @@ fn replaces_at_most_4096_rows(rt: HostRuntime) -> Result<(), Fail> {
     Ok(())
 }
 
-/// Steps with groups of process 5 of a peer, how many rows each moves (0: it is refused), and each group with its members
-/// then. The rows come and go between own processes, 1 and 2, and one of another peer, 9.
-const STEPS: [[&[u8]; 4]; 7] = [
+/// Steps with groups of process 5 of a peer, how many rows each moves (0: none, or it is refused), and each group with its
+/// members then. The rows come and go between own processes, 1 and 2, and one of another peer, 9.
+const STEPS: [[&[u8]; 4]; 8] = [
     [b"sync", b"2114", b"4", b"11155 21259 39 45"],
     [b"sync", b"2225", b"6", b"111 2125559 39 55"],
+    [b"sync", b"5222", b"0", b"111 2125559 39 55"],
     [b"leave", b"2222", b"0", b"111 2125559 39 55"],
     [b"leave", b"2552", b"0", b"111 2125559 39 55"],
     [b"leave", b"2522", b"4", b"111 2129 39"],
@@ -137,11 +138,17 @@ fn play(
     Ok((moved, all(alloc, table)?))
 }
 
+/// A table with own rows and two of another peer's process 9.
+fn beside_another(alloc: Global) -> Result<ScopeTable, Fail> {
+    let other = listed(alloc, b"q@h", 9, b"23")?;
+    let mut table = filled(alloc)?.table;
+    apply(&mut table, Step::Sync, &other)?;
+    Ok(table)
+}
+
 #[test]
 fn moves_rows_of_the_peer_alone(rt: HostRuntime) -> Result<(), Fail> {
-    let mut table = filled(rt.alloc())?.table;
-    let other = listed(rt.alloc(), b"q@h", 9, b"23")?;
-    assert_eq!(rt; apply(&mut table, Step::Sync, &other), Ok(2));
+    let mut table = beside_another(rt.alloc())?;
     for (row, [step, groups, moved, state]) in STEPS.iter().enumerate() {
         assert_eq!(rt;
             play(rt.alloc(), &mut table, step, groups)?,
@@ -164,9 +171,9 @@ fn insist(table: &mut ScopeTable, step: Step, rows: &PeerRows) -> Result<usize, 
 fn merged(alloc: Global) -> Result<ScopeTable, Fail> {
     let mut table = filled(alloc)?.table;
     let rows = listed(alloc, b"p@h", 5, b"0123456789abcdef")?;
-    insist(&mut table, Step::Sync, &rows)?;
-    insist(&mut table, Step::Join, &rows)?;
-    insist(&mut table, Step::Leave, &rows)?;
+    for step in [Step::Join, Step::Join, Step::Sync, Step::Join, Step::Leave] {
+        insist(&mut table, step, &rows)?;
+    }
     Ok(table)
 }
 
@@ -186,13 +193,18 @@ fn merges_many_rows(rt: HostRuntime) -> Result<(), Fail> {
 
 #[test]
 fn tells_beforehand_what_drop_peer_changes(rt: HostRuntime) -> Result<(), Fail> {
-    let mut table = filled(rt.alloc())?.table;
-    let rows = listed(rt.alloc(), b"p@h", 5, b"2113")?;
-    apply(&mut table, Step::Sync, &rows)?;
-    assert_eq!(rt; left(&table.drop_change(&rows.peer)?), 1_55_2_5_3_5);
-    table.drop_peer(&rows.peer);
-    assert_eq!(rt; all(rt.alloc(), &table)?, 1_11_2_12);
+    let told = sync_and_drop(rt.alloc(), &mut filled(rt.alloc())?.table)?;
+    assert_eq!(rt; told, (1_55_2_5_3_5, 1_11_2_12));
     Ok(())
+}
+
+/// What the end of a peer with four rows changes, and what is listed then.
+fn sync_and_drop(alloc: Global, table: &mut ScopeTable) -> Result<(u64, u64), Fail> {
+    let rows = listed(alloc, b"p@h", 5, b"2113")?;
+    apply(table, Step::Sync, &rows)?;
+    let told = left(&table.drop_change(&rows.peer)?);
+    table.drop_peer(&rows.peer);
+    Ok((told, all(alloc, table)?))
 }
 
 /// Where one growth is refused, the call is made again: `rt try --test --fail-alloc N`.

@@ -1,16 +1,16 @@
-use Rattle.std.proofs.Common.{not, ap, ◌∙◌}
+use Rattle.std.proofs.Common.{not, ap, arith, ◌∙◌}
 use Rattle.dist_types.specs.Listing.{same}
 use Rattle.scope_core.specs.Calls.{count_after_drop}
 use Rattle.scope_core.proofs.Taken.{filter_kept, gone_counts}
+use Rattle.scope_core.proofs.Own.{own_left}
 use Rattle.scope_core.proofs.table.ScopeTable.drop_peer.Goals as goal
-
-pub total_of-self-inside-requires : goal.total_of-self-inside-requires
-total_of-self-inside-requires c = rw (c.deref.ensures.value, c.remove_node.ensures.items) ((filter_kept (λ e. not (same e.row.pid.node c.args.peer.now)) c.self.inside.rows.items c.self.invariant.kept).few c.self.inside.own)
 
 pub invariant_of-self : goal.invariant_of-self
 invariant_of-self c = record {
   kept = rw c.remove_node.ensures.items (filter_kept (λ e. not (same e.row.pid.node c.args.peer.now)) c.self.inside.rows.items c.self.invariant.kept);
-  total = rw c.deref.ensures.value at c.total_of-self-inside.ensures;
+  total =
+      let left = own_left c.args.peer.now c.self.inside.own c.self.inside.rows.items c.self.inside.own_rows c.self.invariant.total in
+      rw c.remove_node.ensures.items (omega (arith, left, c.share_of.ensures));
 }
 
 pub returns : goal.returns

@@ -1,6 +1,8 @@
 use Rattle.std.proofs.Common.{◌≡◌, arith}
 use Rattle.dist_types.proofs.Sorts.{all_from}
 use Rattle.scope_core.proofs.Peers.{alone_fit, counted_fit, rows_fit, added_change}
+use Rattle.scope_core.specs.Table.{is_of_node}
+use Rattle.scope_core.proofs.Own.{own_share}
 use Rattle.scope_core.proofs.table.ScopeTable.join_remote.Goals as goal
 
 pub counted_rows-requires : goal.counted_rows-requires
@@ -22,3 +24,12 @@ returns-clause-change c =
     rw (← c.self.view_is)
     (added_change c.args.rows.now c.self.inside.rows.items c.in_ok-counted.counted.items c.put_in.new.rows.items c.in_ok-changes.changes.items (rw c.deref-2.ensures.value at c.in_ok-changes.ensures)
     c.in_ok-counted.ensures.added (rw c.in_ok-spare.ensures.same at c.put_in.ensures.added))
+
+pub invariant_of-self-2 : goal.invariant_of-self-2
+invariant_of-self-2 c =
+    let n = c.args.peer.now in
+    let own = c.self.inside.own in
+    let share = own_share n own c.args.rows.now (all_from (λ r. r.pid.node ≡ n) c.args.rows.now (λ k d l h. c.requires k d h)) in
+    let counted = c.in_ok-counted.ensures.added (is_of_node own) in
+    let joined = rw c.in_ok-spare.ensures.same at (c.put_in.ensures.added (is_of_node own)) in
+    record { kept = c.put_in.ensures.kept; total = omega (arith, share, counted, joined, c.share_of.ensures, c.self.invariant.total) }

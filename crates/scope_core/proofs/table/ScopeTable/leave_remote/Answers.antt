@@ -1,6 +1,9 @@
-use Rattle.std.proofs.Common.{rules, ap, sym, ◌∙◌}
+use Rattle.std.proofs.Common.{◌≡◌, rules, arith, ap, sym, ◌∙◌}
 use Rattle.scope_core.specs.Calls.{are_counted}
 use Rattle.scope_core.proofs.Peers.{taken_change}
+use Rattle.dist_types.proofs.Sorts.{all_from}
+use Rattle.scope_core.specs.Table.{is_of_node}
+use Rattle.scope_core.proofs.Own.{own_share}
 use Rattle.scope_core.proofs.table.ScopeTable.leave_remote.Goals as goal
 
 pub returns-in_err-counted-clause-refused : goal.returns-in_err-counted-clause-refused
@@ -18,3 +21,19 @@ returns-clause-change c =
     rw (← c.self.view_is)
     (taken_change c.args.rows.now c.self.inside.rows.items c.in_ok-counted.counted.items c.take_rows.new.rows.items c.in_ok-changes.changes.items (rw c.deref.ensures.value at c.in_ok-changes.ensures) c.in_ok-counted.ensures.added
     (rw c.are_all_in.ensures.same at c.take_rows.ensures.taken))
+
+pub overflow_sub-self : goal.overflow_sub-self
+overflow_sub-self c =
+    let n = c.args.peer.now in
+    let own = c.self.inside.own in
+    let share = own_share n own c.args.rows.now (all_from (λ r. r.pid.node ≡ n) c.args.rows.now (λ k d l h. c.requires k d h)) in
+    let taken = rw c.are_all_in.ensures.same at (c.take_rows.ensures.taken (is_of_node own)) in
+    omega (arith, share, taken, c.share_of.ensures, c.self.invariant.total)
+
+pub invariant_of-self-2 : goal.invariant_of-self-2
+invariant_of-self-2 c =
+    let n = c.args.peer.now in
+    let own = c.self.inside.own in
+    let share = own_share n own c.args.rows.now (all_from (λ r. r.pid.node ≡ n) c.args.rows.now (λ k d l h. c.requires k d h)) in
+    let taken = rw c.are_all_in.ensures.same at (c.take_rows.ensures.taken (is_of_node own)) in
+    record { kept = c.take_rows.ensures.kept; total = omega (arith, share, taken, c.share_of.ensures, c.self.invariant.total) }
