@@ -1,4 +1,6 @@
 //! What may happen to a node.
+ghost use Rattle.std.specs.Prelude.{◌≡◌, IfOk};
+
 use crate::body::Body;
 use dist_types::{Cookie, Group, Items, NodeName, OutOfMemory, Pid, Pids, Scope, TryClone};
 use std::alloc::Global;
@@ -61,21 +63,37 @@ impl TryClone for Event {
         Ok(match self {
             Self::Restart => Self::Restart,
             Self::SetCookie(cookie) => Self::SetCookie(cookie.try_clone(a)?),
-            Self::SetCookieFor(n, c) => Self::SetCookieFor(n.try_clone(a)?, c.try_clone(a)?),
+            Self::SetCookieFor(name, cookie) => {
+                let (name, cookie) = both(a, name, cookie)?;
+                Self::SetCookieFor(name, cookie)
+            }
             Self::Allow(names) => Self::Allow(names.try_clone(a)?),
             Self::StartScope(scope) => Self::StartScope(scope.try_clone(a)?),
             Self::StopScope(scope) => Self::StopScope(scope.try_clone(a)?),
             Self::Spawn => Self::Spawn,
             Self::Exit(pid) => Self::Exit(pid.try_clone(a)?),
-            Self::Join(s, g, p) => { Self::Join(s.try_clone(a)?, g.try_clone(a)?, p.try_clone(a)?) }
-            Self::Leave(s, g, p) => {
-                Self::Leave(s.try_clone(a)?, g.try_clone(a)?, p.try_clone(a)?)
+            Self::Join(scope, group, pids) => {
+                let (scope, group, pids) = all_three(a, scope, group, pids)?;
+                Self::Join(scope, group, pids)
             }
-            Self::Members(s, g) => Self::Members(s.try_clone(a)?, g.try_clone(a)?),
-            Self::LocalMembers(s, g) => Self::LocalMembers(s.try_clone(a)?, g.try_clone(a)?),
+            Self::Leave(scope, group, pids) => {
+                let (scope, group, pids) = all_three(a, scope, group, pids)?;
+                Self::Leave(scope, group, pids)
+            }
+            Self::Members(scope, group) => {
+                let (scope, group) = both(a, scope, group)?;
+                Self::Members(scope, group)
+            }
+            Self::LocalMembers(scope, group) => {
+                let (scope, group) = both(a, scope, group)?;
+                Self::LocalMembers(scope, group)
+            }
             Self::Groups(scope) => Self::Groups(scope.try_clone(a)?),
             Self::LocalGroups(scope) => Self::LocalGroups(scope.try_clone(a)?),
-            Self::Monitor(s, g) => Self::Monitor(s.try_clone(a)?, g.try_clone(a)?),
+            Self::Monitor(scope, group) => {
+                let (scope, group) = both(a, scope, group)?;
+                Self::Monitor(scope, group)
+            }
             Self::MonitorScope(scope) => Self::MonitorScope(scope.try_clone(a)?),
             Self::Demonitor(number) => Self::Demonitor(*number),
             Self::Updates(number) => Self::Updates(*number),
@@ -87,4 +105,28 @@ impl TryClone for Event {
             Self::Frame(link, body) => Self::Frame(*link, body.try_clone(a)?),
         })
     }
+}
+
+/// Copies of two values.
+fn both<A: TryClone + Drop, B: TryClone + Drop>(
+    alloc: Global,
+    first: &A,
+    second: &B,
+) -> Result<(A, B), OutOfMemory>
+    ensures { IfOk result (λ copies. (copies.0 ≡ first.now) × (copies.1 ≡ second.now)) }
+{
+    Ok((first.try_clone(alloc)?, second.try_clone(alloc)?))
+}
+
+/// Copies of three values.
+fn all_three<A: TryClone + Drop, B: TryClone + Drop, C: TryClone + Drop>(
+    alloc: Global,
+    first: &A,
+    second: &B,
+    third: &C,
+) -> Result<(A, B, C), OutOfMemory>
+    ensures { IfOk result (λ copies. (copies.0 ≡ first.now) × (copies.1 ≡ second.now) × (copies.2 ≡ third.now)) }
+{
+    let (first, second) = both(alloc, first, second)?;
+    Ok((first, second, third.try_clone(alloc)?))
 }

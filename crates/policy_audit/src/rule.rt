@@ -2,11 +2,11 @@
 ghost use Rattle.std.specs.Prelude.{◌≡◌};
 ghost use Rattle.policy_audit.specs.Rules.{rule_line};
 
-use thiserror::Error;
+use std::error::Error;
+use std::fmt::{self, Display, Formatter, Write};
 
 /// Why an event is refused: the first rule that it breaks, in the order of the rules for its kind.
-#[derive(Clone, Copy, Debug, PartialEq, Eq, Error)]
-#[error("{} {}", self.number(), self.name())]
+#[derive(Clone, Copy, Debug, PartialEq, Eq)]
 pub enum Rule {
     /// The audit has as many entries as it may have. This refusal makes no entry and ends no link.
     EntriesFull,
@@ -129,3 +129,11 @@ impl Rule {
         }
     }
 }
+
+impl Display for Rule {
+    fn fmt<W: Write>(&self, f: &mut Formatter<W>) -> fmt::Result {
+        write!(f, "{} {}", self.number(), self.name())
+    }
+}
+
+impl Error for Rule {}
