@@ -16,7 +16,7 @@ use Rattle.policy_audit.specs.Policy.{is_full, IsNext, with_entry}
 use Rattle.policy_audit.specs.Listed.{listed}
 use Rattle.policy_audit.proofs.ChangeLemmas.{stopped_lists}
 use Rattle.policy_audit.proofs.LivesNow.{own_pid, lives_restarted}
-use Rattle.node_core.specs.declared.changes.Part.TheVariants as part
+use Rattle.scope_core.specs.Calls.{no_count}
 use Rattle.node_core.specs.Parting.{ArePartings}
 use Rattle.node_core.specs.Core.{Parts, Follows}
 use Rattle.node_core.proofs.Entered.{made, accepted_now, next_now, sound_now}
@@ -43,10 +43,10 @@ module _ (h : History) (seat : ℕ) where
   creation_more : (cs : List Change) → creation (anew cs) ≡ creation h + 1
   creation_more cs = omega arith
 
-  module _ (parts : Parts) (t : Follows h parts) (cs : List Change) (gone : ArePartings part.All parts.scopes cs) where
+  module _ (parts : Parts) (t : Follows h parts) (cs : List Change) (gone : ArePartings (λ t. no_count) parts.scopes cs) where
     pub anew_next : is_full h ≡ false → first_broken (checks h seat event.Restart) ≡ None → IsNext h (made h seat event.Restart (Accepted reply.Done) cs)
     anew_next space holds = next_now h seat event.Restart space (Accepted reply.Done) cs (accepted_now h seat event.Restart space reply.Done holds refl)
-        (partings_change h (anew cs) part.All (λ r f g p. sym (nobody r.scope g p)) parts.scopes t.scopes (λ s stopped g p. nobody s g p) cs gone)
+        (partings_change h (anew cs) (λ x. no_count) (λ r f g p. sym (nobody r.scope g p)) parts.scopes t.scopes (λ s stopped g p. nobody s g p) cs gone)
       where
         nobody : (s g : List ℕ) (p : Pid) → listed (anew cs) s g p ≡ 0
         nobody s g p = stopped_lists (anew cs) s g p refl

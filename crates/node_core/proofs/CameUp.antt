@@ -24,7 +24,7 @@ use Rattle.node_core.specs.Links.{KeptLink, narrow_frames, up_peer}
 use Rattle.node_core.proofs.Found.{found_in, none_found}
 use Rattle.node_core.proofs.FrameFacts.{other_facts, own_awaits, same_stay, still_introduced}
 use Rattle.node_core.proofs.MovedOn.{AreMoves, stays_but}
-use Rattle.node_core.proofs.Pendings.{up_among, up_is_state}
+use Rattle.node_core.proofs.LinkTests.{up_is, up_by}
 use Rattle.node_core.proofs.ProofChecked.{ComesUp}
 
 -- a peer by the test is the peer
@@ -48,10 +48,10 @@ module _ (h : History) (legal : IsLegal h) (n : List ℕ) where
       by : (x : Option KeptLink) → find (λ y. option_map_or (λ m. same m n) (up_peer y.state) false) kept ≡ x → option_map (λ y. y.number) (find (λ y. option_map_or (λ m. same m n) (up_peer y.state) false) kept) ≡ present_link n h.entries
       by None q =
           ap (option_map (λ (y : KeptLink). y.number)) q
-          ∙ sym (no_link (present_link n h.entries) (sym (up_among h legal kept t n) ∙ none_found (λ (y : KeptLink). option_map_or (λ m. same m n) (up_peer y.state) false) kept q))
+          ∙ sym (no_link (present_link n h.entries) (sym (up_is h n legal kept t) ∙ none_found (λ (y : KeptLink). option_map_or (λ m. same m n) (up_peer y.state) false) kept q))
       by (Some x) q =
           let found = found_in (λ (y : KeptLink). option_map_or (λ m. same m n) (up_peer y.state) false) (IsLinkOf (link_words h)) kept t.each x q in
-          let both = sym (up_is_state h x.number n x.state found.1.state) ∙ found.0 in
+          let both = sym (up_by h n x.number x.state found.1.state) ∙ found.0 in
           ap (option_map (λ (y : KeptLink). y.number)) q
           ∙ sym (is_present x.number (and_left (is_up x.number h.entries) (is_peer n x.number h.entries) both) (and_right (is_up x.number h.entries) (is_peer n x.number h.entries) both))
 

@@ -1,14 +1,12 @@
 -- A process that ends.
-use Rattle.std.specs.Prelude.{◌≡◌, ℕ, ◌+◌, nat_eq, Bool, true, false, cond, ◌==◌, not, List, [], ◌∷◌, ◌++◌, Option, Some, None, map, length}
-use Rattle.std.proofs.Common.{refl, ap, ◌∙◌, sym, subst, arith}
+use Rattle.std.specs.Prelude.{◌≡◌, ℕ, ◌+◌, nat_eq, Bool, true, false, cond, ◌==◌, not, List, [], ◌∷◌, ◌++◌, Option, Some, None, length}
+use Rattle.std.proofs.Common.{refl, ap, ◌∙◌, sym, arith}
 use Rattle.std.specs.List.{AllByRecursion, AllZip, filter, flat_map}
 use Rattle.dist_types.specs.declared.pid.Pid.{Pid}
-use Rattle.dist_types.specs.Difference.{IsDifference}
-use Rattle.dist_types.specs.Listing.{Rises, is_among, same, same_pid}
-use Rattle.dist_types.specs.Order.{text_cmp}
+use Rattle.dist_types.specs.Listing.{same, same_pid}
 use Rattle.dist_types.proofs.Orders.{same_decides}
 use Rattle.link_frames.specs.declared.message.Message.TheVariants as said
-use Rattle.scope_core.specs.Table.{Table, count_of}
+use Rattle.scope_core.specs.Table.{Table}
 use Rattle.scope_core.specs.Calls.{count_after_exit}
 use Rattle.group_monitors.proofs.Followed.{follows_other}
 use Rattle.policy_audit.specs.declared.change.Change.{Change}
@@ -31,25 +29,24 @@ use Rattle.policy_audit.specs.Policy.{is_full, IsAnswered, IsNext, with_entry}
 use Rattle.policy_audit.proofs.ChangeLemmas.{stopped_lists}
 use Rattle.policy_audit.proofs.LivesNow.{exits_more, lives_exited, lives_of, spawned_exited}
 use Rattle.policy_audit.proofs.RowsAfter.{exited_rows}
-use Rattle.policy_audit.proofs.ScopeChanges.{changes_are}
 use Rattle.policy_audit.proofs.ScopeFrames.{exited_links, told_numbers}
-use Rattle.policy_audit.proofs.ScopesNow.{running_among, running_rises}
 use Rattle.policy_audit.proofs.UpLinks.{and_left}
 use Rattle.node_core.specs.declared.changes.Part.{Part}
 use Rattle.node_core.specs.declared.running.Running.{Running}
-use Rattle.node_core.specs.Exiting.{all_frames, exit_frames, IsExit, AreExitsTold}
+use Rattle.node_core.specs.Exiting.{all_frames, exit_frames, AreExitsTold}
 use Rattle.node_core.specs.Links.{KeptLink}
 use Rattle.node_core.specs.LinkFacts.{link_words}
-use Rattle.node_core.specs.Parting.{count_but, rows_left, HasParted}
+use Rattle.node_core.specs.Parting.{count_but, rows_left, HasParted, IsParting}
 use Rattle.node_core.specs.Processes.{Spawned}
 use Rattle.node_core.specs.ScopeFacts.{scope_words, is_number, IsRunningOf}
 use Rattle.node_core.specs.Core.{Parts, Follows}
 use Rattle.node_core.proofs.Entered.{made, accepted_now, answered_now, next_now, sound_now}
 use Rattle.node_core.proofs.Moved.{told_frames}
-use Rattle.node_core.proofs.PartingChange.{counted}
+use Rattle.node_core.proofs.PartingChange.{partings_change}
 use Rattle.node_core.proofs.RowsGone.{left_are}
 use Rattle.node_core.proofs.Starting.{names}
 use Rattle.node_core.proofs.Told.{told_follow}
+use Rattle.node_core.proofs.Zipped.{zipped_map, zipped_weaker, zipped_each}
 
 -- ---- the rules
 
@@ -86,7 +83,7 @@ module _ (h : History) (seat : ℕ) (parts : Parts) (t : Follows h parts) (p : P
   abbrev policy_frames : ℕ → List (List ℕ) → List OutFrame
   policy_frames l ss = flat_map (λ s. if_told h l s (said.Leave s) (filter (λ w. same_pid w.pid p) (local_rows h s))) ss
 
-  frames_are : (l : ℕ) (rs : List Running) (cs : List Change) → AllByRecursion (IsRunningOf (scope_words h)) rs → AllZip (IsExit p) rs cs → policy_frames l (names rs) ≡ all_frames rs cs l
+  frames_are : (l : ℕ) (rs : List Running) (cs : List Change) → AllByRecursion (IsRunningOf (scope_words h)) rs → AllZip (IsParting (λ u. count_after_exit u p)) rs cs → policy_frames l (names rs) ≡ all_frames rs cs l
   frames_are l [] [] a z = refl
   frames_are l [] (c ∷ cs) a z = absurd z
   frames_are l (r ∷ rs) [] a z = absurd z
@@ -108,36 +105,15 @@ module _ (h : History) (seat : ℕ) (parts : Parts) (t : Follows h parts) (p : P
       now_listed : (u f : List ℕ) (x : Pid) → listed exited u f x ≡ cond (same_pid x p) 0 (listed h u f x)
       now_listed u f x = exited_rows h exit_entry its refl p refl u f x
 
-      one_exit : (r : Running) (c : Change) → IsRunningOf (scope_words h) r → IsExit p r c → IsDifference (listed h c.scope) (listed exited c.scope) c.groups
-      one_exit r c a z =
-          subst (λ s. IsDifference (listed h s) (listed exited s) c.groups) (sym z.scope)
-          (subst (λ f. IsDifference f (listed exited r.scope) c.groups) (counted h r a)
-          (subst (λ f. IsDifference (count_of r.table) f c.groups) (λ i g x. (ap (λ n. cond (same_pid x p) 0 n) (a.rows g x) ∙ sym (now_listed r.scope g x)) i) z.groups))
-
-      all_exits : (rs : List Running) (ds : List Change) → AllByRecursion (IsRunningOf (scope_words h)) rs → AllZip (IsExit p) rs ds → AllByRecursion (λ c. IsDifference (listed h c.scope) (listed exited c.scope) c.groups) ds
-      all_exits [] [] a z = tt
-      all_exits [] (c ∷ ds) a z = absurd z
-      all_exits (r ∷ rs) [] a z = absurd z
-      all_exits (r ∷ rs) (c ∷ ds) a z = (one_exit r c a.0 z.0, all_exits rs ds a.1 z.1)
-
-      exit_scopes : (rs : List Running) (ds : List Change) → AllZip (IsExit p) rs ds → map (λ c. c.scope) ds ≡ names rs
-      exit_scopes [] [] z = refl
-      exit_scopes [] (c ∷ ds) z = absurd z
-      exit_scopes (r ∷ rs) [] z = absurd z
-      exit_scopes (r ∷ rs) (c ∷ ds) z = λ i. z.0.scope i ∷ exit_scopes rs ds z.1 i
-
       nothing : (b : Bool) → cond {A = ℕ} b 0 0 ≡ 0
       nothing true = refl
       nothing false = refl
 
       exit_change : IsChange h exited cs
-      exit_change =
-          let scopes = exit_scopes parts.scopes told_so.all told_so.each ∙ t.scopes.running in
-          subst (IsChange h exited) (sym told_so.some)
-          (changes_are h exited told_so.all (subst (Rises text_cmp) (sym scopes) (running_rises h)) (all_exits parts.scopes told_so.all t.scopes.each told_so.each)
-          (λ s none g x.
-          let was = stopped_lists h s g x (sym (running_among h s) ∙ sym (ap (is_among s) scopes) ∙ none) in
-          was ∙ sym (now_listed s g x ∙ ap (λ n. cond (same_pid x p) 0 n) was ∙ nothing (same_pid x p))))
+      exit_change = partings_change h exited (λ u. count_after_exit u p)
+          (λ r a g x. ap (cond (same_pid x p) 0) (a.rows g x) ∙ sym (now_listed r.scope g x))
+          parts.scopes t.scopes (λ s none g x. now_listed s g x ∙ ap (cond (same_pid x p) 0) (stopped_lists h s g x none) ∙ nothing (same_pid x p)) cs
+          (record { all = told_so.all; each = told_so.each; some = told_so.some })
 
     pub exit_next : is_full h ≡ false → is_number p.number parts.processes.live ≡ true → IsNext h exit_entry
     exit_next space living =
@@ -149,25 +125,13 @@ module _ (h : History) (seat : ℕ) (parts : Parts) (t : Follows h parts) (p : P
       it = record { room = next.room; number = next.number; verdict = next.verdict }
 
       module _ (away : Part) (is : (x : Table) (f : List ℕ) (q : Pid) → count_but away x f q ≡ count_after_exit x p f q) where
-        parted : (r new : Running) → IsRunningOf (scope_words h) r → HasParted away r new → IsRunningOf (scope_words exited) new
-        parted r new a z = record {
+        parted : (r new : Running) → HasParted away r new → IsRunningOf (scope_words h) r → IsRunningOf (scope_words exited) new
+        parted r new z a = record {
           own = z.rows.own ∙ a.own;
           rows = λ g x. z.rows.counts g x ∙ is r.table g x ∙ ap (λ n. cond (same_pid x p) 0 n) (a.rows g x) ∙ sym (now_listed it r.scope g x) ∙ ap (λ s. listed exited s g x) (sym z.scope);
           heard = λ l. ap (is_number l) z.heard ∙ a.heard l ∙ ap (λ s. heard l s h.entries) (sym z.scope);
           told = λ l. ap (is_number l) z.told ∙ a.told l ∙ ap (λ s. told l s h.entries) (sym z.scope);
         }
-
-        all_parted : (rs new : List Running) → AllByRecursion (IsRunningOf (scope_words h)) rs → AllZip (HasParted away) rs new → AllByRecursion (IsRunningOf (scope_words exited)) new
-        all_parted [] [] a z = tt
-        all_parted [] (c ∷ ds) a z = absurd z
-        all_parted (r ∷ rs) [] a z = absurd z
-        all_parted (r ∷ rs) (c ∷ ds) a z = (parted r c a.0 z.0, all_parted rs ds a.1 z.1)
-
-        parted_names : (rs new : List Running) → AllZip (HasParted away) rs new → names new ≡ names rs
-        parted_names [] [] z = refl
-        parted_names [] (c ∷ ds) z = absurd z
-        parted_names (r ∷ rs) [] z = absurd z
-        parted_names (r ∷ rs) (c ∷ ds) z = λ i. z.0.scope i ∷ parted_names rs ds z.1 i
 
         pub exit_follows : (new : List Running) → AllZip (HasParted away) parts.scopes new → (q : Spawned) → q.spawned ≡ parts.processes.spawned
             → ((n : ℕ) → is_number n q.live ≡ cond (nat_eq p.number n) false (is_number n parts.processes.live)) → length q.live + 1 ≡ length parts.processes.live
@@ -180,7 +144,10 @@ module _ (h : History) (seat : ℕ) (parts : Parts) (t : Follows h parts) (p : P
             live = λ n. live n ∙ ap (λ b. cond (nat_eq p.number n) false b) (t.processes.live n) ∙ sym (lives_exited h exit_entry it refl p refl n);
             count = (let was = t.processes.count in let more = exits_more h exit_entry it refl p refl in let still = spawned_exited h exit_entry it refl p refl in omega (arith, was, more, still, fewer));
           };
-          scopes = record { running = parted_names parts.scopes new z ∙ t.scopes.running; each = all_parted parts.scopes new t.scopes.each z };
+          scopes = record {
+            running = zipped_map (λ r. r.scope) (λ r. r.scope) parts.scopes new (zipped_weaker (HasParted away) (λ r q. q.scope ≡ r.scope) (λ r q x. x.scope) parts.scopes new z) ∙ t.scopes.running;
+            each = zipped_each (HasParted away) (IsRunningOf (scope_words h)) (IsRunningOf (scope_words exited)) parted parts.scopes new z t.scopes.each;
+          };
           links = told_follow (link_words h) (link_words exited) (all_frames parts.scopes told_so.all) (λ l. refl)
               (told_numbers h exit_entry it refl refl (λ l. (exited_links h exit_entry it refl p refl l).kept_is)) parts.links links
               (λ l near. ap (λ f. waiting h l ++ f) (ap (policy_frames l) (sym t.scopes.running) ∙ frames_are l parts.scopes told_so.all t.scopes.each told_so.each))

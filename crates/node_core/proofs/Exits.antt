@@ -3,7 +3,7 @@ use Rattle.std.specs.Prelude.{◌≡◌, ℕ, Bool, true, false, cond, not, ◌=
 use Rattle.std.proofs.Common.{refl, ap, ◌∙◌, sym, subst, append_assoc}
 use Rattle.std.proofs.lemmas.Bool.{eqb-true, eq-eqb}
 use Rattle.std.proofs.lemmas.List.{append-nil}
-use Rattle.std.specs.List.{AllZip, filter}
+use Rattle.std.specs.List.{AllZip}
 use Rattle.dist_types.specs.declared.pid.Pid.{Pid}
 use Rattle.dist_types.specs.declared.change.GroupChange.{GroupChange}
 use Rattle.dist_types.specs.Difference.{IsDifference, is_empty}
@@ -12,13 +12,16 @@ use Rattle.scope_core.specs.Calls.{count_after_exit}
 use Rattle.policy_audit.specs.declared.change.Change.{Change}
 use Rattle.policy_audit.specs.declared.out_frame.OutFrame.{OutFrame}
 use Rattle.policy_audit.proofs.Accepted.{lie}
+use Rattle.policy_audit.proofs.KeptNumbers.{filter_append}
 use Rattle.node_core.specs.declared.running.Running.{Running}
 use Rattle.node_core.specs.Links.{KeptLink, with_frames, with_prepared, unroomed, committed, prepared_for}
 use Rattle.node_core.specs.ScopeFacts.{is_number}
 use Rattle.node_core.specs.Telling.{AreIdle, Alike, AreTold, if_among}
-use Rattle.node_core.specs.Exiting.{bare, exit_frames, ArePrepared, all_frames, IsExit, AreExits}
+use Rattle.node_core.specs.Exiting.{bare, exit_frames, ArePrepared, all_frames, AreExits}
+use Rattle.node_core.specs.Parting.{IsParting}
 use Rattle.node_core.proofs.InCommon.{none_left}
-use Rattle.node_core.proofs.Told.{forgotten, map_zip, zip_map}
+use Rattle.node_core.proofs.Told.{forgotten, zip_map}
+use Rattle.node_core.proofs.Zipped.{zipped_map, zipped_on, zipped_weaker}
 
 -- elements that are related in two steps
 zip_on : {A B C : Type 0} (P : A → B → Type 0) (Q : B → C → Type 0) (R : A → C → Type 0) → ((x : A) (y : B) (z : C) → P x y → Q y z → R x z)
@@ -30,30 +33,18 @@ zip_on P Q R f (x ∷ xs) [] zs a b = absurd a
 zip_on P Q R f (x ∷ xs) (y ∷ ys) [] a b = absurd b
 zip_on P Q R f (x ∷ xs) (y ∷ ys) (z ∷ zs) a b = (f x y z a.0 b.0, zip_on P Q R f xs ys zs a.1 b.1)
 
-zip_as : {A B : Type 0} (P Q : A → B → Type 0) → ((x : A) (y : B) → P x y → Q x y) → (xs : List A) (ys : List B) → AllZip P xs ys → AllZip Q xs ys
-zip_as P Q f [] [] a = tt
-zip_as P Q f [] (y ∷ ys) a = absurd a
-zip_as P Q f (x ∷ xs) [] a = absurd a
-zip_as P Q f (x ∷ xs) (y ∷ ys) a = (f x y a.0, zip_as P Q f xs ys a.1)
-
-zip_end : {A B : Type 0} (R : A → B → Type 0) (xs : List A) (ys : List B) (x : A) (y : B) → AllZip R xs ys → R x y → AllZip R (xs ++ x ∷ []) (ys ++ y ∷ [])
-zip_end R [] [] x y a r = (r, tt)
-zip_end R [] (z ∷ zs) x y a r = absurd a
-zip_end R (z ∷ zs) [] x y a r = absurd a
-zip_end R (z ∷ zs) (w ∷ ws) x y a r = (a.0, zip_end R zs ws x y a.1 r)
-
 -- ---- prepared frames
 
 -- what was prepared is dropped
 pub forgot_bare : (old new : List KeptLink) → map unroomed new ≡ map (λ x. unroomed (with_prepared x [])) old → map bare new ≡ map bare old
-forgot_bare old new q = map_zip bare bare old new (zip_as (λ x y. unroomed y ≡ unroomed (with_prepared x [])) (λ x y. bare y ≡ bare x) (λ x y e. ap (λ z. with_prepared z []) e) old new (zip_map unroomed (λ x. unroomed (with_prepared x [])) old new q))
+forgot_bare old new q = zipped_map bare bare old new (zipped_weaker (λ x y. unroomed y ≡ unroomed (with_prepared x [])) (λ x y. bare y ≡ bare x) (λ x y e. ap (λ z. with_prepared z []) e) old new (zip_map unroomed (λ x. unroomed (with_prepared x [])) old new q))
 
 module _ (more : ℕ → List OutFrame) where
   abbrev pub more_prepared : KeptLink → KeptLink
   more_prepared x = unroomed (with_prepared x (x.prepared ++ more x.number))
 
   pub prepared_bare : (old new : List KeptLink) → ArePrepared more old new → map bare new ≡ map bare old
-  prepared_bare old new q = map_zip bare bare old new (zip_as (λ x y. unroomed y ≡ more_prepared x) (λ x y. bare y ≡ bare x) (λ x y e. ap (λ z. with_prepared z []) e) old new (zip_map unroomed more_prepared old new q))
+  prepared_bare old new q = zipped_map bare bare old new (zipped_weaker (λ x y. unroomed y ≡ more_prepared x) (λ x y. bare y ≡ bare x) (λ x y e. ap (λ z. with_prepared z []) e) old new (zip_map unroomed more_prepared old new q))
 
   pub prepared_none : ((l : ℕ) → more l ≡ []) → (xs : List KeptLink) → ArePrepared more xs xs
   prepared_none none [] = refl
@@ -84,7 +75,7 @@ prepared_among numbers frame old new q = q ∙ all old
     all (x ∷ xs) = λ i. one x (is_number x.number numbers) i ∷ all xs i
 
 pub prepared_on : (more later : ℕ → List OutFrame) (old mid new : List KeptLink) → ArePrepared more old mid → ArePrepared later mid new → ArePrepared (λ l. more l ++ later l) old new
-prepared_on more later old mid new a b = map_zip unroomed (more_prepared (λ l. more l ++ later l)) old new
+prepared_on more later old mid new a b = zipped_map (more_prepared (λ l. more l ++ later l)) unroomed old new
     (zip_on (λ x y. unroomed y ≡ more_prepared more x) (λ y z. unroomed z ≡ more_prepared later y) (λ x z. unroomed z ≡ more_prepared (λ l. more l ++ later l) x)
     (λ x y z e f. f ∙ ap (λ w. with_prepared w (w.prepared ++ later w.number)) e ∙ (λ i. record (unroomed x) { prepared = append_assoc x.prepared (more x.number) (later x.number) i }))
     old mid new (zip_map unroomed (more_prepared more) old mid a) (zip_map unroomed (more_prepared later) mid new b))
@@ -94,20 +85,11 @@ dropped_all old mid new idle same dropped = dropped ∙ same ∙ forgotten old i
 
 -- ---- scope by scope
 
-frames_end : (p : Pid) (rs : List Running) (cs : List Change) (r : Running) (c : Change) (l : ℕ) → AllZip (IsExit p) rs cs → all_frames (rs ++ r ∷ []) (cs ++ c ∷ []) l ≡ all_frames rs cs l ++ exit_frames r c.groups l
+frames_end : (p : Pid) (rs : List Running) (cs : List Change) (r : Running) (c : Change) (l : ℕ) → AllZip (IsParting (λ x. count_after_exit x p)) rs cs → all_frames (rs ++ r ∷ []) (cs ++ c ∷ []) l ≡ all_frames rs cs l ++ exit_frames r c.groups l
 frames_end p [] [] r c l a = append-nil (exit_frames r c.groups l)
 frames_end p [] (d ∷ ds) r c l a = absurd a
 frames_end p (q ∷ qs) [] r c l a = absurd a
 frames_end p (q ∷ qs) (d ∷ ds) r c l a = ap (λ f. exit_frames q d.groups l ++ f) (frames_end p qs ds r c l a.1) ∙ sym (append_assoc (exit_frames q d.groups l) (all_frames qs ds l) (exit_frames r c.groups l))
-
-some_end : (cs : List Change) (c : Change) → filter (λ x. not (is_empty x.groups)) (cs ++ c ∷ []) ≡ filter (λ x. not (is_empty x.groups)) cs ++ cond (not (is_empty c.groups)) (c ∷ []) []
-some_end [] c = refl
-some_end (x ∷ xs) c = by (not (is_empty x.groups)) (some_end xs c)
-  where
-    by : (b : Bool) → filter (λ y. not (is_empty y.groups)) (xs ++ c ∷ []) ≡ filter (λ y. not (is_empty y.groups)) xs ++ cond (not (is_empty c.groups)) (c ∷ []) []
-        → cond b (x ∷ filter (λ y. not (is_empty y.groups)) (xs ++ c ∷ [])) (filter (λ y. not (is_empty y.groups)) (xs ++ c ∷ [])) ≡ cond b (x ∷ filter (λ y. not (is_empty y.groups)) xs) (filter (λ y. not (is_empty y.groups)) xs) ++ cond (not (is_empty c.groups)) (c ∷ []) []
-    by true later = ap (λ ys. x ∷ ys) later
-    by false later = later
 
 pub exits_none : (p : Pid) (links : List KeptLink) (cs : List Change) → cs ≡ [] → AreExits p [] links links cs
 exits_none p links cs none = record { all = []; each = tt; some = none; links = prepared_none (λ l. []) (λ l. refl) links }
@@ -117,8 +99,8 @@ pub exits_on : (p : Pid) (rs : List Running) (r : Running) (old mid new : List K
     → IsDifference (count_of r.table) (count_after_exit r.table p) gs → ArePrepared (exit_frames r gs) mid new → ds ≡ cs ++ cond (not (is_empty gs)) (record { scope = r.scope; groups = gs } ∷ []) [] → AreExits p (rs ++ r ∷ []) old new ds
 exits_on p rs r old mid new cs ds gs t d prepared more = record {
   all = t.all ++ c ∷ [];
-  each = zip_end (IsExit p) rs t.all r c t.each (record { scope = refl; groups = d });
-  some = more ∙ ap (λ ys. ys ++ cond (not (is_empty gs)) (c ∷ []) []) t.some ∙ sym (some_end t.all c);
+  each = zipped_on (IsParting (λ x. count_after_exit x p)) rs t.all r c t.each (record { scope = refl; groups = d });
+  some = more ∙ ap (λ ys. ys ++ cond (not (is_empty gs)) (c ∷ []) []) t.some ∙ sym (filter_append (λ x. not (is_empty x.groups)) t.all (c ∷ []));
   links = subst (λ (f : ℕ → List OutFrame). ArePrepared f old new) (λ i l. sym (frames_end p rs t.all r c l t.each) i) (prepared_on (all_frames rs t.all) (exit_frames r gs) old mid new t.links prepared);
 }
   where

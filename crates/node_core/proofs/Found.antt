@@ -1,7 +1,9 @@
--- Elements that pass a test.
-use Rattle.std.specs.Prelude.{◌≡◌, Bool, true, false, cond, ◌||◌, List, [], ◌∷◌, Some, None, find, map}
-use Rattle.std.proofs.Common.{refl, ap, ◌∙◌, sym, subst}
-use Rattle.std.specs.List.{list_any, AllByRecursion}
+-- Elements that pass a test, and their places.
+use Rattle.std.specs.Prelude.{◌≡◌, ℕ, suc, ◌+◌, ◌<◌, nat_lt, Bool, true, false, cond, ◌||◌, not, List, [], ◌∷◌, Some, None, find, is_some, length, map, position}
+use Rattle.std.proofs.Common.{refl, ap, ◌∙◌, sym, subst, arith}
+use Rattle.std.proofs.lemmas.Bool.{lt-ltb, ltb-true, ltb-false}
+use Rattle.std.proofs.lemmas.List.Quantifiers.{position-Some}
+use Rattle.std.specs.List.{list_any, position_or_len, AllByRecursion}
 use Rattle.policy_audit.proofs.Accepted.{no_value}
 
 -- the value in an option
@@ -43,3 +45,43 @@ module _ {A : Type 0} (test : A → Bool) where
 pub any_map : {A B : Type 0} (test : B → Bool) (f : A → B) (xs : List A) → list_any test (map f xs) ≡ list_any (λ x. test (f x)) xs
 any_map test f [] = refl
 any_map test f (x ∷ xs) = ap (λ b. test (f x) || b) (any_map test f xs)
+
+-- ---- places
+
+one_less : (n m : ℕ) → nat_lt (1 + n) (suc m) ≡ nat_lt n m
+one_less n m = by (nat_lt (1 + n) (suc m)) refl (nat_lt n m) refl
+  where
+    by : (a : Bool) → nat_lt (1 + n) (suc m) ≡ a → (b : Bool) → nat_lt n m ≡ b → a ≡ b
+    by true p true q = refl
+    by false p false q = refl
+    by true p false q = absurd (let less = ltb-true (1 + n) (suc m) p in let more = ltb-false n m q in omega (arith, less, more))
+    by false p true q = absurd (let less = ltb-true n m q in let more = ltb-false (1 + n) (suc m) p in omega (arith, less, more))
+
+-- a place is found where one passes
+module _ {A : Type 0} (test : A → Bool) where
+  place_by : (xs : List A) → (nat_lt (position_or_len test xs) (length xs) ≡ list_any test xs)
+  place_by [] = refl
+  place_by (x ∷ xs) = by (test x) refl (place_by xs)
+    where
+      by : (b : Bool) → test x ≡ b → nat_lt (position_or_len test xs) (length xs) ≡ list_any test xs → nat_lt (position_or_len test (x ∷ xs)) (length (x ∷ xs)) ≡ (test x || list_any test xs)
+      by true q later = ap (λ b. nat_lt (cond (not b) (1 + position_or_len test xs) 0) (suc (length xs))) q ∙ lt-ltb 0 (suc (length xs)) (omega arith) ∙ sym (ap (λ b. b || list_any test xs) q)
+      by false q later = ap (λ b. nat_lt (cond (not b) (1 + position_or_len test xs) 0) (suc (length xs))) q ∙ one_less (position_or_len test xs) (length xs) ∙ later ∙ sym (ap (λ b. b || list_any test xs) q)
+
+  pub place_found : (xs : List A) → is_some (position test xs) ≡ list_any test xs
+  place_found xs = one (nat_lt (position_or_len test xs) (length xs)) ∙ place_by xs
+    where
+      one : (b : Bool) → is_some {T = ℕ} (cond b (Some (position_or_len test xs)) None) ≡ b
+      one true = refl
+      one false = refl
+
+  -- where no place is found, none passes
+  pub no_place : (xs : List A) → position test xs ≡ None → list_any test xs ≡ false
+  no_place xs none = sym (place_found xs) ∙ ap is_some none
+
+  -- where one is found, one passes, and it is within the list
+  pub some_place : (xs : List A) (p : ℕ) → position test xs ≡ Some p → list_any test xs ≡ true
+  some_place xs p found = sym (place_found xs) ∙ ap is_some found
+
+  pub place_within : (xs : List A) (p : ℕ) → position test xs ≡ Some p → p < length xs
+  place_within [] p found = no_value (sym found)
+  place_within (x ∷ xs) p found = (position-Some test (x ∷ xs) p x found).0

@@ -19,6 +19,7 @@ use Rattle.policy_audit.proofs.LinkFrames.{handshake_links}
 use Rattle.policy_audit.proofs.LinksLeft.{framed_numbers}
 use Rattle.node_core.specs.declared.link_state.LinkState.{LinkState}
 use Rattle.node_core.specs.LinkFacts.{facts, kept_numbers, Awaits, IsPeer, IsIntroduced, IsState}
+use Rattle.node_core.proofs.KeptOn.{facts_same}
 use Rattle.node_core.proofs.MovedOn.{AreMoves, stays_but}
 
 pub every_one : {A : Type 0} (xs : List A) → filter (λ x. true) xs ≡ xs
@@ -34,18 +35,7 @@ module _ (h : History) (e : Entry) (answered : IsAnswered h e) (yes : is_accepte
   k = with_entry h e
 
   pub other_facts : (l : ℕ) → (j == l) ≡ false → is_open l k.entries ≡ is_open l h.entries → facts k l ≡ facts h l
-  other_facts l apart opens =
-      let it = entry_link h.entries e j l body is apart in
-      λ i. record {
-        own = h.opening.name;
-        hidden = h.opening.hidden;
-        open_now = opens i;
-        whole = it.whole i;
-        awaited = it.awaits i;
-        peer = it.peer i;
-        said = it.given i;
-        challenge = option_map_or (λ o. challenge_in o.start) (it.opened i) 0;
-      }
+  other_facts l apart opens = facts_same h k refl l (entry_link h.entries e j l body is apart) opens
 
   module _ {gave : Option Name} {of : Option (List ℕ)} {next : Awaited} {ends : Bool} (on : IsOnward j h.entries e gave of next ends) where
     pub own_awaits : is_open j k.entries ≡ is_open j h.entries → Awaits (facts k j) next ends

@@ -52,6 +52,10 @@ module _ (h : History) (parts : Parts) (t : Follows h parts) (j p : ℕ) (at : p
   pub held_is : s ≡ (get_or parts.links p v).state
   held_is = held.state ∙ ap (λ (x : KeptLink). x.state) (with_state ∙ held.roomy ∙ ap (λ (x : KeptLink). with_room x w.room) held.first)
 
+  -- the link at the place, seen again before its state was taken
+  pub held_seen : (u : KeptLink) → u ≡ get_or (set parts.links p w) p u → u.state ≡ s
+  held_seen u is = ap (λ (x : KeptLink). x.state) (is ∙ get_or-set_same parts.links p w u here ∙ sym with_state) ∙ sym held.state
+
   pub held_state : IsState (facts h j) s
   held_state = subst (IsState (facts h j)) (sym held_is) (state_there h parts t j p at v)
 

@@ -4,10 +4,28 @@ use Rattle.std.proofs.Common.{refl, ap, ◌∙◌, sym, subst, arith, get_or, se
 use Rattle.std.proofs.lemmas.Bool.{eqb-true, ltb-true}
 use Rattle.std.proofs.lemmas.List.Quantifiers.{position-Some}
 use Rattle.std.specs.List.{filter, list_all, AllByRecursion}
+use Rattle.std.specs.Option.{option_map_or}
+use Rattle.policy_audit.specs.History.{History}
+use Rattle.policy_audit.specs.Sides.{challenge_in}
+use Rattle.policy_audit.specs.Links.{is_open}
+use Rattle.policy_audit.specs.Effects.{IsSameLink}
 use Rattle.policy_audit.proofs.KeptNumbers.{Climbs}
 use Rattle.policy_audit.proofs.UpLinks.{and_left, and_right}
 use Rattle.node_core.specs.Links.{KeptLink}
-use Rattle.node_core.specs.LinkFacts.{LinkWords, IsLinkOf, LinksFollow}
+use Rattle.node_core.specs.LinkFacts.{facts, LinkWords, IsLinkOf, LinksFollow}
+
+-- what is said of a link is the same, where its words are
+pub facts_same : (h k : History) → k.opening ≡ h.opening → (l : ℕ) → IsSameLink l h.entries k.entries → is_open l k.entries ≡ is_open l h.entries → facts k l ≡ facts h l
+facts_same h k opening l it opens = λ i. record {
+  own = (opening i).name;
+  hidden = (opening i).hidden;
+  open_now = opens i;
+  whole = it.whole i;
+  awaited = it.awaits i;
+  peer = it.peer i;
+  said = it.given i;
+  challenge = option_map_or (λ o. challenge_in o.start) (it.opened i) 0;
+}
 
 -- ---- all links
 

@@ -26,15 +26,13 @@ use Rattle.policy_audit.proofs.HeardNow.{proved_heard}
 use Rattle.policy_audit.proofs.RowsAfter.{up_rows}
 use Rattle.policy_audit.proofs.UpLinks.{and_left}
 use Rattle.scope_core.specs.Calls.{count_after_drop}
-use Rattle.scope_core.specs.Table.{Table}
-use Rattle.node_core.specs.declared.changes.Part.{Part}
 use Rattle.node_core.specs.declared.link_state.LinkState.TheVariants as state
 use Rattle.node_core.specs.declared.running.Running.{Running}
 use Rattle.node_core.specs.Core.{Parts, Follows}
 use Rattle.node_core.specs.Handshakes.{HaveComeUp, moved_on, older_of, without_link}
 use Rattle.node_core.specs.LinkFacts.{link_words, LinksFollow}
 use Rattle.node_core.specs.Links.{KeptLink, narrow_frames, up_peer}
-use Rattle.node_core.specs.Parting.{ArePartings, IsCutOff, count_but}
+use Rattle.node_core.specs.Parting.{ArePartings, IsCutOff}
 use Rattle.node_core.specs.ScopeFacts.{scope_words}
 use Rattle.node_core.proofs.CameUp.{but_replaced, came_up_moves, older_present}
 use Rattle.node_core.proofs.Emptied.{IsEmptied, moved_from, older_same}
@@ -68,10 +66,10 @@ module _ (h : History) (seat j : ℕ) (body : List ℕ) (up : Linked) (frames : 
       rows : (s g : List ℕ) (p : Pid) → listed k s g p ≡ cond (same p.node up.peer) 0 (listed h s g p)
       rows s g p = up_rows h t.sound.legal e up_answered refl j body refl up.peer c.last c.known.peer.peer c.known.peer.other s g p
 
-      pub up_next : (away : Part) → ((u : Table) → count_but away u ≡ count_after_drop u up.peer) → ArePartings away parts.scopes cs → IsNext h e
-      up_next away drops gone = next_now h seat (event.Frame j body) space (Accepted r) cs (accepted_now h seat (event.Frame j body) space r (meets h j body up frames c seat) is)
-          (partings_change h k away
-          (λ x a g p. ap (λ f. f g p) (drops x.table) ∙ ap (cond (same p.node up.peer) 0) (a.rows g p) ∙ sym (rows x.scope g p))
+      pub up_next : ArePartings (λ x. count_after_drop x up.peer) parts.scopes cs → IsNext h e
+      up_next gone = next_now h seat (event.Frame j body) space (Accepted r) cs (accepted_now h seat (event.Frame j body) space r (meets h j body up frames c seat) is)
+          (partings_change h k (λ x. count_after_drop x up.peer)
+          (λ x a g p. ap (cond (same p.node up.peer) 0) (a.rows g p) ∙ sym (rows x.scope g p))
           parts.scopes t.scopes
           (λ s stopped g p. rows s g p ∙ dropped (same p.node up.peer) (listed h s g p) (stopped_lists h s g p stopped)) cs gone)
 

@@ -1,7 +1,6 @@
 -- What the last frame of a handshake makes of a node: its link comes up, or ends.
-use Rattle.std.specs.Prelude.{◌≡◌, ℕ, ◌≤◌, nat_eq, Bool, true, false, List, [], Some, length, map, position}
-use Rattle.std.proofs.Common.{refl, ap, ◌∙◌, sym, subst, get_or, set}
-use Rattle.std.proofs.lemmas.List.{get_or_default}
+use Rattle.std.specs.Prelude.{◌≡◌, ℕ, ◌≤◌, nat_eq, Bool, true, false, List, [], Some, is_some, length, map, position}
+use Rattle.std.proofs.Common.{refl, ap, ◌∙◌, sym, subst, set}
 use Rattle.std.specs.List.{AllZip}
 use Rattle.std.specs.Option.{unwrap_or}
 use Rattle.link_frames.specs.declared.message.Message.TheVariants as said
@@ -22,17 +21,16 @@ use Rattle.policy_audit.specs.Owed.{refusal_owes, wide}
 use Rattle.policy_audit.specs.Policy.{IsNext, answer, is_full, with_entry}
 use Rattle.policy_audit.proofs.Accepted.{lie}
 use Rattle.scope_core.specs.Calls.{count_after_drop}
-use Rattle.scope_core.specs.Table.{Table}
-use Rattle.node_core.specs.declared.changes.Part.{Part}
 use Rattle.node_core.specs.declared.hearing.Heard.TheVariants as heard
 use Rattle.node_core.specs.declared.link_state.LinkState.{LinkState}
+use Rattle.node_core.specs.declared.link_state.LinkState.TheVariants as state
 use Rattle.node_core.specs.declared.running.Running.{Running}
 use Rattle.node_core.specs.Core.{Parts, Follows}
 use Rattle.node_core.specs.Handshakes.{HaveComeUp, HaveEnded, older_of}
 use Rattle.node_core.specs.Hearing.{Hears, is_handshake}
 use Rattle.node_core.specs.LinkFacts.{facts, IsState}
 use Rattle.node_core.specs.Links.{KeptLink, known_peer, narrow_frames, up_peer}
-use Rattle.node_core.specs.Parting.{ArePartings, IsCutOff, count_but}
+use Rattle.node_core.specs.Parting.{ArePartings, IsCutOff}
 use Rattle.node_core.proofs.Entered.{made}
 use Rattle.node_core.proofs.Found.{some_is}
 use Rattle.node_core.proofs.FrameRefused.{refused_follows, refused_next}
@@ -51,6 +49,15 @@ module _ (h : History) (parts : Parts) (t : Follows h parts) (seat j p : ℕ) (b
 
   pub handshakes : is_handshake s ≡ true
   handshakes = (last_state h j opens final s its_state).1
+
+  -- its peer is known
+  pub has_peer : is_some (known_peer s) ≡ true
+  has_peer = by s late
+    where
+      by : (x : LinkState) → is_last_state x ≡ true → is_some (known_peer x) ≡ true
+      by (state.Reply y) q = refl
+      by (state.Ack y) q = refl
+      by x q = lie (sym q)
 
   module _ (pending : Pending) where
     pub last_never_on : (now : LinkState) (frames : List (List ℕ)) (gives_up : Bool) → Hears parts.admission pending s body (heard.On now frames gives_up) → ⊥
@@ -79,17 +86,16 @@ module _ (h : History) (parts : Parts) (t : Follows h parts) (seat j p : ℕ) (b
       last_few = few_frames parts.admission pending body s (heard.Up up frames) hears.1
 
       -- the peer as it was named before, and the answer
-      module _ (u : KeptLink) (u_is : u ≡ get_or parts.links p u) (peer : List ℕ) (known : known_peer u.state ≡ Some peer) (r : Reply) (q : r ≡ reply.Up peer up.creation up.visible) (cs : List Change) where
+      module _ (peer : List ℕ) (known : known_peer s ≡ Some peer) (r : Reply) (q : r ≡ reply.Up peer up.creation up.visible) (cs : List Change) where
         peer_is : peer ≡ up.peer
-        peer_is =
-            let there = is_there h parts t j p at v in
-            some_is (sym known ∙ ap (λ (x : KeptLink). known_peer x.state) (u_is ∙ get_or_default parts.links p u v there.0) ∙ ap known_peer (sym (held_is h parts t j p at v w next last s held)) ∙ it.1)
+        peer_is = some_is (sym known ∙ it.1)
 
         reply_is : answer h seat (event.Frame j body) ≡ r
         reply_is = answered_up h j body up frames it.0 seat ∙ sym (q ∙ ap (λ n. reply.Up n up.creation up.visible) peer_is)
 
-        pub last_next : (away : Part) (scopes : List Running) → ArePartings away scopes cs → scopes ≡ parts.scopes → ((x : Table) → count_but away x ≡ count_after_drop x peer) → IsNext h (made h seat (event.Frame j body) (Accepted r) cs)
-        last_next away scopes gone these drops = up_next h seat j body up frames it.0 r cs space reply_is parts t away (λ x. drops x ∙ ap (count_after_drop x) peer_is) (subst (λ rs. ArePartings away rs cs) these gone)
+        pub last_next : (scopes : List Running) → ArePartings (λ x. count_after_drop x peer) scopes cs → scopes ≡ parts.scopes → IsNext h (made h seat (event.Frame j body) (Accepted r) cs)
+        last_next scopes gone these = up_next h seat j body up frames it.0 r cs space reply_is parts t
+            (subst (λ n. ArePartings (λ x. count_after_drop x n) parts.scopes cs) peer_is (subst (λ rs. ArePartings (λ x. count_after_drop x peer) rs cs) these gone))
 
         pub last_came_up : IsNext h (made h seat (event.Frame j body) (Accepted r) cs) → (new : List KeptLink) (asked : List OutFrame) (running : List Running) → asked ≡ map (λ x. wide (said.Discover x.scope)) running → running ≡ parts.scopes
             → HaveComeUp p up frames asked (set (set parts.links p w) p last) new

@@ -1,8 +1,8 @@
 -- Which peers are up and which are dialled, by the states of the kept links.
-use Rattle.std.specs.Prelude.{◌≡◌, ℕ, ◌+◌, ◌==◌, Bool, true, false, cond, ◌&&◌, ◌||◌, not, List, [], ◌∷◌, Option, Some, None, length, is_some, position, nat_lt, suc}
+use Rattle.std.specs.Prelude.{◌≡◌, ℕ, ◌==◌, Bool, true, false, cond, ◌&&◌, ◌||◌, not, List, [], ◌∷◌, Option, Some, None, length, nat_lt}
 use Rattle.std.proofs.Common.{refl, ap, ◌∙◌, sym, arith}
-use Rattle.std.proofs.lemmas.Bool.{eqb-true, lt-ltb, ltb-true, ltb-false}
-use Rattle.std.specs.List.{list_any, position_or_len, AllByRecursion}
+use Rattle.std.proofs.lemmas.Bool.{eqb-true}
+use Rattle.std.specs.List.{list_any, AllByRecursion}
 use Rattle.std.specs.Option.{option_map_or}
 use Rattle.dist_types.specs.Listing.{same, is_among}
 use Rattle.dist_types.specs.Difference.{is_empty}
@@ -87,32 +87,6 @@ module _ (h : History) (n : List ℕ) where
         agree (IsLinkOf (link_words h)) (λ x. option_map_or (λ m. same m n) (dialled_peer x.state) false) (λ x. is_open x.number h.entries && is_unfinished_dial n x.number h.entries) (λ x it. dialled_by x.number x.state it.state) kept t.each
         ∙ sym (any_map (λ l. is_open l h.entries && is_unfinished_dial n l h.entries) (λ x. x.number) kept)
         ∙ ap (list_any (λ l. is_open l h.entries && is_unfinished_dial n l h.entries)) t.numbers ∙ sym (dialling_kept h legal n)
-
-one_less : (n m : ℕ) → nat_lt (1 + n) (suc m) ≡ nat_lt n m
-one_less n m = by (nat_lt (1 + n) (suc m)) refl (nat_lt n m) refl
-  where
-    by : (a : Bool) → nat_lt (1 + n) (suc m) ≡ a → (b : Bool) → nat_lt n m ≡ b → a ≡ b
-    by true p true q = refl
-    by false p false q = refl
-    by true p false q = absurd (let less = ltb-true (1 + n) (suc m) p in let more = ltb-false n m q in omega (arith, less, more))
-    by false p true q = absurd (let less = ltb-true n m q in let more = ltb-false (1 + n) (suc m) p in omega (arith, less, more))
-
--- a place is found where one passes
-module _ {A : Type 0} (test : A → Bool) where
-  place_by : (xs : List A) → (nat_lt (position_or_len test xs) (length xs) ≡ list_any test xs)
-  place_by [] = refl
-  place_by (x ∷ xs) = by (test x) refl (place_by xs)
-    where
-      by : (b : Bool) → test x ≡ b → nat_lt (position_or_len test xs) (length xs) ≡ list_any test xs → nat_lt (position_or_len test (x ∷ xs)) (length (x ∷ xs)) ≡ (test x || list_any test xs)
-      by true q later = ap (λ b. nat_lt (cond (not b) (1 + position_or_len test xs) 0) (suc (length xs))) q ∙ lt-ltb 0 (suc (length xs)) (omega arith) ∙ sym (ap (λ b. b || list_any test xs) q)
-      by false q later = ap (λ b. nat_lt (cond (not b) (1 + position_or_len test xs) 0) (suc (length xs))) q ∙ one_less (position_or_len test xs) (length xs) ∙ later ∙ sym (ap (λ b. b || list_any test xs) q)
-
-  pub place_found : (xs : List A) → is_some (position test xs) ≡ list_any test xs
-  place_found xs = one (nat_lt (position_or_len test xs) (length xs)) ∙ place_by xs
-    where
-      one : (b : Bool) → is_some {T = ℕ} (cond b (Some (position_or_len test xs)) None) ≡ b
-      one true = refl
-      one false = refl
 
 -- ---- who is allowed
 

@@ -34,7 +34,8 @@ use Rattle.node_core.proofs.Entered.{made, accepted_now, answered_now, next_now,
 use Rattle.node_core.proofs.Gone.{IsGone, RowsGone, gone_links, gone_change, gone_scopes}
 use Rattle.node_core.proofs.Found.{some_is}
 use Rattle.node_core.proofs.KeptOn.{each_at}
-use Rattle.node_core.proofs.LinkTests.{up_is, place_found}
+use Rattle.node_core.proofs.Found.{place_found}
+use Rattle.node_core.proofs.LinkTests.{up_is}
 use Rattle.node_core.proofs.Places.{is_kept_at, link_at}
 
 -- ---- whether a link is up, by its state

@@ -1,15 +1,11 @@
 -- What a node keeps after a message that is accepted.
-use Rattle.std.specs.Prelude.{◌≡◌, ℕ, nat_eq, ◌<◌, Bool, true, false, cond, ◌||◌, ◌==◌, not, List, [], ◌∷◌, ◌++◌, length, position, Some, None}
+use Rattle.std.specs.Prelude.{◌≡◌, ℕ, nat_eq, ◌<◌, Bool, true, false, cond, ◌==◌, List, [], ◌++◌, length, position, Some, None}
 use Rattle.std.proofs.Common.{refl, ap, ◌∙◌, sym, subst, get_or, set}
 use Rattle.std.proofs.lemmas.Bool.{eqb-true, eq-eqb}
 use Rattle.std.proofs.lemmas.List.{append-nil}
 use Rattle.std.specs.Option.{option_map_or}
-use Rattle.std.specs.List.{filter}
 use Rattle.dist_types.specs.declared.pid.Pid.{Pid}
-use Rattle.dist_types.specs.declared.change.GroupChange.{GroupChange}
 use Rattle.dist_types.specs.Listing.{same}
-use Rattle.dist_types.specs.Difference.{IsDifference, is_empty}
-use Rattle.dist_types.proofs.Orders.{same_sym}
 use Rattle.link_frames.specs.declared.message.Message.{Message}
 use Rattle.policy_audit.specs.declared.event.Event.TheVariants as event
 use Rattle.policy_audit.specs.declared.reply.Reply.TheVariants as reply
@@ -24,16 +20,14 @@ use Rattle.policy_audit.specs.Hearing.{message_taken, heard, told}
 use Rattle.policy_audit.specs.Listed.{listed}
 use Rattle.policy_audit.specs.Checks.{checks, first_broken, frame_checks, message_checks, always}
 use Rattle.policy_audit.specs.Owed.{waiting, message_owes, frame_owes}
-use Rattle.policy_audit.specs.Changes.{IsChange, if_some}
+use Rattle.policy_audit.specs.Changes.{IsChange}
 use Rattle.policy_audit.specs.Policy.{is_full, with_entry, up_answer, verdict, IsAnswered, IsNext, IsLegal}
-use Rattle.policy_audit.specs.Effects.{IsSameLink}
 use Rattle.policy_audit.proofs.UpLinks.{and_left, and_right, flip}
 use Rattle.policy_audit.proofs.Effects.{entry_link}
 use Rattle.policy_audit.proofs.Onward.{message_taken_on}
 use Rattle.policy_audit.proofs.LinkFrames.{message_links}
 use Rattle.policy_audit.proofs.LinksLeft.{framed_numbers}
 use Rattle.policy_audit.proofs.KeptNumbers.{kept_climbs}
-use Rattle.policy_audit.proofs.ScopeChanges.{changes_are}
 use Rattle.policy_audit.proofs.ScopesNow.{running_rises}
 use Rattle.group_monitors.proofs.Followed.{follows_other}
 use Rattle.node_core.specs.declared.running.Running.{Running}
@@ -43,7 +37,7 @@ use Rattle.node_core.specs.ScopeFacts.{scope_words, IsRunningOf, ScopesFollow}
 use Rattle.node_core.specs.Core.{Parts, Follows}
 use Rattle.node_core.proofs.Entered.{made, accepted_now, answered_now, next_now, sound_now}
 use Rattle.node_core.proofs.Calm.{same_links}
-use Rattle.node_core.proofs.KeptOn.{one_follows, place_is}
+use Rattle.node_core.proofs.KeptOn.{facts_same, one_follows, place_is}
 use Rattle.node_core.proofs.OneScope.{one_scope_follows}
 use Rattle.node_core.proofs.MessagePlaces.{IsUpHere}
 
@@ -53,19 +47,6 @@ pub message_rules : (h : History) (seat l : ℕ) (body : List ℕ) → is_up l h
 message_rules h seat l body up awaited =
     ap (λ b. first_broken (cond b (frame_checks h l body (awaits l h.entries)) (always rule.NoSuchLink))) (and_left (is_open l h.entries) (is_whole l h.entries) up)
     ∙ ap (λ a. first_broken (frame_checks h l body a)) awaited
-
--- a change of one scope, perhaps none
-pub one_scope_change : (h k : History) (s : List ℕ) (groups : List GroupChange) → IsDifference (listed h s) (listed k s) groups
-    → ((t : List ℕ) → same t s ≡ false → (g : List ℕ) (p : Pid) → listed h t g p ≡ listed k t g p) → IsChange h k (if_some s groups)
-one_scope_change h k s groups difference others = by groups (changes_are h k (record { scope = s; groups = groups } ∷ []) (tt, tt) (difference, tt) (λ t apart. others t (same_sym t s ∙ first (same s t) apart)))
-  where
-    first : (b : Bool) → (b || false) ≡ false → b ≡ false
-    first true q = q
-    first false q = refl
-
-    by : (gs : List GroupChange) → IsChange h k (filter (λ c. not (is_empty c.groups)) (record { scope = s; groups = gs } ∷ [])) → IsChange h k (if_some s gs)
-    by [] is = is
-    by (g ∷ gs) is = is
 
 module _ (h : History) (seat l : ℕ) (body : List ℕ) (m : Message) (space : is_full h ≡ false) (up : is_up l h.entries ≡ true) (awaited : awaits l h.entries ≡ AwaitMessage)
     (says : message_taken body ≡ Some m) (holds : first_broken (message_checks h l m) ≡ None) (cs : List Change) where
@@ -111,16 +92,7 @@ module _ (h : History) (seat l : ℕ) (body : List ℕ) (m : Message) (space : i
             said = it.given i;
             challenge = option_map_or (λ o. challenge_in o.start) (it.opened i) 0;
           }) opens
-      by false e =
-          let it : IsSameLink j h.entries now.entries = entry_link h.entries entry l j body refl e in
-          λ i. record (facts h j) {
-            open_now = opens i;
-            whole = it.whole i;
-            awaited = it.awaits i;
-            peer = it.peer i;
-            said = it.given i;
-            challenge = option_map_or (λ o. challenge_in o.start) (it.opened i) 0;
-          }
+      by false e = facts_same h now refl j (entry_link h.entries entry l j body refl e) opens
 
   owes : frame_owes h l body AwaitMessage ≡ message_owes h l m
   owes = ap (λ o. option_map_or (message_owes h l) o []) says

@@ -11,7 +11,7 @@ use Rattle.dist_types.specs.Flags.{has_bit}
 use Rattle.dist_types.specs.Listing.{same, IsPidListing, IsGroupListing}
 use Rattle.dist_types.specs.Difference.{is_empty}
 use Rattle.dist_types.proofs.Orders.{same_decides, same_sym}
-use Rattle.scope_core.specs.Table.{count_of, node_total, max_rows}
+use Rattle.scope_core.specs.Table.{node_total, max_rows}
 use Rattle.scope_core.specs.Calls.{are_counted}
 use Rattle.scope_core.proofs.Members.{length-members}
 use Rattle.handshake_frames.specs.Frame.{Name}
@@ -20,20 +20,18 @@ use Rattle.link_frames.specs.declared.message.Message.TheVariants as said
 use Rattle.policy_audit.specs.declared.event.Event.TheVariants as event
 use Rattle.policy_audit.specs.declared.rule.Rule.{Rule}
 use Rattle.policy_audit.specs.declared.rule.Rule.TheVariants as rule
-use Rattle.policy_audit.specs.History.{History, events}
+use Rattle.policy_audit.specs.History.{History}
 use Rattle.policy_audit.specs.Own.{is_running}
 use Rattle.policy_audit.specs.Sides.{AwaitMessage, awaits, peer_of, is_visible, is_whole}
 use Rattle.policy_audit.specs.Links.{is_open, is_up}
 use Rattle.policy_audit.specs.Hearing.{message_taken, heard, rows_of}
 use Rattle.policy_audit.specs.Listed.{listed, is_from}
-use Rattle.policy_audit.specs.Contents.{members, groups, groups_named, pids_named}
+use Rattle.policy_audit.specs.Contents.{members, groups}
 use Rattle.policy_audit.specs.Checks.{Check, checks, are_from, hears_in, runs, first_broken, message_checks, always, unless, peer_rows, are_listed}
 use Rattle.policy_audit.specs.Owed.{refusal_owes}
 use Rattle.policy_audit.proofs.Accepted.{no_value, unbroken, all_hold}
 use Rattle.policy_audit.proofs.UpLinks.{and_left, and_right, flip}
 use Rattle.policy_audit.proofs.Onward.{whole_is_message}
-use Rattle.policy_audit.proofs.Named.{listed_named, group_named, pid_named}
-use Rattle.policy_audit.proofs.Lists as lists
 use Rattle.node_core.specs.declared.running.Running.{Running}
 use Rattle.node_core.specs.Links.{KeptLink, up_peer, is_shown, are_of_peer}
 use Rattle.node_core.specs.LinkFacts.{facts, IsGiven}
@@ -42,6 +40,7 @@ use Rattle.node_core.specs.MessageRules.{early_checks}
 use Rattle.node_core.specs.ScopeFacts.{is_number, scope_words, IsRunningOf}
 use Rattle.node_core.specs.Calm.{refuses_calmly}
 use Rattle.node_core.proofs.Found.{some_is}
+use Rattle.node_core.proofs.Scopes.{counts_listed, members_listing, groups_listing}
 use Rattle.node_core.proofs.MessagePlaces.{IsUpHere}
 use Rattle.node_core.proofs.MessageKept.{message_rules}
 
@@ -203,23 +202,14 @@ refusal_silent x hs (said.Down s) r q = no_value (sym q)
 
 -- ---- what the table tells
 
-members_listing : (h : History) (s g : List ℕ) → IsPidListing (listed h s g) (members h s g)
-members_listing h s = lists.members_are (listed h s) (λ f. pids_named s f (events h.entries)) (groups_named s (events h.entries)) (λ f p q. pid_named s f p (events h.entries) (listed_named s f p h q)) (λ f p q. group_named s f p (events h.entries) (listed_named s f p h q))
-
-groups_listing : (h : History) (s : List ℕ) → IsGroupListing (listed h s) (groups h s)
-groups_listing h s = lists.groups_are (listed h s) (λ f. pids_named s f (events h.entries)) (groups_named s (events h.entries)) (λ f p q. pid_named s f p (events h.entries) (listed_named s f p h q)) (λ f p q. group_named s f p (events h.entries) (listed_named s f p h q))
-
 module _ (h : History) (l : ℕ) (s : List ℕ) (r : Running) (named : r.scope ≡ s) (t : IsRunningOf (scope_words h) r) where
-  table_lists : count_of r.table ≡ listed h s
-  table_lists = λ i g p. (t.rows g p ∙ ap (λ u. listed h u g p) named) i
-
   pub total_is : (n : List ℕ) → peer_of l h.entries ≡ Some n → peer_rows h l s ≡ node_total r.table n
   total_is n of =
       (λ i. length (filter (λ p. (ap (λ o. option_map_or {T = List ℕ} {U = Bool} (λ m. same m p.node) o false) of ∙ same_sym n p.node) i) (flat_map (members h s) (groups h s))))
-      ∙ length-members r.table n (groups h s) (members h s) (subst (λ f. IsGroupListing f (groups h s)) (sym table_lists) (groups_listing h s)) (λ g. subst (λ f. IsPidListing (f g) (members h s g)) (sym table_lists) (members_listing h s g))
+      ∙ length-members r.table n (groups h s) (members h s) (subst (λ f. IsGroupListing f (groups h s)) (sym (counts_listed h s r named t)) (groups_listing h s)) (λ g. subst (λ f. IsPidListing (f g) (members h s g)) (sym (counts_listed h s r named t)) (members_listing h s g))
 
   pub counted_is : (rows : List Row) → are_counted r.table rows ≡ list_all (λ w. nat_le (rows_of w.group w.pid rows) (listed h s w.group w.pid)) rows
-  counted_is rows = λ i. list_all (λ w. nat_le (rows_of w.group w.pid rows) (table_lists i w.group w.pid)) rows
+  counted_is rows = λ i. list_all (λ w. nat_le (rows_of w.group w.pid rows) (counts_listed h s r named t i w.group w.pid)) rows
 
   -- a Join that makes too many rows
   pub join_full : (rows : List Row) (n : List ℕ) → peer_of l h.entries ≡ Some n → max_rows < node_total r.table n + length rows → first_broken (early_checks h l (said.Join s rows)) ≡ None → first_broken (message_checks h l (said.Join s rows)) ≡ Some rule.RowsFull

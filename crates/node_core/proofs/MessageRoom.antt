@@ -1,23 +1,22 @@
 -- Room that is made for a message, and the answer to a Discover.
-use Rattle.std.specs.Prelude.{◌≡◌, ℕ, zero, suc, ◌<◌, nat_eq, cond, List, [], ◌∷◌, ◌++◌, length, position, Some, None, false, true}
+use Rattle.std.specs.Prelude.{◌≡◌, ℕ, ◌<◌, nat_eq, cond, List, [], ◌∷◌, ◌++◌, length, position, Some, None, false, true}
 use Rattle.std.proofs.Common.{refl, ap, ◌∙◌, sym, subst, get_or, set}
-use Rattle.std.proofs.lemmas.List.{get_or-set_same}
-use Rattle.dist_types.specs.Listing.{same, IsRowListing}
-use Rattle.scope_core.specs.Table.{count_of, local_count}
+use Rattle.std.proofs.lemmas.List.{get_or-set_same, set-set}
+use Rattle.dist_types.specs.Listing.{IsRowListing}
+use Rattle.scope_core.specs.Table.{count_of}
 use Rattle.link_frames.specs.declared.message.Message.TheVariants as said
 use Rattle.policy_audit.specs.declared.event.Event.TheVariants as event
 use Rattle.policy_audit.specs.declared.reply.Reply.TheVariants as reply
 use Rattle.policy_audit.specs.declared.entry.Verdict.TheVariants.{Accepted}
 use Rattle.policy_audit.specs.declared.out_frame.OutFrame.{OutFrame}
 use Rattle.policy_audit.specs.History.{History}
-use Rattle.policy_audit.specs.Own.{own}
 use Rattle.policy_audit.specs.Links.{is_up}
 use Rattle.policy_audit.specs.Hearing.{message_taken, heard}
 use Rattle.policy_audit.specs.Contents.{local_rows}
 use Rattle.policy_audit.specs.Checks.{first_broken, message_checks}
 use Rattle.policy_audit.specs.Owed.{wide, message_owes}
 use Rattle.policy_audit.specs.Policy.{is_full, with_entry, IsLegal}
-use Rattle.policy_audit.proofs.OwnRows.{own_is_listed, sync_listing}
+use Rattle.policy_audit.proofs.OwnRows.{sync_listing}
 use Rattle.policy_audit.proofs.KeptNumbers.{kept_climbs}
 use Rattle.policy_audit.proofs.ScopesNow.{running_rises}
 use Rattle.node_core.specs.declared.running.Running.{Running}
@@ -29,6 +28,7 @@ use Rattle.node_core.specs.Core.{Parts, Follows}
 use Rattle.node_core.proofs.Entered.{made}
 use Rattle.node_core.proofs.KeptOn.{one_follows, place_is}
 use Rattle.node_core.proofs.OneScope.{one_scope_follows}
+use Rattle.node_core.proofs.Scopes.{own_counts}
 use Rattle.node_core.proofs.MessagePlaces.{IsUpHere, IsScopeHere}
 use Rattle.node_core.proofs.MessageKept.{owed_links}
 use Rattle.node_core.proofs.MessageScopes.{counted, heard_there, told_there, becomes_running, discovered_follows}
@@ -55,21 +55,10 @@ follows_with h parts t rs kept scopes links = record { sound = t.sound; admissio
 
 -- ---- the answer to a Discover
 
-twice : {A : Type 0} (xs : List A) (p : ℕ) (a b : A) → set (set xs p a) p b ≡ set xs p b
-twice [] p a b = refl
-twice (x ∷ xs) zero a b = refl
-twice (x ∷ xs) (suc p) a b = ap (λ ys. x ∷ ys) (twice xs p a b)
-
 module _ (h : History) (legal : IsLegal h) (s : List ℕ) (r : Running) (named : r.scope ≡ s) (u : IsRunningOf (scope_words h) r) where
-  own_counts : local_count r.table ≡ own h s
-  own_counts = λ i g p. (
-      ap (λ n. cond (same p.node n) (count_of r.table g p) 0) u.own
-      ∙ ap (λ n. cond (same p.node h.opening.name) n 0) (counted h h refl s r r named u g p)
-      ∙ sym (own_is_listed h legal s g p)) i
-
   pub answer_is : (l : ℕ) (frames : List OutFrame) → AnswersDiscover r l s frames → frames ≡ message_owes h l (said.Discover s)
   answer_is l frames a =
-      let rows_are : a.rows ≡ local_rows h s = sync_listing h s a.rows (subst (λ f. IsRowListing f a.rows) own_counts a.own) in
+      let rows_are : a.rows ≡ local_rows h s = sync_listing h s a.rows (subst (λ f. IsRowListing f a.rows) (own_counts h s r named u legal) a.own) in
       let heard_is : is_number l r.heard.items ≡ heard l s h.entries = heard_there h h refl s r r named u l in
       a.frames_are ∙ (λ i. wide (said.Sync s (rows_are i)) ∷ cond (heard_is i) [] (wide (said.Discover s) ∷ []))
 
@@ -87,7 +76,7 @@ module _ (h : History) (parts : Parts) (t : Follows h parts) (seat l : ℕ) (bod
   answered_follows becomes lp a b z frames answers placed same again owed =
       let within : lp < length parts.links = (place_is parts.links l lp x placed).0 in
       let is : z ≡ with_room (with_frames x frames) z.room = given_frames parts.links lp x a b z frames within same again owed in
-      subst (λ kept. Follows (with_entry h (made h seat (event.Frame l body) (Accepted reply.Done) [])) (record parts { scopes = set parts.scopes p y; links = kept })) (sym (twice parts.links lp a z))
+      subst (λ kept. Follows (with_entry h (made h seat (event.Frame l body) (Accepted reply.Done) [])) (record parts { scopes = set parts.scopes p y; links = kept })) (sym (set-set parts.links lp a z))
       (discovered_follows h parts t seat l body space up x here s p r y there says holds becomes (set parts.links lp z)
       (owed_links h seat l body (said.Discover s) space up here.awaited says holds [] parts.links t.sound.legal t.links lp x z placed here
       (ap (λ w. w.number) is) (ap (λ w. w.state) is) (ap (λ w. w.prepared) is ∙ here.link.idle) (ap (λ w. w.frames) is ∙ ap (λ fs. x.frames ++ fs) (answer_is h t.sound.legal s r there.named there.running l frames answers))))

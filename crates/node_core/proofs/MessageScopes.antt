@@ -1,7 +1,8 @@
 -- What each accepted message makes of its scope and of its link.
 use Rattle.std.specs.Prelude.{◌≡◌, ℕ, nat_eq, ◌+◌, ◌-◌, Bool, true, false, cond, ◌&&◌, ◌||◌, ◌==◌, not, List, [], ◌∷◌, ◌++◌, Some, None}
 use Rattle.std.proofs.Common.{refl, ap, ◌∙◌, sym, subst, get_or, set}
-use Rattle.std.proofs.lemmas.Bool.{eqb-true, eq-eqb}
+use Rattle.std.proofs.Math.Bool.{and-true}
+use Rattle.std.proofs.lemmas.Bool.{eqb-true}
 use Rattle.std.proofs.lemmas.List.Folds.{list_any-append}
 use Rattle.dist_types.specs.declared.pid.Pid.{Pid}
 use Rattle.dist_types.specs.declared.row.Row.{Row}
@@ -26,7 +27,6 @@ use Rattle.policy_audit.specs.Checks.{first_broken, message_checks}
 use Rattle.policy_audit.specs.Changes.{if_some}
 use Rattle.policy_audit.specs.Policy.{is_full, with_entry, IsAnswered, IsNext, IsLegal}
 use Rattle.policy_audit.proofs.UpLinks.{and_false, flip}
-use Rattle.policy_audit.proofs.Accepted.{lie}
 use Rattle.policy_audit.proofs.ChangeLemmas.{no_change}
 use Rattle.policy_audit.specs.Contents.{row}
 use Rattle.policy_audit.proofs.HeardNow.{IsHeardNow}
@@ -41,7 +41,9 @@ use Rattle.node_core.specs.MessageRules.{HasBecome}
 use Rattle.node_core.specs.Core.{Parts, Follows}
 use Rattle.node_core.proofs.Entered.{made}
 use Rattle.node_core.proofs.MessagePlaces.{IsUpHere, IsScopeHere}
-use Rattle.node_core.proofs.MessageKept.{one_scope_change, its_answered, its_next, silent_links, scope_on, message_follows}
+use Rattle.node_core.proofs.OneScope.{scope_change}
+use Rattle.node_core.proofs.ScopesCutOff.{number_left}
+use Rattle.node_core.proofs.MessageKept.{its_answered, its_next, silent_links, scope_on, message_follows}
 
 -- ---- numbers
 
@@ -61,25 +63,6 @@ number_on j l ns = by (is_number l ns) refl
     by : (b : Bool) → is_number l ns ≡ b → is_number j (cond b ns (ns ++ l ∷ [])) ≡ ((l == j) || is_number j ns)
     by true e = there e (l == j) refl
     by false e = list_any-append (nat_eq j) ns (l ∷ []) ∙ turn (is_number j ns) (nat_eq j l) ∙ ap (λ b. b || is_number j ns) (flip j l)
-
-number_off : (j l : ℕ) (ns : List ℕ) → is_number j (without l ns) ≡ (is_number j ns && not (l == j))
-number_off j l [] = refl
-number_off j l (n ∷ ns) = by (nat_eq n l) refl (number_off j l ns)
-  where
-    out : (b c d : Bool) → (b ≡ true → d ≡ true) → (c && not d) ≡ ((b || c) && not d)
-    out true c true f = and_false c
-    out true c false f = lie (sym (f refl))
-    out false c d f = refl
-
-    kept : (b c d : Bool) → (b ≡ true → d ≡ false) → (b || (c && not d)) ≡ ((b || c) && not d)
-    kept true c true f = lie (f refl)
-    kept true c false f = refl
-    kept false c d f = refl
-
-    by : (a : Bool) → nat_eq n l ≡ a → is_number j (without l ns) ≡ (is_number j ns && not (l == j))
-        → is_number j (cond (not a) (n ∷ without l ns) (without l ns)) ≡ ((nat_eq j n || is_number j ns) && not (l == j))
-    by true e later = later ∙ out (nat_eq j n) (is_number j ns) (l == j) (λ q. eq-eqb l j (sym (eqb-true n l e) ∙ sym (eqb-true j n q)))
-    by false e later = ap (λ b. nat_eq j n || b) later ∙ kept (nat_eq j n) (is_number j ns) (l == j) (λ q. flip l j ∙ ap (λ k. nat_eq k l) (eqb-true j n q) ∙ e)
 
 -- ---- the scope of a message
 
@@ -139,11 +122,7 @@ module _ (h : History) (parts : Parts) (t : Follows h parts) (seat l : ℕ) (bod
   elsewhere j u apart = ap (λ b. l == j && b) (same_sym s u ∙ apart) ∙ and_false (l == j)
 
   its_own : (j : ℕ) → (l == j && same s s) ≡ (l == j)
-  its_own j = ap (λ b. l == j && b) itself ∙ plain (l == j)
-    where
-      plain : (b : Bool) → (b && true) ≡ b
-      plain true = refl
-      plain false = refl
+  its_own j = ap (λ b. l == j && b) itself ∙ and-true (l == j)
 
   unless_it : (b c : Bool) → c ≡ false → (b && not c) ≡ b
   unless_it true c q = ap not q
@@ -198,9 +177,9 @@ module _ (h : History) (parts : Parts) (t : Follows h parts) (seat l : ℕ) (bod
 
     pub synced_next : IsNext h (made h seat (event.Frame l body) (Accepted reply.Done) synced_cs)
     synced_next = its_next h seat l body (said.Sync s rows) space up here.awaited says holds synced_cs
-        (one_scope_change h (after_it synced_cs) s groups
+        (scope_change h (after_it synced_cs) s groups
         (difference_is h (after_it synced_cs) refl s r y there.named there.running (count_after_sync r.table peer rows) (with_number l r.heard.items) r.told.items b groups synced_here differ)
-        (λ u apart g q. sym (synced_apart u apart g q)))
+        (λ u g q apart. sym (synced_apart u apart g q)))
 
     pub synced_follows : Follows (after_it synced_cs) (record parts { scopes = set parts.scopes p y })
     synced_follows = message_follows h seat l body (said.Sync s rows) space up here.awaited says holds synced_cs parts (set parts.scopes p y) parts.links t synced_next
@@ -239,9 +218,9 @@ module _ (h : History) (parts : Parts) (t : Follows h parts) (seat l : ℕ) (bod
 
     pub added_next : IsNext h (made h seat (event.Frame l body) (Accepted reply.Done) added_cs)
     added_next = its_next h seat l body (said.Join s rows) space up here.awaited says holds added_cs
-        (one_scope_change h (after_it added_cs) s groups
+        (scope_change h (after_it added_cs) s groups
         (difference_is h (after_it added_cs) refl s r y there.named there.running (count_after_add r.table rows) r.heard.items r.told.items b groups added_here differ)
-        (λ u apart g q. sym (added_apart u apart g q)))
+        (λ u g q apart. sym (added_apart u apart g q)))
 
     pub added_follows : Follows (after_it added_cs) (record parts { scopes = set parts.scopes p y })
     added_follows = message_follows h seat l body (said.Join s rows) space up here.awaited says holds added_cs parts (set parts.scopes p y) parts.links t added_next
@@ -280,9 +259,9 @@ module _ (h : History) (parts : Parts) (t : Follows h parts) (seat l : ℕ) (bod
 
     pub taken_next : IsNext h (made h seat (event.Frame l body) (Accepted reply.Done) taken_cs)
     taken_next = its_next h seat l body (said.Leave s rows) space up here.awaited says holds taken_cs
-        (one_scope_change h (after_it taken_cs) s groups
+        (scope_change h (after_it taken_cs) s groups
         (difference_is h (after_it taken_cs) refl s r y there.named there.running (count_after_take r.table rows) r.heard.items r.told.items b groups taken_here differ)
-        (λ u apart g q. sym (taken_apart u apart g q)))
+        (λ u g q apart. sym (taken_apart u apart g q)))
 
     pub taken_follows : Follows (after_it taken_cs) (record parts { scopes = set parts.scopes p y })
     taken_follows = message_follows h seat l body (said.Leave s rows) space up here.awaited says holds taken_cs parts (set parts.scopes p y) parts.links t taken_next
@@ -324,18 +303,18 @@ module _ (h : History) (parts : Parts) (t : Follows h parts) (seat l : ℕ) (bod
 
     pub downed_next : IsNext h (made h seat (event.Frame l body) (Accepted reply.Done) downed_cs)
     downed_next = its_next h seat l body (said.Down s) space up here.awaited says holds downed_cs
-        (one_scope_change h (after_it downed_cs) s groups
+        (scope_change h (after_it downed_cs) s groups
         (difference_is h (after_it downed_cs) refl s r y there.named there.running (count_after_drop r.table peer) (without l r.heard.items) (without l r.told.items) b groups downed_here
         (subst (λ f. IsDifference (count_of r.table) f groups) (λ i. λ g q. sym (b.rows.counts g q) i) differ))
-        (λ u apart g q. sym (downed_apart u apart g q)))
+        (λ u g q apart. sym (downed_apart u apart g q)))
 
     pub downed_follows : Follows (after_it downed_cs) (record parts { scopes = set parts.scopes p y })
     downed_follows = message_follows h seat l body (said.Down s) space up here.awaited says holds downed_cs parts (set parts.scopes p y) parts.links t downed_next
         (scope_on h seat l body (said.Down s) space up here.awaited says holds downed_cs parts.scopes t.scopes p r y s there.within at (b.scope ∙ there.named)
         (becomes_running h (after_it downed_cs) refl s r y there.named there.running (count_after_drop r.table peer) (without l r.heard.items) (without l r.told.items) b
         downed_here
-        (λ j. number_off j l r.heard.items ∙ (λ i. heard_there h (after_it downed_cs) refl s r y there.named there.running j i && not (sym (its_own j) i)) ∙ sym (said_so j s).heard_is)
-        (λ j. number_off j l r.told.items ∙ (λ i. told_there h (after_it downed_cs) refl s r y there.named there.running j i && not (sym (its_own j) i)) ∙ sym (said_so j s).told_is))
+        (λ j. number_left j l r.heard.items ∙ (λ i. heard_there h (after_it downed_cs) refl s r y there.named there.running j i && not (sym (its_own j) i)) ∙ sym (said_so j s).heard_is)
+        (λ j. number_left j l r.told.items ∙ (λ i. told_there h (after_it downed_cs) refl s r y there.named there.running j i && not (sym (its_own j) i)) ∙ sym (said_so j s).told_is))
         downed_apart
         (λ u apart j. (said_so j u).heard_is ∙ unless_it (heard j u es) (l == j && same s u) (elsewhere j u apart))
         (λ u apart j. (said_so j u).told_is ∙ unless_it (told j u es) (l == j && same s u) (elsewhere j u apart)))

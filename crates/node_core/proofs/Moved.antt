@@ -22,9 +22,9 @@ use Rattle.node_core.specs.ScopeFacts.{scope_words, is_number, IsRunningOf, Scop
 use Rattle.node_core.specs.Core.{Parts, Follows}
 use Rattle.node_core.specs.Moving.{IsMoved}
 use Rattle.node_core.specs.Telling.{Alike, if_among}
-use Rattle.node_core.proofs.PartingChange.{counted_in}
+use Rattle.node_core.proofs.Scopes.{counts_listed}
 use Rattle.node_core.proofs.Placed.{follows_there, one_scope_follows, scope_is}
-use Rattle.node_core.proofs.Stopping.{scope_change}
+use Rattle.node_core.proofs.OneScope.{scope_change}
 use Rattle.node_core.proofs.Told.{alike_again}
 
 -- ---- what waits for the links that are told
@@ -51,7 +51,7 @@ module _ (h : History) (seat : ℕ) (parts : Parts) (t : Follows h parts) (s : L
     pub moved_change : IsChange h k cs
     moved_change = subst (IsChange h k) (sym (moved.changes ∙ ap (λ u. if_some u moved.groups) its_scope))
         (scope_change h k s moved.groups
-        (subst (λ f. IsDifference f (listed k s) moved.groups) (counted_in h s a its_scope (follows_there h parts.scopes t.scopes s p here a at))
+        (subst (λ f. IsDifference f (listed k s) moved.groups) (counts_listed h s a its_scope (follows_there h parts.scopes t.scopes s p here a at))
         (subst (λ f. IsDifference (count_of a.table) f moved.groups) (λ i f q. (now_counted f q ∙ ap (λ u. listed k u f q) (moved.scope ∙ its_scope)) i) moved.difference))
         others)
 

@@ -41,7 +41,7 @@ use Rattle.node_core.proofs.FrameFacts.{other_facts, own_awaits, same_challenge,
 use Rattle.node_core.proofs.Found.{found_in, none_found}
 use Rattle.node_core.proofs.MovedOn.{AreMoves, stays_but}
 use Rattle.node_core.proofs.OneDial.{dials, one_dial, is_known_dial}
-use Rattle.node_core.proofs.Pendings.{dial_among, dial_is_state}
+use Rattle.node_core.proofs.LinkTests.{dialling_is, dialled_by}
 
 -- the link moves on as heard
 abbrev pub Goes : History → History → ℕ → List KeptLink → Heard → Type 0
@@ -68,10 +68,10 @@ pub find_dial : (h : History) → IsLegal h → (kept : List KeptLink) → Links
 find_dial h legal kept t n q = by (dial_to n kept) refl
   where
     by : (o : Option KeptLink) → dial_to n kept ≡ o → (d : ℕ) × (option_map (λ x. x.number) (dial_to n kept) ≡ Some d) × (dials n h.entries d ≡ true)
-    by None e = lie (sym q ∙ sym (dial_among h legal kept t n) ∙ none_found (λ x. option_map_or (λ m. same m n) (dialled_peer x.state) false) kept e)
+    by None e = lie (sym q ∙ sym (dialling_is h n legal kept t) ∙ none_found (λ x. option_map_or (λ m. same m n) (dialled_peer x.state) false) kept e)
     by (Some x) e =
         let here = found_in (λ x. option_map_or (λ m. same m n) (dialled_peer x.state) false) (IsLinkOf (link_words h)) kept t.each x e in
-        (x.number, ap (option_map (λ (y : KeptLink). y.number)) e, sym (dial_is_state h x.number n x.state here.1.state) ∙ here.0)
+        (x.number, ap (option_map (λ (y : KeptLink). y.number)) e, sym (dialled_by h n x.number x.state here.1.state) ∙ here.0)
 
 module _ (h : History) (legal : IsLegal h) (rules : AdmissionRules) (t : AdmissionFollows (admission_words h) rules) (e : Entry) (answered : IsAnswered h e) (yes : is_accepted e.verdict ≡ true)
     (j : ℕ) (body : List ℕ) (is : e.event ≡ event.Frame j body) (c : ℕ) (a : IsState (facts h j) (state.Name c)) (f : Name) (said : name_frame body ≡ Some f) (other : same f.name h.opening.name ≡ false) where
@@ -123,7 +123,7 @@ module _ (h : History) (legal : IsLegal h) (rules : AdmissionRules) (t : Admissi
   where_dialled down d here l = by (nat_eq l d) refl
     where
       its_own : dials f.name h.entries j ≡ false
-      its_own = sym (dial_is_state h j f.name (state.Name c) a)
+      its_own = sym (dialled_by h f.name j (state.Name c) a)
 
       by : (b : Bool) → nat_eq l d ≡ b → (is_open l h.entries && given_up_by j f h.entries l) ≡ not (not b)
       by true q =

@@ -1,12 +1,19 @@
--- The running scopes after one of them has changed.
-use Rattle.std.specs.Prelude.{◌≡◌, ℕ, zero, suc, ◌<◌, false, List, [], ◌∷◌, map, length}
+-- One of the running scopes changes.
+use Rattle.std.specs.Prelude.{◌≡◌, ℕ, zero, suc, ◌<◌, Bool, true, false, ◌||◌, not, List, [], ◌∷◌, map, length}
 use Rattle.std.proofs.Common.{refl, ap, ◌∙◌, sym, subst, arith, get_or, set}
-use Rattle.std.specs.List.{AllByRecursion}
+use Rattle.std.specs.List.{AllByRecursion, filter}
 use Rattle.std.specs.declared.cmp.Ordering.TheVariants.{Less}
+use Rattle.dist_types.specs.declared.pid.Pid.{Pid}
+use Rattle.dist_types.specs.declared.change.GroupChange.{GroupChange}
+use Rattle.dist_types.specs.Difference.{IsDifference, is_empty}
 use Rattle.dist_types.specs.Order.{text_cmp}
 use Rattle.dist_types.specs.Listing.{same, Rises}
 use Rattle.dist_types.proofs.Orders.{same_sym}
+use Rattle.policy_audit.specs.History.{History}
+use Rattle.policy_audit.specs.Changes.{IsChange, if_some}
+use Rattle.policy_audit.specs.Listed.{listed}
 use Rattle.policy_audit.proofs.OneDifference.{apart}
+use Rattle.policy_audit.proofs.ScopeChanges.{changes_are}
 use Rattle.node_core.specs.declared.running.Running.{Running}
 use Rattle.node_core.specs.ScopeFacts.{ScopeWords, IsRunningOf, ScopesFollow}
 
@@ -37,3 +44,16 @@ module _ (w v : ScopeWords) (s : List ℕ) (y : Running) (here : IsRunningOf v y
     running = same_scopes rs p d within is ∙ t.running ∙ sym running;
     each = changed rs p d (subst (Rises text_cmp) (sym t.running) rises) t.each within is;
   }
+
+-- where the rows of one scope alone change
+pub scope_change : (h k : History) (s : List ℕ) (gs : List GroupChange) → IsDifference (listed h s) (listed k s) gs
+    → ((u g : List ℕ) (p : Pid) → same u s ≡ false → listed h u g p ≡ listed k u g p) → IsChange h k (if_some s gs)
+scope_change h k s gs d others = by gs (changes_are h k (record { scope = s; groups = gs } ∷ []) (tt, tt) (d, tt) (λ u none g p. others u g p (same_sym u s ∙ other (same s u) none)))
+  where
+    other : (b : Bool) → (b || false) ≡ false → b ≡ false
+    other true q = q
+    other false q = refl
+
+    by : (xs : List GroupChange) → IsChange h k (filter (λ c. not (is_empty c.groups)) (record { scope = s; groups = xs } ∷ [])) → IsChange h k (if_some s xs)
+    by [] is = is
+    by (x ∷ xs) is = is

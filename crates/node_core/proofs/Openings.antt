@@ -10,13 +10,11 @@ use Rattle.dist_types.specs.Flags.{own_flags}
 use Rattle.handshake_frames.specs.Spelling.{name_bytes}
 use Rattle.admission_rules.specs.Admission.{AdmissionRules}
 use Rattle.link_states.specs.Frames.{own_name}
-use Rattle.link_states.specs.States.{Dialled}
 use Rattle.policy_audit.specs.declared.event.Event.TheVariants as event
 use Rattle.policy_audit.specs.declared.reply.Reply.TheVariants as reply
 use Rattle.policy_audit.specs.declared.rule.Rule.TheVariants as rule
 use Rattle.policy_audit.specs.declared.entry.Entry.{Entry}
 use Rattle.policy_audit.specs.declared.entry.Verdict.TheVariants.{Accepted}
-use Rattle.policy_audit.specs.declared.out_frame.OutFrame.{OutFrame}
 use Rattle.policy_audit.specs.History.{History, is_accepted}
 use Rattle.policy_audit.specs.Sides.{Start, ByPeer, ByDial, start_of, challenge_in}
 use Rattle.policy_audit.specs.Links.{is_open}
@@ -35,11 +33,12 @@ use Rattle.policy_audit.proofs.HeardNow.{opening_heard}
 use Rattle.policy_audit.proofs.RowsAfter.{opened_rows, dialled_rows}
 use Rattle.group_monitors.proofs.Followed.{follows_other}
 use Rattle.node_core.specs.declared.link_state.LinkState.TheVariants as state
-use Rattle.node_core.specs.Links.{KeptLink}
+use Rattle.node_core.specs.Links.{KeptLink, dialled_link}
 use Rattle.node_core.specs.LinkFacts.{facts, link_words, IsState, IsLinkOf, LinksFollow}
 use Rattle.node_core.specs.ScopeFacts.{scope_words, ScopesFollow}
 use Rattle.node_core.specs.AdmissionFacts.{admission_words, AdmissionFollows}
 use Rattle.node_core.specs.Core.{Parts, Follows}
+use Rattle.node_core.proofs.KeptOn.{facts_same}
 use Rattle.node_core.proofs.Entered.{made, accepted_now, answered_now, next_now, sound_now}
 
 -- ---- how many links are kept
@@ -68,19 +67,7 @@ module _ (h : History) (legal : IsLegal h) (e : Entry) (is_made : IsAnswered h e
 
   -- of every other link the same is said
   other_facts : (l : ℕ) → (e.number == l) ≡ false → facts k l ≡ facts h l
-  other_facts l other =
-      let it = opened_apart h.entries e l st yes begins other in
-      let opens = opened_open h.entries e l st yes begins ∙ ap (λ b. b || is_open l h.entries) other in
-      λ i. record {
-        own = h.opening.name;
-        hidden = h.opening.hidden;
-        open_now = opens i;
-        whole = it.whole i;
-        awaited = it.awaits i;
-        peer = it.peer i;
-        said = it.given i;
-        challenge = option_map_or (λ o. challenge_in o.start) (it.opened i) 0;
-      }
+  other_facts l other = facts_same h k refl l (opened_apart h.entries e l st yes begins other) (opened_open h.entries e l st yes begins ∙ ap (λ b. b || is_open l h.entries) other)
 
   others_link : (x : KeptLink) → (e.number == x.number) ≡ false → IsLinkOf (link_words h) x → IsLinkOf (link_words k) x
   others_link x other it = record {
@@ -200,25 +187,27 @@ module _ (h : History) (legal : IsLegal h) (seat : ℕ) (peer : List ℕ) (c n :
         flipped false q = refl
         flipped true q = lie (sym q)
 
-    pub dialled_follows : (parts : Parts) (dialled : Dialled) (frames : List OutFrame) (room : ℕ) → Follows h parts → dialled ≡ record { peer = peer; challenge = c } → frames ≡ narrow (own_name parts.admission) ∷ []
-        → Follows (with_entry h dial) (record parts { links = parts.links ++ record { number = n; state = state.Status dialled; frames = frames; prepared = []; room = room } ∷ [] })
-    dialled_follows parts dialled frames room t same_dialled same_frames = record {
+    dialled_now : (parts : Parts) (room : ℕ) → Follows h parts → IsLinkOf (link_words (with_entry h dial)) (dialled_link parts.admission (next_number h) peer c room)
+    dialled_now parts room t = record {
+      state = (
+        record { open_now = opens_now h legal dial dial_is refl (ByDial peer c) refl; whole = (its h legal dial dial_is refl (ByDial peer c) refl).whole; awaited = (its h legal dial dial_is refl (ByDial peer c) refl).awaits },
+        record {
+          peer = record { peer = (its h legal dial dial_is refl (ByDial peer c) refl).peer; other = other_node };
+          challenge = sym (ap (λ o. option_map_or (λ x. challenge_in x.start) o 0) (its h legal dial dial_is refl (ByDial peer c) refl).opened);
+        },
+      );
+      frames = ap (λ f. f ∷ []) (own_name_is h parts.admission t.admission) ∙ sym (dialled_waiting h dial dial_is refl legal peer c refl);
+      idle = refl;
+    }
+
+    pub dialled_follows : (parts : Parts) (link : KeptLink) → Follows h parts → link ≡ dialled_link parts.admission n peer c link.room → Follows (with_entry h dial) (record parts { links = parts.links ++ link ∷ [] })
+    dialled_follows parts link t is = record {
       sound = sound_now h parts.limit _ t.sound next;
       admission = t.admission;
       processes = t.processes;
       scopes = subst (λ w. ScopesFollow w parts.scopes) (sym dialled_scopes) t.scopes;
-      links = new_follows h legal dial dial_is refl (ByDial peer c) refl parts.links (record { number = n; state = state.Status dialled; frames = frames; prepared = []; room = room }) t.links numbered
-          (subst (λ j. IsLinkOf (link_words (with_entry h dial)) (record { number = j; state = state.Status dialled; frames = frames; prepared = []; room = room })) (sym numbered)
-          (subst (λ d. IsLinkOf (link_words (with_entry h dial)) (record { number = next_number h; state = state.Status d; frames = frames; prepared = []; room = room })) (sym same_dialled) (record {
-            state = (
-              record { open_now = opens_now h legal dial dial_is refl (ByDial peer c) refl; whole = (its h legal dial dial_is refl (ByDial peer c) refl).whole; awaited = (its h legal dial dial_is refl (ByDial peer c) refl).awaits },
-              record {
-                peer = record { peer = (its h legal dial dial_is refl (ByDial peer c) refl).peer; other = other_node };
-                challenge = sym (ap (λ o. option_map_or (λ x. challenge_in x.start) o 0) (its h legal dial dial_is refl (ByDial peer c) refl).opened);
-              },
-            );
-            frames = same_frames ∙ ap (λ f. f ∷ []) (own_name_is h parts.admission t.admission) ∙ sym (dialled_waiting h dial dial_is refl legal peer c refl);
-            idle = refl;
-          })));
+      links = subst (λ x. LinksFollow (link_words (with_entry h dial)) (parts.links ++ x ∷ [])) (sym is)
+          (new_follows h legal dial dial_is refl (ByDial peer c) refl parts.links (dialled_link parts.admission n peer c link.room) t.links numbered
+          (subst (λ j. IsLinkOf (link_words (with_entry h dial)) (dialled_link parts.admission j peer c link.room)) (sym numbered) (dialled_now parts link.room t)));
       monitors = follows_other h _ parts.monitors next.number t.monitors refl;
     }

@@ -3,39 +3,39 @@ use Rattle.std.specs.Prelude.{◌≡◌, ℕ, true, false, cond, not, List, [], 
 use Rattle.std.proofs.Common.{refl, ap, ◌∙◌, sym, subst, arith}
 use Rattle.std.proofs.lemmas.Bool.{eqb-true, eq-eqb}
 use Rattle.std.proofs.lemmas.List.{append-nil}
+use Rattle.dist_types.specs.declared.pid.Pid.{Pid}
 use Rattle.dist_types.specs.declared.change.GroupChange.{GroupChange}
 use Rattle.dist_types.specs.Difference.{is_empty, IsDifference}
-use Rattle.scope_core.specs.Table.{count_of}
+use Rattle.scope_core.specs.Table.{Table, count_of}
 use Rattle.policy_audit.specs.declared.change.Change.{Change}
 use Rattle.policy_audit.proofs.Accepted.{lie}
 use Rattle.policy_audit.proofs.KeptNumbers.{filter_append}
-use Rattle.node_core.specs.declared.changes.Part.{Part}
 use Rattle.node_core.specs.declared.running.Running.{Running}
-use Rattle.node_core.specs.Parting.{count_but, IsParting, ArePartings}
+use Rattle.node_core.specs.Parting.{IsParting, ArePartings}
 use Rattle.node_core.proofs.Zipped.{zipped_on}
 
-module _ (away : Part) where
-  pub no_partings : ArePartings away [] []
+module _ (left : Table → List ℕ → Pid → ℕ) where
+  pub no_partings : ArePartings left [] []
   no_partings = record { all = []; each = tt; some = refl }
 
   -- one scope more, which changes or not
-  pub one_parting : (rs : List Running) (cs : List Change) (r : Running) (gs : List GroupChange) → ArePartings away rs cs → IsDifference (count_of r.table) (count_but away r.table) gs
-      → ArePartings away (rs ++ r ∷ []) (cs ++ cond (not (is_empty gs)) (record { scope = r.scope; groups = gs } ∷ []) [])
+  pub one_parting : (rs : List Running) (cs : List Change) (r : Running) (gs : List GroupChange) → ArePartings left rs cs → IsDifference (count_of r.table) (left r.table) gs
+      → ArePartings left (rs ++ r ∷ []) (cs ++ cond (not (is_empty gs)) (record { scope = r.scope; groups = gs } ∷ []) [])
   one_parting rs cs r gs a d = record {
     all = a.all ++ record { scope = r.scope; groups = gs } ∷ [];
-    each = zipped_on (IsParting away) rs a.all r (record { scope = r.scope; groups = gs }) a.each (record { scope = refl; groups = d });
+    each = zipped_on (IsParting left) rs a.all r (record { scope = r.scope; groups = gs }) a.each (record { scope = refl; groups = d });
     some =
         ap (λ xs. xs ++ cond (not (is_empty gs)) (record { scope = r.scope; groups = gs } ∷ []) []) a.some
         ∙ sym (filter_append (λ c. not (is_empty c.groups)) a.all (record { scope = r.scope; groups = gs } ∷ []));
   }
 
-  pub parted_some : (rs : List Running) (cs : List Change) (r : Running) (gs : List GroupChange) → ArePartings away rs cs → IsDifference (count_of r.table) (count_but away r.table) gs → is_empty gs ≡ false
-      → ArePartings away (rs ++ r ∷ []) (cs ++ record { scope = r.scope; groups = gs } ∷ [])
-  parted_some rs cs r gs a d some = subst (λ b. ArePartings away (rs ++ r ∷ []) (cs ++ cond (not b) (record { scope = r.scope; groups = gs } ∷ []) [])) some (one_parting rs cs r gs a d)
+  pub parted_some : (rs : List Running) (cs : List Change) (r : Running) (gs : List GroupChange) → ArePartings left rs cs → IsDifference (count_of r.table) (left r.table) gs → is_empty gs ≡ false
+      → ArePartings left (rs ++ r ∷ []) (cs ++ record { scope = r.scope; groups = gs } ∷ [])
+  parted_some rs cs r gs a d some = subst (λ b. ArePartings left (rs ++ r ∷ []) (cs ++ cond (not b) (record { scope = r.scope; groups = gs } ∷ []) [])) some (one_parting rs cs r gs a d)
 
-  pub parted_none : (rs : List Running) (cs : List Change) (r : Running) (gs : List GroupChange) → ArePartings away rs cs → IsDifference (count_of r.table) (count_but away r.table) gs → is_empty gs ≡ true
-      → ArePartings away (rs ++ r ∷ []) cs
-  parted_none rs cs r gs a d none = subst (λ xs. ArePartings away (rs ++ r ∷ []) xs) (append-nil cs) (subst (λ b. ArePartings away (rs ++ r ∷ []) (cs ++ cond (not b) (record { scope = r.scope; groups = gs } ∷ []) [])) none (one_parting rs cs r gs a d))
+  pub parted_none : (rs : List Running) (cs : List Change) (r : Running) (gs : List GroupChange) → ArePartings left rs cs → IsDifference (count_of r.table) (left r.table) gs → is_empty gs ≡ true
+      → ArePartings left (rs ++ r ∷ []) cs
+  parted_none rs cs r gs a d none = subst (λ xs. ArePartings left (rs ++ r ∷ []) xs) (append-nil cs) (subst (λ b. ArePartings left (rs ++ r ∷ []) (cs ++ cond (not b) (record { scope = r.scope; groups = gs } ∷ []) [])) none (one_parting rs cs r gs a d))
 
 -- whether there are groups
 pub none_there : {A : Type 0} (n : ℕ) (xs : List A) → n ≡ length xs → true ≡ (n == 0) → is_empty xs ≡ true

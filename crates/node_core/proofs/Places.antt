@@ -1,6 +1,7 @@
 -- The place of a kept link, and links that are taken away.
-use Rattle.std.specs.Prelude.{◌≡◌, ℕ, zero, suc, ◌<◌, nat_eq, Bool, true, false, cond, List, [], ◌∷◌, Some, None, length, map, position, is_some}
+use Rattle.std.specs.Prelude.{◌≡◌, ℕ, zero, suc, ◌<◌, nat_eq, Bool, true, false, cond, List, [], ◌∷◌, Some, None, length, position, is_some}
 use Rattle.std.proofs.Common.{refl, ap, ◌∙◌, sym, subst, arith, get_or, set}
+use Rattle.std.proofs.lemmas.List.{map-id}
 use Rattle.std.specs.List.{filter, list_any}
 use Rattle.policy_audit.specs.History.{History}
 use Rattle.policy_audit.specs.Owed.{is_kept}
@@ -8,17 +9,12 @@ use Rattle.policy_audit.specs.Policy.{IsLegal}
 use Rattle.policy_audit.proofs.KeptNumbers.{kept_among}
 use Rattle.node_core.specs.Links.{KeptLink}
 use Rattle.node_core.specs.LinkFacts.{LinkWords, link_words, IsLinkOf, LinksFollow}
-use Rattle.node_core.proofs.Found.{any_map}
-use Rattle.node_core.proofs.LinkTests.{place_found}
+use Rattle.node_core.proofs.Found.{any_map, place_found}
 use Rattle.node_core.proofs.KeptOn.{all_follow, each_at, place_is}
-
-map_same : {A : Type 0} (xs : List A) → map (λ x. x) xs ≡ xs
-map_same [] = refl
-map_same (x ∷ xs) = ap (λ ys. x ∷ ys) (map_same xs)
 
 -- the links that stay follow, where each that stays does
 pub stay_follow : (w v : LinkWords) (stays : ℕ → Bool) (kept : List KeptLink) → LinksFollow w kept → v.numbers ≡ filter stays w.numbers → ((x : KeptLink) → stays x.number ≡ true → IsLinkOf w x → IsLinkOf v x) → LinksFollow v (filter (λ x. stays x.number) kept)
-stay_follow w v stays kept t numbers on = subst (λ xs. LinksFollow v (filter (λ x. stays x.number) xs)) (map_same kept) (all_follow w v (λ x. x) stays (λ x. refl) kept t numbers on)
+stay_follow w v stays kept t numbers on = subst (λ xs. LinksFollow v (filter (λ x. stays x.number) xs)) (map-id kept) (all_follow w v (λ x. x) stays (λ x. refl) kept t numbers on)
 
 -- one that doesn't stay may be changed before
 pub filter_set : {A : Type 0} (test : A → Bool) (xs : List A) (i : ℕ) (d y : A) → i < length xs → test (get_or xs i d) ≡ false → test y ≡ false → filter test (set xs i y) ≡ filter test xs

@@ -48,10 +48,10 @@ module _ (h : History) (rs : List Running) (s : List ℕ) (t : ScopesFollow (sco
 
 -- ---- what the table of a scope answers
 
-members_listing : (h : History) (s g : List ℕ) → IsPidListing (listed h s g) (members h s g)
+pub members_listing : (h : History) (s g : List ℕ) → IsPidListing (listed h s g) (members h s g)
 members_listing h s = lists.members_are (listed h s) (λ f. pids_named s f (events h.entries)) (groups_named s (events h.entries)) (λ f p q. pid_named s f p (events h.entries) (listed_named s f p h q)) (λ f p q. group_named s f p (events h.entries) (listed_named s f p h q))
 
-groups_listing : (h : History) (s : List ℕ) → IsGroupListing (listed h s) (groups h s)
+pub groups_listing : (h : History) (s : List ℕ) → IsGroupListing (listed h s) (groups h s)
 groups_listing h s = lists.groups_are (listed h s) (λ f. pids_named s f (events h.entries)) (groups_named s (events h.entries)) (λ f p q. pid_named s f p (events h.entries) (listed_named s f p h q)) (λ f p q. group_named s f p (events h.entries) (listed_named s f p h q))
 
 local_members_listing : (h : History) (s g : List ℕ) → IsPidListing (own h s g) (local_members h s g)

@@ -1,11 +1,11 @@
 -- A scope that stops.
-use Rattle.std.specs.Prelude.{◌≡◌, ℕ, Bool, true, false, cond, ◌&&◌, ◌||◌, not, List, [], ◌∷◌, ◌++◌, Some, None}
+use Rattle.std.specs.Prelude.{◌≡◌, ℕ, Bool, true, false, cond, ◌&&◌, not, List, [], ◌∷◌, ◌++◌, Some, None}
 use Rattle.std.proofs.Common.{refl, ap, ◌∙◌, sym, subst}
+use Rattle.std.proofs.Math.Bool.{and-true}
 use Rattle.std.specs.List.{AllByRecursion, filter}
-use Rattle.dist_types.specs.declared.pid.Pid.{Pid}
 use Rattle.dist_types.specs.declared.change.GroupChange.{GroupChange}
-use Rattle.dist_types.specs.Difference.{IsDifference, is_empty}
-use Rattle.dist_types.specs.Listing.{same, is_among}
+use Rattle.dist_types.specs.Difference.{IsDifference}
+use Rattle.dist_types.specs.Listing.{same}
 use Rattle.dist_types.proofs.Orders.{same_decides, same_sym}
 use Rattle.link_frames.specs.declared.message.Message.TheVariants as said
 use Rattle.scope_core.specs.Calls.{no_count}
@@ -19,15 +19,13 @@ use Rattle.policy_audit.specs.declared.entry.Verdict.TheVariants.{Accepted}
 use Rattle.policy_audit.specs.History.{History}
 use Rattle.policy_audit.specs.Own.{is_running}
 use Rattle.policy_audit.specs.Hearing.{heard, told}
-use Rattle.policy_audit.specs.Changes.{IsChange, if_some}
+use Rattle.policy_audit.specs.Changes.{if_some}
 use Rattle.policy_audit.specs.Listed.{listed}
 use Rattle.policy_audit.specs.Owed.{wide, waiting}
 use Rattle.policy_audit.specs.Checks.{checks, first_broken}
 use Rattle.policy_audit.specs.Policy.{is_full, IsAnswered, IsNext, with_entry}
-use Rattle.policy_audit.proofs.Accepted.{lie}
 use Rattle.policy_audit.proofs.HeardNow.{stopped_heard}
 use Rattle.policy_audit.proofs.RowsAfter.{stopped_rows}
-use Rattle.policy_audit.proofs.ScopeChanges.{changes_are}
 use Rattle.policy_audit.proofs.ScopeFrames.{stopped_links, told_numbers}
 use Rattle.policy_audit.proofs.ScopesNow.{running_stopped}
 use Rattle.node_core.specs.declared.running.Running.{Running}
@@ -37,27 +35,9 @@ use Rattle.node_core.specs.ScopeFacts.{scope_words, IsRunningOf}
 use Rattle.node_core.specs.Core.{Parts, Follows}
 use Rattle.node_core.specs.Telling.{AreTold, if_among, shown_numbers}
 use Rattle.node_core.proofs.Entered.{made, accepted_now, answered_now, next_now, sound_now}
+use Rattle.node_core.proofs.OneScope.{scope_change}
 use Rattle.node_core.proofs.Starting.{names}
 use Rattle.node_core.proofs.Told.{told_follow, shown_number}
-
--- ---- changes of one scope
-
-one_change : (s : List ℕ) (gs : List GroupChange) → filter (λ c. not (is_empty c.groups)) (record { scope = s; groups = gs } ∷ []) ≡ if_some s gs
-one_change s [] = refl
-one_change s (g ∷ gs) = refl
-
-other_scope : (s u : List ℕ) → is_among u (s ∷ []) ≡ false → same u s ≡ false
-other_scope s u none = same_sym u s ∙ by (same s u) none
-  where
-    by : (b : Bool) → (b || false) ≡ false → b ≡ false
-    by true q = lie q
-    by false q = refl
-
--- where the rows of one scope alone change
-pub scope_change : (h k : History) (s : List ℕ) (gs : List GroupChange) → IsDifference (listed h s) (listed k s) gs
-    → ((u g : List ℕ) (p : Pid) → same u s ≡ false → listed h u g p ≡ listed k u g p) → IsChange h k (if_some s gs)
-scope_change h k s gs d others = subst (IsChange h k) (one_change s gs)
-    (changes_are h k (record { scope = s; groups = gs } ∷ []) (tt, tt) (d, tt) (λ u none g p. others u g p (other_scope s u none)))
 
 -- ---- scopes but one
 
@@ -81,10 +61,6 @@ module _ (h : History) (seat : ℕ) (s : List ℕ) (gs : List GroupChange) where
   abbrev pub stopped : History
   stopped = with_entry h e
 
-  plain : (a : Bool) → (a && true) ≡ a
-  plain true = refl
-  plain false = refl
-
   module _ (parts : Parts) (t : Follows h parts) (runs : is_running h s ≡ true) (groups : IsDifference (listed h s) no_count gs) where
     holds : first_broken (checks h seat (event.StopScope s)) ≡ None
     holds = ap (λ b. cond (not b) (Some rule.NoScope) None) runs
@@ -106,8 +82,8 @@ module _ (h : History) (seat : ℕ) (s : List ℕ) (gs : List GroupChange) where
       still r other q = record {
         own = q.own;
         rows = λ g p. q.rows g p ∙ sym (stopped_rows h t.sound.legal e its refl s refl r.scope g p ∙ ap (λ b. cond b 0 (listed h r.scope g p)) other);
-        heard = λ l. q.heard l ∙ sym ((stopped_heard h e refl s refl l r.scope).heard_is ∙ ap (λ b. heard l r.scope h.entries && not b) (same_sym s r.scope ∙ other) ∙ plain (heard l r.scope h.entries));
-        told = λ l. q.told l ∙ sym ((stopped_heard h e refl s refl l r.scope).told_is ∙ ap (λ b. told l r.scope h.entries && not b) (same_sym s r.scope ∙ other) ∙ plain (told l r.scope h.entries));
+        heard = λ l. q.heard l ∙ sym ((stopped_heard h e refl s refl l r.scope).heard_is ∙ ap (λ b. heard l r.scope h.entries && not b) (same_sym s r.scope ∙ other) ∙ and-true (heard l r.scope h.entries));
+        told = λ l. q.told l ∙ sym ((stopped_heard h e refl s refl l r.scope).told_is ∙ ap (λ b. told l r.scope h.entries && not b) (same_sym s r.scope ∙ other) ∙ and-true (told l r.scope h.entries));
       }
 
       all_still : (rs : List Running) → AllByRecursion (IsRunningOf (scope_words h)) rs → AllByRecursion (IsRunningOf (scope_words stopped)) (all_but s rs)

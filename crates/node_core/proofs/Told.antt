@@ -16,6 +16,7 @@ use Rattle.node_core.specs.Core.{Parts, Follows}
 use Rattle.node_core.specs.LinkFacts.{link_words, LinkFacts, LinkWords, IsState, IsLinkOf, LinksFollow}
 use Rattle.node_core.specs.ScopeFacts.{is_number}
 use Rattle.node_core.specs.Telling.{AreIdle, Alike, AreTold, if_among, shown_numbers}
+use Rattle.node_core.proofs.Zipped.{zipped_map}
 
 -- ---- over plain values
 
@@ -30,12 +31,6 @@ zip_map f g [] [] q = tt
 zip_map f g [] (y ∷ ys) q = absurd (cc)
 zip_map f g (x ∷ xs) [] q = absurd (cc)
 zip_map f g (x ∷ xs) (y ∷ ys) q = ((cc), zip_map f g xs ys (cc))
-
-pub map_zip : {A B C : Type 0} (f : A → C) (g : B → C) (xs : List B) (ys : List A) → AllZip (λ x y. f y ≡ g x) xs ys → map f ys ≡ map g xs
-map_zip f g [] [] a = refl
-map_zip f g [] (y ∷ ys) a = absurd a
-map_zip f g (x ∷ xs) [] a = absurd a
-map_zip f g (x ∷ xs) (y ∷ ys) a = λ i. a.0 i ∷ map_zip f g xs ys a.1 i
 
 -- what holds where there is none, and where there is one
 pub at_none : {A P : Type 0} (o : Option A) → is_some o ≡ false → IfNone o P → P
@@ -61,7 +56,7 @@ all_roomless w (x ∷ xs) [] a t = absurd a
 all_roomless w (x ∷ xs) (y ∷ ys) a t = (roomless w x y a.0 t.0, all_roomless w xs ys a.1 t.1)
 
 same_numbers : (xs ys : List KeptLink) → AllZip (λ x y. y.number ≡ x.number) xs ys → map (λ x. x.number) ys ≡ map (λ x. x.number) xs
-same_numbers xs ys a = map_zip (λ x. x.number) (λ x. x.number) xs ys a
+same_numbers xs ys a = zipped_map (λ x. x.number) (λ x. x.number) xs ys a
 
 numbers_of : (g : KeptLink → KeptLink) → ((x : KeptLink) → (g x).number ≡ x.number) → (xs ys : List KeptLink) → AllZip (λ x y. unroomed y ≡ g x) xs ys → AllZip (λ x y. y.number ≡ x.number) xs ys
 numbers_of g keeps [] [] a = tt

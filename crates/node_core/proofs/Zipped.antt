@@ -1,7 +1,7 @@
 -- A list whose elements are changed one after the other, each to one that it is related to.
 use Rattle.std.specs.Prelude.{◌≡◌, ℕ, zero, suc, ◌+◌, ◌<◌, ◌≤◌, List, [], ◌∷◌, ◌++◌, map, take, drop, length}
 use Rattle.std.proofs.lemmas.List.{set-get_or}
-use Rattle.std.specs.List.{AllZip}
+use Rattle.std.specs.List.{AllByRecursion, AllZip}
 use Rattle.std.proofs.Common.{refl, ap, subst, arith, get_or, set}
 
 -- the first i elements are related to what they were, and the others are what they were
@@ -70,3 +70,17 @@ zipped_long R (suc i) [] [] so_far = refl
 zipped_long R (suc i) (x ∷ xs) [] so_far = absurd so_far.done
 zipped_long R (suc i) [] (y ∷ ys) so_far = absurd so_far.done
 zipped_long R (suc i) (x ∷ xs) (y ∷ ys) so_far = ap suc (zipped_long R i xs ys (record { done = so_far.done.1; rest = so_far.rest }))
+
+-- what each pair is related by may be weakened
+pub zipped_weaker : {A B : Type 0} (R S : A → B → Type 0) → ((x : A) (y : B) → R x y → S x y) → (xs : List A) (ys : List B) → AllZip R xs ys → AllZip S xs ys
+zipped_weaker R S on [] [] a = tt
+zipped_weaker R S on [] (y ∷ ys) a = absurd a
+zipped_weaker R S on (x ∷ xs) [] a = absurd a
+zipped_weaker R S on (x ∷ xs) (y ∷ ys) a = (on x y a.0, zipped_weaker R S on xs ys a.1)
+
+-- what holds of each of the first holds of each of the second
+pub zipped_each : {A B : Type 0} (R : A → B → Type 0) (P : A → Type 0) (Q : B → Type 0) → ((x : A) (y : B) → R x y → P x → Q y) → (xs : List A) (ys : List B) → AllZip R xs ys → AllByRecursion P xs → AllByRecursion Q ys
+zipped_each R P Q on [] [] a ps = tt
+zipped_each R P Q on [] (y ∷ ys) a ps = absurd a
+zipped_each R P Q on (x ∷ xs) [] a ps = absurd a
+zipped_each R P Q on (x ∷ xs) (y ∷ ys) a ps = (on x y a.0 ps.0, zipped_each R P Q on xs ys a.1 ps.1)

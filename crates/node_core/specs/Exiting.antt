@@ -3,16 +3,15 @@ use Rattle.std.specs.Prelude.{◌≡◌, ℕ, not, List, [], ◌∷◌, ◌++◌
 use Rattle.std.specs.List.{filter, AllZip}
 use Rattle.dist_types.specs.declared.pid.Pid.{Pid}
 use Rattle.dist_types.specs.declared.change.GroupChange.{GroupChange}
-use Rattle.dist_types.specs.Difference.{IsDifference, is_empty}
+use Rattle.dist_types.specs.Difference.{is_empty}
 use Rattle.link_frames.specs.declared.message.Message.TheVariants as said
-use Rattle.scope_core.specs.Table.{count_of}
 use Rattle.scope_core.specs.Calls.{count_after_exit}
 use Rattle.policy_audit.specs.declared.change.Change.{Change}
 use Rattle.policy_audit.specs.declared.out_frame.OutFrame.{OutFrame}
 use Rattle.policy_audit.specs.Owed.{wide}
 use Rattle.node_core.specs.declared.running.Running.{Running}
 use Rattle.node_core.specs.Links.{KeptLink, with_prepared, unroomed}
-use Rattle.node_core.specs.Parting.{rows_left}
+use Rattle.node_core.specs.Parting.{IsParting, rows_left}
 use Rattle.node_core.specs.Telling.{AreTold, if_among, said_to}
 
 -- the link, whatever its room and what is prepared for it
@@ -27,11 +26,6 @@ exit_frames r groups l = let m = said.Leave r.scope (rows_left groups) in if_amo
 abbrev pub ArePrepared : (ℕ → List OutFrame) → List KeptLink → List KeptLink → Type 0
 ArePrepared more old new = map unroomed new ≡ map (λ x. unroomed (with_prepared x (x.prepared ++ more x.number))) old
 
--- what the end of a process changes in one scope, perhaps nothing
-pub record IsExit (p : Pid) (r : Running) (c : Change) : Type 0 where
-  pub scope : c.scope ≡ r.scope
-  pub groups : IsDifference (count_of r.table) (count_after_exit r.table p) c.groups
-
 -- the Leaves of all scopes, with what changes in each
 abbrev pub all_frames : List Running → List Change → ℕ → List OutFrame
 all_frames [] cs l = []
@@ -41,13 +35,13 @@ all_frames (r ∷ rs) (c ∷ cs) l = exit_frames r c.groups l ++ all_frames rs c
 -- the changes of all scopes but those that have none, and the Leaves prepared
 pub record AreExits (p : Pid) (rs : List Running) (old new : List KeptLink) (cs : List Change) : Type 0 where
   pub all : List Change
-  pub each : AllZip (IsExit p) rs all
+  pub each : AllZip (IsParting (λ t. count_after_exit t p)) rs all
   pub some : cs ≡ filter (λ c. not (is_empty c.groups)) all
   pub links : ArePrepared (all_frames rs all) old new
 
 -- the same, and the Leaves wait
 pub record AreExitsTold (p : Pid) (rs : List Running) (old new : List KeptLink) (cs : List Change) : Type 0 where
   pub all : List Change
-  pub each : AllZip (IsExit p) rs all
+  pub each : AllZip (IsParting (λ t. count_after_exit t p)) rs all
   pub some : cs ≡ filter (λ c. not (is_empty c.groups)) all
   pub links : AreTold (all_frames rs all) old new

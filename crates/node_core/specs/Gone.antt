@@ -1,33 +1,20 @@
 -- What goes with a link.
 use Rattle.std.specs.Prelude.{◌≡◌, ℕ, cond, nat_eq, not, List, [], Option, Some, None}
 use Rattle.std.specs.List.{filter, AllZip}
-use Rattle.dist_types.specs.Difference.{is_empty, IsDifference}
-use Rattle.scope_core.specs.Table.{count_of}
 use Rattle.scope_core.specs.Calls.{count_after_drop}
 use Rattle.policy_audit.specs.declared.change.Change.{Change}
 use Rattle.node_core.specs.declared.running.Running.{Running}
 use Rattle.node_core.specs.Links.{KeptLink, is_ended}
-use Rattle.node_core.specs.Parting.{IsCutOff}
+use Rattle.node_core.specs.Parting.{ArePartings, IsCutOff}
 
 -- the links but this one, if it has ended
 abbrev pub without_ended : KeptLink → List KeptLink → List KeptLink
 without_ended link links = cond (is_ended link.state) (filter (λ x. not (nat_eq x.number link.number)) links) links
 
--- the change of one scope where the rows of node n leave, perhaps none
-pub record IsDropping (n : List ℕ) (r : Running) (c : Change) : Type 0 where
-  pub scope : c.scope ≡ r.scope
-  pub groups : IsDifference (count_of r.table) (count_after_drop r.table n) c.groups
-
--- the changes of all scopes, but those that have none
-pub record AreDroppings (n : List ℕ) (rs : List Running) (cs : List Change) : Type 0 where
-  pub all : List Change
-  pub each : AllZip (IsDropping n) rs all
-  pub some : cs ≡ filter (λ c. not (is_empty c.groups)) all
-
 -- the changes of all scopes where a link is gone that is up with this peer, if it is up
 abbrev pub AreLost : Option (List ℕ) → List Running → List Change → Type 0
 AreLost None rs cs = cs ≡ []
-AreLost (Some n) rs cs = AreDroppings n rs cs
+AreLost (Some n) rs cs = ArePartings (λ t. count_after_drop t n) rs cs
 
 -- the scopes where link l is gone that is up with this peer, if it is up
 abbrev pub AreCut : ℕ → Option (List ℕ) → List Running → List Running → Type 0

@@ -34,6 +34,10 @@ rule_of broken.PeerSaid = rule.PeerSaid
 rule_of broken.BadDigest = rule.BadDigest
 rule_of broken.LinkUp = rule.LinkUp
 
+-- nobody is up or dialled
+abbrev pub nobody : Pending
+nobody = record { up = []; dials = [] }
+
 -- the state is one of the handshake
 abbrev pub is_handshake : LinkState → Bool
 is_handshake (state.Up s) = false

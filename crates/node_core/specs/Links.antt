@@ -3,6 +3,8 @@ use Rattle.std.specs.Prelude.{ℕ, Bool, true, false, cond, find, nat_eq, ◌==�
 use Rattle.std.specs.List.{list_any, list_all}
 use Rattle.dist_types.specs.declared.row.Row.{Row}
 use Rattle.dist_types.specs.Listing.{same}
+use Rattle.admission_rules.specs.Admission.{AdmissionRules}
+use Rattle.link_states.specs.Frames.{own_name}
 use Rattle.policy_audit.specs.declared.out_frame.OutFrame.{OutFrame}
 use Rattle.std.specs.Option.{option_map, option_map_or}
 use Rattle.policy_audit.specs.Owed.{narrow}
@@ -29,6 +31,10 @@ with_prepared link frames = record link { prepared = frames }
 -- the link, with this room
 abbrev pub with_room : KeptLink → ℕ → KeptLink
 with_room link room = record link { room = room }
+
+-- a link that was dialled to a peer: the first frame waits for it
+abbrev pub dialled_link : AdmissionRules → ℕ → List ℕ → ℕ → ℕ → KeptLink
+dialled_link rules number peer challenge room = record { number = number; state = state.Status (record { peer = peer; challenge = challenge }); frames = narrow (own_name rules) ∷ []; prepared = []; room = room }
 
 -- bodies of the handshake as frames
 abbrev pub narrow_frames : List (List ℕ) → List OutFrame

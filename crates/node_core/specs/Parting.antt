@@ -19,15 +19,15 @@ count_but (part.Process p) t = count_after_exit t p.now
 count_but (part.Node n) t = count_after_drop t n.now
 count_but part.All t = no_count
 
--- the change of one scope by the leaving of a part, perhaps none
-pub record IsParting (away : Part) (r : Running) (c : Change) : Type 0 where
+-- the change of one scope, perhaps none, where these counts are left of a table
+pub record IsParting (left : Table → List ℕ → Pid → ℕ) (r : Running) (c : Change) : Type 0 where
   pub scope : c.scope ≡ r.scope
-  pub groups : IsDifference (count_of r.table) (count_but away r.table) c.groups
+  pub groups : IsDifference (count_of r.table) (left r.table) c.groups
 
 -- the changes of all scopes, but those that have none
-pub record ArePartings (away : Part) (rs : List Running) (cs : List Change) : Type 0 where
+pub record ArePartings (left : Table → List ℕ → Pid → ℕ) (rs : List Running) (cs : List Change) : Type 0 where
   pub all : List Change
-  pub each : AllZip (IsParting away) rs all
+  pub each : AllZip (IsParting left) rs all
   pub some : cs ≡ filter (λ c. not (is_empty c.groups)) all
 
 -- the scope after a part has left

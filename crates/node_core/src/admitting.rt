@@ -43,11 +43,11 @@ impl NodeCore {
     {
         let name = peer.try_clone(self.alloc)?;
         let kept = cookie.try_clone(self.alloc)?;
-        let event = Event::SetCookieFor(peer, cookie);
         self.audit.make_room()?;
         match self.admission.set_cookie_for(name, kept) {
             Ok(()) => {}
             Err(CookieFault::CookiesFull) => {
+                let event = Event::SetCookieFor(peer, cookie);
                 return self.refuse(seat, event, Rule::CookiesFull);
             }
             Err(CookieFault::OutOfMemory) => return Err(CoreFault::OutOfMemory),
@@ -55,7 +55,7 @@ impl NodeCore {
         accept(
             &mut self.audit,
             seat,
-            event,
+            Event::SetCookieFor(peer, cookie),
             Reply::Done,
             Vec::new(self.alloc),
         );

@@ -56,7 +56,7 @@ pub fn changes_of(
     scopes: &[Running],
     part: Part<'_>,
 ) -> Result<Vec<Change>, OutOfMemory>
-    ensures { IfOk result (λ changes. ArePartings part.entry scopes.now changes.items) }
+    ensures { IfOk result (λ changes. ArePartings (count_but part.entry) scopes.now changes.items) }
 {
     let mut changes = Vec::new(alloc);
     for running in scopes {

@@ -1,10 +1,43 @@
 //! Entries of the audit.
-ghost use Rattle.std.specs.Prelude.{◌≡◌, ◌<◌, ◌+◌, ◌∷◌, [], true, length};
+ghost use Rattle.std.specs.Prelude.{◌≡◌, ◌<◌, ◌+◌, ◌∷◌, [], true, length, vec_len, vec_capacity, IfOk, IfErr, OnOk, OnErr};
 ghost use Rattle.policy_audit.specs.declared.entry.Verdict.TheVariants.{Accepted, Refused};
 ghost use Rattle.policy_audit.specs.declared.entry.Entry.{Entry};
+ghost use Rattle.node_core.specs.declared.fault.CoreFault.TheVariants.{OutOfMemory};
 
+use crate::fault::CoreFault;
+use dist_types::TryClone;
 use policy_audit::{Audit, Change, Changes, Event, Reply, Rule, Verdict};
 use std::alloc::Global;
+
+/// Makes room for an entry, and a copy of the reply for it.
+pub fn make_ready(
+    alloc: Global,
+    audit: &mut Audit,
+    reply: Reply,
+) -> Result<(Reply, Reply), CoreFault>
+    ensures copies { IfOk result (λ (given, kept). (given ≡ reply) × (kept ≡ reply)) }
+    ensures room { OnOk result (audit.new ≡ record { limit = audit.old.limit; entries = audit.old.entries; has_room = true }) }
+    ensures memory { IfErr result (λ fault. fault ≡ OutOfMemory) }
+    ensures same { OnErr result ((audit.new.entries ≡ audit.old.entries) × (audit.new.limit ≡ audit.old.limit)) }
+{
+    audit.make_room()?;
+    let kept = reply.try_clone(alloc)?;
+    Ok((reply, kept))
+}
+
+/// Makes room for an entry, and for the change of one scope that it will have.
+pub fn room_for_change(alloc: Global, audit: &mut Audit) -> Result<Vec<Change>, CoreFault>
+    ensures empty { IfOk result (λ changes. changes.items ≡ []) }
+    ensures spare { IfOk result (λ changes. vec_len changes < vec_capacity changes) }
+    ensures room { OnOk result (audit.new ≡ record { limit = audit.old.limit; entries = audit.old.entries; has_room = true }) }
+    ensures memory { IfErr result (λ fault. fault ≡ OutOfMemory) }
+    ensures same { OnErr result (audit.new ≡ audit.old) }
+{
+    let mut changes = Vec::new(alloc);
+    changes.reserve(1)?;
+    audit.make_room()?;
+    Ok(changes)
+}
 
 /// Enters an event, into the room that there is.
 fn enter(audit: &mut Audit, seat: u32, event: Event, verdict: Verdict, change: Changes)

@@ -20,3 +20,11 @@ pub fn frame_of(alloc: Global, message: &Message) -> Result<OutFrame, OutOfMemor
         body: Body::of(body),
     })
 }
+
+/// The frame of a message that is not needed any more.
+pub fn into_frame(alloc: Global, message: Message) -> Result<OutFrame, OutOfMemory>
+    requires { HasSpelling message }
+    ensures { IfOk result (λ frame. frame ≡ wide message) }
+{
+    frame_of(alloc, &message)
+}

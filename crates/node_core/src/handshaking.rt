@@ -1,5 +1,5 @@
 //! Frames of the handshake.
-ghost use Rattle.std.specs.Prelude.{◌≡◌, ◌+◌, ◌≤◌, ◌++◌, [], cond, true, false, length, find, map, Some, None, IfOk};
+ghost use Rattle.std.specs.Prelude.{◌≡◌, ◌+◌, ◌≤◌, ◌++◌, [], cond, true, false, length, find, is_some, map, Some, None, IfOk};
 ghost use Rattle.std.specs.List.{AllZip};
 ghost use Rattle.std.specs.Option.{option_map, option_map_or, unwrap_or};
 ghost use Rattle.dist_types.specs.Listing.{same};
@@ -9,14 +9,15 @@ ghost use Rattle.policy_audit.specs.Sides.{awaits, is_last, is_whole};
 ghost use Rattle.policy_audit.specs.Links.{is_open};
 ghost use Rattle.node_core.specs.Links.{known_peer, up_peer, dial_beside, narrow_frames};
 ghost use Rattle.node_core.specs.Handshakes.{IsReady, HaveGoneOn, HaveEnded, HaveComeUp, moved_on, older_of, without_link};
+ghost use Rattle.node_core.specs.Gone.{AreLost};
 ghost use Rattle.node_core.specs.Parting.{IsCutOff};
 ghost use Rattle.node_core.specs.Step.{Steps};
 
 use crate::changes::{Part, changes_of, end_link};
 use crate::entering::{accept, reject};
 use crate::fault::CoreFault;
-use crate::frames::frame_of;
-use crate::hearing::{Heard, hear};
+use crate::frames::into_frame;
+use crate::hearing::{Heard, hear, hear_last};
 use crate::link::Link;
 use crate::link_state::LinkState;
 use crate::links::{dial_to, pending_of, place_of, remove};
@@ -25,11 +26,24 @@ use crate::running::Running;
 use dist_types::{NodeName, OutOfMemory, TryClone};
 use link_frames::Message;
 use link_states::{Bodies, Up};
-use policy_audit::{Body, Event, OutFrame, Reply, Rule};
+use policy_audit::{Body, Change, Event, OutFrame, Reply, Rule};
 use std::alloc::Global;
 
 /// The most frames of the handshake that one frame owes.
 const MOST_OWED: usize = 2;
+
+/// What is made ready for a link before it is known whether it comes up.
+#[derive(Drop)]
+struct Arrival {
+    /// The name of the peer, for the answer.
+    peer: NodeName,
+    /// The name of the peer, for the audit.
+    kept: NodeName,
+    /// What the scopes lose with an older link of the peer.
+    changes: Vec<Change>,
+    /// A Discover for each scope that runs.
+    discovers: Vec<OutFrame>,
+}
 
 impl NodeCore {
     /// A frame that came on a link.
@@ -85,7 +99,7 @@ impl NodeCore {
                 Err(CoreFault::Refused(rule))
             }
             Heard::OutOfMemory(state) => {
-                let _ended = self.links[place].replace(state);
+                self.links[place].set_state(state);
                 Err(CoreFault::OutOfMemory)
             }
             Heard::Up { .. } => unreachable!(),
@@ -103,16 +117,18 @@ impl NodeCore {
         let Some(place) = place_of(&self.links, number) else {
             unreachable!()
         };
-        let (peer, kept) = names_of(self.alloc, &self.links[place])?;
-        let discovers = discovers_of(self.alloc, &self.scopes)?;
-        let changes = changes_of(self.alloc, &self.scopes, Part::Node(&peer))?;
-        let pending = pending_of(self.alloc, &[])?;
-        self.links[place].make_room(MOST_OWED + discovers.len())?;
+        self.links[place].make_room(MOST_OWED + self.scopes.len())?;
         self.audit.make_room()?;
+        let arrival = arrival_of(self.alloc, &self.links[place], &self.scopes)?;
         let state = self.links[place].replace(LinkState::Ended);
-        let bytes = body.as_slice();
-        match hear(self.alloc, state, bytes, &self.admission, &pending) {
+        match hear_last(self.alloc, state, body.as_slice(), &self.admission) {
             Heard::Up { up, frames } => {
+                let Arrival {
+                    peer,
+                    kept,
+                    changes,
+                    discovers,
+                } = arrival;
                 let entered = up_reply(kept, &up);
                 let reply = up_reply(peer, &up);
                 let (links, scopes) = (&mut self.links, &mut self.scopes);
@@ -128,7 +144,7 @@ impl NodeCore {
                 Err(CoreFault::Refused(rule))
             }
             Heard::OutOfMemory(state) => {
-                let _ended = self.links[place].replace(state);
+                self.links[place].set_state(state);
                 Err(CoreFault::OutOfMemory)
             }
             Heard::On { .. } => unreachable!(),
@@ -143,7 +159,7 @@ fn go_on(links: &mut Vec<Link>, place: usize, state: LinkState, frames: Bodies, 
 {
     let dial = given_up(links, &state, gives_up);
     links[place].owe_bodies(frames);
-    let _ended = links[place].replace(state);
+    links[place].set_state(state);
     remove_some(links, dial);
 }
 
@@ -179,23 +195,15 @@ fn end(links: &mut Vec<Link>, place: usize, frames: Bodies)
     }
 }
 
-/// The link at a place is up, and an older one of its peer is gone. Answers the number of the older one.
-fn come_up(
-    links: &mut Vec<Link>,
-    place: usize,
-    up: Up,
-    frames: Bodies,
-    discovers: Vec<OutFrame>,
-) -> Option<u32>
+/// The link at a place is up, and an older one of its peer is gone.
+fn come_up(links: &mut Vec<Link>, place: usize, up: Up, frames: Bodies, discovers: Vec<OutFrame>)
     requires { IsReady links.old.items place (length frames + length discovers.items) }
-    ensures older { result ≡ older_of up.peer links.old.items }
-    ensures links { HaveComeUp place up frames discovers.items links.old.items links.new.items }
+    ensures { HaveComeUp place up frames discovers.items links.old.items links.new.items }
 {
     let older = older_of(links, up.peer());
     owe_all(&mut links[place], frames, up.visible(), discovers);
-    let _ended = links[place].replace(LinkState::Up(up));
+    links[place].set_state(LinkState::Up(up));
     remove_some(links, older);
-    older
 }
 
 /// The link of this number, at a place, is up. Its peer's older one is gone, with all that was shared over it.
@@ -214,7 +222,7 @@ fn settle(
 {
     let gone = older_of(links, up.peer()).unwrap_or(number);
     end_link(scopes, gone, up.peer());
-    let _older = come_up(links, place, up, frames, discovers);
+    come_up(links, place, up, frames, discovers);
 }
 
 /// Frames that wait from now on: those of the handshake, and then the Discovers, if the link is visible.
@@ -254,15 +262,23 @@ fn up_reply(peer: NodeName, up: &Up) -> Reply
     }
 }
 
-/// Two copies of the name of the link's peer.
-fn names_of(alloc: Global, link: &Link) -> Result<(NodeName, NodeName), OutOfMemory>
-    ensures first { IfOk result (λ names. known_peer link.now.state ≡ Some names.0) }
-    ensures second { IfOk result (λ names. names.1 ≡ names.0) }
+/// What the link needs to come up. Its peer is known.
+fn arrival_of(alloc: Global, link: &Link, scopes: &[Running]) -> Result<Arrival, OutOfMemory>
+    requires { is_some (known_peer link.now.state) ≡ true }
+    ensures known { IfOk result (λ a. known_peer link.now.state ≡ Some a.kept) }
+    ensures copy { IfOk result (λ a. a.peer ≡ a.kept) }
+    ensures changes { IfOk result (λ a. AreLost (known_peer link.now.state) scopes.now a.changes.items) }
+    ensures discovers { IfOk result (λ a. a.discovers.items ≡ map (λ r. wide (Message.Discover r.scope)) scopes.now) }
 {
     let Some(peer) = link.peer() else {
-        return Err(OutOfMemory);
+        unreachable!()
     };
-    Ok((peer.try_clone(alloc)?, peer.try_clone(alloc)?))
+    Ok(Arrival {
+        peer: peer.try_clone(alloc)?,
+        kept: peer.try_clone(alloc)?,
+        changes: changes_of(alloc, scopes, Part::Node(peer))?,
+        discovers: discovers_of(alloc, scopes)?,
+    })
 }
 
 /// The own dial to the peer of a link in this state.
@@ -281,8 +297,8 @@ fn discovers_of(alloc: Global, scopes: &[Running]) -> Result<Vec<OutFrame>, OutO
 {
     let mut frames = Vec::new(alloc);
     for running in scopes {
-        let message = Message::Discover(running.scope.try_clone(alloc)?);
-        frames.push(frame_of(alloc, &message)?)?;
+        let scope = running.scope.try_clone(alloc)?;
+        frames.push(into_frame(alloc, Message::Discover(scope))?)?;
     }
     Ok(frames)
 }

@@ -2,13 +2,13 @@
 ghost use Rattle.std.specs.Prelude.{◌≡◌, true, false};
 ghost use Rattle.link_states.specs.Checks.{Check};
 ghost use Rattle.node_core.specs.declared.link_state.LinkState.TheVariants as states;
-ghost use Rattle.node_core.specs.Hearing.{Hears, is_handshake, heard_named, rule_of};
+ghost use Rattle.node_core.specs.Hearing.{Hears, is_handshake, nobody, heard_named, rule_of};
 
 use crate::link_state::LinkState;
 use admission_rules::Admission;
 use link_states::{
     AwaitAck, AwaitAnswer, AwaitChallenge, AwaitName, AwaitReply, AwaitStatus, Bodies, Named,
-    Pending, StateRule, Stopped, Up,
+    Names, Pending, StateRule, Stopped, Up,
 };
 use policy_audit::Rule;
 use std::alloc::Global;
@@ -56,6 +56,18 @@ pub fn hear(
         LinkState::Ack(state) => hear_ack(alloc, state, body, admission, pending),
         LinkState::Up(_) | LinkState::Ended => unreachable!(),
     }
+}
+
+/// Takes a frame in a state of the handshake for which it doesn't matter who else is up or dialled.
+pub fn hear_last(alloc: Global, state: LinkState, body: &[u8], admission: &Admission) -> Heard
+    requires { is_handshake state ≡ true }
+    ensures { Hears admission.now nobody state body.now result }
+{
+    let nobody = Pending {
+        up: Names::of(Vec::new(alloc)),
+        dials: Names::of(Vec::new(alloc)),
+    };
+    hear(alloc, state, body, admission, &nobody)
 }
 
 fn hear_name(

@@ -146,6 +146,13 @@ impl Link {
         mem::replace(&mut self.state, state)
     }
 
+    /// Puts a state in the place of the present one.
+    pub fn set_state(&mut self, state: LinkState)
+        ensures { self.new ≡ record self.old { state = state } }
+    {
+        self.state = state;
+    }
+
     /// Whether the link is up with this peer.
     pub fn is_up_with(&self, peer: &NodeName) -> bool
         ensures { result ≡ option_map_or (λ n. same n peer.now) (up_peer self.now.state) false }

@@ -3,7 +3,7 @@ ghost use Rattle.std.specs.Prelude.{◌≡◌, false, IfOk};
 ghost use Rattle.policy_audit.specs.Checks.{dial_checks, first_broken};
 ghost use Rattle.policy_audit.specs.Policy.{is_full};
 ghost use Rattle.node_core.specs.Gone.{AreCut, AreLost};
-ghost use Rattle.node_core.specs.Links.{up_peer};
+ghost use Rattle.node_core.specs.Links.{up_peer, dialled_link};
 ghost use Rattle.node_core.specs.Step.{Steps};
 
 use crate::changes::{Part, changes_of, end_link};
@@ -14,6 +14,7 @@ use crate::link_state::LinkState;
 use crate::links::{MAX_LINKS, drop_ended, is_dialling, place_of, place_of_up, remove};
 use crate::node::NodeCore;
 use crate::running::Running;
+use admission_rules::Admission;
 use cookie_digest::Challenge;
 use dist_types::{NodeName, OutOfMemory, TryClone};
 use link_states::{AwaitName, AwaitStatus};
@@ -62,23 +63,10 @@ impl NodeCore {
             return self.refuse(seat, Event::Dial(peer, challenge), rule);
         }
         let number = self.next_number();
-        let name = peer.try_clone(self.alloc)?;
-        let mut waiting = Vec::new(self.alloc);
-        waiting.reserve(1)?;
         self.links.reserve(1)?;
         self.audit.make_room()?;
-        match AwaitStatus::dial(self.alloc, name, Challenge::new(challenge), &self.admission) {
-            Ok((state, body)) => {
-                let body = Body::of(body.into_vec());
-                waiting.push_reserved(OutFrame { wide: false, body });
-                self.links
-                    .push_reserved(Link::new(number, LinkState::Status(state), waiting));
-            }
-            Err((_name, challenge)) => {
-                challenge.discard();
-                return Err(CoreFault::OutOfMemory);
-            }
-        }
+        let link = dialled(self.alloc, number, &peer, challenge, &self.admission)?;
+        self.links.push_reserved(link);
         accept(
             &mut self.audit,
             seat,
@@ -179,6 +167,32 @@ impl NodeCore {
             changes,
         );
         Ok(Reply::Done)
+    }
+}
+
+/// A link to a peer, for which its first frame waits.
+fn dialled(
+    alloc: Global,
+    number: u32,
+    peer: &NodeName,
+    challenge: u32,
+    admission: &Admission,
+) -> Result<Link, OutOfMemory>
+    ensures { IfOk result (λ link. link ≡ dialled_link admission.now number peer.now challenge link.room) }
+{
+    let mut waiting = Vec::new(alloc);
+    waiting.reserve(1)?;
+    let name = peer.try_clone(alloc)?;
+    match AwaitStatus::dial(alloc, name, Challenge::new(challenge), admission) {
+        Ok((state, body)) => {
+            let body = Body::of(body.into_vec());
+            waiting.push_reserved(OutFrame { wide: false, body });
+            Ok(Link::new(number, LinkState::Status(state), waiting))
+        }
+        Err((_name, challenge)) => {
+            challenge.discard();
+            Err(OutOfMemory)
+        }
     }
 }
 

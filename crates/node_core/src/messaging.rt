@@ -16,9 +16,9 @@ ghost use Rattle.node_core.specs.MessageRules.{early_checks, HasBecome, AnswersD
 ghost use Rattle.node_core.specs.ScopeFacts.{is_number, with_number};
 
 use crate::changes::{cut_off, put_change};
-use crate::entering::accept;
+use crate::entering::{accept, room_for_change};
 use crate::fault::CoreFault;
-use crate::frames::frame_of;
+use crate::frames::into_frame;
 use crate::link::Link;
 use crate::link_state::LinkState;
 use crate::links;
@@ -127,9 +127,7 @@ impl NodeCore {
         let Some(at) = place_of(&self.scopes, &scope) else {
             unreachable!()
         };
-        let mut changes = Vec::new(self.alloc);
-        changes.reserve(1)?;
-        self.audit.make_room()?;
+        let mut changes = room_for_change(self.alloc, &mut self.audit)?;
         let Some(peer) = self.links[place].up_peer() else {
             unreachable!()
         };
@@ -162,9 +160,7 @@ impl NodeCore {
         let Some(at) = place_of(&self.scopes, &scope) else {
             unreachable!()
         };
-        let mut changes = Vec::new(self.alloc);
-        changes.reserve(1)?;
-        self.audit.make_room()?;
+        let mut changes = room_for_change(self.alloc, &mut self.audit)?;
         let Some(peer) = self.links[place].up_peer() else {
             unreachable!()
         };
@@ -203,9 +199,7 @@ impl NodeCore {
         let Some(at) = place_of(&self.scopes, &scope) else {
             unreachable!()
         };
-        let mut changes = Vec::new(self.alloc);
-        changes.reserve(1)?;
-        self.audit.make_room()?;
+        let mut changes = room_for_change(self.alloc, &mut self.audit)?;
         let Some(peer) = self.links[place].up_peer() else {
             unreachable!()
         };
@@ -243,9 +237,7 @@ impl NodeCore {
         let Some(at) = place_of(&self.scopes, &scope) else {
             unreachable!()
         };
-        let mut changes = Vec::new(self.alloc);
-        changes.reserve(1)?;
-        self.audit.make_room()?;
+        let mut changes = room_for_change(self.alloc, &mut self.audit)?;
         let Some(peer) = self.links[place].up_peer() else {
             unreachable!()
         };
@@ -269,10 +261,10 @@ fn answer_to_discover(
 {
     let mut frames = Vec::new(alloc);
     let rows = Rows::of(running.table.local_rows()?);
-    let sync = Message::Sync(scope.try_clone(alloc)?, rows);
-    frames.push(frame_of(alloc, &sync)?)?;
+    let name = scope.try_clone(alloc)?;
+    frames.push(into_frame(alloc, Message::Sync(name, rows))?)?;
     if !running.heard.contains(&number) {
-        frames.push(frame_of(alloc, &Message::Discover(scope))?)?;
+        frames.push(into_frame(alloc, Message::Discover(scope))?)?;
     }
     Ok(frames)
 }
@@ -389,6 +381,7 @@ fn foreign(link: &Link, rows: &Rows) -> Option<Rule>
     }
 }
 
+/// Whether each row's process is of the peer, with the creation that it gave.
 fn are_from(up: &Up, rows: &Rows) -> bool
     ensures { result ≡ list_all (λ r. same r.pid.node up.now.peer && r.pid.creation == up.now.creation) rows.now }
 {

@@ -1,5 +1,6 @@
 //! Monitors of groups and scopes.
-ghost use Rattle.std.specs.Prelude.{◌≡◌, true, false, map, IfOk};
+ghost use Rattle.std.specs.Prelude.{◌≡◌, ◌++◌, ◌∷◌, [], Some, true, false, map, IfOk, OnOk, OnErr};
+ghost use Rattle.group_monitors.specs.Monitors.{IsFree};
 ghost use Rattle.policy_audit.specs.Own.{is_running};
 ghost use Rattle.policy_audit.specs.Contents.{members, contents};
 ghost use Rattle.std.specs.List.{AllByRecursion};
@@ -13,7 +14,7 @@ use crate::fault::CoreFault;
 use crate::node::NodeCore;
 use crate::running::Running;
 use dist_types::{Group, Items, OutOfMemory, Pids, Scope, TryClone};
-use group_monitors::{NoMonitor, UpdatesFault};
+use group_monitors::{Monitors, NoMonitor, UpdatesFault};
 use policy_audit::{Contents, Event, GroupPids, Reply, Rule};
 use std::alloc::Global;
 
@@ -51,11 +52,9 @@ impl NodeCore {
         ensures { Steps self.old seat (Event.Monitor scope group) self.new result }
     {
         let number = self.next_number();
-        let told = pids.try_clone(self.alloc)?;
-        let place = scope.try_clone(self.alloc)?;
-        let watched = group.try_clone(self.alloc)?;
         self.audit.make_room()?;
-        self.monitors.add_group(seat, number, place, watched)?;
+        let told = pids.try_clone(self.alloc)?;
+        add_group(self.alloc, &mut self.monitors, seat, number, &scope, &group)?;
         accept(
             &mut self.audit,
             seat,
@@ -88,9 +87,9 @@ impl NodeCore {
         ensures { Steps self.old seat (Event.MonitorScope scope) self.new result }
     {
         let number = self.next_number();
+        self.audit.make_room()?;
         let told = groups.try_clone(self.alloc)?;
         let watched = scope.try_clone(self.alloc)?;
-        self.audit.make_room()?;
         self.monitors.add_scope(seat, number, watched)?;
         accept(
             &mut self.audit,
@@ -151,6 +150,24 @@ impl NodeCore {
         let _ = self.monitors.advance(seat, number, &self.audit);
         Ok(Reply::Updates(updates))
     }
+}
+
+/// Adds a monitor of a group, that has seen the entries up to its number.
+fn add_group(
+    alloc: Global,
+    monitors: &mut Monitors,
+    seat: u32,
+    number: u32,
+    scope: &Scope,
+    group: &Group,
+) -> Result<(), OutOfMemory>
+    requires { IsFree number monitors.old }
+    ensures ok { OnOk result (monitors.new ≡ monitors.old ++ (number, record { seat = seat; scope = scope.now; group = Some group.now; place = number }) ∷ []) }
+    ensures same { OnErr result (monitors.new ≡ monitors.old) }
+{
+    let scope = scope.try_clone(alloc)?;
+    let group = group.try_clone(alloc)?;
+    monitors.add_group(seat, number, scope, group)
 }
 
 /// The groups of a scope with their members.

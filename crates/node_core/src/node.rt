@@ -15,7 +15,7 @@ use crate::links::place_of;
 use crate::processes::Processes;
 use crate::running::Running;
 use admission_rules::Admission;
-use dist_types::{NodeName, Scope, TryClone};
+use dist_types::{NodeName, OutOfMemory, Scope, TryClone};
 use group_monitors::Monitors;
 use policy_audit::{Audit, Event, Opening, Reply, Rule};
 use scope_core::ScopeTable;
@@ -65,9 +65,7 @@ impl NodeCore {
         if opening.entries == 0 {
             return Err(OpenFault::BadLimit);
         }
-        let own = opening.name.try_clone(alloc)?;
-        let cookie = opening.cookie.try_clone(alloc)?;
-        let admission = Admission::new(alloc, own, cookie, opening.hidden, opening.creation);
+        let admission = admission_of(alloc, &opening, opening.creation)?;
         let audit = Audit::new(alloc, opening.entries);
         Ok(NodeCore {
             alloc,
@@ -172,4 +170,17 @@ impl NodeCore {
             Event::Frame(link, body) => self.frame(seat, link, body),
         }
     }
+}
+
+/// How a node admits its peers that begins with this creation.
+pub(crate) fn admission_of(
+    alloc: Global,
+    opening: &Opening,
+    creation: u32,
+) -> Result<Admission, OutOfMemory>
+    ensures { IfOk result (λ a. a ≡ record { own = opening.now.name; cookie = opening.now.cookie; hidden = opening.now.hidden; creation = creation; peers = []; allowed = [] }) }
+{
+    let own = opening.name.try_clone(alloc)?;
+    let cookie = opening.cookie.try_clone(alloc)?;
+    Ok(Admission::new(alloc, own, cookie, opening.hidden, creation))
 }

@@ -7,11 +7,11 @@ ghost use Rattle.node_core.specs.ScopeFacts.{IsRunningOf, scope_words};
 ghost use Rattle.node_core.specs.Step.{Steps};
 ghost use Rattle.node_core.specs.Calm.{is_query, refuses_calmly};
 
-use crate::entering::{accept, reject};
+use crate::entering::{accept, make_ready, reject};
 use crate::fault::CoreFault;
 use crate::node::NodeCore;
 use crate::running::{Running, find};
-use dist_types::{Group, Items, Pids, Scope, TryClone};
+use dist_types::{Group, Items, Pids, Scope};
 use policy_audit::{Event, Reply, Rule};
 
 impl NodeCore {
@@ -37,8 +37,7 @@ impl NodeCore {
         requires query { is_query event ≡ true }
         ensures { Steps self.old seat event self.new result }
     {
-        let kept = reply.try_clone(self.alloc)?;
-        self.audit.make_room()?;
+        let (reply, kept) = make_ready(self.alloc, &mut self.audit, reply)?;
         accept(&mut self.audit, seat, event, kept, Vec::new(self.alloc));
         Ok(reply)
     }

@@ -21,10 +21,9 @@ use crate::entering::accept;
 use crate::fault::CoreFault;
 use crate::link::Link;
 use crate::links::{commit, prepare, shown};
-use crate::node::NodeCore;
+use crate::node::{NodeCore, admission_of};
 use crate::processes::Processes;
 use crate::running::Running;
-use admission_rules::Admission;
 use dist_types::{GroupChange, NodeName, OutOfMemory, Scope, TryClone};
 use link_frames::Message;
 use policy_audit::{Change, Event, Reply, Rule};
@@ -44,12 +43,10 @@ impl NodeCore {
         if self.admission.creation() == u32::MAX {
             return self.refuse(seat, Event::Restart, Rule::CreationSpent);
         }
-        let own = self.opening.name.try_clone(self.alloc)?;
-        let cookie = self.opening.cookie.try_clone(self.alloc)?;
-        let changes = changes_of(self.alloc, &self.scopes, Part::All)?;
         self.audit.make_room()?;
+        let changes = changes_of(self.alloc, &self.scopes, Part::All)?;
         let creation = self.admission.creation() + 1;
-        self.admission = Admission::new(self.alloc, own, cookie, self.opening.hidden, creation);
+        self.admission = admission_of(self.alloc, &self.opening, creation)?;
         self.processes = Processes::new(self.alloc);
         self.scopes.clear();
         self.links.clear();
@@ -70,11 +67,11 @@ impl NodeCore {
         if self.scopes.len() >= MAX_SCOPES {
             return self.refuse(seat, Event::StartScope(scope), Rule::ScopesFull);
         }
-        let running = new_scope(self.alloc, &self.opening.name, &scope)?;
-        let discover = Message::Discover(scope.try_clone(self.alloc)?);
         self.scopes.reserve(1)?;
         self.audit.make_room()?;
-        tell_shown(self.alloc, &mut self.links, discover)?;
+        let name = scope.try_clone(self.alloc)?;
+        let running = new_scope(self.alloc, &self.opening.name, &scope)?;
+        tell_shown(self.alloc, &mut self.links, Message::Discover(name))?;
         put_in(&mut self.scopes, running);
         let nothing = Vec::new(self.alloc);
         let event = Event::StartScope(scope);
@@ -108,10 +105,10 @@ impl NodeCore {
         requires groups { IsDifference (listed self.old scope) no_count groups.items }
         ensures { Steps self.old seat (Event.StopScope scope) self.new result }
     {
-        let changes = change_in(self.alloc, &scope, groups)?;
-        let down = Message::Down(scope.try_clone(self.alloc)?);
         self.audit.make_room()?;
-        tell_shown(self.alloc, &mut self.links, down)?;
+        let changes = change_in(self.alloc, &scope, groups)?;
+        let name = scope.try_clone(self.alloc)?;
+        tell_shown(self.alloc, &mut self.links, Message::Down(name))?;
         take_out(&mut self.scopes, &scope);
         self.monitors.drop_scope(&scope);
         let event = Event::StopScope(scope);

@@ -30,7 +30,7 @@ unreachable-requires-in_default-up_peer c =
     has_peer (past c.self.inside.opening c.self.inside.audit.entries) c.args.number c.index.result.now here c.in_default-up_peer.ensures
 
 pub invariant_of-self : goal.invariant_of-self
-invariant_of-self c = rw c.in_err-make_room.ensures.same c.self.invariant
+invariant_of-self c = rw c.in_err-changes.ensures.same c.self.invariant
 
 pub index-requires : goal.index-requires
 index-requires c =
@@ -59,7 +59,7 @@ pub invariant_of-self-in-Err-RowsFull : goal.invariant_of-self-in-Err-RowsFull
 invariant_of-self-in-Err-RowsFull c =
     let placed_scope = sym (rw c.deref-2.ensures.value at c.in-Some-place_of.ensures) in
     let there = scope_here (past c.self.inside.opening c.self.inside.audit.entries) c.self.inside.scopes.items c.self.invariant.scopes c.args.scope c.in-Some-place_of.at c.index_mut.result.now placed_scope c.index_mut.ensures.value in
-    rw c.in_ok-make_room.ensures.ok.1
+    rw c.in_ok-changes.ensures.room
     (follows_with (past c.self.inside.opening c.self.inside.audit.entries) _ c.self.invariant (set c.self.inside.scopes.items c.in-Some-place_of.at c.add_rows.new.running) c.self.inside.links.items
     (same_scope (past c.self.inside.opening c.self.inside.audit.entries) c.self.inside.scopes.items c.self.invariant.scopes c.args.scope c.in-Some-place_of.at c.index_mut.result.now c.add_rows.new.running there (unchanged_scope c.index_mut.result.now c.add_rows.new.running c.in-Err-RowsFull.ensures.same)) c.self.invariant.links)
 
@@ -67,7 +67,7 @@ pub invariant_of-self-in-Err : goal.invariant_of-self-in-Err
 invariant_of-self-in-Err c =
     let placed_scope = sym (rw c.deref-2.ensures.value at c.in-Some-place_of.ensures) in
     let there = scope_here (past c.self.inside.opening c.self.inside.audit.entries) c.self.inside.scopes.items c.self.invariant.scopes c.args.scope c.in-Some-place_of.at c.index_mut.result.now placed_scope c.index_mut.ensures.value in
-    rw c.in_ok-make_room.ensures.ok.1
+    rw c.in_ok-changes.ensures.room
     (follows_with (past c.self.inside.opening c.self.inside.audit.entries) _ c.self.invariant (set c.self.inside.scopes.items c.in-Some-place_of.at c.add_rows.new.running) c.self.inside.links.items
     (same_scope (past c.self.inside.opening c.self.inside.audit.entries) c.self.inside.scopes.items c.self.invariant.scopes c.args.scope c.in-Some-place_of.at c.index_mut.result.now c.add_rows.new.running there (unchanged_scope c.index_mut.result.now c.add_rows.new.running c.in-Err.ensures.same)) c.self.invariant.links)
 
@@ -81,13 +81,13 @@ refuse-requires-clause-broken c =
     let there = scope_here (past c.self.inside.opening c.self.inside.audit.entries) c.self.inside.scopes.items c.self.invariant.scopes c.args.scope c.in-Some-place_of.at c.index_mut.result.now placed_scope c.index_mut.ensures.value in
     let peer = peer_is (past c.self.inside.opening c.self.inside.audit.entries) c.args.number c.index.result.now here c.in-Some-up_peer.peer.now c.in-Some-up_peer.ensures in
     let over = rw (c.as_slice.ensures, peer) at (rw c.in-Err-RowsFull.field-0-is at c.in-Err-RowsFull.ensures.refused) in
-    rw c.in_ok-make_room.ensures.ok.1 (says_broken (past c.self.inside.opening c.self.inside.audit.entries) c.args.seat c.args.number c.args.body (said.Join c.args.scope c.args.rows) rule.RowsFull up here.awaited c.requires.says
+    rw c.in_ok-changes.ensures.room (says_broken (past c.self.inside.opening c.self.inside.audit.entries) c.args.seat c.args.number c.args.body (said.Join c.args.scope c.args.rows) rule.RowsFull up here.awaited c.requires.says
     (join_full (past c.self.inside.opening c.self.inside.audit.entries) c.args.number c.args.scope c.index_mut.result.now there.named there.running c.args.rows here.far.peer here.introduced.peer.peer over holds))
 
 pub refuse-requires-clause-calm : goal.refuse-requires-clause-calm
 refuse-requires-clause-calm c =
     let up = rw (← c.self.view_is) at c.requires.up in
-    rw c.in_ok-make_room.ensures.ok.1 (calm (past c.self.inside.opening c.self.inside.audit.entries) c.args.number c.args.body up rule.RowsFull refl)
+    rw c.in_ok-changes.ensures.room (calm (past c.self.inside.opening c.self.inside.audit.entries) c.args.number c.args.body up rule.RowsFull refl)
 
 pub invariant_of-self-2 : goal.invariant_of-self-2
 invariant_of-self-2 c =
@@ -102,12 +102,12 @@ invariant_of-self-2 c =
     let becomes = rw c.as_slice.ensures at c.in-Ok.ensures.ok in
     let fit = rw (c.as_slice.ensures, peer) at c.in-Ok.ensures.limits in
     let met = join_fits (past c.self.inside.opening c.self.inside.audit.entries) c.args.number c.args.scope c.index_mut.result.now there.named there.running c.args.rows here.far.peer here.introduced.peer.peer fit holds in
-    rw (c.accept.ensures.entries, c.accept.ensures.limit, c.in_ok-make_room.ensures.ok.1, c.put_change.ensures, c.reserve.ensures.items, c.new-changes.ensures.items)
+    rw (c.accept.ensures.entries, c.accept.ensures.limit, c.in_ok-changes.ensures.room, c.put_change.ensures, c.in_ok-changes.ensures.empty)
     (added_follows (past c.self.inside.opening c.self.inside.audit.entries) _ c.self.invariant c.args.seat c.args.number c.args.body space up c.index.result.now here c.args.scope c.in-Some-place_of.at c.index_mut.result.now c.add_rows.new.running there c.args.rows c.requires.says met c.in-Ok.groups.items becomes c.in-Ok.ensures.change)
 
 pub returns : goal.returns
 returns c =
-    let pushed = rw (c.in_ok-make_room.ensures.ok.1, c.put_change.ensures, c.reserve.ensures.items, c.new-changes.ensures.items) at c.accept.ensures.entries in
+    let pushed = rw (c.in_ok-changes.ensures.room, c.put_change.ensures, c.in_ok-changes.ensures.empty) at c.accept.ensures.entries in
     let up = rw (← c.self.view_is) at c.requires.up in
     let space = rw (← c.self.view_is) at c.requires.space in
     let holds = rw (← c.self.view_is) at c.requires.holds in

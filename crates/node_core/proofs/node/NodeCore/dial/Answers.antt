@@ -1,8 +1,7 @@
-use Rattle.std.proofs.Common.{[], ◌∷◌, ap, sym, ◌∙◌}
+use Rattle.std.proofs.Common.{[], sym, ◌∙◌}
 use Rattle.policy_audit.specs.declared.event.Event.TheVariants as event
 use Rattle.policy_audit.specs.declared.reply.Reply.TheVariants as reply
 use Rattle.policy_audit.specs.History.{past}
-use Rattle.policy_audit.specs.Owed.{narrow}
 use Rattle.node_core.proofs.Entered.{steps_on}
 use Rattle.node_core.proofs.Openings.{dialled_next, dialled_follows}
 use Rattle.node_core.proofs.LinkTests.{not_some}
@@ -15,14 +14,12 @@ invariant_of-self-2 c =
     let space = rw (← c.self.view_is) at c.requires in
     let number = rw (← c.self.view_is) at c.next_number-number.ensures in
     let next = dialled_next (past c.self.inside.opening c.self.inside.audit.entries) c.self.invariant.sound.legal c.args.seat c.args.peer c.args.challenge c.next_number-number.result number broken space in
-    let dialled = c.in-Ok.ensures.ok.0 ∙ (λ i. record { peer = c.in_ok-name.ensures i; challenge = c.new.ensures i }) in
-    let frames = ap (λ b. narrow b ∷ []) (c.of-body.ensures ∙ c.into_vec.ensures ∙ c.in-Ok.ensures.ok.1) in
-    rw (c.accept.ensures.entries, c.accept.ensures.limit, c.in_ok-make_room.ensures.ok.1, c.new-2.ensures.items, c.push_reserved-in-Ok.ensures.items, c.in_ok-reserve-2.ensures.items, c.new-in-Ok.ensures, c.push_reserved.ensures.items, c.in_ok-reserve.ensures.items, c.new-waiting.ensures.items)
-    (dialled_follows (past c.self.inside.opening c.self.inside.audit.entries) c.self.invariant.sound.legal c.args.seat c.args.peer c.args.challenge c.next_number-number.result number broken next _ _ _ _ c.self.invariant dialled frames)
+    rw (c.accept.ensures.entries, c.accept.ensures.limit, c.in_ok-make_room.ensures.ok.1, c.new.ensures.items, c.push_reserved.ensures.items, c.in_ok-reserve.ensures.items)
+    (dialled_follows (past c.self.inside.opening c.self.inside.audit.entries) c.self.invariant.sound.legal c.args.seat c.args.peer c.args.challenge c.next_number-number.result number broken next _ c.in_ok-link.link c.self.invariant c.in_ok-link.ensures)
 
 pub returns : goal.returns
 returns c =
-    let pushed = rw (c.in_ok-make_room.ensures.ok.1, c.new-2.ensures.items) at c.accept.ensures.entries in
+    let pushed = rw (c.in_ok-make_room.ensures.ok.1, c.new.ensures.items) at c.accept.ensures.entries in
     let none = not_some c.dial_refusal.result (λ r q. c.in_default.not-Some r q) in
     let broken = rw (← c.self.view_is) at (sym c.dial_refusal.ensures ∙ none) in
     let space = rw (← c.self.view_is) at c.requires in

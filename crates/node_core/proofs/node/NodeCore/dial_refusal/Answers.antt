@@ -5,7 +5,8 @@ use Rattle.link_states.proofs.AllowedLemmas.{allowed_is}
 use Rattle.policy_audit.specs.History.{past}
 use Rattle.node_core.specs.Links.{up_peer}
 use Rattle.node_core.proofs.Openings.{links_full, links_fit}
-use Rattle.node_core.proofs.LinkTests.{up_is, dialling_is, allowed_by, place_found, dial_by}
+use Rattle.node_core.proofs.LinkTests.{up_is, dialling_is, allowed_by, dial_by}
+use Rattle.node_core.proofs.Found.{place_found}
 use Rattle.node_core.proofs.node.NodeCore.dial_refusal.Goals as goal
 
 pub returns-then-not-is_allowed : goal.returns-then-not-is_allowed

@@ -105,7 +105,7 @@ invariant_of-self-in-OutOfMemory-1 c =
     let at = ap (position (λ (x : KeptLink). nat_eq x.number c.args.number)) (sym c.deref.ensures.value) ∙ sym c.place_of.ensures ∙ c.in-Some.is in
     let held = held_now c.self.inside.links.items c.in-Some.place c.index_mut.result.now c.make_room.new.self c.index_mut-2.result.now c.replace-state.new.self c.replace-state.result c.index_mut.ensures.value c.make_room.ensures.same c.index_mut-2.ensures.value c.replace-state.ensures.new c.replace-state.ensures.old in
     rw c.in_ok-make_room-2.ensures.ok.1
-    (held_restored (past c.self.inside.opening c.self.inside.audit.entries) _ c.self.invariant c.args.number c.in-Some.place at c.index_mut.result.now c.make_room.new.self c.index_mut-2.result.now c.replace-state.new.self c.replace-state.result held c.index_mut-in-OutOfMemory.result.now c.index_mut-in-OutOfMemory.ensures.value c.in-OutOfMemory.state c.in-OutOfMemory.ensures c.replace-ended.new.self c.replace-ended.ensures.new)
+    (held_restored (past c.self.inside.opening c.self.inside.audit.entries) _ c.self.invariant c.args.number c.in-Some.place at c.index_mut.result.now c.make_room.new.self c.index_mut-2.result.now c.replace-state.new.self c.replace-state.result held c.index_mut-in-OutOfMemory.result.now c.index_mut-in-OutOfMemory.ensures.value c.in-OutOfMemory.state c.in-OutOfMemory.ensures c.set_state.new.self c.set_state.ensures)
 
 pub unreachable-requires-in-Up : goal.unreachable-requires-in-Up
 unreachable-requires-in-Up c =

@@ -1,17 +1,18 @@
-use Rattle.std.proofs.Common.{ap, sym, subst, ◌∙◌, ◌≡◌, Some, nat_eq, [], List, ℕ, length, vec_len, ◌+◌, ◌≤◌, arith}
+use Rattle.std.proofs.Common.{refl, ap, sym, subst, ◌∙◌, ◌≡◌, nat_eq, [], List, ℕ, length, ◌+◌, ◌≤◌, arith}
+use Rattle.std.proofs.lemmas.List.{length-map}
 use Rattle.std.specs.Prelude.{position}
 use Rattle.policy_audit.specs.declared.event.Event.TheVariants as event
 use Rattle.policy_audit.specs.declared.reply.Reply.TheVariants as reply
 use Rattle.policy_audit.specs.History.{past}
 use Rattle.policy_audit.proofs.Accepted.{lie}
-use Rattle.scope_core.specs.Calls.{count_after_drop}
 use Rattle.node_core.specs.declared.hearing.Heard.TheVariants as heard
-use Rattle.node_core.specs.Hearing.{Hears}
-use Rattle.node_core.specs.Links.{KeptLink}
+use Rattle.node_core.specs.declared.link_state.LinkState.TheVariants as states
+use Rattle.node_core.specs.Hearing.{Hears, nobody}
+use Rattle.node_core.specs.Links.{KeptLink, known_peer}
 use Rattle.node_core.proofs.Entered.{steps_on, steps_refused}
 use Rattle.node_core.proofs.HeardFrames.{closed_without, is_there, link_there}
-use Rattle.node_core.proofs.HeldLink.{held_now, held_ready, held_restored, room_follows}
-use Rattle.node_core.proofs.LastHeard.{handshakes, last_never_on, last_few, last_few_ended, last_broke, last_ended, last_next, last_came_up}
+use Rattle.node_core.proofs.HeldLink.{held_now, held_ready, held_restored, held_seen, room_follows}
+use Rattle.node_core.proofs.LastHeard.{handshakes, has_peer, last_never_on, last_few, last_few_ended, last_broke, last_ended, last_next, last_came_up}
 use Rattle.node_core.proofs.node.NodeCore.last_frame.Goals as goal
 
 pub unreachable-requires : goal.unreachable-requires
@@ -36,8 +37,23 @@ invariant_of-self-in_err-make_room-2 c =
     rw c.in_err-make_room-2.ensures.same
     (room_follows (past c.self.inside.opening c.self.inside.audit.entries) _ c.self.invariant c.in-Some.place (is_there (past c.self.inside.opening c.self.inside.audit.entries) _ c.self.invariant c.args.number c.in-Some.place at c.index_mut.result.now).0 c.index_mut.result.now c.make_room.new.self c.index_mut.ensures.value c.make_room.ensures.same)
 
-pub hear-requires : goal.hear-requires
-hear-requires c =
+pub invariant_of-self-in_err-arrival : goal.invariant_of-self-in_err-arrival
+invariant_of-self-in_err-arrival c =
+    let at = ap (position (λ (x : KeptLink). nat_eq x.number c.args.number)) (sym c.deref.ensures.value) ∙ sym c.place_of.ensures ∙ c.in-Some.is in
+    rw c.in_ok-make_room-2.ensures.ok.1
+    (room_follows (past c.self.inside.opening c.self.inside.audit.entries) _ c.self.invariant c.in-Some.place (is_there (past c.self.inside.opening c.self.inside.audit.entries) _ c.self.invariant c.args.number c.in-Some.place at c.index_mut.result.now).0 c.index_mut.result.now c.make_room.new.self c.index_mut.ensures.value c.make_room.ensures.same)
+
+pub arrival_of-requires : goal.arrival_of-requires
+arrival_of-requires c =
+    let space = rw (← c.self.view_is) at c.requires.space in
+    let opens = rw (← c.self.view_is) at c.requires.opens in
+    let final = rw (← c.self.view_is) at c.requires.last in
+    let at = ap (position (λ (x : KeptLink). nat_eq x.number c.args.number)) (sym c.deref.ensures.value) ∙ sym c.place_of.ensures ∙ c.in-Some.is in
+    let held = held_now c.self.inside.links.items c.in-Some.place c.index_mut.result.now c.make_room.new.self c.index.result.now (record c.index.result.now { state = states.Ended }) c.index.result.now.state c.index_mut.ensures.value c.make_room.ensures.same c.index.ensures refl refl in
+    has_peer (past c.self.inside.opening c.self.inside.audit.entries) _ c.self.invariant c.args.seat c.args.number c.in-Some.place c.args.body space opens final at c.index_mut.result.now c.make_room.new.self c.index.result.now (record c.index.result.now { state = states.Ended }) c.index.result.now.state held
+
+pub hear_last-requires : goal.hear_last-requires
+hear_last-requires c =
     let space = rw (← c.self.view_is) at c.requires.space in
     let opens = rw (← c.self.view_is) at c.requires.opens in
     let final = rw (← c.self.view_is) at c.requires.last in
@@ -52,24 +68,25 @@ settle-requires c =
     let final = rw (← c.self.view_is) at c.requires.last in
     let at = ap (position (λ (x : KeptLink). nat_eq x.number c.args.number)) (sym c.deref.ensures.value) ∙ sym c.place_of.ensures ∙ c.in-Some.is in
     let held = held_now c.self.inside.links.items c.in-Some.place c.index_mut.result.now c.make_room.new.self c.index_mut-2.result.now c.replace-state.new.self c.replace-state.result c.index_mut.ensures.value c.make_room.ensures.same c.index_mut-2.ensures.value c.replace-state.ensures.new c.replace-state.ensures.old in
-    let hears = subst (λ (b : List ℕ). Hears c.self.inside.admission c.in_ok-pending.pending c.replace-state.result b (heard.Up c.in-Up.up c.in-Up.frames)) c.as_slice-bytes.ensures c.in-Up.ensures in
-    let few : length c.in-Up.frames ≤ 2 = last_few (past c.self.inside.opening c.self.inside.audit.entries) _ c.self.invariant c.args.seat c.args.number c.in-Some.place c.args.body space opens final at c.index_mut.result.now c.make_room.new.self c.index_mut-2.result.now c.replace-state.new.self c.replace-state.result held c.in_ok-pending.pending c.in-Up.up c.in-Up.frames hears in
+    let hears = subst (λ (b : List ℕ). Hears c.self.inside.admission nobody c.replace-state.result b (heard.Up c.in-Up.up c.in-Up.frames)) c.as_slice.ensures c.in-Up.ensures in
+    let few : length c.in-Up.frames ≤ 2 = last_few (past c.self.inside.opening c.self.inside.audit.entries) _ c.self.invariant c.args.seat c.args.number c.in-Some.place c.args.body space opens final at c.index_mut.result.now c.make_room.new.self c.index_mut-2.result.now c.replace-state.new.self c.replace-state.result held nobody c.in-Up.up c.in-Up.frames hears in
     let fits : 2 + c.len.result ≤ c.make_room.new.self.room = c.in_ok-make_room.ensures.ok in
-    let long : vec_len c.in_ok-discovers.discovers ≡ length c.in_ok-discovers.discovers.items = omega arith in
-    let count : c.len.result ≡ vec_len c.in_ok-discovers.discovers = c.len.ensures in
-    held_ready (past c.self.inside.opening c.self.inside.audit.entries) _ c.self.invariant c.args.number c.in-Some.place at c.index_mut.result.now c.make_room.new.self c.index_mut-2.result.now c.replace-state.new.self c.replace-state.result held (length c.in-Up.frames + length c.in_ok-discovers.discovers.items) (omega (arith, few, fits, long, count))
+    let count : c.len.result ≡ length c.self.inside.scopes.items = omega (arith, c.len.ensures, c.self.inside.scopes.ok) in
+    let long : length c.in_ok-arrival.arrival.discovers.items ≡ length c.self.inside.scopes.items = ap length c.in_ok-arrival.ensures.discovers ∙ length-map c.deref-2.result.now _ ∙ ap length c.deref-2.ensures.value in
+    held_ready (past c.self.inside.opening c.self.inside.audit.entries) _ c.self.invariant c.args.number c.in-Some.place at c.index_mut.result.now c.make_room.new.self c.index_mut-2.result.now c.replace-state.new.self c.replace-state.result held (length c.in-Up.frames + length c.in_ok-arrival.arrival.discovers.items) (omega (arith, few, fits, long, count))
 
-pub invariant_of-self-in-Up-1 : goal.invariant_of-self-in-Up-1
-invariant_of-self-in-Up-1 c =
+pub invariant_of-self-in-Up : goal.invariant_of-self-in-Up
+invariant_of-self-in-Up c =
     let space = rw (← c.self.view_is) at c.requires.space in
     let opens = rw (← c.self.view_is) at c.requires.opens in
     let final = rw (← c.self.view_is) at c.requires.last in
     let at = ap (position (λ (x : KeptLink). nat_eq x.number c.args.number)) (sym c.deref.ensures.value) ∙ sym c.place_of.ensures ∙ c.in-Some.is in
     let held = held_now c.self.inside.links.items c.in-Some.place c.index_mut.result.now c.make_room.new.self c.index_mut-2.result.now c.replace-state.new.self c.replace-state.result c.index_mut.ensures.value c.make_room.ensures.same c.index_mut-2.ensures.value c.replace-state.ensures.new c.replace-state.ensures.old in
-    let hears = subst (λ (b : List ℕ). Hears c.self.inside.admission c.in_ok-pending.pending c.replace-state.result b (heard.Up c.in-Up.up c.in-Up.frames)) c.as_slice-bytes.ensures c.in-Up.ensures in
-    let next = last_next (past c.self.inside.opening c.self.inside.audit.entries) _ c.self.invariant c.args.seat c.args.number c.in-Some.place c.args.body space opens final at c.index_mut.result.now c.make_room.new.self c.index_mut-2.result.now c.replace-state.new.self c.replace-state.result held c.in_ok-pending.pending c.in-Up.up c.in-Up.frames hears c.index.result.now c.index.ensures c.in_ok-peer.kept (c.in_ok-peer.ensures.first ∙ ap Some (sym c.in_ok-peer.ensures.second)) c.up_reply-entered.result c.up_reply-entered.ensures c.in_ok-changes.changes.items _ c.deref-3.result.now c.in_ok-changes.ensures c.deref-3.ensures.value (λ x. ap (count_after_drop x) (sym c.in_ok-peer.ensures.second)) in
+    let hears = subst (λ (b : List ℕ). Hears c.self.inside.admission nobody c.replace-state.result b (heard.Up c.in-Up.up c.in-Up.frames)) c.as_slice.ensures c.in-Up.ensures in
+    let known = ap known_peer (sym (held_seen (past c.self.inside.opening c.self.inside.audit.entries) _ c.self.invariant c.args.number c.in-Some.place at c.index_mut.result.now c.make_room.new.self c.index_mut-2.result.now c.replace-state.new.self c.replace-state.result held c.index.result.now c.index.ensures)) ∙ c.in_ok-arrival.ensures.known in
+    let next = last_next (past c.self.inside.opening c.self.inside.audit.entries) _ c.self.invariant c.args.seat c.args.number c.in-Some.place c.args.body space opens final at c.index_mut.result.now c.make_room.new.self c.index_mut-2.result.now c.replace-state.new.self c.replace-state.result held nobody c.in-Up.up c.in-Up.frames hears c.in_ok-arrival.arrival.kept known c.up_reply-entered.result c.up_reply-entered.ensures c.in_ok-arrival.arrival.changes.items c.deref-2.result.now (rw c.in_ok-arrival.ensures.known at c.in_ok-arrival.ensures.changes) c.deref-2.ensures.value in
     rw (c.accept.ensures.entries, c.accept.ensures.limit, c.in_ok-make_room-2.ensures.ok.1)
-    (last_came_up (past c.self.inside.opening c.self.inside.audit.entries) _ c.self.invariant c.args.seat c.args.number c.in-Some.place c.args.body space opens final at c.index_mut.result.now c.make_room.new.self c.index_mut-2.result.now c.replace-state.new.self c.replace-state.result held c.in_ok-pending.pending c.in-Up.up c.in-Up.frames hears c.index.result.now c.index.ensures c.in_ok-peer.kept (c.in_ok-peer.ensures.first ∙ ap Some (sym c.in_ok-peer.ensures.second)) c.up_reply-entered.result c.up_reply-entered.ensures c.in_ok-changes.changes.items next c.settle.new.links.items c.in_ok-discovers.discovers.items c.deref-2.result.now c.in_ok-discovers.ensures c.deref-2.ensures.value c.settle.ensures.links c.settle.new.scopes.items c.settle.ensures.scopes)
+    (last_came_up (past c.self.inside.opening c.self.inside.audit.entries) _ c.self.invariant c.args.seat c.args.number c.in-Some.place c.args.body space opens final at c.index_mut.result.now c.make_room.new.self c.index_mut-2.result.now c.replace-state.new.self c.replace-state.result held nobody c.in-Up.up c.in-Up.frames hears c.in_ok-arrival.arrival.kept known c.up_reply-entered.result c.up_reply-entered.ensures c.in_ok-arrival.arrival.changes.items next c.settle.new.links.items c.in_ok-arrival.arrival.discovers.items c.deref-2.result.now c.in_ok-arrival.ensures.discovers c.deref-2.ensures.value c.settle.ensures.links c.settle.new.scopes.items c.settle.ensures.scopes)
 
 pub end-requires : goal.end-requires
 end-requires c =
@@ -78,8 +95,8 @@ end-requires c =
     let final = rw (← c.self.view_is) at c.requires.last in
     let at = ap (position (λ (x : KeptLink). nat_eq x.number c.args.number)) (sym c.deref.ensures.value) ∙ sym c.place_of.ensures ∙ c.in-Some.is in
     let held = held_now c.self.inside.links.items c.in-Some.place c.index_mut.result.now c.make_room.new.self c.index_mut-2.result.now c.replace-state.new.self c.replace-state.result c.index_mut.ensures.value c.make_room.ensures.same c.index_mut-2.ensures.value c.replace-state.ensures.new c.replace-state.ensures.old in
-    let hears = subst (λ (b : List ℕ). Hears c.self.inside.admission c.in_ok-pending.pending c.replace-state.result b (heard.Ended c.in-Ended.rule c.in-Ended.frames)) c.as_slice-bytes.ensures c.in-Ended.ensures in
-    let few : length c.in-Ended.frames ≤ 2 = last_few_ended (past c.self.inside.opening c.self.inside.audit.entries) _ c.self.invariant c.args.seat c.args.number c.in-Some.place c.args.body space opens final at c.index_mut.result.now c.make_room.new.self c.index_mut-2.result.now c.replace-state.new.self c.replace-state.result held c.in_ok-pending.pending c.in-Ended.rule c.in-Ended.frames hears in
+    let hears = subst (λ (b : List ℕ). Hears c.self.inside.admission nobody c.replace-state.result b (heard.Ended c.in-Ended.rule c.in-Ended.frames)) c.as_slice.ensures c.in-Ended.ensures in
+    let few : length c.in-Ended.frames ≤ 2 = last_few_ended (past c.self.inside.opening c.self.inside.audit.entries) _ c.self.invariant c.args.seat c.args.number c.in-Some.place c.args.body space opens final at c.index_mut.result.now c.make_room.new.self c.index_mut-2.result.now c.replace-state.new.self c.replace-state.result held nobody c.in-Ended.rule c.in-Ended.frames hears in
     let fits : 2 + c.len.result ≤ c.make_room.new.self.room = c.in_ok-make_room.ensures.ok in
     held_ready (past c.self.inside.opening c.self.inside.audit.entries) _ c.self.invariant c.args.number c.in-Some.place at c.index_mut.result.now c.make_room.new.self c.index_mut-2.result.now c.replace-state.new.self c.replace-state.result held (length c.in-Ended.frames) (omega (arith, few, fits))
 
@@ -90,16 +107,16 @@ invariant_of-self-in-Ended-1 c =
     let final = rw (← c.self.view_is) at c.requires.last in
     let at = ap (position (λ (x : KeptLink). nat_eq x.number c.args.number)) (sym c.deref.ensures.value) ∙ sym c.place_of.ensures ∙ c.in-Some.is in
     let held = held_now c.self.inside.links.items c.in-Some.place c.index_mut.result.now c.make_room.new.self c.index_mut-2.result.now c.replace-state.new.self c.replace-state.result c.index_mut.ensures.value c.make_room.ensures.same c.index_mut-2.ensures.value c.replace-state.ensures.new c.replace-state.ensures.old in
-    let hears = subst (λ (b : List ℕ). Hears c.self.inside.admission c.in_ok-pending.pending c.replace-state.result b (heard.Ended c.in-Ended.rule c.in-Ended.frames)) c.as_slice-bytes.ensures c.in-Ended.ensures in
+    let hears = subst (λ (b : List ℕ). Hears c.self.inside.admission nobody c.replace-state.result b (heard.Ended c.in-Ended.rule c.in-Ended.frames)) c.as_slice.ensures c.in-Ended.ensures in
     rw (c.reject.ensures.entries, c.reject.ensures.limit, c.in_ok-make_room-2.ensures.ok.1)
-    (last_ended (past c.self.inside.opening c.self.inside.audit.entries) _ c.self.invariant c.args.seat c.args.number c.in-Some.place c.args.body space opens final at c.index_mut.result.now c.make_room.new.self c.index_mut-2.result.now c.replace-state.new.self c.replace-state.result held c.in_ok-pending.pending c.in-Ended.rule c.in-Ended.frames hears c.end.new.links.items c.end.ensures)
+    (last_ended (past c.self.inside.opening c.self.inside.audit.entries) _ c.self.invariant c.args.seat c.args.number c.in-Some.place c.args.body space opens final at c.index_mut.result.now c.make_room.new.self c.index_mut-2.result.now c.replace-state.new.self c.replace-state.result held nobody c.in-Ended.rule c.in-Ended.frames hears c.end.new.links.items c.end.ensures)
 
 pub invariant_of-self-in-OutOfMemory-1 : goal.invariant_of-self-in-OutOfMemory-1
 invariant_of-self-in-OutOfMemory-1 c =
     let at = ap (position (λ (x : KeptLink). nat_eq x.number c.args.number)) (sym c.deref.ensures.value) ∙ sym c.place_of.ensures ∙ c.in-Some.is in
     let held = held_now c.self.inside.links.items c.in-Some.place c.index_mut.result.now c.make_room.new.self c.index_mut-2.result.now c.replace-state.new.self c.replace-state.result c.index_mut.ensures.value c.make_room.ensures.same c.index_mut-2.ensures.value c.replace-state.ensures.new c.replace-state.ensures.old in
     rw c.in_ok-make_room-2.ensures.ok.1
-    (held_restored (past c.self.inside.opening c.self.inside.audit.entries) _ c.self.invariant c.args.number c.in-Some.place at c.index_mut.result.now c.make_room.new.self c.index_mut-2.result.now c.replace-state.new.self c.replace-state.result held c.index_mut-in-OutOfMemory.result.now c.index_mut-in-OutOfMemory.ensures.value c.in-OutOfMemory.state c.in-OutOfMemory.ensures c.replace-ended.new.self c.replace-ended.ensures.new)
+    (held_restored (past c.self.inside.opening c.self.inside.audit.entries) _ c.self.invariant c.args.number c.in-Some.place at c.index_mut.result.now c.make_room.new.self c.index_mut-2.result.now c.replace-state.new.self c.replace-state.result held c.index_mut-in-OutOfMemory.result.now c.index_mut-in-OutOfMemory.ensures.value c.in-OutOfMemory.state c.in-OutOfMemory.ensures c.set_state.new.self c.set_state.ensures)
 
 pub unreachable-requires-in-On : goal.unreachable-requires-in-On
 unreachable-requires-in-On c =
@@ -108,8 +125,8 @@ unreachable-requires-in-On c =
     let final = rw (← c.self.view_is) at c.requires.last in
     let at = ap (position (λ (x : KeptLink). nat_eq x.number c.args.number)) (sym c.deref.ensures.value) ∙ sym c.place_of.ensures ∙ c.in-Some.is in
     let held = held_now c.self.inside.links.items c.in-Some.place c.index_mut.result.now c.make_room.new.self c.index_mut-2.result.now c.replace-state.new.self c.replace-state.result c.index_mut.ensures.value c.make_room.ensures.same c.index_mut-2.ensures.value c.replace-state.ensures.new c.replace-state.ensures.old in
-    let hears = subst (λ (b : List ℕ). Hears c.self.inside.admission c.in_ok-pending.pending c.replace-state.result b (heard.On c.in-On.state c.in-On.frames c.in-On.gives_up)) c.as_slice-bytes.ensures c.in-On.ensures in
-    last_never_on (past c.self.inside.opening c.self.inside.audit.entries) _ c.self.invariant c.args.seat c.args.number c.in-Some.place c.args.body space opens final at c.index_mut.result.now c.make_room.new.self c.index_mut-2.result.now c.replace-state.new.self c.replace-state.result held c.in_ok-pending.pending c.in-On.state c.in-On.frames c.in-On.gives_up hears
+    let hears = subst (λ (b : List ℕ). Hears c.self.inside.admission nobody c.replace-state.result b (heard.On c.in-On.state c.in-On.frames c.in-On.gives_up)) c.as_slice.ensures c.in-On.ensures in
+    last_never_on (past c.self.inside.opening c.self.inside.audit.entries) _ c.self.invariant c.args.seat c.args.number c.in-Some.place c.args.body space opens final at c.index_mut.result.now c.make_room.new.self c.index_mut-2.result.now c.replace-state.new.self c.replace-state.result held nobody c.in-On.state c.in-On.frames c.in-On.gives_up hears
 
 pub returns-in-Up : goal.returns-in-Up
 returns-in-Up c =
@@ -118,11 +135,12 @@ returns-in-Up c =
     let final = rw (← c.self.view_is) at c.requires.last in
     let at = ap (position (λ (x : KeptLink). nat_eq x.number c.args.number)) (sym c.deref.ensures.value) ∙ sym c.place_of.ensures ∙ c.in-Some.is in
     let held = held_now c.self.inside.links.items c.in-Some.place c.index_mut.result.now c.make_room.new.self c.index_mut-2.result.now c.replace-state.new.self c.replace-state.result c.index_mut.ensures.value c.make_room.ensures.same c.index_mut-2.ensures.value c.replace-state.ensures.new c.replace-state.ensures.old in
-    let hears = subst (λ (b : List ℕ). Hears c.self.inside.admission c.in_ok-pending.pending c.replace-state.result b (heard.Up c.in-Up.up c.in-Up.frames)) c.as_slice-bytes.ensures c.in-Up.ensures in
-    let next = last_next (past c.self.inside.opening c.self.inside.audit.entries) _ c.self.invariant c.args.seat c.args.number c.in-Some.place c.args.body space opens final at c.index_mut.result.now c.make_room.new.self c.index_mut-2.result.now c.replace-state.new.self c.replace-state.result held c.in_ok-pending.pending c.in-Up.up c.in-Up.frames hears c.index.result.now c.index.ensures c.in_ok-peer.kept (c.in_ok-peer.ensures.first ∙ ap Some (sym c.in_ok-peer.ensures.second)) c.up_reply-entered.result c.up_reply-entered.ensures c.in_ok-changes.changes.items _ c.deref-3.result.now c.in_ok-changes.ensures c.deref-3.ensures.value (λ x. ap (count_after_drop x) (sym c.in_ok-peer.ensures.second)) in
+    let hears = subst (λ (b : List ℕ). Hears c.self.inside.admission nobody c.replace-state.result b (heard.Up c.in-Up.up c.in-Up.frames)) c.as_slice.ensures c.in-Up.ensures in
+    let known = ap known_peer (sym (held_seen (past c.self.inside.opening c.self.inside.audit.entries) _ c.self.invariant c.args.number c.in-Some.place at c.index_mut.result.now c.make_room.new.self c.index_mut-2.result.now c.replace-state.new.self c.replace-state.result held c.index.result.now c.index.ensures)) ∙ c.in_ok-arrival.ensures.known in
+    let next = last_next (past c.self.inside.opening c.self.inside.audit.entries) _ c.self.invariant c.args.seat c.args.number c.in-Some.place c.args.body space opens final at c.index_mut.result.now c.make_room.new.self c.index_mut-2.result.now c.replace-state.new.self c.replace-state.result held nobody c.in-Up.up c.in-Up.frames hears c.in_ok-arrival.arrival.kept known c.up_reply-entered.result c.up_reply-entered.ensures c.in_ok-arrival.arrival.changes.items c.deref-2.result.now (rw c.in_ok-arrival.ensures.known at c.in_ok-arrival.ensures.changes) c.deref-2.ensures.value in
     let pushed = rw c.in_ok-make_room-2.ensures.ok.1 at c.accept.ensures.entries in
-    let same = c.up_reply-reply.ensures ∙ ap (λ n. reply.Up n c.in-Up.up.creation c.in-Up.up.visible) (sym c.in_ok-peer.ensures.second) ∙ sym c.up_reply-entered.ensures in
-    rw same (steps_on c.self.view_is c.args.seat (event.Frame c.args.number c.args.body) c.up_reply-entered.result c.in_ok-changes.changes.items next pushed)
+    let same = c.up_reply-reply.ensures ∙ ap (λ n. reply.Up n c.in-Up.up.creation c.in-Up.up.visible) (c.in_ok-arrival.ensures.copy) ∙ sym c.up_reply-entered.ensures in
+    rw same (steps_on c.self.view_is c.args.seat (event.Frame c.args.number c.args.body) c.up_reply-entered.result c.in_ok-arrival.arrival.changes.items next pushed)
 
 pub returns-in-Ended : goal.returns-in-Ended
 returns-in-Ended c =
@@ -131,7 +149,7 @@ returns-in-Ended c =
     let final = rw (← c.self.view_is) at c.requires.last in
     let at = ap (position (λ (x : KeptLink). nat_eq x.number c.args.number)) (sym c.deref.ensures.value) ∙ sym c.place_of.ensures ∙ c.in-Some.is in
     let held = held_now c.self.inside.links.items c.in-Some.place c.index_mut.result.now c.make_room.new.self c.index_mut-2.result.now c.replace-state.new.self c.replace-state.result c.index_mut.ensures.value c.make_room.ensures.same c.index_mut-2.ensures.value c.replace-state.ensures.new c.replace-state.ensures.old in
-    let hears = subst (λ (b : List ℕ). Hears c.self.inside.admission c.in_ok-pending.pending c.replace-state.result b (heard.Ended c.in-Ended.rule c.in-Ended.frames)) c.as_slice-bytes.ensures c.in-Ended.ensures in
-    let next = last_broke (past c.self.inside.opening c.self.inside.audit.entries) _ c.self.invariant c.args.seat c.args.number c.in-Some.place c.args.body space opens final at c.index_mut.result.now c.make_room.new.self c.index_mut-2.result.now c.replace-state.new.self c.replace-state.result held c.in_ok-pending.pending c.in-Ended.rule c.in-Ended.frames hears in
+    let hears = subst (λ (b : List ℕ). Hears c.self.inside.admission nobody c.replace-state.result b (heard.Ended c.in-Ended.rule c.in-Ended.frames)) c.as_slice.ensures c.in-Ended.ensures in
+    let next = last_broke (past c.self.inside.opening c.self.inside.audit.entries) _ c.self.invariant c.args.seat c.args.number c.in-Some.place c.args.body space opens final at c.index_mut.result.now c.make_room.new.self c.index_mut-2.result.now c.replace-state.new.self c.replace-state.result held nobody c.in-Ended.rule c.in-Ended.frames hears in
     let pushed = rw c.in_ok-make_room-2.ensures.ok.1 at c.reject.ensures.entries in
     steps_refused c.self.view_is c.args.seat (event.Frame c.args.number c.args.body) c.in-Ended.rule [] next pushed

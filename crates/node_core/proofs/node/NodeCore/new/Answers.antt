@@ -4,5 +4,5 @@ use Rattle.node_core.proofs.node.NodeCore.new.Goals as goal
 
 pub invariant_of-result : goal.invariant_of-result
 invariant_of-result c =
-    rw (c.new-audit.ensures.limit, c.new-audit.ensures.empty, c.new-admission.ensures, c.new.ensures, c.new-2.ensures.items, c.new-3.ensures.items, c.new-4.ensures, c.in_ok-own.ensures, c.in_ok-cookie.ensures)
+    rw (c.new-audit.ensures.limit, c.new-audit.ensures.empty, c.in_ok-admission.ensures, c.new.ensures, c.new-2.ensures.items, c.new-3.ensures.items, c.new-4.ensures)
     (begun c.args.opening (search rules))

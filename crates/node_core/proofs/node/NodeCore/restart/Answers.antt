@@ -1,4 +1,4 @@
-use Rattle.std.proofs.Common.{◌∙◌, sym, ap, ℕ, ◌+◌}
+use Rattle.std.proofs.Common.{refl, ◌∙◌, sym, ap, ℕ, ◌+◌}
 use Rattle.policy_audit.specs.declared.event.Event.TheVariants as event
 use Rattle.policy_audit.specs.declared.reply.Reply.TheVariants as reply
 use Rattle.policy_audit.specs.History.{past}
@@ -25,5 +25,5 @@ invariant_of-self-2 c =
     let space = rw (← c.self.view_is) at c.requires in
     let gone = rw c.deref.ensures.value at c.in_ok-changes.ensures in
     let next = anew_next (past c.self.inside.opening c.self.inside.audit.entries) c.args.seat _ c.self.invariant c.in_ok-changes.changes.items gone space (creation_left (past c.self.inside.opening c.self.inside.audit.entries) c.args.seat c.creation.result (c.creation.ensures ∙ c.self.invariant.admission.creation) c.if-creation.false) in
-    rw (c.accept.ensures.entries, c.accept.ensures.limit, c.in_ok-make_room.ensures.ok.1, c.new.ensures, c.new-2.ensures, c.clear.ensures.items, c.clear-2.ensures.items, c.clear-3.ensures)
-    (anew_follows (past c.self.inside.opening c.self.inside.audit.entries) c.args.seat _ c.self.invariant c.in_ok-changes.changes.items gone next c.in_ok-own.own c.in_ok-cookie.cookie (c.creation-creation.result + 1) c.in_ok-own.ensures c.in_ok-cookie.ensures (ap (λ (n : ℕ). n + 1) c.creation-creation.ensures))
+    rw (c.accept.ensures.entries, c.accept.ensures.limit, c.in_ok-make_room.ensures.ok.1, c.in_ok-self-inside.ensures, c.new.ensures, c.clear.ensures.items, c.clear-2.ensures.items, c.clear-3.ensures)
+    (anew_follows (past c.self.inside.opening c.self.inside.audit.entries) c.args.seat _ c.self.invariant c.in_ok-changes.changes.items gone next _ _ (c.creation-creation.result + 1) refl refl (ap (λ (n : ℕ). n + 1) c.creation-creation.ensures))

@@ -31,6 +31,6 @@ invariant_of-self-2 c =
     let runs = rw (← c.self.view_is) at c.requires.runs in
     let groups = rw (← c.self.view_is) at c.requires.groups in
     let next = stop_next (past c.self.inside.opening c.self.inside.audit.entries) c.args.seat c.args.scope c.args.groups.items _ c.self.invariant runs groups space in
-    let told = rw c.in_ok-try_clone.ensures at c.in_ok-tell_shown.ensures.told in
+    let told = rw c.in_ok-name.ensures at c.in_ok-tell_shown.ensures.told in
     rw (c.accept.ensures.entries, c.accept.ensures.limit, c.in_ok-make_room.ensures.ok.1, c.in_ok-changes.ensures, c.take_out.ensures, c.drop_scope.ensures.dropped)
     (stop_follows (past c.self.inside.opening c.self.inside.audit.entries) c.args.seat c.args.scope c.args.groups.items _ c.self.invariant runs groups next c.tell_shown.new.links.items told)

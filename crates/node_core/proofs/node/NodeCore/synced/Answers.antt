@@ -29,7 +29,7 @@ unreachable-requires-in_default-up_peer c =
     has_peer (past c.self.inside.opening c.self.inside.audit.entries) c.args.number c.index.result.now here c.in_default-up_peer.ensures
 
 pub invariant_of-self : goal.invariant_of-self
-invariant_of-self c = rw c.in_err-make_room.ensures.same c.self.invariant
+invariant_of-self c = rw c.in_err-changes.ensures.same c.self.invariant
 
 pub index-requires : goal.index-requires
 index-requires c =
@@ -61,7 +61,7 @@ pub invariant_of-self-in_err-groups : goal.invariant_of-self-in_err-groups
 invariant_of-self-in_err-groups c =
     let placed_scope = sym (rw c.deref-2.ensures.value at c.in-Some-place_of.ensures) in
     let there = scope_here (past c.self.inside.opening c.self.inside.audit.entries) c.self.inside.scopes.items c.self.invariant.scopes c.args.scope c.in-Some-place_of.at c.index_mut.result.now placed_scope c.index_mut.ensures.value in
-    rw c.in_ok-make_room.ensures.ok.1
+    rw c.in_ok-changes.ensures.room
     (follows_with (past c.self.inside.opening c.self.inside.audit.entries) _ c.self.invariant (set c.self.inside.scopes.items c.in-Some-place_of.at c.hear_rows.new.running) c.self.inside.links.items
     (same_scope (past c.self.inside.opening c.self.inside.audit.entries) c.self.inside.scopes.items c.self.invariant.scopes c.args.scope c.in-Some-place_of.at c.index_mut.result.now c.hear_rows.new.running there (c.in_err-groups.ensures.same)) c.self.invariant.links)
 
@@ -76,12 +76,12 @@ invariant_of-self-2 c =
     let there = scope_here (past c.self.inside.opening c.self.inside.audit.entries) c.self.inside.scopes.items c.self.invariant.scopes c.args.scope c.in-Some-place_of.at c.index_mut.result.now placed_scope c.index_mut.ensures.value in
     let peer = peer_is (past c.self.inside.opening c.self.inside.audit.entries) c.args.number c.index.result.now here c.in-Some-up_peer.peer.now c.in-Some-up_peer.ensures in
     let becomes = rw (c.as_slice.ensures, peer) at c.in_ok-groups.ensures.ok in
-    rw (c.accept.ensures.entries, c.accept.ensures.limit, c.in_ok-make_room.ensures.ok.1, c.put_change.ensures, c.reserve.ensures.items, c.new-changes.ensures.items)
+    rw (c.accept.ensures.entries, c.accept.ensures.limit, c.in_ok-changes.ensures.room, c.put_change.ensures, c.in_ok-changes.ensures.empty)
     (synced_follows (past c.self.inside.opening c.self.inside.audit.entries) _ c.self.invariant c.args.seat c.args.number c.args.body space up c.index.result.now here c.args.scope c.in-Some-place_of.at c.index_mut.result.now c.hear_rows.new.running there c.args.rows c.requires.says holds c.in_ok-groups.groups.items becomes c.in_ok-groups.ensures.change)
 
 pub returns : goal.returns
 returns c =
-    let pushed = rw (c.in_ok-make_room.ensures.ok.1, c.put_change.ensures, c.reserve.ensures.items, c.new-changes.ensures.items) at c.accept.ensures.entries in
+    let pushed = rw (c.in_ok-changes.ensures.room, c.put_change.ensures, c.in_ok-changes.ensures.empty) at c.accept.ensures.entries in
     let up = rw (← c.self.view_is) at c.requires.up in
     let space = rw (← c.self.view_is) at c.requires.space in
     let holds = rw (← c.self.view_is) at c.requires.holds in

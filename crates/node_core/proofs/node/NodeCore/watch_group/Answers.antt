@@ -22,7 +22,7 @@ invariant_of-self-2 c =
     let number = rw (← c.self.view_is) at c.next_number-number.ensures in
     let all = rw (← c.self.view_is) at c.requires.members in
     let next = quiet_next (past c.self.inside.opening c.self.inside.audit.entries) c.args.seat (reply.Ref c.next_number-number.result c.args.pids) (event.Monitor c.args.scope c.args.group) space (ap (λ b. cond (not b) (Some rule.NoScope) None) runs) (sym (λ i. reply.Ref (number i) (all i))) refl in
-    rw (c.accept.ensures.entries, c.accept.ensures.limit, c.in_ok-make_room.ensures.ok.1, c.new.ensures.items, c.in_ok-told.ensures, c.in_ok-add_group.ensures.ok, c.in_ok-place.ensures, c.in_ok-watched.ensures)
+    rw (c.accept.ensures.entries, c.accept.ensures.limit, c.in_ok-make_room.ensures.ok.1, c.new.ensures.items, c.in_ok-told.ensures, c.in_ok-add_group.ensures.ok)
     (group_watched (past c.self.inside.opening c.self.inside.audit.entries) c.args.seat (reply.Ref c.next_number-number.result c.args.pids) _ c.self.invariant c.args.scope c.args.group c.next_number-number.result number next)
 
 pub returns : goal.returns
