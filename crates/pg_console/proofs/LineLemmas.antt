@@ -1,8 +1,10 @@
 -- The first line of a text, and the first word of a line.
-use Rattle.std.proofs.Common.{◌≡◌, ◌≢◌, ℕ, suc, ◌-◌, Bool, true, false, cond, List, [], ◌∷◌, ◌++◌, length, All, refl, sym, ap, ◌∙◌, arith, rules, nat_lt, eqb, ne_eqb}
+use Rattle.std.proofs.Common.{◌≡◌, ◌≢◌, ℕ, suc, ◌-◌, ◌<◌, Bool, Some, None, true, false, cond, List, [], ◌∷◌, ◌++◌, length, All, refl, sym, ap, ◌∙◌, arith, rules, nat_lt, eqb, ne_eqb}
 use Rattle.std.proofs.lemmas.List.Elements.{All-head, All-tail}
 use Rattle.std.specs.Io.BufRead.{take_through, drop_through, strip_last}
-use Rattle.pg_console.specs.Lines.{lines_of, words_of, onto_first}
+use Rattle.std.specs.List.{list_any}
+use Rattle.std.specs.Option.{option_map}
+use Rattle.pg_console.specs.Lines.{lines_of, words_of, onto_first, only_of}
 
 -- a byte before another part of a text stays when the line feed at its end goes
 strip_cons : (b c : ℕ) (cs : List ℕ) → strip_last 10 (b ∷ c ∷ cs) ≡ b ∷ strip_last 10 (c ∷ cs)
@@ -55,3 +57,37 @@ words_plain (x ∷ xs) h = rw (ne_eqb x 32 (All-head (λ b. b ≢ 32) x xs h), w
 pub words_space : (xs ys : List ℕ) → All (λ b. b ≢ 32) xs → words_of (xs ++ 32 ∷ ys) ≡ xs ∷ words_of ys
 words_space [] ys h = refl
 words_space (x ∷ xs) ys h = rw (ne_eqb x 32 (All-head (λ b. b ≢ 32) x xs h), words_space xs ys (All-tail (λ b. b ≢ 32) x xs h)) refl
+
+-- there is always a word
+words_some : (xs : List ℕ) → 0 < length (words_of xs)
+words_some [] = omega arith
+words_some (x ∷ xs) = at (eqb x 32)
+  where
+    onto : (words : List (List ℕ)) → 0 < length (onto_first x words)
+    onto [] = omega arith
+    onto (word ∷ words) = omega arith
+
+    at : (t : Bool) → 0 < length (cond t ([] ∷ words_of xs) (onto_first x (words_of xs)))
+    at true = omega arith
+    at false = onto (words_of xs)
+
+-- a word before others is not the only one
+only_before : (words : List (List ℕ)) → 0 < length words → only_of ([] ∷ words) ≡ None
+only_before [] some = absurd (omega arith)
+only_before (word ∷ words) some = refl
+
+only_onto : (x : ℕ) (words : List (List ℕ)) → 0 < length words → only_of (onto_first x words) ≡ option_map (λ word. x ∷ word) (only_of words)
+only_onto x [] some = absurd (omega arith)
+only_onto x (word ∷ []) some = refl
+only_onto x (word ∷ other ∷ words) some = refl
+
+-- a line is one word where it has no space
+pub only_words : (xs : List ℕ) → only_of (words_of xs) ≡ cond (list_any (λ x. eqb x 32) xs) None (Some xs)
+only_words [] = refl
+only_words (x ∷ xs) = at (eqb x 32) (list_any (λ y. eqb y 32) xs) refl refl (only_words xs)
+  where
+    at : (t any : Bool) → eqb x 32 ≡ t → list_any (λ y. eqb y 32) xs ≡ any → only_of (words_of xs) ≡ cond (list_any (λ y. eqb y 32) xs) None (Some xs)
+        → only_of (words_of (x ∷ xs)) ≡ cond (list_any (λ y. eqb y 32) (x ∷ xs)) None (Some (x ∷ xs))
+    at true any e h rest = rw e (only_before (words_of xs) (words_some xs))
+    at false true e h rest = rw (e, h) (only_onto x (words_of xs) (words_some xs) ∙ ap (option_map (λ word. x ∷ word)) (rw h at rest))
+    at false false e h rest = rw (e, h) (only_onto x (words_of xs) (words_some xs) ∙ ap (option_map (λ word. x ∷ word)) (rw h at rest))

@@ -1,8 +1,8 @@
--- Which words are numbers.
-use Rattle.std.proofs.Common.{◌≡◌, ℕ, ◌<◌, ◌^◌, Bool, true, false, cond, ◌&&◌, nat_lt, List, Some, None, refl, subst, rules, arith, decimal}
+-- Which words are numbers, and how long numbers are.
+use Rattle.std.proofs.Common.{◌≡◌, ℕ, ◌<◌, ◌≤◌, ◌^◌, Bool, true, false, cond, ◌&&◌, nat_lt, List, length, Some, None, refl, subst, rules, arith, decimal}
 use Rattle.std.specs.Str.{bytes_eq}
 use Rattle.std.specs.Str.Parse.{digits_value}
-use Rattle.std.proofs.lemmas.Fmt.{digits_value-decimal}
+use Rattle.std.proofs.lemmas.Fmt.{digits_value-decimal, length-decimal-le}
 use Rattle.std.proofs.lemmas.Str.Parse.{numerals_by_value, tells_all_ascii_digits}
 use Rattle.std.proofs.lemmas.Slice.Eq.{bytes_eq-Decides}
 use Rattle.std.proofs.lemmas.Bool.{ltb-true, lt-ltb}
@@ -30,3 +30,7 @@ number_none word never = at (bytes_eq (decimal (digits_value 10 word)) word) (na
     at true true is fits = absurd (never _ (ltb-true _ _ fits) (bytes_eq_same _ _ is))
     at true false is fits = refl
     at false small is fits = refl
+
+-- a number of 64 bits has 20 digits at most
+pub decimal_short : (n : ℕ) → n < 2 ^ 64 → length (decimal n) ≤ 20
+decimal_short n small = length-decimal-le 20 n (omega arith) (omega arith) small

@@ -1,11 +1,14 @@
 //! Values as parts of an answer line.
-ghost use Rattle.std.specs.Prelude.{◌≡◌, ◌++◌, List, ℕ, OnOk, codes, decimal};
+ghost use Rattle.std.specs.Prelude.{◌≡◌, ◌+◌, ◌<◌, ◌≤◌, ◌++◌, List, ℕ, OnOk, codes, decimal, drop, length};
 ghost use Rattle.pg_console.specs.Answers.{spaced, pid_text, counted_text, group_text, update_text, frame_text};
 
 use dist_types::{Group, OutOfMemory, Pid, Pids};
-use itoa::Buffer;
+use itoa::{Buffer, write_digits};
 use policy_audit::{GroupPids, OutFrame, Update};
 use std::alloc::Global;
+
+/// Room for two numbers of 20 digits, and a slash before each.
+const SLASHED: usize = 42;
 
 /// A value that is printed as one or more words.
 pub trait Printed {
@@ -20,8 +23,7 @@ impl Printed for Pid {
 
     fn put(&self, _alloc: Global, out: &mut Vec<u8>) -> Result<(), OutOfMemory> {
         out.extend_from_slice(self.node.as_bytes())?;
-        put_number("/", u64::from(self.creation), out)?;
-        put_number("/", self.number, out)
+        put_slashed(self.creation, self.number, out)
     }
 }
 
@@ -85,6 +87,29 @@ fn put_counted(alloc: Global, pids: &Pids, out: &mut Vec<u8>) -> Result<(), OutO
     let pids = pids.as_slice();
     put_number(" ", pids.len() as u64, out)?;
     put_each(alloc, pids, out)
+}
+
+/// Adds the creation and the number of a process, each behind a slash. A list has many, so both are added at once.
+#[tactic(auto, using(crate::proofs::NumberLemmas::decimal_short))]
+fn put_slashed(creation: u32, number: u64, out: &mut Vec<u8>) -> Result<(), OutOfMemory>
+    ensures { OnOk result (out.new.items ≡ out.old.items ++ codes "/" ++ decimal creation ++ codes "/" ++ decimal number) }
+{
+    let mut text = [0; SLASHED];
+    let middle = write_slashed(number, &mut text, SLASHED);
+    let start = write_slashed(u64::from(creation), &mut text, middle);
+    out.extend_from_slice(&text[start..])?;
+    Ok(())
+}
+
+/// Writes a slash and a number so that they end at `end`, and says where they start.
+fn write_slashed(number: u64, text: &mut [u8], end: usize) -> usize
+    requires { (length (decimal number) < end) × (end ≤ length text.old) }
+    ensures start { result + 1 + length (decimal number) ≡ end }
+    ensures written { drop result text.new ≡ codes "/" ++ decimal number ++ drop end text.old }
+{
+    let start = write_digits(number, text, end) - 1;
+    text[start] = b'/';
+    start
 }
 
 /// Adds a word and a number.

@@ -46,13 +46,14 @@ pub fn next_word(rest: Option<&[u8]>) -> Option<(&[u8], Option<&[u8]>)>
 }
 
 /// The only word that is left.
+#[tactic(auto, using(crate::proofs::LineLemmas::only_words))]
 pub fn only_word(rest: Option<&[u8]>) -> Option<&[u8]>
     ensures found { IfSome result (λ word. only_of (words_left rest.entry) ≡ Some word.now) }
     ensures none { IsNone result → only_of (words_left rest.entry) ≡ None }
 {
-    let (word, rest) = next_word(rest)?;
-    match next_word(rest) {
-        Some(_) => None,
-        None => Some(word),
+    let word = rest?;
+    if word.contains(&b' ') {
+        return None;
     }
+    Some(word)
 }

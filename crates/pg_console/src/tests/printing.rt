@@ -120,17 +120,27 @@ fn prints_frames(rt: HostRuntime) -> Result<(), Fail> {
 
 /// Sees that an entry has this line.
 fn prints_entry<R: AllocGlobal + Abort>(rt: &R, verdict: Verdict, line: &str) -> Result<(), Fail> {
+    let out = entered(rt.alloc(), verdict)?;
+    assert_eq!(rt; out.as_slice(), line.as_bytes(), "{line}");
+    Ok(())
+}
+
+/// The line of an entry with this verdict.
+fn entered(alloc: Global, verdict: Verdict) -> Result<Vec<u8>, Fail> {
     let entry = Entry {
         number: 2,
         seat: 4_294_967_295,
         event: Event::Opened(123),
         verdict,
-        change: Items::of(Vec::new(rt.alloc())),
+        change: Items::of(Vec::new(alloc)),
     };
-    let mut out = Vec::new(rt.alloc());
-    put_entry(Some(&entry), &mut out)?;
-    assert_eq!(rt; out.as_slice(), line.as_bytes(), "{line}");
-    Ok(())
+    line_of(alloc, &entry)
+}
+
+fn line_of(alloc: Global, entry: &Entry) -> Result<Vec<u8>, Fail> {
+    let mut out = Vec::new(alloc);
+    put_entry(Some(entry), &mut out)?;
+    Ok(out)
 }
 
 #[test]

@@ -3,6 +3,7 @@ use crate::command::{Command, LineFault, parse};
 use crate::event_kind::kind;
 use dist_types::{NodeName, Pid};
 use policy_audit::Event;
+use std::alloc::Global;
 use std::test::Fail;
 
 /// Each command on events, with the kind of its event.
@@ -114,24 +115,44 @@ const FAULTS: [&str; 72] = [
     "frame 1 4g",
 ];
 
+/// The kind of the event that a line is read as.
+fn kind_of(alloc: Global, line: &str) -> Option<&'static str> {
+    match parse(alloc, line.as_bytes()) {
+        Ok(Command::Step(event)) => Some(kind(&event)),
+        _ => None,
+    }
+}
+
 #[test]
 fn reads_each_command(rt: HostRuntime) -> Result<(), Fail> {
     for (line, wanted) in COMMANDS {
-        match parse(rt.alloc(), line.as_bytes()) {
-            Ok(Command::Step(event)) => assert_eq!(rt; kind(&event), wanted, "{line}"),
-            _ => assert!(rt; false, "{line}"),
-        }
+        assert_eq!(rt; kind_of(rt.alloc(), line), Some(wanted), "{line}");
     }
     Ok(())
+}
+
+fn fault_of(alloc: Global, line: &str) -> Option<LineFault> {
+    parse(alloc, line.as_bytes()).err()
 }
 
 #[test]
 fn refuses_lines_that_are_no_commands(rt: HostRuntime) -> Result<(), Fail> {
     for line in FAULTS {
-        let said = parse(rt.alloc(), line.as_bytes());
-        assert_eq!(rt; said.err(), Some(LineFault::Script), "{line}");
+        assert_eq!(rt;
+            fault_of(rt.alloc(), line),
+            Some(LineFault::Script),
+            "{line}"
+        );
     }
     Ok(())
+}
+
+/// The process that a line ends.
+fn ended(alloc: Global, line: &str) -> Option<Pid> {
+    match parse(alloc, line.as_bytes()) {
+        Ok(Command::Step(Event::Exit(pid))) => Some(pid),
+        _ => None,
+    }
 }
 
 /// The last two slashes part a process.
@@ -142,9 +163,6 @@ fn reads_a_name_with_slashes(rt: HostRuntime) -> Result<(), Fail> {
         creation: 4,
         number: 1,
     };
-    match parse(rt.alloc(), b"exit a/b@h/1/4/1") {
-        Ok(Command::Step(event)) => assert!(rt; event == Event::Exit(process)),
-        _ => assert!(rt; false),
-    }
+    assert_eq!(rt; ended(rt.alloc(), "exit a/b@h/1/4/1"), Some(process));
     Ok(())
 }
