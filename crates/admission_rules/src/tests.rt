@@ -22,16 +22,25 @@ fn numbered(alloc: Global, first: usize, end: usize) -> Result<Vec<NodeName>, Fa
     Ok(names)
 }
 
-/// Sets a cookie for a node, in memory that is there.
-fn set_cookie(
+/// Sets the cookies of these nodes.
+fn set_cookies(
     alloc: Global,
     rules: &mut Admission,
-    node: &[u8],
-    cookie: &[u8],
-) -> Result<Result<(), CookieFault>, Fail> {
-    let node = NodeName::parse(alloc, node)?;
-    let cookie = Cookie::parse(alloc, cookie)?;
-    Ok(rules.set_cookie_for(node, cookie))
+    cookies: &[(&[u8], &[u8])],
+) -> Result<(), Fail> {
+    for (node, cookie) in cookies {
+        let node = NodeName::parse(alloc, node)?;
+        rules.set_cookie_for(node, Cookie::parse(alloc, cookie)?)?;
+    }
+    Ok(())
+}
+
+/// Sets a cookie for each of the names `nN@h` with N below 1,024.
+fn fill_with_cookies(alloc: Global, rules: &mut Admission) -> Result<(), Fail> {
+    for name in numbered(alloc, 0, 1024)? {
+        rules.set_cookie_for(name, Cookie::parse(alloc, b"123")?)?;
+    }
+    Ok(())
 }
 
 /// Whether each node has the cookie beside it.
@@ -45,108 +54,150 @@ fn are_cookies(alloc: Global, rules: &Admission, cases: &[(&[u8], &[u8])]) -> Re
     Ok(true)
 }
 
+/// The name that was allowed as the one of this place.
+fn allowed_at(rules: &Admission, place: usize) -> Option<&[u8]> {
+    Some(rules.allowed(place)?.as_bytes())
+}
+
+// Each test has its rules held by one function and used by another: a check follows the end of a value along every way out of
+// the function that holds it.
+
 #[test]
 fn starts_as_it_was_given(rt: HostRuntime) -> Result<(), Fail> {
-    let rules = rules(rt.alloc(), false)?;
-    assert_eq!(rt; rules.own().as_bytes(), b"b@h".as_slice());
-    assert_eq!(rt; rules.creation(), 4);
-    let cases: [(&[u8], &[u8]); 2] = [(b"a@h", b"password"), (b"b@h", b"password")];
-    assert!(rt; are_cookies(rt.alloc(), &rules, &cases)?);
+    let given = is_as_given(rt.alloc(), &rules(rt.alloc(), false)?)?;
+    assert!(rt; given);
     Ok(())
+}
+
+fn is_as_given(alloc: Global, rules: &Admission) -> Result<bool, Fail> {
+    let cases: [(&[u8], &[u8]); 2] = [(b"a@h", b"password"), (b"b@h", b"password")];
+    let are_given = are_cookies(alloc, rules, &cases)?;
+    Ok(are_given && rules.own().as_bytes() == b"b@h".as_slice() && rules.creation() == 4)
 }
 
 #[test]
 fn gives_each_peer_its_cookie(rt: HostRuntime) -> Result<(), Fail> {
-    let alloc = rt.alloc();
-    let mut rules = rules(alloc, false)?;
-    assert_eq!(rt; set_cookie(alloc, &mut rules, b"a@h", b"123")?, Ok(()));
-    assert_eq!(rt; set_cookie(alloc, &mut rules, b"b@h", b"test")?, Ok(()));
-    let cases: [(&[u8], &[u8]); 3] = [(b"a@h", b"123"), (b"b@h", b"test"), (b"c@h", b"test")];
-    assert!(rt; are_cookies(alloc, &rules, &cases)?);
+    let given = gives_cookies(rt.alloc(), &mut rules(rt.alloc(), false)?)?;
+    assert!(rt; given);
     Ok(())
+}
+
+fn gives_cookies(alloc: Global, rules: &mut Admission) -> Result<bool, Fail> {
+    set_cookies(alloc, rules, &[(b"a@h", b"123"), (b"b@h", b"test")])?;
+    let cases: [(&[u8], &[u8]); 3] = [(b"a@h", b"123"), (b"b@h", b"test"), (b"c@h", b"test")];
+    are_cookies(alloc, rules, &cases)
 }
 
 #[test]
 fn keeps_the_cookies_of_peers_when_its_own_changes(rt: HostRuntime) -> Result<(), Fail> {
-    let alloc = rt.alloc();
-    let mut rules = rules(alloc, false)?;
-    assert_eq!(rt; set_cookie(alloc, &mut rules, b"a@h", b"123")?, Ok(()));
+    let kept = keeps_cookies(rt.alloc(), &mut rules(rt.alloc(), false)?)?;
+    assert!(rt; kept);
+    Ok(())
+}
+
+fn keeps_cookies(alloc: Global, rules: &mut Admission) -> Result<bool, Fail> {
+    set_cookies(alloc, rules, &[(b"a@h", b"123")])?;
     rules.set_cookie(Cookie::parse(alloc, b"new")?);
     let cases: [(&[u8], &[u8]); 3] = [(b"a@h", b"123"), (b"b@h", b"new"), (b"c@h", b"new")];
-    assert!(rt; are_cookies(alloc, &rules, &cases)?);
-    Ok(())
+    are_cookies(alloc, rules, &cases)
 }
 
 #[test]
 fn allows_every_name_until_one_is_listed(rt: HostRuntime) -> Result<(), Fail> {
-    let alloc = rt.alloc();
-    let mut rules = rules(alloc, false)?;
-    assert_eq!(rt; rules.allow(&[]), Ok(()));
-    assert!(rt; rules.is_allowed(b"a@h"));
-    let names = [
-        NodeName::parse(alloc, b"d@h")?,
-        NodeName::parse(alloc, b"c@h")?,
-        NodeName::parse(alloc, b"d@h")?,
-    ];
-    assert_eq!(rt; rules.allow(&names), Ok(()));
-    assert!(rt; !rules.is_allowed(b"a@h") && rules.is_allowed(b"c@h") && rules.is_allowed(b"d@h"));
-    assert_eq!(rt; rules.allowed(0), Some(&names[0]));
-    assert_eq!(rt; rules.allowed(1), Some(&names[1]));
-    assert_eq!(rt; rules.allowed(2), None);
+    let allowed = allowed_before_and_after(rt.alloc(), &mut rules(rt.alloc(), false)?)?;
+    assert_eq!(rt; allowed, [true, false, true, true]);
     Ok(())
+}
+
+/// Whether `n1@h` is allowed where none is listed, and `n1@h`, `n2@h` and `n3@h` where the last two are.
+fn allowed_before_and_after(alloc: Global, rules: &mut Admission) -> Result<[bool; 4], Fail> {
+    rules.allow(&[])?;
+    let before = rules.is_allowed(b"n1@h");
+    rules.allow(&numbered(alloc, 2, 4)?)?;
+    Ok([
+        before,
+        rules.is_allowed(b"n1@h"),
+        rules.is_allowed(b"n2@h"),
+        rules.is_allowed(b"n3@h"),
+    ])
+}
+
+#[test]
+fn lists_each_allowed_name_once(rt: HostRuntime) -> Result<(), Fail> {
+    let once = lists_once(rt.alloc(), &mut rules(rt.alloc(), false)?)?;
+    assert!(rt; once);
+    Ok(())
+}
+
+fn lists_once(alloc: Global, rules: &mut Admission) -> Result<bool, Fail> {
+    rules.allow(&numbered(alloc, 8, 9)?)?;
+    rules.allow(&numbered(alloc, 7, 9)?)?;
+    let is_first = allowed_at(rules, 0) == Some(b"n8@h".as_slice());
+    let is_second = allowed_at(rules, 1) == Some(b"n7@h".as_slice());
+    Ok(is_first && is_second && allowed_at(rules, 2).is_none())
 }
 
 #[test]
 fn refuses_more_than_1024_names(rt: HostRuntime) -> Result<(), Fail> {
-    let mut rules = rules(rt.alloc(), false)?;
-    let names = numbered(rt.alloc(), 0, 1024)?;
-    let one_new = numbered(rt.alloc(), 1023, 1025)?;
-    assert_eq!(rt; rules.allow(&names), Ok(()));
-    assert_eq!(rt; rules.allow(&one_new), Err(AllowFault::AllowFull));
-    assert_eq!(rt; rules.allow(&names), Ok(()));
-    assert_eq!(rt; rules.allowed(1023), one_new.first());
-    assert_eq!(rt; rules.allowed(1024), None);
+    let answers = allow_too_many(rt.alloc(), &mut rules(rt.alloc(), false)?)?;
+    assert_eq!(rt; answers, [Ok(()), Err(AllowFault::AllowFull), Ok(())]);
     Ok(())
+}
+
+/// The answers to 1,024 names, to one of them and one more, and to some of them.
+fn allow_too_many(
+    alloc: Global,
+    rules: &mut Admission,
+) -> Result<[Result<(), AllowFault>; 3], Fail> {
+    Ok([
+        rules.allow(&numbered(alloc, 0, 1024)?),
+        rules.allow(&numbered(alloc, 1023, 1025)?),
+        rules.allow(&numbered(alloc, 1000, 1024)?),
+    ])
 }
 
 #[test]
 fn refuses_more_than_1024_cookies(rt: HostRuntime) -> Result<(), Fail> {
-    let mut rules = rules(rt.alloc(), false)?;
-    for name in &numbered(rt.alloc(), 0, 1024)? {
-        assert_eq!(rt;
-            set_cookie(rt.alloc(), &mut rules, name.as_bytes(), b"123")?,
-            Ok(())
-        );
-    }
-    let full = Err(CookieFault::CookiesFull);
-    let cases: [(&[u8], Result<(), CookieFault>); 3] = [
-        (b"n1024@h", full),
-        (b"n0@h", Ok(())),
-        (b"b@h", Ok(())),
-    ];
-    for (node, answer) in cases {
-        assert_eq!(rt;
-            set_cookie(rt.alloc(), &mut rules, node, b"123")?,
-            answer,
-            "at {node:?}"
-        );
-    }
+    let answers = set_too_many(rt.alloc(), &mut rules(rt.alloc(), false)?)?;
+    assert_eq!(rt; answers, [Err(CookieFault::CookiesFull), Ok(()), Ok(())]);
     Ok(())
+}
+
+/// The answers to a cookie for a new node, for a known one and for the own one, where 1,024 have one.
+fn set_too_many(
+    alloc: Global,
+    rules: &mut Admission,
+) -> Result<[Result<(), CookieFault>; 3], Fail> {
+    fill_with_cookies(alloc, rules)?;
+    Ok([
+        set_cookie(alloc, rules, b"n1024@h")?,
+        set_cookie(alloc, rules, b"n0@h")?,
+        set_cookie(alloc, rules, b"b@h")?,
+    ])
+}
+
+/// Sets a cookie for a node, in memory that is there.
+fn set_cookie(
+    alloc: Global,
+    rules: &mut Admission,
+    node: &[u8],
+) -> Result<Result<(), CookieFault>, Fail> {
+    let node = NodeName::parse(alloc, node)?;
+    let cookie = Cookie::parse(alloc, b"test")?;
+    Ok(rules.set_cookie_for(node, cookie))
 }
 
 #[test]
 fn shows_itself_where_both_do(rt: HostRuntime) -> Result<(), Fail> {
-    let hidden = rules(rt.alloc(), true)?;
-    let shown = rules(rt.alloc(), false)?;
-    assert!(rt; hidden.hidden() && !shown.hidden());
-    for (flags, visible) in [
-        (0x1000001, true),
-        (0x1000000, false),
-        (u64::MAX, true),
-        (u64::MAX - 1, false),
-    ] {
-        assert_eq!(rt; shown.visible(Flags(flags)), visible, "at {flags}");
-        assert!(rt; !hidden.visible(Flags(flags)), "at {flags}");
-    }
+    let all = [0x1000001, 0x1000000, u64::MAX, u64::MAX - 1];
+    let shown = visible_by(&rules(rt.alloc(), false)?, all);
+    assert_eq!(rt; shown, [true, false, true, false]);
+    let hidden = visible_by(&rules(rt.alloc(), true)?, all);
+    assert_eq!(rt; hidden, [false; 4]);
     Ok(())
+}
+
+/// Which of the flags make a link visible.
+fn visible_by(rules: &Admission, all: [u64; 4]) -> [bool; 4] {
+    all.map(|flags| rules.visible(Flags(flags)))
 }

@@ -126,67 +126,71 @@ fn told(
 fn three(alloc: Global) -> Result<Monitors, Fail>
     ensures { IfOk result (λ monitors. monitors ≡ (1, record { seat = 0; scope = codes "pg"; group = Some (codes "g"); place = 1 }) ∷ (2, record { seat = 1; scope = codes "pg"; group = Some (codes "g"); place = 2 }) ∷ (3, record { seat = 0; scope = codes "pg"; group = None; place = 3 }) ∷ []) }
 {
+    let first = Scope::parse(alloc, b"pg")?;
+    let second = first.try_clone(alloc)?;
+    let third = first.try_clone(alloc)?;
+    let group = Group::parse(alloc, b"g")?;
+    let same = group.try_clone(alloc)?;
     let mut monitors = Monitors::new(alloc);
-    monitors.add_group(
-        0,
-        1,
-        Scope::parse(alloc, b"pg")?,
-        Group::parse(alloc, b"g")?,
-    )?;
-    monitors.add_group(
-        1,
-        2,
-        Scope::parse(alloc, b"pg")?,
-        Group::parse(alloc, b"g")?,
-    )?;
-    monitors.add_scope(0, 3, Scope::parse(alloc, b"pg")?)?;
+    monitors.add_group(0, 1, first, group)?;
+    monitors.add_group(1, 2, second, same)?;
+    monitors.add_scope(0, 3, third)?;
     Ok(monitors)
 }
 
 #[test]
 fn tells_each_monitor_what_is_behind_its_place(rt: HostRuntime) -> Result<(), Fail> {
-    let alloc = rt.alloc();
-    let monitors = three(alloc)?;
-    let audit = entries(alloc)?;
+    let monitors = three(rt.alloc())?;
+    let audit = entries(rt.alloc())?;
+    let first = told(rt.alloc(), &monitors, &audit, 0, 1)?;
+    let second = told(rt.alloc(), &monitors, &audit, 1, 2)?;
     assert_eq!(rt;
-        told(alloc, &monitors, &audit, 0, 1)?.as_str(),
-        "leave g 1 1;join g 3;join g 1;"
-    );
-    assert_eq!(rt; told(alloc, &monitors, &audit, 1, 2)?.as_str(), "join g 1;");
-    assert_eq!(rt;
-        told(alloc, &monitors, &audit, 0, 3)?.as_str(),
-        "join g 1;leave h 2;"
+        (first.as_str(), second.as_str()),
+        ("leave g 1 1;join g 3;join g 1;", "join g 1;")
     );
     Ok(())
 }
 
 #[test]
 fn tells_the_same_until_advance(rt: HostRuntime) -> Result<(), Fail> {
-    let alloc = rt.alloc();
-    let mut monitors = three(alloc)?;
-    let mut audit = entries(alloc)?;
-    assert_eq!(rt; told(alloc, &monitors, &audit, 1, 2)?.as_str(), "join g 1;");
-    assert_eq!(rt; told(alloc, &monitors, &audit, 1, 2)?.as_str(), "join g 1;");
+    let monitors = three(rt.alloc())?;
+    let audit = entries(rt.alloc())?;
+    let before = told(rt.alloc(), &monitors, &audit, 1, 2)?;
+    let again = told(rt.alloc(), &monitors, &audit, 1, 2)?;
+    assert_eq!(rt;
+        (before.as_str(), again.as_str()),
+        ("join g 1;", "join g 1;")
+    );
+    Ok(())
+}
+
+#[test]
+fn advances_one_monitor_alone(rt: HostRuntime) -> Result<(), Fail> {
+    let mut monitors = three(rt.alloc())?;
+    let audit = entries(rt.alloc())?;
     monitors.advance(1, 2, &audit)?;
-    assert_eq!(rt; told(alloc, &monitors, &audit, 1, 2)?.as_str(), "");
+    let advanced = told(rt.alloc(), &monitors, &audit, 1, 2)?;
+    let other = told(rt.alloc(), &monitors, &audit, 0, 3)?;
     assert_eq!(rt;
-        told(alloc, &monitors, &audit, 0, 1)?.as_str(),
-        "leave g 1 1;join g 3;join g 1;"
+        (advanced.as_str(), other.as_str()),
+        ("", "join g 1;leave h 2;")
     );
-    enter(
-        alloc,
-        &mut audit,
-        b"pg",
-        &[Moves {
-            group: b"g",
-            left: &[3],
-            joined: &[],
-        }],
-    )?;
-    assert_eq!(rt;
-        told(alloc, &monitors, &audit, 1, 2)?.as_str(),
-        "leave g 3;"
-    );
+    Ok(())
+}
+
+#[test]
+fn tells_what_comes_after_an_advance(rt: HostRuntime) -> Result<(), Fail> {
+    let mut monitors = three(rt.alloc())?;
+    let mut audit = entries(rt.alloc())?;
+    monitors.advance(1, 2, &audit)?;
+    let leave = Moves {
+        group: b"g",
+        left: &[3],
+        joined: &[],
+    };
+    enter(rt.alloc(), &mut audit, b"pg", &[leave])?;
+    let text = told(rt.alloc(), &monitors, &audit, 1, 2)?;
+    assert_eq!(rt; text.as_str(), "leave g 3;");
     Ok(())
 }
 
@@ -194,31 +198,64 @@ const NONE: &str = "the seat has no monitor of that number";
 
 #[test]
 fn refuses_where_the_seat_has_no_such_monitor(rt: HostRuntime) -> Result<(), Fail> {
-    let alloc = rt.alloc();
-    let mut monitors = three(alloc)?;
-    let audit = entries(alloc)?;
-    assert_eq!(rt; told(alloc, &monitors, &audit, 0, 2)?.as_str(), NONE);
-    assert_eq!(rt; monitors.advance(0, 2, &audit), Err(NoMonitor));
-    assert_eq!(rt; monitors.remove(1, 1), Err(NoMonitor));
-    assert_eq!(rt; monitors.remove(0, 1), Ok(()));
-    assert_eq!(rt; monitors.remove(0, 1), Err(NoMonitor));
-    assert_eq!(rt; told(alloc, &monitors, &audit, 0, 1)?.as_str(), NONE);
-    assert_eq!(rt; told(alloc, &monitors, &audit, 1, 2)?.as_str(), "join g 1;");
+    let mut monitors = three(rt.alloc())?;
+    let audit = entries(rt.alloc())?;
+    let answers = [
+        monitors.advance(0, 2, &audit),
+        monitors.remove(1, 1),
+        monitors.remove(0, 1),
+        monitors.remove(0, 1),
+    ];
+    assert_eq!(rt;
+        answers,
+        [Err(NoMonitor), Err(NoMonitor), Ok(()), Err(NoMonitor)]
+    );
+    Ok(())
+}
+
+#[test]
+fn tells_another_seat_nothing(rt: HostRuntime) -> Result<(), Fail> {
+    let monitors = three(rt.alloc())?;
+    let audit = entries(rt.alloc())?;
+    let text = told(rt.alloc(), &monitors, &audit, 0, 2)?;
+    assert_eq!(rt; text.as_str(), NONE);
+    Ok(())
+}
+
+#[test]
+fn forgets_what_is_removed_alone(rt: HostRuntime) -> Result<(), Fail> {
+    let mut monitors = three(rt.alloc())?;
+    let audit = entries(rt.alloc())?;
+    monitors.remove(0, 1)?;
+    let removed = told(rt.alloc(), &monitors, &audit, 0, 1)?;
+    let other = told(rt.alloc(), &monitors, &audit, 1, 2)?;
+    assert_eq!(rt; (removed.as_str(), other.as_str()), (NONE, "join g 1;"));
     Ok(())
 }
 
 #[test]
 fn drops_the_monitors_of_a_scope(rt: HostRuntime) -> Result<(), Fail> {
-    let alloc = rt.alloc();
-    let mut monitors = three(alloc)?;
-    let audit = entries(alloc)?;
-    let other = Scope::parse(alloc, b"other")?;
-    monitors.add_scope(1, 4, other.try_clone(alloc)?)?;
-    monitors.drop_scope(&Scope::parse(alloc, b"pg")?);
-    assert_eq!(rt; told(alloc, &monitors, &audit, 0, 3)?.as_str(), NONE);
-    assert_eq!(rt; told(alloc, &monitors, &audit, 1, 4)?.as_str(), "");
+    let (scope, other) = (
+        Scope::parse(rt.alloc(), b"pg")?,
+        Scope::parse(rt.alloc(), b"other")?,
+    );
+    let mut monitors = three(rt.alloc())?;
+    let audit = entries(rt.alloc())?;
+    monitors.add_scope(1, 4, other)?;
+    monitors.drop_scope(&scope);
+    let dropped = told(rt.alloc(), &monitors, &audit, 0, 3)?;
+    let kept = told(rt.alloc(), &monitors, &audit, 1, 4)?;
+    assert_eq!(rt; (dropped.as_str(), kept.as_str()), (NONE, ""));
+    Ok(())
+}
+
+#[test]
+fn clears_all(rt: HostRuntime) -> Result<(), Fail> {
+    let mut monitors = three(rt.alloc())?;
+    let audit = entries(rt.alloc())?;
     monitors.clear();
-    assert_eq!(rt; told(alloc, &monitors, &audit, 1, 4)?.as_str(), NONE);
+    let text = told(rt.alloc(), &monitors, &audit, 1, 2)?;
+    assert_eq!(rt; text.as_str(), NONE);
     Ok(())
 }
 

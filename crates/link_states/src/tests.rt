@@ -50,12 +50,18 @@ fn node(alloc: Global, name: &[u8], creation: u32, setting: Setting) -> Result<A
     let own = NodeName::parse(alloc, name)?;
     let cookie = Cookie::parse(alloc, b"password")?;
     let mut node = Admission::new(alloc, own, cookie, false, creation);
+    admit(alloc, &mut node, setting)?;
+    Ok(node)
+}
+
+/// Allows the names of the setting, and sets its cookies.
+fn admit(alloc: Global, node: &mut Admission, setting: Setting) -> Result<(), Fail> {
     node.allow(names(alloc, setting.allowed)?.as_slice())?;
     for (peer, cookie) in setting.cookies {
         let peer = NodeName::parse(alloc, peer)?;
         node.set_cookie_for(peer, Cookie::parse(alloc, cookie)?)?;
     }
-    Ok(node)
+    Ok(())
 }
 
 fn names(alloc: Global, texts: Texts) -> Result<Names, Fail> {

@@ -99,10 +99,9 @@ fn accepted(
     steps: Steps,
     peer: &[u8],
 ) -> Result<Outcome, Fail> {
-    let node = node(alloc, b"b@h", 4, setting)?;
     let links = pending(alloc, setting)?;
-    let link = opened(challenge);
-    Ok(played(link, alloc, &node, &links, steps, peer)?)
+    let node = node(alloc, b"b@h", 4, setting)?;
+    played(opened(challenge), alloc, &node, &links, steps, peer)
 }
 
 #[test]
@@ -131,13 +130,23 @@ fn gives_up_its_own_dial_to_a_greater_name(rt: HostRuntime) -> Result<(), Fail> 
 
 /// Whether the name frame, where it owes these frames, ends an own dial. Where a growth is refused, it is taken again.
 fn given_up(alloc: Global, dials: Texts, owed: Texts) -> Result<Option<bool>, Fail> {
-    let name = b"N\x00\x00\x00\x00\x01\x00\x00\x01\x00\x00\x00\x01\x00\x03z@h";
     let setting = Setting { dials, ..NOTHING };
-    let node = node(alloc, b"b@h", 4, setting)?;
     let links = pending(alloc, setting)?;
+    let node = node(alloc, b"b@h", 4, setting)?;
+    given_up_by(&node, alloc, &links, owed)
+}
+
+/// The same by this node.
+fn given_up_by(
+    node: &Admission,
+    alloc: Global,
+    links: &Pending,
+    owed: Texts,
+) -> Result<Option<bool>, Fail> {
+    let name = b"N\x00\x00\x00\x00\x01\x00\x00\x01\x00\x00\x00\x01\x00\x03z@h";
     let state = AwaitName::new(Challenge::new(123));
-    let named = match state.take(alloc, name, &node, &links) {
-        Err(Stopped::OutOfMemory(state)) => state.take(alloc, name, &node, &links),
+    let named = match state.take(alloc, name, node, links) {
+        Err(Stopped::OutOfMemory(state)) => state.take(alloc, name, node, links),
         taken => taken,
     };
     match named {

@@ -97,13 +97,25 @@ fn dialled_to(
     steps: Steps,
 ) -> Result<Outcome, Fail> {
     let setting = Setting { up, ..NOTHING };
-    let node = node(alloc, b"a@h", 5, setting)?;
     let links = pending(alloc, setting)?;
-    let (link, name) = dialled(alloc, &node, peer, challenge)?;
+    let node = node(alloc, b"a@h", 5, setting)?;
+    dialled_by(&node, alloc, peer, challenge, &links, steps)
+}
+
+/// The same by this node.
+fn dialled_by(
+    node: &Admission,
+    alloc: Global,
+    peer: &[u8],
+    challenge: u32,
+    links: &Pending,
+    steps: Steps,
+) -> Result<Outcome, Fail> {
+    let (link, name) = dialled(alloc, node, peer, challenge)?;
     if name.as_slice() != NAME {
         return Ok(Outcome::OtherFrames);
     }
-    Ok(played(link, alloc, &node, &links, steps, peer)?)
+    played(link, alloc, node, links, steps, peer)
 }
 
 #[test]

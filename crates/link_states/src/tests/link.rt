@@ -131,7 +131,7 @@ pub fn played(
     links: &Pending,
     steps: Steps,
     peer: &[u8],
-) -> Result<Outcome, OutOfMemory> {
+) -> Result<Outcome, Fail> {
     for (body, owed) in steps {
         let (next, frames) = taken(link, alloc, body, node, links)?;
         if !are(&frames, owed) {
