@@ -1,7 +1,8 @@
 #!/usr/bin/env bash
 # Processor time of a node's events through `pg_console run`, beside OTP's own pg by the clock where `escript` is
 # installed, both from this one run, with the ratio. Each figure is the least of RUNS runs (7 if not given), and has the
-# reading of lines and the writing of answers in it. PG_CONSOLE may name another program than the built one.
+# reading of lines and the writing of answers in it; OTP's has them in members and Syncs, and beside it stands the bare
+# call. PG_CONSOLE may name another program than the built one.
 set -eu
 here=$(cd "$(dirname "$0")" && pwd)
 program=${PG_CONSOLE:-$here/../crates/pg_console/out/pg_console}
@@ -55,7 +56,8 @@ write_script() {
   count=$(awk -f "$here/node_events.awk" -v folder="$folder/script" -v what="$1" -v size="$2")
 }
 
-# The least processor time of a script, in microseconds an operation, beside OTP's figure of the same key.
+# The least processor time of a script, in microseconds an operation, beside OTP's figure of the same key, and OTP's for
+# the call alone where it has both.
 time_of() {
   local key=$1 title=$2 least= run
   write_script "$3" "$4"
@@ -64,11 +66,13 @@ time_of() {
     if [ -z "$least" ] || [ "$spent" -lt "$least" ]; then least=$spent; fi
   done
   awk -v key="$key" -v title="$title" -v least="$least" -v count="$count" '
+    function shown(figure) { return figure == "" ? "-" : sprintf("%.2f", figure) }
     $1 == key { other = $2 }
+    $1 == key "_bare" { bare = $2 }
     END {
       own = least / count / 1000
-      if (other == "") printf "%-62s %12.2f %12s %8s\n", title, own, "-", "-"
-      else printf "%-62s %12.2f %12.2f %8.2f\n", title, own, other, own / other
+      ratio = other == "" ? "" : own / other
+      printf "%-62s %12.2f %12s %8s %12s\n", title, own, shown(other), shown(ratio), shown(bare)
     }' "$folder/otp"
 }
 
@@ -81,9 +85,9 @@ memory_of() {
 
 : >"$folder/otp"
 if command -v escript >/dev/null; then
-  escript "$here/otp_pg.escript" >"$folder/otp" || echo "OTP's half ended early" >&2
+  escript "$here/otp_pg.escript" "$folder" >"$folder/otp" || echo "OTP's half ended early" >&2
 fi
-printf '%-62s %12s %12s %8s\n' 'microseconds' 'pg_console' 'OTP' 'ratio'
+printf '%-62s %12s %12s %8s %12s\n' 'microseconds' 'pg_console' 'OTP' 'ratio' 'OTP, bare'
 time_of - 'an event of a mix, at 1,000 entries' mix 1000
 time_of - 'the same, at 500,000 entries' mix 500000
 time_of join_leave 'a join and a leave of one process' join_leave 1

@@ -2,18 +2,22 @@
 %%! -name otp_pg@127.0.0.1 -setcookie bench -connect_all false
 %% The work of node_events.sh on OTP's own pg, by the clock: a line `KEY MICROSECONDS` for each, the least of seven runs
 %% after one that isn't counted. Peers are processes that speak pg's own messages; only the handshake has a second node.
+%% Members and Syncs are lines that are read and answered, as they are for the console, and KEY_bare is the same call
+%% without its line. The first argument is a folder for their files, /tmp if there is none.
 -mode(compile).
 -define(RUNS, 7).
 
-main(_) ->
+main([]) -> main(["/tmp"]);
+main([Folder]) ->
+    Script = filename:join(Folder, "otp_script"),
     join_leave(join_leave, 1, 20000),
     join_leave(join_leave_999, 1000, 5000),
     join_groups(10000),
-    [members(Key, Size, 20000) || {Key, Size} <- [{members_1, 1}, {members_10, 10}, {members_1000, 1000}]],
+    [members(Key, Size, 2000, Script) || {Key, Size} <- [{members_1, 1}, {members_10, 10}, {members_1000, 1000}]],
     exits(1000),
     handshakes(200),
-    sync(sync_one_group, [{<<"g">>, pids(4096)}]),
-    sync(sync_groups, [{group(I), [Pid]} || {I, Pid} <- lists:zip(lists:seq(1, 4096), pids(4096))]),
+    sync(sync_one_group, [{<<"g">>, pids(4096)}], Script),
+    sync(sync_groups, [{group(I), [Pid]} || {I, Pid} <- lists:zip(lists:seq(1, 4096), pids(4096))], Script),
     loss(64),
     told(63, 2000),
     watched(group_monitor, 1, fun(Scope) -> pg:monitor(Scope, g) end, 20000),
@@ -32,6 +36,25 @@ elapsed(Work) ->
 
 repeat(0, _) -> ok;
 repeat(N, Work) -> Work(), repeat(N - 1, Work).
+
+bare(Key) -> [atom_to_list(Key), "_bare"].
+
+%% Plays a file of this line, so many times, as the console plays a script: each line is read, ahead and from a raw file,
+%% its words are taken, and its answer is written to a raw file by one write.
+played(Script, Count, Line, Answer) ->
+    ok = file:write_file(Script, lists:duplicate(Count, Line)),
+    {ok, In} = file:open(Script, [read, raw, binary, {read_ahead, 65536}]),
+    {ok, Out} = file:open(Script ++ ".out", [write, raw, binary]),
+    Time = elapsed(fun() -> repeat(Count, fun() -> ok = file:write(Out, Answer(words(file:read_line(In)))) end) end),
+    [ok = file:delete(File) || File <- [Script, Script ++ ".out"]],
+    [ok = file:close(File) || File <- [In, Out]],
+    Time.
+
+words({ok, Line}) -> binary:split(binary:part(Line, 0, byte_size(Line) - 1), <<" ">>, [global]).
+
+%% The line of the answer to `members`.
+members_of(Scope, Group) ->
+    [<<"pids">>, [[$\s, pid_to_list(Pid)] || Pid <- pg:get_members(binary_to_existing_atom(Scope), Group)], $\n].
 
 group(I) -> <<"g", (integer_to_binary(I))/binary>>.
 
@@ -55,11 +78,20 @@ with_scope(Name, Work) ->
     stop([Scope]),
     Result.
 
-%% Until the scope lists so many groups.
-listed(Scope, Groups) ->
-    case ets:info(Scope, size) of
-        Groups -> ok;
-        _ -> erlang:yield(), listed(Scope, Groups)
+%% Until the scope lists so many groups, or for 10 seconds.
+listed(Scope, Groups) -> listed(Scope, Groups, erlang:monotonic_time(second) + 10).
+
+listed(Scope, Groups, End) ->
+    case {ets:info(Scope, size), erlang:monotonic_time(second) < End} of
+        {Groups, _} -> ok;
+        {_, true} -> erlang:yield(), listed(Scope, Groups, End)
+    end.
+
+%% Until the second node has lost its connection, too.
+alone(Peer) ->
+    case peer:call(Peer, erlang, nodes, []) of
+        [] -> ok;
+        _ -> alone(Peer)
     end.
 
 %% Until the scope has taken all messages that it was sent before.
@@ -88,11 +120,14 @@ join_groups(Count) ->
         Time
     end).
 
-members(Key, Size, Calls) ->
-    with_scope(bench, fun(Scope) ->
+members(Key, Size, Calls, Script) ->
+    with_scope(pg, fun(Scope) ->
         Pids = pids(Size),
-        ok = pg:join(Scope, g, Pids),
-        least(Key, Calls, fun() -> elapsed(fun() -> repeat(Calls, fun() -> pg:get_members(Scope, g) end) end) end),
+        ok = pg:join(Scope, <<"g">>, Pids),
+        Call = fun() -> pg:get_members(Scope, <<"g">>) end,
+        least(bare(Key), 10 * Calls, fun() -> elapsed(fun() -> repeat(10 * Calls, Call) end) end),
+        Answer = fun([<<"members">>, Name, Group]) -> members_of(Name, Group) end,
+        least(Key, Calls, fun() -> played(Script, Calls, <<"members pg g\n">>, Answer) end),
         stop(Pids)
     end).
 
@@ -133,17 +168,17 @@ handshakes(Count) ->
         least(handshake, Count, fun() -> elapsed(fun() -> repeat(Count, Once) end) end)
     end).
 
-%% A peer's rows, from their external format.
-sync(Key, Groups) ->
+%% A peer's rows, from their external format, which a line has in hex.
+sync(Key, Groups, Script) ->
     Rows = term_to_binary(Groups),
+    Line = [<<"frame 1 ">>, binary:encode_hex(Rows), $\n],
     with_scope(bench, fun(Scope) ->
         Peer = sink(),
         Scope ! {discover, Peer},
-        least(Key, 1, fun() ->
-            gen_server:cast(Scope, {sync, Peer, []}),
-            taken(Scope),
-            elapsed(fun() -> gen_server:cast(Scope, {sync, Peer, binary_to_term(Rows)}), taken(Scope) end)
-        end),
+        Give = fun(Term) -> gen_server:cast(Scope, {sync, Peer, Term}), taken(Scope) end,
+        Answer = fun([<<"frame">>, _, Hex]) -> Give(binary_to_term(binary:decode_hex(Hex))), <<"ok\n">> end,
+        least(bare(Key), 1, fun() -> Give([]), elapsed(fun() -> Give(binary_to_term(Rows)) end) end),
+        least(Key, 1, fun() -> Give([]), played(Script, 1, Line, Answer) end),
         stop([Peer])
     end),
     stop(lists:append([Pids || {_, Pids} <- Groups])).
@@ -159,6 +194,7 @@ loss(Count) ->
              [ok = peer:call(Peer, pg, join, [Scope, group(I), Pids]) || I <- lists:seq(1, 64)]
          end || Scope <- Scopes],
         least(loss, 1, fun() ->
+            alone(Peer),
             connect(Node),
             [listed(Scope, 64) || Scope <- Scopes],
             elapsed(fun() -> disconnect(Node), [listed(Scope, 0) || Scope <- Scopes] end)
