@@ -138,25 +138,42 @@ fn three(alloc: Global) -> Result<Monitors, Fail>
     Ok(monitors)
 }
 
+/// What two monitors are told, each by its seat and number.
+fn told_both(
+    alloc: Global,
+    monitors: &Monitors,
+    audit: &Audit,
+    first: (u32, u32),
+    second: (u32, u32),
+) -> Result<(String, String), Fail>
+    requires first { HasSeen (monitor_of monitors.now first.0 first.1) audit.now.entries }
+    requires second { HasSeen (monitor_of monitors.now second.0 second.1) audit.now.entries }
+{
+    Ok((
+        told(alloc, monitors, audit, first.0, first.1)?,
+        told(alloc, monitors, audit, second.0, second.1)?,
+    ))
+}
+
+// Monitors and entries are held by functions with few ways out, since a check follows their end along each.
+
 #[test]
 fn tells_each_monitor_what_is_behind_its_place(rt: HostRuntime) -> Result<(), Fail> {
-    let monitors = three(rt.alloc())?;
-    let audit = entries(rt.alloc())?;
-    let first = told(rt.alloc(), &monitors, &audit, 0, 1)?;
-    let second = told(rt.alloc(), &monitors, &audit, 1, 2)?;
-    assert_eq!(rt;
-        (first.as_str(), second.as_str()),
-        ("leave g 1 1;join g 3;join g 1;", "join g 1;")
-    );
+    let (first, second) = told_at_first(rt.alloc())?;
+    assert_eq!(rt; first.as_str(), "leave g 1 1;join g 3;join g 1;");
+    assert_eq!(rt; second.as_str(), "join g 1;");
     Ok(())
+}
+
+fn told_at_first(alloc: Global) -> Result<(String, String), Fail> {
+    let audit = entries(alloc)?;
+    let monitors = three(alloc)?;
+    told_both(alloc, &monitors, &audit, (0, 1), (1, 2))
 }
 
 #[test]
 fn tells_the_same_until_advance(rt: HostRuntime) -> Result<(), Fail> {
-    let monitors = three(rt.alloc())?;
-    let audit = entries(rt.alloc())?;
-    let before = told(rt.alloc(), &monitors, &audit, 1, 2)?;
-    let again = told(rt.alloc(), &monitors, &audit, 1, 2)?;
+    let (before, again) = told_twice(rt.alloc())?;
     assert_eq!(rt;
         (before.as_str(), again.as_str()),
         ("join g 1;", "join g 1;")
@@ -164,13 +181,15 @@ fn tells_the_same_until_advance(rt: HostRuntime) -> Result<(), Fail> {
     Ok(())
 }
 
+fn told_twice(alloc: Global) -> Result<(String, String), Fail> {
+    let audit = entries(alloc)?;
+    let monitors = three(alloc)?;
+    told_both(alloc, &monitors, &audit, (1, 2), (1, 2))
+}
+
 #[test]
 fn advances_one_monitor_alone(rt: HostRuntime) -> Result<(), Fail> {
-    let mut monitors = three(rt.alloc())?;
-    let audit = entries(rt.alloc())?;
-    monitors.advance(1, 2, &audit)?;
-    let advanced = told(rt.alloc(), &monitors, &audit, 1, 2)?;
-    let other = told(rt.alloc(), &monitors, &audit, 0, 3)?;
+    let (advanced, other) = told_after_advance(rt.alloc())?;
     assert_eq!(rt;
         (advanced.as_str(), other.as_str()),
         ("", "join g 1;leave h 2;")
@@ -178,34 +197,39 @@ fn advances_one_monitor_alone(rt: HostRuntime) -> Result<(), Fail> {
     Ok(())
 }
 
+/// What the monitor of seat 1 is told after an advance, and what that of all of pg.
+fn told_after_advance(alloc: Global) -> Result<(String, String), Fail> {
+    let audit = entries(alloc)?;
+    let mut monitors = three(alloc)?;
+    monitors.advance(1, 2, &audit)?;
+    told_both(alloc, &monitors, &audit, (1, 2), (0, 3))
+}
+
 #[test]
 fn tells_what_comes_after_an_advance(rt: HostRuntime) -> Result<(), Fail> {
-    let mut monitors = three(rt.alloc())?;
-    let mut audit = entries(rt.alloc())?;
+    let text = told_after_an_entry(rt.alloc())?;
+    assert_eq!(rt; text.as_str(), "leave g 3;");
+    Ok(())
+}
+
+fn told_after_an_entry(alloc: Global) -> Result<String, Fail> {
+    let mut audit = entries(alloc)?;
+    let mut monitors = three(alloc)?;
     monitors.advance(1, 2, &audit)?;
     let leave = Moves {
         group: b"g",
         left: &[3],
         joined: &[],
     };
-    enter(rt.alloc(), &mut audit, b"pg", &[leave])?;
-    let text = told(rt.alloc(), &monitors, &audit, 1, 2)?;
-    assert_eq!(rt; text.as_str(), "leave g 3;");
-    Ok(())
+    enter(alloc, &mut audit, b"pg", &[leave])?;
+    told(alloc, &monitors, &audit, 1, 2)
 }
 
 const NONE: &str = "the seat has no monitor of that number";
 
 #[test]
 fn refuses_where_the_seat_has_no_such_monitor(rt: HostRuntime) -> Result<(), Fail> {
-    let mut monitors = three(rt.alloc())?;
-    let audit = entries(rt.alloc())?;
-    let answers = [
-        monitors.advance(0, 2, &audit),
-        monitors.remove(1, 1),
-        monitors.remove(0, 1),
-        monitors.remove(0, 1),
-    ];
+    let answers = answers_to_seats(rt.alloc())?;
     assert_eq!(rt;
         answers,
         [Err(NoMonitor), Err(NoMonitor), Ok(()), Err(NoMonitor)]
@@ -213,62 +237,92 @@ fn refuses_where_the_seat_has_no_such_monitor(rt: HostRuntime) -> Result<(), Fai
     Ok(())
 }
 
+/// The answers to another seat's advance and removal, and to the own seat's removal and the same again.
+fn answers_to_seats(alloc: Global) -> Result<[Result<(), NoMonitor>; 4], Fail> {
+    let audit = entries(alloc)?;
+    let mut monitors = three(alloc)?;
+    Ok([
+        monitors.advance(0, 2, &audit),
+        monitors.remove(1, 1),
+        monitors.remove(0, 1),
+        monitors.remove(0, 1),
+    ])
+}
+
 #[test]
 fn tells_another_seat_nothing(rt: HostRuntime) -> Result<(), Fail> {
-    let monitors = three(rt.alloc())?;
-    let audit = entries(rt.alloc())?;
-    let text = told(rt.alloc(), &monitors, &audit, 0, 2)?;
+    let text = told_to_another_seat(rt.alloc())?;
     assert_eq!(rt; text.as_str(), NONE);
     Ok(())
+}
+
+fn told_to_another_seat(alloc: Global) -> Result<String, Fail> {
+    let audit = entries(alloc)?;
+    let monitors = three(alloc)?;
+    told(alloc, &monitors, &audit, 0, 2)
 }
 
 #[test]
 fn forgets_what_is_removed_alone(rt: HostRuntime) -> Result<(), Fail> {
-    let mut monitors = three(rt.alloc())?;
-    let audit = entries(rt.alloc())?;
-    monitors.remove(0, 1)?;
-    let removed = told(rt.alloc(), &monitors, &audit, 0, 1)?;
-    let other = told(rt.alloc(), &monitors, &audit, 1, 2)?;
+    let (removed, other) = told_after_removal(rt.alloc())?;
     assert_eq!(rt; (removed.as_str(), other.as_str()), (NONE, "join g 1;"));
     Ok(())
 }
 
+fn told_after_removal(alloc: Global) -> Result<(String, String), Fail> {
+    let audit = entries(alloc)?;
+    let mut monitors = three(alloc)?;
+    monitors.remove(0, 1)?;
+    told_both(alloc, &monitors, &audit, (0, 1), (1, 2))
+}
+
 #[test]
 fn drops_the_monitors_of_a_scope(rt: HostRuntime) -> Result<(), Fail> {
-    let (scope, other) = (
-        Scope::parse(rt.alloc(), b"pg")?,
-        Scope::parse(rt.alloc(), b"other")?,
-    );
-    let mut monitors = three(rt.alloc())?;
-    let audit = entries(rt.alloc())?;
-    monitors.add_scope(1, 4, other)?;
-    monitors.drop_scope(&scope);
-    let dropped = told(rt.alloc(), &monitors, &audit, 0, 3)?;
-    let kept = told(rt.alloc(), &monitors, &audit, 1, 4)?;
+    let (dropped, kept) = told_after_drop(rt.alloc())?;
     assert_eq!(rt; (dropped.as_str(), kept.as_str()), (NONE, ""));
     Ok(())
 }
 
+/// What a monitor of pg and one of another scope are told after the end of pg.
+fn told_after_drop(alloc: Global) -> Result<(String, String), Fail> {
+    let scope = Scope::parse(alloc, b"pg")?;
+    let other = Scope::parse(alloc, b"other")?;
+    let audit = entries(alloc)?;
+    let mut monitors = three(alloc)?;
+    monitors.add_scope(1, 4, other)?;
+    monitors.drop_scope(&scope);
+    told_both(alloc, &monitors, &audit, (0, 3), (1, 4))
+}
+
 #[test]
 fn clears_all(rt: HostRuntime) -> Result<(), Fail> {
-    let mut monitors = three(rt.alloc())?;
-    let audit = entries(rt.alloc())?;
-    monitors.clear();
-    let text = told(rt.alloc(), &monitors, &audit, 1, 2)?;
+    let text = told_after_clear(rt.alloc())?;
     assert_eq!(rt; text.as_str(), NONE);
     Ok(())
 }
 
-/// Where one growth is refused, the call is made again: `rt try --test --fail-alloc N`.
+fn told_after_clear(alloc: Global) -> Result<String, Fail> {
+    let audit = entries(alloc)?;
+    let mut monitors = three(alloc)?;
+    monitors.clear();
+    told(alloc, &monitors, &audit, 1, 2)
+}
+
 #[test]
 fn tells_all_after_a_refused_growth(rt: HostRuntime) -> Result<(), Fail> {
-    let alloc = rt.alloc();
-    let monitors = three(alloc)?;
-    let audit = entries(alloc)?;
-    let mut text = told(alloc, &monitors, &audit, 0, 1)?;
-    if text.as_str() == "out of memory" {
-        text = told(alloc, &monitors, &audit, 0, 1)?;
-    }
+    let text = insisted(rt.alloc())?;
     assert_eq!(rt; text.as_str(), "leave g 1 1;join g 3;join g 1;");
     Ok(())
+}
+
+/// Where one growth is refused, the call is made again: `rt try --test --fail-alloc N`.
+fn insisted(alloc: Global) -> Result<String, Fail> {
+    let audit = entries(alloc)?;
+    let monitors = three(alloc)?;
+    let text = told(alloc, &monitors, &audit, 0, 1)?;
+    if text.as_str() == "out of memory" {
+        told(alloc, &monitors, &audit, 0, 1)
+    } else {
+        Ok(text)
+    }
 }

@@ -2,29 +2,32 @@
 use super::link::*;
 use super::*;
 
-/// One end, with what its node has.
+/// What the node at one end has.
 #[derive(Drop)]
-struct End {
-    link: Link,
+struct Side {
     node: Admission,
     links: Pending,
 }
 
-impl End {
-    /// Takes the frames, and gives those that the last of them owes.
-    fn hear(self, alloc: Global, bodies: &Bodies) -> Result<(End, Bodies), OutOfMemory> {
-        let End {
-            mut link,
-            node,
-            links,
-        } = self;
+impl Side {
+    fn new(alloc: Global, name: &[u8], creation: u32, setting: Setting) -> Result<Side, Fail> {
+        let links = pending(alloc, setting)?;
+        let node = node(alloc, name, creation, setting)?;
+        Ok(Side { node, links })
+    }
+
+    /// The link after the frames, and the frames that the last of them owes.
+    fn hear(
+        &self,
+        mut link: Link,
+        alloc: Global,
+        bodies: &Bodies,
+    ) -> Result<(Link, Bodies), OutOfMemory> {
         let mut owed = Bodies::of(Vec::new(alloc));
         for body in bodies.as_slice() {
-            let (next, frames) = taken(link, alloc, body.as_slice(), &node, &links)?;
-            link = next;
-            owed = frames;
+            (link, owed) = taken(link, alloc, body.as_slice(), &self.node, &self.links)?;
         }
-        Ok((End { link, node, links }, owed))
+        Ok((link, owed))
     }
 }
 
@@ -98,42 +101,41 @@ const MEETINGS: [(&str, &[u8], &[&[u8]], Setting, (Outcome, Outcome)); 6] = [
     ),
 ];
 
-fn dialler(alloc: Global, name: &[u8], up: Texts) -> Result<(End, Bodies), Fail> {
-    let setting = Setting { up, ..NOTHING };
-    let node = node(alloc, name, 5, setting)?;
-    let links = pending(alloc, setting)?;
-    let (link, name) = dialled(alloc, &node, b"b@h", 1)?;
-    let mut frames = Vec::new(alloc);
-    frames.push(name)?;
-    Ok((End { link, node, links }, Bodies::of(frames)))
-}
-
-fn acceptor(alloc: Global, setting: Setting) -> Result<End, Fail> {
-    let node = node(alloc, b"b@h", 4, setting)?;
-    let links = pending(alloc, setting)?;
-    let link = opened(123);
-    Ok(End { link, node, links })
-}
-
-/// What becomes of both ends, once neither owes the other a frame. No end sends more than three times.
+/// What becomes of both ends.
 fn met(
     alloc: Global,
     name: &[u8],
     up: Texts,
     setting: Setting,
 ) -> Result<(Outcome, Outcome), Fail> {
-    let (mut dialler, mut said) = dialler(alloc, name, up)?;
-    let mut acceptor = acceptor(alloc, setting)?;
+    let dialler = Side::new(alloc, name, 5, Setting { up, ..NOTHING })?;
+    let acceptor = Side::new(alloc, b"b@h", 4, setting)?;
+    exchanged(alloc, name, &dialler, &acceptor)
+}
+
+/// The same, once neither owes the other a frame. No end sends more than three times.
+fn exchanged(
+    alloc: Global,
+    name: &[u8],
+    dialler: &Side,
+    acceptor: &Side,
+) -> Result<(Outcome, Outcome), Fail> {
+    let (mut ours, mut said) = first_said(alloc, dialler)?;
+    let mut theirs = opened(123);
     for _ in 0..3 {
-        let (next, answers) = acceptor.hear(alloc, &said)?;
-        acceptor = next;
-        (dialler, said) = dialler.hear(alloc, &answers)?;
+        let (next, answers) = acceptor.hear(theirs, alloc, &said)?;
+        theirs = next;
+        (ours, said) = dialler.hear(ours, alloc, &answers)?;
     }
-    let ends = (
-        reached(&dialler.link, b"b@h"),
-        reached(&acceptor.link, name),
-    );
-    Ok(ends)
+    Ok((reached(&ours, b"b@h"), reached(&theirs, name)))
+}
+
+/// A dial to `b@h`, and its name frame.
+fn first_said(alloc: Global, dialler: &Side) -> Result<(Link, Bodies), Fail> {
+    let (link, name) = dialled(alloc, &dialler.node, b"b@h", 1)?;
+    let mut frames = Vec::new(alloc);
+    frames.push(name)?;
+    Ok((link, Bodies::of(frames)))
 }
 
 #[test]
