@@ -23,12 +23,14 @@ build() {
   cp "$folder/crates/node_speed/out/node_speed" "$program"
 }
 
-# Prints a line of both: this key's, under this title.
+# Prints a line of both: this key's, under this title. Of OTP it is the bare call, where there is one with lines, too.
 line() {
   awk -v key="$1" -v title="$2" '
     FILENAME == ARGV[1] && $1 == key { own = $2 / 1000 }
     FILENAME == ARGV[2] && $1 == key { other = $2 }
+    FILENAME == ARGV[2] && $1 == key "_bare" { bare = $2 }
     END {
+      if (bare != "") other = bare
       if (other == "") printf "%-62s %12.2f %12s %8s\n", title, own, "-", "-"
       else printf "%-62s %12.2f %12.2f %8.2f\n", title, own, other, own / other
     }' "$folder/steps" "$folder/otp"
