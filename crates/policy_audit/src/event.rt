@@ -80,14 +80,8 @@ impl TryClone for Event {
                 let (scope, group, pids) = all_three(a, scope, group, pids)?;
                 Self::Leave(scope, group, pids)
             }
-            Self::Members(scope, group) => {
-                let (scope, group) = both(a, scope, group)?;
-                Self::Members(scope, group)
-            }
-            Self::LocalMembers(scope, group) => {
-                let (scope, group) = both(a, scope, group)?;
-                Self::LocalMembers(scope, group)
-            }
+            Self::Members(s, g) => Self::Members(s.try_clone(a)?, g.try_clone(a)?),
+            Self::LocalMembers(s, g) => Self::LocalMembers(s.try_clone(a)?, g.try_clone(a)?),
             Self::Groups(scope) => Self::Groups(scope.try_clone(a)?),
             Self::LocalGroups(scope) => Self::LocalGroups(scope.try_clone(a)?),
             Self::Monitor(scope, group) => {
