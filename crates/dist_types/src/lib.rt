@@ -13,6 +13,7 @@ mod node_name;
 mod pid;
 mod row;
 mod scope;
+mod shared;
 mod text;
 
 pub use change::{GroupChange, Pids};
@@ -30,6 +31,7 @@ pub use node_name::NodeName;
 pub use pid::Pid;
 pub use row::Row;
 pub use scope::Scope;
+pub use shared::Shared;
 
 #[cfg(test)]
 mod tests;

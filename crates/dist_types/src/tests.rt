@@ -95,6 +95,16 @@ fn copies_equal_their_originals(rt: HostRuntime) -> Result<(), Fail> {
 }
 
 #[test]
+fn shares_a_list(rt: HostRuntime) -> Result<(), Fail> {
+    let mut scopes = Vec::new(rt.alloc());
+    scopes.push(Scope::parse(rt.alloc(), b"pg")?)?;
+    let list = Shared::of(scopes)?;
+    is_copied(&rt, &list)?;
+    assert_eq!(rt; list.as_slice().len(), 1);
+    Ok(())
+}
+
+#[test]
 fn copies_scopes(rt: HostRuntime) -> Result<(), Fail> {
     is_copied(&rt, &Scope::parse(rt.alloc(), b"pg")?)
 }

@@ -7,7 +7,7 @@ ghost use Rattle.group_monitors.specs.Monitors.{monitor_of, IsFree, IsNumbered, 
 use crate::fault::{NoMonitor, UpdatesFault};
 use crate::monitor::Monitor;
 use crate::told::told_by;
-use dist_types::{Group, Items, OutOfMemory, Scope};
+use dist_types::{Group, OutOfMemory, Scope};
 use indexmap::IndexMap;
 use policy_audit::{Audit, Updates};
 use std::alloc::Global;
@@ -88,7 +88,7 @@ impl Monitors {
             monitor,
             &entries[monitor.place..],
         )?;
-        Ok(Items::of(updates))
+        Ok(Updates::of(updates)?)
     }
 
     /// Moves the place of a monitor of the seat to the end of the audit.

@@ -13,9 +13,9 @@ use crate::entering::accept;
 use crate::fault::CoreFault;
 use crate::node::NodeCore;
 use crate::running::Running;
-use dist_types::{Group, Items, OutOfMemory, Pids, Scope, TryClone};
+use dist_types::{Group, OutOfMemory, Pids, Scope, TryClone};
 use group_monitors::{Monitors, NoMonitor, UpdatesFault};
-use policy_audit::{Contents, Event, GroupPids, Reply, Rule};
+use policy_audit::{Contents, Event, GroupPids, Members, Reply, Rule};
 use std::alloc::Global;
 
 impl NodeCore {
@@ -33,7 +33,7 @@ impl NodeCore {
         let Some(running) = self.running(&scope) else {
             return self.refuse(seat, Event::Monitor(scope, group), Rule::NoScope);
         };
-        let pids = Pids::of(running.table.members(&group)?);
+        let pids = Members::of(running.table.members(&group)?)?;
         self.watch_group(seat, scope, group, pids)
     }
 
@@ -44,7 +44,7 @@ impl NodeCore {
         seat: u32,
         scope: Scope,
         group: Group,
-        pids: Pids,
+        pids: Members,
     ) -> Result<Reply, CoreFault>
         requires space { is_full self.old ≡ false }
         requires runs { is_running self.old scope ≡ true }
@@ -180,5 +180,5 @@ fn contents_of(alloc: Global, running: &Running) -> Result<Contents, OutOfMemory
         let pids = Pids::of(running.table.members(&group)?);
         contents.push(GroupPids { group, pids })?;
     }
-    Ok(Items::of(contents))
+    Ok(Contents::of(contents)?)
 }

@@ -11,8 +11,8 @@ use crate::entering::{accept, make_ready, reject};
 use crate::fault::CoreFault;
 use crate::node::NodeCore;
 use crate::running::{Running, find};
-use dist_types::{Group, Items, Pids, Scope};
-use policy_audit::{Event, Reply, Rule};
+use dist_types::{Group, Scope};
+use policy_audit::{Event, Groups, Members, Reply, Rule};
 
 impl NodeCore {
     /// Enters a refusal that ends no link.
@@ -65,7 +65,7 @@ impl NodeCore {
         let Some(running) = self.running(&scope) else {
             return self.refuse(seat, Event::Members(scope, group), Rule::NoScope);
         };
-        let pids = Pids::of(running.table.members(&group)?);
+        let pids = Members::of(running.table.members(&group)?)?;
         self.reply(seat, Event::Members(scope, group), Reply::Pids(pids))
     }
 
@@ -83,7 +83,7 @@ impl NodeCore {
         let Some(running) = self.running(&scope) else {
             return self.refuse(seat, Event::LocalMembers(scope, group), Rule::NoScope);
         };
-        let pids = Pids::of(running.table.local_members(&group)?);
+        let pids = Members::of(running.table.local_members(&group)?)?;
         self.reply(seat, Event::LocalMembers(scope, group), Reply::Pids(pids))
     }
 
@@ -96,7 +96,7 @@ impl NodeCore {
         let Some(running) = self.running(&scope) else {
             return self.refuse(seat, Event::Groups(scope), Rule::NoScope);
         };
-        let groups = Items::of(running.table.groups()?);
+        let groups = Groups::of(running.table.groups()?)?;
         self.reply(seat, Event::Groups(scope), Reply::Groups(groups))
     }
 
@@ -109,7 +109,7 @@ impl NodeCore {
         let Some(running) = self.running(&scope) else {
             return self.refuse(seat, Event::LocalGroups(scope), Rule::NoScope);
         };
-        let groups = Items::of(running.table.local_groups()?);
+        let groups = Groups::of(running.table.local_groups()?)?;
         self.reply(seat, Event::LocalGroups(scope), Reply::Groups(groups))
     }
 }

@@ -8,9 +8,6 @@ use std::alloc::Global;
 /// Names of nodes, in any order.
 pub type NodeNames = Items<NodeName>;
 
-/// Groups, ascending.
-pub type Groups = Items<Group>;
-
 /// A call of the node, or what comes of a link. A link is named by the number of the entry that opened it.
 #[derive(Debug, Drop, PartialEq, Eq)]
 pub enum Event {

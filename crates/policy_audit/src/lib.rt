@@ -16,14 +16,14 @@ pub use audit::{Audit, AuditFault};
 pub use body::Body;
 pub use change::{Change, Changes};
 pub use entry::{Entry, Verdict};
-pub use event::{Event, Groups, NodeNames};
+pub use event::{Event, NodeNames};
 pub use laws::{
     admitted, equal_values, goes_on, left_alone, lists_ascend, one_link_up, own_counts,
     up_by_events,
 };
 pub use opening::Opening;
 pub use out_frame::{OutFrame, OutFrames};
-pub use reply::{Contents, GroupPids, Reply, Update, Updates};
+pub use reply::{Contents, GroupPids, Groups, Members, Reply, Update, Updates};
 pub use rule::Rule;
 
 #[cfg(test)]

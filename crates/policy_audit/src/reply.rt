@@ -1,14 +1,19 @@
 //! What an accepted event is answered.
-use crate::event::Groups;
 use crate::out_frame::OutFrames;
-use dist_types::{Group, Items, NodeName, OutOfMemory, Pid, Pids, TryClone};
+use dist_types::{Group, NodeName, OutOfMemory, Pid, Pids, Shared, TryClone};
 use std::alloc::Global;
 
+/// Processes of a group, ascending, each as often as it joined.
+pub type Members = Shared<Pid>;
+
+/// Groups, ascending.
+pub type Groups = Shared<Group>;
+
 /// Groups with their members, ascending by group.
-pub type Contents = Items<GroupPids>;
+pub type Contents = Shared<GroupPids>;
 
 /// What a monitor tells, in the order in which it happened.
-pub type Updates = Items<Update>;
+pub type Updates = Shared<Update>;
 
 /// A group with its members, ascending, each as often as it joined.
 #[derive(Debug, Drop, PartialEq, Eq)]
@@ -40,12 +45,12 @@ pub enum Reply {
         creation: u32,
         visible: bool,
     },
-    Pids(Pids),
+    Pids(Members),
     Groups(Groups),
     /// The number of the monitor, and the members of its group.
     Ref {
         number: u32,
-        pids: Pids,
+        pids: Members,
     },
     /// The number of the monitor, and the groups of its scope.
     ScopeRef {
@@ -55,25 +60,6 @@ pub enum Reply {
     Updates(Updates),
     /// The frames that waited for the link.
     Out(OutFrames),
-}
-
-impl TryClone for GroupPids {
-    fn try_clone(&self, alloc: Global) -> Result<GroupPids, OutOfMemory> {
-        Ok(GroupPids {
-            group: self.group.try_clone(alloc)?,
-            pids: self.pids.try_clone(alloc)?,
-        })
-    }
-}
-
-impl TryClone for Update {
-    fn try_clone(&self, alloc: Global) -> Result<Update, OutOfMemory> {
-        Ok(Update {
-            group: self.group.try_clone(alloc)?,
-            leave: self.leave,
-            pids: self.pids.try_clone(alloc)?,
-        })
-    }
 }
 
 impl TryClone for Reply {

@@ -2,7 +2,10 @@
 use crate::answers::{put_entry, put_step};
 use dist_types::{Group, Items, NodeName, Pid, Pids};
 use node_core::CoreFault;
-use policy_audit::{Body, Entry, Event, GroupPids, OutFrame, Reply, Rule, Update, Verdict};
+use policy_audit::{
+    Body, Contents, Entry, Event, GroupPids, Groups, Members, OutFrame, Reply, Rule, Update,
+    Updates, Verdict,
+};
 use std::alloc::Global;
 use std::process::Abort;
 use std::test::Fail;
@@ -21,6 +24,10 @@ fn pids(alloc: Global, numbers: &[u64]) -> Result<Pids, Fail> {
     Ok(Items::of(pids))
 }
 
+fn members(alloc: Global, numbers: &[u64]) -> Result<Members, Fail> {
+    Ok(Members::of(pids(alloc, numbers)?.into_vec())?)
+}
+
 fn group(alloc: Global) -> Result<Group, Fail> {
     Ok(Group::parse(alloc, b"g")?)
 }
@@ -31,10 +38,20 @@ fn prints<R: AllocGlobal + Abort>(
     stepped: Result<Reply, CoreFault>,
     line: &str,
 ) -> Result<(), Fail> {
-    let mut out = Vec::new(rt.alloc());
-    put_step(rt.alloc(), &stepped, &mut out)?;
+    let out = printed(rt.alloc(), stepped)?;
     assert_eq!(rt; out.as_slice(), line.as_bytes(), "{line}");
     Ok(())
+}
+
+/// The line of a step's answer.
+fn printed(alloc: Global, stepped: Result<Reply, CoreFault>) -> Result<Vec<u8>, Fail> {
+    line_of_step(alloc, &stepped)
+}
+
+fn line_of_step(alloc: Global, stepped: &Result<Reply, CoreFault>) -> Result<Vec<u8>, Fail> {
+    let mut out = Vec::new(alloc);
+    put_step(alloc, stepped, &mut out)?;
+    Ok(out)
 }
 
 #[test]
@@ -59,10 +76,10 @@ fn prints_processes(rt: HostRuntime) -> Result<(), Fail> {
     for pid in pids(alloc, &[u64::MAX])?.into_vec() {
         prints(&rt, Ok(Reply::Pid(pid)), "pid a@h/5/18446744073709551615\n")?;
     }
-    prints(&rt, Ok(Reply::Pids(pids(alloc, &[])?)), "pids\n")?;
-    let two = Reply::Pids(pids(alloc, &[1, 2])?);
+    prints(&rt, Ok(Reply::Pids(members(alloc, &[])?)), "pids\n")?;
+    let two = Reply::Pids(members(alloc, &[1, 2])?);
     prints(&rt, Ok(two), "pids a@h/5/1 a@h/5/2\n")?;
-    let pids = pids(alloc, &[1, 1])?;
+    let pids = members(alloc, &[1, 1])?;
     let watched = Reply::Ref { number: 8, pids };
     prints(&rt, Ok(watched), "ref 8 a@h/5/1 a@h/5/1\n")
 }
@@ -73,13 +90,13 @@ fn prints_groups(rt: HostRuntime) -> Result<(), Fail> {
     let mut groups = Vec::new(alloc);
     groups.push(group(alloc)?)?;
     groups.push(Group::parse(alloc, b"h")?)?;
-    prints(&rt, Ok(Reply::Groups(Items::of(groups))), "groups g h\n")?;
+    prints(&rt, Ok(Reply::Groups(Groups::of(groups)?)), "groups g h\n")?;
     let mut contents = Vec::new(alloc);
     contents.push(GroupPids {
         group: group(alloc)?,
         pids: pids(alloc, &[1, 2])?,
     })?;
-    let groups = Items::of(contents);
+    let groups = Contents::of(contents)?;
     let watched = Reply::ScopeRef { number: 9, groups };
     prints(&rt, Ok(watched), "ref 9 g 2 a@h/5/1 a@h/5/2\n")
 }
@@ -95,7 +112,7 @@ fn prints_updates(rt: HostRuntime) -> Result<(), Fail> {
             pids: pids(alloc, &[3])?,
         })?;
     }
-    let told = Reply::Updates(Items::of(updates));
+    let told = Reply::Updates(Updates::of(updates)?);
     prints(
         &rt,
         Ok(told),
