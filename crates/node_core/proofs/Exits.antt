@@ -1,6 +1,6 @@
 -- Links for which the Leaves of a process that ends are prepared.
 use Rattle.std.specs.Prelude.{◌≡◌, ℕ, Bool, true, false, cond, not, ◌==◌, List, [], ◌∷◌, ◌++◌, map, length}
-use Rattle.std.proofs.Common.{refl, ap, ◌∙◌, sym, subst, append_assoc}
+use Rattle.std.proofs.Common.{refl, ap, ◌∙◌, sym, subst, append_assoc, arith}
 use Rattle.std.proofs.lemmas.Bool.{eqb-true, eq-eqb}
 use Rattle.std.proofs.lemmas.List.{append-nil}
 use Rattle.std.specs.List.{AllZip}
@@ -19,7 +19,6 @@ use Rattle.node_core.specs.ScopeFacts.{is_number}
 use Rattle.node_core.specs.Telling.{AreIdle, Alike, AreTold, if_among}
 use Rattle.node_core.specs.Exiting.{bare, exit_frames, ArePrepared, all_frames, AreExits}
 use Rattle.node_core.specs.Parting.{IsParting}
-use Rattle.node_core.proofs.InCommon.{none_left}
 use Rattle.node_core.proofs.Told.{forgotten, zip_map}
 use Rattle.node_core.proofs.Zipped.{zipped_map, zipped_on, zipped_weaker}
 
@@ -118,6 +117,10 @@ pub none_more : (cs ds : List Change) (c : Change) → is_empty c.groups ≡ tru
 none_more cs ds c none is = is ∙ sym (append-nil cs) ∙ ap (λ b. cs ++ cond (not b) (c ∷ []) []) (sym none)
 
 -- what a list's length says of it
+none_left : {A : Type 0} (xs : List A) → length xs ≡ 0 → xs ≡ []
+none_left [] q = refl
+none_left (x ∷ xs) q = absurd (omega (arith, q))
+
 pub is_none : {A : Type 0} (xs : List A) (n : ℕ) → length xs ≡ n → (n == 0) ≡ true → xs ≡ []
 is_none xs n long q = none_left xs (long ∙ eqb-true n 0 q)
 

@@ -1,5 +1,5 @@
 -- Own processes that leave groups.
-use Rattle.std.specs.Prelude.{◌≡◌, ℕ, ◌-◌, ◌==◌, nat_lt, min, Bool, true, false, cond, ◌||◌, not, List, [], ◌∷◌, ◌++◌, Option, Some, None, map, position}
+use Rattle.std.specs.Prelude.{◌≡◌, ℕ, ◌-◌, ◌==◌, nat_lt, min, Bool, true, false, cond, ◌||◌, not, List, [], ◌∷◌, ◌++◌, Option, Some, None, map, position, All}
 use Rattle.std.proofs.Common.{refl, ap, ◌∙◌, sym, subst, get_or, set}
 use Rattle.std.specs.List.{list_all, list_any}
 use Rattle.dist_types.specs.declared.pid.Pid.{Pid}
@@ -38,6 +38,7 @@ use Rattle.node_core.specs.Telling.{if_among, said_to}
 use Rattle.node_core.proofs.Entered.{made, accepted_now, answered_now, next_now, sound_now}
 use Rattle.node_core.proofs.Placed.{follows_there, runs_there, scope_is}
 use Rattle.node_core.proofs.Scopes.{own_counts}
+use Rattle.node_core.proofs.Joining.{own_nodes}
 use Rattle.node_core.proofs.Told.{told_follow}
 use Rattle.node_core.proofs.Moved.{moved_change, moved_frames, moved_scopes}
 
@@ -77,6 +78,9 @@ module _ (h : History) (seat : ℕ) (parts : Parts) (t : Follows h parts) (s g :
             ∙ ap (λ c. cond c (count_of a.table g q) 0) (ap (same q.node) there.own ∙ and_left (same q.node h.opening.name) (q.creation == creation h) (and_left (is_local h q) (list_all (is_local h) qs) local))
 
     module _ (local : list_all (is_local h) ps ≡ true) where
+      pub leaves_own : All (λ q. q.node ≡ a.table.own) ps
+      leaves_own = own_nodes h a.table.own there.own ps local
+
       pub leave_none : is_any_joined a.table g ps ≡ false → first_broken (checks h seat (event.Leave s g ps)) ≡ Some rule.NotJoined
       leave_none q = λ i. leave_broken (runs i) (local i) ((any_joined ps local ∙ q) i)
 

@@ -52,7 +52,7 @@ pub mod MessageScopes
 pub mod MessageRefused
 pub mod MessageRoom
 pub mod Stepped
-pub mod InCommon
+pub mod GroupRows
 pub mod Said
 pub mod Joining
 pub mod OwnTotal

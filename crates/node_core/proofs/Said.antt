@@ -62,11 +62,11 @@ moved_listing g ps count rows named a = one_row_listing (λ f q. cond (same f g)
 pub joined_rows_are : (g : List ℕ) (ps : List Pid) (rows : List Row) → IsRowListing (λ f q. cond (same f g) (mentions q ps) 0) rows → rows ≡ map (row g) (listing pid_cmp (λ p. mentions p ps) ps)
 joined_rows_are g ps rows a = moved_listing g ps (λ p. mentions p ps) rows (λ p some. occurs_stands same_pid p ps some) a
 
-pub left_rows_are : (g : List ℕ) (ps gone members : List Pid) (count : Pid → ℕ) (rows : List Row) → IsPidListing count members → ((p : Pid) → mentions p gone ≡ min (mentions p ps) (mentions p members))
+pub left_rows_are : (g : List ℕ) (ps gone : List Pid) (count : Pid → ℕ) (rows : List Row) → IsPidListing (λ p. min (mentions p ps) (count p)) gone
     → IsRowListing (λ f q. cond (same f g) (mentions q gone) 0) rows → rows ≡ map (row g) (listing pid_cmp (λ p. min (mentions p ps) (count p)) ps)
-left_rows_are g ps gone members count rows all both a =
+left_rows_are g ps gone count rows left a =
     moved_listing g ps (λ p. min (mentions p ps) (count p)) rows (λ p some. occurs_stands same_pid p ps (omega (arith, some)))
-    (subst (λ (c : Pid → ℕ). IsRowListing (λ f q. cond (same f g) (c q) 0) rows) (λ i q. (both q ∙ ap (λ n. min (mentions q ps) n) (IsListing.counts all q)) i) a)
+    (subst (λ (c : Pid → ℕ). IsRowListing (λ f q. cond (same f g) (c q) 0) rows) (λ i q. IsListing.counts left q i) a)
 
 -- ---- faults
 

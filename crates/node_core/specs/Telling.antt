@@ -1,11 +1,9 @@
 -- Frames that links are told, and scopes put among others.
-use Rattle.std.specs.Prelude.{◌≡◌, ℕ, ◌≤◌, Bool, true, false, cond, not, List, [], ◌∷◌, map, length}
+use Rattle.std.specs.Prelude.{◌≡◌, ℕ, ◌≤◌, Bool, true, cond, not, List, [], ◌∷◌, map, length}
 use Rattle.std.specs.List.{filter, AllByRecursion}
 use Rattle.std.specs.Ordering.{is_lt}
-use Rattle.dist_types.specs.declared.pid.Pid.{Pid}
 use Rattle.dist_types.specs.Difference.{is_empty}
-use Rattle.dist_types.specs.Listing.{same_pid}
-use Rattle.dist_types.specs.Order.{text_cmp, pid_cmp}
+use Rattle.dist_types.specs.Order.{text_cmp}
 use Rattle.link_frames.specs.declared.message.Message.{Message}
 use Rattle.link_frames.specs.declared.message.Message.TheVariants as said
 use Rattle.policy_audit.specs.declared.out_frame.OutFrame.{OutFrame}
@@ -56,27 +54,3 @@ is_said m = true
 -- the links that are told it, of those of these numbers
 abbrev pub said_to : List ℕ → Message → List ℕ
 said_to numbers m = cond (is_said m) numbers []
-
--- ---- ascending lists of processes
-
--- those that don't come before the process
-abbrev pub from_pid : Pid → List Pid → List Pid
-from_pid p [] = []
-from_pid p (x ∷ xs) = cond (is_lt (pid_cmp x p)) (from_pid p xs) (x ∷ xs)
-
--- whether the process is the first of these
-abbrev pub is_first : Pid → List Pid → Bool
-is_first p [] = false
-is_first p (x ∷ xs) = same_pid x p
-
--- the processes but the first
-abbrev pub others : List Pid → List Pid
-others [] = []
-others (x ∷ xs) = xs
-
--- what two ascending lists have in common
-abbrev pub common : List Pid → List Pid → List Pid
-common named [] = []
-common named (p ∷ ps) =
-    let rest = from_pid p named in
-    cond (is_first p rest) (p ∷ common (others rest) ps) (common rest ps)

@@ -21,7 +21,7 @@ use crate::link::Link;
 use crate::links::{commit, forget};
 use crate::node::NodeCore;
 use crate::running::{Running, place_of};
-use crate::telling::{leaving, tell, tell_exit};
+use crate::telling::{tell, tell_exit};
 use dist_types::{Group, Pid, Pids, Scope, TryClone};
 use link_frames::{Message, Rows};
 use policy_audit::{Change, Event, Reply, Rule};
@@ -213,6 +213,7 @@ fn leave_one(
     group: &Group,
     pids: &[Pid],
 ) -> Result<Vec<Change>, CoreFault>
+    requires own { All (λ p. p.node ≡ running.old.table.own) pids.now }
     requires idle { AreIdle links.old.items }
     ensures left { IfOk result (λ changes. IsMoved (said.Leave running.old.scope (map (row group.now) (listing pid_cmp (λ p. min (mentions p pids.now) (local_count running.old.table group.now p)) pids.now))) (count_after_leave running.old.table group.now pids.now) running.old running.new links.old.items links.new.items changes.items) }
     ensures some { OnOk result (is_any_joined running.old.table group.now pids.now ≡ true) }
@@ -222,8 +223,7 @@ fn leave_one(
     let mut changes = Vec::new(alloc);
     changes.reserve(1)?;
     let name = running.scope.try_clone(alloc)?;
-    let members = running.table.local_members(group)?;
-    let gone = leaving(alloc, members, pids)?;
+    let gone = running.table.leaving(group, pids)?;
     let rows = Rows::of(rows_of(alloc, group, &gone)?);
     let message = Message::Leave(running.scope.try_clone(alloc)?, rows);
     tell(alloc, links, &running.told, message)?;

@@ -1,15 +1,12 @@
 //! What the told links are told of the own rows.
-ghost use Rattle.std.specs.Prelude.{◌≡◌, ◌≤◌, [], min, length, map, IfOk, OnOk, OnErr};
-ghost use Rattle.dist_types.specs.declared.pid.Pid.{Pid};
-ghost use Rattle.dist_types.specs.Listing.{mentions, Ascends};
-ghost use Rattle.dist_types.specs.Order.{pid_cmp};
+ghost use Rattle.std.specs.Prelude.{◌≡◌, [], map, IfOk, OnOk, OnErr};
 ghost use Rattle.policy_audit.specs.Owed.{wide};
 ghost use Rattle.node_core.specs.Links.{unroomed, with_prepared, prepared_for};
 ghost use Rattle.std.specs.List.{AllByRecursion};
 ghost use Rattle.dist_types.specs.Difference.{IsDifference};
 ghost use Rattle.scope_core.specs.Table.{count_of};
 ghost use Rattle.scope_core.specs.Calls.{count_after_exit};
-ghost use Rattle.node_core.specs.Telling.{AreIdle, Alike, IsBrief, is_said, said_to, from_pid, is_first, others, common};
+ghost use Rattle.node_core.specs.Telling.{AreIdle, Alike, IsBrief, is_said, said_to};
 ghost use Rattle.node_core.specs.Exiting.{bare, exit_frames, ArePrepared, AreExits, AreExitsTold};
 
 use crate::changes::rows_left;
@@ -48,66 +45,6 @@ fn is_said(message: &Message) -> bool
         Message::Leave(_, rows) => !rows.as_slice().is_empty(),
         _ => true,
     }
-}
-
-/// The processes that leave, where those of the list leave that are members, each once per mention and membership.
-pub fn leaving(alloc: Global, members: Vec<Pid>, pids: &[Pid]) -> Result<Vec<Pid>, OutOfMemory>
-    requires { Ascends pid_cmp members.items }
-    ensures counts { IfOk result (λ gone. (p : Pid) → mentions p gone.items ≡ min (mentions p pids.now) (mentions p members.items)) }
-    ensures few { IfOk result (λ gone. length gone.items ≤ length members.items) }
-{
-    let mut named = Vec::new(alloc);
-    for pid in pids {
-        named.push(pid.try_clone(alloc)?)?;
-    }
-    named.sort_unstable();
-    common(alloc, members, &named)
-}
-
-/// What two ascending lists have in common.
-fn common(alloc: Global, members: Vec<Pid>, named: &[Pid]) -> Result<Vec<Pid>, OutOfMemory>
-    requires { Ascends pid_cmp named.now }
-    ensures { IfOk result (λ both. both.items ≡ common named.now members.items) }
-{
-    let mut both = Vec::new(alloc);
-    let mut rest = named;
-    for pid in members {
-        rest = from(rest, &pid);
-        if is_first(&pid, rest) {
-            both.push(pid)?;
-            rest = others(rest);
-        }
-    }
-    Ok(both)
-}
-
-/// Whether the process is the first of these.
-fn is_first(pid: &Pid, named: &[Pid]) -> bool
-    ensures { result ≡ is_first pid.now named.now }
-{
-    match named.first() {
-        Some(first) => *first == *pid,
-        None => false,
-    }
-}
-
-/// All but the first, if there is one.
-fn others(named: &[Pid]) -> &[Pid]
-    ensures { result.now ≡ others named.now }
-{
-    if named.is_empty() {
-        return named;
-    }
-    &named[1..]
-}
-
-/// Those of an ascending list that don't come before a process.
-fn from<'a>(named: &'a [Pid], pid: &Pid) -> &'a [Pid]
-    requires { Ascends pid_cmp named.now }
-    ensures { result.now ≡ from_pid pid.now named.now }
-{
-    let start = named.partition_point(|other| *other < *pid);
-    &named[start..]
 }
 
 /// A process leaves all scopes: a Leave of its rows waits for the links that are told there. Answers what will change. Where

@@ -1,14 +1,14 @@
 -- One less for each mention, as far as it goes: what really left.
-use Rattle.std.specs.Prelude.{◌≡◌, ℕ, ◌-◌, true, false, cond, List, []}
+use Rattle.std.specs.Prelude.{◌≡◌, ℕ, suc, ◌-◌, ◌+◌, ◌≤◌, min, Bool, true, false, cond, List, [], ◌∷◌, All}
 use Rattle.std.proofs.Common.{refl, ap, ◌∙◌, sym, arith}
 use Rattle.std.specs.List.{filter}
 use Rattle.dist_types.specs.declared.pid.Pid.{Pid}
 use Rattle.scope_core.specs.declared.counted.Counted.{Counted}
-use Rattle.dist_types.specs.Listing.{same, mentions, Rises, spread}
+use Rattle.dist_types.specs.Listing.{same, same_pid, mentions, total, Rises, spread, IsPidListing}
 use Rattle.dist_types.specs.Difference.{IsDifference, change_unless_empty}
-use Rattle.scope_core.specs.Table.{is_row, tally, counted_cmp}
+use Rattle.scope_core.specs.Table.{is_row, is_of_node, tally, counted_cmp}
 use Rattle.scope_core.specs.Listed.{is_in}
-use Rattle.dist_types.proofs.Orders.{same_decides, same_sym}
+use Rattle.dist_types.proofs.Orders.{same_decides, same_pid_decides, same_sym}
 use Rattle.dist_types.proofs.Differences.{one_difference}
 use Rattle.scope_core.proofs.Shares.{each, of_mentions, mentions_part, pids_listing}
 
@@ -33,3 +33,39 @@ left_change g ps cs after r is =
           m ∙ ap (λ v. cond v (mentions p gone) 0) (sym (same_sym g h ∙ e))
     ] refl a)
     (λ h p. let a = is h p in elim (same g h) as (λ v. after h p - tally (is_row h p) cs ≡ cond v 0 0) [ true ↦ omega (arith, a) | false ↦ omega (arith, a) ])
+
+-- ---- own processes that would leave
+
+module _ (own : List ℕ) (ps : List Pid) (all : All (λ q. q.node ≡ own) ps) where
+  -- a process of another node isn't mentioned
+  unmentioned : (p : Pid) → same p.node own ≡ false → mentions p ps ≡ 0
+  unmentioned p other = among ps all
+    where
+      among : (qs : List Pid) → All (λ q. q.node ≡ own) qs → mentions p qs ≡ 0
+      among [] a = refl
+      among (q ∷ qs) a = by (same_pid q p) refl (among qs (λ k d l. a (suc k) d (omega (arith, l))))
+        where
+          by : (b : Bool) → same_pid q p ≡ b → mentions p qs ≡ 0 → cond b (suc (mentions p qs)) (mentions p qs) ≡ 0
+          by false s rest = rest
+          by true s rest = absurd (let x : true ≡ false = sym ((same_decides p.node own).1 (sym (ap (λ r. r.node) ((same_pid_decides q p).0 s)) ∙ a 0 q (omega arith))) ∙ other in cc)
+
+  own_mentions : (p : Pid) (n : ℕ) → min (mentions p ps) n ≡ min (mentions p ps) (cond (same p.node own) n 0)
+  own_mentions p n = elim (same p.node own) as (λ v. same p.node own ≡ v → min (mentions p ps) n ≡ min (mentions p ps) (cond v n 0)) [
+    | true ↦ λ e. refl
+    | false ↦ λ e. let none = unmentioned p e in omega (arith, none)
+  ] refl
+
+  pub leaving_listing : (g : List ℕ) (cs : List Counted) → Rises counted_cmp cs
+      → IsPidListing (λ p. min (mentions p ps) (cond (same p.node own) (tally (is_row g p) cs) 0)) (spread (λ c. c.row.pid) (each (of_mentions ps)) (filter (is_in g) cs))
+  leaving_listing g cs r =
+      let listing = pids_listing (of_mentions ps) (mentions_part ps) g cs r in
+      record { ascends = listing.ascends; counts = λ p. listing.counts p ∙ own_mentions p (tally (is_row g p) cs) }
+
+  pub leaving_few : (cs : List Counted) → total (each (of_mentions ps)) cs ≤ tally (is_of_node own) cs
+  leaving_few [] = omega arith
+  leaving_few (c ∷ cs) =
+      let rest = leaving_few cs in
+      elim (same c.row.pid.node own) as (λ v. same c.row.pid.node own ≡ v → min (mentions c.row.pid ps) c.count + total (each (of_mentions ps)) cs ≤ cond v c.count 0 + tally (is_of_node own) cs) [
+        | true ↦ λ e. omega (arith, rest)
+        | false ↦ λ e. let none = unmentioned c.row.pid e in omega (arith, none, rest)
+      ] refl

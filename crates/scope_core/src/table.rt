@@ -1,7 +1,7 @@
 //! The table of one scope.
-ghost use Rattle.std.specs.Prelude.{◌≡◌, ℕ, ◌+◌, ◌≤◌, cond, IsTrue, IfOk, IfErr, OnErr, OnOk, List, length, All};
+ghost use Rattle.std.specs.Prelude.{◌≡◌, ℕ, ◌+◌, ◌≤◌, min, cond, IsTrue, IfOk, IfErr, OnErr, OnOk, List, length, All};
 ghost use Rattle.dist_types.specs.declared.pid.Pid.{Pid};
-ghost use Rattle.dist_types.specs.Listing.{same, IsPidListing, IsRowListing, IsGroupListing};
+ghost use Rattle.dist_types.specs.Listing.{same, mentions, IsPidListing, IsRowListing, IsGroupListing};
 ghost use Rattle.dist_types.specs.Difference.{IsDifference};
 ghost use Rattle.scope_core.specs.Table.{count_of, local_count, local_total, node_total, max_rows};
 ghost use Rattle.scope_core.specs.Calls.{Counts, is_any_joined, no_count, count_after_join, count_after_leave, count_after_exit, count_after_drop, count_after_sync, count_after_add, count_after_take, are_counted, IsChange, IsJoinFault, IsLeaveFault, IsSyncFault, IsAddFault, IsTakeFault};
@@ -248,6 +248,17 @@ impl ScopeTable {
             Part::Node(&self.own),
         )?;
         Ok(pids)
+    }
+
+    /// The own processes that a leave of these takes from a group, each as often as it leaves.
+    pub fn leaving(&self, group: &Group, pids: &[Pid]) -> Result<Vec<Pid>, OutOfMemory>
+        requires { All (λ p. p.node ≡ self.now.own) pids.now }
+        ensures value { IfOk result (λ gone. IsPidListing (λ p. min (mentions p pids.now) (local_count self.now group.now p)) gone.items) }
+        ensures limits { IfOk result (λ gone. length gone.items ≤ max_rows) }
+    {
+        let rows = in_group(&self.rows, group);
+        let gone = pids_of(self.alloc, rows, Part::Mentions(pids))?;
+        Ok(gone)
     }
 
     /// The groups with a process.

@@ -5,7 +5,7 @@ use Rattle.dist_types.specs.Listing.{same_row}
 use Rattle.dist_types.proofs.Orders.{rows_total}
 use Rattle.dist_types.proofs.Sorts.{sorted_listing}
 use Rattle.policy_audit.specs.Contents.{row}
-use Rattle.node_core.proofs.InCommon.{rows_listing, rows_length}
+use Rattle.node_core.proofs.GroupRows.{rows_listing, rows_length}
 use Rattle.node_core.proofs.changes.rows_of.Goals as goal
 
 pub returns : goal.returns

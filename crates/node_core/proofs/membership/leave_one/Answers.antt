@@ -1,7 +1,7 @@
-use Rattle.std.proofs.Common.{◌∙◌, refl, arith}
+use Rattle.std.proofs.Common.{◌∙◌, refl}
 use Rattle.std.specs.Prelude.{map, min}
 use Rattle.dist_types.specs.Order.{pid_cmp}
-use Rattle.dist_types.specs.Listing.{listing, mentions, IsListing}
+use Rattle.dist_types.specs.Listing.{listing, mentions}
 use Rattle.scope_core.specs.Table.{local_count}
 use Rattle.policy_audit.specs.Contents.{row}
 use Rattle.link_frames.specs.declared.message.Message.TheVariants as said
@@ -12,17 +12,17 @@ use Rattle.node_core.proofs.Told.{prepared_told}
 use Rattle.node_core.proofs.membership.leave_one.Goals as goal
 
 pub tell-requires : goal.tell-requires
-tell-requires c = rw (c.of-rows.ensures, c.in_ok-rows_of.ensures.length, c.deref.ensures.value) (omega (arith, c.in_ok-gone.ensures.few, c.in_ok-members.ensures.limits))
+tell-requires c = rw (c.of-rows.ensures, c.in_ok-rows_of.ensures.length, c.deref.ensures.value) c.in_ok-gone.ensures.limits
 
 pub leaving-requires : goal.leaving-requires
-leaving-requires c = IsListing.ascends c.in_ok-members.ensures.value
+leaving-requires c = c.requires.own
 
 pub returns-in_err-tell-clause-same : goal.returns-in_err-tell-clause-same
 returns-in_err-tell-clause-same c = untold _ c.args.running.now c.args.links.now.items c.tell.new.links.items c.requires.idle c.in_err-tell.ensures.forgot
 
 pub returns-in-Ok : goal.returns-in-Ok
 returns-in-Ok c =
-    let rows = c.of-rows.ensures ∙ left_rows_are c.args.group.now c.args.pids.now c.in_ok-gone.gone.items c.in_ok-members.members.items (local_count c.args.running.now.table c.args.group.now) c.in_ok-rows_of.field-0.items c.in_ok-members.ensures.value c.in_ok-gone.ensures.counts (rw c.deref.ensures.value at c.in_ok-rows_of.ensures.rows) in
+    let rows = c.of-rows.ensures ∙ left_rows_are c.args.group.now c.args.pids.now c.in_ok-gone.gone.items (local_count c.args.running.now.table c.args.group.now) c.in_ok-rows_of.field-0.items c.in_ok-gone.ensures.value (rw c.deref.ensures.value at c.in_ok-rows_of.ensures.rows) in
     let prepared = rw (c.deref-2.ensures.value, c.in_ok-try_clone.ensures, rows) at c.in_ok-tell.ensures.ok in
     record {
       left = record {

@@ -7,7 +7,7 @@ use Rattle.node_core.proofs.Entered.{steps_on}
 use Rattle.node_core.proofs.Moved.{unmoved}
 use Rattle.node_core.proofs.Placed.{runs_at, unplaced}
 use Rattle.node_core.proofs.Told.{follow_idle}
-use Rattle.node_core.proofs.Leaving.{leave_nowhere, leave_foreign, leave_none, leave_next, leave_follows}
+use Rattle.node_core.proofs.Leaving.{leave_nowhere, leave_foreign, leaves_own, leave_none, leave_next, leave_follows}
 use Rattle.node_core.proofs.node.NodeCore.leave.Goals as goal
 
 pub refuse-requires-clause-broken : goal.refuse-requires-clause-broken
@@ -19,7 +19,10 @@ refuse-requires-then-not-are_local-clause-broken c =
     rw (← c.self.view_is) (leave_foreign (past c.self.inside.opening c.self.inside.audit.entries) c.args.seat _ c.self.invariant c.args.scope c.args.group c.args.pids (runs_at (past c.self.inside.opening c.self.inside.audit.entries) c.self.inside.scopes.items c.self.invariant.scopes c.args.scope c.in-Some.place (sym (rw c.deref.ensures.value at c.in-Some.ensures))) foreign)
 
 pub leave_one-requires : goal.leave_one-requires
-leave_one-requires c = record { idle = follow_idle (link_words (past c.self.inside.opening c.self.inside.audit.entries)) c.self.inside.links.items c.self.invariant.links.each }
+leave_one-requires c = record {
+  own = rw c.as_slice-2.ensures (leaves_own (past c.self.inside.opening c.self.inside.audit.entries) c.args.seat _ c.self.invariant c.args.scope c.args.group c.args.pids c.in-Some.place (sym (rw c.deref.ensures.value at c.in-Some.ensures)) c.index_mut-running.result.now c.index_mut-running.ensures.value (rw (← c.self.view_is) at (sym (rw c.as_slice.ensures at c.are_local.ensures) ∙ c.if-not-are_local.false)));
+  idle = follow_idle (link_words (past c.self.inside.opening c.self.inside.audit.entries)) c.self.inside.links.items c.self.invariant.links.each;
+}
 
 pub refuse-requires-in-Err-Refused-clause-broken : goal.refuse-requires-in-Err-Refused-clause-broken
 refuse-requires-in-Err-Refused-clause-broken c =

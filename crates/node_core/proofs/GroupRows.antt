@@ -1,0 +1,25 @@
+-- The rows of processes in a group, in order.
+use Rattle.std.specs.Prelude.{◌≡◌, ℕ, suc, cond, List, [], ◌∷◌, length, map}
+use Rattle.std.proofs.Common.{refl, ap, ◌∙◌}
+use Rattle.dist_types.specs.declared.pid.Pid.{Pid}
+use Rattle.dist_types.specs.declared.row.Row.{Row}
+use Rattle.dist_types.specs.Listing.{mentions, occurrences, same, same_row, IsListing, IsRowListing}
+use Rattle.dist_types.specs.Order.{row_cmp}
+use Rattle.dist_types.proofs.Orders.{same_row_decides, same_sym}
+use Rattle.dist_types.proofs.Listings.{same_length}
+use Rattle.policy_audit.specs.Contents.{row}
+use Rattle.policy_audit.proofs.Lists.{count_in_group}
+
+module _ (g : List ℕ) (pids : List Pid) (rows sorted : List Row) (is : rows ≡ map (row g) pids) (listing : IsListing row_cmp same_row (λ r. occurrences same_row r rows) sorted) where
+  pub rows_listing : IsRowListing (λ f p. cond (same f g) (mentions p pids) 0) sorted
+  rows_listing = record {
+    ascends = IsListing.ascends listing;
+    counts = λ r. IsListing.counts listing r ∙ ap (occurrences same_row r) is ∙ count_in_group r g pids ∙ ap (λ b. cond b (mentions r.pid pids) 0) (same_sym g r.group);
+  }
+
+  pub rows_length : length sorted ≡ length pids
+  rows_length = same_length same_row same_row_decides sorted rows (λ r. IsListing.counts listing r) ∙ ap length is ∙ long pids
+    where
+      long : (ps : List Pid) → length (map (row g) ps) ≡ length ps
+      long [] = refl
+      long (p ∷ ps) = ap suc (long ps)
