@@ -59,14 +59,18 @@ fn allowed_at(rules: &Admission, place: usize) -> Option<&[u8]> {
     Some(rules.allowed(place)?.as_bytes())
 }
 
-// Each test has its rules held by one function and used by another: a check follows the end of a value along every way out of
-// the function that holds it.
+// What holds rules hands them on at once, and a test with its assertions holds none: a check follows the end of a value along every
+// way out of the function that holds it.
 
 #[test]
 fn starts_as_it_was_given(rt: HostRuntime) -> Result<(), Fail> {
-    let given = is_as_given(rt.alloc(), &rules(rt.alloc(), false)?)?;
+    let given = are_as_given(rt.alloc())?;
     assert!(rt; given);
     Ok(())
+}
+
+fn are_as_given(alloc: Global) -> Result<bool, Fail> {
+    is_as_given(alloc, &rules(alloc, false)?)
 }
 
 fn is_as_given(alloc: Global, rules: &Admission) -> Result<bool, Fail> {
@@ -77,9 +81,13 @@ fn is_as_given(alloc: Global, rules: &Admission) -> Result<bool, Fail> {
 
 #[test]
 fn gives_each_peer_its_cookie(rt: HostRuntime) -> Result<(), Fail> {
-    let given = gives_cookies(rt.alloc(), &mut rules(rt.alloc(), false)?)?;
+    let given = are_given(rt.alloc())?;
     assert!(rt; given);
     Ok(())
+}
+
+fn are_given(alloc: Global) -> Result<bool, Fail> {
+    gives_cookies(alloc, &mut rules(alloc, false)?)
 }
 
 fn gives_cookies(alloc: Global, rules: &mut Admission) -> Result<bool, Fail> {
@@ -90,9 +98,13 @@ fn gives_cookies(alloc: Global, rules: &mut Admission) -> Result<bool, Fail> {
 
 #[test]
 fn keeps_the_cookies_of_peers_when_its_own_changes(rt: HostRuntime) -> Result<(), Fail> {
-    let kept = keeps_cookies(rt.alloc(), &mut rules(rt.alloc(), false)?)?;
+    let kept = are_kept(rt.alloc())?;
     assert!(rt; kept);
     Ok(())
+}
+
+fn are_kept(alloc: Global) -> Result<bool, Fail> {
+    keeps_cookies(alloc, &mut rules(alloc, false)?)
 }
 
 fn keeps_cookies(alloc: Global, rules: &mut Admission) -> Result<bool, Fail> {
@@ -104,9 +116,13 @@ fn keeps_cookies(alloc: Global, rules: &mut Admission) -> Result<bool, Fail> {
 
 #[test]
 fn allows_every_name_until_one_is_listed(rt: HostRuntime) -> Result<(), Fail> {
-    let allowed = allowed_before_and_after(rt.alloc(), &mut rules(rt.alloc(), false)?)?;
+    let allowed = are_allowed(rt.alloc())?;
     assert_eq!(rt; allowed, [true, false, true, true]);
     Ok(())
+}
+
+fn are_allowed(alloc: Global) -> Result<[bool; 4], Fail> {
+    allowed_before_and_after(alloc, &mut rules(alloc, false)?)
 }
 
 /// Whether `n1@h` is allowed where none is listed, and `n1@h`, `n2@h` and `n3@h` where the last two are.
@@ -124,9 +140,13 @@ fn allowed_before_and_after(alloc: Global, rules: &mut Admission) -> Result<[boo
 
 #[test]
 fn lists_each_allowed_name_once(rt: HostRuntime) -> Result<(), Fail> {
-    let once = lists_once(rt.alloc(), &mut rules(rt.alloc(), false)?)?;
+    let once = are_listed_once(rt.alloc())?;
     assert!(rt; once);
     Ok(())
+}
+
+fn are_listed_once(alloc: Global) -> Result<bool, Fail> {
+    lists_once(alloc, &mut rules(alloc, false)?)
 }
 
 fn lists_once(alloc: Global, rules: &mut Admission) -> Result<bool, Fail> {
@@ -139,9 +159,13 @@ fn lists_once(alloc: Global, rules: &mut Admission) -> Result<bool, Fail> {
 
 #[test]
 fn refuses_more_than_1024_names(rt: HostRuntime) -> Result<(), Fail> {
-    let answers = allow_too_many(rt.alloc(), &mut rules(rt.alloc(), false)?)?;
+    let answers = too_many_allowed(rt.alloc())?;
     assert_eq!(rt; answers, [Ok(()), Err(AllowFault::AllowFull), Ok(())]);
     Ok(())
+}
+
+fn too_many_allowed(alloc: Global) -> Result<[Result<(), AllowFault>; 3], Fail> {
+    allow_too_many(alloc, &mut rules(alloc, false)?)
 }
 
 /// The answers to 1,024 names, to one of them and one more, and to some of them.
@@ -158,9 +182,13 @@ fn allow_too_many(
 
 #[test]
 fn refuses_more_than_1024_cookies(rt: HostRuntime) -> Result<(), Fail> {
-    let answers = set_too_many(rt.alloc(), &mut rules(rt.alloc(), false)?)?;
+    let answers = too_many_set(rt.alloc())?;
     assert_eq!(rt; answers, [Err(CookieFault::CookiesFull), Ok(()), Ok(())]);
     Ok(())
+}
+
+fn too_many_set(alloc: Global) -> Result<[Result<(), CookieFault>; 3], Fail> {
+    set_too_many(alloc, &mut rules(alloc, false)?)
 }
 
 /// The answers to a cookie for a new node, for a known one and for the own one, where 1,024 have one.
@@ -189,15 +217,17 @@ fn set_cookie(
 
 #[test]
 fn shows_itself_where_both_do(rt: HostRuntime) -> Result<(), Fail> {
-    let all = [0x1000001, 0x1000000, u64::MAX, u64::MAX - 1];
-    let shown = visible_by(&rules(rt.alloc(), false)?, all);
-    assert_eq!(rt; shown, [true, false, true, false]);
-    let hidden = visible_by(&rules(rt.alloc(), true)?, all);
-    assert_eq!(rt; hidden, [false; 4]);
+    let shown = shown_by(rt.alloc(), false)?;
+    let hidden = shown_by(rt.alloc(), true)?;
+    assert_eq!(rt; (shown, hidden), ([true, false, true, false], [false; 4]));
     Ok(())
 }
 
-/// Which of the flags make a link visible.
-fn visible_by(rules: &Admission, all: [u64; 4]) -> [bool; 4] {
-    all.map(|flags| rules.visible(Flags(flags)))
+/// Which of the flags make a link of this node visible.
+fn shown_by(alloc: Global, hidden: bool) -> Result<[bool; 4], Fail> {
+    Ok(visible_by(&rules(alloc, hidden)?))
+}
+
+fn visible_by(rules: &Admission) -> [bool; 4] {
+    [0x1000001, 0x1000000, u64::MAX, u64::MAX - 1].map(|flags| rules.visible(Flags(flags)))
 }

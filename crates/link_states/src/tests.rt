@@ -22,10 +22,15 @@ const REPLY: &[u8] =
 /// MD5 of `password1`.
 const ACK: &[u8] = b"a\x7c\x6a\x18\x0b\x36\x89\x6a\x0a\x8c\x02\x78\x7e\xea\xfb\x0e\x4c";
 
-/// Bodies that come in turn, each with the frames that it owes.
-type Steps = &'static [(&'static [u8], &'static [&'static [u8]])];
+// The rows of tables are structs: a check follows each lifetime that a type shows, and a tuple shows all of its own.
 
-/// Names as bytes.
+/// A body that comes, and the frames that it owes.
+struct Step(&'static [u8], Texts);
+
+/// Bodies that come in turn.
+type Steps = &'static [Step];
+
+/// Names or frames as bytes.
 type Texts = &'static [&'static [u8]];
 
 /// What a node has when a handshake begins.
@@ -34,9 +39,11 @@ struct Setting {
     up: Texts,
     dials: Texts,
     allowed: Texts,
-    /// The cookies of peers.
-    cookies: &'static [(&'static [u8], &'static [u8])],
+    cookies: &'static [PeerCookie],
 }
+
+/// The name of a peer, and its cookie.
+struct PeerCookie(&'static [u8], &'static [u8]);
 
 const NOTHING: Setting = Setting {
     up: &[],
@@ -44,6 +51,21 @@ const NOTHING: Setting = Setting {
     allowed: &[],
     cookies: &[],
 };
+
+/// A node with its links.
+#[derive(Drop)]
+struct Side {
+    node: Admission,
+    links: Pending,
+}
+
+impl Side {
+    fn new(alloc: Global, name: &[u8], creation: u32, setting: Setting) -> Result<Side, Fail> {
+        let links = pending(alloc, setting)?;
+        let node = node(alloc, name, creation, setting)?;
+        Ok(Side { node, links })
+    }
+}
 
 /// A node with the cookie `password`.
 fn node(alloc: Global, name: &[u8], creation: u32, setting: Setting) -> Result<Admission, Fail> {
@@ -57,7 +79,7 @@ fn node(alloc: Global, name: &[u8], creation: u32, setting: Setting) -> Result<A
 /// Allows the names of the setting, and sets its cookies.
 fn admit(alloc: Global, node: &mut Admission, setting: Setting) -> Result<(), Fail> {
     node.allow(names(alloc, setting.allowed)?.as_slice())?;
-    for (peer, cookie) in setting.cookies {
+    for PeerCookie(peer, cookie) in setting.cookies {
         let peer = NodeName::parse(alloc, peer)?;
         node.set_cookie_for(peer, Cookie::parse(alloc, cookie)?)?;
     }

@@ -60,11 +60,38 @@ impl Own {
         Ok(moved(&changes))
     }
 
+    /// Who leaves, where process 1 is named so many times.
+    fn leaving(&self, alloc: Global, group: &[u8], times: usize) -> Result<u64, Fail> {
+        let group = Group::parse(alloc, group)?;
+        let named = mentions(alloc, 1, times)?;
+        Ok(pids(&self.table.leaving(&group, &named.list)?))
+    }
+
+    fn join_some(
+        &mut self,
+        alloc: Global,
+        group: &[u8],
+        number: u64,
+        times: usize,
+    ) -> Result<usize, Fail> {
+        let group = Group::parse(alloc, group)?;
+        let pids = mentions(alloc, number, times)?;
+        Ok(self.join(&group, &pids)?)
+    }
+
     fn fill(&mut self, alloc: Global) -> Result<(), Fail> {
-        self.join(&Group::parse(alloc, b"2")?, &mentions(alloc, 2, 1)?)?;
-        self.join(&Group::parse(alloc, b"2")?, &mentions(alloc, 1, 1)?)?;
-        self.join(&Group::parse(alloc, b"1")?, &mentions(alloc, 1, 2)?)?;
+        self.join_some(alloc, b"2", 2, 1)?;
+        self.join_some(alloc, b"2", 1, 1)?;
+        self.join_some(alloc, b"1", 1, 2)?;
         Ok(())
+    }
+
+    fn move_all(&mut self, leaves: bool, group: &Group, pids: &Crowd) -> Result<usize, TableFault> {
+        if leaves {
+            self.leave(group, pids)
+        } else {
+            self.join(group, pids)
+        }
     }
 
     /// Joins, or leaves, and tells how many did, or why none did, and how many rows there are then.
@@ -74,17 +101,21 @@ impl Own {
         leaves: bool,
         group: &[u8],
         times: usize,
-    ) -> Result<(Result<usize, TableFault>, usize), Fail> {
+    ) -> Result<Moved, Fail> {
         let group = Group::parse(alloc, group)?;
         let pids = mentions(alloc, 1, times)?;
-        let moved = if leaves {
-            self.leave(&group, &pids)
-        } else {
-            self.join(&group, &pids)
-        };
+        let moved = self.move_all(leaves, &group, &pids);
         Ok((moved, self.table.local_rows()?.len()))
     }
+
+    /// The own rows, as digits.
+    fn rows(&self) -> Result<u64, Fail> {
+        Ok(rows(&self.table.local_rows()?))
+    }
 }
+
+/// How many processes a step moved, or why none, and how many rows there are then.
+type Moved = (Result<usize, TableFault>, usize);
 
 /// How many left or joined.
 fn moved(changes: &[GroupChange]) -> usize {
@@ -96,48 +127,62 @@ fn moved(changes: &[GroupChange]) -> usize {
     moved
 }
 
+// A test with its assertions holds no table, and what holds one hands it on at once: a check follows the end of a value along
+// every way out of the function that holds it.
+
 #[test]
 fn counts_each_mention(rt: HostRuntime) -> Result<(), Fail> {
-    let mut own = Own::new(rt.alloc())?;
-    for (row, (leaves, times, moved, rows)) in [
-        (false, 2, Ok(2), 2),
-        (true, 3, Ok(2), 0),
-        (true, 1, Err(TableFault::NotJoined), 0),
-        (true, 0, Err(TableFault::NotJoined), 0),
-        (false, 0, Ok(0), 0),
-    ]
-    .into_iter()
-    .enumerate()
-    {
-        assert_eq!(rt;
-            own.step(rt.alloc(), leaves, b"g", times)?,
-            (moved, rows),
-            "at {row}"
-        );
-    }
+    let moved = mentions_moved(rt.alloc())?;
+    let nobody = (Err(TableFault::NotJoined), 0);
+    assert_eq!(rt; moved, [(Ok(2), 2), (Ok(2), 0), nobody, nobody, (Ok(0), 0)]);
     Ok(())
+}
+
+fn mentions_moved(alloc: Global) -> Result<[Moved; 5], Fail> {
+    move_mentions(alloc, &mut Own::new(alloc)?)
+}
+
+/// Two mentions join, and three, one and none leave; at last none joins.
+fn move_mentions(alloc: Global, own: &mut Own) -> Result<[Moved; 5], Fail> {
+    Ok([
+        own.step(alloc, false, b"g", 2)?,
+        own.step(alloc, true, b"g", 3)?,
+        own.step(alloc, true, b"g", 1)?,
+        own.step(alloc, true, b"g", 0)?,
+        own.step(alloc, false, b"g", 0)?,
+    ])
 }
 
 #[test]
 fn counts_own_rows_up_to_4096(rt: HostRuntime) -> Result<(), Fail> {
-    let mut own = Own::new(rt.alloc())?;
-    for (row, (group, times, moved, rows)) in [
-        (b"g", 4095, Ok(4095), 4095),
-        (b"g", 2, Err(TableFault::RowsFull), 4095),
-        (b"h", 1, Ok(1), 4096),
-        (b"g", 1, Err(TableFault::RowsFull), 4096),
-        (b"g", 0, Ok(0), 4096),
-    ]
-    .into_iter()
-    .enumerate()
-    {
-        assert_eq!(rt;
-            own.step(rt.alloc(), false, group, times)?,
-            (moved, rows),
-            "at {row}"
-        );
-    }
+    let moved = moved_up_to_4096(rt.alloc())?;
+    let full = Err(TableFault::RowsFull);
+    assert_eq!(rt;
+        moved,
+        [
+            (Ok(4095), 4095),
+            (full, 4095),
+            (Ok(1), 4096),
+            (full, 4096),
+            (Ok(0), 4096)
+        ]
+    );
     Ok(())
+}
+
+fn moved_up_to_4096(alloc: Global) -> Result<[Moved; 5], Fail> {
+    move_up_to_4096(alloc, &mut Own::new(alloc)?)
+}
+
+/// 4,095 mentions join, then two more, one in another group, one more and none.
+fn move_up_to_4096(alloc: Global, own: &mut Own) -> Result<[Moved; 5], Fail> {
+    Ok([
+        own.step(alloc, false, b"g", 4095)?,
+        own.step(alloc, false, b"g", 2)?,
+        own.step(alloc, false, b"h", 1)?,
+        own.step(alloc, false, b"g", 1)?,
+        own.step(alloc, false, b"g", 0)?,
+    ])
 }
 
 /// A table with the processes 2 and 1 in group 2, and process 1 twice in group 1.
@@ -201,14 +246,22 @@ fn left(changes: &[GroupChange]) -> u64 {
     digits
 }
 
-// A test holds its table, and another function uses it: a check follows the end of a value along every way out of the function
-// that holds it.
-
 #[test]
 fn lists_members(rt: HostRuntime) -> Result<(), Fail> {
     let listed = members_of(rt.alloc(), &filled(rt.alloc())?.table, b"2")?;
     assert_eq!(rt; listed, (12, 12));
     Ok(())
+}
+
+#[test]
+fn tells_who_would_leave(rt: HostRuntime) -> Result<(), Fail> {
+    let gone = leaving_1(rt.alloc())?;
+    assert_eq!(rt; gone, 11);
+    Ok(())
+}
+
+fn leaving_1(alloc: Global) -> Result<u64, Fail> {
+    filled(alloc)?.leaving(alloc, b"1", 3)
 }
 
 /// The members of a group, and those of the own node.
@@ -222,9 +275,13 @@ fn members_of(alloc: Global, table: &ScopeTable, group: &[u8]) -> Result<(u64, u
 
 #[test]
 fn lists_groups_and_rows(rt: HostRuntime) -> Result<(), Fail> {
-    let listed = groups_and_rows(&filled(rt.alloc())?.table)?;
+    let listed = filled_groups_and_rows(rt.alloc())?;
     assert_eq!(rt; listed, (12, 12, 11_11_21_22));
     Ok(())
+}
+
+fn filled_groups_and_rows(alloc: Global) -> Result<(u64, u64, u64), Fail> {
+    groups_and_rows(&filled(alloc)?.table)
 }
 
 /// The groups, those with an own process, and the own rows.
@@ -238,42 +295,70 @@ fn groups_and_rows(table: &ScopeTable) -> Result<(u64, u64, u64), Fail> {
 
 #[test]
 fn tells_changes_beforehand(rt: HostRuntime) -> Result<(), Fail> {
-    let told = exit_and_clear(rt.alloc(), &mut filled(rt.alloc())?.table)?;
+    let told = told_of_the_end(rt.alloc())?;
     assert_eq!(rt; told, (111_21, 22, 0));
     Ok(())
 }
 
+fn told_of_the_end(alloc: Global) -> Result<(u64, u64, u64), Fail> {
+    exit_and_clear(alloc, &mut filled(alloc)?.table)
+}
+
 /// What the exit of process 1 changes, what the end of all changes then, and the rows that are left.
 fn exit_and_clear(alloc: Global, table: &mut ScopeTable) -> Result<(u64, u64, u64), Fail> {
-    let pid = process(alloc, 1)?;
-    let exited = left(&table.exit_change(&pid)?);
-    table.exit(&pid);
+    Ok((
+        exit(table, &process(alloc, 1)?)?,
+        clear(table)?,
+        rows(&table.local_rows()?),
+    ))
+}
+
+fn exit(table: &mut ScopeTable, pid: &Pid) -> Result<u64, Fail> {
+    let exited = left(&table.exit_change(pid)?);
+    table.exit(pid);
+    Ok(exited)
+}
+
+fn clear(table: &mut ScopeTable) -> Result<u64, Fail> {
     let cleared = left(&table.clear_change()?);
     table.clear();
-    Ok((exited, cleared, rows(&table.local_rows()?)))
+    Ok(cleared)
 }
 
 #[test]
 fn keeps_rows_where_a_growth_is_refused(rt: HostRuntime) -> Result<(), Fail> {
-    let kept = insist_on_two(rt.alloc(), &mut filled(rt.alloc())?)?;
-    assert_eq!(rt; kept, (11_11_21_22, 11_11_21_21_21_22, 11_11_21_22));
+    let kept = insist_on_two(rt.alloc())?;
+    assert_eq!(rt; kept, [11_11_21_22, 11_11_21_21_21_22, 11_11_21_22]);
     Ok(())
 }
 
-/// The rows before two mentions join, before they leave and then. Where one growth is refused, the rows are read once more and
-/// the call is made again: `rt try --test --fail-alloc N`.
-fn insist_on_two(alloc: Global, own: &mut Own) -> Result<(u64, u64, u64), Fail> {
+/// The rows before two mentions join, before they leave and then.
+fn insist_on_two(alloc: Global) -> Result<[u64; 3], Fail> {
+    insist_on_mentions(alloc, &mut filled(alloc)?)
+}
+
+fn insist_on_mentions(alloc: Global, own: &mut Own) -> Result<[u64; 3], Fail> {
     let group = Group::parse(alloc, b"2")?;
     let twice = mentions(alloc, 1, 2)?;
-    let mut before_join = rows(&own.table.local_rows()?);
-    if own.join(&group, &twice).is_err() {
-        before_join = rows(&own.table.local_rows()?);
-        own.join(&group, &twice)?;
+    insist_on_both(own, &group, &twice)
+}
+
+fn insist_on_both(own: &mut Own, group: &Group, pids: &Crowd) -> Result<[u64; 3], Fail> {
+    Ok([
+        insist(own, false, group, pids)?,
+        insist(own, true, group, pids)?,
+        own.rows()?,
+    ])
+}
+
+/// The rows before the processes join or leave. Where one growth is refused, the rows are read once more and the call is made
+/// again: `rt try --test --fail-alloc N`.
+fn insist(own: &mut Own, leaves: bool, group: &Group, pids: &Crowd) -> Result<u64, Fail> {
+    let before = own.rows()?;
+    if own.move_all(leaves, group, pids).is_ok() {
+        return Ok(before);
     }
-    let mut before_leave = rows(&own.table.local_rows()?);
-    if own.leave(&group, &twice).is_err() {
-        before_leave = rows(&own.table.local_rows()?);
-        own.leave(&group, &twice)?;
-    }
-    Ok((before_join, before_leave, rows(&own.table.local_rows()?)))
+    let kept = own.rows()?;
+    own.move_all(leaves, group, pids)?;
+    Ok(kept)
 }

@@ -66,9 +66,22 @@ fn reads_and_writes(
     body: &[u8],
     message: Message,
 ) -> Result<(), Fail> {
-    assert_eq!(rt; written(alloc, &message)?.as_slice(), body);
-    assert_eq!(rt; decode(alloc, body), Ok(message));
+    let is_same = is_read_and_written(alloc, body, &message)?;
+    assert!(rt; is_same, "{body:?}");
     Ok(())
+}
+
+/// Whether the message is written as this body, and read again.
+fn is_read_and_written(alloc: Global, body: &[u8], message: &Message) -> Result<bool, Fail> {
+    let written = written(alloc, message)?;
+    Ok(written.as_slice() == body && is_read(&decode(alloc, body), message))
+}
+
+fn is_read(decoded: &Result<Message, MessageFault>, message: &Message) -> bool {
+    match decoded {
+        Ok(read) => *read == *message,
+        Err(_) => false,
+    }
 }
 
 fn syncs(rt: &impl Abort, alloc: Global) -> Result<(), Fail> {
@@ -170,7 +183,14 @@ fn reads_what_it_writes(rt: HostRuntime) -> Result<(), Fail> {
 }
 
 fn refuses(rt: &impl Abort, alloc: Global, body: &[u8], why: &str) {
-    assert_eq!(rt; decode(alloc, body), Err(MessageFault::BadFrame), "{why}");
+    assert!(rt; is_bad(&decode(alloc, body)), "{why}");
+}
+
+fn is_bad(decoded: &Result<Message, MessageFault>) -> bool {
+    match decoded {
+        Err(MessageFault::BadFrame) => true,
+        _ => false,
+    }
 }
 
 fn refuses_rows(rt: &impl Abort, alloc: Global) {

@@ -44,27 +44,21 @@ pub fn taken(
     link: Link,
     alloc: Global,
     body: &[u8],
-    node: &Admission,
-    links: &Pending,
+    side: &Side,
 ) -> Result<(Link, Bodies), OutOfMemory> {
-    let back = match tried(link, alloc, body, node, links) {
+    let back = match tried(link, alloc, body, side) {
         Ok(taken) => return Ok(taken),
         Err(back) => back,
     };
-    match tried(back, alloc, body, node, links) {
+    match tried(back, alloc, body, side) {
         Ok(taken) => Ok(taken),
         Err(_back) => Err(OutOfMemory),
     }
 }
 
 /// The link after a frame, or the link as it was.
-fn tried(
-    link: Link,
-    alloc: Global,
-    body: &[u8],
-    node: &Admission,
-    links: &Pending,
-) -> Result<(Link, Bodies), Link> {
+fn tried(link: Link, alloc: Global, body: &[u8], side: &Side) -> Result<(Link, Bodies), Link> {
+    let Side { node, links } = side;
     match link {
         Link::AwaitName(state) => match state.take(alloc, body, node, links) {
             Ok(named) => Ok(link_named(named)),
@@ -127,13 +121,12 @@ pub enum Outcome {
 pub fn played(
     mut link: Link,
     alloc: Global,
-    node: &Admission,
-    links: &Pending,
+    side: &Side,
     steps: Steps,
     peer: &[u8],
 ) -> Result<Outcome, Fail> {
-    for (body, owed) in steps {
-        let (next, frames) = taken(link, alloc, body, node, links)?;
+    for Step(body, owed) in steps {
+        let (next, frames) = taken(link, alloc, body, side)?;
         if !are(&frames, owed) {
             return Ok(Outcome::OtherFrames);
         }

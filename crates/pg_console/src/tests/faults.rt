@@ -1,6 +1,6 @@
 //! A reader and a writer that fail in mid-stream.
-use super::opening;
-use crate::script::{RunFault, run};
+use super::{NINE, ended};
+use crate::script::RunFault;
 use std::io::{self, BufReader, Error, ErrorKind, Read, Write};
 use std::test::Fail;
 
@@ -62,38 +62,40 @@ fn answers(rt: &impl AllocGlobal, count: usize) -> Result<Vec<u8>, Fail> {
     Ok(text)
 }
 
+/// What is written where so many bytes can be read, if the reader's failure ends it.
+fn written_of(rt: &impl AllocGlobal, most: usize) -> Result<Option<Vec<u8>>, Fail> {
+    let failing = Failing { given: 0, most };
+    let mut reader = BufReader::new(rt.alloc(), failing)?;
+    let mut writer: Vec<u8> = Vec::new(rt.alloc());
+    let ended = ended(rt, NINE, &mut reader, &mut writer)?;
+    Ok((ended == Err(RunFault::Read)).then_some(writer))
+}
+
 #[test]
 fn answers_each_line_before_the_next_is_read(rt: HostRuntime) -> Result<(), Fail> {
     for most in 0..SCRIPT.len() + 1 {
-        let failing = Failing { given: 0, most };
-        let mut reader = BufReader::new(rt.alloc(), failing)?;
-        let mut writer: Vec<u8> = Vec::new(rt.alloc());
-        let ended = run(&rt, opening(&rt, 9)?, &mut reader, &mut writer);
         let whole = SCRIPT[..most].iter().filter(|byte| **byte == b'\n').count();
         let answered = if whole < 3 { whole } else { whole - 1 };
-        assert_eq!(rt; ended, Err(RunFault::Read), "{most}");
-        assert_eq!(rt;
-            writer.as_slice(),
-            answers(&rt, answered)?.as_slice(),
-            "{most}"
-        );
+        let written = written_of(&rt, most)?;
+        assert!(rt; written == Some(answers(&rt, answered)?), "{most}");
     }
     Ok(())
+}
+
+/// What is written where so many writes are taken, if the closed output ends it.
+fn written_in(rt: &impl AllocGlobal, most: usize) -> Result<Option<Vec<u8>>, Fail> {
+    let taken = Vec::new(rt.alloc());
+    let mut writer = Closing { taken, most };
+    let mut reader = SCRIPT;
+    let ended = ended(rt, NINE, &mut reader, &mut writer)?;
+    Ok((ended == Err(RunFault::Write)).then_some(writer.taken))
 }
 
 #[test]
 fn ends_at_a_closed_output(rt: HostRuntime) -> Result<(), Fail> {
     for most in 0..ANSWERS.len() {
-        let taken = Vec::new(rt.alloc());
-        let mut reader = SCRIPT;
-        let mut writer = Closing { taken, most };
-        let ended = run(&rt, opening(&rt, 9)?, &mut reader, &mut writer);
-        assert_eq!(rt; ended, Err(RunFault::Write), "{most}");
-        assert_eq!(rt;
-            writer.taken.as_slice(),
-            answers(&rt, most)?.as_slice(),
-            "{most}"
-        );
+        let written = written_in(&rt, most)?;
+        assert!(rt; written == Some(answers(&rt, most)?), "{most}");
     }
     Ok(())
 }

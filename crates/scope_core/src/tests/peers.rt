@@ -1,4 +1,4 @@
-ghost use Rattle.std.specs.Prelude.{◌≡◌, All};
+ghost use Rattle.std.specs.Prelude.{◌≡◌, All, IfOk};
 
 use super::*;
 
@@ -21,18 +21,30 @@ enum Step {
 /// A row of the process with this number in each of the groups.
 fn listed(alloc: Global, peer: &[u8], number: u64, groups: &[u8]) -> Result<PeerRows, Fail> {
     let peer = NodeName::parse(alloc, peer)?;
+    let rows = rows_of(alloc, &peer, number, groups)?;
+    Ok(PeerRows { peer, rows })
+}
+
+fn rows_of(alloc: Global, peer: &NodeName, number: u64, groups: &[u8]) -> Result<Vec<Row>, Fail>
+    ensures { IfOk result (λ rows. All (λ row. row.pid.node ≡ peer.now) rows.items) }
+{
     let mut rows = Vec::new(alloc);
     for group in groups {
-        let node = peer.try_clone(alloc)?;
-        let pid = Pid {
-            node,
-            creation: 4,
-            number,
-        };
-        let group = Group::parse(alloc, &[*group])?;
-        rows.push(Row { group, pid })?;
+        rows.push(row_of(alloc, peer, number, *group)?)?;
     }
-    Ok(PeerRows { peer, rows })
+    Ok(rows)
+}
+
+fn row_of(alloc: Global, peer: &NodeName, number: u64, group: u8) -> Result<Row, Fail>
+    ensures { IfOk result (λ row. row.pid.node ≡ peer.now) }
+{
+    let group = Group::parse(alloc, &[group])?;
+    let pid = Pid {
+        node: peer.try_clone(alloc)?,
+        creation: 4,
+        number,
+    };
+    Ok(Row { group, pid })
 }
 
 /// Tells how many joined and left, or why none did.
@@ -59,28 +71,35 @@ fn all(alloc: Global, table: &ScopeTable) -> Result<u64, Fail> {
 
 #[test]
 fn counts_a_peers_rows_up_to_4096(rt: HostRuntime) -> Result<(), Fail> {
-    let (moved, members) = joined_up_to_4096(rt.alloc(), &mut Own::new(rt.alloc())?.table)?;
+    let (moved, members) = joined_up_to_4096(rt.alloc())?;
     let full = Err(TableFault::RowsFull);
     assert_eq!(rt; moved, [Ok(4095), full, Ok(1), full, Ok(0)]);
     assert_eq!(rt; members, 4095);
     Ok(())
 }
 
+fn joined_up_to_4096(alloc: Global) -> Result<([Result<usize, TableFault>; 5], usize), Fail> {
+    join_up_to_4096(alloc, &mut Own::new(alloc)?.table)
+}
+
 /// How many of 4,095 rows join, of two more, of one, of one more and of none; and the members of the first group then.
-fn joined_up_to_4096(
+fn join_up_to_4096(
     alloc: Global,
     table: &mut ScopeTable,
 ) -> Result<([Result<usize, TableFault>; 5], usize), Fail> {
-    let most: &[u8] = &[b'1'; 4095];
     let moved = [
-        join_of(alloc, table, most)?,
+        join_of(alloc, table, &[b'1'; 4095])?,
         join_of(alloc, table, b"11")?,
         join_of(alloc, table, b"2")?,
         join_of(alloc, table, b"1")?,
         join_of(alloc, table, b"")?,
     ];
+    Ok((moved, count_in_1(alloc, table)?))
+}
+
+fn count_in_1(alloc: Global, table: &ScopeTable) -> Result<usize, Fail> {
     let group = Group::parse(alloc, b"1")?;
-    Ok((moved, table.members(&group)?.len()))
+    Ok(table.members(&group)?.len())
 }
 
 fn join_of(
@@ -94,14 +113,23 @@ fn join_of(
 
 #[test]
 fn replaces_at_most_4096_rows(rt: HostRuntime) -> Result<(), Fail> {
-    let mut table = Own::new(rt.alloc())?.table;
-    let many = listed(rt.alloc(), b"p@h", 1, &[b'1'; 4097])?;
-    assert_eq!(rt;
-        apply(&mut table, Step::Sync, &many),
-        Err(TableFault::RowsFull)
-    );
-    assert_eq!(rt; table.groups()?.len(), 0);
+    let (moved, groups) = replaced_by_4097(rt.alloc())?;
+    assert_eq!(rt; moved, Err(TableFault::RowsFull));
+    assert_eq!(rt; groups, 0);
     Ok(())
+}
+
+fn replaced_by_4097(alloc: Global) -> Result<(Result<usize, TableFault>, usize), Fail> {
+    replace_by_4097(alloc, &mut Own::new(alloc)?.table)
+}
+
+fn replace_by_4097(
+    alloc: Global,
+    table: &mut ScopeTable,
+) -> Result<(Result<usize, TableFault>, usize), Fail> {
+    let many = listed(alloc, b"p@h", 1, &[b'1'; 4097])?;
+    let moved = apply(table, Step::Sync, &many);
+    Ok((moved, table.groups()?.len()))
 }
 
 /// Steps with groups of process 5 of a peer, how many rows each moves (0: none, or it is refused), and each group with its
@@ -161,19 +189,26 @@ fn beside_another(alloc: Global) -> Result<ScopeTable, Fail> {
 
 #[test]
 fn moves_rows_of_the_peer_alone(rt: HostRuntime) -> Result<(), Fail> {
-    let mut table = beside_another(rt.alloc())?;
-    for (row, [step, groups, moved, state]) in STEPS.iter().enumerate() {
-        assert_eq!(rt;
-            play(rt.alloc(), &mut table, step, groups)?,
-            (number(moved), number(state)),
-            "at {row}"
-        );
-    }
+    let wrong = first_wrong_step(rt.alloc())?;
+    assert_eq!(rt; wrong, None);
     Ok(())
 }
 
+fn first_wrong_step(alloc: Global) -> Result<Option<usize>, Fail> {
+    wrong_step_of(alloc, &mut beside_another(alloc)?)
+}
+
+fn wrong_step_of(alloc: Global, table: &mut ScopeTable) -> Result<Option<usize>, Fail> {
+    for (row, [step, groups, moved, state]) in STEPS.iter().enumerate() {
+        if play(alloc, table, step, groups)? != (number(moved), number(state)) {
+            return Ok(Some(row));
+        }
+    }
+    Ok(None)
+}
+
 /// Does the step, and where a growth is refused, does it again.
-fn insist(table: &mut ScopeTable, step: Step, rows: &PeerRows) -> Result<usize, TableFault> {
+fn insist_on(table: &mut ScopeTable, step: Step, rows: &PeerRows) -> Result<usize, TableFault> {
     match apply(table, step, rows) {
         Err(TableFault::OutOfMemory) => apply(table, step, rows),
         moved => moved,
@@ -183,32 +218,55 @@ fn insist(table: &mut ScopeTable, step: Step, rows: &PeerRows) -> Result<usize, 
 /// A table with as many rows of a peer as are merged, on both sides of the own ones.
 fn merged(alloc: Global) -> Result<ScopeTable, Fail> {
     let mut table = filled(alloc)?.table;
-    let rows = listed(alloc, b"p@h", 5, b"0123456789abcdef")?;
-    for step in [Step::Join, Step::Join, Step::Sync, Step::Join, Step::Leave] {
-        insist(&mut table, step, &rows)?;
-    }
+    merge(alloc, &mut table)?;
     Ok(table)
 }
 
-/// Groups of that table, and the processes in each.
-const MERGED: [(&[u8], u64); 4] = [(b"0", 5), (b"1", 115), (b"2", 125), (b"f", 5)];
+fn merge(alloc: Global, table: &mut ScopeTable) -> Result<(), Fail> {
+    let rows = listed(alloc, b"p@h", 5, b"0123456789abcdef")?;
+    for step in [Step::Join, Step::Join, Step::Sync, Step::Join, Step::Leave] {
+        insist_on(table, step, &rows)?;
+    }
+    Ok(())
+}
 
 #[test]
 fn merges_many_rows(rt: HostRuntime) -> Result<(), Fail> {
-    let table = merged(rt.alloc())?;
-    assert_eq!(rt; table.groups()?.len(), 16);
-    for (name, numbers) in &MERGED {
-        let group = Group::parse(rt.alloc(), name)?;
-        assert_eq!(rt; pids(&table.members(&group)?), *numbers);
-    }
+    let (groups, members) = listed_after_merges(rt.alloc())?;
+    assert_eq!(rt; groups, 16);
+    assert_eq!(rt; members, [5, 115, 125, 5]);
     Ok(())
+}
+
+fn listed_after_merges(alloc: Global) -> Result<(usize, [u64; 4]), Fail> {
+    listed_in(alloc, &merged(alloc)?)
+}
+
+/// How many groups the table has, and the members of four of them.
+fn listed_in(alloc: Global, table: &ScopeTable) -> Result<(usize, [u64; 4]), Fail> {
+    let members = [
+        members_in(alloc, table, b"0")?,
+        members_in(alloc, table, b"1")?,
+        members_in(alloc, table, b"2")?,
+        members_in(alloc, table, b"f")?,
+    ];
+    Ok((table.groups()?.len(), members))
+}
+
+fn members_in(alloc: Global, table: &ScopeTable, group: &[u8]) -> Result<u64, Fail> {
+    let group = Group::parse(alloc, group)?;
+    Ok(pids(&table.members(&group)?))
 }
 
 #[test]
 fn tells_beforehand_what_drop_peer_changes(rt: HostRuntime) -> Result<(), Fail> {
-    let told = sync_and_drop(rt.alloc(), &mut filled(rt.alloc())?.table)?;
+    let told = told_of_a_drop(rt.alloc())?;
     assert_eq!(rt; told, (1_55_2_5_3_5, 1_11_2_12));
     Ok(())
+}
+
+fn told_of_a_drop(alloc: Global) -> Result<(u64, u64), Fail> {
+    sync_and_drop(alloc, &mut filled(alloc)?.table)
 }
 
 /// What the end of a peer with four rows changes, and what is listed then.
@@ -222,13 +280,17 @@ fn sync_and_drop(alloc: Global, table: &mut ScopeTable) -> Result<(u64, u64), Fa
 
 #[test]
 fn keeps_a_peers_rows_where_a_growth_is_refused(rt: HostRuntime) -> Result<(), Fail> {
-    let kept = insist_on_three(rt.alloc(), &mut Own::new(rt.alloc())?.table)?;
+    let kept = insist_on_three(rt.alloc())?;
     assert_eq!(rt; kept, [true; 3]);
     Ok(())
 }
 
+fn insist_on_three(alloc: Global) -> Result<[bool; 3], Fail> {
+    keep_three(alloc, &mut Own::new(alloc)?.table)
+}
+
 /// Whether a Sync, a Join and a Leave leave what they should, each made again where it is refused.
-fn insist_on_three(alloc: Global, table: &mut ScopeTable) -> Result<[bool; 3], Fail> {
+fn keep_three(alloc: Global, table: &mut ScopeTable) -> Result<[bool; 3], Fail> {
     Ok([
         keeps(alloc, table, Step::Sync, b"211")? == 1_55_2_5,
         keeps(alloc, table, Step::Join, b"231")? == 1_555_2_55_3_5,
