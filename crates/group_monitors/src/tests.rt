@@ -126,16 +126,31 @@ fn told(
 fn three(alloc: Global) -> Result<Monitors, Fail>
     ensures { IfOk result (λ monitors. monitors ≡ (1, record { seat = 0; scope = codes "pg"; group = Some (codes "g"); place = 1 }) ∷ (2, record { seat = 1; scope = codes "pg"; group = Some (codes "g"); place = 2 }) ∷ (3, record { seat = 0; scope = codes "pg"; group = None; place = 3 }) ∷ []) }
 {
-    let first = Scope::parse(alloc, b"pg")?;
-    let second = first.try_clone(alloc)?;
-    let third = first.try_clone(alloc)?;
-    let group = Group::parse(alloc, b"g")?;
-    let same = group.try_clone(alloc)?;
     let mut monitors = Monitors::new(alloc);
-    monitors.add_group(0, 1, first, group)?;
-    monitors.add_group(1, 2, second, same)?;
-    monitors.add_scope(0, 3, third)?;
+    add_three(alloc, &mut monitors)?;
     Ok(monitors)
+}
+
+fn add_three(alloc: Global, monitors: &mut Monitors) -> Result<(), Fail>
+    requires { monitors.old ≡ [] }
+    ensures { OnOk result (monitors.new ≡ (1, record { seat = 0; scope = codes "pg"; group = Some (codes "g"); place = 1 }) ∷ (2, record { seat = 1; scope = codes "pg"; group = Some (codes "g"); place = 2 }) ∷ (3, record { seat = 0; scope = codes "pg"; group = None; place = 3 }) ∷ []) }
+{
+    monitors.add_group(0, 1, scope(alloc)?, group(alloc)?)?;
+    monitors.add_group(1, 2, scope(alloc)?, group(alloc)?)?;
+    monitors.add_scope(0, 3, scope(alloc)?)?;
+    Ok(())
+}
+
+fn scope(alloc: Global) -> Result<Scope, Fail>
+    ensures { IfOk result (λ scope. scope ≡ codes "pg") }
+{
+    Ok(Scope::parse(alloc, b"pg")?)
+}
+
+fn group(alloc: Global) -> Result<Group, Fail>
+    ensures { IfOk result (λ group. group ≡ codes "g") }
+{
+    Ok(Group::parse(alloc, b"g")?)
 }
 
 /// What two monitors are told, each by its seat and number.
