@@ -10,19 +10,14 @@ use policy_audit::{Audit, Change, Changes, Event, Reply, Rule, Verdict};
 use std::alloc::Global;
 
 /// Makes room for an entry, and a copy of the reply for it.
-pub fn make_ready(
-    alloc: Global,
-    audit: &mut Audit,
-    reply: Reply,
-) -> Result<(Reply, Reply), CoreFault>
-    ensures copies { IfOk result (λ (given, kept). (given ≡ reply) × (kept ≡ reply)) }
+pub fn make_ready(alloc: Global, audit: &mut Audit, reply: &Reply) -> Result<Reply, CoreFault>
+    ensures copy { IfOk result (λ kept. kept ≡ reply.now) }
     ensures room { OnOk result (audit.new ≡ record { limit = audit.old.limit; entries = audit.old.entries; has_room = true }) }
     ensures memory { IfErr result (λ fault. fault ≡ OutOfMemory) }
     ensures same { OnErr result ((audit.new.entries ≡ audit.old.entries) × (audit.new.limit ≡ audit.old.limit)) }
 {
     audit.make_room()?;
-    let kept = reply.try_clone(alloc)?;
-    Ok((reply, kept))
+    Ok(reply.try_clone(alloc)?)
 }
 
 /// Makes room for an entry, and for the change of one scope that it will have.

@@ -50,12 +50,15 @@ impl NodeCore {
             Err(MessageFault::OutOfMemory) => return Err(CoreFault::OutOfMemory),
         };
         if !self.links[place].is_shown() {
+            drop(message);
             return self.refuse(seat, Event::Frame(number, body), Rule::HiddenLink);
         }
         let Some(at) = place_of(&self.scopes, scope_in(&message)) else {
+            drop(message);
             return self.refuse(seat, Event::Frame(number, body), Rule::NoScope);
         };
         if let Some(rule) = refusal(&self.links[place], &self.scopes[at], &message) {
+            drop(message);
             return self.refuse(seat, Event::Frame(number, body), rule);
         }
         match message {

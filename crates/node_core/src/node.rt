@@ -141,6 +141,8 @@ impl NodeCore {
         ensures { IsStepped self.old seat event self.new result }
     {
         if self.is_full() {
+            // By name, here and in the handlers, so that a check follows the end of an event once, for its type.
+            drop(event);
             return Err(CoreFault::Refused(Rule::EntriesFull));
         }
         match event {

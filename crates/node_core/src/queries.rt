@@ -23,7 +23,10 @@ impl NodeCore {
         requires calm { refuses_calmly self.old event rule ≡ true }
         ensures { Steps self.old seat event self.new result }
     {
-        self.audit.make_room()?;
+        if let Err(fault) = self.audit.make_room() {
+            drop(event);
+            return Err(CoreFault::from(fault));
+        }
         reject(self.alloc, &mut self.audit, seat, event, rule);
         Err(CoreFault::Refused(rule))
     }
@@ -37,9 +40,17 @@ impl NodeCore {
         requires query { is_query event ≡ true }
         ensures { Steps self.old seat event self.new result }
     {
-        let (reply, kept) = make_ready(self.alloc, &mut self.audit, reply)?;
-        accept(&mut self.audit, seat, event, kept, Vec::new(self.alloc));
-        Ok(reply)
+        match make_ready(self.alloc, &mut self.audit, &reply) {
+            Ok(kept) => {
+                accept(&mut self.audit, seat, event, kept, Vec::new(self.alloc));
+                Ok(reply)
+            }
+            Err(fault) => {
+                drop(event);
+                drop(reply);
+                Err(fault)
+            }
+        }
     }
 
     /// The scope, if it runs.

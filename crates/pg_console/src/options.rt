@@ -29,41 +29,63 @@ impl OptionsFault {
 
 /// The commands of the program, and the arguments of each.
 pub fn command<'a>(alloc: Global) -> Result<Command<'a>, Error> {
-    let name = Arg::new(alloc, "NAME")
+    let run = run_command(alloc)?;
+    Ok(
+        Command::new(alloc, "pg_console")
+            .version("0.1.0")
+            .about("Plays scripts on a node of process groups")
+            .subcommand_required(true)
+            .subcommand(run)?,
+    )
+}
+
+fn run_command<'a>(alloc: Global) -> Result<Command<'a>, Error> {
+    Ok(
+        Command::new(alloc, "run")
+            .about("Plays a script from standard input on one node")
+            .arg(name(alloc))?
+            .arg(cookie(alloc))?
+            .arg(creation(alloc))?
+            .arg(entries(alloc))?
+            .arg(hidden(alloc))?,
+    )
+}
+
+fn name<'a>(alloc: Global) -> Arg<'a> {
+    Arg::new(alloc, "NAME")
         .help("The node's own name, as b@h")
-        .required(true);
-    let cookie = Arg::new(alloc, "COOKIE")
+        .required(true)
+}
+
+fn cookie<'a>(alloc: Global) -> Arg<'a> {
+    Arg::new(alloc, "COOKIE")
         .help("The secret that the node shares with its peers")
-        .required(true);
-    let creation = Arg::new(alloc, "creation")
+        .required(true)
+}
+
+fn creation<'a>(alloc: Global) -> Arg<'a> {
+    Arg::new(alloc, "creation")
         .long("creation")
         .value_name("N")
         .help("The node's creation")
         .value_parser(value_parser!(u32))
-        .default_value("1");
-    let entries = Arg::new(alloc, "entries")
+        .default_value("1")
+}
+
+fn entries<'a>(alloc: Global) -> Arg<'a> {
+    Arg::new(alloc, "entries")
         .long("entries")
         .value_name("N")
         .help("The most entries of the node's audit, at least 1")
         .value_parser(value_parser!(u32).range(1..))
-        .default_value("1000000");
-    let hidden = Arg::new(alloc, "hidden")
+        .default_value("1000000")
+}
+
+fn hidden<'a>(alloc: Global) -> Arg<'a> {
+    Arg::new(alloc, "hidden")
         .long("hidden")
         .help("Makes each link a hidden one")
-        .action(ArgAction::SetTrue);
-    let run = Command::new(alloc, "run")
-        .about("Plays a script from standard input on one node")
-        .arg(name)?
-        .arg(cookie)?
-        .arg(creation)?
-        .arg(entries)?
-        .arg(hidden)?;
-    let program = Command::new(alloc, "pg_console")
-        .version("0.1.0")
-        .about("Plays scripts on a node of process groups")
-        .subcommand_required(true)
-        .subcommand(run)?;
-    Ok(program)
+        .action(ArgAction::SetTrue)
 }
 
 /// What `run` opens its node with.

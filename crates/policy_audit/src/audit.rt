@@ -90,15 +90,19 @@ impl Audit {
         ensures refused { IfErr result (λ fault. IsAuditFault fault self.old) }
         ensures same { OnErr result (self.new ≡ self.old) }
     {
-        self.make_room()?;
-        let number = self.entries.len() as u32 + 1;
-        self.entries.push_reserved(Entry {
-            number,
+        let entry = Entry {
+            number: (self.entries.len() as u32).wrapping_add(1),
             seat,
             event,
             verdict,
             change,
-        });
+        };
+        if let Err(fault) = self.make_room() {
+            // By name, so that a check follows the end of an entry once, and not here, variant by variant.
+            drop(entry);
+            return Err(fault);
+        }
+        self.entries.push_reserved(entry);
         Ok(())
     }
 
