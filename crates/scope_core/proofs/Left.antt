@@ -1,24 +1,23 @@
 -- One less for each mention, as far as it goes: what really left.
-use Rattle.std.specs.Prelude.{◌≡◌, ℕ, suc, ◌-◌, ◌+◌, ◌≤◌, min, Bool, true, false, cond, List, [], ◌∷◌, All}
+use Rattle.std.specs.Prelude.{◌≡◌, ℕ, suc, ◌-◌, min, Bool, true, false, cond, List, [], ◌∷◌, All}
 use Rattle.std.proofs.Common.{refl, ap, ◌∙◌, sym, arith}
-use Rattle.std.specs.List.{filter}
 use Rattle.dist_types.specs.declared.pid.Pid.{Pid}
 use Rattle.scope_core.specs.declared.counted.Counted.{Counted}
-use Rattle.dist_types.specs.Listing.{same, same_pid, mentions, total, Rises, spread, IsPidListing}
+use Rattle.dist_types.specs.Listing.{same, same_pid, mentions, IsPidListing}
 use Rattle.dist_types.specs.Difference.{IsDifference, change_unless_empty}
-use Rattle.scope_core.specs.Table.{is_row, is_of_node, tally, counted_cmp}
-use Rattle.scope_core.specs.Listed.{is_in}
+use Rattle.scope_core.specs.Table.{is_row, tally}
 use Rattle.dist_types.proofs.Orders.{same_decides, same_pid_decides, same_sym}
 use Rattle.dist_types.proofs.Differences.{one_difference}
-use Rattle.scope_core.proofs.Shares.{each, of_mentions, mentions_part, pids_listing}
+
+-- those that a leave takes from the group
+abbrev pub IsGone : List ℕ → List Pid → List Counted → List Pid → Type 0
+IsGone g ps cs gone = IsPidListing (λ p. min (mentions p ps) (tally (is_row g p) cs)) gone
 
 -- the change of a leave
-pub left_change : (g : List ℕ) (ps : List Pid) (cs : List Counted) (after : List ℕ → Pid → ℕ) → Rises counted_cmp cs
+pub left_change : (g : List ℕ) (ps : List Pid) (cs : List Counted) (gone : List Pid) (after : List ℕ → Pid → ℕ) → IsGone g ps cs gone
     → ((h : List ℕ) (p : Pid) → after h p ≡ tally (is_row h p) cs - cond (same h g) (mentions p ps) 0)
-    → IsDifference (λ h p. tally (is_row h p) cs) after (change_unless_empty g (spread (λ c. c.row.pid) (each (of_mentions ps)) (filter (is_in g) cs)) [])
-left_change g ps cs after r is =
-    let gone = spread (λ (c : Counted). c.row.pid) (each (of_mentions ps)) (filter (is_in g) cs) in
-    let listing = pids_listing (of_mentions ps) (mentions_part ps) g cs r in
+    → IsDifference (λ h p. tally (is_row h p) cs) after (change_unless_empty g gone [])
+left_change g ps cs gone after listing is =
     one_difference (λ h p. tally (is_row h p) cs) after g gone [] listing.ascends tt
     (λ h p.
     let a = is h p in
@@ -55,17 +54,5 @@ module _ (own : List ℕ) (ps : List Pid) (all : All (λ q. q.node ≡ own) ps) 
     | false ↦ λ e. let none = unmentioned p e in omega (arith, none)
   ] refl
 
-  pub leaving_listing : (g : List ℕ) (cs : List Counted) → Rises counted_cmp cs
-      → IsPidListing (λ p. min (mentions p ps) (cond (same p.node own) (tally (is_row g p) cs) 0)) (spread (λ c. c.row.pid) (each (of_mentions ps)) (filter (is_in g) cs))
-  leaving_listing g cs r =
-      let listing = pids_listing (of_mentions ps) (mentions_part ps) g cs r in
-      record { ascends = listing.ascends; counts = λ p. listing.counts p ∙ own_mentions p (tally (is_row g p) cs) }
-
-  pub leaving_few : (cs : List Counted) → total (each (of_mentions ps)) cs ≤ tally (is_of_node own) cs
-  leaving_few [] = omega arith
-  leaving_few (c ∷ cs) =
-      let rest = leaving_few cs in
-      elim (same c.row.pid.node own) as (λ v. same c.row.pid.node own ≡ v → min (mentions c.row.pid ps) c.count + total (each (of_mentions ps)) cs ≤ cond v c.count 0 + tally (is_of_node own) cs) [
-        | true ↦ λ e. omega (arith, rest)
-        | false ↦ λ e. let none = unmentioned c.row.pid e in omega (arith, none, rest)
-      ] refl
+  pub leaving_listing : (g : List ℕ) (cs : List Counted) (gone : List Pid) → IsGone g ps cs gone → IsPidListing (λ p. min (mentions p ps) (cond (same p.node own) (tally (is_row g p) cs) 0)) gone
+  leaving_listing g cs gone listing = record { ascends = listing.ascends; counts = λ p. listing.counts p ∙ own_mentions p (tally (is_row g p) cs) }

@@ -5,6 +5,7 @@ pub mod Groups
 pub mod Unions
 pub mod Between
 pub mod Taken
+pub mod Mentioned
 pub mod Left
 pub mod Places
 pub mod Added

@@ -1,12 +1,12 @@
 -- What part of a count is listed.
-use Rattle.std.specs.Prelude.{◌≡◌, ℕ, ◌+◌, ◌≤◌, Bool, true, false, cond, min, List, [], ◌∷◌, length}
+use Rattle.std.specs.Prelude.{◌≡◌, ℕ, ◌+◌, ◌≤◌, Bool, true, false, cond, List, [], ◌∷◌, length}
 use Rattle.std.proofs.Common.{refl, ap, ◌∙◌, sym, arith}
 use Rattle.std.specs.List.{filter, AllByRecursion}
 use Rattle.dist_types.specs.declared.pid.Pid.{Pid}
 use Rattle.dist_types.specs.declared.row.Row.{Row}
 use Rattle.dist_types.specs.Order.{pid_cmp, row_cmp}
 use Rattle.scope_core.specs.declared.counted.Counted.{Counted}
-use Rattle.dist_types.specs.Listing.{occurrences, same, same_pid, same_row, mentions, total, Rises, IsPidListing, IsRowListing, spread}
+use Rattle.dist_types.specs.Listing.{occurrences, same, same_pid, same_row, total, Rises, IsPidListing, IsRowListing, spread}
 use Rattle.scope_core.specs.Table.{Table, is_row, tally, counted_cmp, count_of, local_count, local_total}
 use Rattle.scope_core.specs.Listed.{is_in, share}
 use Rattle.dist_types.proofs.Orders.{pids_total, rows_total, same_row_decides}
@@ -58,9 +58,6 @@ of_node node p n = cond (same p.node node) n 0
 abbrev pub of_process : Pid → Pid → ℕ → ℕ
 of_process q p n = cond (same_pid p q) n 0
 
-abbrev pub of_mentions : List Pid → Pid → ℕ → ℕ
-of_mentions ps p n = min (mentions p ps) n
-
 pub all_part : IsPart of_all
 all_part p = refl
 
@@ -69,9 +66,6 @@ node_part node p = nothing (same p.node node)
 
 pub process_part : (q : Pid) → IsPart (of_process q)
 process_part q p = nothing (same_pid p q)
-
-pub mentions_part : (ps : List Pid) → IsPart (of_mentions ps)
-mentions_part ps p = omega arith
 
 -- the processes of the rows of a group
 pub shares_listing : (times : Counted → ℕ) (g : List ℕ) (cs : List Counted) → Rises counted_cmp cs → IsPidListing (λ p. share times g p cs) (spread (λ c. c.row.pid) times (filter (is_in g) cs))

@@ -2,14 +2,14 @@
 ghost use Rattle.std.specs.Prelude.{◌≡◌, ◌+◌, ◌≤◌, IfOk, OnOk, Bool, [], vec_len, vec_capacity};
 ghost use Rattle.dist_types.specs.declared.row.Row.{Row};
 ghost use Rattle.dist_types.specs.Listing.{Rises, how_many};
-ghost use Rattle.scope_core.specs.Table.{tally, counted_cmp, is_row, IsKept};
+ghost use Rattle.scope_core.specs.Table.{counted_cmp, IsKept};
 ghost use Rattle.scope_core.specs.Added.{Adds, HasRoomFor};
 ghost use Rattle.scope_core.specs.Beyond.{times_beyond, picked};
 
 use crate::changes::copies_of;
 use crate::counted::Counted;
 use crate::edits::add_all;
-use crate::reads::place_next;
+use crate::reads::count_at;
 use dist_types::{NodeName, OutOfMemory, Row, TryClone};
 use std::alloc::Global;
 
@@ -81,21 +81,11 @@ fn count_beyond(counted: &Counted, node: &NodeName, others: &[Counted], next: &m
     ensures { result ≡ times_beyond node.now others.now counted.now }
 {
     if counted.row.pid.node == *node {
+        let row = &counted.row;
         counted
             .count
-            .saturating_sub(count_at(others, &counted.row, next))
+            .saturating_sub(count_at(others, next, &row.group, &row.pid))
     } else {
         0
-    }
-}
-
-/// How often a row is counted.
-fn count_at(rows: &[Counted], row: &Row, next: &mut usize) -> u32
-    requires { Rises counted_cmp rows.now }
-    ensures { result ≡ tally (is_row row.now.group row.now.pid) rows.now }
-{
-    match place_next(rows, next, &row.group, &row.pid) {
-        Ok(at) => rows[at].count,
-        Err(_) => 0,
     }
 }

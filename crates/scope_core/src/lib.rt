@@ -7,6 +7,7 @@ mod edits;
 mod fault;
 mod incoming;
 mod laws;
+mod leaving;
 mod lowered;
 mod merged;
 mod part;

@@ -1,7 +1,6 @@
 //! Parts of the memberships.
-ghost use Rattle.std.specs.Prelude.{◌≡◌, if◌then◌else◌, min};
+ghost use Rattle.std.specs.Prelude.{◌≡◌, if◌then◌else◌};
 ghost use Rattle.scope_core.specs.Part.{times_of};
-ghost use Rattle.dist_types.specs.Listing.{mentions};
 
 use crate::counted::Counted;
 use dist_types::{NodeName, Pid};
@@ -15,8 +14,6 @@ pub enum Part<'a> {
     Node(&'a NodeName),
     /// Those of a process.
     Process(&'a Pid),
-    /// One for each mention of a process, as far as it has any.
-    Mentions(&'a [Pid]),
 }
 
 /// How many of a row's count belong to the part. Each walk over the rows asks it once a row, so it is part of the walk.
@@ -28,7 +25,6 @@ pub fn times(part: Part<'_>, counted: &Counted) -> u32
         Part::All => counted.count,
         Part::Node(node) => count_if(counted.row.pid.node == *node, counted),
         Part::Process(pid) => count_if(counted.row.pid == *pid, counted),
-        Part::Mentions(pids) => mentioned(counted, pids),
     }
 }
 
@@ -37,17 +33,4 @@ fn count_if(test: bool, counted: &Counted) -> u32
     ensures { result ≡ (if test then counted.now.count else 0) }
 {
     if test { counted.count } else { 0 }
-}
-
-/// How many of a row's count the mentions of its process take.
-fn mentioned(counted: &Counted, pids: &[Pid]) -> u32
-    ensures { result ≡ min (mentions counted.now.row.pid pids.now) counted.now.count }
-{
-    let mut times = 0;
-    for pid in pids {
-        if times < counted.count && *pid == counted.row.pid {
-            times += 1;
-        }
-    }
-    times
 }

@@ -51,7 +51,8 @@ pub fn pids_of(alloc: Global, rows: &[Counted], part: Part<'_>) -> Result<Vec<Pi
 {
     let mut pids = Vec::new(alloc);
     for counted in rows {
-        push_copies(alloc, &mut pids, &counted.row.pid, times(part, counted))?;
+        let times = times(part, counted) as usize;
+        push_copies(alloc, &mut pids, &counted.row.pid, times)?;
     }
     Ok(pids)
 }
@@ -62,7 +63,8 @@ pub fn rows_of(alloc: Global, rows: &[Counted], part: Part<'_>) -> Result<Vec<Ro
 {
     let mut copies = Vec::new(alloc);
     for counted in rows {
-        push_copies(alloc, &mut copies, &counted.row, times(part, counted))?;
+        let times = times(part, counted) as usize;
+        push_copies(alloc, &mut copies, &counted.row, times)?;
     }
     Ok(copies)
 }
@@ -88,11 +90,11 @@ fn begins_group(counted: &Counted, part: Part<'_>, groups: &[Group]) -> bool
 }
 
 /// Puts copies of an item at the end.
-fn push_copies<T: TryClone + Drop>(
+pub fn push_copies<T: TryClone + Drop>(
     alloc: Global,
     items: &mut Vec<T>,
     item: &T,
-    times: u32,
+    times: usize,
 ) -> Result<(), OutOfMemory>
     ensures { OnOk result (items.new.items ≡ items.old.items ++ replicate times item.now) }
 {
@@ -155,6 +157,17 @@ pub fn place_next(
         Err(at) => at,
     };
     place
+}
+
+/// How often a process is in a group, for rows that are looked for in their order.
+pub fn count_at(rows: &[Counted], next: &mut usize, group: &Group, pid: &Pid) -> u32
+    requires { Rises counted_cmp rows.now }
+    ensures { result ≡ tally (is_row group.now pid.now) rows.now }
+{
+    match place_next(rows, next, group, pid) {
+        Ok(at) => rows[at].count,
+        Err(_) => 0,
+    }
 }
 
 /// Whether the row of a group and a process is at this place.

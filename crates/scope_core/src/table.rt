@@ -11,6 +11,7 @@ use crate::counted::Counted;
 use crate::edits::{add_all, put_in, remove_node, remove_pid, replace_node, take_all};
 use crate::fault::TableFault;
 use crate::incoming::{beyond, counted_rows, room_for};
+use crate::leaving::gone_of;
 use crate::lowered::{are_all_in, take_rows};
 use crate::part::Part;
 use crate::reads::{groups_of, has_rows, in_group, is_any_joined, pids_of, rows_of, total_of};
@@ -95,9 +96,8 @@ impl ScopeTable {
         if !is_any_joined(&self.rows, group, pids) {
             return Err(TableFault::NotJoined);
         }
-        let members = in_group(&self.rows, group);
-        let gone = pids_of(self.alloc, members, Part::Mentions(pids))?;
-        let changes = one_change(self.alloc, group, gone, Vec::new(self.alloc))?;
+        let left = gone_of(self.alloc, &self.rows, group, pids)?;
+        let changes = one_change(self.alloc, group, left, Vec::new(self.alloc))?;
         self.own_rows -= take_all(&mut self.rows, group, pids, &self.own);
         Ok(changes)
     }
@@ -256,8 +256,7 @@ impl ScopeTable {
         ensures value { IfOk result (λ gone. IsPidListing (λ p. min (mentions p pids.now) (local_count self.now group.now p)) gone.items) }
         ensures limits { IfOk result (λ gone. length gone.items ≤ max_rows) }
     {
-        let rows = in_group(&self.rows, group);
-        let gone = pids_of(self.alloc, rows, Part::Mentions(pids))?;
+        let gone = gone_of(self.alloc, &self.rows, group, pids)?;
         Ok(gone)
     }
 

@@ -5,6 +5,7 @@ use dist_types::{Group, GroupChange, NodeName, Pid, Row, TryClone};
 use std::alloc::Global;
 use std::test::Fail;
 
+mod leaves;
 mod peers;
 
 /// A table of b@h.
@@ -195,6 +196,17 @@ fn filled(alloc: Global) -> Result<Own, Fail> {
 /// A digit behind others.
 fn then(digits: u64, digit: u64) -> u64 {
     digits.wrapping_mul(10).wrapping_add(digit)
+}
+
+/// The number with these digits, whatever stands between them.
+fn number(text: &[u8]) -> u64 {
+    let mut digits = 0;
+    for byte in text {
+        if byte.is_ascii_digit() {
+            digits = then(digits, u64::from(byte.wrapping_sub(b'0')));
+        }
+    }
+    digits
 }
 
 /// The number that is a group's first byte.

@@ -153,17 +153,6 @@ fn step_of(name: &[u8]) -> Step {
     }
 }
 
-/// The number with these digits, whatever stands between them.
-fn number(text: &[u8]) -> u64 {
-    let mut digits = 0;
-    for byte in text {
-        if byte.is_ascii_digit() {
-            digits = then(digits, u64::from(byte.wrapping_sub(b'0')));
-        }
-    }
-    digits
-}
-
 /// Does the step. Tells how many rows it moves, none where it is refused, and what is listed then.
 fn play(
     alloc: Global,

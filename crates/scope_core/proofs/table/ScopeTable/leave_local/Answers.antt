@@ -19,11 +19,12 @@ returns-clause-ok c = record {
 pub returns-clause-change : goal.returns-clause-change
 returns-clause-change c =
     let cs = c.self.inside.rows.items in
-    rw (c.in_ok-changes.ensures, c.in_ok-gone.ensures, c.in_group-members.ensures, c.deref-2.ensures.value, c.new.ensures.items, ← c.self.view_is)
-    (left_change c.args.group.now c.args.pids.now cs (λ h p. tally (is_row h p) c.take_all.new.rows.items) c.self.invariant.kept.rises c.take_all.ensures.counts)
+    let gone = rw c.deref-2.ensures.value at c.in_ok-left.ensures in
+    rw (c.in_ok-changes.ensures, c.new.ensures.items, ← c.self.view_is)
+    (left_change c.args.group.now c.args.pids.now cs c.in_ok-left.left.items (λ h p. tally (is_row h p) c.take_all.new.rows.items) gone c.take_all.ensures.counts)
 
-pub returns-in_err-gone-clause-refused : goal.returns-in_err-gone-clause-refused
-returns-in_err-gone-clause-refused c =
+pub returns-in_err-left-clause-refused : goal.returns-in_err-left-clause-refused
+returns-in_err-left-clause-refused c =
     let e = ap (λ t. is_any_joined t c.args.group.now c.args.pids.now) (sym c.self.view_is)
     ∙ sym (rw c.deref.ensures.value at c.is_any_joined.ensures) ∙ c.if-not-is_any_joined.false in
     search (rules, e)

@@ -1,0 +1,101 @@
+-- Processes in order: those that are the same stand in a run.
+use Rattle.std.specs.Prelude.{◌≡◌, ℕ, zero, suc, ◌+◌, ◌≤◌, min, true, false, cond, List, [], ◌∷◌, ◌++◌, take, drop, replicate, length}
+use Rattle.std.proofs.Common.{refl, ap, ◌∙◌, sym, subst, arith, get_or, inl, inr}
+use Rattle.std.specs.declared.cmp.Ordering.TheVariants.{Less, Equal, Greater}
+use Rattle.std.specs.Ordering.{is_gt, ordering_reverse}
+use Rattle.std.specs.List.{AllByRecursion, AllWithin}
+use Rattle.std.specs.List.Sorted.{IsPartitionedBy}
+use Rattle.std.proofs.lemmas.Bool.{cases_lt}
+use Rattle.std.proofs.lemmas.List.{take-append-drop, append_assoc, length-take-le}
+use Rattle.std.proofs.lemmas.List.Sums.{length-filter}
+use Rattle.dist_types.specs.declared.pid.Pid.{Pid}
+use Rattle.dist_types.specs.Order.{pid_cmp}
+use Rattle.dist_types.specs.Listing.{same_pid, mentions, Ascends}
+use Rattle.dist_types.proofs.Orders.{pids_total, exact_pids, same_pid_decides}
+use Rattle.dist_types.proofs.Totals.{how_many_is, how_many_append, how_many_replicate}
+use Rattle.scope_core.proofs.Runs.{all_at, filter_takes}
+
+-- where neither comes after the other, they are the same
+neither_above : (p q : Pid) → is_gt (pid_cmp p q) ≡ false → is_gt (pid_cmp q p) ≡ false → p ≡ q
+neither_above p q a b =
+    elim (pid_cmp p q) as (λ o. pid_cmp p q ≡ o → is_gt o ≡ false → is_gt (ordering_reverse o) ≡ false → p ≡ q) [
+      | Less ↦ λ e x y. absurd (let f : true ≡ false = y in cc)
+      | Equal ↦ λ e x y. exact_pids p q e
+      | Greater ↦ λ e x y. absurd (let f : true ≡ false = x in cc)
+    ] refl a (ap is_gt (sym (pids_total.antisymm q p)) ∙ b)
+
+-- behind a process, those that are the same come first
+pub run_partitions : (q : Pid) (ps : List Pid) → Ascends pid_cmp (q ∷ ps) → IsPartitionedBy (λ x. same_pid x q) ps
+run_partitions q [] a i j d l h e = absurd (omega (arith, h))
+run_partitions q (p ∷ ps) a zero zero d l h e = e
+run_partitions q (p ∷ ps) a zero (suc j) d l h e =
+    let s : get_or ps j d ≡ q = (same_pid_decides (get_or ps j d) q).0 e in
+    let up = all_at (λ x. is_gt (pid_cmp p x) ≡ false) ps j d a.1.0 (omega (arith, h)) in
+    (same_pid_decides p q).1 (neither_above p q (ap (λ x. is_gt (pid_cmp p x)) (sym s) ∙ up) a.0.0)
+run_partitions q (p ∷ ps) a (suc i) zero d l h e = absurd (omega (arith, l))
+run_partitions q (p ∷ ps) a (suc i) (suc j) d l h e = run_partitions q ps (a.0.1, a.1.1) i j d (omega (arith, l)) (omega (arith, h)) e
+
+-- so the front is a run of the same
+pub front_is : (q : Pid) (n : ℕ) (ps : List Pid) → n ≤ length ps → AllWithin (λ x. same_pid x q ≡ true) ps 0 n → take n ps ≡ replicate n q
+front_is q zero ps l a = refl
+front_is q (suc n) [] l a = absurd (omega (arith, l))
+front_is q (suc n) (p ∷ ps) l a =
+    let s : p ≡ q = (same_pid_decides p q).0 (a 0 p (omega arith) (omega arith)) in
+    let rest = front_is q n ps (omega (arith, l)) (λ k d m h. a (suc k) d (omega arith) (omega (arith, h))) in
+    λ i. s i ∷ rest i
+
+-- and there are no more of them behind it
+pub front_counts : (q : Pid) (n : ℕ) (ps : List Pid) → n ≤ length ps → AllWithin (λ x. same_pid x q ≡ true) ps 0 n → AllWithin (λ x. same_pid x q ≡ false) ps n (length ps) → n ≡ mentions q ps
+front_counts q n ps l a b =
+    let test = λ (x : Pid). same_pid x q in
+    sym (how_many_is test ps ∙ sym (length-filter test ps) ∙ ap length (filter_takes test n ps l a b) ∙ length-take-le n ps l)
+
+-- ---- less of a run
+
+all_without : (P : Pid → Type 0) (xs : List Pid) (y : Pid) (zs : List Pid) → AllByRecursion P (xs ++ y ∷ zs) → AllByRecursion P (xs ++ zs)
+all_without P [] y zs a = a.1
+all_without P (x ∷ xs) y zs a = (a.0, all_without P xs y zs a.1)
+
+ascends_without : (xs : List Pid) (y : Pid) (zs : List Pid) → Ascends pid_cmp (xs ++ y ∷ zs) → Ascends pid_cmp (xs ++ zs)
+ascends_without [] y zs a = a.1
+ascends_without (x ∷ xs) y zs a = (all_without (λ p. is_gt (pid_cmp x p) ≡ false) xs y zs a.0, ascends_without xs y zs a.1)
+
+-- a run in the midst may be shorter
+ascends_less : (xs : List Pid) (q : Pid) (m n : ℕ) (zs : List Pid) → m ≤ n → Ascends pid_cmp (xs ++ (replicate n q ++ zs)) → Ascends pid_cmp (xs ++ (replicate m q ++ zs))
+ascends_less xs q zero zero zs l a = a
+ascends_less xs q (suc m) zero zs l a = absurd (omega (arith, l))
+ascends_less xs q m (suc n) zs l a = elim (cases_lt m (suc n)) [
+  | inl b ↦ ascends_less xs q m n zs (omega (arith, b)) (ascends_without xs q (replicate n q ++ zs) a)
+  | inr b ↦ let e : suc n ≡ m = omega (arith, b, l) in subst (λ k. Ascends pid_cmp (xs ++ (replicate k q ++ zs))) e a
+]
+
+pub ascends_behind : (xs ys : List Pid) → Ascends pid_cmp (xs ++ ys) → Ascends pid_cmp ys
+ascends_behind [] ys a = a
+ascends_behind (x ∷ xs) ys a = ascends_behind xs ys a.1
+
+module _ (q : Pid) (n : ℕ) (ps : List Pid) (run : take n ps ≡ replicate n q) where
+  front_first : ps ≡ replicate n q ++ drop n ps
+  front_first = sym (take-append-drop n ps) ∙ ap (λ xs. xs ++ drop n ps) run
+
+  -- some of the run are put behind those that are gone, and the rest of it is passed over
+  pub ascends_on : (gone : List Pid) (m : ℕ) → m ≤ n + 1 → Ascends pid_cmp (gone ++ q ∷ ps) → Ascends pid_cmp ((gone ++ replicate m q) ++ drop n ps)
+  ascends_on gone m l a =
+      subst (Ascends pid_cmp) (sym (append_assoc gone (replicate m q) (drop n ps)))
+      (ascends_less gone q m (suc n) (drop n ps) (omega (arith, l)) (subst (λ xs. Ascends pid_cmp (gone ++ q ∷ xs)) front_first a))
+
+  -- as many are put there as count has of them
+  pub counts_on : n ≡ mentions q ps → (count : Pid → ℕ) (gone : List Pid) (m : ℕ) → m ≡ min (count q) (n + 1) → (p : Pid)
+      → mentions p (gone ++ replicate m q) + min (mentions p (drop n ps)) (count p) ≡ mentions p gone + min (mentions p (q ∷ ps)) (count p)
+  counts_on all count gone m is p =
+      let test = λ (x : Pid). same_pid x p in
+      elim (same_pid q p) as (λ v. same_pid q p ≡ v → mentions p ps ≡ cond v n 0 + mentions p (drop n ps) → mentions p (gone ++ replicate m q) ≡ mentions p gone + cond v m 0
+      → mentions p (gone ++ replicate m q) + min (mentions p (drop n ps)) (count p) ≡ mentions p gone + min (cond v (suc (mentions p ps)) (mentions p ps)) (count p)) [
+        | true ↦ λ e behind put.
+            let s : q ≡ p = (same_pid_decides q p).0 e in
+            let none : n ≡ mentions p ps = all ∙ ap (λ x. mentions x ps) s in
+            let c : count q ≡ count p = ap count s in
+            omega (arith, is, behind, put, none, c)
+        | false ↦ λ e behind put. omega (arith, behind, put)
+      ] refl
+      (ap (mentions p) front_first ∙ how_many_append test (replicate n q) (drop n ps) ∙ ap (λ k. k + mentions p (drop n ps)) (how_many_replicate test n q))
+      (how_many_append test gone (replicate m q) ∙ ap (λ k. mentions p gone + k) (how_many_replicate test m q))

@@ -1,0 +1,29 @@
+use Rattle.std.proofs.Common.{arith, ap, sym, subst, ◌∙◌}
+use Rattle.std.specs.Prelude.{◌+◌, ◌++◌, ◌∷◌, min}
+use Rattle.dist_types.specs.declared.pid.Pid.{Pid}
+use Rattle.dist_types.specs.Order.{pid_cmp}
+use Rattle.dist_types.specs.Listing.{Ascends, mentions}
+use Rattle.scope_core.specs.Table.{tally, is_row}
+use Rattle.scope_core.proofs.Mentioned.{ascends_behind, ascends_on, counts_on}
+use Rattle.scope_core.proofs.leaving.gone_in_order.Goals as goal
+
+pub run_of-again-requires : goal.run_of-again-requires
+run_of-again-requires c = ascends_behind c.loop-pid.gone.items (c.in-Some.pid.now ∷ c.in-Some.others.now) (subst (λ ps. Ascends pid_cmp (c.loop-pid.gone.items ++ ps)) c.in-Some.ensures.cases.0 c.loop-pid.invariant.order)
+
+pub loop-pid-preserved : goal.loop-pid-preserved
+loop-pid-preserved c =
+    let q = c.in-Some.pid.now in
+    let ps = c.in-Some.others.now in
+    let n = c.run_of-again.result in
+    let gone = c.loop-pid.gone.items in
+    let count = λ (p : Pid). tally (is_row c.args.group.now p) c.args.rows.now in
+    let first = c.in-Some.ensures.cases.0 in
+    let run = c.run_of-again.ensures.run in
+    rw (c.in_ok-push_copies.ensures, c.split_at.ensures.back)
+    (record {
+      order = ascends_on q n ps run gone c.min.result (omega (arith, c.min.ensures)) (subst (λ xs. Ascends pid_cmp (gone ++ xs)) first c.loop-pid.invariant.order);
+      counts = λ p.
+          counts_on q n ps run c.run_of-again.ensures.all count gone c.min.result (c.min.ensures ∙ ap (λ k. min k (n + 1)) c.count_at-count.ensures) p
+          ∙ ap (λ xs. mentions p gone + min (mentions p xs) (count p)) (sym first)
+          ∙ c.loop-pid.invariant.counts p;
+    })

@@ -1,0 +1,13 @@
+use Rattle.std.proofs.Common.{rules}
+use Rattle.std.proofs.lemmas.List.Sorted.{IsPartitionPoint-from_clause}
+use Rattle.dist_types.specs.Listing.{same_pid}
+use Rattle.scope_core.proofs.Mentioned.{run_partitions, front_is, front_counts}
+use Rattle.scope_core.proofs.leaving.run_of.Goals as goal
+
+pub returns : goal.returns
+returns c =
+    let q = c.args.pid.now in
+    let ps = c.args.pids.now in
+    let bound = c.partition_point.ensures.bound in
+    let point = IsPartitionPoint-from_clause (λ x. same_pid x q) ps _ c.partition_point.ensures.partitioned (run_partitions q ps c.requires) (λ a r f' k. search rules) in
+    record { bound = bound; run = front_is q _ ps bound point.0; all = front_counts q _ ps bound point.0 point.1 }

@@ -1,0 +1,7 @@
+use Rattle.std.proofs.Common.{◌≡◌}
+use Rattle.std.specs.Prelude.{All, codes}
+use Rattle.scope_core.proofs.tests.leaves.crowd.Given as goal
+
+-- the processes so far are of the node
+abbrev pub invariant-loop-digit : goal.invariant-loop-digit
+invariant-loop-digit l = All (λ p. p.node ≡ codes "b@h") l.list.items
