@@ -27,7 +27,7 @@ use Rattle.node_core.specs.Links.{KeptLink, unroomed, with_prepared, prepared_fo
 use Rattle.node_core.specs.ScopeFacts.{is_number}
 use Rattle.node_core.specs.Telling.{AreIdle, Alike, IsBrief, is_said, said_to}
 use Rattle.node_core.specs.Moving.{fault_of, IsJoinRefusal, IsLeaveRefusal}
-use Rattle.node_core.proofs.Told.{at_errors, forgotten, zip_map}
+use Rattle.node_core.proofs.Told.{at_errors, zip_map}
 
 some_left : {A : Type 0} (xs : List A) → not (is_empty xs) ≡ true → 0 < length xs
 some_left [] q = lie (sym q)
@@ -98,5 +98,5 @@ dropped_again numbers frame old mid new idle prepared dropped = dropped ∙ all 
         by x idle false = λ i. record (unroomed x) { prepared = sym idle i }
 
 -- where a message finds no memory, nothing has changed
-pub untold : {T E : Type 0} (o : Result T E) (r : Running) (old new : List KeptLink) → AreIdle old → map unroomed new ≡ map (λ x. unroomed (with_prepared x [])) old → OnErr o ((r ≡ r) × Alike old new)
-untold o r old new idle forgot = at_errors {P = (r ≡ r) × Alike old new} o (refl, forgot ∙ forgotten old idle)
+pub untold : {T E : Type 0} (o : Result T E) (r : Running) (old new : List KeptLink) → Alike old new → OnErr o ((r ≡ r) × Alike old new)
+untold o r old new same = at_errors {P = (r ≡ r) × Alike old new} o (refl, same)

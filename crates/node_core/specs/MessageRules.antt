@@ -29,6 +29,12 @@ pub record HasBecome (old new : Running) (count : List ℕ → Pid → ℕ) (hea
   pub heard : new.heard.items ≡ hears
   pub told : new.told.items ≡ tells
 
+-- the frame of a Sync with all own rows
+pub record IsSyncFrame (r : Running) (s : List ℕ) (frame : OutFrame) : Type 0 where
+  pub rows : List Row
+  pub own : IsRowListing (local_count r.table) rows
+  pub frame_is : frame ≡ wide (said.Sync s rows)
+
 -- the frames for a Discover of s on link l: a Sync with all own rows, and then a Discover where the peer isn't heard
 pub record AnswersDiscover (r : Running) (l : ℕ) (s : List ℕ) (frames : List OutFrame) : Type 0 where
   pub rows : List Row

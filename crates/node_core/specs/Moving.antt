@@ -1,13 +1,16 @@
 -- Own processes that join and leave groups.
-use Rattle.std.specs.Prelude.{◌≡◌, ℕ, ◌+◌, ◌<◌, nat_le, false, List, [], ◌∷◌, length}
+use Rattle.std.specs.Prelude.{◌≡◌, ℕ, ◌+◌, ◌<◌, nat_le, min, false, List, [], ◌∷◌, map, length}
 use Rattle.std.specs.List.{list_all}
 use Rattle.dist_types.specs.declared.pid.Pid.{Pid}
 use Rattle.dist_types.specs.declared.change.GroupChange.{GroupChange}
 use Rattle.dist_types.specs.Difference.{IsDifference}
+use Rattle.dist_types.specs.Listing.{listing, mentions}
+use Rattle.dist_types.specs.Order.{pid_cmp}
 use Rattle.link_frames.specs.declared.message.Message.{Message}
+use Rattle.link_frames.specs.declared.message.Message.TheVariants as said
 use Rattle.scope_core.specs.declared.fault.TableFault.{TableFault}
 use Rattle.scope_core.specs.declared.fault.TableFault.TheVariants as fault
-use Rattle.scope_core.specs.Table.{Table, count_of, local_total, max_rows}
+use Rattle.scope_core.specs.Table.{Table, count_of, local_count, local_total, max_rows}
 use Rattle.scope_core.specs.Calls.{Counts, is_any_joined}
 use Rattle.policy_audit.specs.declared.change.Change.{Change}
 use Rattle.policy_audit.specs.declared.rule.Rule.TheVariants as rule
@@ -15,11 +18,12 @@ use Rattle.policy_audit.specs.History.{History}
 use Rattle.policy_audit.specs.Own.{is_local, lives}
 use Rattle.policy_audit.specs.Changes.{if_some}
 use Rattle.policy_audit.specs.Checks.{Check, unless}
+use Rattle.policy_audit.specs.Contents.{row}
 use Rattle.policy_audit.specs.Owed.{wide}
 use Rattle.node_core.specs.declared.fault.CoreFault.{CoreFault}
 use Rattle.node_core.specs.declared.fault.CoreFault.TheVariants as faults
 use Rattle.node_core.specs.declared.running.Running.{Running}
-use Rattle.node_core.specs.Links.{KeptLink}
+use Rattle.node_core.specs.Links.{KeptLink, unroomed, prepared_for}
 use Rattle.node_core.specs.Telling.{AreTold, if_among, said_to}
 
 -- the rules for processes that join a group, but for those of the scope and of its other rows
@@ -29,6 +33,18 @@ own_checks h ps =
     ∷ unless (list_all (lives h) ps) rule.NoProcess
     ∷ unless (nat_le (length ps) 4096) rule.RowsFull
     ∷ []
+
+-- the Join of these processes
+abbrev pub join_of : List ℕ → List ℕ → List Pid → Message
+join_of s g ps = said.Join s (map (row g) (listing pid_cmp (λ p. mentions p ps) ps))
+
+-- the Leave of those that a leave of these processes takes
+abbrev pub leave_of : Running → List ℕ → List Pid → Message
+leave_of r g ps = said.Leave r.scope (map (row g) (listing pid_cmp (λ p. min (mentions p ps) (local_count r.table g p)) ps))
+
+-- the message is prepared for the links that are told of the scope, if it is said
+abbrev pub IsPrepared : Message → Running → List KeptLink → List KeptLink → Type 0
+IsPrepared m r old new = map unroomed new ≡ map (λ x. unroomed (prepared_for (said_to r.told.items m) (wide m) x)) old
 
 -- one scope after its rows have changed: the links that are told there are told this message
 pub record IsMoved (m : Message) (count : List ℕ → Pid → ℕ) (old new : Running) (links_old links_new : List KeptLink) (cs : List Change) : Type 0 where

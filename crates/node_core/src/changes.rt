@@ -1,5 +1,5 @@
 //! What leaves the scopes.
-ghost use Rattle.std.specs.Prelude.{◌≡◌, ◌<◌, ◌++◌, cond, length, vec_len, vec_capacity, IfOk, map};
+ghost use Rattle.std.specs.Prelude.{◌≡◌, cond, length, IfOk};
 ghost use Rattle.dist_types.specs.Listing.{same, mentions, IsRowListing};
 ghost use Rattle.policy_audit.specs.Changes.{if_some};
 ghost use Rattle.dist_types.specs.Difference.{IsDifference};
@@ -16,6 +16,7 @@ use dist_types::{
 use policy_audit::Change;
 use scope_core::ScopeTable;
 use std::alloc::Global;
+use std::marker::Model;
 
 /// Rows that leave together.
 #[derive(Clone, Copy)]
@@ -98,16 +99,45 @@ pub fn end_link(scopes: &mut Vec<Running>, number: u32, peer: &NodeName)
     }
 }
 
-/// The change of one scope, in a list that has room for it.
-pub fn put_change(changes: &mut Vec<Change>, scope: Scope, groups: Vec<GroupChange>)
-    requires { vec_len changes.old < vec_capacity changes.old }
-    ensures { changes.new.items ≡ changes.old.items ++ if_some scope groups.items }
-{
-    if !groups.is_empty() {
-        changes.push_reserved(Change {
-            scope,
-            groups: Items::of(groups),
-        });
+/// Room for the change of one scope.
+#[derive(Drop)]
+pub struct ChangeRoom {
+    scope: Scope,
+    changes: Vec<Change>,
+}
+
+impl Model for ChangeRoom {
+    ghost use Rattle.std.specs.Prelude.{◌≡◌, ◌<◌, ℕ, List, [], vec_len, vec_capacity};
+
+    ghost Value = { List ℕ };
+
+    ghost view = { λ room. room.scope };
+
+    ghost invariant = { λ room. (room.changes.items ≡ []) × (vec_len room.changes < vec_capacity room.changes) };
+}
+
+impl ChangeRoom {
+    /// Room for the change of this scope.
+    pub fn new(alloc: Global, scope: Scope) -> Result<ChangeRoom, OutOfMemory>
+        ensures { IfOk result (λ room. room ≡ scope) }
+    {
+        let mut changes = Vec::new(alloc);
+        changes.reserve(1)?;
+        Ok(ChangeRoom { scope, changes })
+    }
+
+    /// The change, if groups change.
+    pub fn filled(self, groups: Vec<GroupChange>) -> Vec<Change>
+        ensures { result.items ≡ if_some self groups.items }
+    {
+        let ChangeRoom { scope, mut changes } = self;
+        if !groups.is_empty() {
+            changes.push_reserved(Change {
+                scope,
+                groups: Items::of(groups),
+            });
+        }
+        changes
     }
 }
 

@@ -1,11 +1,12 @@
 //! Entries of the audit.
-ghost use Rattle.std.specs.Prelude.{◌≡◌, ◌<◌, ◌+◌, ◌∷◌, [], true, length, vec_len, vec_capacity, IfOk, IfErr, OnOk, OnErr};
+ghost use Rattle.std.specs.Prelude.{◌≡◌, ◌<◌, ◌+◌, ◌∷◌, [], true, length, IfOk, IfErr, OnOk, OnErr};
 ghost use Rattle.policy_audit.specs.declared.entry.Verdict.TheVariants.{Accepted, Refused};
 ghost use Rattle.policy_audit.specs.declared.entry.Entry.{Entry};
 ghost use Rattle.node_core.specs.declared.fault.CoreFault.TheVariants.{OutOfMemory};
 
+use crate::changes::ChangeRoom;
 use crate::fault::CoreFault;
-use dist_types::TryClone;
+use dist_types::{Scope, TryClone};
 use policy_audit::{Audit, Change, Changes, Event, Reply, Rule, Verdict};
 use std::alloc::Global;
 
@@ -20,18 +21,20 @@ pub fn make_ready(alloc: Global, audit: &mut Audit, reply: &Reply) -> Result<Rep
     Ok(reply.try_clone(alloc)?)
 }
 
-/// Makes room for an entry, and for the change of one scope that it will have.
-pub fn room_for_change(alloc: Global, audit: &mut Audit) -> Result<Vec<Change>, CoreFault>
-    ensures empty { IfOk result (λ changes. changes.items ≡ []) }
-    ensures spare { IfOk result (λ changes. vec_len changes < vec_capacity changes) }
+/// Makes room for an entry, and for the change of this scope that it will have.
+pub fn room_for_change(
+    alloc: Global,
+    audit: &mut Audit,
+    scope: Scope,
+) -> Result<ChangeRoom, CoreFault>
+    ensures scope { IfOk result (λ room. room ≡ scope) }
     ensures room { OnOk result (audit.new ≡ record { limit = audit.old.limit; entries = audit.old.entries; has_room = true }) }
     ensures memory { IfErr result (λ fault. fault ≡ OutOfMemory) }
     ensures same { OnErr result (audit.new ≡ audit.old) }
 {
-    let mut changes = Vec::new(alloc);
-    changes.reserve(1)?;
+    let room = ChangeRoom::new(alloc, scope)?;
     audit.make_room()?;
-    Ok(changes)
+    Ok(room)
 }
 
 /// Enters an event, into the room that there is.

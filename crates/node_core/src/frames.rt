@@ -3,7 +3,7 @@ ghost use Rattle.std.specs.Prelude.{◌≡◌, IfOk};
 ghost use Rattle.link_frames.specs.Spelling.{HasSpelling};
 ghost use Rattle.policy_audit.specs.Owed.{wide};
 
-use dist_types::OutOfMemory;
+use dist_types::{OutOfMemory, Scope, TryClone};
 use link_frames::{Message, encode};
 use policy_audit::{Body, OutFrame};
 use std::alloc::Global;
@@ -21,10 +21,20 @@ pub fn frame_of(alloc: Global, message: &Message) -> Result<OutFrame, OutOfMemor
     })
 }
 
+/// The frame of a Discover of a scope.
+pub fn discover_frame(alloc: Global, scope: &Scope) -> Result<OutFrame, OutOfMemory>
+    ensures { IfOk result (λ frame. frame ≡ wide (Message.Discover scope.now)) }
+{
+    let scope = scope.try_clone(alloc)?;
+    into_frame(alloc, Message::Discover(scope))
+}
+
 /// The frame of a message that is not needed any more.
 pub fn into_frame(alloc: Global, message: Message) -> Result<OutFrame, OutOfMemory>
     requires { HasSpelling message }
     ensures { IfOk result (λ frame. frame ≡ wide message) }
 {
-    frame_of(alloc, &message)
+    let frame = frame_of(alloc, &message);
+    drop(message);
+    frame
 }

@@ -3,6 +3,7 @@ ghost use Rattle.std.specs.Prelude.{◌≡◌, ◌+◌, ◌≤◌, ◌++◌, [],
 ghost use Rattle.std.specs.List.{AllZip};
 ghost use Rattle.std.specs.Option.{option_map, option_map_or, unwrap_or};
 ghost use Rattle.dist_types.specs.Listing.{same};
+ghost use Rattle.link_frames.specs.declared.message.Message.TheVariants as said;
 ghost use Rattle.policy_audit.specs.Owed.{wide};
 ghost use Rattle.policy_audit.specs.Policy.{is_full};
 ghost use Rattle.policy_audit.specs.Sides.{awaits, is_last, is_whole};
@@ -16,7 +17,7 @@ ghost use Rattle.node_core.specs.Step.{Steps};
 use crate::changes::{Part, changes_of, end_link};
 use crate::entering::{accept, reject};
 use crate::fault::CoreFault;
-use crate::frames::into_frame;
+use crate::frames::discover_frame;
 use crate::hearing::{Heard, hear, hear_last};
 use crate::link::Link;
 use crate::link_state::LinkState;
@@ -24,7 +25,6 @@ use crate::links::{dial_to, pending_of, place_of, remove};
 use crate::node::NodeCore;
 use crate::running::Running;
 use dist_types::{NodeName, OutOfMemory, TryClone};
-use link_frames::Message;
 use link_states::{Bodies, Up};
 use policy_audit::{Body, Change, Event, OutFrame, Reply, Rule};
 use std::alloc::Global;
@@ -80,7 +80,9 @@ impl NodeCore {
         self.audit.make_room()?;
         let state = self.links[place].replace(LinkState::Ended);
         let bytes = body.as_slice();
-        match hear(self.alloc, state, bytes, &self.admission, &pending) {
+        let heard = hear(self.alloc, state, bytes, &self.admission, &pending);
+        drop(pending);
+        match heard {
             Heard::On {
                 state,
                 frames,
@@ -138,12 +140,14 @@ impl NodeCore {
                 Ok(reply)
             }
             Heard::Ended { rule, frames } => {
+                drop(arrival);
                 end(&mut self.links, place, frames);
                 let event = Event::Frame(number, body);
                 reject(self.alloc, &mut self.audit, seat, event, rule);
                 Err(CoreFault::Refused(rule))
             }
             Heard::OutOfMemory(state) => {
+                drop(arrival);
                 self.links[place].set_state(state);
                 Err(CoreFault::OutOfMemory)
             }
@@ -268,7 +272,7 @@ fn arrival_of(alloc: Global, link: &Link, scopes: &[Running]) -> Result<Arrival,
     ensures known { IfOk result (λ a. known_peer link.now.state ≡ Some a.kept) }
     ensures copy { IfOk result (λ a. a.peer ≡ a.kept) }
     ensures changes { IfOk result (λ a. AreLost (known_peer link.now.state) scopes.now a.changes.items) }
-    ensures discovers { IfOk result (λ a. a.discovers.items ≡ map (λ r. wide (Message.Discover r.scope)) scopes.now) }
+    ensures discovers { IfOk result (λ a. a.discovers.items ≡ map (λ r. wide (said.Discover r.scope)) scopes.now) }
 {
     let Some(peer) = link.peer() else {
         unreachable!()
@@ -293,12 +297,11 @@ fn dial_beside(links: &[Link], state: &LinkState) -> Option<u32>
 
 /// A Discover for each scope that runs.
 fn discovers_of(alloc: Global, scopes: &[Running]) -> Result<Vec<OutFrame>, OutOfMemory>
-    ensures { IfOk result (λ frames. frames.items ≡ map (λ r. wide (Message.Discover r.scope)) scopes.now) }
+    ensures { IfOk result (λ frames. frames.items ≡ map (λ r. wide (said.Discover r.scope)) scopes.now) }
 {
     let mut frames = Vec::new(alloc);
     for running in scopes {
-        let scope = running.scope.try_clone(alloc)?;
-        frames.push(into_frame(alloc, Message::Discover(scope))?)?;
+        frames.push(discover_frame(alloc, &running.scope)?)?;
     }
     Ok(frames)
 }

@@ -14,7 +14,7 @@ use policy_audit::Rule;
 use std::alloc::Global;
 
 /// What a frame of the handshake leads to, with the frames to send.
-#[derive(Debug, Drop)]
+#[derive(Drop)]
 pub enum Heard {
     /// The handshake goes on. Where the mark says so, the own dial to the peer is given up.
     On {

@@ -13,7 +13,7 @@ use std::marker::Model;
 use std::mem;
 
 /// A link, with the frames that wait for it.
-#[derive(Debug, Drop)]
+#[derive(Drop)]
 pub struct Link {
     number: u32,
     state: LinkState,

@@ -2,7 +2,7 @@
 use link_states::{AwaitAck, AwaitAnswer, AwaitChallenge, AwaitName, AwaitReply, AwaitStatus, Up};
 
 /// What a link awaits.
-#[derive(Debug, Drop)]
+#[derive(Drop)]
 pub enum LinkState {
     Name(AwaitName),
     Answer(AwaitAnswer),

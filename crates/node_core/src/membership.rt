@@ -1,20 +1,16 @@
 //! The node's own processes in groups.
-ghost use Rattle.std.specs.Prelude.{◌≡◌, ◌≤◌, ◌+◌, min, map, true, false, length, All, IfOk, IfErr, OnOk, OnErr};
+ghost use Rattle.std.specs.Prelude.{◌≡◌, ◌≤◌, ◌+◌, true, false, length, All, IfOk, IfErr, OnOk, OnErr};
 ghost use Rattle.std.specs.List.{list_all};
-ghost use Rattle.dist_types.specs.Listing.{listing, mentions};
-ghost use Rattle.dist_types.specs.Order.{pid_cmp};
-ghost use Rattle.link_frames.specs.declared.message.Message.TheVariants as said;
-ghost use Rattle.scope_core.specs.Table.{local_count, local_total, max_rows};
+ghost use Rattle.scope_core.specs.Table.{local_total, max_rows};
 ghost use Rattle.scope_core.specs.Calls.{count_after_join, count_after_leave, is_any_joined};
 ghost use Rattle.policy_audit.specs.Checks.{first_broken};
-ghost use Rattle.policy_audit.specs.Contents.{row};
 ghost use Rattle.policy_audit.specs.Own.{is_local, lives};
 ghost use Rattle.policy_audit.specs.Policy.{is_full};
 ghost use Rattle.node_core.specs.Step.{Steps};
 ghost use Rattle.node_core.specs.Telling.{AreIdle, Alike};
-ghost use Rattle.node_core.specs.Moving.{own_checks, IsMoved, IsJoinRefusal, IsLeaveRefusal, fault_of};
+ghost use Rattle.node_core.specs.Moving.{own_checks, join_of, leave_of, IsPrepared, IsMoved, IsJoinRefusal, IsLeaveRefusal, fault_of};
 
-use crate::changes::{Part, leave_all, put_change, rows_of};
+use crate::changes::{ChangeRoom, Part, leave_all, rows_of};
 use crate::entering::accept;
 use crate::fault::CoreFault;
 use crate::link::Link;
@@ -22,7 +18,7 @@ use crate::links::{commit, forget};
 use crate::node::NodeCore;
 use crate::running::{Running, place_of};
 use crate::telling::{tell, tell_exit};
-use dist_types::{Group, Pid, Pids, Scope, TryClone};
+use dist_types::{Group, OutOfMemory, Pid, Pids, Scope, TryClone};
 use link_frames::{Message, Rows};
 use policy_audit::{Change, Event, Reply, Rule};
 use scope_core::{ScopeTable, TableFault};
@@ -180,28 +176,43 @@ fn join_one(
     requires own { All (λ p. p.node ≡ running.old.table.own) pids.now }
     requires few { length pids.now ≤ 4096 }
     requires idle { AreIdle links.old.items }
-    ensures joined { IfOk result (λ changes. IsMoved (said.Join running.old.scope (map (row group.now) (listing pid_cmp (λ p. mentions p pids.now) pids.now))) (count_after_join running.old.table group.now pids.now) running.old running.new links.old.items links.new.items changes.items) }
+    ensures joined { IfOk result (λ changes. IsMoved (join_of running.old.scope group.now pids.now) (count_after_join running.old.table group.now pids.now) running.old running.new links.old.items links.new.items changes.items) }
     ensures few { OnOk result (local_total running.old.table + length pids.now ≤ max_rows) }
     ensures refused { IfErr result (IsJoinRefusal running.old.table pids.now) }
     ensures same { OnErr result ((running.new ≡ running.old) × Alike links.old.items links.new.items) }
 {
-    let mut changes = Vec::new(alloc);
-    changes.reserve(1)?;
-    let name = running.scope.try_clone(alloc)?;
-    let rows = Rows::of(rows_of(alloc, group, pids)?);
-    let message = Message::Join(running.scope.try_clone(alloc)?, rows);
-    tell(alloc, links, &running.told, message)?;
+    let room = ChangeRoom::new(alloc, running.scope.try_clone(alloc)?)?;
+    tell_join(alloc, links, running, group, pids)?;
     match running.table.join_local(group, pids) {
         Ok(groups) => {
             commit(links);
-            put_change(&mut changes, name, groups);
-            Ok(changes)
+            Ok(room.filled(groups))
         }
         Err(fault) => {
             forget(links);
             Err(fault_of(fault))
         }
     }
+}
+
+/// Prepares a Join of own processes for the links that are told. Where memory is wanting, what was prepared before is dropped,
+/// too.
+fn tell_join(
+    alloc: Global,
+    links: &mut Vec<Link>,
+    running: &Running,
+    group: &Group,
+    pids: &[Pid],
+) -> Result<(), OutOfMemory>
+    requires few { length pids.now ≤ 4096 }
+    requires idle { AreIdle links.old.items }
+    ensures told { OnOk result (IsPrepared (join_of running.now.scope group.now pids.now) running.now links.old.items links.new.items) }
+    ensures same { OnErr result (Alike links.old.items links.new.items) }
+{
+    let rows = Rows::of(rows_of(alloc, group, pids)?);
+    let scope = running.scope.try_clone(alloc)?;
+    tell(alloc, links, &running.told, Message::Join(scope, rows))?;
+    Ok(())
 }
 
 /// Own processes leave a group of one scope, and the links that are told there are told so. Where they don't, nothing has
@@ -215,29 +226,44 @@ fn leave_one(
 ) -> Result<Vec<Change>, CoreFault>
     requires own { All (λ p. p.node ≡ running.old.table.own) pids.now }
     requires idle { AreIdle links.old.items }
-    ensures left { IfOk result (λ changes. IsMoved (said.Leave running.old.scope (map (row group.now) (listing pid_cmp (λ p. min (mentions p pids.now) (local_count running.old.table group.now p)) pids.now))) (count_after_leave running.old.table group.now pids.now) running.old running.new links.old.items links.new.items changes.items) }
+    ensures left { IfOk result (λ changes. IsMoved (leave_of running.old group.now pids.now) (count_after_leave running.old.table group.now pids.now) running.old running.new links.old.items links.new.items changes.items) }
     ensures some { OnOk result (is_any_joined running.old.table group.now pids.now ≡ true) }
     ensures refused { IfErr result (IsLeaveRefusal running.old.table group.now pids.now) }
     ensures same { OnErr result ((running.new ≡ running.old) × Alike links.old.items links.new.items) }
 {
-    let mut changes = Vec::new(alloc);
-    changes.reserve(1)?;
-    let name = running.scope.try_clone(alloc)?;
-    let gone = running.table.leaving(group, pids)?;
-    let rows = Rows::of(rows_of(alloc, group, &gone)?);
-    let message = Message::Leave(running.scope.try_clone(alloc)?, rows);
-    tell(alloc, links, &running.told, message)?;
+    let room = ChangeRoom::new(alloc, running.scope.try_clone(alloc)?)?;
+    tell_leave(alloc, links, running, group, pids)?;
     match running.table.leave_local(group, pids) {
         Ok(groups) => {
             commit(links);
-            put_change(&mut changes, name, groups);
-            Ok(changes)
+            Ok(room.filled(groups))
         }
         Err(fault) => {
             forget(links);
             Err(fault_of(fault))
         }
     }
+}
+
+/// Prepares a Leave of the own processes that a leave of these takes, for the links that are told. Where memory is wanting, what
+/// was prepared before is dropped, too.
+fn tell_leave(
+    alloc: Global,
+    links: &mut Vec<Link>,
+    running: &Running,
+    group: &Group,
+    pids: &[Pid],
+) -> Result<(), OutOfMemory>
+    requires own { All (λ p. p.node ≡ running.now.table.own) pids.now }
+    requires idle { AreIdle links.old.items }
+    ensures told { OnOk result (IsPrepared (leave_of running.now group.now pids.now) running.now links.old.items links.new.items) }
+    ensures same { OnErr result (Alike links.old.items links.new.items) }
+{
+    let gone = running.table.leaving(group, pids)?;
+    let rows = Rows::of(rows_of(alloc, group, &gone)?);
+    let scope = running.scope.try_clone(alloc)?;
+    tell(alloc, links, &running.told, Message::Leave(scope, rows))?;
+    Ok(())
 }
 
 /// The rule that a fault of a table is.

@@ -12,13 +12,13 @@ ghost use Rattle.policy_audit.specs.Checks.{first_broken};
 ghost use Rattle.node_core.specs.Step.{Steps};
 ghost use Rattle.node_core.specs.Links.{are_of_peer};
 ghost use Rattle.node_core.specs.Messages.{scope_in, refusal};
-ghost use Rattle.node_core.specs.MessageRules.{early_checks, HasBecome, AnswersDiscover};
+ghost use Rattle.node_core.specs.MessageRules.{early_checks, HasBecome, AnswersDiscover, IsSyncFrame};
 ghost use Rattle.node_core.specs.ScopeFacts.{is_number, with_number};
 
-use crate::changes::{cut_off, put_change};
+use crate::changes::cut_off;
 use crate::entering::{accept, room_for_change};
 use crate::fault::CoreFault;
-use crate::frames::into_frame;
+use crate::frames::{discover_frame, into_frame};
 use crate::link::Link;
 use crate::link_state::LinkState;
 use crate::links;
@@ -91,7 +91,7 @@ impl NodeCore {
         let Some(at) = place_of(&self.scopes, &scope) else {
             unreachable!()
         };
-        let frames = answer_to_discover(self.alloc, &self.scopes[at], number, scope)?;
+        let frames = answer_to_discover(self.alloc, &self.scopes[at], number, &scope)?;
         self.audit.make_room()?;
         self.links[place].make_room(frames.len())?;
         tell(&mut self.scopes[at], number)?;
@@ -130,14 +130,19 @@ impl NodeCore {
         let Some(at) = place_of(&self.scopes, &scope) else {
             unreachable!()
         };
-        let mut changes = room_for_change(self.alloc, &mut self.audit)?;
+        let room = room_for_change(self.alloc, &mut self.audit, scope)?;
         let Some(peer) = self.links[place].up_peer() else {
             unreachable!()
         };
-        let groups = hear_rows(&mut self.scopes[at], number, peer, rows.as_slice())?;
-        put_change(&mut changes, scope, groups);
+        let groups = hear_rows(&mut self.scopes[at], number, peer, rows)?;
         let event = Event::Frame(number, body);
-        accept(&mut self.audit, seat, event, Reply::Done, changes);
+        accept(
+            &mut self.audit,
+            seat,
+            event,
+            Reply::Done,
+            room.filled(groups),
+        );
         Ok(Reply::Done)
     }
 
@@ -163,20 +168,25 @@ impl NodeCore {
         let Some(at) = place_of(&self.scopes, &scope) else {
             unreachable!()
         };
-        let mut changes = room_for_change(self.alloc, &mut self.audit)?;
+        let room = room_for_change(self.alloc, &mut self.audit, scope)?;
         let Some(peer) = self.links[place].up_peer() else {
             unreachable!()
         };
-        let groups = match add_rows(&mut self.scopes[at], peer, rows.as_slice()) {
+        let groups = match add_rows(&mut self.scopes[at], peer, rows) {
             Ok(groups) => groups,
             Err(TableFault::RowsFull) => {
                 return self.refuse(seat, Event::Frame(number, body), Rule::RowsFull);
             }
             Err(_) => return Err(CoreFault::OutOfMemory),
         };
-        put_change(&mut changes, scope, groups);
         let event = Event::Frame(number, body);
-        accept(&mut self.audit, seat, event, Reply::Done, changes);
+        accept(
+            &mut self.audit,
+            seat,
+            event,
+            Reply::Done,
+            room.filled(groups),
+        );
         Ok(Reply::Done)
     }
 
@@ -202,20 +212,25 @@ impl NodeCore {
         let Some(at) = place_of(&self.scopes, &scope) else {
             unreachable!()
         };
-        let mut changes = room_for_change(self.alloc, &mut self.audit)?;
+        let room = room_for_change(self.alloc, &mut self.audit, scope)?;
         let Some(peer) = self.links[place].up_peer() else {
             unreachable!()
         };
-        let groups = match take_rows(&mut self.scopes[at], peer, rows.as_slice()) {
+        let groups = match take_rows(&mut self.scopes[at], peer, rows) {
             Ok(groups) => groups,
             Err(TableFault::NotListed) => {
                 return self.refuse(seat, Event::Frame(number, body), Rule::NotListed);
             }
             Err(_) => return Err(CoreFault::OutOfMemory),
         };
-        put_change(&mut changes, scope, groups);
         let event = Event::Frame(number, body);
-        accept(&mut self.audit, seat, event, Reply::Done, changes);
+        accept(
+            &mut self.audit,
+            seat,
+            event,
+            Reply::Done,
+            room.filled(groups),
+        );
         Ok(Reply::Done)
     }
 
@@ -240,15 +255,20 @@ impl NodeCore {
         let Some(at) = place_of(&self.scopes, &scope) else {
             unreachable!()
         };
-        let mut changes = room_for_change(self.alloc, &mut self.audit)?;
+        let room = room_for_change(self.alloc, &mut self.audit, scope)?;
         let Some(peer) = self.links[place].up_peer() else {
             unreachable!()
         };
         let groups = self.scopes[at].table.drop_change(peer)?;
         cut_off(&mut self.scopes[at], number, peer);
-        put_change(&mut changes, scope, groups);
         let event = Event::Frame(number, body);
-        accept(&mut self.audit, seat, event, Reply::Done, changes);
+        accept(
+            &mut self.audit,
+            seat,
+            event,
+            Reply::Done,
+            room.filled(groups),
+        );
         Ok(Reply::Done)
     }
 }
@@ -258,18 +278,25 @@ fn answer_to_discover(
     alloc: Global,
     running: &Running,
     number: u32,
-    scope: Scope,
+    scope: &Scope,
 ) -> Result<Vec<OutFrame>, OutOfMemory>
-    ensures { IfOk result (λ frames. AnswersDiscover running.now number scope frames.items) }
+    ensures { IfOk result (λ frames. AnswersDiscover running.now number scope.now frames.items) }
 {
     let mut frames = Vec::new(alloc);
-    let rows = Rows::of(running.table.local_rows()?);
-    let name = scope.try_clone(alloc)?;
-    frames.push(into_frame(alloc, Message::Sync(name, rows))?)?;
+    frames.push(sync_frame(alloc, running, scope)?)?;
     if !running.heard.contains(&number) {
-        frames.push(into_frame(alloc, Message::Discover(scope))?)?;
+        frames.push(discover_frame(alloc, scope)?)?;
     }
     Ok(frames)
+}
+
+/// A Sync of all own rows.
+fn sync_frame(alloc: Global, running: &Running, scope: &Scope) -> Result<OutFrame, OutOfMemory>
+    ensures { IfOk result (IsSyncFrame running.now scope.now) }
+{
+    let rows = Rows::of(running.table.local_rows()?);
+    let scope = scope.try_clone(alloc)?;
+    into_frame(alloc, Message::Sync(scope, rows))
 }
 
 /// The peer of this link is told from now on.
@@ -287,16 +314,16 @@ fn hear_rows(
     running: &mut Running,
     number: u32,
     peer: &NodeName,
-    rows: &[Row],
+    rows: Rows,
 ) -> Result<Vec<GroupChange>, OutOfMemory>
-    requires of_peer { All (λ r. r.pid.node ≡ peer.now) rows.now }
-    requires few { length rows.now ≤ max_rows }
-    ensures ok { OnOk result (HasBecome running.old running.new (count_after_sync running.old.table peer.now rows.now) (with_number number running.old.heard.items) running.old.told.items) }
+    requires of_peer { All (λ r. r.pid.node ≡ peer.now) rows }
+    requires few { length rows ≤ max_rows }
+    ensures ok { OnOk result (HasBecome running.old running.new (count_after_sync running.old.table peer.now rows) (with_number number running.old.heard.items) running.old.told.items) }
     ensures change { IfOk result (λ groups. IsDifference (count_of running.old.table) (count_of running.new.table) groups.items) }
     ensures same { OnErr result (HasBecome running.old running.new (count_of running.old.table) running.old.heard.items running.old.told.items) }
 {
     running.heard.reserve(1)?;
-    let Ok(groups) = running.table.sync(peer, rows) else {
+    let Ok(groups) = running.table.sync(peer, rows.as_slice()) else {
         return Err(OutOfMemory);
     };
     note(&mut running.heard, number);
@@ -307,32 +334,32 @@ fn hear_rows(
 fn add_rows(
     running: &mut Running,
     peer: &NodeName,
-    rows: &[Row],
+    rows: Rows,
 ) -> Result<Vec<GroupChange>, TableFault>
-    requires { All (λ r. r.pid.node ≡ peer.now) rows.now }
-    ensures ok { OnOk result (HasBecome running.old running.new (count_after_add running.old.table rows.now) running.old.heard.items running.old.told.items) }
+    requires { All (λ r. r.pid.node ≡ peer.now) rows }
+    ensures ok { OnOk result (HasBecome running.old running.new (count_after_add running.old.table rows) running.old.heard.items running.old.told.items) }
     ensures change { IfOk result (λ groups. IsDifference (count_of running.old.table) (count_of running.new.table) groups.items) }
-    ensures refused { IfErr result (IsAddFault running.old.table peer.now rows.now) }
-    ensures limits { OnOk result (node_total running.old.table peer.now + length rows.now ≤ max_rows) }
+    ensures refused { IfErr result (IsAddFault running.old.table peer.now rows) }
+    ensures limits { OnOk result (node_total running.old.table peer.now + length rows ≤ max_rows) }
     ensures same { OnErr result (running.new ≡ running.old) }
 {
-    running.table.join_remote(peer, rows)
+    running.table.join_remote(peer, rows.as_slice())
 }
 
 /// Rows are taken from the peer's.
 fn take_rows(
     running: &mut Running,
     peer: &NodeName,
-    rows: &[Row],
+    rows: Rows,
 ) -> Result<Vec<GroupChange>, TableFault>
-    requires { All (λ r. r.pid.node ≡ peer.now) rows.now }
-    ensures ok { OnOk result (HasBecome running.old running.new (count_after_take running.old.table rows.now) running.old.heard.items running.old.told.items) }
+    requires { All (λ r. r.pid.node ≡ peer.now) rows }
+    ensures ok { OnOk result (HasBecome running.old running.new (count_after_take running.old.table rows) running.old.heard.items running.old.told.items) }
     ensures change { IfOk result (λ groups. IsDifference (count_of running.old.table) (count_of running.new.table) groups.items) }
-    ensures refused { IfErr result (IsTakeFault running.old.table rows.now) }
-    ensures only { OnOk result (IsTrue (are_counted running.old.table rows.now)) }
+    ensures refused { IfErr result (IsTakeFault running.old.table rows) }
+    ensures only { OnOk result (IsTrue (are_counted running.old.table rows)) }
     ensures same { OnErr result (running.new ≡ running.old) }
 {
-    running.table.leave_remote(peer, rows)
+    running.table.leave_remote(peer, rows.as_slice())
 }
 
 /// The scope that a message is about.

@@ -20,10 +20,11 @@ use group_monitors::Monitors;
 use policy_audit::{Audit, Event, Opening, Reply, Rule};
 use scope_core::ScopeTable;
 use std::alloc::Global;
+use std::fmt;
 use std::marker::Model;
 
 /// A node. It does no input or output of its own.
-#[derive(Debug, Drop)]
+#[derive(Drop)]
 pub struct NodeCore {
     pub(crate) alloc: Global,
     pub(crate) opening: Opening,
@@ -35,6 +36,16 @@ pub struct NodeCore {
     /// Those that are kept, the oldest first.
     pub(crate) links: Vec<Link>,
     pub(crate) monitors: Monitors,
+}
+
+/// Shows the node's name, and how many entries it has.
+impl fmt::Debug for NodeCore {
+    fn fmt<W: fmt::Write>(&self, f: &mut fmt::Formatter<W>) -> fmt::Result {
+        f.debug_struct("NodeCore")
+            .field("name", &self.opening.name)
+            .field("entries", &self.audit.len())
+            .finish_non_exhaustive()
+    }
 }
 
 impl Model for NodeCore {

@@ -8,7 +8,7 @@ use std::alloc::{AllocError, Global};
 use std::marker::Model;
 
 /// How many processes were spawned, and which live, by number.
-#[derive(Debug, Drop)]
+#[derive(Drop)]
 pub struct Processes {
     spawned: u64,
     live: IndexSet<u64>,

@@ -7,7 +7,7 @@ use dist_types::Scope;
 use scope_core::ScopeTable;
 
 /// A scope, with its rows and the links that it is shared over.
-#[derive(Debug, Drop)]
+#[derive(Drop)]
 pub struct Running {
     pub scope: Scope,
     pub table: ScopeTable,

@@ -14,9 +14,10 @@ ghost use Rattle.policy_audit.specs.Owed.{wide};
 ghost use Rattle.policy_audit.specs.Own.{is_running};
 ghost use Rattle.policy_audit.specs.Policy.{is_full};
 ghost use Rattle.node_core.specs.Step.{Steps};
+ghost use Rattle.node_core.specs.Links.{prepared_for, unroomed};
 ghost use Rattle.node_core.specs.Telling.{AreIdle, AreTold, Alike, if_among, shown_numbers, put_scope};
 
-use crate::changes::{Part, changes_of, put_change};
+use crate::changes::{ChangeRoom, Part, changes_of};
 use crate::entering::accept;
 use crate::fault::CoreFault;
 use crate::link::Link;
@@ -69,9 +70,7 @@ impl NodeCore {
         }
         self.scopes.reserve(1)?;
         self.audit.make_room()?;
-        let name = scope.try_clone(self.alloc)?;
-        let running = new_scope(self.alloc, &self.opening.name, &scope)?;
-        tell_shown(self.alloc, &mut self.links, Message::Discover(name))?;
+        let running = asked_scope(self.alloc, &mut self.links, &self.opening.name, &scope)?;
         put_in(&mut self.scopes, running);
         let nothing = Vec::new(self.alloc);
         let event = Event::StartScope(scope);
@@ -114,6 +113,33 @@ impl NodeCore {
         let event = Event::StopScope(scope);
         accept(&mut self.audit, seat, event, Reply::Done, changes);
         Ok(Reply::Done)
+    }
+}
+
+/// A scope with no rows, of which the peers on the links that are up and visible are asked for theirs. Where memory is wanting,
+/// nothing has changed.
+fn asked_scope(
+    alloc: Global,
+    links: &mut Vec<Link>,
+    own: &NodeName,
+    scope: &Scope,
+) -> Result<Running, OutOfMemory>
+    requires { AreIdle links.old.items }
+    ensures scope { IfOk result (λ r. r.scope ≡ scope.now) }
+    ensures own { IfOk result (λ r. r.table.own ≡ own.now) }
+    ensures rows { IfOk result (λ r. (g : List ℕ) (p : Pid) → count_of r.table g p ≡ 0) }
+    ensures links { IfOk result (λ r. (r.heard.items ≡ []) × (r.told.items ≡ [])) }
+    ensures told { OnOk result (AreTold (if_among (shown_numbers links.old.items) (wide (Message.Discover scope.now))) links.old.items links.new.items) }
+    ensures same { OnErr result (Alike links.old.items links.new.items) }
+{
+    let name = scope.try_clone(alloc)?;
+    let running = new_scope(alloc, own, scope)?;
+    match tell_shown(alloc, links, Message::Discover(name)) {
+        Ok(()) => Ok(running),
+        Err(fault) => {
+            drop(running);
+            Err(fault)
+        }
     }
 }
 
@@ -160,11 +186,8 @@ fn change_in(
 ) -> Result<Vec<Change>, OutOfMemory>
     ensures { IfOk result (λ changes. changes.items ≡ if_some scope.now groups.items) }
 {
-    let mut changes = Vec::new(alloc);
-    changes.reserve(1)?;
-    let scope = scope.try_clone(alloc)?;
-    put_change(&mut changes, scope, groups);
-    Ok(changes)
+    let room = ChangeRoom::new(alloc, scope.try_clone(alloc)?)?;
+    Ok(room.filled(groups))
 }
 
 /// A message waits for the links that are up and visible from now on. Where memory is wanting, nothing has changed.
@@ -174,8 +197,21 @@ fn tell_shown(alloc: Global, links: &mut Vec<Link>, message: Message) -> Result<
     ensures told { OnOk result (AreTold (if_among (shown_numbers links.old.items) (wide message)) links.old.items links.new.items) }
     ensures same { OnErr result (Alike links.old.items links.new.items) }
 {
-    let numbers = shown(alloc, links)?;
-    prepare(alloc, links, &numbers, &message)?;
+    let told = prepare_shown(alloc, links, &message);
+    drop(message);
+    told?;
     commit(links);
+    Ok(())
+}
+
+/// Prepares a message for the links that are up and visible.
+fn prepare_shown(alloc: Global, links: &mut Vec<Link>, message: &Message) -> Result<(), OutOfMemory>
+    requires spelled { HasSpelling message.now }
+    requires idle { AreIdle links.old.items }
+    ensures told { OnOk result (map unroomed links.new.items ≡ map (λ x. unroomed (prepared_for (shown_numbers links.old.items) (wide message.now) x)) links.old.items) }
+    ensures same { OnErr result (Alike links.old.items links.new.items) }
+{
+    let numbers = shown(alloc, links)?;
+    prepare(alloc, links, &numbers, message)?;
     Ok(())
 }

@@ -30,9 +30,26 @@ pub fn tell(
     ensures ok { OnOk result (map unroomed links.new.items ≡ map (λ x. unroomed (prepared_for (said_to numbers.now message) (wide message) x)) links.old.items) }
     ensures forgot { OnErr result (map unroomed links.new.items ≡ map (λ x. unroomed (with_prepared x [])) links.old.items) }
 {
-    if is_said(&message) {
-        prepare(alloc, links, numbers, &message)?;
+    let told = prepare_said(alloc, links, numbers, &message);
+    drop(message);
+    told
+}
+
+/// The same, and the message stays.
+fn prepare_said(
+    alloc: Global,
+    links: &mut Vec<Link>,
+    numbers: &[u32],
+    message: &Message,
+) -> Result<(), OutOfMemory>
+    requires { IsBrief message.now }
+    ensures ok { OnOk result (map unroomed links.new.items ≡ map (λ x. unroomed (prepared_for (said_to numbers.now message.now) (wide message.now) x)) links.old.items) }
+    ensures forgot { OnErr result (map unroomed links.new.items ≡ map (λ x. unroomed (with_prepared x [])) links.old.items) }
+{
+    if !is_said(message) {
+        return Ok(());
     }
+    prepare(alloc, links, numbers, message)?;
     Ok(())
 }
 

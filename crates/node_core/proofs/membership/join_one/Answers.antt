@@ -1,25 +1,17 @@
-use Rattle.std.proofs.Common.{◌∙◌, refl}
-use Rattle.std.specs.Prelude.{map}
-use Rattle.dist_types.specs.Order.{pid_cmp}
-use Rattle.dist_types.specs.Listing.{listing, mentions}
-use Rattle.policy_audit.specs.Contents.{row}
-use Rattle.link_frames.specs.declared.message.Message.TheVariants as said
+use Rattle.std.proofs.Common.{refl}
 use Rattle.policy_audit.specs.Owed.{wide}
 use Rattle.node_core.specs.Telling.{said_to}
-use Rattle.node_core.proofs.Said.{joined_rows_are, join_fault, dropped_again, untold}
+use Rattle.node_core.specs.Moving.{join_of}
+use Rattle.node_core.proofs.Said.{join_fault, dropped_again, untold}
 use Rattle.node_core.proofs.Told.{prepared_told}
 use Rattle.node_core.proofs.membership.join_one.Goals as goal
 
-pub tell-requires : goal.tell-requires
-tell-requires c = rw (c.of-rows.ensures, c.in_ok-rows_of.ensures.length) c.requires.few
-
-pub returns-in_err-tell-clause-same : goal.returns-in_err-tell-clause-same
-returns-in_err-tell-clause-same c = untold _ c.args.running.now c.args.links.now.items c.tell.new.links.items c.requires.idle c.in_err-tell.ensures.forgot
+pub returns-in_err-tell_join-clause-same : goal.returns-in_err-tell_join-clause-same
+returns-in_err-tell_join-clause-same c = untold _ c.args.running.now c.args.links.now.items c.tell_join.new.links.items c.in_err-tell_join.ensures.same
 
 pub returns-in-Ok : goal.returns-in-Ok
 returns-in-Ok c =
-    let rows = c.of-rows.ensures ∙ joined_rows_are c.args.group.now c.args.pids.now c.in_ok-rows_of.field-0.items c.in_ok-rows_of.ensures.rows in
-    let prepared = rw (c.deref.ensures.value, c.in_ok-try_clone.ensures, rows) at c.in_ok-tell.ensures.ok in
+    let said = join_of c.args.running.now.scope c.args.group.now c.args.pids.now in
     record {
       joined = record {
         scope = refl;
@@ -28,8 +20,8 @@ returns-in-Ok c =
         rows = c.in-Ok.ensures.ok;
         groups = c.in-Ok.groups.items;
         difference = c.in-Ok.ensures.change;
-        changes = rw (c.put_change.ensures, c.in_ok-reserve.ensures.items, c.new-changes.ensures.items, c.in_ok-name.ensures) refl;
-        links = rw c.commit.ensures (prepared_told (said_to c.args.running.now.told.items (said.Join c.args.running.now.scope (map (row c.args.group.now) (listing pid_cmp (λ p. mentions p c.args.pids.now) c.args.pids.now)))) (wide (said.Join c.args.running.now.scope (map (row c.args.group.now) (listing pid_cmp (λ p. mentions p c.args.pids.now) c.args.pids.now)))) c.args.links.now.items c.tell.new.links.items c.requires.idle prepared);
+        changes = rw (c.filled.ensures, c.in_ok-room.ensures, c.in_ok-try_clone.ensures) refl;
+        links = rw c.commit.ensures (prepared_told (said_to c.args.running.now.told.items said) (wide said) c.args.links.now.items c.tell_join.new.links.items c.requires.idle c.in_ok-tell_join.ensures.told);
       };
       few = c.in-Ok.ensures.limits;
       refused = tt;
@@ -37,12 +29,14 @@ returns-in-Ok c =
     }
 
 pub returns-in-Err : goal.returns-in-Err
-returns-in-Err c = record {
-  joined = tt;
-  few = tt;
-  refused = rw c.fault_of.ensures (join_fault c.args.running.now.table c.args.pids.now c.in-Err.fault c.in-Err.ensures.refused);
-  same = (
-    λ i. record { scope = c.args.running.now.scope; table = c.in-Err.ensures.same i; heard = c.args.running.now.heard; told = c.args.running.now.told },
-    dropped_again (said_to c.deref.result.now (said.Join c.in_ok-try_clone.field-0 c.of-rows.result)) (wide (said.Join c.in_ok-try_clone.field-0 c.of-rows.result)) c.args.links.now.items c.tell.new.links.items c.forget.new.links.items c.requires.idle c.in_ok-tell.ensures.ok c.forget.ensures,
-  );
-}
+returns-in-Err c =
+    let said = join_of c.args.running.now.scope c.args.group.now c.args.pids.now in
+    record {
+      joined = tt;
+      few = tt;
+      refused = rw c.fault_of.ensures (join_fault c.args.running.now.table c.args.pids.now c.in-Err.fault c.in-Err.ensures.refused);
+      same = (
+        λ i. record { scope = c.args.running.now.scope; table = c.in-Err.ensures.same i; heard = c.args.running.now.heard; told = c.args.running.now.told },
+        dropped_again (said_to c.args.running.now.told.items said) (wide said) c.args.links.now.items c.tell_join.new.links.items c.forget.new.links.items c.requires.idle c.in_ok-tell_join.ensures.told c.forget.ensures,
+      );
+    }

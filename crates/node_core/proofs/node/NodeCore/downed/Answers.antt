@@ -28,7 +28,7 @@ unreachable-requires-in_default-up_peer c =
     has_peer (past c.self.inside.opening c.self.inside.audit.entries) c.args.number c.index.result.now here c.in_default-up_peer.ensures
 
 pub invariant_of-self : goal.invariant_of-self
-invariant_of-self c = rw c.in_err-changes.ensures.same c.self.invariant
+invariant_of-self c = rw c.in_err-room.ensures.same c.self.invariant
 
 pub index-requires : goal.index-requires
 index-requires c =
@@ -52,7 +52,7 @@ index-requires-2 c =
     omega (arith, within, len)
 
 pub invariant_of-self-in_err-groups : goal.invariant_of-self-in_err-groups
-invariant_of-self-in_err-groups c = rw c.in_ok-changes.ensures.room c.self.invariant
+invariant_of-self-in_err-groups c = rw c.in_ok-room.ensures.room c.self.invariant
 
 pub invariant_of-self-2 : goal.invariant_of-self-2
 invariant_of-self-2 c =
@@ -67,12 +67,12 @@ invariant_of-self-2 c =
     let r = same_there (past c.self.inside.opening c.self.inside.audit.entries) c.self.inside.scopes.items c.args.scope c.in-Some-place_of.at c.index_mut.result.now c.index-2.result.now there c.index-2.ensures in
     let cut = rw peer at c.cut_off.ensures in
     let gone = rw (r, peer) at c.in_ok-groups.ensures in
-    rw (c.accept.ensures.entries, c.accept.ensures.limit, c.in_ok-changes.ensures.room, c.put_change.ensures, c.in_ok-changes.ensures.empty)
+    rw (c.accept.ensures.entries, c.accept.ensures.limit, c.in_ok-room.ensures.room, c.filled.ensures, c.in_ok-room.ensures.scope)
     (downed_follows (past c.self.inside.opening c.self.inside.audit.entries) _ c.self.invariant c.args.seat c.args.number c.args.body space up c.index.result.now here c.args.scope c.in-Some-place_of.at c.index_mut.result.now c.cut_off.new.running there c.requires.says holds c.in_ok-groups.groups.items cut gone)
 
 pub returns : goal.returns
 returns c =
-    let pushed = rw (c.in_ok-changes.ensures.room, c.put_change.ensures, c.in_ok-changes.ensures.empty) at c.accept.ensures.entries in
+    let pushed = rw (c.in_ok-room.ensures.room, c.filled.ensures, c.in_ok-room.ensures.scope) at c.accept.ensures.entries in
     let up = rw (← c.self.view_is) at c.requires.up in
     let space = rw (← c.self.view_is) at c.requires.space in
     let holds = rw (← c.self.view_is) at c.requires.holds in

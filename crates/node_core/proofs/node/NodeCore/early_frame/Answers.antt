@@ -32,8 +32,8 @@ invariant_of-self-in_err-make_room-2 c =
     rw c.in_err-make_room-2.ensures.same
     (room_follows (past c.self.inside.opening c.self.inside.audit.entries) _ c.self.invariant c.in-Some.place (is_there (past c.self.inside.opening c.self.inside.audit.entries) _ c.self.invariant c.args.number c.in-Some.place at c.index_mut.result.now).0 c.index_mut.result.now c.make_room.new.self c.index_mut.ensures.value c.make_room.ensures.same)
 
-pub hear-requires : goal.hear-requires
-hear-requires c =
+pub hear-heard-requires : goal.hear-heard-requires
+hear-heard-requires c =
     let space = rw (← c.self.view_is) at c.requires.space in
     let opens = rw (← c.self.view_is) at c.requires.opens in
     let unwhole = rw (← c.self.view_is) at c.requires.unwhole in
@@ -57,8 +57,8 @@ go_on-requires c =
     let fits : 2 ≤ c.make_room.new.self.room = c.in_ok-make_room.ensures.ok in
     held_ready (past c.self.inside.opening c.self.inside.audit.entries) _ c.self.invariant c.args.number c.in-Some.place at c.index_mut.result.now c.make_room.new.self c.index_mut-2.result.now c.replace-state.new.self c.replace-state.result held (length c.in-On.frames) (omega (arith, few, fits))
 
-pub invariant_of-self-in-On-1 : goal.invariant_of-self-in-On-1
-invariant_of-self-in-On-1 c =
+pub invariant_of-self-in-On : goal.invariant_of-self-in-On
+invariant_of-self-in-On c =
     let space = rw (← c.self.view_is) at c.requires.space in
     let opens = rw (← c.self.view_is) at c.requires.opens in
     let unwhole = rw (← c.self.view_is) at c.requires.unwhole in
@@ -86,8 +86,8 @@ end-requires c =
     let fits : 2 ≤ c.make_room.new.self.room = c.in_ok-make_room.ensures.ok in
     held_ready (past c.self.inside.opening c.self.inside.audit.entries) _ c.self.invariant c.args.number c.in-Some.place at c.index_mut.result.now c.make_room.new.self c.index_mut-2.result.now c.replace-state.new.self c.replace-state.result held (length c.in-Ended.frames) (omega (arith, few, fits))
 
-pub invariant_of-self-in-Ended-1 : goal.invariant_of-self-in-Ended-1
-invariant_of-self-in-Ended-1 c =
+pub invariant_of-self-in-Ended : goal.invariant_of-self-in-Ended
+invariant_of-self-in-Ended c =
     let space = rw (← c.self.view_is) at c.requires.space in
     let opens = rw (← c.self.view_is) at c.requires.opens in
     let unwhole = rw (← c.self.view_is) at c.requires.unwhole in

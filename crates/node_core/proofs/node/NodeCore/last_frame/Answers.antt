@@ -100,8 +100,8 @@ end-requires c =
     let fits : 2 + c.len.result ≤ c.make_room.new.self.room = c.in_ok-make_room.ensures.ok in
     held_ready (past c.self.inside.opening c.self.inside.audit.entries) _ c.self.invariant c.args.number c.in-Some.place at c.index_mut.result.now c.make_room.new.self c.index_mut-2.result.now c.replace-state.new.self c.replace-state.result held (length c.in-Ended.frames) (omega (arith, few, fits))
 
-pub invariant_of-self-in-Ended-1 : goal.invariant_of-self-in-Ended-1
-invariant_of-self-in-Ended-1 c =
+pub invariant_of-self-in-Ended : goal.invariant_of-self-in-Ended
+invariant_of-self-in-Ended c =
     let space = rw (← c.self.view_is) at c.requires.space in
     let opens = rw (← c.self.view_is) at c.requires.opens in
     let final = rw (← c.self.view_is) at c.requires.last in

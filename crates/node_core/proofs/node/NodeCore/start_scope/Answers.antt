@@ -17,19 +17,16 @@ refuse-requires-clause-broken c = scope_running c.args.self.now c.args.seat c.ar
 pub invariant_of-self-in_err-make_room : goal.invariant_of-self-in_err-make_room
 invariant_of-self-in_err-make_room c = rw (c.in_err-make_room.ensures.same, c.in_ok-reserve.ensures.items) c.self.invariant
 
-pub invariant_of-self-in_err-running : goal.invariant_of-self-in_err-running
-invariant_of-self-in_err-running c = rw (c.in_ok-make_room.ensures.ok.1, c.in_ok-reserve.ensures.items) c.self.invariant
-
-pub tell_shown-requires-clause-idle : goal.tell_shown-requires-clause-idle
-tell_shown-requires-clause-idle c = follow_idle (link_words (past c.self.inside.opening c.self.inside.audit.entries)) c.self.inside.links.items c.self.invariant.links.each
+pub asked_scope-requires : goal.asked_scope-requires
+asked_scope-requires c = follow_idle (link_words (past c.self.inside.opening c.self.inside.audit.entries)) c.self.inside.links.items c.self.invariant.links.each
 
 pub put_in-requires-clause-ascending : goal.put_in-requires-clause-ascending
 put_in-requires-clause-ascending c = rw c.in_ok-reserve.ensures.items (subst (Rises text_cmp) (sym c.self.invariant.scopes.running) (running_rises (past c.self.inside.opening c.self.inside.audit.entries)))
 
-pub invariant_of-self-in_err-tell_shown : goal.invariant_of-self-in_err-tell_shown
-invariant_of-self-in_err-tell_shown c =
+pub invariant_of-self-in_err-running : goal.invariant_of-self-in_err-running
+invariant_of-self-in_err-running c =
     rw (c.in_ok-make_room.ensures.ok.1, c.in_ok-reserve.ensures.items)
-    (alike_again (past c.self.inside.opening c.self.inside.audit.entries) _ c.self.invariant c.tell_shown.new.links.items c.in_err-tell_shown.ensures.same)
+    (alike_again (past c.self.inside.opening c.self.inside.audit.entries) _ c.self.invariant c.asked_scope.new.links.items c.in_err-running.ensures.same)
 
 pub returns : goal.returns
 returns c =
@@ -46,7 +43,6 @@ invariant_of-self-2 c =
     let stopped = rw (← c.self.view_is) at (at_none c.running.result (sym c.is_some.ensures ∙ c.if-is_some.false) c.running.ensures.none) in
     let few : length c.self.inside.scopes.items < 64 = omega (arith, c.len.ensures, c.if-len-ge-MAX_SCOPES.false, c.self.inside.scopes.ok) in
     let next = start_next (past c.self.inside.opening c.self.inside.audit.entries) c.args.seat c.args.scope _ c.self.invariant stopped space few in
-    let told = rw c.in_ok-name.ensures at c.in_ok-tell_shown.ensures.told in
     let new = c.in_ok-running.ensures in
     rw (c.accept.ensures.entries, c.accept.ensures.limit, c.in_ok-make_room.ensures.ok.1, c.new-nothing.ensures.items, c.put_in.ensures, c.in_ok-reserve.ensures.items)
-    (start_follows (past c.self.inside.opening c.self.inside.audit.entries) c.args.seat c.args.scope _ c.self.invariant stopped next c.in_ok-running.running new.scope new.own new.rows new.links.0 new.links.1 c.tell_shown.new.links.items told)
+    (start_follows (past c.self.inside.opening c.self.inside.audit.entries) c.args.seat c.args.scope _ c.self.invariant stopped next c.in_ok-running.running new.scope new.own new.rows new.links.0 new.links.1 c.asked_scope.new.links.items new.told)

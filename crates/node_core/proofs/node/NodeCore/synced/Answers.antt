@@ -29,7 +29,7 @@ unreachable-requires-in_default-up_peer c =
     has_peer (past c.self.inside.opening c.self.inside.audit.entries) c.args.number c.index.result.now here c.in_default-up_peer.ensures
 
 pub invariant_of-self : goal.invariant_of-self
-invariant_of-self c = rw c.in_err-changes.ensures.same c.self.invariant
+invariant_of-self c = rw c.in_err-room.ensures.same c.self.invariant
 
 pub index-requires : goal.index-requires
 index-requires c =
@@ -52,16 +52,16 @@ hear_rows-requires-clause-of_peer c =
     let placed = sym (rw c.deref.ensures.value at c.in-Some.ensures) in
     let here = up_here (past c.self.inside.opening c.self.inside.audit.entries) c.self.inside.links.items c.self.invariant.sound.legal c.self.invariant.links c.args.number up c.in-Some.place c.index.result.now placed c.index.ensures in
     let peer = peer_is (past c.self.inside.opening c.self.inside.audit.entries) c.args.number c.index.result.now here c.in-Some-up_peer.peer.now c.in-Some-up_peer.ensures in
-    rw (c.as_slice.ensures, peer) (all_of_peer (past c.self.inside.opening c.self.inside.audit.entries) c.args.number c.index.result.now here c.args.rows (rows_from (past c.self.inside.opening c.self.inside.audit.entries) c.args.number c.args.scope c.args.rows holds))
+    rw peer (all_of_peer (past c.self.inside.opening c.self.inside.audit.entries) c.args.number c.index.result.now here c.args.rows (rows_from (past c.self.inside.opening c.self.inside.audit.entries) c.args.number c.args.scope c.args.rows holds))
 
 pub hear_rows-requires-clause-few : goal.hear_rows-requires-clause-few
-hear_rows-requires-clause-few c = rw c.as_slice.ensures c.requires.few
+hear_rows-requires-clause-few c = c.requires.few
 
 pub invariant_of-self-in_err-groups : goal.invariant_of-self-in_err-groups
 invariant_of-self-in_err-groups c =
     let placed_scope = sym (rw c.deref-2.ensures.value at c.in-Some-place_of.ensures) in
     let there = scope_here (past c.self.inside.opening c.self.inside.audit.entries) c.self.inside.scopes.items c.self.invariant.scopes c.args.scope c.in-Some-place_of.at c.index_mut.result.now placed_scope c.index_mut.ensures.value in
-    rw c.in_ok-changes.ensures.room
+    rw c.in_ok-room.ensures.room
     (follows_with (past c.self.inside.opening c.self.inside.audit.entries) _ c.self.invariant (set c.self.inside.scopes.items c.in-Some-place_of.at c.hear_rows.new.running) c.self.inside.links.items
     (same_scope (past c.self.inside.opening c.self.inside.audit.entries) c.self.inside.scopes.items c.self.invariant.scopes c.args.scope c.in-Some-place_of.at c.index_mut.result.now c.hear_rows.new.running there (c.in_err-groups.ensures.same)) c.self.invariant.links)
 
@@ -75,13 +75,13 @@ invariant_of-self-2 c =
     let placed_scope = sym (rw c.deref-2.ensures.value at c.in-Some-place_of.ensures) in
     let there = scope_here (past c.self.inside.opening c.self.inside.audit.entries) c.self.inside.scopes.items c.self.invariant.scopes c.args.scope c.in-Some-place_of.at c.index_mut.result.now placed_scope c.index_mut.ensures.value in
     let peer = peer_is (past c.self.inside.opening c.self.inside.audit.entries) c.args.number c.index.result.now here c.in-Some-up_peer.peer.now c.in-Some-up_peer.ensures in
-    let becomes = rw (c.as_slice.ensures, peer) at c.in_ok-groups.ensures.ok in
-    rw (c.accept.ensures.entries, c.accept.ensures.limit, c.in_ok-changes.ensures.room, c.put_change.ensures, c.in_ok-changes.ensures.empty)
+    let becomes = rw peer at c.in_ok-groups.ensures.ok in
+    rw (c.accept.ensures.entries, c.accept.ensures.limit, c.in_ok-room.ensures.room, c.filled.ensures, c.in_ok-room.ensures.scope)
     (synced_follows (past c.self.inside.opening c.self.inside.audit.entries) _ c.self.invariant c.args.seat c.args.number c.args.body space up c.index.result.now here c.args.scope c.in-Some-place_of.at c.index_mut.result.now c.hear_rows.new.running there c.args.rows c.requires.says holds c.in_ok-groups.groups.items becomes c.in_ok-groups.ensures.change)
 
 pub returns : goal.returns
 returns c =
-    let pushed = rw (c.in_ok-changes.ensures.room, c.put_change.ensures, c.in_ok-changes.ensures.empty) at c.accept.ensures.entries in
+    let pushed = rw (c.in_ok-room.ensures.room, c.filled.ensures, c.in_ok-room.ensures.scope) at c.accept.ensures.entries in
     let up = rw (← c.self.view_is) at c.requires.up in
     let space = rw (← c.self.view_is) at c.requires.space in
     let holds = rw (← c.self.view_is) at c.requires.holds in
@@ -90,6 +90,6 @@ returns c =
     let placed_scope = sym (rw c.deref-2.ensures.value at c.in-Some-place_of.ensures) in
     let there = scope_here (past c.self.inside.opening c.self.inside.audit.entries) c.self.inside.scopes.items c.self.invariant.scopes c.args.scope c.in-Some-place_of.at c.index_mut.result.now placed_scope c.index_mut.ensures.value in
     let peer = peer_is (past c.self.inside.opening c.self.inside.audit.entries) c.args.number c.index.result.now here c.in-Some-up_peer.peer.now c.in-Some-up_peer.ensures in
-    let becomes = rw (c.as_slice.ensures, peer) at c.in_ok-groups.ensures.ok in
+    let becomes = rw peer at c.in_ok-groups.ensures.ok in
     let next = synced_next (past c.self.inside.opening c.self.inside.audit.entries) _ c.self.invariant c.args.seat c.args.number c.args.body space up c.index.result.now here c.args.scope c.in-Some-place_of.at c.index_mut.result.now c.hear_rows.new.running there c.args.rows c.requires.says holds c.in_ok-groups.groups.items becomes c.in_ok-groups.ensures.change in
     steps_on c.self.view_is c.args.seat (event.Frame c.args.number c.args.body) reply.Done (if_some c.args.scope c.in_ok-groups.groups.items) next pushed

@@ -30,7 +30,7 @@ unreachable-requires-in_default-up_peer c =
     has_peer (past c.self.inside.opening c.self.inside.audit.entries) c.args.number c.index.result.now here c.in_default-up_peer.ensures
 
 pub invariant_of-self : goal.invariant_of-self
-invariant_of-self c = rw c.in_err-changes.ensures.same c.self.invariant
+invariant_of-self c = rw c.in_err-room.ensures.same c.self.invariant
 
 pub index-requires : goal.index-requires
 index-requires c =
@@ -53,13 +53,13 @@ take_rows-requires c =
     let placed = sym (rw c.deref.ensures.value at c.in-Some.ensures) in
     let here = up_here (past c.self.inside.opening c.self.inside.audit.entries) c.self.inside.links.items c.self.invariant.sound.legal c.self.invariant.links c.args.number up c.in-Some.place c.index.result.now placed c.index.ensures in
     let peer = peer_is (past c.self.inside.opening c.self.inside.audit.entries) c.args.number c.index.result.now here c.in-Some-up_peer.peer.now c.in-Some-up_peer.ensures in
-    rw (c.as_slice.ensures, peer) (all_of_peer (past c.self.inside.opening c.self.inside.audit.entries) c.args.number c.index.result.now here c.args.rows (left_from (past c.self.inside.opening c.self.inside.audit.entries) c.args.number c.args.scope c.args.rows holds))
+    rw peer (all_of_peer (past c.self.inside.opening c.self.inside.audit.entries) c.args.number c.index.result.now here c.args.rows (left_from (past c.self.inside.opening c.self.inside.audit.entries) c.args.number c.args.scope c.args.rows holds))
 
 pub invariant_of-self-in-Err-NotListed : goal.invariant_of-self-in-Err-NotListed
 invariant_of-self-in-Err-NotListed c =
     let placed_scope = sym (rw c.deref-2.ensures.value at c.in-Some-place_of.ensures) in
     let there = scope_here (past c.self.inside.opening c.self.inside.audit.entries) c.self.inside.scopes.items c.self.invariant.scopes c.args.scope c.in-Some-place_of.at c.index_mut.result.now placed_scope c.index_mut.ensures.value in
-    rw c.in_ok-changes.ensures.room
+    rw c.in_ok-room.ensures.room
     (follows_with (past c.self.inside.opening c.self.inside.audit.entries) _ c.self.invariant (set c.self.inside.scopes.items c.in-Some-place_of.at c.take_rows.new.running) c.self.inside.links.items
     (same_scope (past c.self.inside.opening c.self.inside.audit.entries) c.self.inside.scopes.items c.self.invariant.scopes c.args.scope c.in-Some-place_of.at c.index_mut.result.now c.take_rows.new.running there (unchanged_scope c.index_mut.result.now c.take_rows.new.running c.in-Err-NotListed.ensures.same)) c.self.invariant.links)
 
@@ -67,7 +67,7 @@ pub invariant_of-self-in-Err : goal.invariant_of-self-in-Err
 invariant_of-self-in-Err c =
     let placed_scope = sym (rw c.deref-2.ensures.value at c.in-Some-place_of.ensures) in
     let there = scope_here (past c.self.inside.opening c.self.inside.audit.entries) c.self.inside.scopes.items c.self.invariant.scopes c.args.scope c.in-Some-place_of.at c.index_mut.result.now placed_scope c.index_mut.ensures.value in
-    rw c.in_ok-changes.ensures.room
+    rw c.in_ok-room.ensures.room
     (follows_with (past c.self.inside.opening c.self.inside.audit.entries) _ c.self.invariant (set c.self.inside.scopes.items c.in-Some-place_of.at c.take_rows.new.running) c.self.inside.links.items
     (same_scope (past c.self.inside.opening c.self.inside.audit.entries) c.self.inside.scopes.items c.self.invariant.scopes c.args.scope c.in-Some-place_of.at c.index_mut.result.now c.take_rows.new.running there (unchanged_scope c.index_mut.result.now c.take_rows.new.running c.in-Err.ensures.same)) c.self.invariant.links)
 
@@ -80,14 +80,14 @@ refuse-requires-clause-broken c =
     let placed_scope = sym (rw c.deref-2.ensures.value at c.in-Some-place_of.ensures) in
     let there = scope_here (past c.self.inside.opening c.self.inside.audit.entries) c.self.inside.scopes.items c.self.invariant.scopes c.args.scope c.in-Some-place_of.at c.index_mut.result.now placed_scope c.index_mut.ensures.value in
     let peer = peer_is (past c.self.inside.opening c.self.inside.audit.entries) c.args.number c.index.result.now here c.in-Some-up_peer.peer.now c.in-Some-up_peer.ensures in
-    let over = rw (c.as_slice.ensures) at (rw c.in-Err-NotListed.field-0-is at c.in-Err-NotListed.ensures.refused) in
-    rw c.in_ok-changes.ensures.room (says_broken (past c.self.inside.opening c.self.inside.audit.entries) c.args.seat c.args.number c.args.body (said.Leave c.args.scope c.args.rows) rule.NotListed up here.awaited c.requires.says
+    let over = rw c.in-Err-NotListed.field-0-is at c.in-Err-NotListed.ensures.refused in
+    rw c.in_ok-room.ensures.room (says_broken (past c.self.inside.opening c.self.inside.audit.entries) c.args.seat c.args.number c.args.body (said.Leave c.args.scope c.args.rows) rule.NotListed up here.awaited c.requires.says
     (leave_unlisted (past c.self.inside.opening c.self.inside.audit.entries) c.args.number c.args.scope c.index_mut.result.now there.named there.running c.args.rows over holds))
 
 pub refuse-requires-clause-calm : goal.refuse-requires-clause-calm
 refuse-requires-clause-calm c =
     let up = rw (← c.self.view_is) at c.requires.up in
-    rw c.in_ok-changes.ensures.room (calm (past c.self.inside.opening c.self.inside.audit.entries) c.args.number c.args.body up rule.NotListed refl)
+    rw c.in_ok-room.ensures.room (calm (past c.self.inside.opening c.self.inside.audit.entries) c.args.number c.args.body up rule.NotListed refl)
 
 pub invariant_of-self-2 : goal.invariant_of-self-2
 invariant_of-self-2 c =
@@ -99,15 +99,15 @@ invariant_of-self-2 c =
     let placed_scope = sym (rw c.deref-2.ensures.value at c.in-Some-place_of.ensures) in
     let there = scope_here (past c.self.inside.opening c.self.inside.audit.entries) c.self.inside.scopes.items c.self.invariant.scopes c.args.scope c.in-Some-place_of.at c.index_mut.result.now placed_scope c.index_mut.ensures.value in
     let peer = peer_is (past c.self.inside.opening c.self.inside.audit.entries) c.args.number c.index.result.now here c.in-Some-up_peer.peer.now c.in-Some-up_peer.ensures in
-    let becomes = rw c.as_slice.ensures at c.in-Ok.ensures.ok in
-    let fit = rw (c.as_slice.ensures) at c.in-Ok.ensures.only in
+    let becomes = c.in-Ok.ensures.ok in
+    let fit = c.in-Ok.ensures.only in
     let met = leave_listed (past c.self.inside.opening c.self.inside.audit.entries) c.args.number c.args.scope c.index_mut.result.now there.named there.running c.args.rows fit holds in
-    rw (c.accept.ensures.entries, c.accept.ensures.limit, c.in_ok-changes.ensures.room, c.put_change.ensures, c.in_ok-changes.ensures.empty)
+    rw (c.accept.ensures.entries, c.accept.ensures.limit, c.in_ok-room.ensures.room, c.filled.ensures, c.in_ok-room.ensures.scope)
     (taken_follows (past c.self.inside.opening c.self.inside.audit.entries) _ c.self.invariant c.args.seat c.args.number c.args.body space up c.index.result.now here c.args.scope c.in-Some-place_of.at c.index_mut.result.now c.take_rows.new.running there c.args.rows c.requires.says met c.in-Ok.groups.items becomes c.in-Ok.ensures.change)
 
 pub returns : goal.returns
 returns c =
-    let pushed = rw (c.in_ok-changes.ensures.room, c.put_change.ensures, c.in_ok-changes.ensures.empty) at c.accept.ensures.entries in
+    let pushed = rw (c.in_ok-room.ensures.room, c.filled.ensures, c.in_ok-room.ensures.scope) at c.accept.ensures.entries in
     let up = rw (← c.self.view_is) at c.requires.up in
     let space = rw (← c.self.view_is) at c.requires.space in
     let holds = rw (← c.self.view_is) at c.requires.holds in
@@ -116,8 +116,8 @@ returns c =
     let placed_scope = sym (rw c.deref-2.ensures.value at c.in-Some-place_of.ensures) in
     let there = scope_here (past c.self.inside.opening c.self.inside.audit.entries) c.self.inside.scopes.items c.self.invariant.scopes c.args.scope c.in-Some-place_of.at c.index_mut.result.now placed_scope c.index_mut.ensures.value in
     let peer = peer_is (past c.self.inside.opening c.self.inside.audit.entries) c.args.number c.index.result.now here c.in-Some-up_peer.peer.now c.in-Some-up_peer.ensures in
-    let becomes = rw c.as_slice.ensures at c.in-Ok.ensures.ok in
-    let fit = rw (c.as_slice.ensures) at c.in-Ok.ensures.only in
+    let becomes = c.in-Ok.ensures.ok in
+    let fit = c.in-Ok.ensures.only in
     let met = leave_listed (past c.self.inside.opening c.self.inside.audit.entries) c.args.number c.args.scope c.index_mut.result.now there.named there.running c.args.rows fit holds in
     let next = taken_next (past c.self.inside.opening c.self.inside.audit.entries) _ c.self.invariant c.args.seat c.args.number c.args.body space up c.index.result.now here c.args.scope c.in-Some-place_of.at c.index_mut.result.now c.take_rows.new.running there c.args.rows c.requires.says met c.in-Ok.groups.items becomes c.in-Ok.ensures.change in
     steps_on c.self.view_is c.args.seat (event.Frame c.args.number c.args.body) reply.Done (if_some c.args.scope c.in-Ok.groups.items) next pushed
