@@ -2,6 +2,7 @@
 use Rattle.std.specs.Prelude.{ℕ, cond, List, [], ◌∷◌, Option, Some, None, codes}
 use Rattle.std.specs.Option.{option_map}
 use Rattle.std.specs.Str.{bytes_eq}
+use Rattle.dist_types.specs.Difference.{is_empty}
 use Rattle.policy_audit.specs.declared.event.Event.{Event}
 use Rattle.policy_audit.specs.declared.event.Event.TheVariants as events
 use Rattle.pg_console.specs.declared.command.Command.{Command}
@@ -12,8 +13,7 @@ use Rattle.pg_console.specs.Arguments.{only, both, each, named}
 
 -- a command with no word behind it
 abbrev pub alone : Command → List (List ℕ) → Option Command
-alone command [] = Some command
-alone command (word ∷ words) = None
+alone command words = cond (is_empty words) (Some command) None
 
 -- an event, made of what the words say
 abbrev pub event : {A : Type 0} → (A → Event) → Option A → Option Command

@@ -1,6 +1,8 @@
 //! Commands, and how a line says one.
-ghost use Rattle.std.specs.Prelude.{◌≡◌, IfOk, IfErr, Some};
-ghost use Rattle.pg_console.specs.Commands.{alone, said_by};
+ghost use Rattle.std.specs.Prelude.{◌≡◌, IfOk, IfErr, OnOk, OnErr, Some, true, false};
+ghost use Rattle.dist_types.specs.Difference.{is_empty};
+ghost use Rattle.pg_console.specs.Commands.{said_by};
+ghost use Rattle.pg_console.specs.declared.command.LineFault.TheVariants as faults;
 ghost use Rattle.pg_console.specs.Faults.{IsUnread, fault_of};
 ghost use Rattle.pg_console.specs.WordsLeft.{words_left};
 
@@ -73,13 +75,14 @@ pub fn parse(alloc: Global, line: &[u8]) -> Result<Command, LineFault>
     node_command(alloc, name, words)
 }
 
-/// A command that no word may stand behind.
-pub fn alone(command: Command, words: Option<&[u8]>) -> Result<Command, LineFault>
-    ensures ok { IfOk result (λ said. alone command (words_left words.entry) ≡ Some said) }
-    ensures fault { IfErr result (λ fault. IsUnread fault (alone command (words_left words.entry))) }
+/// That no word stands behind a command.
+pub fn nothing(words: Option<&[u8]>) -> Result<(), LineFault>
+    ensures ok { OnOk result (is_empty (words_left words.entry) ≡ true) }
+    ensures script { IfErr result (λ fault. fault ≡ faults.Script) }
+    ensures some { OnErr result (is_empty (words_left words.entry) ≡ false) }
 {
-    if next_word(words).is_some() {
-        return Err(LineFault::Script);
+    match next_word(words) {
+        Some(_) => Err(LineFault::Script),
+        None => Ok(()),
     }
-    Ok(command)
 }

@@ -5,7 +5,7 @@ ghost use Rattle.pg_console.specs.Faults.{IsUnread};
 ghost use Rattle.pg_console.specs.WordsLeft.{words_left};
 
 use crate::arguments::{both, only};
-use crate::command::{Command, LineFault, alone};
+use crate::command::{Command, LineFault, nothing};
 use policy_audit::Event;
 use std::alloc::Global;
 
@@ -45,7 +45,8 @@ pub fn console_command(
     if name == b"seat".as_slice() {
         Ok(Command::Seat(only(alloc, words)?))
     } else if name == b"size".as_slice() {
-        alone(Command::Size, words)
+        nothing(words)?;
+        Ok(Command::Size)
     } else if name == b"audit".as_slice() {
         Ok(Command::Audit(only(alloc, words)?))
     } else {

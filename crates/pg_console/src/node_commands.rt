@@ -5,7 +5,7 @@ ghost use Rattle.pg_console.specs.Faults.{IsUnread};
 ghost use Rattle.pg_console.specs.WordsLeft.{words_left};
 
 use crate::arguments::{both, each, named, only};
-use crate::command::{Command, LineFault, alone};
+use crate::command::{Command, LineFault, nothing};
 use crate::query_commands::query_command;
 use policy_audit::Event;
 use std::alloc::Global;
@@ -16,7 +16,8 @@ pub fn node_command(alloc: Global, name: &[u8], words: Option<&[u8]>) -> Result<
     ensures fault { IfErr result (λ fault. IsUnread fault (node_command name.now (words_left words.entry))) }
 {
     if name == b"restart".as_slice() {
-        alone(Command::Step(Event::Restart), words)
+        nothing(words)?;
+        Ok(Command::Step(Event::Restart))
     } else if name == b"cookie".as_slice() {
         Ok(Command::Step(Event::SetCookie(only(alloc, words)?)))
     } else if name == b"cookie_for".as_slice() {
@@ -39,7 +40,8 @@ pub fn scope_command(alloc: Global, name: &[u8], words: Option<&[u8]>) -> Result
     } else if name == b"stop".as_slice() {
         Ok(Command::Step(Event::StopScope(only(alloc, words)?)))
     } else if name == b"spawn".as_slice() {
-        alone(Command::Step(Event::Spawn), words)
+        nothing(words)?;
+        Ok(Command::Step(Event::Spawn))
     } else if name == b"exit".as_slice() {
         Ok(Command::Step(Event::Exit(only(alloc, words)?)))
     } else if name == b"join".as_slice() {
