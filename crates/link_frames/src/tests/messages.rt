@@ -2,41 +2,159 @@
 ghost use Rattle.std.specs.Prelude.{IsTrue};
 ghost use Rattle.link_frames.specs.Spelling.{HasSpelling};
 
+use super::fault_of;
 use crate::*;
 use dist_types::{Group, NodeName, Pid, Row, Scope};
 use std::alloc::Global;
-use std::process::Abort;
-use std::test::Fail;
 
-/// The name, the creation and the number of a process.
-type Process = (&'static [u8], u32, u64);
+// The rows of tables are structs: a check follows each lifetime that a type shows, and a tuple shows all of its own.
 
-const A1: Process = (b"a@h", 5, 1);
+/// The name of the node, the creation and the number of a process.
+struct Process(&'static [u8], u32, u64);
 
-const B1: Process = (b"b@h", 4, 1);
+/// A message about the scope `pg`, and its body.
+struct Worked {
+    name: &'static str,
+    kind: u8,
+    /// How often the process is in the group `g`.
+    count: usize,
+    process: &'static Process,
+    body: &'static [u8],
+}
 
-fn row_of(alloc: Global, process: Process) -> Result<Row, Fail> {
-    let (name, creation, number) = process;
-    let pid = Pid {
-        node: NodeName::parse(alloc, name)?,
-        creation,
-        number,
-    };
+const WORKED: [Worked; 13] = [
+    Worked {
+        name: "a Discover",
+        kind: b'D',
+        count: 0,
+        process: &Process(b"a@h", 5, 1),
+        body: b"D\x02pg",
+    },
+    Worked {
+        name: "a Down",
+        kind: b'X',
+        count: 0,
+        process: &Process(b"a@h", 5, 1),
+        body: b"X\x02pg",
+    },
+    Worked {
+        name: "a Sync of no rows",
+        kind: b'S',
+        count: 0,
+        process: &Process(b"a@h", 5, 1),
+        body: b"S\x02pg\x00\x00\x00\x00",
+    },
+    Worked {
+        name: "a Sync",
+        kind: b'S',
+        count: 1,
+        process: &Process(b"a@h", 5, 1),
+        body: b"S\x02pg\x00\x00\x00\x01\x01g\x00\x03a@h\x00\x00\x00\x05\x00\x00\x00\x00\x00\x00\x00\x01",
+    },
+    Worked {
+        name: "a Sync of large numbers",
+        kind: b'S',
+        count: 1,
+        process: &Process(b"b@h", 0xfedc_ba98, 0x0123_4567_89ab_cdef),
+        body: b"S\x02pg\x00\x00\x00\x01\x01g\x00\x03b@h\xfe\xdc\xba\x98\x01\x23\x45\x67\x89\xab\xcd\xef",
+    },
+    Worked {
+        name: "a Join",
+        kind: b'J',
+        count: 1,
+        process: &Process(b"a@h", 5, 1),
+        body: b"J\x02pg\x00\x00\x00\x01\x01g\x00\x03a@h\x00\x00\x00\x05\x00\x00\x00\x00\x00\x00\x00\x01",
+    },
+    Worked {
+        name: "a Join of an older creation",
+        kind: b'J',
+        count: 1,
+        process: &Process(b"a@h", 4, 1),
+        body: b"J\x02pg\x00\x00\x00\x01\x01g\x00\x03a@h\x00\x00\x00\x04\x00\x00\x00\x00\x00\x00\x00\x01",
+    },
+    Worked {
+        name: "a Join at another node",
+        kind: b'J',
+        count: 1,
+        process: &Process(b"c@h", 5, 1),
+        body: b"J\x02pg\x00\x00\x00\x01\x01g\x00\x03c@h\x00\x00\x00\x05\x00\x00\x00\x00\x00\x00\x00\x01",
+    },
+    Worked {
+        name: "a Join of a repeated row",
+        kind: b'J',
+        count: 2,
+        process: &Process(b"b@h", 4, 1),
+        body: b"J\x02pg\x00\x00\x00\x02\x01g\x00\x03b@h\x00\x00\x00\x04\x00\x00\x00\x00\x00\x00\x00\x01\x01g\x00\x03b@h\x00\x00\x00\x04\x00\x00\x00\x00\x00\x00\x00\x01",
+    },
+    Worked {
+        name: "a Leave",
+        kind: b'L',
+        count: 1,
+        process: &Process(b"a@h", 5, 1),
+        body: b"L\x02pg\x00\x00\x00\x01\x01g\x00\x03a@h\x00\x00\x00\x05\x00\x00\x00\x00\x00\x00\x00\x01",
+    },
+    Worked {
+        name: "a Leave of a repeated row",
+        kind: b'L',
+        count: 2,
+        process: &Process(b"b@h", 4, 1),
+        body: b"L\x02pg\x00\x00\x00\x02\x01g\x00\x03b@h\x00\x00\x00\x04\x00\x00\x00\x00\x00\x00\x00\x01\x01g\x00\x03b@h\x00\x00\x00\x04\x00\x00\x00\x00\x00\x00\x00\x01",
+    },
+    Worked {
+        name: "a Leave of another process",
+        kind: b'L',
+        count: 1,
+        process: &Process(b"a@h", 5, 9),
+        body: b"L\x02pg\x00\x00\x00\x01\x01g\x00\x03a@h\x00\x00\x00\x05\x00\x00\x00\x00\x00\x00\x00\x09",
+    },
+    Worked {
+        name: "a Leave of a repeated row at another node",
+        kind: b'L',
+        count: 2,
+        process: &Process(b"a@h", 5, 1),
+        body: b"L\x02pg\x00\x00\x00\x02\x01g\x00\x03a@h\x00\x00\x00\x05\x00\x00\x00\x00\x00\x00\x00\x01\x01g\x00\x03a@h\x00\x00\x00\x05\x00\x00\x00\x00\x00\x00\x00\x01",
+    },
+];
+
+fn row_of(alloc: Global, process: &Process) -> Result<Row, MessageFault> {
+    let Process(name, creation, number) = process;
+    let node = NodeName::parse(alloc, name)?;
     let group = Group::parse(alloc, b"g")?;
+    let pid = Pid {
+        node,
+        creation: *creation,
+        number: *number,
+    };
     Ok(Row { group, pid })
 }
 
-fn listing(alloc: Global, kind: u8, count: usize, process: Process) -> Result<Message, Fail> {
-    let scope = Scope::parse(alloc, b"pg")?;
-    let mut rows = Vec::new(alloc);
-    for _ in 0..count {
-        rows.push(row_of(alloc, process)?)?;
+fn add_row(alloc: Global, process: &Process, rows: &mut Vec<Row>) -> Result<(), MessageFault> {
+    let row = row_of(alloc, process)?;
+    rows.push(row)?;
+    Ok(())
+}
+
+fn add_rows(alloc: Global, worked: &Worked, rows: &mut Vec<Row>) -> Result<(), MessageFault> {
+    for _ in 0..worked.count {
+        add_row(alloc, worked.process, rows)?;
     }
-    let rows = Rows::of(rows);
+    Ok(())
+}
+
+fn message_of(alloc: Global, worked: &Worked) -> Result<Message, MessageFault> {
+    let mut rows = Vec::new(alloc);
+    add_rows(alloc, worked, &mut rows)?;
+    let scope = Scope::parse(alloc, b"pg")?;
+    Ok(message_with(worked.kind, scope, Rows::of(rows)))
+}
+
+fn message_with(kind: u8, scope: Scope, rows: Rows) -> Message {
     match kind {
-        b'S' => Ok(Message::Sync(scope, rows)),
-        b'J' => Ok(Message::Join(scope, rows)),
-        _ => Ok(Message::Leave(scope, rows)),
+        b'D' => Message::Discover(scope),
+        b'S' => Message::Sync(scope, rows),
+        b'J' => Message::Join(scope, rows),
+        b'L' => Message::Leave(scope, rows),
+        _ => Message::Down(scope),
     }
 }
 
@@ -51,7 +169,7 @@ fn has_spelling(message: &Message) -> bool
     }
 }
 
-fn written(alloc: Global, message: &Message) -> Result<Vec<u8>, Fail> {
+fn written(alloc: Global, message: &Message) -> Result<Vec<u8>, MessageFault> {
     let mut body = Vec::new(alloc);
     if has_spelling(message) {
         encode(message, &mut body)?;
@@ -59,188 +177,93 @@ fn written(alloc: Global, message: &Message) -> Result<Vec<u8>, Fail> {
     Ok(body)
 }
 
-/// Called once a body: a table of the bodies with their rows takes minutes to check.
-fn reads_and_writes(
-    rt: &impl Abort,
-    alloc: Global,
-    body: &[u8],
-    message: Message,
-) -> Result<(), Fail> {
-    let is_same = is_read_and_written(alloc, body, &message)?;
-    assert!(rt; is_same, "{body:?}");
-    Ok(())
+fn is_written(alloc: Global, message: &Message, body: &[u8]) -> Result<bool, MessageFault> {
+    Ok(written(alloc, message)?.as_slice() == body)
 }
 
-/// Whether the message is written as this body, and read again.
-fn is_read_and_written(alloc: Global, body: &[u8], message: &Message) -> Result<bool, Fail> {
-    let written = written(alloc, message)?;
-    Ok(written.as_slice() == body && is_read(&decode(alloc, body), message))
+fn is_read(alloc: Global, message: &Message, body: &[u8]) -> bool {
+    let decoded = decode(alloc, body);
+    let is_read = holds(&decoded, message);
+    // What ends by name ends in a function of its own, and is checked once.
+    drop(decoded);
+    is_read
 }
 
-fn is_read(decoded: &Result<Message, MessageFault>, message: &Message) -> bool {
+fn holds(decoded: &Result<Message, MessageFault>, message: &Message) -> bool {
     match decoded {
         Ok(read) => *read == *message,
         Err(_) => false,
     }
 }
 
-fn syncs(rt: &impl Abort, alloc: Global) -> Result<(), Fail> {
-    reads_and_writes(
-        rt,
-        alloc,
-        b"S\x02pg\x00\x00\x00\x00",
-        listing(alloc, b'S', 0, A1)?,
-    )?;
-    reads_and_writes(
-        rt,
-        alloc,
-        b"S\x02pg\x00\x00\x00\x01\x01g\x00\x03a@h\x00\x00\x00\x05\x00\x00\x00\x00\x00\x00\x00\x01",
-        listing(alloc, b'S', 1, A1)?,
-    )?;
-    reads_and_writes(
-        rt,
-        alloc,
-        b"S\x02pg\x00\x00\x00\x01\x01g\x00\x03b@h\xfe\xdc\xba\x98\x01\x23\x45\x67\x89\xab\xcd\xef",
-        listing(alloc, b'S', 1, (b"b@h", 0xfedc_ba98, 0x0123_4567_89ab_cdef))?,
-    )?;
-    Ok(())
+/// Whether the message is written as its body, and read again.
+fn is_read_and_written(alloc: Global, worked: &Worked) -> Result<bool, MessageFault> {
+    let message = message_of(alloc, worked)?;
+    let is_written = is_written(alloc, &message, worked.body);
+    let is_read = is_read(alloc, &message, worked.body);
+    drop(message);
+    Ok(is_written? && is_read)
 }
 
-fn joins(rt: &impl Abort, alloc: Global) -> Result<(), Fail> {
-    reads_and_writes(
-        rt,
-        alloc,
-        b"J\x02pg\x00\x00\x00\x01\x01g\x00\x03a@h\x00\x00\x00\x05\x00\x00\x00\x00\x00\x00\x00\x01",
-        listing(alloc, b'J', 1, A1)?,
-    )?;
-    reads_and_writes(
-        rt,
-        alloc,
-        b"J\x02pg\x00\x00\x00\x01\x01g\x00\x03a@h\x00\x00\x00\x04\x00\x00\x00\x00\x00\x00\x00\x01",
-        listing(alloc, b'J', 1, (b"a@h", 4, 1))?,
-    )?;
-    reads_and_writes(
-        rt,
-        alloc,
-        b"J\x02pg\x00\x00\x00\x01\x01g\x00\x03c@h\x00\x00\x00\x05\x00\x00\x00\x00\x00\x00\x00\x01",
-        listing(alloc, b'J', 1, (b"c@h", 5, 1))?,
-    )?;
-    reads_and_writes(
-        rt,
-        alloc,
-        b"J\x02pg\x00\x00\x00\x02\x01g\x00\x03b@h\x00\x00\x00\x04\x00\x00\x00\x00\x00\x00\x00\x01\x01g\x00\x03b@h\x00\x00\x00\x04\x00\x00\x00\x00\x00\x00\x00\x01",
-        listing(alloc, b'J', 2, B1)?,
-    )?;
-    Ok(())
-}
-
-fn leaves(rt: &impl Abort, alloc: Global) -> Result<(), Fail> {
-    reads_and_writes(
-        rt,
-        alloc,
-        b"L\x02pg\x00\x00\x00\x01\x01g\x00\x03a@h\x00\x00\x00\x05\x00\x00\x00\x00\x00\x00\x00\x01",
-        listing(alloc, b'L', 1, A1)?,
-    )?;
-    reads_and_writes(
-        rt,
-        alloc,
-        b"L\x02pg\x00\x00\x00\x02\x01g\x00\x03b@h\x00\x00\x00\x04\x00\x00\x00\x00\x00\x00\x00\x01\x01g\x00\x03b@h\x00\x00\x00\x04\x00\x00\x00\x00\x00\x00\x00\x01",
-        listing(alloc, b'L', 2, B1)?,
-    )?;
-    reads_and_writes(
-        rt,
-        alloc,
-        b"L\x02pg\x00\x00\x00\x01\x01g\x00\x03a@h\x00\x00\x00\x05\x00\x00\x00\x00\x00\x00\x00\x09",
-        listing(alloc, b'L', 1, (b"a@h", 5, 9))?,
-    )?;
-    reads_and_writes(
-        rt,
-        alloc,
-        b"L\x02pg\x00\x00\x00\x02\x01g\x00\x03a@h\x00\x00\x00\x05\x00\x00\x00\x00\x00\x00\x00\x01\x01g\x00\x03a@h\x00\x00\x00\x05\x00\x00\x00\x00\x00\x00\x00\x01",
-        listing(alloc, b'L', 2, A1)?,
-    )?;
-    Ok(())
+/// The first message that isn't read and written as it should be.
+fn misread(alloc: Global, table: &[Worked]) -> Result<Option<&'static str>, MessageFault> {
+    for worked in table {
+        if !is_read_and_written(alloc, worked)? {
+            return Ok(Some(worked.name));
+        }
+    }
+    Ok(None)
 }
 
 #[test]
-fn reads_what_it_writes(rt: HostRuntime) -> Result<(), Fail> {
-    let alloc = rt.alloc();
-    reads_and_writes(
-        &rt,
-        alloc,
-        b"D\x02pg",
-        Message::Discover(Scope::parse(alloc, b"pg")?),
-    )?;
-    reads_and_writes(
-        &rt,
-        alloc,
-        b"X\x02pg",
-        Message::Down(Scope::parse(alloc, b"pg")?),
-    )?;
-    syncs(&rt, alloc)?;
-    joins(&rt, alloc)?;
-    leaves(&rt, alloc)
+fn reads_what_it_writes(rt: HostRuntime) {
+    assert_eq!(rt; misread(rt.alloc(), &WORKED), Ok(None));
 }
 
-fn refuses(rt: &impl Abort, alloc: Global, body: &[u8], why: &str) {
-    assert!(rt; is_bad(&decode(alloc, body)), "{why}");
-}
+/// A body that is no message, and why.
+struct Refused(&'static [u8], &'static str);
 
-fn is_bad(decoded: &Result<Message, MessageFault>) -> bool {
-    match decoded {
-        Err(MessageFault::BadFrame) => true,
-        _ => false,
-    }
-}
-
-fn refuses_rows(rt: &impl Abort, alloc: Global) {
-    refuses(rt, alloc, b"S\x02pg", "no count");
-    refuses(
-        rt,
-        alloc,
+const REFUSED: [Refused; 18] = [
+    Refused(b"", "no bytes"),
+    Refused(b"D", "no scope"),
+    Refused(b"D\x00", "a scope of no bytes"),
+    Refused(b"D\x03pg", "a scope cut short"),
+    Refused(b"D\x02p ", "a space in the scope"),
+    Refused(b"D\x02p\x7f", "a byte past the visible ones"),
+    Refused(b"D\x02pg\x00", "a byte after the scope"),
+    Refused(b"X\x02pg\x00", "a byte after the scope of a Down"),
+    Refused(b"M\x02pg", "another kind"),
+    Refused(b"d\x02pg", "a small letter"),
+    Refused(b"S\x02pg", "no count"),
+    Refused(
         b"S\x02pg\x00\x00\x00\x00\x00",
         "a byte after a Sync of no rows",
-    );
-    refuses(rt, alloc, b"J\x02pg\x00\x00\x00\x00", "a Join of no rows");
-    refuses(rt, alloc, b"L\x02pg\x00\x00\x00\x00", "a Leave of no rows");
-    refuses(rt, alloc, b"S\x02pg\x00\x00\x10\x01", "a count of 4,097");
-    refuses(
-        rt,
-        alloc,
-        b"S\x02pg\x00\x00\x10\x00",
-        "a count of 4,096 without rows",
-    );
-    refuses(
-        rt,
-        alloc,
+    ),
+    Refused(b"J\x02pg\x00\x00\x00\x00", "a Join of no rows"),
+    Refused(b"L\x02pg\x00\x00\x00\x00", "a Leave of no rows"),
+    Refused(b"S\x02pg\x00\x00\x10\x01", "a count of 4,097"),
+    Refused(b"S\x02pg\x00\x00\x10\x00", "a count of 4,096 without rows"),
+    Refused(
         b"J\x02pg\x00\x00\x00\x01\x00\x00\x03a@h\x00\x00\x00\x05\x00\x00\x00\x00\x00\x00\x00\x01",
         "a group of no bytes",
-    );
-    refuses(
-        rt,
-        alloc,
+    ),
+    Refused(
         b"J\x02pg\x00\x00\x00\x01\x01g\x00\x02@h\x00\x00\x00\x05\x00\x00\x00\x00\x00\x00\x00\x01",
         "no byte before the `@`",
-    );
+    ),
+];
+
+/// What the first body that isn't refused has wrong.
+fn overlooked(alloc: Global, table: &[Refused]) -> Option<&'static str> {
+    for Refused(body, why) in table {
+        if fault_of(alloc, body) != Some(MessageFault::BadFrame) {
+            return Some(*why);
+        }
+    }
+    None
 }
 
 #[test]
 fn refuses_what_is_no_message(rt: HostRuntime) {
-    let alloc = rt.alloc();
-    refuses(&rt, alloc, b"", "no bytes");
-    refuses(&rt, alloc, b"D", "no scope");
-    refuses(&rt, alloc, b"D\x00", "a scope of no bytes");
-    refuses(&rt, alloc, b"D\x03pg", "a scope cut short");
-    refuses(&rt, alloc, b"D\x02p ", "a space in the scope");
-    refuses(&rt, alloc, b"D\x02p\x7f", "a byte past the visible ones");
-    refuses(&rt, alloc, b"D\x02pg\x00", "a byte after the scope");
-    refuses(
-        &rt,
-        alloc,
-        b"X\x02pg\x00",
-        "a byte after the scope of a Down",
-    );
-    refuses(&rt, alloc, b"M\x02pg", "another kind");
-    refuses(&rt, alloc, b"d\x02pg", "a small letter");
-    refuses_rows(&rt, alloc);
+    assert_eq!(rt; overlooked(rt.alloc(), &REFUSED), None);
 }

@@ -1,25 +1,29 @@
 //! Streams in one piece, byte by byte, and cut at many places.
 use crate::{FeedFault, LinkReader};
-use handshake_frames::Body;
+use handshake_frames::{Body, Fed};
 use std::alloc::Global;
-use std::test::Fail;
 
 /// A tick and a Discover of `pg`.
 const TICK_AND_BODY: &[u8] = b"\x00\x00\x00\x00\x00\x00\x00\x04D\x02pg";
 
 /// How many bytes of the piece are used, and whether the Discover comes of them, or none.
 fn fed(reader: &mut LinkReader, piece: &[u8]) -> Result<(usize, Option<bool>), FeedFault> {
-    let fed = reader.feed(piece)?;
-    let is_whole = fed
-        .body
-        .as_ref()
-        .map(|body| body.as_slice() == b"D\x02pg".as_slice());
-    Ok((fed.used, is_whole))
+    let Fed { used, body } = reader.feed(piece)?;
+    Ok((used, body.map(is_discover)))
+}
+
+fn is_discover(body: Body) -> bool {
+    body.as_slice() == b"D\x02pg".as_slice()
+}
+
+/// The same by a reader of its own.
+fn fed_anew(alloc: Global, piece: &[u8]) -> Result<(usize, Option<bool>), FeedFault> {
+    fed(&mut LinkReader::new(alloc), piece)
 }
 
 #[test]
 fn skips_a_tick_before_a_body(rt: HostRuntime) {
-    let cut = fed(&mut LinkReader::new(rt.alloc()), TICK_AND_BODY);
+    let cut = fed_anew(rt.alloc(), TICK_AND_BODY);
     assert_eq!(rt; cut, Ok((12, Some(true))));
 }
 
@@ -27,59 +31,86 @@ fn skips_a_tick_before_a_body(rt: HostRuntime) {
 fn ends(reader: &mut LinkReader, stream: &[u8]) -> Result<(usize, usize), FeedFault> {
     let mut ends = (0usize, 0usize);
     for (place, byte) in stream.iter().enumerate() {
-        let (used, body) = fed(reader, &[*byte])?;
-        if body == Some(true) {
-            ends.0 = place;
-        }
-        if body == Some(false) || used != 1 {
-            ends.1 = place;
+        match fed(reader, &[*byte])? {
+            (1, None) => {}
+            (1, Some(true)) => ends.0 = place,
+            _ => ends.1 = place,
         }
     }
     Ok(ends)
 }
 
+fn ends_anew(alloc: Global, stream: &[u8]) -> Result<(usize, usize), FeedFault> {
+    ends(&mut LinkReader::new(alloc), stream)
+}
+
 #[test]
 fn reads_single_bytes(rt: HostRuntime) {
-    let ends = ends(&mut LinkReader::new(rt.alloc()), TICK_AND_BODY);
+    let ends = ends_anew(rt.alloc(), TICK_AND_BODY);
     assert_eq!(rt; ends, Ok((11, 0)));
 }
 
 #[test]
 fn takes_the_limit_itself(rt: HostRuntime) {
-    let limit = fed(&mut LinkReader::new(rt.alloc()), b"\x00\x40\x00\x00");
+    let limit = fed_anew(rt.alloc(), b"\x00\x40\x00\x00");
     assert_eq!(rt; limit, Ok((4, None)));
 }
 
 #[test]
 fn answers_too_long_for_good(rt: HostRuntime) {
-    let answers = past_the_limit(&mut LinkReader::new(rt.alloc()));
+    let answers = past_the_limit(rt.alloc());
     let refused = Err(FeedFault::TooLong);
     assert_eq!(rt; answers, [Ok((3, None)), refused, refused, refused]);
 }
 
-fn past_the_limit(reader: &mut LinkReader) -> [Result<(usize, Option<bool>), FeedFault>; 4] {
+fn past_the_limit(alloc: Global) -> [Result<(usize, Option<bool>), FeedFault>; 4] {
+    let mut reader = LinkReader::new(alloc);
     [
-        fed(reader, b"\x00\x40\x00"),
-        fed(reader, b"\x01"),
-        fed(reader, b"\x00"),
-        fed(reader, b"D"),
+        fed(&mut reader, b"\x00\x40\x00"),
+        fed(&mut reader, b"\x01"),
+        fed(&mut reader, b"\x00"),
+        fed(&mut reader, b"D"),
     ]
 }
 
-/// Feeds the piece to its end, and keeps the bodies that come.
-fn feed_all(reader: &mut LinkReader, piece: &[u8], bodies: &mut Vec<Body>) -> Result<(), Fail> {
+/// Adds a body to a list of bodies, which has each behind its length.
+fn put(body: &[u8], bodies: &mut Vec<u8>) -> Result<(), FeedFault> {
+    bodies.extend_from_slice(&body.len().to_be_bytes())?;
+    bodies.extend_from_slice(body)?;
+    Ok(())
+}
+
+/// Feeds the piece to its end, and puts the bodies that come.
+fn feed_all(reader: &mut LinkReader, piece: &[u8], bodies: &mut Vec<u8>) -> Result<(), FeedFault> {
     let mut left = piece;
     for _ in 0..piece.len() {
         if left.is_empty() {
             break;
         }
-        let fed = reader.feed(left)?;
-        left = left.get(fed.used..).unwrap_or(&[]);
-        if let Some(body) = fed.body {
-            bodies.push(body)?;
-        }
+        let used = feed_once(reader, left, bodies)?;
+        left = left.get(used..).unwrap_or(&[]);
     }
     Ok(())
+}
+
+/// How many bytes of the piece are used.
+fn feed_once(
+    reader: &mut LinkReader,
+    piece: &[u8],
+    bodies: &mut Vec<u8>,
+) -> Result<usize, FeedFault> {
+    let fed = reader.feed(piece)?;
+    let kept = keep(&fed, bodies);
+    drop(fed);
+    kept
+}
+
+/// Puts the body that came, if one did.
+fn keep(fed: &Fed, bodies: &mut Vec<u8>) -> Result<usize, FeedFault> {
+    if let Some(body) = &fed.body {
+        put(body.as_slice(), bodies)?;
+    }
+    Ok(fed.used)
 }
 
 /// The next number below 65,536 of a linear congruential generator.
@@ -88,23 +119,24 @@ fn next(state: &mut u32) -> usize {
     *state as usize / 65_536
 }
 
-/// Adds a body of up to eleven bytes behind its length. One of no bytes is a tick.
-fn add_body(state: &mut u32, stream: &mut Vec<u8>, bodies: &mut Vec<Vec<u8>>) -> Result<(), Fail> {
-    let mut body = Vec::new(*stream.allocator());
+/// Adds a body of up to eleven bytes to both. One of no bytes is a tick, which the stream alone has.
+fn add_body(state: &mut u32, stream: &mut Vec<u8>, bodies: &mut Vec<u8>) -> Result<(), FeedFault> {
     let len = next(state) % 12;
-    for _ in 0..len {
-        body.push((next(state) % 256) as u8)?;
+    let mut bytes = [0; 12];
+    let body = &mut bytes[..len];
+    for byte in body.iter_mut() {
+        *byte = (next(state) % 256) as u8;
     }
     stream.extend_from_slice(&(len as u32).to_be_bytes())?;
-    stream.extend_from_slice(&body)?;
+    stream.extend_from_slice(body)?;
     if !body.is_empty() {
-        bodies.push(body)?;
+        put(body, bodies)?;
     }
     Ok(())
 }
 
 /// A stream of twelve bodies and ticks, and the bodies.
-fn stream_of(state: &mut u32, stream: &mut Vec<u8>, bodies: &mut Vec<Vec<u8>>) -> Result<(), Fail> {
+fn stream_of(state: &mut u32, stream: &mut Vec<u8>, bodies: &mut Vec<u8>) -> Result<(), FeedFault> {
     for _ in 0..12 {
         add_body(state, stream, bodies)?;
     }
@@ -116,8 +148,8 @@ fn feed_in_pieces(
     state: &mut u32,
     reader: &mut LinkReader,
     stream: &[u8],
-    bodies: &mut Vec<Body>,
-) -> Result<(), Fail> {
+    bodies: &mut Vec<u8>,
+) -> Result<(), FeedFault> {
     let mut left = stream;
     for _ in 0..stream.len() {
         let len = left.len().min(next(state) % 12 + 1);
@@ -128,35 +160,38 @@ fn feed_in_pieces(
     Ok(())
 }
 
-/// The bodies that come of a stream.
-fn cut_up(alloc: Global, state: &mut u32, stream: &[u8]) -> Result<Vec<Body>, Fail> {
-    let mut bodies = Vec::new(alloc);
-    feed_in_pieces(state, &mut LinkReader::new(alloc), stream, &mut bodies)?;
-    Ok(bodies)
-}
-
-fn are(bodies: &[Body], wanted: &[Vec<u8>]) -> bool {
-    bodies.len() == wanted.len()
-        && bodies
-            .iter()
-            .zip(wanted.iter())
-            .all(|(body, wanted)| body.as_slice() == wanted.as_slice())
+/// Whether these bodies come of the stream.
+fn gives(
+    state: &mut u32,
+    stream: &[u8],
+    bodies: &[u8],
+    came: &mut Vec<u8>,
+) -> Result<bool, FeedFault> {
+    let alloc = *came.allocator();
+    feed_in_pieces(state, &mut LinkReader::new(alloc), stream, came)?;
+    Ok(came.as_slice() == bodies)
 }
 
 /// Whether the bodies of the stream of a seed come, however it is cut.
-fn comes_whole(alloc: Global, seed: u32) -> Result<bool, Fail> {
+fn comes_whole(alloc: Global, seed: u32) -> Result<bool, FeedFault> {
     let mut state = seed;
     let mut stream = Vec::new(alloc);
-    let mut wanted = Vec::new(alloc);
-    stream_of(&mut state, &mut stream, &mut wanted)?;
-    Ok(are(&cut_up(alloc, &mut state, &stream)?, &wanted))
+    let mut bodies = Vec::new(alloc);
+    stream_of(&mut state, &mut stream, &mut bodies)?;
+    gives(&mut state, &stream, &bodies, &mut Vec::new(alloc))
+}
+
+/// The first seed whose stream gives other bodies.
+fn misread_seed(alloc: Global, seeds: u32) -> Result<Option<u32>, FeedFault> {
+    for seed in 0..seeds {
+        if !comes_whole(alloc, seed)? {
+            return Ok(Some(seed));
+        }
+    }
+    Ok(None)
 }
 
 #[test]
-fn reads_the_same_bodies_however_it_is_cut(rt: HostRuntime) -> Result<(), Fail> {
-    for seed in 0..1000u32 {
-        let whole = comes_whole(rt.alloc(), seed)?;
-        assert!(rt; whole, "seed {seed}");
-    }
-    Ok(())
+fn reads_the_same_bodies_however_it_is_cut(rt: HostRuntime) {
+    assert_eq!(rt; misread_seed(rt.alloc(), 1000), Ok(None));
 }
