@@ -7,9 +7,8 @@ mod link;
 use crate::*;
 use admission_rules::Admission;
 use cookie_digest::Challenge;
-use dist_types::{Cookie, NodeName, OutOfMemory};
+use dist_types::{Cookie, NodeName, TextFault};
 use std::alloc::Global;
-use std::test::Fail;
 
 /// The name frame of `a@h` with creation 5.
 const NAME: &[u8] = b"N\x00\x00\x00\x00\x01\x00\x00\x01\x00\x00\x00\x05\x00\x03a@h";
@@ -60,43 +59,80 @@ struct Side {
 }
 
 impl Side {
-    fn new(alloc: Global, name: &[u8], creation: u32, setting: Setting) -> Result<Side, Fail> {
+    fn new(
+        alloc: Global,
+        name: &[u8],
+        creation: u32,
+        setting: &Setting,
+    ) -> Result<Side, TextFault> {
         let links = pending(alloc, setting)?;
         let node = node(alloc, name, creation, setting)?;
         Ok(Side { node, links })
     }
 }
 
-/// A node with the cookie `password`.
-fn node(alloc: Global, name: &[u8], creation: u32, setting: Setting) -> Result<Admission, Fail> {
+/// A node with the cookie `password`, and what it has.
+fn node(
+    alloc: Global,
+    name: &[u8],
+    creation: u32,
+    setting: &Setting,
+) -> Result<Admission, TextFault> {
+    let mut node = node_alone(alloc, name, creation)?;
+    match admit(alloc, &mut node, setting) {
+        Ok(()) => Ok(node),
+        Err(fault) => {
+            drop(node);
+            Err(fault)
+        }
+    }
+}
+
+fn node_alone(alloc: Global, name: &[u8], creation: u32) -> Result<Admission, TextFault> {
     let own = NodeName::parse(alloc, name)?;
     let cookie = Cookie::parse(alloc, b"password")?;
-    let mut node = Admission::new(alloc, own, cookie, false, creation);
-    admit(alloc, &mut node, setting)?;
-    Ok(node)
+    Ok(Admission::new(alloc, own, cookie, false, creation))
 }
 
 /// Allows the names of the setting, and sets its cookies.
-fn admit(alloc: Global, node: &mut Admission, setting: Setting) -> Result<(), Fail> {
-    node.allow(names(alloc, setting.allowed)?.as_slice())?;
-    for PeerCookie(peer, cookie) in setting.cookies {
-        let peer = NodeName::parse(alloc, peer)?;
-        node.set_cookie_for(peer, Cookie::parse(alloc, cookie)?)?;
+fn admit(alloc: Global, node: &mut Admission, setting: &Setting) -> Result<(), TextFault> {
+    for cookie in setting.cookies {
+        set_cookie(alloc, node, cookie)?;
+    }
+    allow(alloc, node, setting.allowed)
+}
+
+fn allow(alloc: Global, node: &mut Admission, texts: Texts) -> Result<(), TextFault> {
+    let names = names(alloc, texts)?;
+    let allowed = node.allow(names.as_slice());
+    drop(names);
+    allowed.ok().ok_or(TextFault::OutOfMemory)
+}
+
+fn set_cookie(alloc: Global, node: &mut Admission, cookie: &PeerCookie) -> Result<(), TextFault> {
+    let PeerCookie(peer, cookie) = cookie;
+    let cookie = Cookie::parse(alloc, cookie)?;
+    let peer = NodeName::parse(alloc, peer)?;
+    let set = node.set_cookie_for(peer, cookie);
+    set.ok().ok_or(TextFault::OutOfMemory)
+}
+
+fn names(alloc: Global, texts: Texts) -> Result<Names, TextFault> {
+    let mut names = Vec::new(alloc);
+    add_names(alloc, texts, &mut names)?;
+    Ok(Names::of(names))
+}
+
+fn add_names(alloc: Global, texts: Texts, names: &mut Vec<NodeName>) -> Result<(), TextFault> {
+    for text in texts {
+        let name = NodeName::parse(alloc, text)?;
+        names.push(name).ok().ok_or(TextFault::OutOfMemory)?;
     }
     Ok(())
 }
 
-fn names(alloc: Global, texts: Texts) -> Result<Names, Fail> {
-    let mut names = Vec::new(alloc);
-    for text in texts {
-        names.push(NodeName::parse(alloc, text)?)?;
-    }
-    Ok(Names::of(names))
-}
-
-fn pending(alloc: Global, setting: Setting) -> Result<Pending, Fail> {
-    Ok(Pending {
-        up: names(alloc, setting.up)?,
-        dials: names(alloc, setting.dials)?,
-    })
+fn pending(alloc: Global, setting: &Setting) -> Result<Pending, TextFault> {
+    let up = names(alloc, setting.up)?;
+    let dials = names(alloc, setting.dials)?;
+    Ok(Pending { up, dials })
 }

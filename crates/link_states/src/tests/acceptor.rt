@@ -19,7 +19,7 @@ const OTP_CREATION: u32 = 0x6b02_8b43;
 struct Dialler {
     peer: &'static [u8],
     /// What the node has.
-    setting: Setting,
+    setting: &'static Setting,
     challenge: u32,
     steps: Steps,
     /// What becomes of the link.
@@ -29,14 +29,14 @@ struct Dialler {
 const DIALLERS: [Dialler; 7] = [
     Dialler {
         peer: b"a@h",
-        setting: NOTHING,
+        setting: &NOTHING,
         challenge: 123,
         steps: &[Step(NAME, &[b"sok", CHALLENGE]), Step(REPLY, &[ACK])],
         outcome: Outcome::Up(5, true, 123),
     },
     Dialler {
         peer: b"a@h",
-        setting: Setting {
+        setting: &Setting {
             up: &[b"c@h", b"a@h"],
             ..NOTHING
         },
@@ -50,7 +50,7 @@ const DIALLERS: [Dialler; 7] = [
     },
     Dialler {
         peer: b"a@h",
-        setting: Setting {
+        setting: &Setting {
             cookies: &[PeerCookie(b"a@h", b"123")],
             ..NOTHING
         },
@@ -63,7 +63,7 @@ const DIALLERS: [Dialler; 7] = [
     },
     Dialler {
         peer: b"a@h",
-        setting: Setting {
+        setting: &Setting {
             cookies: &[PeerCookie(b"c@h", b"123")],
             ..NOTHING
         },
@@ -73,7 +73,7 @@ const DIALLERS: [Dialler; 7] = [
     },
     Dialler {
         peer: b"a@h",
-        setting: Setting {
+        setting: &Setting {
             allowed: &[b"c@h"],
             ..NOTHING
         },
@@ -83,14 +83,14 @@ const DIALLERS: [Dialler; 7] = [
     },
     Dialler {
         peer: b"c@127.0.0.1",
-        setting: NOTHING,
+        setting: &NOTHING,
         challenge: 123,
         steps: &[Step(OTP_NAME, &[b"sok", CHALLENGE]), Step(REPLY, &[ACK])],
         outcome: Outcome::Up(OTP_CREATION, true, 123),
     },
     Dialler {
         peer: b"c@127.0.0.1",
-        setting: Setting {
+        setting: &Setting {
             up: &[b"c@127.0.0.1"],
             ..NOTHING
         },
@@ -105,14 +105,16 @@ const DIALLERS: [Dialler; 7] = [
 ];
 
 /// What becomes of the link.
-fn accepted(alloc: Global, dialler: &Dialler) -> Result<Outcome, Fail> {
+fn accepted(alloc: Global, dialler: &Dialler) -> Result<Outcome, TextFault> {
     let side = Side::new(alloc, b"b@h", 4, dialler.setting)?;
     let link = opened(dialler.challenge);
-    played(link, alloc, &side, dialler.steps, dialler.peer)
+    let outcome = played(link, alloc, &side, dialler.steps, dialler.peer);
+    drop(side);
+    outcome
 }
 
 /// The first dialler that isn't answered as it should be.
-fn misjudged_dialler(alloc: Global, diallers: &[Dialler]) -> Result<Option<usize>, Fail> {
+fn misjudged_dialler(alloc: Global, diallers: &[Dialler]) -> Result<Option<usize>, TextFault> {
     for (row, dialler) in diallers.iter().enumerate() {
         if accepted(alloc, dialler)? != dialler.outcome {
             return Ok(Some(row));
@@ -122,46 +124,82 @@ fn misjudged_dialler(alloc: Global, diallers: &[Dialler]) -> Result<Option<usize
 }
 
 #[test]
-fn answers_each_dialler_by_what_the_node_has(rt: HostRuntime) -> Result<(), Fail> {
-    let misjudged = misjudged_dialler(rt.alloc(), &DIALLERS)?;
-    assert_eq!(rt; misjudged, None);
-    Ok(())
+fn answers_each_dialler_by_what_the_node_has(rt: HostRuntime) {
+    assert_eq!(rt; misjudged_dialler(rt.alloc(), &DIALLERS), Ok(None));
 }
 
-#[test]
-fn gives_up_its_own_dial_to_a_greater_name(rt: HostRuntime) -> Result<(), Fail> {
-    let alloc = rt.alloc();
-    let with_a_dial = given_up(alloc, &[b"a@h", b"z@h"], &[b"sok_simultaneous", CHALLENGE])?;
-    let without = given_up(alloc, &[], &[b"sok", CHALLENGE])?;
-    assert_eq!(rt; (with_a_dial, without), (Some(true), Some(false)));
-    Ok(())
+/// Own dials of the node, and what the name frame of `z@h` owes.
+struct OwnDials {
+    setting: &'static Setting,
+    owed: Texts,
+    /// Whether an own dial is given up.
+    gives_up: bool,
 }
 
-/// Whether the name frame, where it owes these frames, ends an own dial. Where a growth is refused, it is taken again.
-fn given_up(alloc: Global, dials: Texts, owed: Texts) -> Result<Option<bool>, Fail> {
-    let setting = Setting { dials, ..NOTHING };
-    let side = Side::new(alloc, b"b@h", 4, setting)?;
-    given_up_by(&side, alloc, owed)
+const OWN_DIALS: [OwnDials; 2] = [
+    OwnDials {
+        setting: &Setting {
+            dials: &[b"a@h", b"z@h"],
+            ..NOTHING
+        },
+        owed: &[b"sok_simultaneous", CHALLENGE],
+        gives_up: true,
+    },
+    OwnDials {
+        setting: &NOTHING,
+        owed: &[b"sok", CHALLENGE],
+        gives_up: false,
+    },
+];
+
+/// Whether the name frame gives up an own dial, where it owes the frames of the row.
+fn given_up(alloc: Global, row: &OwnDials) -> Result<Option<bool>, TextFault> {
+    let side = Side::new(alloc, b"b@h", 4, row.setting)?;
+    let named = named(alloc, &side);
+    drop(side);
+    let given_up = given_up_by(&named, row.owed);
+    drop(named);
+    given_up
 }
 
-/// The same by this node.
-fn given_up_by(side: &Side, alloc: Global, owed: Texts) -> Result<Option<bool>, Fail> {
+/// The state after the name frame. Where a growth is refused, it is taken again.
+fn named(alloc: Global, side: &Side) -> Result<Named, Stopped<AwaitName>> {
     let Side { node, links } = side;
     let name = b"N\x00\x00\x00\x00\x01\x00\x00\x01\x00\x00\x00\x01\x00\x03z@h";
-    let state = AwaitName::new(Challenge::new(123));
-    let named = match state.take(alloc, name, node, links) {
+    match AwaitName::new(Challenge::new(123)).take(alloc, name, node, links) {
         Err(Stopped::OutOfMemory(state)) => state.take(alloc, name, node, links),
         taken => taken,
-    };
+    }
+}
+
+fn given_up_by(
+    named: &Result<Named, Stopped<AwaitName>>,
+    owed: Texts,
+) -> Result<Option<bool>, TextFault> {
     match named {
         Ok(
             Named::Reply {
-                state: _state,
+                state: _,
                 frames,
                 gives_up,
             },
-        ) => Ok(are(&frames, owed).then_some(gives_up)),
-        Err(Stopped::OutOfMemory(_state)) => Err(Fail::from(OutOfMemory)),
+        ) => Ok(are(frames, owed).then_some(*gives_up)),
+        Err(Stopped::OutOfMemory(_)) => Err(TextFault::OutOfMemory),
         _ => Ok(None),
     }
+}
+
+/// The first row whose dials are given up otherwise.
+fn misjudged_dials(alloc: Global, rows: &[OwnDials]) -> Result<Option<usize>, TextFault> {
+    for (place, row) in rows.iter().enumerate() {
+        if given_up(alloc, row)? != Some(row.gives_up) {
+            return Ok(Some(place));
+        }
+    }
+    Ok(None)
+}
+
+#[test]
+fn gives_up_its_own_dial_to_a_greater_name(rt: HostRuntime) {
+    assert_eq!(rt; misjudged_dials(rt.alloc(), &OWN_DIALS), Ok(None));
 }

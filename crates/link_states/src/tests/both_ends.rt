@@ -2,20 +2,12 @@
 use super::link::*;
 use super::*;
 
-impl Side {
-    /// The link after the frames, and the frames that the last of them owes.
-    fn hear(
-        &self,
-        mut link: Link,
-        alloc: Global,
-        bodies: &Bodies,
-    ) -> Result<(Link, Bodies), OutOfMemory> {
-        let mut owed = Bodies::of(Vec::new(alloc));
-        for body in bodies.as_slice() {
-            (link, owed) = taken(link, alloc, body.as_slice(), self)?;
-        }
-        Ok((link, owed))
-    }
+/// Both ends of a link, and the frames that the acceptor owes.
+#[derive(Drop)]
+struct Ends {
+    ours: Link,
+    theirs: Link,
+    answers: Bodies,
 }
 
 /// A dialler and the acceptor `b@h`, and what becomes of each.
@@ -25,7 +17,7 @@ struct Meeting {
     /// The peers that are up at the dialler.
     up: Texts,
     /// What the acceptor has.
-    acceptor: Setting,
+    acceptor: &'static Setting,
     dialled: Outcome,
     accepted: Outcome,
 }
@@ -35,7 +27,7 @@ const MEETINGS: [Meeting; 6] = [
         status: "ok",
         name: b"a@h",
         up: &[],
-        acceptor: NOTHING,
+        acceptor: &NOTHING,
         dialled: Outcome::Up(4, true, 1),
         accepted: Outcome::Up(5, true, 123),
     },
@@ -43,7 +35,7 @@ const MEETINGS: [Meeting; 6] = [
         status: "ok_simultaneous",
         name: b"c@h",
         up: &[],
-        acceptor: Setting {
+        acceptor: &Setting {
             dials: &[b"c@h"],
             ..NOTHING
         },
@@ -54,7 +46,7 @@ const MEETINGS: [Meeting; 6] = [
         status: "nok",
         name: b"a@h",
         up: &[],
-        acceptor: Setting {
+        acceptor: &Setting {
             dials: &[b"a@h"],
             ..NOTHING
         },
@@ -65,7 +57,7 @@ const MEETINGS: [Meeting; 6] = [
         status: "not_allowed",
         name: b"a@h",
         up: &[],
-        acceptor: Setting {
+        acceptor: &Setting {
             allowed: &[b"c@h"],
             ..NOTHING
         },
@@ -76,7 +68,7 @@ const MEETINGS: [Meeting; 6] = [
         status: "alive and true",
         name: b"a@h",
         up: &[],
-        acceptor: Setting {
+        acceptor: &Setting {
             up: &[b"a@h"],
             ..NOTHING
         },
@@ -87,7 +79,7 @@ const MEETINGS: [Meeting; 6] = [
         status: "alive and false",
         name: b"a@h",
         up: &[b"b@h"],
-        acceptor: Setting {
+        acceptor: &Setting {
             up: &[b"a@h"],
             ..NOTHING
         },
@@ -97,19 +89,29 @@ const MEETINGS: [Meeting; 6] = [
 ];
 
 /// What becomes of both ends.
-fn met(alloc: Global, meeting: &Meeting) -> Result<(Outcome, Outcome), Fail> {
-    let links = Setting {
+fn met(alloc: Global, meeting: &Meeting) -> Result<(Outcome, Outcome), TextFault> {
+    let setting = Setting {
         up: meeting.up,
-        ..NOTHING
+        dials: &[],
+        allowed: &[],
+        cookies: &[],
     };
-    let dialler = Side::new(alloc, meeting.name, 5, links)?;
-    met_by(&dialler, alloc, meeting)
+    let dialler = Side::new(alloc, meeting.name, 5, &setting)?;
+    let met = met_by(&dialler, alloc, meeting);
+    drop(dialler);
+    met
 }
 
 /// The same by this dialler.
-fn met_by(dialler: &Side, alloc: Global, meeting: &Meeting) -> Result<(Outcome, Outcome), Fail> {
+fn met_by(
+    dialler: &Side,
+    alloc: Global,
+    meeting: &Meeting,
+) -> Result<(Outcome, Outcome), TextFault> {
     let acceptor = Side::new(alloc, b"b@h", 4, meeting.acceptor)?;
-    exchanged(alloc, meeting.name, dialler, &acceptor)
+    let met = exchanged(alloc, meeting.name, dialler, &acceptor);
+    drop(acceptor);
+    met
 }
 
 /// The same, once neither owes the other a frame. No end sends more than three times.
@@ -118,27 +120,60 @@ fn exchanged(
     name: &[u8],
     dialler: &Side,
     acceptor: &Side,
-) -> Result<(Outcome, Outcome), Fail> {
-    let (mut ours, mut said) = first_said(alloc, dialler)?;
-    let mut theirs = opened(123);
+) -> Result<(Outcome, Outcome), TextFault> {
+    let mut ends = begun(alloc, dialler, acceptor)?;
     for _ in 0..3 {
-        let (next, answers) = acceptor.hear(theirs, alloc, &said)?;
-        theirs = next;
-        (ours, said) = dialler.hear(ours, alloc, &answers)?;
+        ends = gone_on(ends, alloc, dialler, acceptor);
     }
-    Ok((reached(&ours, b"b@h"), reached(&theirs, name)))
+    let outcomes = outcomes(&ends, name);
+    drop(ends);
+    outcomes
 }
 
-/// A dial to `b@h`, and its name frame.
-fn first_said(alloc: Global, dialler: &Side) -> Result<(Link, Bodies), Fail> {
-    let (link, name) = dialled(alloc, &dialler.node, b"b@h", 1)?;
-    let mut frames = Vec::new(alloc);
-    frames.push(name)?;
-    Ok((link, Bodies::of(frames)))
+fn outcomes(ends: &Ends, name: &[u8]) -> Result<(Outcome, Outcome), TextFault> {
+    let ours = reached(&ends.ours, b"b@h")?;
+    let theirs = reached(&ends.theirs, name)?;
+    Ok((ours, theirs))
+}
+
+/// The ends once the acceptor has the name frame.
+fn begun(alloc: Global, dialler: &Side, acceptor: &Side) -> Result<Ends, TextFault> {
+    let (ours, name) = dialled(alloc, &dialler.node, b"b@h", 1)?;
+    let (theirs, answers) = taken(opened(123), alloc, name.as_slice(), acceptor);
+    drop(name);
+    Ok(Ends {
+        ours,
+        theirs,
+        answers,
+    })
+}
+
+/// The ends once the dialler has the answers, and the acceptor what these owe.
+fn gone_on(ends: Ends, alloc: Global, dialler: &Side, acceptor: &Side) -> Ends {
+    let (ours, said) = heard(ends.ours, alloc, dialler, ends.answers);
+    let (theirs, answers) = heard(ends.theirs, alloc, acceptor, said);
+    Ends {
+        ours,
+        theirs,
+        answers,
+    }
+}
+
+/// The link after the frames, and the frames that the last of them owes.
+fn heard(mut link: Link, alloc: Global, side: &Side, frames: Bodies) -> (Link, Bodies) {
+    let mut owed = Bodies::of(Vec::new(alloc));
+    for frame in frames.as_slice() {
+        (link, owed) = taken(link, alloc, frame.as_slice(), side);
+    }
+    drop(frames);
+    (link, owed)
 }
 
 /// The status of the first meeting that ends in another way.
-fn misjudged_meeting(alloc: Global, meetings: &[Meeting]) -> Result<Option<&'static str>, Fail> {
+fn misjudged_meeting(
+    alloc: Global,
+    meetings: &[Meeting],
+) -> Result<Option<&'static str>, TextFault> {
     for meeting in meetings {
         if met(alloc, meeting)? != (meeting.dialled, meeting.accepted) {
             return Ok(Some(meeting.status));
@@ -148,8 +183,6 @@ fn misjudged_meeting(alloc: Global, meetings: &[Meeting]) -> Result<Option<&'sta
 }
 
 #[test]
-fn end_alike_after_each_status(rt: HostRuntime) -> Result<(), Fail> {
-    let misjudged = misjudged_meeting(rt.alloc(), &MEETINGS)?;
-    assert_eq!(rt; misjudged, None);
-    Ok(())
+fn end_alike_after_each_status(rt: HostRuntime) {
+    assert_eq!(rt; misjudged_meeting(rt.alloc(), &MEETINGS), Ok(None));
 }

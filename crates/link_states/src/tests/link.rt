@@ -11,6 +11,10 @@ pub enum Link {
     AwaitAck(AwaitAck),
     Up(Up),
     Ended(StateRule),
+    /// A frame owed others than those beside it.
+    OtherFrames,
+    /// A growth was refused twice.
+    OutOfMemory,
 }
 
 pub fn opened(challenge: u32) -> Link {
@@ -23,36 +27,46 @@ pub fn dialled(
     node: &Admission,
     peer: &[u8],
     challenge: u32,
-) -> Result<(Link, Body), Fail> {
+) -> Result<(Link, Body), TextFault> {
     let peer = NodeName::parse(alloc, peer)?;
-    let (peer, challenge) = match AwaitStatus::dial(alloc, peer, Challenge::new(challenge), node) {
-        Ok((state, name)) => return Ok((Link::AwaitStatus(state), name)),
-        Err(back) => back,
-    };
+    match AwaitStatus::dial(alloc, peer, Challenge::new(challenge), node) {
+        Ok((state, name)) => Ok((Link::AwaitStatus(state), name)),
+        Err((peer, challenge)) => dialled_again(alloc, node, peer, challenge),
+    }
+}
+
+fn dialled_again(
+    alloc: Global,
+    node: &Admission,
+    peer: NodeName,
+    challenge: Challenge,
+) -> Result<(Link, Body), TextFault> {
     match AwaitStatus::dial(alloc, peer, challenge, node) {
         Ok((state, name)) => Ok((Link::AwaitStatus(state), name)),
-        Err((_peer, challenge)) => {
+        Err((peer, challenge)) => {
+            drop(peer);
             challenge.discard();
-            Err(Fail::from(OutOfMemory))
+            Err(TextFault::OutOfMemory)
         }
     }
 }
 
 /// The link after a frame, and the frames that it owes. Where a growth is refused, the frame is taken again by the
 /// state that was handed back: `rt try --test --fail-alloc N`.
-pub fn taken(
-    link: Link,
-    alloc: Global,
-    body: &[u8],
-    side: &Side,
-) -> Result<(Link, Bodies), OutOfMemory> {
-    let back = match tried(link, alloc, body, side) {
-        Ok(taken) => return Ok(taken),
-        Err(back) => back,
-    };
-    match tried(back, alloc, body, side) {
-        Ok(taken) => Ok(taken),
-        Err(_back) => Err(OutOfMemory),
+pub fn taken(link: Link, alloc: Global, body: &[u8], side: &Side) -> (Link, Bodies) {
+    match tried(link, alloc, body, side) {
+        Ok(taken) => taken,
+        Err(back) => taken_again(back, alloc, body, side),
+    }
+}
+
+fn taken_again(link: Link, alloc: Global, body: &[u8], side: &Side) -> (Link, Bodies) {
+    match tried(link, alloc, body, side) {
+        Ok(taken) => taken,
+        Err(back) => {
+            drop(back);
+            (Link::OutOfMemory, Bodies::of(Vec::new(alloc)))
+        }
     }
 }
 
@@ -60,54 +74,90 @@ pub fn taken(
 fn tried(link: Link, alloc: Global, body: &[u8], side: &Side) -> Result<(Link, Bodies), Link> {
     let Side { node, links } = side;
     match link {
-        Link::AwaitName(state) => match state.take(alloc, body, node, links) {
-            Ok(named) => Ok(link_named(named)),
-            Err(stopped) => ended(stopped).map_err(|state| Link::AwaitName(state)),
-        },
-        Link::AwaitAnswer(state) => match state.take(alloc, body, node, links) {
-            Ok((next, frames)) => Ok((Link::AwaitReply(next), frames)),
-            Err(stopped) => ended(stopped).map_err(|state| Link::AwaitAnswer(state)),
-        },
-        Link::AwaitReply(state) => match state.take(alloc, body, node, links) {
-            Ok((up, frames)) => Ok((Link::Up(up), frames)),
-            Err(stopped) => ended(stopped).map_err(|state| Link::AwaitReply(state)),
-        },
-        Link::AwaitStatus(state) => match state.take(alloc, body, node, links) {
-            Ok((next, frames)) => Ok((Link::AwaitChallenge(next), frames)),
-            Err(stopped) => ended(stopped).map_err(|state| Link::AwaitStatus(state)),
-        },
-        Link::AwaitChallenge(state) => match state.take(alloc, body, node, links) {
-            Ok((next, frames)) => Ok((Link::AwaitAck(next), frames)),
-            Err(stopped) => ended(stopped).map_err(|state| Link::AwaitChallenge(state)),
-        },
-        Link::AwaitAck(state) => match state.take(alloc, body, node, links) {
-            Ok((up, frames)) => Ok((Link::Up(up), frames)),
-            Err(stopped) => ended(stopped).map_err(|state| Link::AwaitAck(state)),
-        },
+        Link::AwaitName(state) => after_name(state.take(alloc, body, node, links)),
+        Link::AwaitAnswer(state) => after(state.take(alloc, body, node, links)),
+        Link::AwaitReply(state) => after(state.take(alloc, body, node, links)),
+        Link::AwaitStatus(state) => after(state.take(alloc, body, node, links)),
+        Link::AwaitChallenge(state) => after(state.take(alloc, body, node, links)),
+        Link::AwaitAck(state) => after(state.take(alloc, body, node, links)),
         other => Ok((other, Bodies::of(Vec::new(alloc)))),
     }
 }
 
-fn link_named(named: Named) -> (Link, Bodies) {
+fn after_name(named: Result<Named, Stopped<AwaitName>>) -> Result<(Link, Bodies), Link> {
     match named {
-        Named::Alive(state, frames) => (Link::AwaitAnswer(state), frames),
-        Named::Reply {
-            state,
-            frames,
-            gives_up: _,
-        } => (Link::AwaitReply(state), frames),
+        Ok(Named::Alive(state, frames)) => Ok((Link::AwaitAnswer(state), frames)),
+        Ok(
+            Named::Reply {
+                state,
+                frames,
+                gives_up: _,
+            },
+        ) => Ok((Link::AwaitReply(state), frames)),
+        Err(stopped) => after_stop(stopped),
     }
 }
 
-fn ended<S>(stopped: Stopped<S>) -> Result<(Link, Bodies), S> {
+fn after<N: Into<Link>, S: Into<Link>>(
+    taken: Result<(N, Bodies), Stopped<S>>,
+) -> Result<(Link, Bodies), Link> {
+    match taken {
+        Ok((next, frames)) => Ok((next.into(), frames)),
+        Err(stopped) => after_stop(stopped),
+    }
+}
+
+fn after_stop<S: Into<Link>>(stopped: Stopped<S>) -> Result<(Link, Bodies), Link> {
     match stopped {
         Stopped::Ended { rule, frames } => Ok((Link::Ended(rule), frames)),
-        Stopped::OutOfMemory(state) => Err(state),
+        Stopped::OutOfMemory(state) => Err(state.into()),
+    }
+}
+
+impl From<AwaitName> for Link {
+    fn from(state: AwaitName) -> Link {
+        Link::AwaitName(state)
+    }
+}
+
+impl From<AwaitAnswer> for Link {
+    fn from(state: AwaitAnswer) -> Link {
+        Link::AwaitAnswer(state)
+    }
+}
+
+impl From<AwaitReply> for Link {
+    fn from(state: AwaitReply) -> Link {
+        Link::AwaitReply(state)
+    }
+}
+
+impl From<AwaitStatus> for Link {
+    fn from(state: AwaitStatus) -> Link {
+        Link::AwaitStatus(state)
+    }
+}
+
+impl From<AwaitChallenge> for Link {
+    fn from(state: AwaitChallenge) -> Link {
+        Link::AwaitChallenge(state)
+    }
+}
+
+impl From<AwaitAck> for Link {
+    fn from(state: AwaitAck) -> Link {
+        Link::AwaitAck(state)
+    }
+}
+
+impl From<Up> for Link {
+    fn from(state: Up) -> Link {
+        Link::Up(state)
     }
 }
 
 /// How far a link is after its frames.
-#[derive(Clone, Copy, Debug, PartialEq, Eq)]
+#[derive(Clone, Copy, PartialEq, Eq)]
 pub enum Outcome {
     Unfinished,
     /// The peer's creation, whether the link is visible, and the own challenge.
@@ -124,26 +174,47 @@ pub fn played(
     side: &Side,
     steps: Steps,
     peer: &[u8],
-) -> Result<Outcome, Fail> {
-    for Step(body, owed) in steps {
-        let (next, frames) = taken(link, alloc, body, side)?;
-        if !are(&frames, owed) {
-            return Ok(Outcome::OtherFrames);
-        }
-        link = next;
+) -> Result<Outcome, TextFault> {
+    for step in steps {
+        link = stepped(link, alloc, side, step);
     }
-    Ok(reached(&link, peer))
+    let outcome = reached(&link, peer);
+    drop(link);
+    outcome
 }
 
-pub fn reached(link: &Link, peer: &[u8]) -> Outcome {
-    match link {
-        Link::Up(up) if up.peer().as_bytes() == peer => {
-            Outcome::Up(up.creation(), up.visible(), up.proof().number())
-        }
-        Link::Up(_) => Outcome::OtherFrames,
-        Link::Ended(rule) => Outcome::Ended(*rule),
-        _ => Outcome::Unfinished,
+fn stepped(link: Link, alloc: Global, side: &Side, step: &Step) -> Link {
+    let Step(body, owed) = step;
+    let (next, frames) = taken(link, alloc, body, side);
+    let are_owed = are(&frames, owed);
+    drop(frames);
+    owing(next, are_owed)
+}
+
+/// The link, unless it owed other frames.
+pub fn owing(link: Link, are_owed: bool) -> Link {
+    if are_owed {
+        return link;
     }
+    drop(link);
+    Link::OtherFrames
+}
+
+pub fn reached(link: &Link, peer: &[u8]) -> Result<Outcome, TextFault> {
+    match link {
+        Link::Up(up) => Ok(up_to(up, peer)),
+        Link::Ended(rule) => Ok(Outcome::Ended(*rule)),
+        Link::OtherFrames => Ok(Outcome::OtherFrames),
+        Link::OutOfMemory => Err(TextFault::OutOfMemory),
+        _ => Ok(Outcome::Unfinished),
+    }
+}
+
+fn up_to(up: &Up, peer: &[u8]) -> Outcome {
+    if up.peer().as_bytes() != peer {
+        return Outcome::OtherFrames;
+    }
+    Outcome::Up(up.creation(), up.visible(), up.proof().number())
 }
 
 /// Whether these are the frames, in this order.
