@@ -13,7 +13,7 @@ use policy_audit::Event;
 use std::alloc::{AllocFailed, Global};
 
 /// What a line may ask for.
-#[derive(Debug, Drop)]
+#[derive(Drop)]
 pub enum Command {
     /// An event, by the present seat.
     Step(Event),

@@ -16,7 +16,6 @@ use std::alloc::Global;
 use std::marker::Model;
 
 /// The node that a script is played on, and the seat that asks.
-#[derive(Debug)]
 pub struct Console {
     core: NodeCore,
     seat: u32,
