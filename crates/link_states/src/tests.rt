@@ -9,6 +9,8 @@ use admission_rules::Admission;
 use cookie_digest::Challenge;
 use dist_types::{Cookie, NodeName, TextFault};
 use std::alloc::Global;
+use std::fmt::Debug;
+use std::process::Abort;
 
 /// The name frame of `a@h` with creation 5.
 const NAME: &[u8] = b"N\x00\x00\x00\x00\x01\x00\x00\x01\x00\x00\x00\x05\x00\x03a@h";
@@ -21,7 +23,14 @@ const REPLY: &[u8] =
 /// MD5 of `password1`.
 const ACK: &[u8] = b"a\x7c\x6a\x18\x0b\x36\x89\x6a\x0a\x8c\x02\x78\x7e\xea\xfb\x0e\x4c";
 
-// The rows of tables are structs: a check follows each lifetime that a type shows, and a tuple shows all of its own.
+/// What each test ends with. As a function it is checked once, and not once a test.
+fn asserts_eq<T: Copy + Debug + PartialEq>(rt: &impl Abort, found: T, wanted: T) {
+    assert_eq!(rt; found, wanted);
+}
+
+// The rows of tables are structs, and hold a struct by reference: a check follows each lifetime that a type shows, and
+// each part of a table that isn't behind one. What ends by name, as `drop(link)`, ends in a function of its own, and is
+// checked once.
 
 /// A body that comes, and the frames that it owes.
 struct Step(&'static [u8], Texts);

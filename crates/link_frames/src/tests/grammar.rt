@@ -1,5 +1,5 @@
 //! A Sync of three rows, cut short and changed in one byte, against a verdict of the tests' own.
-use super::fault_of;
+use super::{asserts_eq, fault_of};
 use std::alloc::Global;
 
 const SYNC: &[u8; 69] = b"S\x02pg\x00\x00\x00\x03\
@@ -72,7 +72,7 @@ fn is_end(rest: Option<&[u8]>) -> bool {
 
 #[test]
 fn refuses_each_prefix(rt: HostRuntime) {
-    assert_eq!(rt; shortest_read(rt.alloc()), Some(SYNC.len()));
+    asserts_eq(&rt, shortest_read(rt.alloc()), Some(SYNC.len()));
 }
 
 /// How long the shortest beginning of the Sync is that is read.

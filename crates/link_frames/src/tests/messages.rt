@@ -2,12 +2,13 @@
 ghost use Rattle.std.specs.Prelude.{IsTrue};
 ghost use Rattle.link_frames.specs.Spelling.{HasSpelling};
 
-use super::fault_of;
+use super::{asserts_eq, fault_of};
 use crate::*;
 use dist_types::{Group, NodeName, Pid, Row, Scope};
 use std::alloc::Global;
 
-// The rows of tables are structs: a check follows each lifetime that a type shows, and a tuple shows all of its own.
+// The rows of tables are structs, and hold a struct by reference: a check follows each lifetime that a type shows, and
+// each part of a table that isn't behind one.
 
 /// The name of the node, the creation and the number of a process.
 struct Process(&'static [u8], u32, u64);
@@ -178,13 +179,16 @@ fn written(alloc: Global, message: &Message) -> Result<Vec<u8>, MessageFault> {
 }
 
 fn is_written(alloc: Global, message: &Message, body: &[u8]) -> Result<bool, MessageFault> {
-    Ok(written(alloc, message)?.as_slice() == body)
+    let written = written(alloc, message)?;
+    let is_written = written.as_slice() == body;
+    // What ends by name ends in a function of its own, and is checked once.
+    drop(written);
+    Ok(is_written)
 }
 
 fn is_read(alloc: Global, message: &Message, body: &[u8]) -> bool {
     let decoded = decode(alloc, body);
     let is_read = holds(&decoded, message);
-    // What ends by name ends in a function of its own, and is checked once.
     drop(decoded);
     is_read
 }
@@ -196,19 +200,26 @@ fn holds(decoded: &Result<Message, MessageFault>, message: &Message) -> bool {
     }
 }
 
-/// Whether the message is written as its body, and read again.
-fn is_read_and_written(alloc: Global, worked: &Worked) -> Result<bool, MessageFault> {
+/// Whether the message is written as this body, and read again.
+fn is_read_and_written(
+    alloc: Global,
+    message: &Message,
+    body: &[u8],
+) -> Result<bool, MessageFault> {
+    Ok(is_written(alloc, message, body)? && is_read(alloc, message, body))
+}
+
+fn is_as_worked(alloc: Global, worked: &Worked) -> Result<bool, MessageFault> {
     let message = message_of(alloc, worked)?;
-    let is_written = is_written(alloc, &message, worked.body);
-    let is_read = is_read(alloc, &message, worked.body);
+    let is_as_worked = is_read_and_written(alloc, &message, worked.body);
     drop(message);
-    Ok(is_written? && is_read)
+    is_as_worked
 }
 
 /// The first message that isn't read and written as it should be.
 fn misread(alloc: Global, table: &[Worked]) -> Result<Option<&'static str>, MessageFault> {
     for worked in table {
-        if !is_read_and_written(alloc, worked)? {
+        if !is_as_worked(alloc, worked)? {
             return Ok(Some(worked.name));
         }
     }
@@ -217,7 +228,7 @@ fn misread(alloc: Global, table: &[Worked]) -> Result<Option<&'static str>, Mess
 
 #[test]
 fn reads_what_it_writes(rt: HostRuntime) {
-    assert_eq!(rt; misread(rt.alloc(), &WORKED), Ok(None));
+    asserts_eq(&rt, misread(rt.alloc(), &WORKED), Ok(None));
 }
 
 /// A body that is no message, and why.
@@ -265,5 +276,5 @@ fn overlooked(alloc: Global, table: &[Refused]) -> Option<&'static str> {
 
 #[test]
 fn refuses_what_is_no_message(rt: HostRuntime) {
-    assert_eq!(rt; overlooked(rt.alloc(), &REFUSED), None);
+    asserts_eq(&rt, overlooked(rt.alloc(), &REFUSED), None);
 }

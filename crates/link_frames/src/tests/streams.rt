@@ -1,4 +1,5 @@
 //! Streams in one piece, byte by byte, and cut at many places.
+use super::asserts_eq;
 use crate::{FeedFault, LinkReader};
 use handshake_frames::{Body, Fed};
 use std::alloc::Global;
@@ -24,7 +25,7 @@ fn fed_anew(alloc: Global, piece: &[u8]) -> Result<(usize, Option<bool>), FeedFa
 #[test]
 fn skips_a_tick_before_a_body(rt: HostRuntime) {
     let cut = fed_anew(rt.alloc(), TICK_AND_BODY);
-    assert_eq!(rt; cut, Ok((12, Some(true))));
+    asserts_eq(&rt, cut, Ok((12, Some(true))));
 }
 
 /// The places of the bytes that end a body, or of which none or several are used.
@@ -47,20 +48,20 @@ fn ends_anew(alloc: Global, stream: &[u8]) -> Result<(usize, usize), FeedFault> 
 #[test]
 fn reads_single_bytes(rt: HostRuntime) {
     let ends = ends_anew(rt.alloc(), TICK_AND_BODY);
-    assert_eq!(rt; ends, Ok((11, 0)));
+    asserts_eq(&rt, ends, Ok((11, 0)));
 }
 
 #[test]
 fn takes_the_limit_itself(rt: HostRuntime) {
     let limit = fed_anew(rt.alloc(), b"\x00\x40\x00\x00");
-    assert_eq!(rt; limit, Ok((4, None)));
+    asserts_eq(&rt, limit, Ok((4, None)));
 }
 
 #[test]
 fn answers_too_long_for_good(rt: HostRuntime) {
     let answers = past_the_limit(rt.alloc());
     let refused = Err(FeedFault::TooLong);
-    assert_eq!(rt; answers, [Ok((3, None)), refused, refused, refused]);
+    asserts_eq(&rt, answers, [Ok((3, None)), refused, refused, refused]);
 }
 
 fn past_the_limit(alloc: Global) -> [Result<(usize, Option<bool>), FeedFault>; 4] {
@@ -73,14 +74,14 @@ fn past_the_limit(alloc: Global) -> [Result<(usize, Option<bool>), FeedFault>; 4
     ]
 }
 
-/// Adds a body to a list of bodies, which has each behind its length.
-fn put(body: &[u8], bodies: &mut Vec<u8>) -> Result<(), FeedFault> {
-    bodies.extend_from_slice(&body.len().to_be_bytes())?;
-    bodies.extend_from_slice(body)?;
+/// Adds a length and a body.
+fn put(len: &[u8], body: &[u8], out: &mut Vec<u8>) -> Result<(), FeedFault> {
+    out.extend_from_slice(len)?;
+    out.extend_from_slice(body)?;
     Ok(())
 }
 
-/// Feeds the piece to its end, and puts the bodies that come.
+/// Feeds the piece to its end, and adds the bodies that come, each behind its length.
 fn feed_all(reader: &mut LinkReader, piece: &[u8], bodies: &mut Vec<u8>) -> Result<(), FeedFault> {
     let mut left = piece;
     for _ in 0..piece.len() {
@@ -105,10 +106,11 @@ fn feed_once(
     kept
 }
 
-/// Puts the body that came, if one did.
+/// Adds the body that came, if one did.
 fn keep(fed: &Fed, bodies: &mut Vec<u8>) -> Result<usize, FeedFault> {
     if let Some(body) = &fed.body {
-        put(body.as_slice(), bodies)?;
+        let body = body.as_slice();
+        put(&body.len().to_be_bytes(), body, bodies)?;
     }
     Ok(fed.used)
 }
@@ -119,20 +121,23 @@ fn next(state: &mut u32) -> usize {
     *state as usize / 65_536
 }
 
+fn fill(state: &mut u32, bytes: &mut [u8]) {
+    for byte in bytes {
+        *byte = (next(state) % 256) as u8;
+    }
+}
+
 /// Adds a body of up to eleven bytes to both. One of no bytes is a tick, which the stream alone has.
 fn add_body(state: &mut u32, stream: &mut Vec<u8>, bodies: &mut Vec<u8>) -> Result<(), FeedFault> {
     let len = next(state) % 12;
     let mut bytes = [0; 12];
     let body = &mut bytes[..len];
-    for byte in body.iter_mut() {
-        *byte = (next(state) % 256) as u8;
+    fill(state, body);
+    put(&(len as u32).to_be_bytes(), body, stream)?;
+    if len == 0 {
+        return Ok(());
     }
-    stream.extend_from_slice(&(len as u32).to_be_bytes())?;
-    stream.extend_from_slice(body)?;
-    if !body.is_empty() {
-        put(body, bodies)?;
-    }
-    Ok(())
+    put(&len.to_be_bytes(), body, bodies)
 }
 
 /// A stream of twelve bodies and ticks, and the bodies.
@@ -153,7 +158,7 @@ fn feed_in_pieces(
     let mut left = stream;
     for _ in 0..stream.len() {
         let len = left.len().min(next(state) % 12 + 1);
-        let (piece, behind) = left.split_at_checked(len).unwrap_or((left, &[]));
+        let (piece, behind) = left.split_at(len);
         feed_all(reader, piece, bodies)?;
         left = behind;
     }
@@ -161,24 +166,37 @@ fn feed_in_pieces(
 }
 
 /// Whether these bodies come of the stream.
-fn gives(
-    state: &mut u32,
-    stream: &[u8],
-    bodies: &[u8],
-    came: &mut Vec<u8>,
-) -> Result<bool, FeedFault> {
-    let alloc = *came.allocator();
-    feed_in_pieces(state, &mut LinkReader::new(alloc), stream, came)?;
-    Ok(came.as_slice() == bodies)
+fn gives(alloc: Global, state: &mut u32, stream: &[u8], bodies: &[u8]) -> Result<bool, FeedFault> {
+    let mut reader = LinkReader::new(alloc);
+    let mut came = Vec::new(alloc);
+    let fed = feed_in_pieces(state, &mut reader, stream, &mut came);
+    let are_same = came.as_slice() == bodies;
+    drop(reader);
+    drop(came);
+    fed?;
+    Ok(are_same)
 }
 
 /// Whether the bodies of the stream of a seed come, however it is cut.
 fn comes_whole(alloc: Global, seed: u32) -> Result<bool, FeedFault> {
-    let mut state = seed;
     let mut stream = Vec::new(alloc);
     let mut bodies = Vec::new(alloc);
-    stream_of(&mut state, &mut stream, &mut bodies)?;
-    gives(&mut state, &stream, &bodies, &mut Vec::new(alloc))
+    let comes_whole = comes_whole_by(alloc, seed, &mut stream, &mut bodies);
+    drop(stream);
+    drop(bodies);
+    comes_whole
+}
+
+/// The same by a stream and bodies that have nothing yet.
+fn comes_whole_by(
+    alloc: Global,
+    seed: u32,
+    stream: &mut Vec<u8>,
+    bodies: &mut Vec<u8>,
+) -> Result<bool, FeedFault> {
+    let mut state = seed;
+    stream_of(&mut state, stream, bodies)?;
+    gives(alloc, &mut state, stream, bodies)
 }
 
 /// The first seed whose stream gives other bodies.
@@ -193,5 +211,5 @@ fn misread_seed(alloc: Global, seeds: u32) -> Result<Option<u32>, FeedFault> {
 
 #[test]
 fn reads_the_same_bodies_however_it_is_cut(rt: HostRuntime) {
-    assert_eq!(rt; misread_seed(rt.alloc(), 1000), Ok(None));
+    asserts_eq(&rt, misread_seed(rt.alloc(), 1000), Ok(None));
 }

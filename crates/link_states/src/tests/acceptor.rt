@@ -125,7 +125,7 @@ fn misjudged_dialler(alloc: Global, diallers: &[Dialler]) -> Result<Option<usize
 
 #[test]
 fn answers_each_dialler_by_what_the_node_has(rt: HostRuntime) {
-    assert_eq!(rt; misjudged_dialler(rt.alloc(), &DIALLERS), Ok(None));
+    asserts_eq(&rt, misjudged_dialler(rt.alloc(), &DIALLERS), Ok(None));
 }
 
 /// Own dials of the node, and what the name frame of `z@h` owes.
@@ -201,5 +201,5 @@ fn misjudged_dials(alloc: Global, rows: &[OwnDials]) -> Result<Option<usize>, Te
 
 #[test]
 fn gives_up_its_own_dial_to_a_greater_name(rt: HostRuntime) {
-    assert_eq!(rt; misjudged_dials(rt.alloc(), &OWN_DIALS), Ok(None));
+    asserts_eq(&rt, misjudged_dials(rt.alloc(), &OWN_DIALS), Ok(None));
 }

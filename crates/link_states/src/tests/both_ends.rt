@@ -184,5 +184,5 @@ fn misjudged_meeting(
 
 #[test]
 fn end_alike_after_each_status(rt: HostRuntime) {
-    assert_eq!(rt; misjudged_meeting(rt.alloc(), &MEETINGS), Ok(None));
+    asserts_eq(&rt, misjudged_meeting(rt.alloc(), &MEETINGS), Ok(None));
 }

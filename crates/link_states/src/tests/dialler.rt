@@ -182,11 +182,11 @@ fn misjudged_dial(
 
 #[test]
 fn goes_on_or_ends_by_the_acceptors_frames(rt: HostRuntime) {
-    assert_eq!(rt; misjudged_dial(rt.alloc(), b"b@h", 1, &DIALS), Ok(None));
+    asserts_eq(&rt, misjudged_dial(rt.alloc(), b"b@h", 1, &DIALS), Ok(None));
 }
 
 #[test]
 fn takes_the_frames_of_an_otp_node(rt: HostRuntime) {
     let misjudged = misjudged_dial(rt.alloc(), b"b@127.0.0.1", 123, &OTP_DIALS);
-    assert_eq!(rt; misjudged, Ok(None));
+    asserts_eq(&rt, misjudged, Ok(None));
 }

@@ -191,9 +191,9 @@ fn stepped(link: Link, alloc: Global, side: &Side, step: &Step) -> Link {
     owing(next, are_owed)
 }
 
-/// The link, unless it owed other frames.
+/// The link, unless it owed other frames and had the memory for them.
 pub fn owing(link: Link, are_owed: bool) -> Link {
-    if are_owed {
+    if are_owed || matches!(link, Link::OutOfMemory) {
         return link;
     }
     drop(link);
@@ -224,9 +224,13 @@ pub fn are(frames: &Bodies, wanted: &[&[u8]]) -> bool {
         return false;
     }
     for (frame, body) in frames.iter().zip(wanted) {
-        if frame.as_slice() != *body {
+        if !is_body(frame, body) {
             return false;
         }
     }
     true
+}
+
+fn is_body(frame: &Body, body: &[u8]) -> bool {
+    frame.as_slice() == body
 }

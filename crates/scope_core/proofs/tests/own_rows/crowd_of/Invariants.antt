@@ -1,6 +1,6 @@
 use Rattle.std.proofs.Common.{◌≡◌}
 use Rattle.std.specs.Prelude.{All, codes}
-use Rattle.scope_core.proofs.tests.leaves.crowd.Given as goal
+use Rattle.scope_core.proofs.tests.own_rows.crowd_of.Given as goal
 
 -- the processes so far are of the node
 abbrev pub invariant-loop-digit : goal.invariant-loop-digit

@@ -1,6 +1,6 @@
 use Rattle.std.proofs.Common.{◌≡◌}
 use Rattle.std.specs.Prelude.{All}
-use Rattle.scope_core.proofs.tests.peers.rows_of.Given as goal
+use Rattle.scope_core.proofs.tests.peer_rows.rows_of.Given as goal
 
 -- the rows so far are of the peer
 abbrev pub invariant-loop-group : goal.invariant-loop-group
