@@ -4,85 +4,129 @@ use dist_types::{Group, GroupChange, Items, NodeName, OutOfMemory, Pid, Pids, Sc
 use std::alloc::Global;
 use std::test::Fail;
 
-/// Each rule, as it is printed.
-const RULES: [(Rule, &str); 32] = [
-    (Rule::EntriesFull, "1 EntriesFull"),
-    (Rule::NoSuchLink, "2 NoSuchLink"),
-    (Rule::BadFrame, "3 BadFrame"),
-    (Rule::NoHandshake23, "4 NoHandshake23"),
-    (Rule::DynamicName, "5 DynamicName"),
-    (Rule::BadName, "6 BadName"),
-    (Rule::OwnName, "7 OwnName"),
-    (Rule::WrongName, "8 WrongName"),
-    (Rule::NotAllowed, "9 NotAllowed"),
-    (Rule::Simultaneous, "10 Simultaneous"),
-    (Rule::PeerSaid, "11 PeerSaid"),
-    (Rule::BadDigest, "12 BadDigest"),
-    (Rule::HiddenLink, "13 HiddenLink"),
-    (Rule::NoScope, "14 NoScope"),
-    (Rule::NotHeard, "15 NotHeard"),
-    (Rule::ForeignPid, "16 ForeignPid"),
-    (Rule::NotListed, "17 NotListed"),
-    (Rule::RowsFull, "18 RowsFull"),
-    (Rule::NotLocal, "19 NotLocal"),
-    (Rule::NoProcess, "20 NoProcess"),
-    (Rule::NotJoined, "21 NotJoined"),
-    (Rule::ScopeRunning, "22 ScopeRunning"),
-    (Rule::NoMonitor, "23 NoMonitor"),
-    (Rule::LinkUp, "24 LinkUp"),
-    (Rule::LinkPending, "25 LinkPending"),
-    (Rule::NoLinkTo, "26 NoLinkTo"),
-    (Rule::LinksFull, "27 LinksFull"),
-    (Rule::ScopesFull, "28 ScopesFull"),
-    (Rule::PidsFull, "29 PidsFull"),
-    (Rule::AllowFull, "30 AllowFull"),
-    (Rule::CookiesFull, "31 CookiesFull"),
-    (Rule::CreationSpent, "32 CreationSpent"),
-];
+/// A rule, as it is printed.
+struct Printed(Rule, &'static str);
 
-/// Whether a frame is wide, its body, and what goes over the wire.
-const WIRE: [(bool, &[u8], &[u8]); 3] = [
-    (false, b"sok", b"\x00\x03sok"),
-    (true, b"D\x02pg", b"\x00\x00\x00\x04D\x02pg"),
-    (false, b"", b"\x00\x00"),
+static RULES: [Printed; 32] = [
+    Printed(Rule::EntriesFull, "1 EntriesFull"),
+    Printed(Rule::NoSuchLink, "2 NoSuchLink"),
+    Printed(Rule::BadFrame, "3 BadFrame"),
+    Printed(Rule::NoHandshake23, "4 NoHandshake23"),
+    Printed(Rule::DynamicName, "5 DynamicName"),
+    Printed(Rule::BadName, "6 BadName"),
+    Printed(Rule::OwnName, "7 OwnName"),
+    Printed(Rule::WrongName, "8 WrongName"),
+    Printed(Rule::NotAllowed, "9 NotAllowed"),
+    Printed(Rule::Simultaneous, "10 Simultaneous"),
+    Printed(Rule::PeerSaid, "11 PeerSaid"),
+    Printed(Rule::BadDigest, "12 BadDigest"),
+    Printed(Rule::HiddenLink, "13 HiddenLink"),
+    Printed(Rule::NoScope, "14 NoScope"),
+    Printed(Rule::NotHeard, "15 NotHeard"),
+    Printed(Rule::ForeignPid, "16 ForeignPid"),
+    Printed(Rule::NotListed, "17 NotListed"),
+    Printed(Rule::RowsFull, "18 RowsFull"),
+    Printed(Rule::NotLocal, "19 NotLocal"),
+    Printed(Rule::NoProcess, "20 NoProcess"),
+    Printed(Rule::NotJoined, "21 NotJoined"),
+    Printed(Rule::ScopeRunning, "22 ScopeRunning"),
+    Printed(Rule::NoMonitor, "23 NoMonitor"),
+    Printed(Rule::LinkUp, "24 LinkUp"),
+    Printed(Rule::LinkPending, "25 LinkPending"),
+    Printed(Rule::NoLinkTo, "26 NoLinkTo"),
+    Printed(Rule::LinksFull, "27 LinksFull"),
+    Printed(Rule::ScopesFull, "28 ScopesFull"),
+    Printed(Rule::PidsFull, "29 PidsFull"),
+    Printed(Rule::AllowFull, "30 AllowFull"),
+    Printed(Rule::CookiesFull, "31 CookiesFull"),
+    Printed(Rule::CreationSpent, "32 CreationSpent"),
 ];
-
-/// The first rule that is printed as something else.
-fn misprinted(alloc: Global, rules: &[(Rule, &str)]) -> Result<Option<Rule>, Fail> {
-    for (rule, printed) in rules {
-        if format!(in alloc; "{rule}")?.as_str() != *printed {
-            return Ok(Some(*rule));
-        }
-    }
-    Ok(None)
-}
 
 #[test]
 fn prints_each_rule_by_number_and_name(rt: HostRuntime) -> Result<(), Fail> {
-    let misprinted = misprinted(rt.alloc(), &RULES)?;
-    assert_eq!(rt; misprinted, None);
-    Ok(())
+    print_rules(rt.alloc())
 }
 
-#[test]
-fn puts_the_length_before_the_body(rt: HostRuntime) -> Result<(), Fail> {
-    let alloc = rt.alloc();
-    for (wide, bytes, sent) in WIRE {
-        let mut body = Vec::new(alloc);
-        body.extend_from_slice(bytes)?;
-        let frame = OutFrame {
-            wide,
-            body: Body::of(body),
-        };
-        let mut out = Vec::new(alloc);
-        frame.wire(&mut out)?;
-        assert_eq!(rt; out.as_slice(), sent, "{bytes:?}");
+/// Fails at the first rule that is printed as something else.
+fn print_rules(alloc: Global) -> Result<(), Fail> {
+    for Printed(rule, printed) in &RULES {
+        if !is_printed(alloc, *rule, printed)? {
+            return Err(Fail::new(format_args!("{rule:?} is printed otherwise")));
+        }
     }
     Ok(())
 }
 
-// What holds an audit, an event or an answer has few ways out, and others use it by reference: a check follows the end of a value,
-// variant by variant, along each.
+fn is_printed(alloc: Global, rule: Rule, printed: &str) -> Result<bool, Fail> {
+    let text = format!(in alloc; "{rule}")?;
+    let is_same = text.as_str() == printed;
+    drop(text);
+    Ok(is_same)
+}
+
+/// A frame.
+struct Wire {
+    wide: bool,
+    body: &'static [u8],
+    /// What goes over the wire.
+    sent: &'static [u8],
+}
+
+static WIRES: [Wire; 3] = [
+    Wire {
+        wide: false,
+        body: b"sok",
+        sent: b"\x00\x03sok",
+    },
+    Wire {
+        wide: true,
+        body: b"D\x02pg",
+        sent: b"\x00\x00\x00\x04D\x02pg",
+    },
+    Wire {
+        wide: false,
+        body: b"",
+        sent: b"\x00\x00",
+    },
+];
+
+#[test]
+fn puts_the_length_before_the_body(rt: HostRuntime) -> Result<(), Fail> {
+    send_frames(rt.alloc())
+}
+
+/// Fails at the first frame of which something else goes over the wire.
+fn send_frames(alloc: Global) -> Result<(), Fail> {
+    for Wire { wide, body, sent } in &WIRES {
+        if !is_sent(alloc, *wide, body, sent)? {
+            return Err(Fail::new(format_args!("{body:?} is sent otherwise")));
+        }
+    }
+    Ok(())
+}
+
+fn is_sent(alloc: Global, wide: bool, body: &[u8], sent: &[u8]) -> Result<bool, Fail> {
+    if body.len() > 255 {
+        return Ok(false);
+    }
+    let body = Body::of(Vec::from_slice(alloc, body)?);
+    let frame = OutFrame { wide, body };
+    let mut out = Vec::new(alloc);
+    let written = frame.wire(&mut out);
+    let is_same = out.as_slice() == sent;
+    drop(out);
+    drop(frame);
+    written?;
+    Ok(is_same)
+}
+
+// What makes an audit, an event or an answer ends it by `drop` or hands it on, and others use it by reference: a check follows the
+// end of a value, variant by variant, along every way out of the function that holds it.
+
+/// Fails with this text where it does not hold.
+fn expect(what: &'static str, holds: bool) -> Result<(), Fail> {
+    if holds { Ok(()) } else { Err(Fail::new(what)) }
+}
 
 /// Enters a refusal that changes nothing.
 fn enter(alloc: Global, audit: &mut Audit, seat: u32) -> Result<(), AuditFault> {
@@ -90,48 +134,42 @@ fn enter(alloc: Global, audit: &mut Audit, seat: u32) -> Result<(), AuditFault> 
     audit.push(seat, Event::Spawn, Verdict::Refused(Rule::PidsFull), none)
 }
 
-/// An audit with the two entries that it may have.
-fn full(alloc: Global) -> Result<Audit, Fail> {
-    let mut audit = Audit::new(alloc, 2);
-    enter(alloc, &mut audit, 7)?;
-    enter(alloc, &mut audit, 8)?;
-    Ok(audit)
+/// Enters the two entries that an audit may have.
+fn fill(alloc: Global, audit: &mut Audit) -> Result<(), Fail> {
+    enter(alloc, audit, 7)?;
+    Ok(enter(alloc, audit, 8)?)
 }
 
 #[test]
 fn refuses_an_entry_past_the_limit(rt: HostRuntime) -> Result<(), Fail> {
-    let faults = faults_past_the_limit(rt.alloc())?;
-    let full = Err(AuditFault::EntriesFull);
-    assert_eq!(rt; faults, (Ok(()), full, full));
-    Ok(())
+    let mut audit = Audit::new(rt.alloc(), 2);
+    let refused = refuses_a_third(rt.alloc(), &mut audit);
+    drop(audit);
+    refused
 }
 
-/// What making room and entering answer: room in an audit without entries, and both in a full one.
-fn faults_past_the_limit(
-    alloc: Global,
-) -> Result<
-    (
-        Result<(), AuditFault>,
-        Result<(), AuditFault>,
-        Result<(), AuditFault>,
-    ),
-    Fail,
-> {
-    let room = Audit::new(alloc, 2).make_room();
-    let mut audit = full(alloc)?;
-    Ok((room, enter(alloc, &mut audit, 9), audit.make_room()))
+fn refuses_a_third(alloc: Global, audit: &mut Audit) -> Result<(), Fail> {
+    expect("room in an empty audit", audit.make_room() == Ok(()))?;
+    fill(alloc, audit)?;
+    let full = Err(AuditFault::EntriesFull);
+    expect("no third entry", enter(alloc, audit, 9) == full)?;
+    expect("no room for a third", audit.make_room() == full)
 }
 
 #[test]
 fn finds_entries_by_number(rt: HostRuntime) -> Result<(), Fail> {
-    let found = found_in_full(rt.alloc())?;
-    assert_eq!(rt; found, [None, Some((1, 7)), Some((2, 8)), None]);
-    Ok(())
+    let mut audit = Audit::new(rt.alloc(), 2);
+    let found = finds_both(rt.alloc(), &mut audit);
+    drop(audit);
+    found
 }
 
-fn found_in_full(alloc: Global) -> Result<[Option<(u32, u32)>; 4], Fail> {
-    let audit = full(alloc)?;
-    Ok([0, 1, 2, 3].map(|number| found(&audit, number)))
+fn finds_both(alloc: Global, audit: &mut Audit) -> Result<(), Fail> {
+    fill(alloc, audit)?;
+    expect("no entry 0", found(audit, 0).is_none())?;
+    expect("entry 1", found(audit, 1) == Some((1, 7)))?;
+    expect("entry 2", found(audit, 2) == Some((2, 8)))?;
+    expect("no entry 3", found(audit, 3).is_none())
 }
 
 /// The number and the seat of an entry.
@@ -142,44 +180,57 @@ fn found(audit: &Audit, number: u32) -> Option<(u32, u32)> {
 
 #[test]
 fn counts_entries_behind_a_number(rt: HostRuntime) -> Result<(), Fail> {
-    let counts = counts_in_full(rt.alloc())?;
-    assert_eq!(rt; counts, (2, 1, 0));
-    Ok(())
+    let mut audit = Audit::new(rt.alloc(), 2);
+    let counted = counts_both(rt.alloc(), &mut audit);
+    drop(audit);
+    counted
 }
 
-/// All entries, those behind the first, and those behind one that isn't there.
-fn counts_in_full(alloc: Global) -> Result<(usize, usize, usize), Fail> {
-    let audit = full(alloc)?;
-    Ok((audit.len(), audit.after(1).count(), audit.after(9).count()))
+fn counts_both(alloc: Global, audit: &mut Audit) -> Result<(), Fail> {
+    fill(alloc, audit)?;
+    expect("all entries", audit.len() == 2)?;
+    expect("those behind the first", audit.after(1).count() == 1)?;
+    expect(
+        "none behind one that isn't there",
+        audit.after(9).count() == 0,
+    )
 }
 
 /// One process of a@h.
 fn process(alloc: Global) -> Result<Pids, Fail> {
-    let mut pids = Vec::new(alloc);
-    pids.push(Pid {
-        node: NodeName::parse(alloc, b"a@h")?,
+    let node = NodeName::parse(alloc, b"a@h")?;
+    let pid = Pid {
+        node,
         creation: 5,
         number: 1,
-    })?;
-    Ok(Items::of(pids))
+    };
+    Ok(Items::of(Vec::from_array(alloc, [pid])?))
 }
 
-fn copies_event(alloc: Global, event: Event) -> Result<bool, OutOfMemory> {
-    copied_event(alloc, &event)
+fn copies_event(alloc: Global, event: Event) -> Result<(), Fail> {
+    let is_same = copied_event(alloc, &event);
+    drop(event);
+    expect("the copy of the event", is_same?)
 }
 
 fn copied_event(alloc: Global, event: &Event) -> Result<bool, OutOfMemory> {
     let copy = event.try_clone(alloc)?;
-    Ok(copy == *event)
+    let is_same = copy == *event;
+    drop(copy);
+    Ok(is_same)
 }
 
-fn copies_reply(alloc: Global, reply: Reply) -> Result<bool, OutOfMemory> {
-    copied_reply(alloc, &reply)
+fn copies_reply(alloc: Global, reply: Reply) -> Result<(), Fail> {
+    let is_same = copied_reply(alloc, &reply);
+    drop(reply);
+    expect("the copy of the answer", is_same?)
 }
 
 fn copied_reply(alloc: Global, reply: &Reply) -> Result<bool, OutOfMemory> {
     let copy = reply.try_clone(alloc)?;
-    Ok(copy == *reply)
+    let is_same = copy == *reply;
+    drop(copy);
+    Ok(is_same)
 }
 
 fn group(alloc: Global) -> Result<Group, Fail> {
@@ -188,9 +239,7 @@ fn group(alloc: Global) -> Result<Group, Fail> {
 
 #[test]
 fn copies_a_join(rt: HostRuntime) -> Result<(), Fail> {
-    let is_same = copies_event(rt.alloc(), join(rt.alloc())?)?;
-    assert!(rt; is_same);
-    Ok(())
+    copies_event(rt.alloc(), join(rt.alloc())?)
 }
 
 fn join(alloc: Global) -> Result<Event, Fail> {
@@ -201,22 +250,17 @@ fn join(alloc: Global) -> Result<Event, Fail> {
 #[test]
 fn copies_a_frame(rt: HostRuntime) -> Result<(), Fail> {
     let body = Body::of(Vec::from_slice(rt.alloc(), b"sok")?);
-    let is_same = copies_event(rt.alloc(), Event::Frame(1, body))?;
-    assert!(rt; is_same);
-    Ok(())
+    copies_event(rt.alloc(), Event::Frame(1, body))
 }
 
 #[test]
 fn copies_first_contents(rt: HostRuntime) -> Result<(), Fail> {
-    let is_same = copies_reply(rt.alloc(), scope_ref(rt.alloc())?)?;
-    assert!(rt; is_same);
-    Ok(())
+    copies_reply(rt.alloc(), scope_ref(rt.alloc())?)
 }
 
 fn scope_ref(alloc: Global) -> Result<Reply, Fail> {
-    let mut groups = Vec::new(alloc);
-    groups.push(group_pids(alloc)?)?;
-    let groups = Contents::of(groups)?;
+    let pids = group_pids(alloc)?;
+    let groups = Contents::of(Vec::from_array(alloc, [pids])?)?;
     Ok(Reply::ScopeRef { number: 9, groups })
 }
 
@@ -229,14 +273,12 @@ fn group_pids(alloc: Global) -> Result<GroupPids, Fail> {
 
 #[test]
 fn copies_updates(rt: HostRuntime) -> Result<(), Fail> {
-    let is_same = copies_reply(rt.alloc(), updates(rt.alloc())?)?;
-    assert!(rt; is_same);
-    Ok(())
+    copies_reply(rt.alloc(), updates(rt.alloc())?)
 }
 
 fn updates(alloc: Global) -> Result<Reply, Fail> {
-    let mut updates = Vec::new(alloc);
-    updates.push(update(alloc)?)?;
+    let update = update(alloc)?;
+    let updates = Vec::from_array(alloc, [update])?;
     Ok(Reply::Updates(Updates::of(updates)?))
 }
 
@@ -250,22 +292,31 @@ fn update(alloc: Global) -> Result<Update, Fail> {
 
 #[test]
 fn copies_changes(rt: HostRuntime) -> Result<(), Fail> {
-    let is_same = copied_change(rt.alloc(), &change(rt.alloc())?)?;
-    assert!(rt; is_same);
-    Ok(())
+    copies_change(rt.alloc(), change(rt.alloc())?)
 }
 
-fn copied_change(alloc: Global, change: &Change) -> Result<bool, Fail> {
-    Ok(change.try_clone(alloc)? == *change)
+fn copies_change(alloc: Global, change: Change) -> Result<(), Fail> {
+    let is_same = copied_change(alloc, &change);
+    drop(change);
+    expect("the copy of the change", is_same?)
+}
+
+fn copied_change(alloc: Global, change: &Change) -> Result<bool, OutOfMemory> {
+    let copy = change.try_clone(alloc)?;
+    let is_same = copy == *change;
+    drop(copy);
+    Ok(is_same)
 }
 
 fn change(alloc: Global) -> Result<Change, Fail> {
-    let mut groups = Vec::new(alloc);
-    groups.push(group_change(alloc)?)?;
-    Ok(Change {
-        scope: Scope::parse(alloc, b"pg")?,
-        groups: Items::of(groups),
-    })
+    let scope = Scope::parse(alloc, b"pg")?;
+    let groups = group_changes(alloc)?;
+    Ok(Change { scope, groups })
+}
+
+fn group_changes(alloc: Global) -> Result<Items<GroupChange>, Fail> {
+    let change = group_change(alloc)?;
+    Ok(Items::of(Vec::from_array(alloc, [change])?))
 }
 
 fn group_change(alloc: Global) -> Result<GroupChange, Fail> {
