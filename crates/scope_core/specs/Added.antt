@@ -1,5 +1,5 @@
 -- Rows that are put in, and taken.
-use Rattle.std.specs.Prelude.{◌≡◌, ℕ, ◌+◌, ◌≤◌, Bool, true, false, not, nat_le, List, [], ◌∷◌, map}
+use Rattle.std.specs.Prelude.{◌≡◌, ℕ, ◌+◌, ◌-◌, ◌≤◌, Bool, true, false, not, cond, nat_le, List, [], ◌∷◌, map}
 use Rattle.std.specs.List.{filter, flat_map, list_all}
 use Rattle.std.specs.List.Sorted.{IsPartitionPoint}
 use Rattle.std.specs.declared.cmp.Ordering.TheVariants.{Less, Greater}
@@ -7,7 +7,7 @@ use Rattle.dist_types.specs.declared.pid.Pid.{Pid}
 use Rattle.dist_types.specs.declared.row.Row.{Row}
 use Rattle.dist_types.specs.declared.change.GroupChange.{GroupChange}
 use Rattle.scope_core.specs.declared.counted.Counted.{Counted}
-use Rattle.dist_types.specs.Listing.{how_many, same, same_row, occurrences}
+use Rattle.dist_types.specs.Listing.{how_many, same, same_row, occurrences, mentions}
 use Rattle.dist_types.specs.Order.{row_cmp}
 use Rattle.scope_core.specs.Table.{tally, is_row, is_of_node, max_rows}
 
@@ -47,6 +47,10 @@ HasRoomFor rows old = (node : List ℕ) → tally (is_of_node node) old + how_ma
 abbrev pub Takes : Bool → Row → List Counted → List Counted → Type 0
 Takes true row old new = Adds (row ∷ []) new old
 Takes false row old new = (new ≡ old) × (tally (is_row row.group row.pid) old ≡ 0)
+
+-- new has one less in the group for each mention of a process, as far as it is there
+abbrev pub Leaves : List ℕ → List Pid → List Counted → List Counted → Type 0
+Leaves g ps old new = (h : List ℕ) (p : Pid) → tally (is_row h p) new ≡ tally (is_row h p) old - cond (same h g) (mentions p ps) 0
 
 -- the rows of what left
 abbrev pub rows_left : List GroupChange → List Row

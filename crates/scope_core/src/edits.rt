@@ -1,16 +1,19 @@
 //! What is done to the sorted rows.
-ghost use Rattle.std.specs.Prelude.{◌≡◌, ℕ, ◌+◌, ◌-◌, ◌<◌, ◌≤◌, true, List, [], ◌∷◌, not, cond, vec_len, vec_capacity};
+ghost use Rattle.std.specs.Prelude.{◌≡◌, ◌+◌, ◌<◌, ◌≤◌, true, [], ◌∷◌, not, vec_len, vec_capacity};
 ghost use Rattle.std.specs.List.{filter, HoldsAt};
-ghost use Rattle.dist_types.specs.declared.pid.Pid.{Pid};
 ghost use Rattle.dist_types.specs.declared.row.Row.{Row};
-ghost use Rattle.dist_types.specs.Listing.{same, same_pid, mentions};
+ghost use Rattle.dist_types.specs.Listing.{same_pid};
 ghost use Rattle.scope_core.specs.Table.{tally, is_row, is_of_node, IsKept, AreCounted};
-ghost use Rattle.scope_core.specs.Added.{row_in, without_node, Adds, Joins, Takes, HasRoomFor, HasRoomBeside};
+ghost use Rattle.scope_core.specs.Added.{row_in, without_node, Adds, Joins, Takes, Leaves, HasRoomFor, HasRoomBeside};
 
 use crate::counted::Counted;
+use crate::lowered::{lower_all, sweep};
 use crate::merged::merge;
 use crate::reads::place_of;
 use dist_types::{Group, NodeName, Pid, Row};
+
+/// Where rows are merged, or taken in one pass, all rows of the table are moved. So fewer than these go one by one.
+pub const FEW: usize = 16;
 
 /// Takes all rows of a process away.
 pub fn remove_pid(rows: &mut Vec<Counted>, pid: &Pid)
@@ -70,7 +73,23 @@ pub fn put_in(rows: &mut Vec<Counted>, more: Vec<Counted>, spare: Vec<Counted>)
 /// Takes one away for each mention of a process, as far as it is in the group. Answers how many the node loses.
 pub fn take_all(rows: &mut Vec<Counted>, group: &Group, pids: &[Pid], node: &NodeName) -> usize
     requires { IsKept rows.old.items }
-    ensures counts { (h : List ℕ) (p : Pid) → tally (is_row h p) rows.new.items ≡ tally (is_row h p) rows.old.items - cond (same h group.now) (mentions p pids.now) 0 }
+    ensures counts { Leaves group.now pids.now rows.old.items rows.new.items }
+    ensures total { tally (is_of_node node.now) rows.new.items + result ≡ tally (is_of_node node.now) rows.old.items }
+    ensures kept { IsKept rows.new.items }
+{
+    if pids.len() < FEW {
+        take_each(rows, group, pids, node)
+    } else {
+        let lost = lower_all(rows, group, pids, node);
+        sweep(rows);
+        lost
+    }
+}
+
+/// What `take_all` does, row by row.
+fn take_each(rows: &mut Vec<Counted>, group: &Group, pids: &[Pid], node: &NodeName) -> usize
+    requires { IsKept rows.old.items }
+    ensures counts { Leaves group.now pids.now rows.old.items rows.new.items }
     ensures total { tally (is_of_node node.now) rows.new.items + result ≡ tally (is_of_node node.now) rows.old.items }
     ensures kept { IsKept rows.new.items }
 {

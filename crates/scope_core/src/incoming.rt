@@ -8,13 +8,10 @@ ghost use Rattle.scope_core.specs.Beyond.{times_beyond, picked};
 
 use crate::changes::copies_of;
 use crate::counted::Counted;
-use crate::edits::add_all;
+use crate::edits::{FEW, add_all};
 use crate::reads::count_at;
 use dist_types::{NodeName, OutOfMemory, Row, TryClone};
 use std::alloc::Global;
-
-/// A merge moves all rows of the table, so fewer rows than these are put in one by one.
-const FEW: usize = 16;
 
 /// The rows in order, each with its count.
 pub fn counted_rows(alloc: Global, rows: &[Row]) -> Result<Vec<Counted>, OutOfMemory>
@@ -22,9 +19,19 @@ pub fn counted_rows(alloc: Global, rows: &[Row]) -> Result<Vec<Counted>, OutOfMe
     ensures added { IfOk result (λ counted. Adds rows.now [] counted.items) }
     ensures kept { IfOk result (λ counted. IsKept counted.items) }
 {
-    let fresh = falling(alloc, rows)?;
-    let mut counted = Vec::with_capacity(alloc, fresh.len())?;
-    add_all(&mut counted, fresh);
+    let copies = copies_of(alloc, rows)?;
+    let counted = counted_of(alloc, copies)?;
+    Ok(counted)
+}
+
+/// The same of rows that aren't needed any more.
+pub fn counted_of(alloc: Global, rows: Vec<Row>) -> Result<Vec<Counted>, OutOfMemory>
+    requires { HasRoomFor rows.items [] }
+    ensures added { IfOk result (λ counted. Adds rows.items [] counted.items) }
+    ensures kept { IfOk result (λ counted. IsKept counted.items) }
+{
+    let mut counted = Vec::with_capacity(alloc, rows.len())?;
+    add_all(&mut counted, falling(rows));
     Ok(counted)
 }
 
@@ -43,14 +50,15 @@ pub fn room_for(
     Ok(Vec::with_capacity(alloc, spare)?)
 }
 
-/// Copies of the rows, the last in order first. So `add_all` moves few rows.
-fn falling(alloc: Global, rows: &[Row]) -> Result<Vec<Row>, OutOfMemory>
-    ensures { IfOk result (λ copies. (test : Row → Bool) → how_many test copies.items ≡ how_many test rows.now) }
+/// The rows, the last in order first. So `add_all` moves few rows.
+fn falling(rows: Vec<Row>) -> Vec<Row>
+    ensures rows { (test : Row → Bool) → how_many test result.items ≡ how_many test rows.items }
+    ensures length { vec_len result ≡ vec_len rows }
 {
-    let mut copies = copies_of(alloc, rows)?;
-    copies.sort_unstable();
-    copies.reverse();
-    Ok(copies)
+    let mut falling = rows;
+    falling.sort_unstable();
+    falling.reverse();
+    falling
 }
 
 /// The rows of a node that are counted more often than among the others, and how much more often.

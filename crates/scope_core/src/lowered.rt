@@ -1,15 +1,15 @@
 //! Counts that are lowered for rows that go. The rows stay, so counts can be raised again without memory.
-ghost use Rattle.std.specs.Prelude.{◌≡◌, ◌<◌, ◌≤◌, ℕ, true, List, [], ◌∷◌, IsTrue, length, take, vec_len};
+ghost use Rattle.std.specs.Prelude.{◌≡◌, ◌+◌, ◌<◌, ◌≤◌, ℕ, Bool, true, List, [], ◌∷◌, IsTrue, length, take, vec_len};
 ghost use Rattle.std.specs.List.{HoldsAt};
 ghost use Rattle.dist_types.specs.declared.pid.Pid.{Pid};
 ghost use Rattle.dist_types.specs.declared.row.Row.{Row};
 ghost use Rattle.dist_types.specs.Listing.{Rises, how_many};
-ghost use Rattle.scope_core.specs.Table.{tally, counted_cmp, is_row, IsKept};
-ghost use Rattle.scope_core.specs.Added.{bare_rows, are_all_in, Adds, Takes, HasRoomFor};
+ghost use Rattle.scope_core.specs.Table.{tally, counted_cmp, is_row, is_of_node, max_rows, IsKept};
+ghost use Rattle.scope_core.specs.Added.{row_in, bare_rows, are_all_in, Adds, Takes, Leaves, HasRoomFor};
 
 use crate::counted::Counted;
 use crate::reads::place_next;
-use dist_types::Row;
+use dist_types::{Group, NodeName, Pid, Row};
 
 /// Whether each row stands in the list at most as often as it is counted. Counts are lowered as far as this goes, and
 /// raised again.
@@ -33,6 +33,33 @@ pub fn take_rows(rows: &mut Vec<Counted>, gone: &[Row])
     ensures kept { IsKept rows.new.items }
 {
     lower(rows, gone);
+    sweep(rows);
+}
+
+/// One less for each mention of a process, as far as it is in the group. Answers how many the node loses.
+pub fn lower_all(rows: &mut Vec<Counted>, group: &Group, pids: &[Pid], node: &NodeName) -> usize
+    requires { IsKept rows.old.items }
+    ensures counts { Leaves group.now pids.now rows.old.items rows.new.items }
+    ensures total { tally (is_of_node node.now) rows.new.items + result ≡ tally (is_of_node node.now) rows.old.items }
+    ensures rises { Rises counted_cmp rows.new.items }
+    ensures few { (n : List ℕ) → tally (is_of_node n) rows.new.items ≤ max_rows }
+{
+    let mut lost = 0;
+    let mut next = 0;
+    for pid in pids {
+        let of_node = pid.node == *node;
+        lost += usize::from(lower_one(rows, group, pid, &mut next) & of_node);
+    }
+    lost
+}
+
+/// Rows without a count go.
+pub fn sweep(rows: &mut Vec<Counted>)
+    requires rises { Rises counted_cmp rows.old.items }
+    requires few { (n : List ℕ) → tally (is_of_node n) rows.old.items ≤ max_rows }
+    ensures tallies { (test : Row → Bool) → tally test rows.new.items ≡ tally test rows.old.items }
+    ensures kept { IsKept rows.new.items }
+{
     rows.retain(|counted| counted.count != 0);
 }
 
@@ -47,7 +74,7 @@ fn lower(rows: &mut Vec<Counted>, gone: &[Row]) -> usize
     let mut lowered = 0;
     let mut next = 0;
     for row in gone {
-        if !lower_one(rows, row, &mut next) {
+        if !lower_one(rows, &row.group, &row.pid, &mut next) {
             return lowered;
         }
         lowered += 1;
@@ -56,12 +83,12 @@ fn lower(rows: &mut Vec<Counted>, gone: &[Row]) -> usize
 }
 
 /// One less of a row. Answers whether there is one.
-fn lower_one(rows: &mut Vec<Counted>, row: &Row, next: &mut usize) -> bool
+fn lower_one(rows: &mut Vec<Counted>, group: &Group, pid: &Pid, next: &mut usize) -> bool
     requires { Rises counted_cmp rows.old.items }
-    ensures taken { Takes result row.now rows.old.items rows.new.items }
+    ensures taken { Takes result (row_in group.now pid.now) rows.old.items rows.new.items }
     ensures same { bare_rows rows.new.items ≡ bare_rows rows.old.items }
 {
-    match place_next(rows, next, &row.group, &row.pid) {
+    match place_next(rows, next, group, pid) {
         Ok(at) => lower_at(rows, at),
         Err(_) => false,
     }

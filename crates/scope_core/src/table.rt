@@ -8,9 +8,9 @@ ghost use Rattle.scope_core.specs.Calls.{Counts, is_any_joined, no_count, count_
 
 use crate::changes::{changes_of, in_order, one_change, rows_in};
 use crate::counted::Counted;
-use crate::edits::{add_all, put_in, remove_node, remove_pid, replace_node, take_all};
+use crate::edits::{put_in, remove_node, remove_pid, replace_node, take_all};
 use crate::fault::TableFault;
-use crate::incoming::{beyond, counted_rows, room_for};
+use crate::incoming::{beyond, counted_of, counted_rows, room_for};
 use crate::leaving::gone_of;
 use crate::lowered::{are_all_in, take_rows};
 use crate::part::Part;
@@ -73,10 +73,11 @@ impl ScopeTable {
             return Err(TableFault::RowsFull);
         }
         let fresh = rows_in(self.alloc, group, pids)?;
+        let counted = counted_of(self.alloc, fresh)?;
         let sorted = in_order(self.alloc, pids)?;
         let changes = one_change(self.alloc, group, Vec::new(self.alloc), sorted)?;
-        self.rows.reserve(fresh.len())?;
-        add_all(&mut self.rows, fresh);
+        let spare = room_for(self.alloc, &mut self.rows, counted.len())?;
+        put_in(&mut self.rows, counted, spare);
         self.own_rows += pids.len();
         Ok(changes)
     }

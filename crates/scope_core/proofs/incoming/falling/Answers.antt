@@ -1,10 +1,8 @@
-use Rattle.std.proofs.Common.{ap, ◌∙◌}
-use Rattle.dist_types.specs.Listing.{how_many}
+use Rattle.std.proofs.Common.{◌∙◌}
 use Rattle.scope_core.proofs.Peers.{permuted}
 use Rattle.scope_core.proofs.incoming.falling.Goals as goal
 
-pub returns : goal.returns
-returns c = λ test.
+pub returns-clause-rows : goal.returns-clause-rows
+returns-clause-rows c = λ test.
     permuted test c.sort_unstable.new.self.items c.reverse.new.self.items c.reverse.ensures.permutation
-    ∙ permuted test c.in_ok-copies.copies.items c.sort_unstable.new.self.items c.sort_unstable.ensures.permutation
-    ∙ ap (how_many test) c.in_ok-copies.ensures
+    ∙ permuted test c.args.rows.items c.sort_unstable.new.self.items c.sort_unstable.ensures.permutation

@@ -1,6 +1,6 @@
 use Rattle.std.proofs.Common.{rules, arith}
 use Rattle.scope_core.proofs.Lessened.{taken_counts, taken_total}
-use Rattle.scope_core.proofs.edits.take_all.Goals as goal
+use Rattle.scope_core.proofs.edits.take_each.Goals as goal
 
 pub loop-pid-preserved : goal.loop-pid-preserved
 loop-pid-preserved c =
