@@ -13,7 +13,7 @@ use crate::reads::place_of;
 use dist_types::{Group, NodeName, Pid, Row};
 
 /// Where rows are merged, or taken in one pass, all rows of the table are moved. So fewer than these go one by one.
-pub const FEW: usize = 16;
+pub const FEW: usize = 32;
 
 /// Takes all rows of a process away.
 pub fn remove_pid(rows: &mut Vec<Counted>, pid: &Pid)

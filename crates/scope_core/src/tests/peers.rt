@@ -68,20 +68,20 @@ fn moves_rows_of_the_peer_alone(rt: HostRuntime) -> Result<(), Fail> {
     take_filled(rt.alloc(), &BESIDE_ANOTHER)
 }
 
-const SIXTEEN: &[u8] = b"0123456789abcdef";
+const GROUPS: &[u8] = b"0123456789abcdefghijklmnopqrstuv";
 
 /// As many rows of a peer as are merged, on both sides of the own ones, and the members of some groups then.
 static MERGES: [Step; 10] = [
-    Step(Deed::Remote(Remote::Join, b"p5@h", SIXTEEN), Ok(16)),
-    Step(Deed::Remote(Remote::Join, b"p5@h", SIXTEEN), Ok(16)),
-    Step(Deed::Remote(Remote::Sync, b"p5@h", SIXTEEN), Ok(16)),
-    Step(Deed::Remote(Remote::Join, b"p5@h", SIXTEEN), Ok(16)),
-    Step(Deed::Remote(Remote::Leave, b"p5@h", SIXTEEN), Ok(16)),
-    Step(Deed::List(Listing::GroupCount), Ok(16)),
+    Step(Deed::Remote(Remote::Join, b"p5@h", GROUPS), Ok(32)),
+    Step(Deed::Remote(Remote::Join, b"p5@h", GROUPS), Ok(32)),
+    Step(Deed::Remote(Remote::Sync, b"p5@h", GROUPS), Ok(32)),
+    Step(Deed::Remote(Remote::Join, b"p5@h", GROUPS), Ok(32)),
+    Step(Deed::Remote(Remote::Leave, b"p5@h", GROUPS), Ok(32)),
+    Step(Deed::List(Listing::GroupCount), Ok(32)),
     Step(Deed::In(b"0", Members::All), Ok(5)),
     Step(Deed::In(b"1", Members::All), Ok(115)),
     Step(Deed::In(b"2", Members::All), Ok(125)),
-    Step(Deed::In(b"f", Members::All), Ok(5)),
+    Step(Deed::In(b"v", Members::All), Ok(5)),
 ];
 
 #[test]
