@@ -1,5 +1,5 @@
 -- Cookies and allowed names after the events that set them.
-use Rattle.std.specs.Prelude.{◌≡◌, ℕ, Bool, true, false, cond, List, [], ◌∷◌, ◌++◌, Option, Some, None, length}
+use Rattle.std.specs.Prelude.{◌≡◌, ℕ, Bool, true, false, cond, not, List, [], ◌∷◌, ◌++◌, Option, Some, None, length}
 use Rattle.std.proofs.Common.{refl, ap, ◌∙◌, sym, subst, arith}
 use Rattle.std.specs.Prelude.{◌<◌, ◌≤◌, ◌||◌, nat_le}
 use Rattle.std.proofs.lemmas.Bool.{le-leb, leb-true}
@@ -13,10 +13,14 @@ use Rattle.admission_rules.specs.Admission.{AdmissionRules, max_peers, max_allow
 use Rattle.admission_rules.proofs.Peers.{lookup_put, lookup_kept}
 use Rattle.policy_audit.specs.declared.event.Event.TheVariants as event
 use Rattle.policy_audit.specs.declared.reply.Reply.{Reply}
+use Rattle.policy_audit.specs.declared.rule.Rule.TheVariants as rule
 use Rattle.policy_audit.specs.History.{History, creation, events, first_of}
 use Rattle.policy_audit.specs.Admission.{cookie, own_cookie, own_cookie_set, cookie_set_for, cookie_peers, allow_list, different}
 use Rattle.policy_audit.proofs.Accepted.{lie}
-use Rattle.node_core.specs.AdmissionFacts.{AdmissionWords, admission_words, AdmissionFollows}
+use Rattle.node_core.specs.declared.fault.CoreFault.{CoreFault}
+use Rattle.node_core.specs.declared.fault.CoreFault.TheVariants as faults
+use Rattle.node_core.specs.AdmissionFacts.{AdmissionWords, admission_words, AdmissionFollows, IsCookieRefusal}
+use Rattle.node_core.specs.Calm.{IsCalmFault}
 use Rattle.node_core.proofs.Calm.{answered}
 use Rattle.node_core.proofs.Once.{entry_once, all_once, names_of, how_many_names, length_names}
 
@@ -61,7 +65,7 @@ module _ (h : History) (rules : AdmissionRules) (t : AdmissionFollows (admission
   unfolding put_for
   put_is n c = ap (λ o. cond (same n o) (record rules { cookie = c }) (record rules { peers = insert_entry bytes_eq rules.peers n c })) t.own
 
-  pub peers_full : (n c : List ℕ) → length rules.peers ≤ max_peers → max_peers < length (with_cookie_for rules n c).peers → (same n h.opening.name || nat_le (different (n ∷ cookie_peers h)) 1024) ≡ false
+  peers_full : (n c : List ℕ) → length rules.peers ≤ max_peers → max_peers < length (with_cookie_for rules n c).peers → (same n h.opening.name || nat_le (different (n ∷ cookie_peers h)) 1024) ≡ false
   unfolding put_for
   peers_full n c few over = by (same n h.opening.name) (subst (λ rs. max_peers < length rs.peers) (put_is n c) over)
     where
@@ -76,6 +80,11 @@ module _ (h : History) (rules : AdmissionRules) (t : AdmissionFollows (admission
       by : (b : Bool) → length (put_for n c b).peers ≤ max_peers → (b || nat_le (different (n ∷ cookie_peers h)) 1024) ≡ true
       by true within = refl
       by false within = le-leb _ 1024 (let is = peers_counted n c in omega (arith, is, within))
+
+  -- what is refused is the first rule that is broken
+  pub cookie_calm : (seat : ℕ) (n c : List ℕ) (f : CoreFault) → IsCookieRefusal rules (with_cookie_for rules n c) f → IsCalmFault h seat (event.SetCookieFor n c) f
+  cookie_calm seat n c (faults.Refused r) q = (ap (λ b. cond (not b) (Some rule.CookiesFull) None) (peers_full n c q.1 q.2) ∙ ap Some (sym q.0), refl)
+  cookie_calm seat n c faults.OutOfMemory q = tt
 
   module _ (seat : ℕ) (r : Reply) where
     pub cookie_follows : (c : List ℕ) → AdmissionFollows (admission_words (answered h seat (event.SetCookie c) r)) (record rules { cookie = c })

@@ -38,7 +38,10 @@ use Rattle.node_core.specs.Links.{KeptLink}
 use Rattle.node_core.specs.LinkFacts.{link_words}
 use Rattle.node_core.specs.ScopeFacts.{scope_words, is_number, IsRunningOf}
 use Rattle.node_core.specs.Core.{Parts, Follows}
-use Rattle.node_core.specs.Moving.{IsMoved, own_checks}
+use Rattle.node_core.specs.declared.fault.CoreFault.{CoreFault}
+use Rattle.node_core.specs.declared.fault.CoreFault.TheVariants as faults
+use Rattle.node_core.specs.Calm.{IsCalmFault}
+use Rattle.node_core.specs.Moving.{IsMoved, IsJoinRefusal, own_checks}
 use Rattle.node_core.specs.Telling.{if_among, said_to}
 use Rattle.node_core.proofs.Entered.{made, accepted_now, answered_now, next_now, sound_now}
 use Rattle.node_core.proofs.OwnTotal.{rows_total}
@@ -101,7 +104,7 @@ module _ (h : History) (seat : ℕ) (s g : List ℕ) (ps : List Pid) where
     all_alive : list_all (lives h) ps ≡ true
     all_alive = unbroken (list_all (lives h) ps) (all_hold (own_checks h ps) q).1.0
 
-    pub join_full : 4096 < length (local_rows h s) + length ps → first_broken (checks h seat (event.Join s g ps)) ≡ Some rule.RowsFull
+    join_full : 4096 < length (local_rows h s) + length ps → first_broken (checks h seat (event.Join s g ps)) ≡ Some rule.RowsFull
     join_full many = λ i. join_broken (runs i) (all_local i) (all_alive i) (too_many (length (local_rows h s) + length ps) 4096 many i)
 
     pub join_holds : length (local_rows h s) + length ps ≤ 4096 → first_broken (checks h seat (event.Join s g ps)) ≡ None
@@ -110,7 +113,7 @@ module _ (h : History) (seat : ℕ) (s g : List ℕ) (ps : List Pid) where
 pub joins_few : (h : History) (ps : List Pid) → first_broken (own_checks h ps) ≡ None → length ps ≤ 4096
 joins_few h ps q = leb-true (length ps) 4096 (unbroken (nat_le (length ps) 4096) (all_hold (own_checks h ps) q).1.1.0)
 
-pub more_rows : (rows held more : ℕ) → rows ≡ held → max_rows < held + more → 4096 < rows + more
+more_rows : (rows held more : ℕ) → rows ≡ held → max_rows < held + more → 4096 < rows + more
 more_rows rows held more is over = omega (arith, is, over)
 
 -- ---- a Join
@@ -122,14 +125,19 @@ module _ (h : History) (seat : ℕ) (parts : Parts) (t : Follows h parts) (s g :
   abbrev its_scope : a.scope ≡ s
   its_scope = scope_is h parts.scopes t.scopes s p here a at
 
-  pub runs : is_running h s ≡ true
+  runs : is_running h s ≡ true
   runs = runs_there h parts.scopes t.scopes s p here a at
 
-  pub own_total : length (local_rows h s) ≡ local_total a.table
+  own_total : length (local_rows h s) ≡ local_total a.table
   own_total = rows_total h s a its_scope there t.sound.legal
 
   pub joins_own : first_broken (own_checks h ps) ≡ None → All (λ q. q.node ≡ a.table.own) ps
   joins_own q = own_nodes h a.table.own there.own ps (all_local h seat s g ps runs q)
+
+  -- what the table refuses is the first rule that is broken
+  pub join_calm : first_broken (own_checks h ps) ≡ None → (f : CoreFault) → IsJoinRefusal a.table ps f → IsCalmFault h seat (event.Join s g ps) f
+  join_calm q (faults.Refused r) over = (join_full h seat s g ps runs q (more_rows _ _ _ own_total over.1) ∙ ap Some (sym over.0), refl)
+  join_calm q faults.OutOfMemory over = tt
 
   abbrev said_joined : Message
   said_joined = said.Join a.scope (map (row g) (listing pid_cmp (λ q. mentions q ps) ps))

@@ -33,7 +33,10 @@ use Rattle.node_core.specs.Links.{KeptLink}
 use Rattle.node_core.specs.LinkFacts.{link_words}
 use Rattle.node_core.specs.ScopeFacts.{scope_words, IsRunningOf}
 use Rattle.node_core.specs.Core.{Parts, Follows}
-use Rattle.node_core.specs.Moving.{IsMoved}
+use Rattle.node_core.specs.declared.fault.CoreFault.{CoreFault}
+use Rattle.node_core.specs.declared.fault.CoreFault.TheVariants as faults
+use Rattle.node_core.specs.Calm.{IsCalmFault}
+use Rattle.node_core.specs.Moving.{IsMoved, IsLeaveRefusal}
 use Rattle.node_core.specs.Telling.{if_among, said_to}
 use Rattle.node_core.proofs.Entered.{made, accepted_now, answered_now, next_now, sound_now}
 use Rattle.node_core.proofs.Placed.{follows_there, runs_there, scope_is}
@@ -81,8 +84,13 @@ module _ (h : History) (seat : ℕ) (parts : Parts) (t : Follows h parts) (s g :
       pub leaves_own : All (λ q. q.node ≡ a.table.own) ps
       leaves_own = own_nodes h a.table.own there.own ps local
 
-      pub leave_none : is_any_joined a.table g ps ≡ false → first_broken (checks h seat (event.Leave s g ps)) ≡ Some rule.NotJoined
+      leave_none : is_any_joined a.table g ps ≡ false → first_broken (checks h seat (event.Leave s g ps)) ≡ Some rule.NotJoined
       leave_none q = λ i. leave_broken (runs i) (local i) ((any_joined ps local ∙ q) i)
+
+      -- what the table refuses is the first rule that is broken
+      pub leave_calm : (f : CoreFault) → IsLeaveRefusal a.table g ps f → IsCalmFault h seat (event.Leave s g ps) f
+      leave_calm (faults.Refused r) none = (leave_none none.1 ∙ ap Some (sym none.0), refl)
+      leave_calm faults.OutOfMemory none = tt
 
       leave_holds : is_any_joined a.table g ps ≡ true → first_broken (checks h seat (event.Leave s g ps)) ≡ None
       leave_holds q = λ i. leave_broken (runs i) (local i) ((any_joined ps local ∙ q) i)

@@ -32,13 +32,15 @@ use Rattle.policy_audit.specs.Owed.{refusal_owes}
 use Rattle.policy_audit.proofs.Accepted.{no_value, unbroken, all_hold}
 use Rattle.policy_audit.proofs.UpLinks.{and_left, and_right, flip}
 use Rattle.policy_audit.proofs.Onward.{whole_is_message}
+use Rattle.node_core.specs.declared.fault.CoreFault.{CoreFault}
+use Rattle.node_core.specs.declared.fault.CoreFault.TheVariants as faults
 use Rattle.node_core.specs.declared.running.Running.{Running}
 use Rattle.node_core.specs.Links.{KeptLink, up_peer, is_shown, are_of_peer}
 use Rattle.node_core.specs.LinkFacts.{facts, IsGiven}
 use Rattle.node_core.specs.Messages.{scope_in, refusal}
-use Rattle.node_core.specs.MessageRules.{early_checks}
+use Rattle.node_core.specs.MessageRules.{early_checks, IsAddRefusal, IsTakeRefusal}
 use Rattle.node_core.specs.ScopeFacts.{is_number, scope_words, IsRunningOf}
-use Rattle.node_core.specs.Calm.{refuses_calmly}
+use Rattle.node_core.specs.Calm.{refuses_calmly, IsCalmFault}
 use Rattle.node_core.proofs.Found.{some_is}
 use Rattle.node_core.proofs.Scopes.{counts_listed, members_listing, groups_listing}
 use Rattle.node_core.proofs.MessagePlaces.{IsUpHere}
@@ -212,7 +214,7 @@ module _ (h : History) (l : ℕ) (s : List ℕ) (r : Running) (named : r.scope �
   counted_is rows = λ i. list_all (λ w. nat_le (rows_of w.group w.pid rows) (counts_listed h s r named t i w.group w.pid)) rows
 
   -- a Join that makes too many rows
-  pub join_full : (rows : List Row) (n : List ℕ) → peer_of l h.entries ≡ Some n → max_rows < node_total r.table n + length rows → first_broken (early_checks h l (said.Join s rows)) ≡ None → first_broken (message_checks h l (said.Join s rows)) ≡ Some rule.RowsFull
+  join_full : (rows : List Row) (n : List ℕ) → peer_of l h.entries ≡ Some n → max_rows < node_total r.table n + length rows → first_broken (early_checks h l (said.Join s rows)) ≡ None → first_broken (message_checks h l (said.Join s rows)) ≡ Some rule.RowsFull
   join_full rows n of many q = early_held h l (said.Join s rows) q ∙ ap (λ b. cond (not b) (Some rule.RowsFull) None) (above (nat_le (peer_rows h l s + length rows) 4096) refl)
     where
       above : (b : Bool) → nat_le (peer_rows h l s + length rows) 4096 ≡ b → b ≡ false
@@ -223,11 +225,21 @@ module _ (h : History) (l : ℕ) (s : List ℕ) (r : Running) (named : r.scope �
   join_fits rows n of few q = early_held h l (said.Join s rows) q ∙ ap (λ b. cond (not b) (Some rule.RowsFull) None) (le-leb (peer_rows h l s + length rows) 4096 (let is = total_is n of in omega (arith, is, few)))
 
   -- a Leave of rows that aren't listed
-  pub leave_unlisted : (rows : List Row) → are_counted r.table rows ≡ false → first_broken (early_checks h l (said.Leave s rows)) ≡ None → first_broken (message_checks h l (said.Leave s rows)) ≡ Some rule.NotListed
+  leave_unlisted : (rows : List Row) → are_counted r.table rows ≡ false → first_broken (early_checks h l (said.Leave s rows)) ≡ None → first_broken (message_checks h l (said.Leave s rows)) ≡ Some rule.NotListed
   leave_unlisted rows out q = early_held h l (said.Leave s rows) q ∙ ap (λ b. cond (not b) (Some rule.NotListed) None) (sym (counted_is rows) ∙ out)
 
   pub leave_listed : (rows : List Row) → are_counted r.table rows ≡ true → first_broken (early_checks h l (said.Leave s rows)) ≡ None → first_broken (message_checks h l (said.Leave s rows)) ≡ None
   leave_listed rows all q = early_held h l (said.Leave s rows) q ∙ ap (λ b. cond (not b) (Some rule.NotListed) None) (sym (counted_is rows) ∙ all)
+
+-- what the table refuses is the first rule that is broken, and ends no link
+module _ (h : History) (seat l : ℕ) (body : List ℕ) (up : is_up l h.entries ≡ true) (awaited : awaits l h.entries ≡ AwaitMessage) (s : List ℕ) (r : Running) (named : r.scope ≡ s) (t : IsRunningOf (scope_words h) r) (rows : List Row) where
+  pub add_calm : (n : List ℕ) → peer_of l h.entries ≡ Some n → message_taken body ≡ Some (said.Join s rows) → first_broken (early_checks h l (said.Join s rows)) ≡ None → (f : CoreFault) → IsAddRefusal r.table n rows f → IsCalmFault h seat (event.Frame l body) f
+  add_calm n of says early (faults.Refused x) q = (says_broken h seat l body (said.Join s rows) x up awaited says (join_full h l s r named t rows n of q.1 early ∙ ap Some (sym q.0)), calm h l body up x (ap refusal_owes q.0))
+  add_calm n of says early faults.OutOfMemory q = tt
+
+  pub take_calm : message_taken body ≡ Some (said.Leave s rows) → first_broken (early_checks h l (said.Leave s rows)) ≡ None → (f : CoreFault) → IsTakeRefusal r.table rows f → IsCalmFault h seat (event.Frame l body) f
+  take_calm says early (faults.Refused x) q = (says_broken h seat l body (said.Leave s rows) x up awaited says (leave_unlisted h l s r named t rows q.1 early ∙ ap Some (sym q.0)), calm h l body up x (ap refusal_owes q.0))
+  take_calm says early faults.OutOfMemory q = tt
 
 -- ---- the peer of a link that is up
 

@@ -15,7 +15,7 @@ use Rattle.link_frames.specs.Spelling.{HasSpelling}
 use Rattle.scope_core.specs.declared.fault.TableFault.{TableFault}
 use Rattle.scope_core.specs.declared.fault.TableFault.TheVariants as fault
 use Rattle.scope_core.specs.Table.{Table}
-use Rattle.scope_core.specs.Calls.{IsJoinFault, IsLeaveFault}
+use Rattle.scope_core.specs.Calls.{IsJoinFault, IsLeaveFault, IsAddFault, IsTakeFault}
 use Rattle.policy_audit.specs.declared.out_frame.OutFrame.{OutFrame}
 use Rattle.policy_audit.specs.Contents.{row}
 use Rattle.policy_audit.specs.Owed.{wide}
@@ -26,6 +26,7 @@ use Rattle.node_core.specs.declared.running.Running.{Running}
 use Rattle.node_core.specs.Links.{KeptLink, unroomed, with_prepared, prepared_for}
 use Rattle.node_core.specs.ScopeFacts.{is_number}
 use Rattle.node_core.specs.Telling.{AreIdle, Alike, IsBrief, is_said, said_to}
+use Rattle.node_core.specs.MessageRules.{IsAddRefusal, IsTakeRefusal}
 use Rattle.node_core.specs.Moving.{fault_of, IsJoinRefusal, IsLeaveRefusal}
 use Rattle.node_core.proofs.Told.{at_errors, zip_map}
 
@@ -81,6 +82,18 @@ leave_fault t g ps fault.RowsFull q = absurd q
 leave_fault t g ps fault.NotJoined q = (refl, q)
 leave_fault t g ps fault.NotListed q = absurd q
 leave_fault t g ps fault.OutOfMemory q = tt
+
+pub add_fault : (t : Table) (n : List ℕ) (rows : List Row) (f : TableFault) → IsAddFault t n rows f → IsAddRefusal t n rows (fault_of f)
+add_fault t n rows fault.RowsFull q = (refl, q)
+add_fault t n rows fault.NotJoined q = absurd q
+add_fault t n rows fault.NotListed q = absurd q
+add_fault t n rows fault.OutOfMemory q = tt
+
+pub take_fault : (t : Table) (rows : List Row) (f : TableFault) → IsTakeFault t rows f → IsTakeRefusal t rows (fault_of f)
+take_fault t rows fault.RowsFull q = absurd q
+take_fault t rows fault.NotJoined q = absurd q
+take_fault t rows fault.NotListed q = (refl, q)
+take_fault t rows fault.OutOfMemory q = tt
 
 -- what is prepared and then dropped leaves all as it was
 pub dropped_again : (numbers : List ℕ) (frame : OutFrame) (old mid new : List KeptLink) → AreIdle old → map unroomed mid ≡ map (λ x. unroomed (prepared_for numbers frame x)) old

@@ -1,9 +1,12 @@
 -- The cookies and allowed names of a node are those of its history.
-use Rattle.std.specs.Prelude.{◌≡◌, ℕ, Bool, cond, List, Option, None, map}
+use Rattle.std.specs.Prelude.{◌≡◌, ℕ, ◌<◌, ◌≤◌, Bool, cond, List, Option, None, map, length}
 use Rattle.dist_types.specs.Listing.{same, is_among, occurrences}
-use Rattle.admission_rules.specs.Admission.{AdmissionRules, peer_cookie}
+use Rattle.admission_rules.specs.Admission.{AdmissionRules, peer_cookie, max_peers}
+use Rattle.policy_audit.specs.declared.rule.Rule.TheVariants as rule
 use Rattle.policy_audit.specs.History.{History, creation, events, first_of}
 use Rattle.policy_audit.specs.Admission.{own_cookie, cookie_set_for, cookie_peers, allow_list}
+use Rattle.node_core.specs.declared.fault.CoreFault.{CoreFault}
+use Rattle.node_core.specs.declared.fault.CoreFault.TheVariants as faults
 
 -- what the policy's words say of admission
 pub record AdmissionWords : Type 0 where
@@ -40,3 +43,8 @@ pub record AdmissionFollows (w : AdmissionWords) (rules : AdmissionRules) : Type
   pub cookie : (n : List ℕ) → peer_cookie rules n ≡ cond (same n w.own) None (w.cookie_set n)
   pub peers : AreOnce (map (λ p. p.0) rules.peers) w.peers
   pub allowed : AreOnce rules.allowed w.allowed
+
+-- why a cookie for a peer is refused
+abbrev pub IsCookieRefusal : (old after : AdmissionRules) → CoreFault → Type 0
+IsCookieRefusal old after (faults.Refused r) = (r ≡ rule.CookiesFull) × (length old.peers ≤ max_peers) × (max_peers < length after.peers)
+IsCookieRefusal old after faults.OutOfMemory = Unit {0}

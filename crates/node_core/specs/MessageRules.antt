@@ -1,16 +1,23 @@
 -- What a message has to meet before the table of its scope is asked, and what messages make of a scope.
-use Rattle.std.specs.Prelude.{◌≡◌, ℕ, cond, List, [], ◌∷◌}
+use Rattle.std.specs.Prelude.{◌≡◌, ℕ, ◌+◌, ◌<◌, false, cond, List, [], ◌∷◌, length}
 use Rattle.dist_types.specs.declared.pid.Pid.{Pid}
 use Rattle.dist_types.specs.declared.row.Row.{Row}
+use Rattle.dist_types.specs.declared.change.GroupChange.{GroupChange}
+use Rattle.dist_types.specs.Difference.{IsDifference}
 use Rattle.dist_types.specs.Listing.{IsRowListing}
-use Rattle.scope_core.specs.Table.{local_count}
-use Rattle.scope_core.specs.Calls.{Counts}
+use Rattle.scope_core.specs.Table.{Table, local_count, node_total, max_rows}
+use Rattle.scope_core.specs.Calls.{Counts, are_counted}
 use Rattle.link_frames.specs.declared.message.Message.{Message}
 use Rattle.link_frames.specs.declared.message.Message.TheVariants as said
 use Rattle.policy_audit.specs.declared.out_frame.OutFrame.{OutFrame}
+use Rattle.policy_audit.specs.declared.change.Change.{Change}
+use Rattle.policy_audit.specs.declared.rule.Rule.TheVariants as rule
 use Rattle.policy_audit.specs.History.{History}
+use Rattle.policy_audit.specs.Changes.{if_some}
 use Rattle.policy_audit.specs.Checks.{Check, is_shown, runs, hears_in, are_from}
 use Rattle.policy_audit.specs.Owed.{wide}
+use Rattle.node_core.specs.declared.fault.CoreFault.{CoreFault}
+use Rattle.node_core.specs.declared.fault.CoreFault.TheVariants as faults
 use Rattle.node_core.specs.declared.running.Running.{Running}
 use Rattle.node_core.specs.ScopeFacts.{is_number}
 
@@ -28,6 +35,22 @@ pub record HasBecome (old new : Running) (count : List ℕ → Pid → ℕ) (hea
   pub rows : Counts old.table new.table count
   pub heard : new.heard.items ≡ hears
   pub told : new.told.items ≡ tells
+
+-- the change of a scope from these counts to those, perhaps none
+pub record IsChangeIn (s : List ℕ) (old new : List ℕ → Pid → ℕ) (cs : List Change) : Type 0 where
+  pub groups : List GroupChange
+  pub difference : IsDifference old new groups
+  pub changes : cs ≡ if_some s groups
+
+-- why rows were not added
+abbrev pub IsAddRefusal : Table → List ℕ → List Row → CoreFault → Type 0
+IsAddRefusal t n rows (faults.Refused r) = (r ≡ rule.RowsFull) × (max_rows < node_total t n + length rows)
+IsAddRefusal t n rows faults.OutOfMemory = Unit {0}
+
+-- why rows were not taken
+abbrev pub IsTakeRefusal : Table → List Row → CoreFault → Type 0
+IsTakeRefusal t rows (faults.Refused r) = (r ≡ rule.NotListed) × (are_counted t rows ≡ false)
+IsTakeRefusal t rows faults.OutOfMemory = Unit {0}
 
 -- the frame of a Sync with all own rows
 pub record IsSyncFrame (r : Running) (s : List ℕ) (frame : OutFrame) : Type 0 where

@@ -10,8 +10,8 @@ ghost use Rattle.node_core.specs.Step.{Steps};
 ghost use Rattle.node_core.specs.Telling.{AreIdle, Alike};
 ghost use Rattle.node_core.specs.Moving.{own_checks, join_of, leave_of, IsPrepared, IsMoved, IsJoinRefusal, IsLeaveRefusal, fault_of};
 
-use crate::changes::{ChangeRoom, Part, leave_all, rows_of};
-use crate::entering::accept;
+use crate::changes::{Part, leave_all, rows_of};
+use crate::entering::{accept, room_for_change};
 use crate::fault::CoreFault;
 use crate::link::Link;
 use crate::links::{commit, forget};
@@ -20,7 +20,7 @@ use crate::running::{Running, place_of};
 use crate::telling::{tell, tell_exit};
 use dist_types::{Group, OutOfMemory, Pid, Pids, Scope, TryClone};
 use link_frames::{Message, Rows};
-use policy_audit::{Change, Event, Reply, Rule};
+use policy_audit::{Audit, Change, Event, Reply, Rule};
 use scope_core::{ScopeTable, TableFault};
 use std::alloc::Global;
 
@@ -82,24 +82,21 @@ impl NodeCore {
         if let Some(rule) = self.join_refusal(pids.as_slice()) {
             return self.refuse(seat, Event::Join(scope, group, pids), rule);
         }
-        self.audit.make_room()?;
-        let running = &mut self.scopes[place];
-        match join_one(
+        let changes = join_one(
             self.alloc,
+            &mut self.audit,
             &mut self.links,
-            running,
+            &mut self.scopes[place],
             &group,
             pids.as_slice(),
-        ) {
+        );
+        let event = Event::Join(scope, group, pids);
+        match changes {
             Ok(changes) => {
-                let event = Event::Join(scope, group, pids);
                 accept(&mut self.audit, seat, event, Reply::Done, changes);
                 Ok(Reply::Done)
             }
-            Err(CoreFault::Refused(rule)) => {
-                self.refuse(seat, Event::Join(scope, group, pids), rule)
-            }
-            Err(CoreFault::OutOfMemory) => Err(CoreFault::OutOfMemory),
+            Err(fault) => self.give_up(seat, event, fault),
         }
     }
 
@@ -121,24 +118,21 @@ impl NodeCore {
         if !self.are_local(pids.as_slice()) {
             return self.refuse(seat, Event::Leave(scope, group, pids), Rule::NotLocal);
         }
-        self.audit.make_room()?;
-        let running = &mut self.scopes[place];
-        match leave_one(
+        let changes = leave_one(
             self.alloc,
+            &mut self.audit,
             &mut self.links,
-            running,
+            &mut self.scopes[place],
             &group,
             pids.as_slice(),
-        ) {
+        );
+        let event = Event::Leave(scope, group, pids);
+        match changes {
             Ok(changes) => {
-                let event = Event::Leave(scope, group, pids);
                 accept(&mut self.audit, seat, event, Reply::Done, changes);
                 Ok(Reply::Done)
             }
-            Err(CoreFault::Refused(rule)) => {
-                self.refuse(seat, Event::Leave(scope, group, pids), rule)
-            }
-            Err(CoreFault::OutOfMemory) => Err(CoreFault::OutOfMemory),
+            Err(fault) => self.give_up(seat, event, fault),
         }
     }
 
@@ -164,10 +158,11 @@ impl NodeCore {
     }
 }
 
-/// Own processes join a group of one scope, and the links that are told there are told so. Where they don't, nothing has
-/// changed.
+/// Makes room for an entry; own processes join a group of one scope, and the links that are told there are told so. Where they
+/// don't, nothing but room has changed.
 fn join_one(
     alloc: Global,
+    audit: &mut Audit,
     links: &mut Vec<Link>,
     running: &mut Running,
     group: &Group,
@@ -178,10 +173,12 @@ fn join_one(
     requires idle { AreIdle links.old.items }
     ensures joined { IfOk result (λ changes. IsMoved (join_of running.old.scope group.now pids.now) (count_after_join running.old.table group.now pids.now) running.old running.new links.old.items links.new.items changes.items) }
     ensures few { OnOk result (local_total running.old.table + length pids.now ≤ max_rows) }
+    ensures room { OnOk result (audit.new ≡ record { limit = audit.old.limit; entries = audit.old.entries; has_room = true }) }
     ensures refused { IfErr result (IsJoinRefusal running.old.table pids.now) }
     ensures same { OnErr result ((running.new ≡ running.old) × Alike links.old.items links.new.items) }
+    ensures unentered { OnErr result ((audit.new.entries ≡ audit.old.entries) × (audit.new.limit ≡ audit.old.limit)) }
 {
-    let room = ChangeRoom::new(alloc, running.scope.try_clone(alloc)?)?;
+    let room = room_for_change(alloc, audit, running.scope.try_clone(alloc)?)?;
     tell_join(alloc, links, running, group, pids)?;
     match running.table.join_local(group, pids) {
         Ok(groups) => {
@@ -215,10 +212,11 @@ fn tell_join(
     Ok(())
 }
 
-/// Own processes leave a group of one scope, and the links that are told there are told so. Where they don't, nothing has
-/// changed.
+/// Makes room for an entry; own processes leave a group of one scope, and the links that are told there are told so. Where they
+/// don't, nothing but room has changed.
 fn leave_one(
     alloc: Global,
+    audit: &mut Audit,
     links: &mut Vec<Link>,
     running: &mut Running,
     group: &Group,
@@ -228,10 +226,12 @@ fn leave_one(
     requires idle { AreIdle links.old.items }
     ensures left { IfOk result (λ changes. IsMoved (leave_of running.old group.now pids.now) (count_after_leave running.old.table group.now pids.now) running.old running.new links.old.items links.new.items changes.items) }
     ensures some { OnOk result (is_any_joined running.old.table group.now pids.now ≡ true) }
+    ensures room { OnOk result (audit.new ≡ record { limit = audit.old.limit; entries = audit.old.entries; has_room = true }) }
     ensures refused { IfErr result (IsLeaveRefusal running.old.table group.now pids.now) }
     ensures same { OnErr result ((running.new ≡ running.old) × Alike links.old.items links.new.items) }
+    ensures unentered { OnErr result ((audit.new.entries ≡ audit.old.entries) × (audit.new.limit ≡ audit.old.limit)) }
 {
-    let room = ChangeRoom::new(alloc, running.scope.try_clone(alloc)?)?;
+    let room = room_for_change(alloc, audit, running.scope.try_clone(alloc)?)?;
     tell_leave(alloc, links, running, group, pids)?;
     match running.table.leave_local(group, pids) {
         Ok(groups) => {
@@ -267,7 +267,7 @@ fn tell_leave(
 }
 
 /// The rule that a fault of a table is.
-fn fault_of(fault: TableFault) -> CoreFault
+pub fn fault_of(fault: TableFault) -> CoreFault
     ensures { result ≡ fault_of fault }
 {
     match fault {

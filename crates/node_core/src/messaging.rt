@@ -1,10 +1,10 @@
 //! Messages of linked nodes.
-ghost use Rattle.std.specs.Prelude.{◌≡◌, ◌<◌, ◌≤◌, ◌+◌, ◌==◌, ◌&&◌, false, true, cond, Some, None, vec_len, vec_capacity, length, All, IsTrue, IfOk, IfErr, OnOk, OnErr};
+ghost use Rattle.std.specs.Prelude.{◌≡◌, ◌<◌, ◌≤◌, ◌+◌, ◌==◌, ◌&&◌, false, true, cond, Some, None, vec_len, vec_capacity, nat_eq, length, position, All, IsTrue, IfOk, IfErr, OnOk, OnErr};
 ghost use Rattle.std.specs.List.{list_all};
 ghost use Rattle.dist_types.specs.Listing.{same};
 ghost use Rattle.dist_types.specs.Difference.{IsDifference};
 ghost use Rattle.scope_core.specs.Table.{count_of, node_total, max_rows};
-ghost use Rattle.scope_core.specs.Calls.{count_after_sync, count_after_add, count_after_take, are_counted, IsAddFault, IsTakeFault};
+ghost use Rattle.scope_core.specs.Calls.{count_after_sync, count_after_add, count_after_take, are_counted};
 ghost use Rattle.policy_audit.specs.Policy.{is_full};
 ghost use Rattle.policy_audit.specs.Links.{is_up};
 ghost use Rattle.policy_audit.specs.Hearing.{message_taken};
@@ -12,7 +12,7 @@ ghost use Rattle.policy_audit.specs.Checks.{first_broken};
 ghost use Rattle.node_core.specs.Step.{Steps};
 ghost use Rattle.node_core.specs.Links.{are_of_peer};
 ghost use Rattle.node_core.specs.Messages.{scope_in, refusal};
-ghost use Rattle.node_core.specs.MessageRules.{early_checks, HasBecome, AnswersDiscover, IsSyncFrame};
+ghost use Rattle.node_core.specs.MessageRules.{early_checks, HasBecome, IsChangeIn, IsAddRefusal, IsTakeRefusal, AnswersDiscover, IsSyncFrame};
 ghost use Rattle.node_core.specs.ScopeFacts.{is_number, with_number};
 
 use crate::changes::cut_off;
@@ -22,13 +22,13 @@ use crate::frames::{discover_frame, into_frame};
 use crate::link::Link;
 use crate::link_state::LinkState;
 use crate::links;
+use crate::membership::fault_of;
 use crate::node::NodeCore;
 use crate::running::{Running, place_of};
 use dist_types::{GroupChange, NodeName, OutOfMemory, Row, Scope, TryClone};
 use link_frames::{Message, MessageFault, Rows, decode};
 use link_states::Up;
-use policy_audit::{Body, Event, OutFrame, Reply, Rule};
-use scope_core::TableFault;
+use policy_audit::{Audit, Body, Change, Event, OutFrame, Reply, Rule};
 use std::alloc::Global;
 
 impl NodeCore {
@@ -85,12 +85,7 @@ impl NodeCore {
         requires holds { first_broken (early_checks self.old number (Message.Discover scope)) ≡ None }
         ensures { Steps self.old seat (Event.Frame number body) self.new result }
     {
-        let Some(place) = links::place_of(&self.links, number) else {
-            unreachable!()
-        };
-        let Some(at) = place_of(&self.scopes, &scope) else {
-            unreachable!()
-        };
+        let (place, at) = places(&self.links, &self.scopes, number, &scope);
         let frames = answer_to_discover(self.alloc, &self.scopes[at], number, &scope)?;
         self.audit.make_room()?;
         self.links[place].make_room(frames.len())?;
@@ -124,12 +119,7 @@ impl NodeCore {
         requires few { length rows ≤ max_rows }
         ensures { Steps self.old seat (Event.Frame number body) self.new result }
     {
-        let Some(place) = links::place_of(&self.links, number) else {
-            unreachable!()
-        };
-        let Some(at) = place_of(&self.scopes, &scope) else {
-            unreachable!()
-        };
+        let (place, at) = places(&self.links, &self.scopes, number, &scope);
         let room = room_for_change(self.alloc, &mut self.audit, scope)?;
         let Some(peer) = self.links[place].up_peer() else {
             unreachable!()
@@ -162,32 +152,26 @@ impl NodeCore {
         requires holds { first_broken (early_checks self.old number (Message.Join scope rows)) ≡ None }
         ensures { Steps self.old seat (Event.Frame number body) self.new result }
     {
-        let Some(place) = links::place_of(&self.links, number) else {
-            unreachable!()
-        };
-        let Some(at) = place_of(&self.scopes, &scope) else {
-            unreachable!()
-        };
-        let room = room_for_change(self.alloc, &mut self.audit, scope)?;
+        let (place, at) = places(&self.links, &self.scopes, number, &scope);
         let Some(peer) = self.links[place].up_peer() else {
             unreachable!()
         };
-        let groups = match add_rows(&mut self.scopes[at], peer, rows) {
-            Ok(groups) => groups,
-            Err(TableFault::RowsFull) => {
-                return self.refuse(seat, Event::Frame(number, body), Rule::RowsFull);
-            }
-            Err(_) => return Err(CoreFault::OutOfMemory),
-        };
-        let event = Event::Frame(number, body);
-        accept(
+        let changes = add_rows(
+            self.alloc,
             &mut self.audit,
-            seat,
-            event,
-            Reply::Done,
-            room.filled(groups),
+            &mut self.scopes[at],
+            scope,
+            peer,
+            rows,
         );
-        Ok(Reply::Done)
+        let event = Event::Frame(number, body);
+        match changes {
+            Ok(changes) => {
+                accept(&mut self.audit, seat, event, Reply::Done, changes);
+                Ok(Reply::Done)
+            }
+            Err(fault) => self.give_up(seat, event, fault),
+        }
     }
 
     /// Rows are taken from the peer's.
@@ -206,32 +190,26 @@ impl NodeCore {
         requires holds { first_broken (early_checks self.old number (Message.Leave scope rows)) ≡ None }
         ensures { Steps self.old seat (Event.Frame number body) self.new result }
     {
-        let Some(place) = links::place_of(&self.links, number) else {
-            unreachable!()
-        };
-        let Some(at) = place_of(&self.scopes, &scope) else {
-            unreachable!()
-        };
-        let room = room_for_change(self.alloc, &mut self.audit, scope)?;
+        let (place, at) = places(&self.links, &self.scopes, number, &scope);
         let Some(peer) = self.links[place].up_peer() else {
             unreachable!()
         };
-        let groups = match take_rows(&mut self.scopes[at], peer, rows) {
-            Ok(groups) => groups,
-            Err(TableFault::NotListed) => {
-                return self.refuse(seat, Event::Frame(number, body), Rule::NotListed);
-            }
-            Err(_) => return Err(CoreFault::OutOfMemory),
-        };
-        let event = Event::Frame(number, body);
-        accept(
+        let changes = take_rows(
+            self.alloc,
             &mut self.audit,
-            seat,
-            event,
-            Reply::Done,
-            room.filled(groups),
+            &mut self.scopes[at],
+            scope,
+            peer,
+            rows,
         );
-        Ok(Reply::Done)
+        let event = Event::Frame(number, body);
+        match changes {
+            Ok(changes) => {
+                accept(&mut self.audit, seat, event, Reply::Done, changes);
+                Ok(Reply::Done)
+            }
+            Err(fault) => self.give_up(seat, event, fault),
+        }
     }
 
     /// The peer stopped the scope.
@@ -249,12 +227,7 @@ impl NodeCore {
         requires holds { first_broken (early_checks self.old number (Message.Down scope)) ≡ None }
         ensures { Steps self.old seat (Event.Frame number body) self.new result }
     {
-        let Some(place) = links::place_of(&self.links, number) else {
-            unreachable!()
-        };
-        let Some(at) = place_of(&self.scopes, &scope) else {
-            unreachable!()
-        };
+        let (place, at) = places(&self.links, &self.scopes, number, &scope);
         let room = room_for_change(self.alloc, &mut self.audit, scope)?;
         let Some(peer) = self.links[place].up_peer() else {
             unreachable!()
@@ -271,6 +244,22 @@ impl NodeCore {
         );
         Ok(Reply::Done)
     }
+}
+
+/// The place of a link that is kept, and that of a scope that runs.
+fn places(links: &[Link], scopes: &[Running], number: u32, scope: &Scope) -> (usize, usize)
+    requires kept { position (λ x. nat_eq x.number number) links.now ≡ None → ⊥ }
+    requires runs { position (λ r. same r.scope scope.now) scopes.now ≡ None → ⊥ }
+    ensures link { position (λ x. nat_eq x.number number) links.now ≡ Some result.0 }
+    ensures scope { position (λ r. same r.scope scope.now) scopes.now ≡ Some result.1 }
+{
+    let Some(place) = links::place_of(links, number) else {
+        unreachable!()
+    };
+    let Some(at) = place_of(scopes, scope) else {
+        unreachable!()
+    };
+    (place, at)
 }
 
 /// All own rows, and a Discover where the link of this number isn't heard.
@@ -330,36 +319,54 @@ fn hear_rows(
     Ok(groups)
 }
 
-/// Rows are added to the peer's.
+/// Makes room for an entry, and rows are added to the peer's.
 fn add_rows(
+    alloc: Global,
+    audit: &mut Audit,
     running: &mut Running,
+    scope: Scope,
     peer: &NodeName,
     rows: Rows,
-) -> Result<Vec<GroupChange>, TableFault>
+) -> Result<Vec<Change>, CoreFault>
     requires { All (λ r. r.pid.node ≡ peer.now) rows }
     ensures ok { OnOk result (HasBecome running.old running.new (count_after_add running.old.table rows) running.old.heard.items running.old.told.items) }
-    ensures change { IfOk result (λ groups. IsDifference (count_of running.old.table) (count_of running.new.table) groups.items) }
-    ensures refused { IfErr result (IsAddFault running.old.table peer.now rows) }
+    ensures change { IfOk result (λ changes. IsChangeIn scope (count_of running.old.table) (count_of running.new.table) changes.items) }
+    ensures room { OnOk result (audit.new ≡ record { limit = audit.old.limit; entries = audit.old.entries; has_room = true }) }
+    ensures refused { IfErr result (IsAddRefusal running.old.table peer.now rows) }
     ensures limits { OnOk result (node_total running.old.table peer.now + length rows ≤ max_rows) }
     ensures same { OnErr result (running.new ≡ running.old) }
+    ensures unentered { OnErr result ((audit.new.entries ≡ audit.old.entries) × (audit.new.limit ≡ audit.old.limit)) }
 {
-    running.table.join_remote(peer, rows.as_slice())
+    let room = room_for_change(alloc, audit, scope)?;
+    match running.table.join_remote(peer, rows.as_slice()) {
+        Ok(groups) => Ok(room.filled(groups)),
+        Err(fault) => Err(fault_of(fault)),
+    }
 }
 
-/// Rows are taken from the peer's.
+/// Makes room for an entry, and rows are taken from the peer's.
 fn take_rows(
+    alloc: Global,
+    audit: &mut Audit,
     running: &mut Running,
+    scope: Scope,
     peer: &NodeName,
     rows: Rows,
-) -> Result<Vec<GroupChange>, TableFault>
+) -> Result<Vec<Change>, CoreFault>
     requires { All (λ r. r.pid.node ≡ peer.now) rows }
     ensures ok { OnOk result (HasBecome running.old running.new (count_after_take running.old.table rows) running.old.heard.items running.old.told.items) }
-    ensures change { IfOk result (λ groups. IsDifference (count_of running.old.table) (count_of running.new.table) groups.items) }
-    ensures refused { IfErr result (IsTakeFault running.old.table rows) }
+    ensures change { IfOk result (λ changes. IsChangeIn scope (count_of running.old.table) (count_of running.new.table) changes.items) }
+    ensures room { OnOk result (audit.new ≡ record { limit = audit.old.limit; entries = audit.old.entries; has_room = true }) }
+    ensures refused { IfErr result (IsTakeRefusal running.old.table rows) }
     ensures only { OnOk result (IsTrue (are_counted running.old.table rows)) }
     ensures same { OnErr result (running.new ≡ running.old) }
+    ensures unentered { OnErr result ((audit.new.entries ≡ audit.old.entries) × (audit.new.limit ≡ audit.old.limit)) }
 {
-    running.table.leave_remote(peer, rows.as_slice())
+    let room = room_for_change(alloc, audit, scope)?;
+    match running.table.leave_remote(peer, rows.as_slice()) {
+        Ok(groups) => Ok(room.filled(groups)),
+        Err(fault) => Err(fault_of(fault)),
+    }
 }
 
 /// The scope that a message is about.

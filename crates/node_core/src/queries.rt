@@ -5,7 +5,7 @@ ghost use Rattle.policy_audit.specs.Checks.{checks, first_broken};
 ghost use Rattle.policy_audit.specs.Policy.{is_full, answer, IsLegal};
 ghost use Rattle.node_core.specs.ScopeFacts.{IsRunningOf, scope_words};
 ghost use Rattle.node_core.specs.Step.{Steps};
-ghost use Rattle.node_core.specs.Calm.{is_query, refuses_calmly};
+ghost use Rattle.node_core.specs.Calm.{is_query, refuses_calmly, IsCalmFault};
 
 use crate::entering::{accept, make_ready, reject};
 use crate::fault::CoreFault;
@@ -29,6 +29,27 @@ impl NodeCore {
         }
         reject(self.alloc, &mut self.audit, seat, event, rule);
         Err(CoreFault::Refused(rule))
+    }
+
+    /// Enters a refusal that ends no link, unless memory was wanting.
+    #[tactic(auto, unfolding(crate::specs::Step::Steps))]
+    pub(crate) fn give_up(
+        &mut self,
+        seat: u32,
+        event: Event,
+        fault: CoreFault,
+    ) -> Result<Reply, CoreFault>
+        requires space { is_full self.old ≡ false }
+        requires fault { IsCalmFault self.old seat event fault }
+        ensures { Steps self.old seat event self.new result }
+    {
+        match fault {
+            CoreFault::Refused(rule) => self.refuse(seat, event, rule),
+            CoreFault::OutOfMemory => {
+                drop(event);
+                Err(fault)
+            }
+        }
     }
 
     /// Enters the answer to a query.

@@ -1,5 +1,5 @@
 //! Scopes that start and stop, and a node that begins anew.
-ghost use Rattle.std.specs.Prelude.{◌≡◌, ◌<◌, ℕ, false, true, not, List, [], map, vec_len, vec_capacity, IfOk, OnOk, OnErr};
+ghost use Rattle.std.specs.Prelude.{◌≡◌, ◌<◌, ℕ, false, true, not, List, [], map, vec_len, vec_capacity, IfOk, IfErr, OnOk, OnErr};
 ghost use Rattle.std.specs.List.{filter};
 ghost use Rattle.dist_types.specs.declared.pid.Pid.{Pid};
 ghost use Rattle.dist_types.specs.Difference.{IsDifference};
@@ -13,12 +13,13 @@ ghost use Rattle.policy_audit.specs.Listed.{listed};
 ghost use Rattle.policy_audit.specs.Owed.{wide};
 ghost use Rattle.policy_audit.specs.Own.{is_running};
 ghost use Rattle.policy_audit.specs.Policy.{is_full};
+ghost use Rattle.node_core.specs.declared.fault.CoreFault.TheVariants as faults;
 ghost use Rattle.node_core.specs.Step.{Steps};
 ghost use Rattle.node_core.specs.Links.{prepared_for, unroomed};
 ghost use Rattle.node_core.specs.Telling.{AreIdle, AreTold, Alike, if_among, shown_numbers, put_scope};
 
-use crate::changes::{ChangeRoom, Part, changes_of};
-use crate::entering::accept;
+use crate::changes::{Part, changes_of};
+use crate::entering::{accept, room_for_change};
 use crate::fault::CoreFault;
 use crate::link::Link;
 use crate::links::{commit, prepare, shown};
@@ -27,7 +28,7 @@ use crate::processes::Processes;
 use crate::running::Running;
 use dist_types::{GroupChange, NodeName, OutOfMemory, Scope, TryClone};
 use link_frames::Message;
-use policy_audit::{Change, Event, Reply, Rule};
+use policy_audit::{Audit, Change, Event, Reply, Rule};
 use scope_core::ScopeTable;
 use std::alloc::Global;
 
@@ -104,10 +105,7 @@ impl NodeCore {
         requires groups { IsDifference (listed self.old scope) no_count groups.items }
         ensures { Steps self.old seat (Event.StopScope scope) self.new result }
     {
-        self.audit.make_room()?;
-        let changes = change_in(self.alloc, &scope, groups)?;
-        let name = scope.try_clone(self.alloc)?;
-        tell_shown(self.alloc, &mut self.links, Message::Down(name))?;
+        let changes = tell_stop(self.alloc, &mut self.audit, &mut self.links, &scope, groups)?;
         take_out(&mut self.scopes, &scope);
         self.monitors.drop_scope(&scope);
         let event = Event::StopScope(scope);
@@ -178,16 +176,28 @@ fn take_out(scopes: &mut Vec<Running>, scope: &Scope)
     scopes.retain(|running| running.scope != *scope);
 }
 
-/// The change of one scope, if its groups change.
-fn change_in(
+/// Makes room for an entry, and tells the peers that a scope stops whose groups change in this way. Where memory is wanting,
+/// nobody is told.
+fn tell_stop(
     alloc: Global,
+    audit: &mut Audit,
+    links: &mut Vec<Link>,
     scope: &Scope,
     groups: Vec<GroupChange>,
-) -> Result<Vec<Change>, OutOfMemory>
-    ensures { IfOk result (λ changes. changes.items ≡ if_some scope.now groups.items) }
+) -> Result<Vec<Change>, CoreFault>
+    requires { AreIdle links.old.items }
+    ensures change { IfOk result (λ changes. changes.items ≡ if_some scope.now groups.items) }
+    ensures room { OnOk result (audit.new ≡ record { limit = audit.old.limit; entries = audit.old.entries; has_room = true }) }
+    ensures told { OnOk result (AreTold (if_among (shown_numbers links.old.items) (wide (Message.Down scope.now))) links.old.items links.new.items) }
+    ensures memory { IfErr result (λ fault. fault ≡ faults.OutOfMemory) }
+    ensures same { OnErr result (Alike links.old.items links.new.items) }
+    ensures unentered { OnErr result ((audit.new.entries ≡ audit.old.entries) × (audit.new.limit ≡ audit.old.limit)) }
 {
-    let room = ChangeRoom::new(alloc, scope.try_clone(alloc)?)?;
-    Ok(room.filled(groups))
+    let room = room_for_change(alloc, audit, scope.try_clone(alloc)?)?;
+    let changes = room.filled(groups);
+    let name = scope.try_clone(alloc)?;
+    tell_shown(alloc, links, Message::Down(name))?;
+    Ok(changes)
 }
 
 /// A message waits for the links that are up and visible from now on. Where memory is wanting, nothing has changed.

@@ -1,4 +1,4 @@
-use Rattle.std.proofs.Common.{refl}
+use Rattle.std.proofs.Common.{refl, ap}
 use Rattle.policy_audit.specs.Owed.{wide}
 use Rattle.node_core.specs.Telling.{said_to}
 use Rattle.node_core.specs.Moving.{leave_of}
@@ -20,12 +20,14 @@ returns-in-Ok c =
         rows = c.in-Ok.ensures.ok;
         groups = c.in-Ok.groups.items;
         difference = c.in-Ok.ensures.change;
-        changes = rw (c.filled.ensures, c.in_ok-room.ensures, c.in_ok-try_clone.ensures) refl;
+        changes = rw (c.filled.ensures, c.in_ok-room.ensures.scope, c.in_ok-try_clone.ensures) refl;
         links = rw c.commit.ensures (prepared_told (said_to c.args.running.now.told.items said) (wide said) c.args.links.now.items c.tell_leave.new.links.items c.requires.idle c.in_ok-tell_leave.ensures.told);
       };
       some = c.in-Ok.ensures.only;
+      room = c.in_ok-room.ensures.room;
       refused = tt;
       same = tt;
+      unentered = tt;
     }
 
 pub returns-in-Err : goal.returns-in-Err
@@ -34,9 +36,11 @@ returns-in-Err c =
     record {
       left = tt;
       some = tt;
+      room = tt;
       refused = rw c.fault_of.ensures (leave_fault c.args.running.now.table c.args.group.now c.args.pids.now c.in-Err.fault c.in-Err.ensures.refused);
       same = (
         λ i. record { scope = c.args.running.now.scope; table = c.in-Err.ensures.same i; heard = c.args.running.now.heard; told = c.args.running.now.told },
         dropped_again (said_to c.args.running.now.told.items said) (wide said) c.args.links.now.items c.tell_leave.new.links.items c.forget.new.links.items c.requires.idle c.in_ok-tell_leave.ensures.told c.forget.ensures,
       );
+      unentered = (ap (λ x. x.entries) c.in_ok-room.ensures.room, ap (λ x. x.limit) c.in_ok-room.ensures.room);
     }

@@ -1,4 +1,4 @@
-use Rattle.std.proofs.Common.{[], ap, sym, ◌∙◌, arith, set, subst}
+use Rattle.std.proofs.Common.{[], ap, ◌∙◌, arith, set, subst}
 use Rattle.std.proofs.lemmas.List.{get_or-set_same}
 use Rattle.policy_audit.specs.History.{past}
 use Rattle.policy_audit.specs.declared.event.Event.TheVariants as event
@@ -12,104 +12,104 @@ use Rattle.node_core.proofs.MessageScopes.{discovered_next}
 use Rattle.node_core.proofs.MessageRoom.{roomed_links, same_scope, follows_with, answered_follows}
 use Rattle.node_core.proofs.node.NodeCore.discovered.Goals as goal
 
-pub unreachable-requires : goal.unreachable-requires
-unreachable-requires c =
+pub places-place-requires-clause-kept : goal.places-place-requires-clause-kept
+places-place-requires-clause-kept c =
     let up = rw (← c.self.view_is) at c.requires.up in
-    up_placed (past c.self.inside.opening c.self.inside.audit.entries) c.self.inside.links.items c.self.invariant.sound.legal c.self.invariant.links c.args.number up (rw c.deref.ensures.value at (sym c.in_default.ensures))
+    rw c.deref.ensures.value (up_placed (past c.self.inside.opening c.self.inside.audit.entries) c.self.inside.links.items c.self.invariant.sound.legal c.self.invariant.links c.args.number up)
 
-pub unreachable-requires-in_default-place_of : goal.unreachable-requires-in_default-place_of
-unreachable-requires-in_default-place_of c =
+pub places-place-requires-clause-runs : goal.places-place-requires-clause-runs
+places-place-requires-clause-runs c =
     let holds = rw (← c.self.view_is) at c.requires.holds in
-    running_placed (past c.self.inside.opening c.self.inside.audit.entries) c.self.inside.scopes.items c.self.invariant.scopes c.args.scope (scope_runs (past c.self.inside.opening c.self.inside.audit.entries) c.args.number (said.Discover c.args.scope) holds) (rw c.deref-2.ensures.value at (sym c.in_default-place_of.ensures))
+    rw c.deref-2.ensures.value (running_placed (past c.self.inside.opening c.self.inside.audit.entries) c.self.inside.scopes.items c.self.invariant.scopes c.args.scope (scope_runs (past c.self.inside.opening c.self.inside.audit.entries) c.args.number (said.Discover c.args.scope) holds))
 
 pub invariant_of-self : goal.invariant_of-self
 invariant_of-self c = rw c.in_err-make_room.ensures.same c.self.invariant
 
 pub index-requires : goal.index-requires
 index-requires c =
-    let placed_scope = sym (rw c.deref-2.ensures.value at c.in-Some-place_of.ensures) in
-    let within = scope_within c.self.inside.scopes.items c.args.scope c.in-Some-place_of.at placed_scope in
+    let placed_scope = rw c.deref-2.ensures.value at c.places-place.ensures.scope in
+    let within = scope_within c.self.inside.scopes.items c.args.scope c.places-place.result.1 placed_scope in
     let len = rw c.deref-2.ensures.value at c.deref-2.ensures.len in
     omega (arith, within, len)
 
 pub index_mut-requires : goal.index_mut-requires
 index_mut-requires c =
-    let placed = sym (rw c.deref.ensures.value at c.in-Some.ensures) in
-    let within = link_within c.self.inside.links.items c.args.number c.in-Some.place placed in
+    let placed = rw c.deref.ensures.value at c.places-place.ensures.link in
+    let within = link_within c.self.inside.links.items c.args.number c.places-place.result.0 placed in
     let len = rw c.deref.ensures.value at c.deref.ensures.len in
     omega (arith, within, len)
 
 pub make_room-requires-2 : goal.make_room-requires-2
 make_room-requires-2 c =
     let up = rw (← c.self.view_is) at c.requires.up in
-    let placed = sym (rw c.deref.ensures.value at c.in-Some.ensures) in
-    let here = up_here (past c.self.inside.opening c.self.inside.audit.entries) c.self.inside.links.items c.self.invariant.sound.legal c.self.invariant.links c.args.number up c.in-Some.place c.index_mut.result.now placed c.index_mut.ensures.value in
+    let placed = rw c.deref.ensures.value at c.places-place.ensures.link in
+    let here = up_here (past c.self.inside.opening c.self.inside.audit.entries) c.self.inside.links.items c.self.invariant.sound.legal c.self.invariant.links c.args.number up c.places-place.result.0 c.index_mut.result.now placed c.index_mut.ensures.value in
     here.link.idle
 
 pub index_mut-requires-2 : goal.index_mut-requires-2
 index_mut-requires-2 c =
-    let placed_scope = sym (rw c.deref-2.ensures.value at c.in-Some-place_of.ensures) in
-    let within = scope_within c.self.inside.scopes.items c.args.scope c.in-Some-place_of.at placed_scope in
+    let placed_scope = rw c.deref-2.ensures.value at c.places-place.ensures.scope in
+    let within = scope_within c.self.inside.scopes.items c.args.scope c.places-place.result.1 placed_scope in
     let len = rw c.deref-2.ensures.value at c.deref-2.ensures.len in
     omega (arith, within, len)
 
 pub index_mut-requires-3 : goal.index_mut-requires-3
 index_mut-requires-3 c =
-    let placed = sym (rw c.deref.ensures.value at c.in-Some.ensures) in
-    let within = link_within c.self.inside.links.items c.args.number c.in-Some.place placed in
+    let placed = rw c.deref.ensures.value at c.places-place.ensures.link in
+    let within = link_within c.self.inside.links.items c.args.number c.places-place.result.0 placed in
     let len = rw c.deref.ensures.value at c.deref.ensures.len in
     omega (arith, within, len)
 
 pub owe-requires-clause-room : goal.owe-requires-clause-room
 owe-requires-clause-room c =
-    let placed = sym (rw c.deref.ensures.value at c.in-Some.ensures) in
-    let within = link_within c.self.inside.links.items c.args.number c.in-Some.place placed in
-    let is = c.index_mut-3.ensures.value ∙ get_or-set_same c.self.inside.links.items c.in-Some.place c.make_room-2.new.self c.index_mut-3.result.now within in
+    let placed = rw c.deref.ensures.value at c.places-place.ensures.link in
+    let within = link_within c.self.inside.links.items c.args.number c.places-place.result.0 placed in
+    let is = c.index_mut-3.ensures.value ∙ get_or-set_same c.self.inside.links.items c.places-place.result.0 c.make_room-2.new.self c.index_mut-3.result.now within in
     rw is (omega (arith, c.in_ok-make_room-2.ensures.ok, c.len.ensures, c.in_ok-frames.frames.ok))
 
 pub owe-requires-clause-idle : goal.owe-requires-clause-idle
 owe-requires-clause-idle c =
     let up = rw (← c.self.view_is) at c.requires.up in
-    let placed = sym (rw c.deref.ensures.value at c.in-Some.ensures) in
-    let here = up_here (past c.self.inside.opening c.self.inside.audit.entries) c.self.inside.links.items c.self.invariant.sound.legal c.self.invariant.links c.args.number up c.in-Some.place c.index_mut.result.now placed c.index_mut.ensures.value in
-    let within = link_within c.self.inside.links.items c.args.number c.in-Some.place placed in
-    let is = c.index_mut-3.ensures.value ∙ get_or-set_same c.self.inside.links.items c.in-Some.place c.make_room-2.new.self c.index_mut-3.result.now within ∙ c.in_ok-make_room-2.ensures.same in
+    let placed = rw c.deref.ensures.value at c.places-place.ensures.link in
+    let here = up_here (past c.self.inside.opening c.self.inside.audit.entries) c.self.inside.links.items c.self.invariant.sound.legal c.self.invariant.links c.args.number up c.places-place.result.0 c.index_mut.result.now placed c.index_mut.ensures.value in
+    let within = link_within c.self.inside.links.items c.args.number c.places-place.result.0 placed in
+    let is = c.index_mut-3.ensures.value ∙ get_or-set_same c.self.inside.links.items c.places-place.result.0 c.make_room-2.new.self c.index_mut-3.result.now within ∙ c.in_ok-make_room-2.ensures.same in
     ap (λ x. x.prepared) is ∙ here.link.idle
 
 pub invariant_of-self-in_err-make_room-2 : goal.invariant_of-self-in_err-make_room-2
 invariant_of-self-in_err-make_room-2 c =
     let up = rw (← c.self.view_is) at c.requires.up in
-    let placed = sym (rw c.deref.ensures.value at c.in-Some.ensures) in
-    let here = up_here (past c.self.inside.opening c.self.inside.audit.entries) c.self.inside.links.items c.self.invariant.sound.legal c.self.invariant.links c.args.number up c.in-Some.place c.index_mut.result.now placed c.index_mut.ensures.value in
+    let placed = rw c.deref.ensures.value at c.places-place.ensures.link in
+    let here = up_here (past c.self.inside.opening c.self.inside.audit.entries) c.self.inside.links.items c.self.invariant.sound.legal c.self.invariant.links c.args.number up c.places-place.result.0 c.index_mut.result.now placed c.index_mut.ensures.value in
     rw c.in_ok-make_room.ensures.ok.1
-    (follows_with (past c.self.inside.opening c.self.inside.audit.entries) _ c.self.invariant c.self.inside.scopes.items (set c.self.inside.links.items c.in-Some.place c.make_room-2.new.self) c.self.invariant.scopes
-    (roomed_links (past c.self.inside.opening c.self.inside.audit.entries) c.self.inside.links.items c.self.invariant.sound.legal c.self.invariant.links c.args.number c.in-Some.place c.index_mut.result.now c.make_room-2.new.self placed here c.in_err-make_room-2.ensures.same))
+    (follows_with (past c.self.inside.opening c.self.inside.audit.entries) _ c.self.invariant c.self.inside.scopes.items (set c.self.inside.links.items c.places-place.result.0 c.make_room-2.new.self) c.self.invariant.scopes
+    (roomed_links (past c.self.inside.opening c.self.inside.audit.entries) c.self.inside.links.items c.self.invariant.sound.legal c.self.invariant.links c.args.number c.places-place.result.0 c.index_mut.result.now c.make_room-2.new.self placed here c.in_err-make_room-2.ensures.same))
 
 pub invariant_of-self-in_err-tell : goal.invariant_of-self-in_err-tell
 invariant_of-self-in_err-tell c =
     let up = rw (← c.self.view_is) at c.requires.up in
-    let placed = sym (rw c.deref.ensures.value at c.in-Some.ensures) in
-    let here = up_here (past c.self.inside.opening c.self.inside.audit.entries) c.self.inside.links.items c.self.invariant.sound.legal c.self.invariant.links c.args.number up c.in-Some.place c.index_mut.result.now placed c.index_mut.ensures.value in
-    let placed_scope = sym (rw c.deref-2.ensures.value at c.in-Some-place_of.ensures) in
-    let there = scope_here (past c.self.inside.opening c.self.inside.audit.entries) c.self.inside.scopes.items c.self.invariant.scopes c.args.scope c.in-Some-place_of.at c.index_mut-2.result.now placed_scope c.index_mut-2.ensures.value in
+    let placed = rw c.deref.ensures.value at c.places-place.ensures.link in
+    let here = up_here (past c.self.inside.opening c.self.inside.audit.entries) c.self.inside.links.items c.self.invariant.sound.legal c.self.invariant.links c.args.number up c.places-place.result.0 c.index_mut.result.now placed c.index_mut.ensures.value in
+    let placed_scope = rw c.deref-2.ensures.value at c.places-place.ensures.scope in
+    let there = scope_here (past c.self.inside.opening c.self.inside.audit.entries) c.self.inside.scopes.items c.self.invariant.scopes c.args.scope c.places-place.result.1 c.index_mut-2.result.now placed_scope c.index_mut-2.ensures.value in
     rw c.in_ok-make_room.ensures.ok.1
-    (follows_with (past c.self.inside.opening c.self.inside.audit.entries) _ c.self.invariant (set c.self.inside.scopes.items c.in-Some-place_of.at c.tell.new.running) (set c.self.inside.links.items c.in-Some.place c.make_room-2.new.self)
-    (same_scope (past c.self.inside.opening c.self.inside.audit.entries) c.self.inside.scopes.items c.self.invariant.scopes c.args.scope c.in-Some-place_of.at c.index_mut-2.result.now c.tell.new.running there c.in_err-tell.ensures.same)
-    (roomed_links (past c.self.inside.opening c.self.inside.audit.entries) c.self.inside.links.items c.self.invariant.sound.legal c.self.invariant.links c.args.number c.in-Some.place c.index_mut.result.now c.make_room-2.new.self placed here c.in_ok-make_room-2.ensures.same))
+    (follows_with (past c.self.inside.opening c.self.inside.audit.entries) _ c.self.invariant (set c.self.inside.scopes.items c.places-place.result.1 c.tell.new.running) (set c.self.inside.links.items c.places-place.result.0 c.make_room-2.new.self)
+    (same_scope (past c.self.inside.opening c.self.inside.audit.entries) c.self.inside.scopes.items c.self.invariant.scopes c.args.scope c.places-place.result.1 c.index_mut-2.result.now c.tell.new.running there c.in_err-tell.ensures.same)
+    (roomed_links (past c.self.inside.opening c.self.inside.audit.entries) c.self.inside.links.items c.self.invariant.sound.legal c.self.invariant.links c.args.number c.places-place.result.0 c.index_mut.result.now c.make_room-2.new.self placed here c.in_ok-make_room-2.ensures.same))
 
 pub invariant_of-self-2 : goal.invariant_of-self-2
 invariant_of-self-2 c =
     let up = rw (← c.self.view_is) at c.requires.up in
     let space = rw (← c.self.view_is) at c.requires.space in
     let holds = rw (← c.self.view_is) at c.requires.holds in
-    let placed = sym (rw c.deref.ensures.value at c.in-Some.ensures) in
-    let here = up_here (past c.self.inside.opening c.self.inside.audit.entries) c.self.inside.links.items c.self.invariant.sound.legal c.self.invariant.links c.args.number up c.in-Some.place c.index_mut.result.now placed c.index_mut.ensures.value in
-    let placed_scope = sym (rw c.deref-2.ensures.value at c.in-Some-place_of.ensures) in
-    let there = scope_here (past c.self.inside.opening c.self.inside.audit.entries) c.self.inside.scopes.items c.self.invariant.scopes c.args.scope c.in-Some-place_of.at c.index_mut-2.result.now placed_scope c.index_mut-2.ensures.value in
-    let r = same_there (past c.self.inside.opening c.self.inside.audit.entries) c.self.inside.scopes.items c.args.scope c.in-Some-place_of.at c.index_mut-2.result.now c.index.result.now there c.index.ensures in
+    let placed = rw c.deref.ensures.value at c.places-place.ensures.link in
+    let here = up_here (past c.self.inside.opening c.self.inside.audit.entries) c.self.inside.links.items c.self.invariant.sound.legal c.self.invariant.links c.args.number up c.places-place.result.0 c.index_mut.result.now placed c.index_mut.ensures.value in
+    let placed_scope = rw c.deref-2.ensures.value at c.places-place.ensures.scope in
+    let there = scope_here (past c.self.inside.opening c.self.inside.audit.entries) c.self.inside.scopes.items c.self.invariant.scopes c.args.scope c.places-place.result.1 c.index_mut-2.result.now placed_scope c.index_mut-2.ensures.value in
+    let r = same_there (past c.self.inside.opening c.self.inside.audit.entries) c.self.inside.scopes.items c.args.scope c.places-place.result.1 c.index_mut-2.result.now c.index.result.now there c.index.ensures in
     let answers = subst (λ x. AnswersDiscover x c.args.number c.args.scope c.in_ok-frames.frames.items) r c.in_ok-frames.ensures in
     rw (c.accept.ensures.entries, c.accept.ensures.limit, c.in_ok-make_room.ensures.ok.1, c.new.ensures.items)
-    (answered_follows (past c.self.inside.opening c.self.inside.audit.entries) _ c.self.invariant c.args.seat c.args.number c.args.body space up c.index_mut.result.now here c.args.scope c.in-Some-place_of.at c.index_mut-2.result.now c.tell.new.running there c.requires.says holds c.in_ok-tell.ensures.ok c.in-Some.place c.make_room-2.new.self c.index_mut-3.result.now c.owe.new.self c.in_ok-frames.frames.items answers placed c.in_ok-make_room-2.ensures.same c.index_mut-3.ensures.value c.owe.ensures.owed)
+    (answered_follows (past c.self.inside.opening c.self.inside.audit.entries) _ c.self.invariant c.args.seat c.args.number c.args.body space up c.index_mut.result.now here c.args.scope c.places-place.result.1 c.index_mut-2.result.now c.tell.new.running there c.requires.says holds c.in_ok-tell.ensures.ok c.places-place.result.0 c.make_room-2.new.self c.index_mut-3.result.now c.owe.new.self c.in_ok-frames.frames.items answers placed c.in_ok-make_room-2.ensures.same c.index_mut-3.ensures.value c.owe.ensures.owed)
 
 pub returns : goal.returns
 returns c =
@@ -117,9 +117,9 @@ returns c =
     let up = rw (← c.self.view_is) at c.requires.up in
     let space = rw (← c.self.view_is) at c.requires.space in
     let holds = rw (← c.self.view_is) at c.requires.holds in
-    let placed = sym (rw c.deref.ensures.value at c.in-Some.ensures) in
-    let here = up_here (past c.self.inside.opening c.self.inside.audit.entries) c.self.inside.links.items c.self.invariant.sound.legal c.self.invariant.links c.args.number up c.in-Some.place c.index_mut.result.now placed c.index_mut.ensures.value in
-    let placed_scope = sym (rw c.deref-2.ensures.value at c.in-Some-place_of.ensures) in
-    let there = scope_here (past c.self.inside.opening c.self.inside.audit.entries) c.self.inside.scopes.items c.self.invariant.scopes c.args.scope c.in-Some-place_of.at c.index_mut-2.result.now placed_scope c.index_mut-2.ensures.value in
-    let next = discovered_next (past c.self.inside.opening c.self.inside.audit.entries) _ c.self.invariant c.args.seat c.args.number c.args.body space up c.index_mut.result.now here c.args.scope c.in-Some-place_of.at c.index_mut-2.result.now c.tell.new.running there c.requires.says holds in
+    let placed = rw c.deref.ensures.value at c.places-place.ensures.link in
+    let here = up_here (past c.self.inside.opening c.self.inside.audit.entries) c.self.inside.links.items c.self.invariant.sound.legal c.self.invariant.links c.args.number up c.places-place.result.0 c.index_mut.result.now placed c.index_mut.ensures.value in
+    let placed_scope = rw c.deref-2.ensures.value at c.places-place.ensures.scope in
+    let there = scope_here (past c.self.inside.opening c.self.inside.audit.entries) c.self.inside.scopes.items c.self.invariant.scopes c.args.scope c.places-place.result.1 c.index_mut-2.result.now placed_scope c.index_mut-2.ensures.value in
+    let next = discovered_next (past c.self.inside.opening c.self.inside.audit.entries) _ c.self.invariant c.args.seat c.args.number c.args.body space up c.index_mut.result.now here c.args.scope c.places-place.result.1 c.index_mut-2.result.now c.tell.new.running there c.requires.says holds in
     steps_on c.self.view_is c.args.seat (event.Frame c.args.number c.args.body) reply.Done [] next pushed

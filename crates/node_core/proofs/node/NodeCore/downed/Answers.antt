@@ -1,4 +1,4 @@
-use Rattle.std.proofs.Common.{sym, arith}
+use Rattle.std.proofs.Common.{arith}
 use Rattle.policy_audit.specs.History.{past}
 use Rattle.policy_audit.specs.Changes.{if_some}
 use Rattle.policy_audit.specs.declared.event.Event.TheVariants as event
@@ -10,44 +10,44 @@ use Rattle.node_core.proofs.MessageRefused.{scope_runs, peer_is, has_peer}
 use Rattle.node_core.proofs.MessageScopes.{downed_next, downed_follows}
 use Rattle.node_core.proofs.node.NodeCore.downed.Goals as goal
 
+pub places-place-requires-clause-kept : goal.places-place-requires-clause-kept
+places-place-requires-clause-kept c =
+    let up = rw (← c.self.view_is) at c.requires.up in
+    rw c.deref.ensures.value (up_placed (past c.self.inside.opening c.self.inside.audit.entries) c.self.inside.links.items c.self.invariant.sound.legal c.self.invariant.links c.args.number up)
+
+pub places-place-requires-clause-runs : goal.places-place-requires-clause-runs
+places-place-requires-clause-runs c =
+    let holds = rw (← c.self.view_is) at c.requires.holds in
+    rw c.deref-2.ensures.value (running_placed (past c.self.inside.opening c.self.inside.audit.entries) c.self.inside.scopes.items c.self.invariant.scopes c.args.scope (scope_runs (past c.self.inside.opening c.self.inside.audit.entries) c.args.number (said.Down c.args.scope) holds))
+
 pub unreachable-requires : goal.unreachable-requires
 unreachable-requires c =
     let up = rw (← c.self.view_is) at c.requires.up in
-    up_placed (past c.self.inside.opening c.self.inside.audit.entries) c.self.inside.links.items c.self.invariant.sound.legal c.self.invariant.links c.args.number up (rw c.deref.ensures.value at (sym c.in_default.ensures))
-
-pub unreachable-requires-in_default-place_of : goal.unreachable-requires-in_default-place_of
-unreachable-requires-in_default-place_of c =
-    let holds = rw (← c.self.view_is) at c.requires.holds in
-    running_placed (past c.self.inside.opening c.self.inside.audit.entries) c.self.inside.scopes.items c.self.invariant.scopes c.args.scope (scope_runs (past c.self.inside.opening c.self.inside.audit.entries) c.args.number (said.Down c.args.scope) holds) (rw c.deref-2.ensures.value at (sym c.in_default-place_of.ensures))
-
-pub unreachable-requires-in_default-up_peer : goal.unreachable-requires-in_default-up_peer
-unreachable-requires-in_default-up_peer c =
-    let up = rw (← c.self.view_is) at c.requires.up in
-    let placed = sym (rw c.deref.ensures.value at c.in-Some.ensures) in
-    let here = up_here (past c.self.inside.opening c.self.inside.audit.entries) c.self.inside.links.items c.self.invariant.sound.legal c.self.invariant.links c.args.number up c.in-Some.place c.index.result.now placed c.index.ensures in
-    has_peer (past c.self.inside.opening c.self.inside.audit.entries) c.args.number c.index.result.now here c.in_default-up_peer.ensures
+    let placed = rw c.deref.ensures.value at c.places-place.ensures.link in
+    let here = up_here (past c.self.inside.opening c.self.inside.audit.entries) c.self.inside.links.items c.self.invariant.sound.legal c.self.invariant.links c.args.number up c.places-place.result.0 c.index.result.now placed c.index.ensures in
+    has_peer (past c.self.inside.opening c.self.inside.audit.entries) c.args.number c.index.result.now here c.in_default.ensures
 
 pub invariant_of-self : goal.invariant_of-self
 invariant_of-self c = rw c.in_err-room.ensures.same c.self.invariant
 
 pub index-requires : goal.index-requires
 index-requires c =
-    let placed = sym (rw c.deref.ensures.value at c.in-Some.ensures) in
-    let within = link_within c.self.inside.links.items c.args.number c.in-Some.place placed in
+    let placed = rw c.deref.ensures.value at c.places-place.ensures.link in
+    let within = link_within c.self.inside.links.items c.args.number c.places-place.result.0 placed in
     let len = rw c.deref.ensures.value at c.deref.ensures.len in
     omega (arith, within, len)
 
 pub index_mut-requires : goal.index_mut-requires
 index_mut-requires c =
-    let placed_scope = sym (rw c.deref-2.ensures.value at c.in-Some-place_of.ensures) in
-    let within = scope_within c.self.inside.scopes.items c.args.scope c.in-Some-place_of.at placed_scope in
+    let placed_scope = rw c.deref-2.ensures.value at c.places-place.ensures.scope in
+    let within = scope_within c.self.inside.scopes.items c.args.scope c.places-place.result.1 placed_scope in
     let len = rw c.deref-2.ensures.value at c.deref-2.ensures.len in
     omega (arith, within, len)
 
 pub index-requires-2 : goal.index-requires-2
 index-requires-2 c =
-    let placed_scope = sym (rw c.deref-2.ensures.value at c.in-Some-place_of.ensures) in
-    let within = scope_within c.self.inside.scopes.items c.args.scope c.in-Some-place_of.at placed_scope in
+    let placed_scope = rw c.deref-2.ensures.value at c.places-place.ensures.scope in
+    let within = scope_within c.self.inside.scopes.items c.args.scope c.places-place.result.1 placed_scope in
     let len = rw c.deref-2.ensures.value at c.deref-2.ensures.len in
     omega (arith, within, len)
 
@@ -59,16 +59,16 @@ invariant_of-self-2 c =
     let up = rw (← c.self.view_is) at c.requires.up in
     let space = rw (← c.self.view_is) at c.requires.space in
     let holds = rw (← c.self.view_is) at c.requires.holds in
-    let placed = sym (rw c.deref.ensures.value at c.in-Some.ensures) in
-    let here = up_here (past c.self.inside.opening c.self.inside.audit.entries) c.self.inside.links.items c.self.invariant.sound.legal c.self.invariant.links c.args.number up c.in-Some.place c.index.result.now placed c.index.ensures in
-    let placed_scope = sym (rw c.deref-2.ensures.value at c.in-Some-place_of.ensures) in
-    let there = scope_here (past c.self.inside.opening c.self.inside.audit.entries) c.self.inside.scopes.items c.self.invariant.scopes c.args.scope c.in-Some-place_of.at c.index_mut.result.now placed_scope c.index_mut.ensures.value in
-    let peer = peer_is (past c.self.inside.opening c.self.inside.audit.entries) c.args.number c.index.result.now here c.in-Some-up_peer.peer.now c.in-Some-up_peer.ensures in
-    let r = same_there (past c.self.inside.opening c.self.inside.audit.entries) c.self.inside.scopes.items c.args.scope c.in-Some-place_of.at c.index_mut.result.now c.index-2.result.now there c.index-2.ensures in
+    let placed = rw c.deref.ensures.value at c.places-place.ensures.link in
+    let here = up_here (past c.self.inside.opening c.self.inside.audit.entries) c.self.inside.links.items c.self.invariant.sound.legal c.self.invariant.links c.args.number up c.places-place.result.0 c.index.result.now placed c.index.ensures in
+    let placed_scope = rw c.deref-2.ensures.value at c.places-place.ensures.scope in
+    let there = scope_here (past c.self.inside.opening c.self.inside.audit.entries) c.self.inside.scopes.items c.self.invariant.scopes c.args.scope c.places-place.result.1 c.index_mut.result.now placed_scope c.index_mut.ensures.value in
+    let peer = peer_is (past c.self.inside.opening c.self.inside.audit.entries) c.args.number c.index.result.now here c.in-Some.peer.now c.in-Some.ensures in
+    let r = same_there (past c.self.inside.opening c.self.inside.audit.entries) c.self.inside.scopes.items c.args.scope c.places-place.result.1 c.index_mut.result.now c.index-2.result.now there c.index-2.ensures in
     let cut = rw peer at c.cut_off.ensures in
     let gone = rw (r, peer) at c.in_ok-groups.ensures in
     rw (c.accept.ensures.entries, c.accept.ensures.limit, c.in_ok-room.ensures.room, c.filled.ensures, c.in_ok-room.ensures.scope)
-    (downed_follows (past c.self.inside.opening c.self.inside.audit.entries) _ c.self.invariant c.args.seat c.args.number c.args.body space up c.index.result.now here c.args.scope c.in-Some-place_of.at c.index_mut.result.now c.cut_off.new.running there c.requires.says holds c.in_ok-groups.groups.items cut gone)
+    (downed_follows (past c.self.inside.opening c.self.inside.audit.entries) _ c.self.invariant c.args.seat c.args.number c.args.body space up c.index.result.now here c.args.scope c.places-place.result.1 c.index_mut.result.now c.cut_off.new.running there c.requires.says holds c.in_ok-groups.groups.items cut gone)
 
 pub returns : goal.returns
 returns c =
@@ -76,13 +76,13 @@ returns c =
     let up = rw (← c.self.view_is) at c.requires.up in
     let space = rw (← c.self.view_is) at c.requires.space in
     let holds = rw (← c.self.view_is) at c.requires.holds in
-    let placed = sym (rw c.deref.ensures.value at c.in-Some.ensures) in
-    let here = up_here (past c.self.inside.opening c.self.inside.audit.entries) c.self.inside.links.items c.self.invariant.sound.legal c.self.invariant.links c.args.number up c.in-Some.place c.index.result.now placed c.index.ensures in
-    let placed_scope = sym (rw c.deref-2.ensures.value at c.in-Some-place_of.ensures) in
-    let there = scope_here (past c.self.inside.opening c.self.inside.audit.entries) c.self.inside.scopes.items c.self.invariant.scopes c.args.scope c.in-Some-place_of.at c.index_mut.result.now placed_scope c.index_mut.ensures.value in
-    let peer = peer_is (past c.self.inside.opening c.self.inside.audit.entries) c.args.number c.index.result.now here c.in-Some-up_peer.peer.now c.in-Some-up_peer.ensures in
-    let r = same_there (past c.self.inside.opening c.self.inside.audit.entries) c.self.inside.scopes.items c.args.scope c.in-Some-place_of.at c.index_mut.result.now c.index-2.result.now there c.index-2.ensures in
+    let placed = rw c.deref.ensures.value at c.places-place.ensures.link in
+    let here = up_here (past c.self.inside.opening c.self.inside.audit.entries) c.self.inside.links.items c.self.invariant.sound.legal c.self.invariant.links c.args.number up c.places-place.result.0 c.index.result.now placed c.index.ensures in
+    let placed_scope = rw c.deref-2.ensures.value at c.places-place.ensures.scope in
+    let there = scope_here (past c.self.inside.opening c.self.inside.audit.entries) c.self.inside.scopes.items c.self.invariant.scopes c.args.scope c.places-place.result.1 c.index_mut.result.now placed_scope c.index_mut.ensures.value in
+    let peer = peer_is (past c.self.inside.opening c.self.inside.audit.entries) c.args.number c.index.result.now here c.in-Some.peer.now c.in-Some.ensures in
+    let r = same_there (past c.self.inside.opening c.self.inside.audit.entries) c.self.inside.scopes.items c.args.scope c.places-place.result.1 c.index_mut.result.now c.index-2.result.now there c.index-2.ensures in
     let cut = rw peer at c.cut_off.ensures in
     let gone = rw (r, peer) at c.in_ok-groups.ensures in
-    let next = downed_next (past c.self.inside.opening c.self.inside.audit.entries) _ c.self.invariant c.args.seat c.args.number c.args.body space up c.index.result.now here c.args.scope c.in-Some-place_of.at c.index_mut.result.now c.cut_off.new.running there c.requires.says holds c.in_ok-groups.groups.items cut gone in
+    let next = downed_next (past c.self.inside.opening c.self.inside.audit.entries) _ c.self.invariant c.args.seat c.args.number c.args.body space up c.index.result.now here c.args.scope c.places-place.result.1 c.index_mut.result.now c.cut_off.new.running there c.requires.says holds c.in_ok-groups.groups.items cut gone in
     steps_on c.self.view_is c.args.seat (event.Frame c.args.number c.args.body) reply.Done (if_some c.args.scope c.in_ok-groups.groups.items) next pushed

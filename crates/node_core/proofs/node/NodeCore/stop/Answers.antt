@@ -8,13 +8,13 @@ use Rattle.node_core.proofs.Told.{follow_idle, alike_again}
 use Rattle.node_core.proofs.Stopping.{stop_next, stop_follows}
 use Rattle.node_core.proofs.node.NodeCore.stop.Goals as goal
 
-pub tell_shown-requires-clause-idle : goal.tell_shown-requires-clause-idle
-tell_shown-requires-clause-idle c = follow_idle (link_words (past c.self.inside.opening c.self.inside.audit.entries)) c.self.inside.links.items c.self.invariant.links.each
+pub tell_stop-requires : goal.tell_stop-requires
+tell_stop-requires c = follow_idle (link_words (past c.self.inside.opening c.self.inside.audit.entries)) c.self.inside.links.items c.self.invariant.links.each
 
-pub invariant_of-self-in_err-tell_shown : goal.invariant_of-self-in_err-tell_shown
-invariant_of-self-in_err-tell_shown c =
-    rw c.in_ok-make_room.ensures.ok.1
-    (alike_again (past c.self.inside.opening c.self.inside.audit.entries) _ c.self.invariant c.tell_shown.new.links.items c.in_err-tell_shown.ensures.same)
+pub invariant_of-self : goal.invariant_of-self
+invariant_of-self c =
+    rw (c.in_err-changes.ensures.unentered.0, c.in_err-changes.ensures.unentered.1)
+    (alike_again (past c.self.inside.opening c.self.inside.audit.entries) _ c.self.invariant c.tell_stop.new.links.items c.in_err-changes.ensures.same)
 
 pub returns : goal.returns
 returns c =
@@ -22,7 +22,7 @@ returns c =
     let runs = rw (← c.self.view_is) at c.requires.runs in
     let groups = rw (← c.self.view_is) at c.requires.groups in
     let next = stop_next (past c.self.inside.opening c.self.inside.audit.entries) c.args.seat c.args.scope c.args.groups.items _ c.self.invariant runs groups space in
-    let pushed = rw (c.in_ok-make_room.ensures.ok.1, c.in_ok-changes.ensures) at c.accept.ensures.entries in
+    let pushed = rw (c.in_ok-changes.ensures.room, c.in_ok-changes.ensures.change) at c.accept.ensures.entries in
     steps_on c.self.view_is c.args.seat (event.StopScope c.args.scope) reply.Done (if_some c.args.scope c.args.groups.items) next pushed
 
 pub invariant_of-self-2 : goal.invariant_of-self-2
@@ -31,6 +31,5 @@ invariant_of-self-2 c =
     let runs = rw (← c.self.view_is) at c.requires.runs in
     let groups = rw (← c.self.view_is) at c.requires.groups in
     let next = stop_next (past c.self.inside.opening c.self.inside.audit.entries) c.args.seat c.args.scope c.args.groups.items _ c.self.invariant runs groups space in
-    let told = rw c.in_ok-name.ensures at c.in_ok-tell_shown.ensures.told in
-    rw (c.accept.ensures.entries, c.accept.ensures.limit, c.in_ok-make_room.ensures.ok.1, c.in_ok-changes.ensures, c.take_out.ensures, c.drop_scope.ensures.dropped)
-    (stop_follows (past c.self.inside.opening c.self.inside.audit.entries) c.args.seat c.args.scope c.args.groups.items _ c.self.invariant runs groups next c.tell_shown.new.links.items told)
+    rw (c.accept.ensures.entries, c.accept.ensures.limit, c.in_ok-changes.ensures.room, c.in_ok-changes.ensures.change, c.take_out.ensures, c.drop_scope.ensures.dropped)
+    (stop_follows (past c.self.inside.opening c.self.inside.audit.entries) c.args.seat c.args.scope c.args.groups.items _ c.self.invariant runs groups next c.tell_stop.new.links.items c.in_ok-changes.ensures.told)

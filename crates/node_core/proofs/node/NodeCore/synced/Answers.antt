@@ -1,4 +1,4 @@
-use Rattle.std.proofs.Common.{sym, arith, set}
+use Rattle.std.proofs.Common.{arith, set}
 use Rattle.policy_audit.specs.History.{past}
 use Rattle.policy_audit.specs.Changes.{if_some}
 use Rattle.policy_audit.specs.declared.event.Event.TheVariants as event
@@ -11,37 +11,37 @@ use Rattle.node_core.proofs.MessageScopes.{synced_next, synced_follows}
 use Rattle.node_core.proofs.MessageRoom.{same_scope, follows_with}
 use Rattle.node_core.proofs.node.NodeCore.synced.Goals as goal
 
+pub places-place-requires-clause-kept : goal.places-place-requires-clause-kept
+places-place-requires-clause-kept c =
+    let up = rw (← c.self.view_is) at c.requires.up in
+    rw c.deref.ensures.value (up_placed (past c.self.inside.opening c.self.inside.audit.entries) c.self.inside.links.items c.self.invariant.sound.legal c.self.invariant.links c.args.number up)
+
+pub places-place-requires-clause-runs : goal.places-place-requires-clause-runs
+places-place-requires-clause-runs c =
+    let holds = rw (← c.self.view_is) at c.requires.holds in
+    rw c.deref-2.ensures.value (running_placed (past c.self.inside.opening c.self.inside.audit.entries) c.self.inside.scopes.items c.self.invariant.scopes c.args.scope (scope_runs (past c.self.inside.opening c.self.inside.audit.entries) c.args.number (said.Sync c.args.scope c.args.rows) holds))
+
 pub unreachable-requires : goal.unreachable-requires
 unreachable-requires c =
     let up = rw (← c.self.view_is) at c.requires.up in
-    up_placed (past c.self.inside.opening c.self.inside.audit.entries) c.self.inside.links.items c.self.invariant.sound.legal c.self.invariant.links c.args.number up (rw c.deref.ensures.value at (sym c.in_default.ensures))
-
-pub unreachable-requires-in_default-place_of : goal.unreachable-requires-in_default-place_of
-unreachable-requires-in_default-place_of c =
-    let holds = rw (← c.self.view_is) at c.requires.holds in
-    running_placed (past c.self.inside.opening c.self.inside.audit.entries) c.self.inside.scopes.items c.self.invariant.scopes c.args.scope (scope_runs (past c.self.inside.opening c.self.inside.audit.entries) c.args.number (said.Sync c.args.scope c.args.rows) holds) (rw c.deref-2.ensures.value at (sym c.in_default-place_of.ensures))
-
-pub unreachable-requires-in_default-up_peer : goal.unreachable-requires-in_default-up_peer
-unreachable-requires-in_default-up_peer c =
-    let up = rw (← c.self.view_is) at c.requires.up in
-    let placed = sym (rw c.deref.ensures.value at c.in-Some.ensures) in
-    let here = up_here (past c.self.inside.opening c.self.inside.audit.entries) c.self.inside.links.items c.self.invariant.sound.legal c.self.invariant.links c.args.number up c.in-Some.place c.index.result.now placed c.index.ensures in
-    has_peer (past c.self.inside.opening c.self.inside.audit.entries) c.args.number c.index.result.now here c.in_default-up_peer.ensures
+    let placed = rw c.deref.ensures.value at c.places-place.ensures.link in
+    let here = up_here (past c.self.inside.opening c.self.inside.audit.entries) c.self.inside.links.items c.self.invariant.sound.legal c.self.invariant.links c.args.number up c.places-place.result.0 c.index.result.now placed c.index.ensures in
+    has_peer (past c.self.inside.opening c.self.inside.audit.entries) c.args.number c.index.result.now here c.in_default.ensures
 
 pub invariant_of-self : goal.invariant_of-self
 invariant_of-self c = rw c.in_err-room.ensures.same c.self.invariant
 
 pub index-requires : goal.index-requires
 index-requires c =
-    let placed = sym (rw c.deref.ensures.value at c.in-Some.ensures) in
-    let within = link_within c.self.inside.links.items c.args.number c.in-Some.place placed in
+    let placed = rw c.deref.ensures.value at c.places-place.ensures.link in
+    let within = link_within c.self.inside.links.items c.args.number c.places-place.result.0 placed in
     let len = rw c.deref.ensures.value at c.deref.ensures.len in
     omega (arith, within, len)
 
 pub index_mut-requires : goal.index_mut-requires
 index_mut-requires c =
-    let placed_scope = sym (rw c.deref-2.ensures.value at c.in-Some-place_of.ensures) in
-    let within = scope_within c.self.inside.scopes.items c.args.scope c.in-Some-place_of.at placed_scope in
+    let placed_scope = rw c.deref-2.ensures.value at c.places-place.ensures.scope in
+    let within = scope_within c.self.inside.scopes.items c.args.scope c.places-place.result.1 placed_scope in
     let len = rw c.deref-2.ensures.value at c.deref-2.ensures.len in
     omega (arith, within, len)
 
@@ -49,9 +49,9 @@ pub hear_rows-requires-clause-of_peer : goal.hear_rows-requires-clause-of_peer
 hear_rows-requires-clause-of_peer c =
     let up = rw (← c.self.view_is) at c.requires.up in
     let holds = rw (← c.self.view_is) at c.requires.holds in
-    let placed = sym (rw c.deref.ensures.value at c.in-Some.ensures) in
-    let here = up_here (past c.self.inside.opening c.self.inside.audit.entries) c.self.inside.links.items c.self.invariant.sound.legal c.self.invariant.links c.args.number up c.in-Some.place c.index.result.now placed c.index.ensures in
-    let peer = peer_is (past c.self.inside.opening c.self.inside.audit.entries) c.args.number c.index.result.now here c.in-Some-up_peer.peer.now c.in-Some-up_peer.ensures in
+    let placed = rw c.deref.ensures.value at c.places-place.ensures.link in
+    let here = up_here (past c.self.inside.opening c.self.inside.audit.entries) c.self.inside.links.items c.self.invariant.sound.legal c.self.invariant.links c.args.number up c.places-place.result.0 c.index.result.now placed c.index.ensures in
+    let peer = peer_is (past c.self.inside.opening c.self.inside.audit.entries) c.args.number c.index.result.now here c.in-Some.peer.now c.in-Some.ensures in
     rw peer (all_of_peer (past c.self.inside.opening c.self.inside.audit.entries) c.args.number c.index.result.now here c.args.rows (rows_from (past c.self.inside.opening c.self.inside.audit.entries) c.args.number c.args.scope c.args.rows holds))
 
 pub hear_rows-requires-clause-few : goal.hear_rows-requires-clause-few
@@ -59,25 +59,25 @@ hear_rows-requires-clause-few c = c.requires.few
 
 pub invariant_of-self-in_err-groups : goal.invariant_of-self-in_err-groups
 invariant_of-self-in_err-groups c =
-    let placed_scope = sym (rw c.deref-2.ensures.value at c.in-Some-place_of.ensures) in
-    let there = scope_here (past c.self.inside.opening c.self.inside.audit.entries) c.self.inside.scopes.items c.self.invariant.scopes c.args.scope c.in-Some-place_of.at c.index_mut.result.now placed_scope c.index_mut.ensures.value in
+    let placed_scope = rw c.deref-2.ensures.value at c.places-place.ensures.scope in
+    let there = scope_here (past c.self.inside.opening c.self.inside.audit.entries) c.self.inside.scopes.items c.self.invariant.scopes c.args.scope c.places-place.result.1 c.index_mut.result.now placed_scope c.index_mut.ensures.value in
     rw c.in_ok-room.ensures.room
-    (follows_with (past c.self.inside.opening c.self.inside.audit.entries) _ c.self.invariant (set c.self.inside.scopes.items c.in-Some-place_of.at c.hear_rows.new.running) c.self.inside.links.items
-    (same_scope (past c.self.inside.opening c.self.inside.audit.entries) c.self.inside.scopes.items c.self.invariant.scopes c.args.scope c.in-Some-place_of.at c.index_mut.result.now c.hear_rows.new.running there (c.in_err-groups.ensures.same)) c.self.invariant.links)
+    (follows_with (past c.self.inside.opening c.self.inside.audit.entries) _ c.self.invariant (set c.self.inside.scopes.items c.places-place.result.1 c.hear_rows.new.running) c.self.inside.links.items
+    (same_scope (past c.self.inside.opening c.self.inside.audit.entries) c.self.inside.scopes.items c.self.invariant.scopes c.args.scope c.places-place.result.1 c.index_mut.result.now c.hear_rows.new.running there (c.in_err-groups.ensures.same)) c.self.invariant.links)
 
 pub invariant_of-self-2 : goal.invariant_of-self-2
 invariant_of-self-2 c =
     let up = rw (← c.self.view_is) at c.requires.up in
     let space = rw (← c.self.view_is) at c.requires.space in
     let holds = rw (← c.self.view_is) at c.requires.holds in
-    let placed = sym (rw c.deref.ensures.value at c.in-Some.ensures) in
-    let here = up_here (past c.self.inside.opening c.self.inside.audit.entries) c.self.inside.links.items c.self.invariant.sound.legal c.self.invariant.links c.args.number up c.in-Some.place c.index.result.now placed c.index.ensures in
-    let placed_scope = sym (rw c.deref-2.ensures.value at c.in-Some-place_of.ensures) in
-    let there = scope_here (past c.self.inside.opening c.self.inside.audit.entries) c.self.inside.scopes.items c.self.invariant.scopes c.args.scope c.in-Some-place_of.at c.index_mut.result.now placed_scope c.index_mut.ensures.value in
-    let peer = peer_is (past c.self.inside.opening c.self.inside.audit.entries) c.args.number c.index.result.now here c.in-Some-up_peer.peer.now c.in-Some-up_peer.ensures in
+    let placed = rw c.deref.ensures.value at c.places-place.ensures.link in
+    let here = up_here (past c.self.inside.opening c.self.inside.audit.entries) c.self.inside.links.items c.self.invariant.sound.legal c.self.invariant.links c.args.number up c.places-place.result.0 c.index.result.now placed c.index.ensures in
+    let placed_scope = rw c.deref-2.ensures.value at c.places-place.ensures.scope in
+    let there = scope_here (past c.self.inside.opening c.self.inside.audit.entries) c.self.inside.scopes.items c.self.invariant.scopes c.args.scope c.places-place.result.1 c.index_mut.result.now placed_scope c.index_mut.ensures.value in
+    let peer = peer_is (past c.self.inside.opening c.self.inside.audit.entries) c.args.number c.index.result.now here c.in-Some.peer.now c.in-Some.ensures in
     let becomes = rw peer at c.in_ok-groups.ensures.ok in
     rw (c.accept.ensures.entries, c.accept.ensures.limit, c.in_ok-room.ensures.room, c.filled.ensures, c.in_ok-room.ensures.scope)
-    (synced_follows (past c.self.inside.opening c.self.inside.audit.entries) _ c.self.invariant c.args.seat c.args.number c.args.body space up c.index.result.now here c.args.scope c.in-Some-place_of.at c.index_mut.result.now c.hear_rows.new.running there c.args.rows c.requires.says holds c.in_ok-groups.groups.items becomes c.in_ok-groups.ensures.change)
+    (synced_follows (past c.self.inside.opening c.self.inside.audit.entries) _ c.self.invariant c.args.seat c.args.number c.args.body space up c.index.result.now here c.args.scope c.places-place.result.1 c.index_mut.result.now c.hear_rows.new.running there c.args.rows c.requires.says holds c.in_ok-groups.groups.items becomes c.in_ok-groups.ensures.change)
 
 pub returns : goal.returns
 returns c =
@@ -85,11 +85,11 @@ returns c =
     let up = rw (← c.self.view_is) at c.requires.up in
     let space = rw (← c.self.view_is) at c.requires.space in
     let holds = rw (← c.self.view_is) at c.requires.holds in
-    let placed = sym (rw c.deref.ensures.value at c.in-Some.ensures) in
-    let here = up_here (past c.self.inside.opening c.self.inside.audit.entries) c.self.inside.links.items c.self.invariant.sound.legal c.self.invariant.links c.args.number up c.in-Some.place c.index.result.now placed c.index.ensures in
-    let placed_scope = sym (rw c.deref-2.ensures.value at c.in-Some-place_of.ensures) in
-    let there = scope_here (past c.self.inside.opening c.self.inside.audit.entries) c.self.inside.scopes.items c.self.invariant.scopes c.args.scope c.in-Some-place_of.at c.index_mut.result.now placed_scope c.index_mut.ensures.value in
-    let peer = peer_is (past c.self.inside.opening c.self.inside.audit.entries) c.args.number c.index.result.now here c.in-Some-up_peer.peer.now c.in-Some-up_peer.ensures in
+    let placed = rw c.deref.ensures.value at c.places-place.ensures.link in
+    let here = up_here (past c.self.inside.opening c.self.inside.audit.entries) c.self.inside.links.items c.self.invariant.sound.legal c.self.invariant.links c.args.number up c.places-place.result.0 c.index.result.now placed c.index.ensures in
+    let placed_scope = rw c.deref-2.ensures.value at c.places-place.ensures.scope in
+    let there = scope_here (past c.self.inside.opening c.self.inside.audit.entries) c.self.inside.scopes.items c.self.invariant.scopes c.args.scope c.places-place.result.1 c.index_mut.result.now placed_scope c.index_mut.ensures.value in
+    let peer = peer_is (past c.self.inside.opening c.self.inside.audit.entries) c.args.number c.index.result.now here c.in-Some.peer.now c.in-Some.ensures in
     let becomes = rw peer at c.in_ok-groups.ensures.ok in
-    let next = synced_next (past c.self.inside.opening c.self.inside.audit.entries) _ c.self.invariant c.args.seat c.args.number c.args.body space up c.index.result.now here c.args.scope c.in-Some-place_of.at c.index_mut.result.now c.hear_rows.new.running there c.args.rows c.requires.says holds c.in_ok-groups.groups.items becomes c.in_ok-groups.ensures.change in
+    let next = synced_next (past c.self.inside.opening c.self.inside.audit.entries) _ c.self.invariant c.args.seat c.args.number c.args.body space up c.index.result.now here c.args.scope c.places-place.result.1 c.index_mut.result.now c.hear_rows.new.running there c.args.rows c.requires.says holds c.in_ok-groups.groups.items becomes c.in_ok-groups.ensures.change in
     steps_on c.self.view_is c.args.seat (event.Frame c.args.number c.args.body) reply.Done (if_some c.args.scope c.in_ok-groups.groups.items) next pushed
