@@ -106,15 +106,15 @@ module _ {o : Opening} {k : ℕ} {script rest : List ℕ} {old holds : Option (L
     appended = p.appended;
   }
 
-  -- after the last line of a script that can't be read further: it was written, or a part of the text, or it is not known what
+  -- after a line that was not answered: it can't be read, and the text has its end; or memory lacked; or it is not known what was written
   pub played_told : {then : Option (List ℕ)} {line : List ℕ} (fault : RunFault)
-      → 0 < length rest → line ≡ strip_last 10 (take_through 10 rest) → is_fault line ≡ true
+      → 0 < length rest → line ≡ strip_last 10 (take_through 10 rest)
       → (fault ≡ faults.Script k) ⊎ (fault ≡ faults.Memory) ⊎ (fault ≡ faults.Write)
-      → (fault ≡ faults.Script k → Appends holds then (fault_line k)) → (fault ≡ faults.Memory → then ≡ holds)
+      → (fault ≡ faults.Script k → (is_fault line ≡ true) × Appends holds then (fault_line k)) → (fault ≡ faults.Memory → then ≡ holds)
       → RunsAs {U = Unit {0}} o script old then (Err fault)
-  played_told fault some is bad (inl e) told untold = rw e (played_fault p some is bad (told e))
-  played_told fault some is bad (inr (inl e)) told untold = rw (e, untold e) played_part
-  played_told fault some is bad (inr (inr e)) told untold = rw e tt
+  played_told fault some is (inl e) told untold = rw e (played_fault p some is (told e).0 (told e).1)
+  played_told fault some is (inr (inl e)) told untold = rw (e, untold e) played_part
+  played_told fault some is (inr (inr e)) told untold = rw e tt
 
 -- what follows from what is known of known bytes
 pub weaken : (known : Option (List ℕ)) {P Q : List ℕ → Type 0} → ((xs : List ℕ) → P xs → Q xs) → IfSome known P → IfSome known Q

@@ -4,7 +4,7 @@ ghost use Rattle.std.specs.Option.{option_copied};
 ghost use Rattle.pg_console.specs.Answers.{spaced, reply_text, refusal_text, judged_text, step_line, entry_line};
 
 use crate::event_kind::kind;
-use crate::printed::{Printed, put_each, put_number, put_word};
+use crate::printed::{Printed, put_bytes, put_each, put_number, put_word};
 use dist_types::{NodeName, OutOfMemory, Pid};
 use node_core::CoreFault;
 use policy_audit::{Entry, Reply, Rule, Verdict};
@@ -23,8 +23,7 @@ pub fn put_step(
         Err(CoreFault::Refused(rule)) => put_refusal(*rule, out)?,
         Err(CoreFault::OutOfMemory) => put_word("memory", out)?,
     }
-    out.push(b'\n')?;
-    Ok(())
+    put_word("\n", out)
 }
 
 /// Adds the line for an entry of the audit.
@@ -36,12 +35,11 @@ pub fn put_entry(found: Option<&Entry>, out: &mut Vec<u8>) -> Result<(), OutOfMe
     };
     put_number("", u64::from(entry.number), out)?;
     put_number(" ", u64::from(entry.seat), out)?;
-    out.push(b' ')?;
+    put_word(" ", out)?;
     put_word(kind(&entry.event), out)?;
-    out.push(b' ')?;
+    put_word(" ", out)?;
     put_judged(&entry.verdict, out)?;
-    out.push(b'\n')?;
-    Ok(())
+    put_word("\n", out)
 }
 
 /// Adds how an entry was judged, without its answer.
@@ -92,7 +90,7 @@ fn put_up(
 {
     let ending = if visible { " visible" } else { " hidden" };
     put_word("up ", out)?;
-    out.extend_from_slice(peer.as_bytes())?;
+    put_bytes(peer.as_bytes(), out)?;
     put_number(" ", u64::from(creation), out)?;
     put_word(ending, out)
 }
@@ -127,6 +125,6 @@ fn put_refusal(rule: Rule, out: &mut Vec<u8>) -> Result<(), OutOfMemory>
     ensures { OnOk result (out.new.items ≡ out.old.items ++ refusal_text rule) }
 {
     put_number("refused ", u64::from(rule.number()), out)?;
-    out.push(b' ')?;
+    put_word(" ", out)?;
     put_word(rule.name(), out)
 }

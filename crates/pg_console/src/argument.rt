@@ -64,16 +64,20 @@ impl Argument for Pid {
 
     /// A process is written `name/creation/number`. The name may have slashes too.
     fn of_word(alloc: Global, word: &[u8]) -> Result<Pid, LineFault> {
-        let (front, last) = cut(word).ok_or(LineFault::Script)?;
-        let (name, middle) = cut(front).ok_or(LineFault::Script)?;
-        let number = long_number(last).ok_or(LineFault::Script)?;
-        let creation = u32::of_word(alloc, middle)?;
-        let node = NodeName::of_word(alloc, name)?;
-        Ok(Pid {
-            node,
-            creation,
-            number,
-        })
+        if let Some((front, last)) = cut(word)
+            && let Some((name, middle)) = cut(front)
+            && let Some(creation) = number(middle)
+            && let Some(number) = long_number(last)
+        {
+            let node = NodeName::of_word(alloc, name)?;
+            Ok(Pid {
+                node,
+                creation,
+                number,
+            })
+        } else {
+            Err(LineFault::Script)
+        }
     }
 }
 

@@ -82,7 +82,9 @@ impl Console {
             × (self.new ≡ left_by lacks self.old (Command.Step event))) }
     {
         let stepped = self.core.step(self.seat, event);
-        put_step(alloc, &stepped, out)
+        let added = put_step(alloc, &stepped, out);
+        drop(stepped);
+        added
     }
 }
 

@@ -6,6 +6,7 @@ ghost use Rattle.pg_console.specs.WordsLeft.{words_left};
 
 use crate::arguments::{both, only};
 use crate::command::{Command, LineFault, nothing};
+use crate::words::is;
 use policy_audit::Event;
 use std::alloc::Global;
 
@@ -14,23 +15,24 @@ pub fn link_command(alloc: Global, name: &[u8], words: Option<&[u8]>) -> Result<
     ensures ok { IfOk result (λ command. link_command name.now (words_left words.entry) ≡ Some command) }
     ensures fault { IfErr result (λ fault. IsUnread fault (link_command name.now (words_left words.entry))) }
 {
-    if name == b"dial".as_slice() {
+    let event = if is(name, "dial") {
         let (peer, challenge) = both(alloc, words)?;
-        Ok(Command::Step(Event::Dial(peer, challenge)))
-    } else if name == b"opened".as_slice() {
-        Ok(Command::Step(Event::Opened(only(alloc, words)?)))
-    } else if name == b"lost".as_slice() {
-        Ok(Command::Step(Event::Lost(only(alloc, words)?)))
-    } else if name == b"take".as_slice() {
-        Ok(Command::Step(Event::Take(only(alloc, words)?)))
-    } else if name == b"disconnect".as_slice() {
-        Ok(Command::Step(Event::Disconnect(only(alloc, words)?)))
-    } else if name == b"frame".as_slice() {
+        Event::Dial(peer, challenge)
+    } else if is(name, "opened") {
+        Event::Opened(only(alloc, words)?)
+    } else if is(name, "lost") {
+        Event::Lost(only(alloc, words)?)
+    } else if is(name, "take") {
+        Event::Take(only(alloc, words)?)
+    } else if is(name, "disconnect") {
+        Event::Disconnect(only(alloc, words)?)
+    } else if is(name, "frame") {
         let (link, body) = both(alloc, words)?;
-        Ok(Command::Step(Event::Frame(link, body)))
+        Event::Frame(link, body)
     } else {
-        console_command(alloc, name, words)
-    }
+        return console_command(alloc, name, words);
+    };
+    Ok(Command::Step(event))
 }
 
 /// A command without an event.
@@ -42,12 +44,12 @@ pub fn console_command(
     ensures ok { IfOk result (λ command. console_command name.now (words_left words.entry) ≡ Some command) }
     ensures fault { IfErr result (λ fault. IsUnread fault (console_command name.now (words_left words.entry))) }
 {
-    if name == b"seat".as_slice() {
+    if is(name, "seat") {
         Ok(Command::Seat(only(alloc, words)?))
-    } else if name == b"size".as_slice() {
+    } else if is(name, "size") {
         nothing(words)?;
         Ok(Command::Size)
-    } else if name == b"audit".as_slice() {
+    } else if is(name, "audit") {
         Ok(Command::Audit(only(alloc, words)?))
     } else {
         Err(LineFault::Script)

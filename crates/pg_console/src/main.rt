@@ -46,12 +46,12 @@ fn main(rt: HostRuntime) -> io::Result<ExitCode> {
     };
     match command.try_get_matches_from(words.as_slice()) {
         Ok(matches) => follow(&rt, &matches),
-        Err(error) => unmatched(&rt, error),
+        Err(error) => unmatched(&rt, &error),
     }
 }
 
 /// Ends a program whose command line has no matches: it is refused, or it asks for a text, as `--help` does.
-fn unmatched<R: AllocGlobal + Print + Eprint>(rt: &R, error: LineError) -> io::Result<ExitCode> {
+fn unmatched<R: AllocGlobal + Print + Eprint>(rt: &R, error: &LineError) -> io::Result<ExitCode> {
     if error.kind() == LineFault::OutOfMemory {
         return failed(rt, 1, "error: out of memory");
     }

@@ -7,6 +7,7 @@ ghost use Rattle.pg_console.specs.WordsLeft.{words_left};
 use crate::arguments::{both, each, named, only};
 use crate::command::{Command, LineFault, nothing};
 use crate::query_commands::query_command;
+use crate::words::is;
 use policy_audit::Event;
 use std::alloc::Global;
 
@@ -15,19 +16,20 @@ pub fn node_command(alloc: Global, name: &[u8], words: Option<&[u8]>) -> Result<
     ensures ok { IfOk result (λ command. node_command name.now (words_left words.entry) ≡ Some command) }
     ensures fault { IfErr result (λ fault. IsUnread fault (node_command name.now (words_left words.entry))) }
 {
-    if name == b"restart".as_slice() {
+    let event = if is(name, "restart") {
         nothing(words)?;
-        Ok(Command::Step(Event::Restart))
-    } else if name == b"cookie".as_slice() {
-        Ok(Command::Step(Event::SetCookie(only(alloc, words)?)))
-    } else if name == b"cookie_for".as_slice() {
+        Event::Restart
+    } else if is(name, "cookie") {
+        Event::SetCookie(only(alloc, words)?)
+    } else if is(name, "cookie_for") {
         let (peer, cookie) = both(alloc, words)?;
-        Ok(Command::Step(Event::SetCookieFor(peer, cookie)))
-    } else if name == b"allow".as_slice() {
-        Ok(Command::Step(Event::Allow(each(alloc, words)?)))
+        Event::SetCookieFor(peer, cookie)
+    } else if is(name, "allow") {
+        Event::Allow(each(alloc, words)?)
     } else {
-        scope_command(alloc, name, words)
-    }
+        return scope_command(alloc, name, words);
+    };
+    Ok(Command::Step(event))
 }
 
 /// A command on scopes and processes, or a query.
@@ -35,22 +37,23 @@ pub fn scope_command(alloc: Global, name: &[u8], words: Option<&[u8]>) -> Result
     ensures ok { IfOk result (λ command. scope_command name.now (words_left words.entry) ≡ Some command) }
     ensures fault { IfErr result (λ fault. IsUnread fault (scope_command name.now (words_left words.entry))) }
 {
-    if name == b"start".as_slice() {
-        Ok(Command::Step(Event::StartScope(only(alloc, words)?)))
-    } else if name == b"stop".as_slice() {
-        Ok(Command::Step(Event::StopScope(only(alloc, words)?)))
-    } else if name == b"spawn".as_slice() {
+    let event = if is(name, "start") {
+        Event::StartScope(only(alloc, words)?)
+    } else if is(name, "stop") {
+        Event::StopScope(only(alloc, words)?)
+    } else if is(name, "spawn") {
         nothing(words)?;
-        Ok(Command::Step(Event::Spawn))
-    } else if name == b"exit".as_slice() {
-        Ok(Command::Step(Event::Exit(only(alloc, words)?)))
-    } else if name == b"join".as_slice() {
+        Event::Spawn
+    } else if is(name, "exit") {
+        Event::Exit(only(alloc, words)?)
+    } else if is(name, "join") {
         let (scope, group, pids) = named(alloc, words)?;
-        Ok(Command::Step(Event::Join(scope, group, pids)))
-    } else if name == b"leave".as_slice() {
+        Event::Join(scope, group, pids)
+    } else if is(name, "leave") {
         let (scope, group, pids) = named(alloc, words)?;
-        Ok(Command::Step(Event::Leave(scope, group, pids)))
+        Event::Leave(scope, group, pids)
     } else {
-        query_command(alloc, name, words)
-    }
+        return query_command(alloc, name, words);
+    };
+    Ok(Command::Step(event))
 }

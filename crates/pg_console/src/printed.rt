@@ -22,7 +22,7 @@ impl Printed for Pid {
     ghost text = { pid_text };
 
     fn put(&self, _alloc: Global, out: &mut Vec<u8>) -> Result<(), OutOfMemory> {
-        out.extend_from_slice(self.node.as_bytes())?;
+        put_bytes(self.node.as_bytes(), out)?;
         put_slashed(self.creation, self.number, out)
     }
 }
@@ -31,8 +31,7 @@ impl Printed for Group {
     ghost text = { λ group. group };
 
     fn put(&self, _alloc: Global, out: &mut Vec<u8>) -> Result<(), OutOfMemory> {
-        out.extend_from_slice(self.as_bytes())?;
-        Ok(())
+        put_bytes(self.as_bytes(), out)
     }
 }
 
@@ -40,7 +39,7 @@ impl Printed for GroupPids {
     ghost text = { group_text };
 
     fn put(&self, alloc: Global, out: &mut Vec<u8>) -> Result<(), OutOfMemory> {
-        out.extend_from_slice(self.group.as_bytes())?;
+        put_bytes(self.group.as_bytes(), out)?;
         put_counted(alloc, &self.pids, out)
     }
 }
@@ -50,8 +49,8 @@ impl Printed for Update {
 
     fn put(&self, alloc: Global, out: &mut Vec<u8>) -> Result<(), OutOfMemory> {
         let happened = if self.leave { "leave " } else { "join " };
-        out.extend_from_slice(happened.as_bytes())?;
-        out.extend_from_slice(self.group.as_bytes())?;
+        put_word(happened, out)?;
+        put_bytes(self.group.as_bytes(), out)?;
         put_counted(alloc, &self.pids, out)
     }
 }
@@ -60,8 +59,8 @@ impl Printed for OutFrame {
     ghost text = { frame_text };
 
     fn put(&self, alloc: Global, out: &mut Vec<u8>) -> Result<(), OutOfMemory> {
-        out.extend_from_slice(hex::encode(alloc, self.body.as_slice())?.as_bytes())?;
-        Ok(())
+        let text = hex::encode(alloc, self.body.as_slice())?;
+        put_word(text.as_str(), out)
     }
 }
 
@@ -97,8 +96,7 @@ fn put_slashed(creation: u32, number: u64, out: &mut Vec<u8>) -> Result<(), OutO
     let mut text = [0; SLASHED];
     let middle = write_slashed(number, &mut text, SLASHED);
     let start = write_slashed(u64::from(creation), &mut text, middle);
-    out.extend_from_slice(&text[start..])?;
-    Ok(())
+    put_bytes(&text[start..], out)
 }
 
 /// Writes a slash and a number so that they end at `end`, and says where they start.
@@ -117,9 +115,8 @@ pub fn put_number(word: &str, number: u64, out: &mut Vec<u8>) -> Result<(), OutO
     ensures { OnOk result (out.new.items ≡ out.old.items ++ word.now ++ decimal number) }
 {
     let mut digits = Buffer::new();
-    out.extend_from_slice(word.as_bytes())?;
-    out.extend_from_slice(digits.format(number).as_bytes())?;
-    Ok(())
+    put_word(word, out)?;
+    put_word(digits.format(number), out)
 }
 
 /// Adds a line of a word and a number.
@@ -127,14 +124,20 @@ pub fn put_numbered_line(word: &str, number: u64, out: &mut Vec<u8>) -> Result<(
     ensures { OnOk result (out.new.items ≡ out.old.items ++ word.now ++ decimal number ++ codes "\n") }
 {
     put_number(word, number, out)?;
-    out.push(b'\n')?;
-    Ok(())
+    put_word("\n", out)
 }
 
 /// Adds a word.
 pub fn put_word(word: &str, out: &mut Vec<u8>) -> Result<(), OutOfMemory>
     ensures { OnOk result (out.new.items ≡ out.old.items ++ word.now) }
 {
-    out.extend_from_slice(word.as_bytes())?;
+    put_bytes(word.as_bytes(), out)
+}
+
+/// Adds bytes.
+pub fn put_bytes(bytes: &[u8], out: &mut Vec<u8>) -> Result<(), OutOfMemory>
+    ensures { OnOk result (out.new.items ≡ out.old.items ++ bytes.now) }
+{
+    out.extend_from_slice(bytes)?;
     Ok(())
 }

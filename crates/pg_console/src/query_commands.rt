@@ -7,6 +7,7 @@ ghost use Rattle.pg_console.specs.WordsLeft.{words_left};
 use crate::arguments::{both, only};
 use crate::command::{Command, LineFault};
 use crate::link_commands::link_command;
+use crate::words::is;
 use policy_audit::Event;
 use std::alloc::Global;
 
@@ -15,19 +16,20 @@ pub fn query_command(alloc: Global, name: &[u8], words: Option<&[u8]>) -> Result
     ensures ok { IfOk result (λ command. query_command name.now (words_left words.entry) ≡ Some command) }
     ensures fault { IfErr result (λ fault. IsUnread fault (query_command name.now (words_left words.entry))) }
 {
-    if name == b"members".as_slice() {
+    let event = if is(name, "members") {
         let (scope, group) = both(alloc, words)?;
-        Ok(Command::Step(Event::Members(scope, group)))
-    } else if name == b"local_members".as_slice() {
+        Event::Members(scope, group)
+    } else if is(name, "local_members") {
         let (scope, group) = both(alloc, words)?;
-        Ok(Command::Step(Event::LocalMembers(scope, group)))
-    } else if name == b"groups".as_slice() {
-        Ok(Command::Step(Event::Groups(only(alloc, words)?)))
-    } else if name == b"local_groups".as_slice() {
-        Ok(Command::Step(Event::LocalGroups(only(alloc, words)?)))
+        Event::LocalMembers(scope, group)
+    } else if is(name, "groups") {
+        Event::Groups(only(alloc, words)?)
+    } else if is(name, "local_groups") {
+        Event::LocalGroups(only(alloc, words)?)
     } else {
-        monitor_command(alloc, name, words)
-    }
+        return monitor_command(alloc, name, words);
+    };
+    Ok(Command::Step(event))
 }
 
 /// A command on monitors, or one on links.
@@ -39,16 +41,17 @@ pub fn monitor_command(
     ensures ok { IfOk result (λ command. monitor_command name.now (words_left words.entry) ≡ Some command) }
     ensures fault { IfErr result (λ fault. IsUnread fault (monitor_command name.now (words_left words.entry))) }
 {
-    if name == b"monitor".as_slice() {
+    let event = if is(name, "monitor") {
         let (scope, group) = both(alloc, words)?;
-        Ok(Command::Step(Event::Monitor(scope, group)))
-    } else if name == b"monitor_scope".as_slice() {
-        Ok(Command::Step(Event::MonitorScope(only(alloc, words)?)))
-    } else if name == b"demonitor".as_slice() {
-        Ok(Command::Step(Event::Demonitor(only(alloc, words)?)))
-    } else if name == b"updates".as_slice() {
-        Ok(Command::Step(Event::Updates(only(alloc, words)?)))
+        Event::Monitor(scope, group)
+    } else if is(name, "monitor_scope") {
+        Event::MonitorScope(only(alloc, words)?)
+    } else if is(name, "demonitor") {
+        Event::Demonitor(only(alloc, words)?)
+    } else if is(name, "updates") {
+        Event::Updates(only(alloc, words)?)
     } else {
-        link_command(alloc, name, words)
-    }
+        return link_command(alloc, name, words);
+    };
+    Ok(Command::Step(event))
 }

@@ -1,10 +1,14 @@
 //! The run of a whole script.
-ghost use Rattle.std.specs.Prelude.{◌≡◌, ◌⊎◌, ◌<◌, ◌↔◌, OnOk, IfErr, IfSome, Err};
-ghost use Rattle.std.specs.Io.KnownBytes.{Appends};
+ghost use Rattle.std.specs.Prelude.{◌≡◌, ◌≢◌, ◌⊎◌, ◌<◌, ◌↔◌, Bool, true, false, OnOk, IfOk, IfErr, Some, IfSome, Err, length};
+ghost use Rattle.std.specs.Io.KnownBytes.{Appends, IsAtEnd};
+ghost use Rattle.std.specs.Io.BufRead.{take_through, drop_through};
 ghost use Rattle.std.specs.IoError.{error_kind};
 ghost use Rattle.std.specs.declared.io.ErrorKind.TheVariants as kinds;
 ghost use Rattle.pg_console.specs.Answers.{fault_line};
+ghost use Rattle.pg_console.specs.Playing.{opened_with};
 ghost use Rattle.pg_console.specs.Runs.{RunsAs};
+ghost use Rattle.pg_console.specs.Transcript.{is_fault, line_text, line_left};
+ghost use Rattle.policy_audit.specs.declared.opening.Opening.{Opening};
 ghost use Rattle.pg_console.specs.declared.script.RunFault.TheVariants as faults;
 
 use crate::command::LineFault;
@@ -13,6 +17,7 @@ use crate::printed::put_numbered_line;
 use crate::words::without_feed;
 use node_core::OpenFault;
 use policy_audit::Opening;
+use std::alloc::Global;
 use std::io::{BufRead, Error, ErrorKind, Write};
 use thiserror::Error as ErrorDerive;
 
@@ -48,28 +53,74 @@ pub fn run<A: AllocGlobal, R: BufRead, W: Write>(
         RunsAs opening script (W.contents writer.old) (W.contents writer.new) result) }
 {
     let alloc = rt.alloc();
-    let mut console = match Console::open(alloc, opening) {
-        Ok(console) => console,
-        Err(OpenFault::BadLimit) => return Err(RunFault::BadOpening),
-        Err(OpenFault::OutOfMemory) => return Err(RunFault::Memory),
-    };
+    match Console::open(alloc, opening) {
+        Ok(mut console) => play_lines(alloc, &mut console, reader, writer),
+        Err(OpenFault::BadLimit) => Err(RunFault::BadOpening),
+        Err(OpenFault::OutOfMemory) => Err(RunFault::Memory),
+    }
+}
+
+/// Plays the lines of a script, up to the first that can't be read.
+fn play_lines<R: BufRead, W: Write>(
+    alloc: Global,
+    console: &mut Console,
+    reader: &mut R,
+    writer: &mut W,
+) -> Result<(), RunFault>
+    ensures good { IfErr result (λ fault. fault ≢ faults.BadOpening) }
+    ensures text { (o : Opening) → console.old ≡ opened_with o → IfSome (R.remaining reader.old) (λ script.
+        RunsAs o script (W.contents writer.old) (W.contents writer.new) result) }
+{
     let mut line = Vec::new(alloc);
     let mut out = Vec::new(alloc);
     for turn in 0..TURNS {
-        line.clear();
-        out.clear();
-        match reader.read_until(b'\n', &mut line) {
-            Ok(0) => return Ok(()),
-            Ok(_) => {}
-            Err(error) => return Err(read_fault(error)),
+        if !read_line(&mut line, reader)? {
+            return Ok(());
         }
-        match console.answer(alloc, without_feed(line.as_slice()), &mut out) {
-            Ok(()) => send(out.as_slice(), writer)?,
-            Err(LineFault::Memory) => return Err(RunFault::Memory),
-            Err(LineFault::Script) => return Err(tell_fault(turn + 1, &mut out, writer)),
-        }
+        let said = without_feed(line.as_slice());
+        answer_line(alloc, turn + 1, said, console, &mut out, writer)?;
     }
     Err(RunFault::Read)
+}
+
+/// Reads the next line, with its line feed, over the last. At the end of the script there is none.
+fn read_line<R: BufRead>(line: &mut Vec<u8>, reader: &mut R) -> Result<bool, RunFault>
+    ensures read { OnOk result (IfSome (R.remaining reader.old) (λ rest.
+        (line.new.items ≡ take_through 10 rest) × (R.remaining reader.new ≡ Some (drop_through 10 rest)))) }
+    ensures found { IfOk result (λ found. found ≡ true → 0 < length line.new.items) }
+    ensures ended { IfOk result (λ found. found ≡ false → IsAtEnd (R.remaining reader.old)) }
+    ensures fault { IfErr result (λ fault. (fault ≡ faults.Read) ⊎ (fault ≡ faults.Memory)) }
+{
+    line.clear();
+    match reader.read_until(b'\n', line) {
+        Ok(count) => Ok(count > 0),
+        Err(error) => Err(read_fault(error)),
+    }
+}
+
+/// Writes the answer to the line of this number, or that it can't be read.
+fn answer_line<W: Write>(
+    alloc: Global,
+    number: u64,
+    line: &[u8],
+    console: &mut Console,
+    out: &mut Vec<u8>,
+    writer: &mut W,
+) -> Result<(), RunFault>
+    ensures ok { OnOk result ((lacks : Bool) × (is_fault line.now ≡ false)
+        × Appends (W.contents writer.old) (W.contents writer.new) (line_text lacks console.old line.now)
+        × (console.new ≡ line_left lacks console.old line.now)) }
+    ensures fault { IfErr result (λ fault. (fault ≡ faults.Script number) ⊎ (fault ≡ faults.Memory) ⊎ (fault ≡ faults.Write)) }
+    ensures told { result ≡ Err (faults.Script number) → (is_fault line.now ≡ true)
+        × Appends (W.contents writer.old) (W.contents writer.new) (fault_line number) }
+    ensures untold { result ≡ Err faults.Memory → writer.new ≡ writer.old }
+{
+    out.clear();
+    match console.answer(alloc, line, out) {
+        Ok(()) => send(out.as_slice(), writer),
+        Err(LineFault::Memory) => Err(RunFault::Memory),
+        Err(LineFault::Script) => Err(tell_fault(number, out, writer)),
+    }
 }
 
 /// Writes the last line of a script that can't be read further, and says what the run ends with.

@@ -1,6 +1,7 @@
 //! The lines of a script, and the words of a line.
 ghost use Rattle.std.specs.Prelude.{◌≡◌, ◌∷◌, [], IfSome, IsNone, Some, None};
 ghost use Rattle.std.specs.Io.BufRead.{strip_last};
+ghost use Rattle.std.specs.Str.{bytes_eq};
 ghost use Rattle.pg_console.specs.Lines.{words_of, is_quiet, only_of};
 ghost use Rattle.pg_console.specs.WordsLeft.{words_left};
 
@@ -22,6 +23,13 @@ pub fn is_quiet(line: &[u8]) -> bool
         Some(first) => *first == b'#',
         None => true,
     }
+}
+
+/// Whether a word is this one.
+pub fn is(word: &[u8], text: &str) -> bool
+    ensures { result ≡ bytes_eq word.now text.now }
+{
+    word == text.as_bytes()
 }
 
 /// The first word, and what stands behind the space after it.
