@@ -1,4 +1,4 @@
-//! Rows that come from another node, counted, and what they change.
+//! Rows that come, counted, and what they change.
 ghost use Rattle.std.specs.Prelude.{◌≡◌, ◌+◌, ◌≤◌, IfOk, OnOk, Bool, [], vec_len, vec_capacity};
 ghost use Rattle.dist_types.specs.declared.row.Row.{Row};
 ghost use Rattle.dist_types.specs.Listing.{Rises, how_many};
