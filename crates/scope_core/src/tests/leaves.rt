@@ -37,7 +37,7 @@ const THIRTY_TWO: &[u8] = b"41648213728641714164821372864171";
 /// Processes 1, 3 and 9 more often than these, 7 and 8 as often, 2, 4 and 6 two times less.
 const THIRTY_FOUR: &[u8] = b"7931817143169842179318171431698421";
 
-/// Lists of as many mentions as are merged, and leave in one pass, with rows before and behind theirs.
+/// A list of 32 mentions of seven processes, and one of 34, which leaves in one pass, with rows before and behind theirs.
 static LONG_LISTS: [Step; 7] = [
     Step(Deed::Local(Local::Join, b"1", b"5"), Ok(1)),
     Step(Deed::Local(Local::Join, b"3", b"2"), Ok(1)),
