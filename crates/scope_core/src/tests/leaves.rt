@@ -48,6 +48,26 @@ static LONG_LISTS: [Step; 7] = [
     Step(Deed::List(Listing::OwnRowCount), Ok(8)),
 ];
 
+/// As many processes as a join merges, with rows before and behind theirs, twice.
+static MERGES: [Step; 8] = [
+    Step(Deed::Local(Local::Join, b"1", b"5"), Ok(1)),
+    Step(Deed::Local(Local::Join, b"3", b"2"), Ok(1)),
+    Step(Deed::Local(Local::Join, b"2", PROCESSES), Ok(32)),
+    Step(Deed::Local(Local::Join, b"2", PROCESSES), Ok(32)),
+    Step(Deed::In(b"2", Members::Count), Ok(64)),
+    Step(Deed::Local(Local::Leave, b"2", PROCESSES), Ok(32)),
+    Step(Deed::Local(Local::Leave, b"2", PROCESSES), Ok(32)),
+    Step(Deed::List(Listing::OwnRows), Ok(15_32)),
+];
+
+/// In no order.
+const PROCESSES: &[u8] = b"vutsrqponmlkjihgf0123456789abcde";
+
+#[test]
+fn merges_many_processes(rt: HostRuntime) -> Result<(), Fail> {
+    take(rt.alloc(), &MERGES)
+}
+
 #[test]
 fn takes_long_lists(rt: HostRuntime) -> Result<(), Fail> {
     take(rt.alloc(), &LONG_LISTS)

@@ -1,7 +1,7 @@
 //! What is done with processes of b@h.
 ghost use Rattle.std.specs.Prelude.{◌≡◌, IfOk, All, codes};
 
-use super::told::{gone, left, moved, number, pids};
+use super::told::{gone, left, moved, pids};
 use super::*;
 
 /// Processes of b@h.
@@ -11,11 +11,11 @@ struct Crowd {
     ghost own: { All (λ pid. pid.node ≡ codes "b@h") list.items },
 }
 
-/// Processes with these digits as their numbers.
+/// Processes with these digits as their numbers; letters stand for further numbers.
 fn crowd_of(alloc: Global, digits: &[u8]) -> Result<Crowd, Fail> {
     let mut list = Vec::new(alloc);
     for digit in digits {
-        list.push(process(alloc, number(&[*digit]))?)?;
+        list.push(process(alloc, u64::from(digit.wrapping_sub(b'0')))?)?;
     }
     Ok(Crowd { list })
 }
