@@ -1,17 +1,18 @@
 -- Ticks and bodies of a stream, and its rest, however it is cut.
-use Rattle.std.proofs.Common.{◌≡◌, ◌≢◌, ℕ, zero, suc, ◌+◌, ◌-◌, ◌<◌, ◌≤◌, ◌^◌, List, [], ◌∷◌, ◌++◌, length, take, drop, filter, replicate, All, Option, Some, None, refl, sym, ap, ◌∙◌, subst, arith, append_assoc, append-nil, length-append}
+use Rattle.std.proofs.Common.{◌≡◌, ◌≢◌, ℕ, zero, suc, ◌+◌, ◌-◌, ◌<◌, ◌≤◌, ◌^◌, List, [], ◌∷◌, ◌++◌, length, take, drop, filter, replicate, All, Option, Some, None, refl, sym, ap, ◌∙◌, subst, arith, inl, inr, append_assoc, append-nil, length-append}
 use Rattle.std.specs.Int.{w32, to_be_bytes, from_be_bytes}
 use Rattle.std.specs.List.{flat_map}
 use Rattle.std.specs.Option.{option_to_list}
 use Rattle.std.proofs.Math.Seq.{take-append-add, take-length}
+use Rattle.std.proofs.lemmas.Bool.{cases_lt}
 use Rattle.std.proofs.lemmas.Grind.{flat_map-append}
 use Rattle.std.proofs.lemmas.Nat.{from_be_bytes-to_be_bytes_4}
-use Rattle.std.proofs.lemmas.List.{take_at, drop_at, take-append-drop}
+use Rattle.std.proofs.lemmas.List.{take_at, drop_at, take-append-drop, length-take, length-drop}
 use Rattle.std.proofs.lemmas.List.Elements.{filter-append, All-append, All-nil, All-cons, All-replicate, All-head, All-tail}
 use Rattle.handshake_frames.specs.Spelling.{counted}
 use Rattle.handshake_frames.specs.Stream.{FitsLength, IsPartial, Splits, Call, stream_of, bodies_of}
 use Rattle.handshake_frames.proofs.StreamLemmas.{Reads, length-counted, ends_behind, IsPartial-empty, one_reading}
-use Rattle.link_frames.specs.Stream.{max_body, ticks, BeginsTooLong, IsRest, EndsBody, IsFed, ComesTooLong, is_body, SplitsLink, AreFed}
+use Rattle.link_frames.specs.Stream.{max_body, ticks, BeginsTooLong, IsRest, EndsBody, IsFed, EndsNone, ComesTooLong, is_body, SplitsLink, AreFed}
 
 pub reads_32 : Reads w32
 reads_32 = record { wide = omega arith; back = from_be_bytes-to_be_bytes_4 }
@@ -96,20 +97,110 @@ tickless_rest rest partial later same = partial [] later (omega arith) same
 too_long_is_tickless : (bytes : List ℕ) → BeginsTooLong bytes → IsTickless bytes
 too_long_is_tickless bytes long later same = tickless_length long.long long.later (omega (arith, long.above)) long.fits later (sym long.begins ∙ same)
 
+-- a length within the limit is none above it
+short_length : (n : ℕ) (xs : List ℕ) → n ≤ max_body → ¬ BeginsTooLong (to_be_bytes w32 n ++ xs)
+short_length n xs fits long = let same : n ≡ long.long = one_length n long.long xs long.later (omega (arith, fits)) long.fits long.begins in omega (arith, fits, long.above)
+
+-- where bytes without a tick or a length above the limit stand behind ticks, none comes
+pub not_too_long : (rest piece bytes : List ℕ) (n : ℕ) → rest ++ piece ≡ ticks n ++ bytes → IsTickless bytes → ¬ BeginsTooLong bytes → ¬ ComesTooLong rest piece
+not_too_long rest piece bytes n split free short long =
+    short (subst BeginsTooLong (sym (behind_ticks n long.skipped bytes long.bytes free (too_long_is_tickless long.bytes long.begins) (sym split ∙ long.behind))) long.begins)
+
 -- where a reader is fed, no length above the limit came before
 pub fed_not_too_long : (rest piece : List ℕ) (used : ℕ) (body : Option (List ℕ)) (new : List ℕ) → IsFed rest piece used body new → ¬ ComesTooLong rest piece
-fed_not_too_long rest piece used (Some body) new fed long =
-    let begins = long.begins in
+fed_not_too_long rest piece used (Some body) new fed =
     let later = drop used piece in
-    let whole : ticks fed.skipped ++ (counted w32 body ++ later) ≡ ticks long.skipped ++ long.bytes =
-    sym (append_assoc (ticks fed.skipped) (counted w32 body) later) ∙ ap (λ xs. xs ++ later) (sym fed.whole) ∙ append_assoc rest (take used piece) later ∙ ap (λ xs. rest ++ xs) (take-append-drop used piece) ∙ long.behind in
-    let free : IsTickless (counted w32 body ++ later) = λ more same. tickless_length (length body) (body ++ later) fed.some (omega (arith, fed.fits)) more (sym (append_assoc (to_be_bytes w32 (length body)) body later) ∙ same) in
-    let same : counted w32 body ++ later ≡ long.bytes = behind_ticks fed.skipped long.skipped _ long.bytes free (too_long_is_tickless long.bytes begins) whole in
-    let lengths : length body ≡ begins.long = one_length (length body) begins.long (body ++ later) begins.later (omega (arith, fed.fits)) begins.fits (sym (append_assoc (to_be_bytes w32 (length body)) body later) ∙ same ∙ begins.begins) in
-    absurd (omega (arith, fed.fits, begins.above))
-fed_not_too_long rest piece used None new fed long =
-    let same : new ≡ long.bytes = behind_ticks fed.skipped long.skipped new long.bytes (tickless_rest new fed.left.partial) (too_long_is_tickless long.bytes long.begins) (sym fed.kept ∙ long.behind) in
-    fed.left.short (subst BeginsTooLong (sym same) long.begins)
+    let split : rest ++ piece ≡ ticks fed.skipped ++ (to_be_bytes w32 (length body) ++ (body ++ later)) =
+    ap (λ xs. rest ++ xs) (sym (take-append-drop used piece)) ∙ sym (append_assoc rest (take used piece) later) ∙ ap (λ xs. xs ++ later) fed.whole ∙ simp append_assoc in
+    not_too_long rest piece _ fed.skipped split (tickless_length (length body) (body ++ later) fed.some (omega (arith, fed.fits))) (short_length (length body) (body ++ later) fed.fits)
+fed_not_too_long rest piece used None new fed = not_too_long rest piece new fed.skipped fed.kept (tickless_rest new fed.left.partial) fed.left.short
+
+-- ---- a body of which some bytes are held
+
+-- the length stands at the front
+abbrev pub BeginsWith : ℕ → List ℕ → Type 0
+BeginsWith n bytes = bytes ≡ to_be_bytes w32 n ++ drop 4 bytes
+
+first_bytes : (n : ℕ) (bytes : List ℕ) → BeginsWith n bytes → 4 + n ≤ length bytes → (length (take n (drop 4 bytes)) ≡ n) × (bytes ≡ counted w32 (take n (drop 4 bytes)) ++ drop n (drop 4 bytes))
+first_bytes n bytes begins whole =
+    let long : length (take n (drop 4 bytes)) ≡ n = length-take n (drop 4 bytes) ∙ omega (arith, length-drop 4 bytes) in
+    (long, begins ∙ ap (λ xs. to_be_bytes w32 n ++ xs) (sym (take-append-drop n (drop 4 bytes))) ∙ rw long (sym (append_assoc (to_be_bytes w32 n) (take n (drop 4 bytes)) (drop n (drop 4 bytes)))))
+
+-- a rest ends before the body that it begins
+pub held_short : (rest piece : List ℕ) (n : ℕ) → IsPartial w32 rest → n ≤ max_body → BeginsWith n (rest ++ piece) → length rest < 4 + n
+held_short rest piece n partial fits begins =
+    elim (cases_lt (length rest) (4 + n)) [
+      | inl short ↦ short
+      | inr long ↦
+          let first = first_bytes n (rest ++ piece) begins (omega (arith, long, length-append rest piece)) in
+          let behind = ends_behind w32 rest piece _ _ partial (omega (arith, first.0, fits)) first.1 in
+          omega (arith, behind, first.0)
+    ]
+
+-- no length above the limit comes where one within it stands
+pub begins_not_too_long : (rest piece : List ℕ) (n : ℕ) → 0 < n → n ≤ max_body → BeginsWith n (rest ++ piece) → ¬ ComesTooLong rest piece
+begins_not_too_long rest piece n some fits begins =
+    not_too_long rest piece _ 0 begins (tickless_length n _ some (omega (arith, fits))) (short_length n _ fits)
+
+-- a length above the limit that stands at the front comes
+pub begins_too_long : (rest piece : List ℕ) (n : ℕ) → max_body < n → n < 2 ^ 32 → BeginsWith n (rest ++ piece) → ComesTooLong rest piece
+begins_too_long rest piece n above fits begins = record {
+  skipped = 0;
+  bytes = rest ++ piece;
+  behind = refl;
+  begins = record { long = n; later = drop 4 (rest ++ piece); above = above; fits = fits; begins = begins };
+}
+
+-- the body ends in the piece
+pub ends_whole : (rest piece : List ℕ) (n : ℕ) → IsPartial w32 rest → 0 < n → n ≤ max_body → BeginsWith n (rest ++ piece) → 4 + n ≤ length rest + length piece
+    → EndsBody rest piece (4 + n - length rest) (drop 4 (rest ++ take (4 + n - length rest) piece)) []
+ends_whole rest piece n partial some fits begins whole =
+    let bytes = rest ++ piece in
+    let first = first_bytes n bytes begins (omega (arith, whole, length-append rest piece)) in
+    let later = drop n (drop 4 bytes) in
+    let ends = gives_body rest piece bytes 0 (take n (drop 4 bytes)) later partial (omega (arith, some, first.0)) (omega (arith, fits, first.0)) refl first.1 in
+    let used : length piece - length later ≡ 4 + n - length rest = omega (arith, length-append rest piece, length-drop n (drop 4 bytes), length-drop 4 bytes) in
+    let front = counted w32 (take n (drop 4 bytes)) in
+    let long : length front ≡ 4 + n = length-counted w32 (take n (drop 4 bytes)) ∙ ap (λ k. 4 + k) first.0 in
+    let at : rest ++ take (length front - length rest) piece ≡ front = ends_at rest piece front later first.1 (omega (arith, long, held_short rest piece n partial fits begins)) in
+    let body : take n (drop 4 bytes) ≡ drop 4 (rest ++ take (4 + n - length rest) piece) = sym (ap (drop 4) at) ∙ ap (λ k. drop 4 (rest ++ take (k - length rest) piece)) long in
+    subst (λ body. EndsBody rest piece (4 + n - length rest) body []) body (subst (λ used. EndsBody rest piece used (take n (drop 4 bytes)) []) used ends)
+
+-- the piece is used up before the body ends
+pub ends_later : (rest piece : List ℕ) (n : ℕ) → n ≤ max_body → BeginsWith n (rest ++ piece) → length rest + length piece < 4 + n → EndsNone rest piece (length piece) (rest ++ piece)
+ends_later rest piece n fits begins short = record {
+  whole = refl;
+  skipped = 0;
+  kept = refl;
+  left = record {
+    partial = λ body later is same.
+        let split : rest ++ piece ≡ to_be_bytes w32 (length body) ++ (body ++ later) = same ∙ append_assoc (to_be_bytes w32 (length body)) body later in
+        let lengths : n ≡ length body = one_length n (length body) _ _ (omega (arith, fits)) is (sym begins ∙ split) in
+        omega (arith, lengths, short, length-append rest piece, ap length split, length-append body later);
+    short = subst (λ xs. ¬ BeginsTooLong xs) (sym begins) (short_length n _ fits);
+  };
+}
+
+-- a tick that ends in the piece, and those behind it
+pub behind_tick : (rest piece left : List ℕ) (n : ℕ) → length rest < 4 → BeginsWith 0 (rest ++ piece) → drop (4 - length rest) piece ≡ ticks n ++ left → rest ++ piece ≡ ticks (suc n) ++ left
+behind_tick rest piece left n short begins split =
+    let k = 4 - length rest in
+    let whole : rest ++ piece ≡ (rest ++ take k piece) ++ drop k piece = ap (λ xs. rest ++ xs) (sym (take-append-drop k piece)) ∙ sym (append_assoc rest (take k piece) (drop k piece)) in
+    let long : length (rest ++ take k piece) ≡ 4 = omega (arith, short, length-append rest (take k piece), length-take k piece, ap length begins, length-append rest piece) in
+    let later : drop 4 (rest ++ piece) ≡ ticks n ++ left = ap (drop 4) whole ∙ drop_at (rest ++ take k piece) (drop k piece) 4 long ∙ split in
+    begins ∙ ap (λ (xs : List ℕ). 0 ∷ 0 ∷ 0 ∷ 0 ∷ xs) later
+
+-- nor is a length whole
+pub ends_in_length : (rest piece : List ℕ) → length rest + length piece < 4 → EndsNone rest piece (length piece) (rest ++ piece)
+ends_in_length rest piece short = record {
+  whole = refl;
+  skipped = 0;
+  kept = refl;
+  left = record {
+    partial = λ body later is same. omega (arith, short, length-append rest piece, ap length same);
+    short = λ long. omega (arith, short, length-append rest piece, ap length long.begins);
+  };
+}
 
 -- ---- a stream
 

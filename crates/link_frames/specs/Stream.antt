@@ -78,7 +78,7 @@ IsTooLong reader piece = (reader.too_long ≡ true) ⊎ ComesTooLong reader.rest
 -- why a piece isn't used, and what is seen of the reader then
 abbrev pub IsFeedFault : FeedFault → Progress → List ℕ → Progress → Type 0
 IsFeedFault faults.TooLong old piece new = IsTooLong old piece × (new ≡ record { rest = old.rest; too_long = true })
-IsFeedFault faults.OutOfMemory old piece new = (old.too_long ≡ false) × (new ≡ old)
+IsFeedFault faults.OutOfMemory old piece new = (old.too_long ≡ false) × (¬ ComesTooLong old.rest piece) × (new ≡ old)
 
 -- ---- a stream
 

@@ -1,6 +1,6 @@
 //! What stands at the front of a stream.
-ghost use Rattle.std.specs.Prelude.{◌≡◌, ◌≢◌, ◌≤◌, ◌<◌, ◌∷◌, ◌++◌, ℕ, List, length, IfOk, IfErr, IfSome, IfNone};
-ghost use Rattle.std.specs.Int.{w32};
+ghost use Rattle.std.specs.Prelude.{◌≡◌, ◌≢◌, ◌≤◌, ◌<◌, ◌+◌, ◌∷◌, ◌++◌, ℕ, List, length, drop, IfOk, IfErr, IfSome, IfNone};
+ghost use Rattle.std.specs.Int.{w32, to_be_bytes};
 ghost use Rattle.handshake_frames.specs.Spelling.{counted};
 ghost use Rattle.link_frames.specs.declared.fault.FeedFault.TheVariants as faults;
 ghost use Rattle.link_frames.specs.Stream.{max_body, ticks, BeginsTooLong, IsRest};
@@ -8,8 +8,26 @@ ghost use Rattle.link_frames.specs.Stream.{max_body, ticks, BeginsTooLong, IsRes
 use crate::fault::FeedFault;
 use dist_types::{bytes_at, u32_at};
 
+/// The bytes of the length before a body.
+pub const LENGTH_LEN: usize = 4;
+
 /// The most bytes of a body.
-const MAX_BODY: u32 = 4_194_304;
+pub const MAX_BODY: u32 = 4_194_304;
+
+/// The length at the front of what is held and the piece behind it, where its bytes are there.
+pub fn length_across(held: &[u8], piece: &[u8]) -> Option<u32>
+    ensures found { IfSome result (λ len. held.now ++ piece.now ≡ to_be_bytes w32 len ++ drop 4 (held.now ++ piece.now)) }
+    ensures short { IfNone result (length held.now + length piece.now < 4) }
+{
+    let mut bytes = held.iter().chain(piece);
+    let front = [
+        *bytes.next()?,
+        *bytes.next()?,
+        *bytes.next()?,
+        *bytes.next()?,
+    ];
+    Some(u32::from_be_bytes(front))
+}
 
 /// What stands behind the ticks at the front.
 pub fn after_ticks(bytes: &[u8]) -> &[u8]
