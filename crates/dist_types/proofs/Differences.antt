@@ -9,7 +9,7 @@ use Rattle.dist_types.specs.Difference.{is_empty, IsDifference, change_unless_em
 
 none_mentioned : (p : Pid) (ps : List Pid) → is_empty ps ≡ true → mentions p ps ≡ 0
 none_mentioned p [] e = refl
-none_mentioned p (q ∷ ps) e = absurd (let f : false ≡ true = e in cc)
+none_mentioned p (q ∷ ps) e = grind arith
 
 -- where the counts differ in one group alone, its change is the difference
 pub one_difference : (before after : List ℕ → Pid → ℕ) (g : List ℕ) (left joined : List Pid) → Ascends pid_cmp left → Ascends pid_cmp joined
@@ -18,20 +18,16 @@ pub one_difference : (before after : List ℕ → Pid → ℕ) (g : List ℕ) (l
     → IsDifference before after (change_unless_empty g left joined)
 one_difference before after g left joined l j less more =
     elim (is_empty left && is_empty joined) as (λ v. (is_empty left && is_empty joined) ≡ v → IsDifference before after (cond v [] (record { group = g; left = left; joined = joined } ∷ []))) [
-      | true ↦ λ e. record {
+      | true ↦ λ e. let none = and_parts (is_empty left) (is_empty joined) e in record {
         groups = tt;
         proper = tt;
-        left = λ h p. sym (less h p ∙ nothing (same g h) (mentions p left) (none_mentioned p left (and_parts (is_empty left) (is_empty joined) e).0));
-        joined = λ h p. sym (more h p ∙ nothing (same g h) (mentions p joined) (none_mentioned p joined (and_parts (is_empty left) (is_empty joined) e).1));
+        left = λ h p. grind (arith, less h p, none_mentioned p left none.0);
+        joined = λ h p. grind (arith, more h p, none_mentioned p joined none.1);
       }
       | false ↦ λ e. record {
         groups = (tt, tt);
         proper = (record { left = l; joined = j; some = e }, tt);
-        left = λ h p. let n = less h p in omega (arith, n);
-        joined = λ h p. let n = more h p in omega (arith, n);
+        left = λ h p. omega (arith, less h p);
+        joined = λ h p. omega (arith, more h p);
       }
     ] refl
-  where
-    nothing : (b : Bool) (n : ℕ) → n ≡ 0 → cond b n 0 ≡ 0
-    nothing true n e = e
-    nothing false n e = refl

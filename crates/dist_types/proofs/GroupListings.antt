@@ -1,6 +1,6 @@
 -- A count has one listing of its groups.
 use Rattle.std.specs.Prelude.{◌≡◌, ℕ, Bool, true, false, List}
-use Rattle.std.proofs.Common.{refl, sym}
+use Rattle.std.proofs.Common.{arith}
 use Rattle.std.proofs.lemmas.Map.Lookups.{exact_bytes}
 use Rattle.dist_types.specs.declared.pid.Pid.{Pid}
 use Rattle.dist_types.specs.Order.{text_cmp}
@@ -8,12 +8,9 @@ use Rattle.dist_types.specs.Listing.{same, is_among, IsGroupListing}
 use Rattle.dist_types.proofs.Orders.{texts_total, same_decides}
 use Rattle.dist_types.proofs.Listings.{same_rising}
 
-both_true : (a b : Bool) → (a ≡ true → b ≡ true) → (b ≡ true → a ≡ true) → a ≡ b
-both_true true b f g = sym (f refl)
-both_true false true f g = g refl
-both_true false false f g = refl
-
 pub one_group_listing : (count : List ℕ → Pid → ℕ) (gs hs : List (List ℕ)) → IsGroupListing count gs → IsGroupListing count hs → gs ≡ hs
 one_group_listing count gs hs a b =
     same_rising text_cmp same texts_total exact_bytes same_decides gs hs a.rises b.rises (λ g.
-    both_true (is_among g gs) (is_among g hs) (λ e. let one = a.found g e in b.only g one.0 one.1) (λ e. let one = b.found g e in a.only g one.0 one.1))
+    let onward : is_among g gs ≡ true → is_among g hs ≡ true = λ e. let one = a.found g e in b.only g one.0 one.1 in
+    let back : is_among g hs ≡ true → is_among g gs ≡ true = λ e. let one = b.found g e in a.only g one.0 one.1 in
+    grind (arith, onward, back))

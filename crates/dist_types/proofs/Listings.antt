@@ -9,6 +9,7 @@ use Rattle.std.specs.Bool.{Decides}
 use Rattle.std.specs.Cmp.{IsTotalOrder}
 use Rattle.std.proofs.lemmas.Bool.{cases_lt}
 use Rattle.std.proofs.lemmas.Cmp.{tied_itself}
+use Rattle.std.proofs.lemmas.List.{length-replicate}
 use Rattle.dist_types.specs.Listing.{total, occurrences, stands_in, Rises, Ascends, spread, placed, ascending, listing, IsListing}
 use Rattle.dist_types.proofs.Totals.{how_many_append, how_many_replicate}
 
@@ -42,70 +43,46 @@ module _ {E A : Type 0} (R : A → A → Ordering) (order : IsTotalOrder R) (key
 pub spread_counts : {E A : Type 0} (alike : A → A → Bool) (key : E → A) (times : E → ℕ) (x : A) (es : List E) → occurrences alike x (spread key times es) ≡ total (λ e. cond (alike (key e) x) (times e) 0) es
 spread_counts alike key times x [] = refl
 spread_counts alike key times x (e ∷ es) =
-    how_many_append (λ y. alike y x) (replicate (times e) (key e)) (spread key times es)
-    ∙ ap (λ n. n + occurrences alike x (spread key times es)) (how_many_replicate (λ y. alike y x) (times e) (key e))
-    ∙ ap (λ n. cond (alike (key e) x) (times e) 0 + n) (spread_counts alike key times x es)
+    grind (arith, how_many_append (λ y. alike y x) (replicate (times e) (key e)) (spread key times es), how_many_replicate (λ y. alike y x) (times e) (key e), spread_counts alike key times x es)
 
 pub length-spread : {E A : Type 0} (key : E → A) (times : E → ℕ) (es : List E) → length (spread key times es) ≡ total times es
 length-spread key times [] = refl
-length-spread {A = A} key times (e ∷ es) =
-    let before = length-spread key times es in
-    let one = length_replicate (times e) (key e) in
-    omega (arith, before, one, length-append (replicate (times e) (key e)) (spread key times es))
-  where
-    length_replicate : (n : ℕ) (x : A) → length (replicate n x) ≡ n
-    length_replicate zero x = refl
-    length_replicate (suc n) x = ap suc (length_replicate n x)
+length-spread key times (e ∷ es) = omega (arith, length-spread key times es, length-replicate (times e) (key e), length-append (replicate (times e) (key e)) (spread key times es))
 
 module _ {A : Type 0} (R : A → A → Ordering) (alike : A → A → Bool) (order : IsTotalOrder R) (exact : (x y : A) → R x y ≡ Equal → x ≡ y) (decides : (x y : A) → Decides (alike x y) (x ≡ y)) where
-  itself : (x : A) → alike x x ≡ true
-  itself x = (decides x x).1 refl
-
   first_counts : (x : A) (xs : List A) → occurrences alike x (x ∷ xs) ≡ suc (occurrences alike x xs)
-  first_counts x xs = ap (λ b. cond b (suc (occurrences alike x xs)) (occurrences alike x xs)) (itself x)
+  first_counts x xs = grind (arith, decides x x)
 
   unlike : (x y : A) → R x y ≡ Less → alike y x ≡ false
-  unlike x y l = elim (alike y x) as (λ b. alike y x ≡ b → b ≡ false) [
-    | true ↦ λ e.
-        let s : y ≡ x = (decides y x).0 e in
-        let f : Equal ≡ Less = sym (tied_itself order x) ∙ ap (R x) (sym s) ∙ l in
-        cc
-    | false ↦ λ e. refl
-  ] refl
+  unlike x y l = grind (arith, decides y x, tied_itself order x)
 
   less_from : (x y z : A) → R x y ≡ Less → is_gt (R y z) ≡ false → R x z ≡ Less
-  less_from x y z l n = elim (R y z) as (λ o. R y z ≡ o → is_gt o ≡ false → R x z ≡ Less) [
-    | Less ↦ λ e _. order.trans x y z l e
-    | Equal ↦ λ e _. ap (R x) (sym (exact y z e)) ∙ l
-    | Greater ↦ λ e f. let g : true ≡ false = f in cc
-  ] refl n
+  less_from x y z l n = grind (arith, order.trans x y z l, exact y z)
 
   absent : (x y : A) (ys : List A) → R x y ≡ Less → AllByRecursion (λ z. is_gt (R y z) ≡ false) ys → occurrences alike x ys ≡ 0
   absent x y [] l b = refl
-  absent x y (z ∷ zs) l b = ap (λ t. cond t (suc (occurrences alike x zs)) (occurrences alike x zs)) (unlike x z (less_from x y z l b.0)) ∙ absent x y zs l b.1
+  absent x y (z ∷ zs) l b = grind (arith, absent x y zs l b.1, unlike x z (less_from x y z l b.0))
 
   -- a list whose first is above x has no x
   absent_below : (x y : A) (ys : List A) → R x y ≡ Less → AllByRecursion (λ z. is_gt (R y z) ≡ false) ys → occurrences alike x (y ∷ ys) ≡ 0
-  absent_below x y ys l b = ap (λ t. cond t (suc (occurrences alike x ys)) (occurrences alike x ys)) (unlike x y l) ∙ absent x y ys l b
+  absent_below x y ys l b = grind (arith, absent x y ys l b, unlike x y l)
 
-  suc_same : (b : Bool) (m n : ℕ) → cond b (suc m) m ≡ cond b (suc n) n → m ≡ n
-  suc_same true m n h = omega (arith, h)
-  suc_same false m n h = h
+  flip : (x y : A) → R x y ≡ Greater → R y x ≡ Less
+  flip x y g = order.antisymm y x ∙ ap ordering_reverse g
 
   -- an ascending list is known by how often each stands in it
   pub same_ascending : (xs ys : List A) → Ascends R xs → Ascends R ys → ((x : A) → occurrences alike x xs ≡ occurrences alike x ys) → xs ≡ ys
   same_ascending [] [] ax ay m = refl
-  same_ascending [] (y ∷ ys) ax ay m = absurd (let e = m y ∙ first_counts y ys in omega (arith, e))
-  same_ascending (x ∷ xs) [] ax ay m = absurd (let e = sym (first_counts x xs) ∙ m x in omega (arith, e))
+  same_ascending [] (y ∷ ys) ax ay m = absurd (omega (arith, m y, first_counts y ys))
+  same_ascending (x ∷ xs) [] ax ay m = absurd (omega (arith, m x, first_counts x xs))
   same_ascending (x ∷ xs) (y ∷ ys) ax ay m =
       elim (R x y) as (λ o. R x y ≡ o → x ∷ xs ≡ y ∷ ys) [
-        | Less ↦ λ e. absurd (let f = sym (first_counts x xs) ∙ m x ∙ absent_below x y ys e ay.0 in omega (arith, f))
-        | Greater ↦ λ e. absurd (let f = sym (first_counts y ys) ∙ sym (m y) ∙ absent_below y x xs (order.antisymm y x ∙ ap ordering_reverse e) ax.0 in omega (arith, f))
+        | Less ↦ λ e. absurd (omega (arith, m x, first_counts x xs, absent_below x y ys e ay.0))
+        | Greater ↦ λ e. absurd (omega (arith, m y, first_counts y ys, absent_below y x xs (flip x y e) ax.0))
         | Equal ↦ λ e.
-            let s : x ≡ y = exact x y e in
-            let tail : xs ≡ ys = same_ascending xs ys ax.1 ay.1 (λ z.
-            suc_same (alike y z) (occurrences alike z xs) (occurrences alike z ys) (ap (λ w. cond (alike w z) (suc (occurrences alike z xs)) (occurrences alike z xs)) (sym s) ∙ m z)) in
-            λ i. s i ∷ tail i
+            let first : x ≡ y = exact x y e in
+            let tail : xs ≡ ys = same_ascending xs ys ax.1 ay.1 (λ z. grind (arith, m z, first)) in
+            λ i. first i ∷ tail i
       ] refl
 
   -- so there is one listing of a count
@@ -116,87 +93,42 @@ module _ {A : Type 0} (R : A → A → Ordering) (alike : A → A → Bool) (ord
   above_trans x y [] l b = tt
   above_trans x y (z ∷ zs) l b = (order.trans x y z l b.0, above_trans x y zs l b.1)
 
-  flip : (x y : A) → R x y ≡ Greater → R y x ≡ Less
-  flip x y g = order.antisymm y x ∙ ap ordering_reverse g
-
   placed_above : (z x : A) (ys : List A) → R z x ≡ Less → AllByRecursion (λ y. R z y ≡ Less) ys → AllByRecursion (λ y. R z y ≡ Less) (placed R x ys)
   placed_above z x [] l b = (l, tt)
-  placed_above z x (y ∷ ys) l b =
-      elim (R x y) as (λ o. AllByRecursion (λ w. R z w ≡ Less) (match_ordering o (x ∷ y ∷ ys) (y ∷ ys) (y ∷ placed R x ys))) [
-        | Less ↦ (l, b)
-        | Equal ↦ b
-        | Greater ↦ (b.0, placed_above z x ys l b.1)
-      ]
+  placed_above z x (y ∷ ys) l b = grind (arith, placed_above z x ys l b.1)
 
   placed_rises : (x : A) (ys : List A) → Rises R ys → Rises R (placed R x ys)
   placed_rises x [] r = (tt, tt)
-  placed_rises x (y ∷ ys) r =
-      elim (R x y) as (λ o. R x y ≡ o → Rises R (match_ordering o (x ∷ y ∷ ys) (y ∷ ys) (y ∷ placed R x ys))) [
-        | Less ↦ λ e. ((e, above_trans x y ys e r.0), r)
-        | Equal ↦ λ e. r
-        | Greater ↦ λ e. (placed_above y x ys (flip x y e) r.0, placed_rises x ys r.1)
-      ] refl
+  placed_rises x (y ∷ ys) r = grind (arith, above_trans x y ys, placed_above y x ys, flip x y, placed_rises x ys r.1)
 
   pub ascending_rises : (xs : List A) → Rises R (ascending R xs)
   ascending_rises [] = tt
   ascending_rises (x ∷ xs) = placed_rises x (ascending R xs) (ascending_rises xs)
 
-  or_same : (a c : Bool) → (a || c) ≡ (a || (a || c))
-  or_same true c = refl
-  or_same false c = refl
-
-  or_swap : (a b c : Bool) → (a || (b || c)) ≡ (b || (a || c))
-  or_swap true true c = refl
-  or_swap true false c = refl
-  or_swap false b c = refl
-
   placed_stands : (q x : A) (ys : List A) → stands_in alike q (placed R x ys) ≡ (alike x q || stands_in alike q ys)
   placed_stands q x [] = refl
-  placed_stands q x (y ∷ ys) =
-      elim (R x y) as (λ o. R x y ≡ o → stands_in alike q (match_ordering o (x ∷ y ∷ ys) (y ∷ ys) (y ∷ placed R x ys)) ≡ (alike x q || stands_in alike q (y ∷ ys))) [
-        | Less ↦ λ e. refl
-        | Equal ↦ λ e. ap (λ w. alike y q || w) refl ∙ or_same (alike y q) (stands_in alike q ys) ∙ ap (λ w. alike w q || stands_in alike q (y ∷ ys)) (sym (exact x y e))
-        | Greater ↦ λ e. ap (λ b. alike y q || b) (placed_stands q x ys) ∙ or_swap (alike y q) (alike x q) (stands_in alike q ys)
-      ] refl
+  placed_stands q x (y ∷ ys) = grind (arith, placed_stands q x ys, exact x y)
 
   pub ascending_stands : (q : A) (xs : List A) → stands_in alike q (ascending R xs) ≡ stands_in alike q xs
   ascending_stands q [] = refl
-  ascending_stands q (x ∷ xs) = placed_stands q x (ascending R xs) ∙ ap (λ b. alike x q || b) (ascending_stands q xs)
+  ascending_stands q (x ∷ xs) = grind (arith, placed_stands q x (ascending R xs), ascending_stands q xs)
 
   none_above : (x q : A) (ys : List A) → alike x q ≡ true → AllByRecursion (λ y. R x y ≡ Less) ys → stands_in alike q ys ≡ false
   none_above x q [] e a = refl
-  none_above x q (y ∷ ys) e a =
-      ap (λ b. b || stands_in alike q ys) (ap (alike y) (sym ((decides x q).0 e)) ∙ unlike x y a.0) ∙ none_above x q ys e a.1
+  none_above x q (y ∷ ys) e a = grind (arith, none_above x q ys e a.1, (decides x q).0 e, unlike x y a.0)
 
   -- over elements that rise, the sum of what one of them has
   pub one_of_many : (value : A → ℕ) (q : A) (xs : List A) → Rises R xs → total (λ x. cond (alike x q) (value x) 0) xs ≡ cond (stands_in alike q xs) (value q) 0
   one_of_many value q [] r = refl
   one_of_many value q (x ∷ xs) r =
-      let rest = one_of_many value q xs r.1 in
-      elim (alike x q) as (λ v. alike x q ≡ v → cond v (value x) 0 + total (λ y. cond (alike y q) (value y) 0) xs ≡ cond (v || stands_in alike q xs) (value q) 0) [
-        | true ↦ λ e.
-            let none = rest ∙ ap (λ b. cond b (value q) 0) (none_above x q xs e r.0) in
-            let s = ap value ((decides x q).0 e) in
-            omega (arith, none, s)
-        | false ↦ λ e. omega (arith, rest)
-      ] refl
-
-  uncounted : (b : Bool) (n : ℕ) → (0 < n → b ≡ true) → cond b n 0 ≡ n
-  uncounted true n h = refl
-  uncounted false n h = elim (cases_lt 0 n) [
-    | inl l ↦ absurd (let x : false ≡ true = h l in cc)
-    | inr l ↦ omega (arith, l)
-  ]
+      let none : alike x q ≡ true → stands_in alike q xs ≡ false = λ e. none_above x q xs e r.0 in
+      grind (arith, one_of_many value q xs r.1, none, (decides x q).0)
 
   -- the listing is one, where all that are counted are named
   pub listing_counts : (count : A → ℕ) (named : List A) → ((x : A) → 0 < count x → stands_in alike x named ≡ true) → IsListing R alike count (listing R count named)
   listing_counts count named h = record {
     ascends = spread_ascends R order (λ x. x) count (ascending R named) (ascending_rises named);
-    counts = λ x.
-        spread_counts alike (λ y. y) count x (ascending R named)
-        ∙ one_of_many count x (ascending R named) (ascending_rises named)
-        ∙ ap (λ b. cond b (count x) 0) (ascending_stands x named)
-        ∙ uncounted (stands_in alike x named) (count x) (h x);
+    counts = λ x. grind (arith, spread_counts alike (λ y. y) count x (ascending R named), one_of_many count x (ascending R named) (ascending_rises named), ascending_stands x named, h x);
   }
 
   -- a listing is what the count makes of all that may be in it
@@ -218,11 +150,8 @@ module _ {A : Type 0} (R : A → A → Ordering) (alike : A → A → Bool) (ord
       counted : (q : A) (zs : List A) → Rises R zs → occurrences alike q zs ≡ cond (stands_in alike q zs) 1 0
       counted q [] r = refl
       counted q (z ∷ zs) r =
-          let rest = counted q zs r.1 in
-          elim (alike z q) as (λ v. alike z q ≡ v → cond v (suc (occurrences alike q zs)) (occurrences alike q zs) ≡ cond (v || stands_in alike q zs) 1 0) [
-            | true ↦ λ e. let none = rest ∙ ap (λ b. cond b 1 0) (none_above z q zs e r.0) in omega (arith, none)
-            | false ↦ λ e. rest
-          ] refl
+          let none : alike z q ≡ true → stands_in alike q zs ≡ false = λ e. none_above z q zs e r.0 in
+          grind (arith, counted q zs r.1, none)
 
 module _ {A : Type 0} (alike : A → A → Bool) (decides : (x y : A) → Decides (alike x y) (x ≡ y)) where
   -- the list without the first x
@@ -232,47 +161,19 @@ module _ {A : Type 0} (alike : A → A → Bool) (decides : (x y : A) → Decide
 
   length-without : (x : A) (ys : List A) → 0 < occurrences alike x ys → length ys ≡ suc (length (without x ys))
   length-without x [] l = absurd (omega (arith, l))
-  length-without x (y ∷ ys) l =
-      elim (alike y x) as (λ v. 0 < cond v (suc (occurrences alike x ys)) (occurrences alike x ys) → suc (length ys) ≡ suc (length (cond v ys (y ∷ without x ys)))) [
-        | true ↦ λ m. refl
-        | false ↦ λ m. ap suc (length-without x ys m)
-      ] l
+  length-without x (y ∷ ys) l = grind (arith, length-without x ys)
 
   occurrences-without : (x q : A) (ys : List A) → 0 < occurrences alike x ys → occurrences alike q ys ≡ cond (alike x q) 1 0 + occurrences alike q (without x ys)
   occurrences-without x q [] l = absurd (omega (arith, l))
-  occurrences-without x q (y ∷ ys) l =
-      elim (alike y x) as (λ v. alike y x ≡ v → 0 < cond v (suc (occurrences alike x ys)) (occurrences alike x ys) → occurrences alike q (y ∷ ys) ≡ cond (alike x q) 1 0 + occurrences alike q (cond v ys (y ∷ without x ys))) [
-        | true ↦ λ e m.
-            ap (λ z. cond (alike z q) (suc (occurrences alike q ys)) (occurrences alike q ys)) ((decides y x).0 e)
-            ∙ elim (alike x q) as (λ v. cond v (suc (occurrences alike q ys)) (occurrences alike q ys) ≡ cond v 1 0 + occurrences alike q ys) [ true ↦ omega arith | false ↦ omega arith ]
-        | false ↦ λ e m.
-            let rest = occurrences-without x q ys m in
-            elim (alike y q) as (λ v. cond v (suc (occurrences alike q ys)) (occurrences alike q ys) ≡ cond (alike x q) 1 0 + cond v (suc (occurrences alike q (without x ys))) (occurrences alike q (without x ys))) [ true ↦ omega (arith, rest) | false ↦ rest ]
-      ] refl l
-
-  first_of : (x : A) (xs : List A) → occurrences alike x (x ∷ xs) ≡ suc (occurrences alike x xs)
-  first_of x xs = ap (λ b. cond b (suc (occurrences alike x xs)) (occurrences alike x xs)) ((decides x x).1 refl)
+  occurrences-without x q (y ∷ ys) l = grind (arith, occurrences-without x q ys, (decides y x).0)
 
   -- a list in which none stands more often than in another is no longer
   pub fewer_length : (xs ys : List A) → ((q : A) → occurrences alike q xs ≤ occurrences alike q ys) → length xs ≤ length ys
   fewer_length [] ys m = omega arith
   fewer_length (x ∷ xs) ys m =
-      let e = m x in
-      let f = first_of x xs in
-      let l : 0 < occurrences alike x ys = omega (arith, e, f) in
-      let rest = fewer_length xs (without x ys) (λ q.
-      let a = m q in
-      let b = occurrences-without x q ys l in
-      elim (alike x q) as (λ v. cond v (suc (occurrences alike q xs)) (occurrences alike q xs) ≤ occurrences alike q ys → occurrences alike q ys ≡ cond v 1 0 + occurrences alike q (without x ys) → occurrences alike q xs ≤ occurrences alike q (without x ys)) [
-        | true ↦ λ c d. omega (arith, c, d)
-        | false ↦ λ c d. omega (arith, c, d)
-      ] a b) in
-      let n = length-without x ys l in
-      omega (arith, rest, n)
+      let some : 0 < occurrences alike x ys = grind (arith, m x, decides x x) in
+      omega (arith, length-without x ys some, fewer_length xs (without x ys) (λ q. grind (arith, m q, occurrences-without x q ys some)))
 
   -- lists in which each stands as often are of one length
   pub same_length : (xs ys : List A) → ((q : A) → occurrences alike q xs ≡ occurrences alike q ys) → length xs ≡ length ys
-  same_length xs ys m =
-      let a = fewer_length xs ys (λ q. let e = m q in omega (arith, e)) in
-      let b = fewer_length ys xs (λ q. let e = m q in omega (arith, e)) in
-      omega (arith, a, b)
+  same_length xs ys m = omega (arith, fewer_length xs ys (λ q. omega (arith, m q)), fewer_length ys xs (λ q. omega (arith, m q)))

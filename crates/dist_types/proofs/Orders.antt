@@ -1,6 +1,6 @@
 -- The orders are total and exact, and the tests of sameness decide equality.
 use Rattle.std.specs.Prelude.{◌≡◌, ℕ, ◌&&◌, ◌==◌, nat_eq, List}
-use Rattle.std.proofs.Common.{refl, ap, ◌∙◌, sym}
+use Rattle.std.proofs.Common.{refl, ap, ◌∙◌, arith}
 use Rattle.std.specs.declared.cmp.Ordering.TheVariants.{Equal}
 use Rattle.std.specs.Ordering.{nat_cmp, ordering_then}
 use Rattle.std.specs.Cmp.{IsTotalOrder}
@@ -38,35 +38,19 @@ pub same_decides : (a b : List ℕ) → Decides (same a b) (a ≡ b)
 same_decides a b = slice_eq-Decides {E = nat_eq} Decides-eqb a b (same a b) refl
 
 pub same_sym : (a b : List ℕ) → same a b ≡ same b a
-same_sym a b = same_from_decides (same a b) (same b a) (same_decides a b) ((λ h. sym ((same_decides b a).0 h)), (λ h. (same_decides b a).1 (sym h)))
+same_sym a b = grind (arith, same_decides a b, same_decides b a)
 
 pub same_pid_decides : (p q : Pid) → Decides (same_pid p q) (p ≡ q)
 same_pid_decides p q = (
-  (λ h.
-      let t = and_parts (same p.node q.node) (p.creation == q.creation && p.number == q.number) h in
-      let u = and_parts (p.creation == q.creation) (p.number == q.number) t.1 in
-      let a = (same_decides p.node q.node).0 t.0 in
-      let b = (Decides-eqb p.creation q.creation).0 u.0 in
-      let c = (Decides-eqb p.number q.number).0 u.1 in
-      λ i. record { node = a i; creation = b i; number = c i }),
-  (λ h.
-      let a = (same_decides p.node q.node).1 (ap (λ r. r.node) h) in
-      let b = (Decides-eqb p.creation q.creation).1 (ap (λ r. r.creation) h) in
-      let c = (Decides-eqb p.number q.number).1 (ap (λ r. r.number) h) in
-      ap (λ x. x && (p.creation == q.creation && p.number == q.number)) a ∙ ap (λ x. x && p.number == q.number) b ∙ c),
+  (λ h. let t = and_parts _ _ h in let u = and_parts _ _ t.1 in
+      λ i. record { node = (same_decides p.node q.node).0 t.0 i; creation = (Decides-eqb p.creation q.creation).0 u.0 i; number = (Decides-eqb p.number q.number).0 u.1 i }),
+  (λ h. grind (arith, h, same_decides p.node q.node, Decides-eqb p.creation q.creation, Decides-eqb p.number q.number)),
 )
 
 pub same_row_decides : (r s : Row) → Decides (same_row r s) (r ≡ s)
 same_row_decides r s = (
-  (λ h.
-      let t = and_parts (same r.group s.group) (same_pid r.pid s.pid) h in
-      let a = (same_decides r.group s.group).0 t.0 in
-      let b = (same_pid_decides r.pid s.pid).0 t.1 in
-      λ i. record { group = a i; pid = b i }),
-  (λ h.
-      let a = (same_decides r.group s.group).1 (ap (λ x. x.group) h) in
-      let b = (same_pid_decides r.pid s.pid).1 (ap (λ x. x.pid) h) in
-      ap (λ x. x && same_pid r.pid s.pid) a ∙ b),
+  (λ h. let t = and_parts _ _ h in λ i. record { group = (same_decides r.group s.group).0 t.0 i; pid = (same_pid_decides r.pid s.pid).0 t.1 i }),
+  (λ h. grind (arith, h, same_decides r.group s.group, same_pid_decides r.pid s.pid)),
 )
 
 -- rows of one group compare as their processes

@@ -16,9 +16,7 @@ all_from P [] a = tt
 all_from P (x ∷ xs) a = (a 0 x (omega arith) (omega arith), all_from P xs (λ k d l h. a (suc k) d (omega arith) (omega (arith, h))))
 
 reversed : (o : Ordering) → is_gt (ordering_reverse o) ≡ is_lt o
-reversed Less = refl
-reversed Equal = refl
-reversed Greater = refl
+reversed o = grind arith
 
 ascends_from : {A : Type 0} (R : A → A → Ordering) (xs : List A) → ((i j : ℕ) (d : A) → i ≤ j → j < length xs → is_gt (R (get_or xs i d) (get_or xs j d)) ≡ false) → Ascends R xs
 ascends_from R [] f = tt

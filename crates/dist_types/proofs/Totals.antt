@@ -9,36 +9,21 @@ pub total_is : {A : Type 0} (f : A → ℕ) (xs : List A) → total f xs ≡ sum
 total_is f xs = is_sum_by (total f) f refl (λ _ _. refl) xs
 
 pub how_many_is : {A : Type 0} (p : A → Bool) (xs : List A) → how_many p xs ≡ count_by p xs
-how_many_is p xs = is_count_by (how_many p) p refl (λ x ys. elim (p x) as (λ b. cond b (suc (how_many p ys)) (how_many p ys) ≡ cond b (1 + how_many p ys) (how_many p ys)) [ true ↦ omega arith | false ↦ refl ]) xs
+how_many_is p xs = is_count_by (how_many p) p refl (λ x ys. grind arith) xs
 
 pub how_many_append : {A : Type 0} (p : A → Bool) (xs ys : List A) → how_many p (xs ++ ys) ≡ how_many p xs + how_many p ys
 how_many_append p [] ys = omega arith
-how_many_append p (x ∷ xs) ys = elim (p x) as (λ b. cond b (suc (how_many p (xs ++ ys))) (how_many p (xs ++ ys)) ≡ cond b (suc (how_many p xs)) (how_many p xs) + how_many p ys) [
-  | true ↦ let e = how_many_append p xs ys in omega (arith, e)
-  | false ↦ how_many_append p xs ys
-]
+how_many_append p (x ∷ xs) ys = grind (arith, how_many_append p xs ys)
 
 pub how_many_replicate : {A : Type 0} (p : A → Bool) (n : ℕ) (x : A) → how_many p (replicate n x) ≡ cond (p x) n 0
-how_many_replicate p zero x = elim (p x) as (λ b. how_many p [] ≡ cond b 0 0) [ true ↦ refl | false ↦ refl ]
-how_many_replicate p (suc n) x =
-    let before = how_many_replicate p n x in
-    elim (p x) as (λ b. how_many p (replicate n x) ≡ cond b n 0 → cond b (suc (how_many p (replicate n x))) (how_many p (replicate n x)) ≡ cond b (suc n) 0) [
-      | true ↦ λ e. ap suc e
-      | false ↦ λ e. e
-    ] before
+how_many_replicate p zero x = grind arith
+how_many_replicate p (suc n) x = grind (arith, how_many_replicate p n x)
 
 pub how_many_le : {A : Type 0} (p : A → Bool) (xs : List A) → how_many p xs ≤ length xs
 how_many_le p [] = omega arith
-how_many_le p (x ∷ xs) =
-    let before = how_many_le p xs in
-    elim (p x) as (λ b. cond b (suc (how_many p xs)) (how_many p xs) ≤ length (x ∷ xs)) [ true ↦ omega (arith, before) | false ↦ omega (arith, before) ]
+how_many_le p (x ∷ xs) = grind (arith, how_many_le p xs)
 
 -- what is filtered away adds nothing
 pub total_filter : {A : Type 0} (p test : A → Bool) (f : A → ℕ) (xs : List A) → total (λ x. cond (test x) (f x) 0) (filter p xs) ≡ total (λ x. cond (p x && test x) (f x) 0) xs
 total_filter p test f [] = refl
-total_filter p test f (x ∷ xs) =
-    let before = total_filter p test f xs in
-    elim (p x) as (λ b. total (λ y. cond (test y) (f y) 0) (cond b (x ∷ filter p xs) (filter p xs)) ≡ cond (b && test x) (f x) 0 + total (λ y. cond (p y && test y) (f y) 0) xs) [
-      | true ↦ ap (λ n. cond (test x) (f x) 0 + n) before
-      | false ↦ omega (arith, before)
-    ]
+total_filter p test f (x ∷ xs) = grind (arith, total_filter p test f xs)

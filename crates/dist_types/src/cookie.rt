@@ -34,6 +34,7 @@ impl Cookie {
         Ok(Cookie { text })
     }
 
+    /// The bytes of the secret.
     pub fn as_bytes(&self) -> &[u8]
         ensures value { result.now ≡ self.now }
         ensures limits { IsText self.now }

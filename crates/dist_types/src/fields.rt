@@ -2,6 +2,8 @@
 ghost use Rattle.std.specs.Prelude.{◌≡◌, ◌<◌, ◌^◌, ◌∷◌, ◌++◌, length, ℕ, List, IfSome, IsSomeAnd};
 ghost use Rattle.std.specs.Int.{w16, w32, w64, to_be_bytes};
 
+/// The number in the first 2 bytes, the highest first, and what stands behind them; none where fewer stand there.
+/// Lengths of frames and of names are written so (Distribution Protocol, Distribution Handshake).
 pub fn u16_at(bytes: &[u8]) -> Option<(u16, &[u8])>
     ensures found { IfSome result (λ read. bytes.now ≡ to_be_bytes w16 read.0 ++ read.1.now) }
     ensures only { (n : ℕ) (rest : List ℕ) → n < 2 ^ 16 → bytes.now ≡ to_be_bytes w16 n ++ rest →
@@ -11,6 +13,8 @@ pub fn u16_at(bytes: &[u8]) -> Option<(u16, &[u8])>
     Some((u16::from_be_bytes(*front), rest))
 }
 
+/// The number in the first 4 bytes, the highest first, and what stands behind them; none where fewer stand there.
+/// Creations and challenges are written so.
 pub fn u32_at(bytes: &[u8]) -> Option<(u32, &[u8])>
     ensures found { IfSome result (λ read. bytes.now ≡ to_be_bytes w32 read.0 ++ read.1.now) }
     ensures only { (n : ℕ) (rest : List ℕ) → n < 2 ^ 32 → bytes.now ≡ to_be_bytes w32 n ++ rest →
@@ -20,6 +24,8 @@ pub fn u32_at(bytes: &[u8]) -> Option<(u32, &[u8])>
     Some((u32::from_be_bytes(*front), rest))
 }
 
+/// The number in the first 8 bytes, the highest first, and what stands behind them; none where fewer stand there.
+/// Flags are written so.
 pub fn u64_at(bytes: &[u8]) -> Option<(u64, &[u8])>
     ensures found { IfSome result (λ read. bytes.now ≡ to_be_bytes w64 read.0 ++ read.1.now) }
     ensures only { (n : ℕ) (rest : List ℕ) → n < 2 ^ 64 → bytes.now ≡ to_be_bytes w64 n ++ rest →

@@ -42,6 +42,7 @@ impl NodeName {
         Ok(NodeName { text })
     }
 
+    /// The bytes of the name, as they were read, without an end mark.
     pub fn as_bytes(&self) -> &[u8]
         ensures value { result.now ≡ self.now }
         ensures limits { IsNodeName self.now }

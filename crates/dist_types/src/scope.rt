@@ -33,6 +33,7 @@ impl Scope {
         Ok(Scope { text })
     }
 
+    /// The bytes of the name, as they were read.
     pub fn as_bytes(&self) -> &[u8]
         ensures value { result.now ≡ self.now }
         ensures limits { IsText self.now }

@@ -25,6 +25,7 @@ impl<T> Model for Shared<T> {
 }
 
 impl<T> Shared<T> {
+    /// The elements, in their order.
     pub fn as_slice(&self) -> &[T]
         ensures { result.now ≡ self.now }
     {
@@ -33,6 +34,8 @@ impl<T> Shared<T> {
 }
 
 impl<T: Drop> Shared<T> {
+    /// The list of these elements, in their order. It takes memory for the count of the copies; where there is none, the
+    /// elements are dropped.
     pub fn of(items: Vec<T>) -> Result<Shared<T>, OutOfMemory>
         ensures { IfOk result (λ list. list ≡ items.items) }
     {

@@ -35,6 +35,7 @@ impl Model for Text {
 impl Text {
     pub const MAX_LEN: usize = 255;
 
+    /// Copies 1 to 255 bytes of 0x21 to 0x7E, or answers the first of `Empty`, `TooLong`, `BadByte` and `OutOfMemory`.
     pub fn parse(alloc: Global, bytes: &[u8]) -> Result<Text, TextFault>
         ensures ok { IfOk result (λ text. (text ≡ bytes.now) × IsText bytes.now) }
         ensures refused { IfErr result (λ fault. IsTextFault fault bytes.now) }
@@ -43,6 +44,7 @@ impl Text {
         Ok(Text::copied(alloc, bytes)?)
     }
 
+    /// Copies bytes that are known to be within the limits.
     pub fn copied(alloc: Global, bytes: &[u8]) -> Result<Text, OutOfMemory>
         requires { IsText bytes.now }
         ensures { IfOk result (λ text. text ≡ bytes.now) }
@@ -51,6 +53,7 @@ impl Text {
         Ok(Text { bytes })
     }
 
+    /// The bytes, as they were read.
     pub fn as_bytes(&self) -> &[u8]
         ensures value { result.now ≡ self.now }
         ensures limits { IsText self.now }

@@ -47,6 +47,7 @@ impl AwaitAnswer {
         AwaitAnswer { peer, challenge }
     }
 
+    /// The name that the dialler gave.
     pub fn peer(&self) -> &NodeName
         ensures { result.now ≡ self.now.peer }
     {

@@ -47,6 +47,7 @@ impl AwaitChallenge {
         AwaitChallenge { peer, challenge }
     }
 
+    /// The name that was dialled.
     pub fn peer(&self) -> &NodeName
         ensures { result.now ≡ self.now.peer }
     {

@@ -50,6 +50,7 @@ pub enum Named {
 }
 
 impl AwaitName {
+    /// The acceptor's first state, before any frame. The challenge is the number that it will send.
     pub fn new(challenge: Challenge) -> AwaitName
         ensures { result ≡ challenge }
     {

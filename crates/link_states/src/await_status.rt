@@ -55,6 +55,7 @@ impl AwaitStatus {
         }
     }
 
+    /// The name that was dialled.
     pub fn peer(&self) -> &NodeName
         ensures { result.now ≡ self.now.peer }
     {

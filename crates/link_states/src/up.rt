@@ -33,18 +33,21 @@ impl Up {
         Up { peer, proof }
     }
 
+    /// The node at the other end.
     pub fn peer(&self) -> &NodeName
         ensures { result.now ≡ self.now.peer }
     {
         &self.peer.name
     }
 
+    /// The creation that the peer sent, which tells this run of it from others of its name.
     pub fn creation(&self) -> u32
         ensures { result ≡ self.now.creation }
     {
         self.peer.creation
     }
 
+    /// Whether the peer published itself: a hidden one did not.
     pub fn visible(&self) -> bool
         ensures { result ≡ self.now.visible }
     {
