@@ -32,3 +32,4 @@ pub mod HeardNow
 pub mod HeardSaid
 pub mod Refusals
 pub mod ScopeFrames
+pub mod Untouched

@@ -8,9 +8,15 @@ use Rattle.link_frames.specs.declared.message.Message.TheVariants as said
 use Rattle.policy_audit.specs.declared.event.Event.{Event}
 use Rattle.policy_audit.specs.declared.event.Event.TheVariants as event
 use Rattle.policy_audit.specs.declared.entry.Entry.{Entry}
-use Rattle.policy_audit.specs.History.{History, is_accepted}
+use Rattle.policy_audit.specs.History.{History, is_accepted, creation}
+use Rattle.policy_audit.specs.Admission.{cookie, allow_list}
+use Rattle.policy_audit.specs.Own.{running_scopes, spawned, living, lives, own}
 use Rattle.policy_audit.specs.Sides.{present_link, opened, taken, given, peer_of, is_peer, AwaitMessage, awaits, is_whole}
-use Rattle.policy_audit.specs.Hearing.{message_taken, talk}
+use Rattle.policy_audit.specs.Links.{links, is_open, is_up}
+use Rattle.policy_audit.specs.Hearing.{message_taken, talk, heard, told}
+use Rattle.policy_audit.specs.Listed.{listed}
+use Rattle.policy_audit.specs.Owed.{waiting}
+use Rattle.policy_audit.specs.Monitors.{monitor, updates}
 use Rattle.policy_audit.specs.Policy.{IsAnswered, IsLegal}
 
 -- cookies, the allow list, new processes, queries, monitors and taken frames concern no row
@@ -86,3 +92,30 @@ pub record IsMessage (h : History) (e : Entry) (l : ℕ) (n : List ℕ) (m : Mes
   pub awaited : awaits l h.entries ≡ AwaitMessage
   pub peer : peer_of l h.entries ≡ Some n
   pub says : message_taken body ≡ Some m
+
+-- all is in k as in h: creation, cookies, allow list, scopes, processes, rows, monitors with what they have still to tell, which
+-- links are up, and what was said of each
+pub record IsUntouched (h k : History) : Type 0 where
+  pub opening : k.opening ≡ h.opening
+  pub creation : creation k ≡ creation h
+  pub cookies : (n : List ℕ) → cookie k n ≡ cookie h n
+  pub allow_list : allow_list k ≡ allow_list h
+  pub scopes : running_scopes k ≡ running_scopes h
+  pub spawned : spawned k ≡ spawned h
+  pub living : living k ≡ living h
+  pub lives : (p : Pid) → lives k p ≡ lives h p
+  pub links : links k.entries ≡ links h.entries
+  pub same_link : (l : ℕ) → IsSameLink l h.entries k.entries
+  pub up : (l : ℕ) → is_up l k.entries ≡ is_up l h.entries
+  pub present : (n : List ℕ) → present_link n k.entries ≡ present_link n h.entries
+  pub heard : (l : ℕ) (s : List ℕ) → heard l s k.entries ≡ heard l s h.entries
+  pub told : (l : ℕ) (s : List ℕ) → told l s k.entries ≡ told l s h.entries
+  pub own : (s g : List ℕ) (p : Pid) → own k s g p ≡ own h s g p
+  pub listed : (s g : List ℕ) (p : Pid) → listed k s g p ≡ listed h s g p
+  pub monitors : (seat n : ℕ) → monitor k seat n ≡ monitor h seat n
+  pub updates : (seat n : ℕ) → updates k seat n ≡ updates h seat n
+
+-- link l is open in k as in h, and the same frames wait for it
+pub record IsAsOpen (l : ℕ) (h k : History) : Type 0 where
+  pub is_open : is_open l k.entries ≡ is_open l h.entries
+  pub waiting : waiting k l ≡ waiting h l

@@ -1,5 +1,5 @@
 -- A list of calls, played on the policy, and what can be seen of a history.
-use Rattle.std.specs.Prelude.{ℕ, Bool, cond, List, [], ◌∷◌, Option}
+use Rattle.std.specs.Prelude.{ℕ, Bool, List, [], ◌∷◌, Option}
 use Rattle.std.specs.List.{filter}
 use Rattle.policy_audit.specs.declared.event.Event.{Event}
 use Rattle.policy_audit.specs.declared.entry.Verdict.{Verdict}
@@ -10,26 +10,22 @@ use Rattle.policy_audit.specs.Sides.{peer_of, is_visible, Awaited, awaits}
 use Rattle.policy_audit.specs.Links.{is_open, is_up}
 use Rattle.policy_audit.specs.Hearing.{heard, told}
 use Rattle.policy_audit.specs.Owed.{waiting, is_kept}
-use Rattle.policy_audit.specs.Policy.{is_full, verdict, with_entry, entry_of}
+use Rattle.policy_audit.specs.Policy.{verdict, after}
 
 -- an event that a seat asks for
 pub record Call : Type 0 where
   pub seat : ℕ
   pub event : Event
 
--- the history after a call: one entry more, unless the audit is full
-abbrev pub after : History → Call → History
-after h c = cond (is_full h) h (with_entry h (entry_of h c.seat c.event))
-
 -- the history after a list of calls
 abbrev pub play : History → List Call → History
 play h [] = h
-play h (c ∷ cs) = play (after h c) cs
+play h (c ∷ cs) = play (after h c.seat c.event) cs
 
 -- the verdicts on a list of calls
 abbrev pub verdicts : History → List Call → List Verdict
 verdicts h [] = []
-verdicts h (c ∷ cs) = verdict h c.seat c.event ∷ verdicts (after h c) cs
+verdicts h (c ∷ cs) = verdict h c.seat c.event ∷ verdicts (after h c.seat c.event) cs
 
 -- what can be seen of a link
 pub record Shown : Type 0 where

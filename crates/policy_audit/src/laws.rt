@@ -1,5 +1,5 @@
 //! Laws of the written policy. Each function does nothing; its contract is the law.
-ghost use Rattle.std.specs.Prelude.{◌≡◌, ◌↔◌, ℕ, ◌+◌, ◌-◌, ◌==◌, ◌&&◌, not, Bool, true, false, cond, List, [], ◌∷◌, Some, IsTrue};
+ghost use Rattle.std.specs.Prelude.{◌≡◌, ◌↔◌, ℕ, ◌+◌, ◌-◌, ◌==◌, ◌&&◌, not, Bool, true, false, cond, List, [], ◌∷◌, Some, None, IsTrue};
 ghost use Rattle.dist_types.specs.declared.pid.Pid.{Pid};
 ghost use Rattle.dist_types.specs.declared.row.Row.{Row};
 ghost use Rattle.dist_types.specs.Listing.{same, same_pid, mentions, IsPidListing, IsRowListing, IsGroupListing};
@@ -13,13 +13,13 @@ ghost use Rattle.policy_audit.specs.declared.entry.Verdict.{Verdict};
 ghost use Rattle.policy_audit.specs.declared.entry.Entry.{Entry};
 ghost use Rattle.policy_audit.specs.History.{History, is_accepted};
 ghost use Rattle.policy_audit.specs.Own.{is_running, own};
-ghost use Rattle.policy_audit.specs.Sides.{present_link, peer_of, given, is_visible, awaits, is_whole, is_last};
+ghost use Rattle.policy_audit.specs.Sides.{present_link, frame_of, peer_of, given, is_visible, awaits, is_whole, is_last};
 ghost use Rattle.policy_audit.specs.Links.{is_open, is_up};
 ghost use Rattle.policy_audit.specs.Hearing.{rows_of};
 ghost use Rattle.policy_audit.specs.Listed.{listed};
 ghost use Rattle.policy_audit.specs.Contents.{members, local_members, groups, local_groups, local_rows};
 ghost use Rattle.policy_audit.specs.Changes.{IsChange, change};
-ghost use Rattle.policy_audit.specs.Effects.{leaves_rows, may_change, IsSameLink, IsAccepted, IsMessage};
+ghost use Rattle.policy_audit.specs.Effects.{leaves_rows, may_change, IsSameLink, IsAccepted, IsMessage, IsUntouched, IsAsOpen};
 ghost use Rattle.policy_audit.specs.Stages.{stages, is_up_at, name_up};
 ghost use Rattle.policy_audit.specs.Admitted.{IsAdmitted};
 ghost use Rattle.policy_audit.specs.Policy.{is_full, with_entry, entry_of, IsNext, IsLegal};
@@ -72,6 +72,13 @@ pub fn left_alone()
     ensures no_change { (h : History) (e : Entry) → IsTrue (leaves_rows e) → IsChange h (with_entry h e) [] }
     ensures within { (h : History) (e : Entry) → IsLegal (with_entry h e) → (s g : List ℕ) (p : Pid) → may_change h.entries e s g p ≡ false → listed (with_entry h e) s g p ≡ listed h s g p }
     ensures links { (es : List Entry) (e : Entry) (k l : ℕ) (body : List ℕ) → e.event ≡ events.Frame k body → (k == l) ≡ false → IsSameLink l es (e ∷ es) }
+{}
+
+/// A refused entry leaves all as it was: rows, processes, up links, cookies, allow list, scopes and monitors with their places.
+/// And unless it is of a frame of that link, a link is open as before, and the same frames wait for it.
+pub fn refusal_leaves()
+    ensures all { (h : History) (e : Entry) → IsNext h e → is_accepted e.verdict ≡ false → IsUntouched h (with_entry h e) }
+    ensures links { (h : History) (e : Entry) (l : ℕ) → is_accepted e.verdict ≡ false → frame_of l h.entries e.event ≡ None → IsAsOpen l h (with_entry h e) }
 {}
 
 /// How often the own processes are joined after an accepted Join, Leave and Exit.

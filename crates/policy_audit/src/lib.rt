@@ -19,7 +19,7 @@ pub use entry::{Entry, Verdict};
 pub use event::{Event, NodeNames};
 pub use laws::{
     admitted, equal_values, goes_on, left_alone, lists_ascend, one_link_up, own_counts,
-    up_by_events,
+    refusal_leaves, rows_after, rows_after_messages, up_by_events,
 };
 pub use opening::Opening;
 pub use out_frame::{OutFrame, OutFrames};

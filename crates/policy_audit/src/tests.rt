@@ -326,3 +326,26 @@ fn group_change(alloc: Global) -> Result<GroupChange, Fail> {
         joined: process(alloc)?,
     })
 }
+
+#[test]
+fn copies_an_accepted_verdict(rt: HostRuntime) -> Result<(), Fail> {
+    copies_verdict(rt.alloc(), Verdict::Accepted(scope_ref(rt.alloc())?))
+}
+
+#[test]
+fn copies_a_refusal(rt: HostRuntime) -> Result<(), Fail> {
+    copies_verdict(rt.alloc(), Verdict::Refused(Rule::BadDigest))
+}
+
+fn copies_verdict(alloc: Global, verdict: Verdict) -> Result<(), Fail> {
+    let is_same = copied_verdict(alloc, &verdict);
+    drop(verdict);
+    expect("the copy of the verdict", is_same?)
+}
+
+fn copied_verdict(alloc: Global, verdict: &Verdict) -> Result<bool, OutOfMemory> {
+    let copy = verdict.try_clone(alloc)?;
+    let is_same = copy == *verdict;
+    drop(copy);
+    Ok(is_same)
+}
