@@ -1,5 +1,5 @@
 -- What can be seen of links and scopes behind some of the scripts.
-use Rattle.std.specs.Prelude.{◌≡◌, List, [], ◌∷◌, true, false, Some, codes}
+use Rattle.std.specs.Prelude.{◌≡◌, ℕ, Bool, List, [], ◌∷◌, true, false, Some, codes}
 use Rattle.std.proofs.Common.{refl}
 use Rattle.std.specs.Fmt.{digits}
 use Rattle.md5.specs.Md5.{md5, digest_bytes, hash_after, compress, rounds, block_words}
@@ -8,77 +8,42 @@ use Rattle.link_frames.specs.Reading.{message as read_message}
 use Rattle.policy_audit.specs.History.{History}
 use Rattle.policy_audit.specs.Sides.{AwaitMessage}
 use Rattle.policy_audit.specs.Contents.{contents}
-use Rattle.policy_audit.specs.Scripts.{play, show}
-use Rattle.policy_audit.proofs.Lines.{Line, begun, calls, pid}
-use Rattle.policy_audit.proofs.Played.ReplacedLink as replaced
-use Rattle.policy_audit.proofs.Played.DiscoverAndSync as synced
-use Rattle.policy_audit.proofs.Played.HiddenLink as hidden
-use Rattle.policy_audit.proofs.Played.JoinsNeedASync as joined
+use Rattle.policy_audit.specs.Scripts.{Shown, play, show}
+use Rattle.policy_audit.proofs.Lines.{Line, node, calls, pid}
+use Rattle.policy_audit.proofs.Played.Links.{replaced_link}
+use Rattle.policy_audit.proofs.Played.Rows.{discover_and_sync, hidden_link, joins_need_a_sync}
 
 abbrev after_it : List Line → History
-after_it script = play (begun (codes "b@h") (codes "password") false 4 1000000) (calls script)
+after_it script = play node (calls script)
+
+-- a link to a@h whose side is whole and for which no frames wait: up or ended, visible or not, and the scopes told and heard
+abbrev whole_link : Bool → Bool → List (List ℕ) → Shown
+whole_link lives visible scopes = record {
+  is_open = lives; is_up = lives; is_kept = lives; is_visible = visible;
+  peer = Some (codes "a@h"); awaits = AwaitMessage; told = scopes; heard = scopes; waiting = [];
+}
 
 -- the newer link of a@h is up, and nobody is heard on it
-newer : show (after_it replaced.script) 16 ≡ record {
-  is_open = true;
-  is_up = true;
-  is_kept = true;
-  is_visible = true;
-  peer = Some (codes "a@h");
-  awaits = AwaitMessage;
-  told = [];
-  heard = [];
-  waiting = [];
-}
+newer : show (after_it replaced_link) 16 ≡ whole_link true true []
 unfolding md5 digest_bytes hash_after compress rounds block_words digits name_frame challenge_frame reply_frame ack_frame status_of read_message
 newer = refl
 
 -- the older one ended with its waiting frames
-older : show (after_it replaced.script) 1 ≡ record {
-  is_open = false;
-  is_up = false;
-  is_kept = false;
-  is_visible = true;
-  peer = Some (codes "a@h");
-  awaits = AwaitMessage;
-  told = [];
-  heard = [];
-  waiting = [];
-}
+older : show (after_it replaced_link) 1 ≡ whole_link false true []
 unfolding md5 digest_bytes hash_after compress rounds block_words digits name_frame challenge_frame reply_frame ack_frame status_of read_message
 older = refl
 
 -- behind a Sync and a Discover the peer is heard and told
-both : show (after_it synced.script) 1 ≡ record {
-  is_open = true;
-  is_up = true;
-  is_kept = true;
-  is_visible = true;
-  peer = Some (codes "a@h");
-  awaits = AwaitMessage;
-  told = codes "pg" ∷ [];
-  heard = codes "pg" ∷ [];
-  waiting = [];
-}
+both : show (after_it discover_and_sync) 1 ≡ whole_link true true (codes "pg" ∷ [])
 unfolding md5 digest_bytes hash_after compress rounds block_words digits name_frame challenge_frame reply_frame ack_frame status_of read_message
 both = refl
 
 -- a link to a hidden node is up, and not visible
-unseen : show (after_it hidden.script) 1 ≡ record {
-  is_open = true;
-  is_up = true;
-  is_kept = true;
-  is_visible = false;
-  peer = Some (codes "a@h");
-  awaits = AwaitMessage;
-  told = [];
-  heard = [];
-  waiting = [];
-}
+unseen : show (after_it hidden_link) 1 ≡ whole_link true false []
 unfolding md5 digest_bytes hash_after compress rounds block_words digits name_frame challenge_frame reply_frame ack_frame status_of read_message
 unseen = refl
 
 -- a process that its node stated twice
-twice : contents (after_it joined.script) (codes "pg") ≡ record { group = codes "g"; pids = pid (codes "a@h") 5 1 ∷ pid (codes "a@h") 5 1 ∷ [] } ∷ []
+twice : contents (after_it joins_need_a_sync) (codes "pg") ≡ record { group = codes "g"; pids = pid (codes "a@h") 5 1 ∷ pid (codes "a@h") 5 1 ∷ [] } ∷ []
 unfolding md5 digest_bytes hash_after compress rounds block_words digits name_frame challenge_frame reply_frame ack_frame status_of read_message
 twice = refl
