@@ -3,9 +3,6 @@ use Rattle.scope_core.specs.Table.{is_of_node}
 use Rattle.scope_core.proofs.Merging.{last_tally, last_counted}
 use Rattle.scope_core.proofs.edits.add_each.Goals as goal
 
-pub add-requires-clause-some : goal.add-requires-clause-some
-add-requires-clause-some c = (last_counted c.loop-counted.more.items c.pop.new.self.items c.in-Some.counted c.in-Some.ensures.items c.loop-counted.invariant.more).1
-
 pub add-requires-clause-few : goal.add-requires-clause-few
 add-requires-clause-few c = λ node.
     let few = c.requires.few node in

@@ -5,9 +5,3 @@ use Rattle.scope_core.proofs.edits.replace_node.Goals as goal
 
 pub put_in-requires-clause-kept : goal.put_in-requires-clause-kept
 put_in-requires-clause-kept c = rw c.remove_node.ensures.items (filter_kept (λ e. not (same e.row.pid.node c.args.node.now)) c.args.rows.now.items c.requires.kept)
-
-pub put_in-requires-clause-few : goal.put_in-requires-clause-few
-put_in-requires-clause-few c = rw c.remove_node.ensures.items c.requires.few
-
-pub returns-clause-added : goal.returns-clause-added
-returns-clause-added c = rw c.remove_node.ensures.items at c.put_in.ensures.added

@@ -4,11 +4,6 @@ use Rattle.scope_core.proofs.Lessened.{taken_counts, taken_total}
 use Rattle.scope_core.proofs.Lower.{still_rises, takes_less}
 use Rattle.scope_core.proofs.lowered.lower_all.Goals as goal
 
-pub overflow_add-lost : goal.overflow_add-lost
-overflow_add-lost c =
-    let few = c.requires.few c.args.node.now in
-    grind (arith, few, c.loop-pid.invariant.total, c.from-lost.ensures)
-
 pub loop-pid-preserved : goal.loop-pid-preserved
 loop-pid-preserved c =
     let before = c.loop-pid.rows.items in

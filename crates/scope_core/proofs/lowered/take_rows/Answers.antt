@@ -6,12 +6,6 @@ use Rattle.scope_core.proofs.lowered.take_rows.Goals as goal
 pub sweep-requires-clause-rises : goal.sweep-requires-clause-rises
 sweep-requires-clause-rises c = still_rises c.args.rows.now.items c.lower.new.rows.items c.lower.ensures.same c.requires.kept.rises
 
-pub sweep-requires-clause-few : goal.sweep-requires-clause-few
-sweep-requires-clause-few c = λ n.
-    let taken = all_taken c.args.rows.now.items c.lower.new.rows.items c.args.gone.now c.lower.result c.lower.ensures.bound c.lower.ensures.lowered c.lower.ensures.stopped c.requires.counted (is_of_node n) in
-    let few = c.requires.kept.few n in
-    omega (arith, taken, few)
-
 pub returns-clause-taken : goal.returns-clause-taken
 returns-clause-taken c = λ test.
     let taken = all_taken c.args.rows.now.items c.lower.new.rows.items c.args.gone.now c.lower.result c.lower.ensures.bound c.lower.ensures.lowered c.lower.ensures.stopped c.requires.counted test in

@@ -17,26 +17,3 @@ loop-next-init c = record {
       let more = reversed_tally test c.args.more.items c.reverse-2.new.self.items c.reverse-2.ensures.permutation in
       rw c.requires.empty (omega (arith, rows, more));
 }
-
-pub add-requires-clause-few : goal.add-requires-clause-few
-add-requires-clause-few c = λ node.
-    let few = c.requires.few node in
-    let so_far = c.loop-next.invariant.added (is_of_node node) in
-    let taken = c.in-Some.ensures.taken (is_of_node node) in
-    omega (arith, few, so_far, taken)
-
-pub add-requires-clause-some : goal.add-requires-clause-some
-add-requires-clause-some c = (c.in-Some.ensures.counted c.loop-next.invariant.rows c.loop-next.invariant.more).0
-
-pub loop-next-preserved : goal.loop-next-preserved
-loop-next-preserved c = record {
-  room = omega (arith, c.in-Some.ensures.len, c.add.ensures.room, c.add.ensures.capacity);
-  kept = c.add.ensures.kept;
-  rows = c.in-Some.ensures.rows c.loop-next.invariant.rows;
-  more = c.in-Some.ensures.more c.loop-next.invariant.more;
-  added = λ test.
-      let so_far = c.loop-next.invariant.added test in
-      let taken = c.in-Some.ensures.taken test in
-      let one = c.add.ensures.added test in
-      omega (arith, so_far, taken, one);
-}
