@@ -40,6 +40,10 @@ then g p us vs n m r first second = counted_append g p us vs n ∙ ap (option_an
 enough : (n m : ℕ) → m ≤ n → less n m ≡ Some (n - m)
 enough n m le = ap (λ b. cond b None (Some (n - m))) (false_from_ne_true (nat_lt n m) (λ yes. let lt = ltb-true n m yes in omega (arith, lt, le)))
 
+-- what one more entry gives comes last
+pub told_last : (f : Entry → List Update) (e : Entry) (es : List Entry) → flat_map f (reverse (e ∷ es)) ≡ flat_map f (reverse es) ++ f e
+told_last f e es = rw (reverse-append (e ∷ []) es, flat_map-append f (reverse es) (e ∷ []), append-nil) refl
+
 -- ---- the updates of one group's change
 
 module _ (g : List ℕ) (p : Pid) where
@@ -142,9 +146,7 @@ module _ (g : List ℕ) (p : Pid) where
     further_told o s [] ks legal = refl
     further_told o s (e ∷ es) ks legal =
         let f : Entry → List Update = λ e. updates_of (record { scope = s; group = watched }) e.change in
-        let turned : flat_map f (reverse (e ∷ es)) ≡ flat_map f (reverse es) ++ f e =
-        ap (flat_map f) (reverse-append (e ∷ []) es) ∙ flat_map-append f (reverse es) (e ∷ []) ∙ ap (λ us. flat_map f (reverse es) ++ us) (append-nil (f e)) in
-        ap (λ us. counted g p us (listed (past o ks) s g p)) turned
+        ap (λ us. counted g p us (listed (past o ks) s g p)) (told_last f e es)
         ∙ then g p (flat_map f (reverse es)) (f e) (listed (past o ks) s g p) (listed (past o (es ++ ks)) s g p) _
         (further_told o s es ks legal.1)
         (difference_told (listed (past o (es ++ ks)) s) (listed (past o (e ∷ es ++ ks)) s) _ (legal.0.change.groups s))
@@ -155,7 +157,7 @@ watched_told g m (inl one) c this = ap (λ w. is_watched w c) one ∙ this
 watched_told g m (inr every) c this = ap (λ w. is_watched w c) every
 
 -- the entries behind the place of the earlier history are the further ones
-further : (es ks : List Entry) → later_than (length ks) (es ++ ks) ≡ reverse es
+pub further : (es ks : List Entry) → later_than (length ks) (es ++ ks) ≡ reverse es
 further es ks =
     ap (drop (length ks)) (reverse-append es ks) ∙ ap (λ n. drop n (reverse ks ++ reverse es)) (sym (length-reverse ks)) ∙ drop-append_seam (reverse ks) (reverse es)
 

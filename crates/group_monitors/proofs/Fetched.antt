@@ -66,13 +66,13 @@ within place es f at = by (place == 0) refl
         (omega (arith, some), omega (arith, some, n, lt), there)
 
 -- the entry at a place within the others stays there
-entry_stays : (place : ℕ) (e : Entry) (es : List Entry) → 0 < place → place ≤ length es → entry_at place (e ∷ es) ≡ entry_at place es
+pub entry_stays : (place : ℕ) (e : Entry) (es : List Entry) → 0 < place → place ≤ length es → entry_at place (e ∷ es) ≡ entry_at place es
 entry_stays place e es some le =
     ap (λ x. cond (place == 0) None x)
     (ap (λ l. slice_get l (place - 1)) (turned e es) ∙ still_there (reverse es) e (place - 1) (let n = length_turned es in omega (arith, n)))
 
 -- and the newest stands under the number of all
-entry_new : (e : Entry) (es : List Entry) → entry_at (length es + 1) (e ∷ es) ≡ Some e
+pub entry_new : (e : Entry) (es : List Entry) → entry_at (length es + 1) (e ∷ es) ≡ Some e
 entry_new e es =
     ap (λ b. cond b None (slice_get (reverse (e ∷ es)) (length es + 1 - 1))) (false_from_ne_true (length es + 1 == 0) (λ yes. let none = (Decides-eqb (length es + 1) 0).0 yes in omega (arith, none)))
     ∙ ap (λ i. slice_get (reverse (e ∷ es)) i) (let n = length_turned es in omega (arith, n))

@@ -1,6 +1,7 @@
 pub mod Found
 pub mod FoundAfter
 pub mod Fetched
+pub mod FetchedAll
 pub mod Numbers
 pub mod Followed
 pub mod FromPolicy

@@ -1,26 +1,31 @@
 //! Laws of monitors. Each function does nothing; its contract is the law.
 ghost use Rattle.std.specs.Prelude.{◌≡◌, ◌+◌, ◌≤◌, ◌==◌, ◌&&◌, ◌++◌, ℕ, true, false, cond, List, [], ◌∷◌, Some, None, length, IsTrue};
+ghost use Rattle.std.specs.List.{flat_map};
 ghost use Rattle.std.specs.Option.{IsSome, option_map, option_and_then};
 ghost use Rattle.dist_types.specs.declared.pid.Pid.{Pid};
 ghost use Rattle.dist_types.specs.Listing.{same, mentions};
 ghost use Rattle.policy_audit.specs.declared.opening.Opening.{Opening};
 ghost use Rattle.policy_audit.specs.declared.event.Event.TheVariants as event;
 ghost use Rattle.policy_audit.specs.declared.rule.Rule.TheVariants as rule;
+ghost use Rattle.policy_audit.specs.declared.entry.Verdict.TheVariants.{Accepted};
 ghost use Rattle.policy_audit.specs.declared.entry.Entry.{Entry};
+ghost use Rattle.policy_audit.specs.declared.reply.GroupPids.{GroupPids};
+ghost use Rattle.policy_audit.specs.declared.reply.Reply.TheVariants as reply;
 ghost use Rattle.policy_audit.specs.declared.reply.Update.{Update};
 ghost use Rattle.policy_audit.specs.History.{History, past, is_accepted};
 ghost use Rattle.policy_audit.specs.Listed.{listed};
 ghost use Rattle.policy_audit.specs.Contents.{members, contents};
-ghost use Rattle.policy_audit.specs.Monitors.{is_fetch, monitor, updates, updates_since};
+ghost use Rattle.policy_audit.specs.Log.{entry_at, later_than};
+ghost use Rattle.policy_audit.specs.Monitors.{Target, is_fetch, monitor, updates, updates_of, updates_since};
 ghost use Rattle.policy_audit.specs.Policy.{next_number, with_entry, IsLegal};
 ghost use Rattle.policy_audit.specs.Checks.{first_broken, checks};
 ghost use Rattle.group_monitors.specs.declared.monitor.Monitor.{Monitor as Watch};
 ghost use Rattle.group_monitors.specs.Monitors.{target, at_place, monitor_of, IsFree, IsNumbered, HasSeen, updates_behind, without, without_scope, with_place};
-ghost use Rattle.group_monitors.specs.Fetches.{IsLastFetch};
+ghost use Rattle.group_monitors.specs.Fetches.{IsLastFetch, fetched};
 ghost use Rattle.group_monitors.specs.Follows.{FollowsPolicy, concerns_monitors};
 ghost use Rattle.group_monitors.specs.Counts.{counted, times_in, Watches, Extends};
 
-use policy_audit::lists_ascend;
+use policy_audit::{left_alone, lists_ascend};
 
 /// What the entries behind its place tell a monitor is the policy's answer, where the place is that of the last fetch.
 /// It is so again behind each further entry, once the place has moved to each further fetch.
@@ -44,6 +49,23 @@ pub fn tells_the_listing()
         → m.group ≡ None → (g : List ℕ) (p : Pid) → counted g p (updates_behind h.entries m) (times_in g p (contents k m.scope)) ≡ Some (times_in g p (contents h m.scope)) }
     ensures parts { (g : List ℕ) (p : Pid) (us vs : List Update) (n : ℕ) → counted g p (us ++ vs) n ≡ option_and_then (counted g p vs) (counted g p us n) }
 {
+    lists_ascend();
+}
+
+/// In every history that the policy makes, of each monitor that a seat has: what the seat has fetched since the monitor's own entry,
+/// and then what is still to be fetched, are the updates of all entries behind that one. The contents that it answered, with all
+/// of these applied in turn, are what is listed now, as multisets.
+pub fn fetches_tell_the_listing()
+    ensures parts { (h : History) → IsLegal h → (seat k : ℕ) (t : Target) → monitor h seat k ≡ Some t
+        → fetched seat k h.entries ++ updates h seat k ≡ flat_map (λ e. updates_of t e.change) (later_than k h.entries) }
+    ensures group { (h : History) → IsLegal h → (seat k : ℕ) (s g : List ℕ) → monitor h seat k ≡ Some (record { scope = s; group = Some g })
+        → (first : List Pid) × (option_map (λ e. e.verdict) (entry_at k h.entries) ≡ Some (Accepted (reply.Ref k first)))
+        × ((p : Pid) → counted g p (fetched seat k h.entries ++ updates h seat k) (mentions p first) ≡ Some (listed h s g p)) }
+    ensures scope { (h : History) → IsLegal h → (seat k : ℕ) (s : List ℕ) → monitor h seat k ≡ Some (record { scope = s; group = None })
+        → (first : List GroupPids) × (option_map (λ e. e.verdict) (entry_at k h.entries) ≡ Some (Accepted (reply.ScopeRef k first)))
+        × ((g : List ℕ) (p : Pid) → counted g p (fetched seat k h.entries ++ updates h seat k) (times_in g p first) ≡ Some (listed h s g p)) }
+{
+    left_alone();
     lists_ascend();
 }
 

@@ -8,7 +8,9 @@ mod monitors;
 mod told;
 
 pub use fault::{NoMonitor, UpdatesFault};
-pub use laws::{follows_the_policy, found_after, since_the_place, tells_the_listing};
+pub use laws::{
+    fetches_tell_the_listing, follows_the_policy, found_after, since_the_place, tells_the_listing,
+};
 pub use monitors::Monitors;
 
 #[cfg(test)]
