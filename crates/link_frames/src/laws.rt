@@ -1,12 +1,12 @@
 //! Laws of the grammar and of streams. Each function does nothing; its contract is the law.
-ghost use Rattle.std.specs.Prelude.{◌≡◌, ◌≢◌, ◌↔◌, ◌++◌, [], ℕ, List, Option, Some, take, option_to_list};
+ghost use Rattle.std.specs.Prelude.{◌≡◌, ◌≢◌, ◌≤◌, ◌↔◌, ◌++◌, [], ℕ, List, Option, Some, length, take, option_to_list};
 ghost use Rattle.link_frames.specs.declared.message.Message.{Message};
 ghost use Rattle.link_frames.specs.Spelling.{IsMessage, message_bytes, SpellsMessage};
 ghost use Rattle.link_frames.specs.Reading.{message};
 ghost use Rattle.handshake_frames.specs.Stream.{Call, stream_of, bodies_of};
 ghost use Rattle.link_frames.specs.declared.fault.FeedFault.{FeedFault};
 ghost use Rattle.link_frames.specs.declared.fault.FeedFault.TheVariants as feed_faults;
-ghost use Rattle.link_frames.specs.Stream.{IsFed, ComesTooLong, Progress, Feeds, IsTooLong, IsFeedFault, SplitsLink, AreFed};
+ghost use Rattle.link_frames.specs.Stream.{max_body, IsFed, ComesTooLong, Progress, Feeds, IsTooLong, IsFeedFault, SplitsLink, AreFed};
 
 /// A message within the grammar has exactly one spelling, which `encode` appends, and another message has none.
 pub fn one_spelling()
@@ -17,6 +17,11 @@ pub fn one_spelling()
 /// What `encode` appends spells its message, so `decode` reads it again.
 pub fn round_trip()
     ensures { (m : Message) → IsMessage m → SpellsMessage (message_bytes m) m }
+{}
+
+/// A message within the grammar is short enough for the reader of its stream.
+pub fn fits_a_reader()
+    ensures { (m : Message) → IsMessage m → length (message_bytes m) ≤ max_body }
 {}
 
 /// A body spells at most one message.

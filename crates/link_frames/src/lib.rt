@@ -13,7 +13,7 @@ mod reader;
 pub use decoding::decode;
 pub use encoding::encode;
 pub use fault::{FeedFault, MessageFault};
-pub use laws::{any_cut, one_message, one_spelling, readers, round_trip, too_long};
+pub use laws::{any_cut, fits_a_reader, one_message, one_spelling, readers, round_trip, too_long};
 pub use message::{Message, Rows};
 pub use reader::LinkReader;
 

@@ -6,7 +6,8 @@ ghost use Rattle.link_states.specs.Frames.{own_name, status_owed};
 ghost use Rattle.link_states.specs.Stopped.{IsBroken, IsStopped};
 
 use crate::await_challenge::AwaitChallenge;
-use crate::frames::{Bodies, Body, name_frame, status_answer};
+use crate::body::Body;
+use crate::frames::{Bodies, name_frame, status_answer};
 use crate::pending::{Pending, has_name};
 use crate::refusal::{Refusal, unless};
 use crate::state_rule::StateRule;

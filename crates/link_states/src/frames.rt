@@ -1,8 +1,9 @@
 //! The bodies that a state sends.
-ghost use Rattle.std.specs.Prelude.{◌≡◌, ◌∷◌, [], IfOk};
+ghost use Rattle.std.specs.Prelude.{◌≡◌, ◌<◌, ◌^◌, ◌∷◌, [], length, IfOk};
 ghost use Rattle.handshake_frames.specs.Spelling.{HasSpelling, spelling, status_bytes};
 ghost use Rattle.link_states.specs.Frames.{own_name, own_challenge, greeting_owed, reply_owed, ack_owed, status_owed, refusal_frames};
 
+use crate::body::Body;
 use crate::state_rule::StateRule;
 use admission_rules::Admission;
 use cookie_digest::digest;
@@ -11,9 +12,6 @@ use handshake_frames::{
     AckFrame, ChallengeFrame, HsFrame, NameFrame, ReplyFrame, StatusWord, encode,
 };
 use std::alloc::Global;
-
-/// The bytes of a frame, without its length.
-pub type Body = Items<u8>;
 
 /// Frames to send, in this order.
 pub type Bodies = Items<Body>;
@@ -148,7 +146,8 @@ fn alone(alloc: Global, body: Body) -> Result<Bodies, OutOfMemory>
 }
 
 fn body_of(alloc: Global, frame: &HsFrame<'_>) -> Result<Body, OutOfMemory>
-    requires { HasSpelling frame.now }
+    requires spelt { HasSpelling frame.now }
+    requires limits { length (spelling frame.now) < 2 ^ 16 }
     ensures { IfOk result (λ body. body ≡ spelling frame.now) }
 {
     let mut body = Vec::new(alloc);
