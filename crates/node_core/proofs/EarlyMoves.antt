@@ -14,7 +14,7 @@ use Rattle.link_states.specs.Peer.{found, is_visible}
 use Rattle.link_states.specs.States.{Dialled, Introduced}
 use Rattle.policy_audit.specs.declared.entry.Entry.{Entry}
 use Rattle.policy_audit.specs.declared.event.Event.TheVariants as event
-use Rattle.policy_audit.specs.declared.out_frame.OutFrame.{OutFrame}
+use Rattle.policy_audit.specs.OutFrame.{OutFrame}
 use Rattle.policy_audit.specs.History.{History, is_accepted}
 use Rattle.policy_audit.specs.Sides.{is_last, AwaitAnswer, AwaitStatus, AwaitChallenge}
 use Rattle.policy_audit.specs.Links.{named_by}

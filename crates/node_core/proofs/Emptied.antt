@@ -5,7 +5,7 @@ use Rattle.std.proofs.lemmas.List.{get_or_default, get_or-set_same, set-set, len
 use Rattle.std.proofs.lemmas.List.Recursion.{found_set_other}
 use Rattle.std.specs.Option.{option_map, option_map_or}
 use Rattle.dist_types.specs.Listing.{same}
-use Rattle.policy_audit.specs.declared.out_frame.OutFrame.{OutFrame}
+use Rattle.policy_audit.specs.OutFrame.{OutFrame}
 use Rattle.node_core.specs.declared.link_state.LinkState.{LinkState}
 use Rattle.node_core.specs.declared.link_state.LinkState.TheVariants as states
 use Rattle.node_core.specs.Links.{KeptLink, up_peer, dialled_peer, dial_beside, with_room}

@@ -10,7 +10,7 @@ use Rattle.dist_types.specs.Difference.{IsDifference, is_empty}
 use Rattle.scope_core.specs.Table.{count_of}
 use Rattle.scope_core.specs.Calls.{count_after_exit}
 use Rattle.policy_audit.specs.declared.change.Change.{Change}
-use Rattle.policy_audit.specs.declared.out_frame.OutFrame.{OutFrame}
+use Rattle.policy_audit.specs.OutFrame.{OutFrame}
 use Rattle.policy_audit.proofs.Accepted.{lie}
 use Rattle.policy_audit.proofs.KeptNumbers.{filter_append}
 use Rattle.node_core.specs.declared.running.Running.{Running}

@@ -7,7 +7,7 @@ use Rattle.std.specs.Option.{option_map_or}
 use Rattle.handshake_frames.specs.Frame.{Name}
 use Rattle.policy_audit.specs.declared.event.Event.TheVariants as event
 use Rattle.policy_audit.specs.declared.entry.Entry.{Entry}
-use Rattle.policy_audit.specs.declared.out_frame.OutFrame.{OutFrame}
+use Rattle.policy_audit.specs.OutFrame.{OutFrame}
 use Rattle.policy_audit.specs.History.{History, is_accepted}
 use Rattle.policy_audit.specs.Sides.{challenge_in, awaits, given, peer_of, is_last, Awaited}
 use Rattle.policy_audit.specs.Links.{is_open, named_by}

@@ -11,7 +11,7 @@ use Rattle.policy_audit.specs.declared.event.Event.TheVariants as event
 use Rattle.policy_audit.specs.declared.entry.Verdict.TheVariants.{Refused}
 use Rattle.policy_audit.specs.declared.entry.Entry.{Entry}
 use Rattle.policy_audit.specs.declared.rule.Rule.{Rule}
-use Rattle.policy_audit.specs.declared.out_frame.OutFrame.{OutFrame}
+use Rattle.policy_audit.specs.OutFrame.{OutFrame}
 use Rattle.policy_audit.specs.History.{History}
 use Rattle.policy_audit.specs.Own.{running_scopes}
 use Rattle.policy_audit.specs.Sides.{is_whole}

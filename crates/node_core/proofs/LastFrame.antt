@@ -12,7 +12,7 @@ use Rattle.policy_audit.specs.declared.change.Change.{Change}
 use Rattle.policy_audit.specs.declared.entry.Entry.{Entry}
 use Rattle.policy_audit.specs.declared.entry.Verdict.TheVariants.{Accepted}
 use Rattle.policy_audit.specs.declared.event.Event.TheVariants as event
-use Rattle.policy_audit.specs.declared.out_frame.OutFrame.{OutFrame}
+use Rattle.policy_audit.specs.OutFrame.{OutFrame}
 use Rattle.policy_audit.specs.declared.reply.Reply.{Reply}
 use Rattle.policy_audit.specs.History.{History}
 use Rattle.policy_audit.specs.Sides.{present_link}

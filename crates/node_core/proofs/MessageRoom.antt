@@ -8,7 +8,7 @@ use Rattle.link_frames.specs.declared.message.Message.TheVariants as said
 use Rattle.policy_audit.specs.declared.event.Event.TheVariants as event
 use Rattle.policy_audit.specs.declared.reply.Reply.TheVariants as reply
 use Rattle.policy_audit.specs.declared.entry.Verdict.TheVariants.{Accepted}
-use Rattle.policy_audit.specs.declared.out_frame.OutFrame.{OutFrame}
+use Rattle.policy_audit.specs.OutFrame.{OutFrame}
 use Rattle.policy_audit.specs.History.{History}
 use Rattle.policy_audit.specs.Links.{is_up}
 use Rattle.policy_audit.specs.Hearing.{message_taken, heard}

@@ -9,7 +9,7 @@ use Rattle.dist_types.specs.Listing.{same}
 use Rattle.link_frames.specs.declared.message.Message.{Message}
 use Rattle.scope_core.specs.Table.{count_of}
 use Rattle.policy_audit.specs.declared.change.Change.{Change}
-use Rattle.policy_audit.specs.declared.out_frame.OutFrame.{OutFrame}
+use Rattle.policy_audit.specs.OutFrame.{OutFrame}
 use Rattle.policy_audit.specs.History.{History}
 use Rattle.policy_audit.specs.Own.{running_scopes}
 use Rattle.policy_audit.specs.Changes.{IsChange, if_some}

@@ -3,7 +3,7 @@ use Rattle.std.specs.Prelude.{◌≡◌, ℕ, ◌==◌, ◌<◌, nat_eq, Bool, t
 use Rattle.std.proofs.Common.{refl, ap, ◌∙◌, sym, subst, get_or, set}
 use Rattle.std.proofs.lemmas.Bool.{eq-eqb}
 use Rattle.std.specs.List.{filter}
-use Rattle.policy_audit.specs.declared.out_frame.OutFrame.{OutFrame}
+use Rattle.policy_audit.specs.OutFrame.{OutFrame}
 use Rattle.policy_audit.specs.History.{History}
 use Rattle.policy_audit.specs.Owed.{waiting}
 use Rattle.policy_audit.specs.Policy.{IsLegal}

@@ -4,7 +4,7 @@ use Rattle.std.proofs.Common.{refl, ap, ◌∙◌, sym, arith, get_or, set}
 use Rattle.std.proofs.lemmas.Bool.{eqb-true}
 use Rattle.std.proofs.lemmas.List.{get_or_default, get_or-set_same, set-set}
 use Rattle.dist_types.specs.Difference.{is_empty}
-use Rattle.policy_audit.specs.declared.out_frame.OutFrame.{OutFrame}
+use Rattle.policy_audit.specs.OutFrame.{OutFrame}
 use Rattle.node_core.specs.declared.link_state.LinkState.{LinkState}
 use Rattle.node_core.specs.Links.{KeptLink, with_frames, with_room}
 use Rattle.node_core.specs.Handshakes.{moved_on, without_link, HaveMoved}

@@ -17,7 +17,7 @@ use Rattle.link_states.specs.Peer.{introduced, is_visible}
 use Rattle.link_states.specs.Pending.{is_up, is_dialled}
 use Rattle.policy_audit.specs.declared.entry.Entry.{Entry}
 use Rattle.policy_audit.specs.declared.event.Event.TheVariants as event
-use Rattle.policy_audit.specs.declared.out_frame.OutFrame.{OutFrame}
+use Rattle.policy_audit.specs.OutFrame.{OutFrame}
 use Rattle.policy_audit.specs.History.{History, is_accepted}
 use Rattle.policy_audit.specs.Sides.{is_name_up, AwaitAnswer, AwaitReply}
 use Rattle.policy_audit.specs.Links.{is_open, is_dialling, is_unfinished_dial}

@@ -4,7 +4,7 @@ use Rattle.std.proofs.Common.{refl, ap, ◌∙◌, sym, arith, get_or, set}
 use Rattle.std.specs.declared.result.Result.{Result}
 use Rattle.std.specs.List.{list_any}
 use Rattle.std.specs.Result.{is_err}
-use Rattle.policy_audit.specs.declared.out_frame.OutFrame.{OutFrame}
+use Rattle.policy_audit.specs.OutFrame.{OutFrame}
 use Rattle.policy_audit.proofs.Accepted.{lie}
 use Rattle.policy_audit.proofs.UpLinks.{flip}
 use Rattle.node_core.specs.Links.{KeptLink, with_prepared, with_room, unroomed, prepared_for}

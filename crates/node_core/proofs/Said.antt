@@ -16,7 +16,7 @@ use Rattle.scope_core.specs.declared.fault.TableFault.{TableFault}
 use Rattle.scope_core.specs.declared.fault.TableFault.TheVariants as fault
 use Rattle.scope_core.specs.Table.{Table}
 use Rattle.scope_core.specs.Calls.{IsJoinFault, IsLeaveFault, IsAddFault, IsTakeFault}
-use Rattle.policy_audit.specs.declared.out_frame.OutFrame.{OutFrame}
+use Rattle.policy_audit.specs.OutFrame.{OutFrame}
 use Rattle.policy_audit.specs.Contents.{row}
 use Rattle.policy_audit.specs.Owed.{wide}
 use Rattle.policy_audit.proofs.Accepted.{lie}

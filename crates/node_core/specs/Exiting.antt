@@ -7,7 +7,7 @@ use Rattle.dist_types.specs.Difference.{is_empty}
 use Rattle.link_frames.specs.declared.message.Message.TheVariants as said
 use Rattle.scope_core.specs.Calls.{count_after_exit}
 use Rattle.policy_audit.specs.declared.change.Change.{Change}
-use Rattle.policy_audit.specs.declared.out_frame.OutFrame.{OutFrame}
+use Rattle.policy_audit.specs.OutFrame.{OutFrame}
 use Rattle.policy_audit.specs.Owed.{wide}
 use Rattle.node_core.specs.declared.running.Running.{Running}
 use Rattle.node_core.specs.Links.{KeptLink, with_prepared, unroomed}

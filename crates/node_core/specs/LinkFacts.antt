@@ -5,7 +5,7 @@ use Rattle.dist_types.specs.Flags.{has_bit}
 use Rattle.dist_types.specs.Listing.{same}
 use Rattle.handshake_frames.specs.Frame.{Name}
 use Rattle.link_states.specs.States.{Dialled}
-use Rattle.policy_audit.specs.declared.out_frame.OutFrame.{OutFrame}
+use Rattle.policy_audit.specs.OutFrame.{OutFrame}
 use Rattle.policy_audit.specs.History.{History}
 use Rattle.policy_audit.specs.Sides.{peer_of, given, is_whole, Awaited, AwaitName, AwaitAnswer, AwaitReply, AwaitStatus, AwaitChallenge, AwaitAck, AwaitMessage, awaits}
 use Rattle.policy_audit.specs.Links.{is_open, links}

@@ -5,7 +5,7 @@ use Rattle.dist_types.specs.declared.row.Row.{Row}
 use Rattle.dist_types.specs.Listing.{same}
 use Rattle.admission_rules.specs.Admission.{AdmissionRules}
 use Rattle.link_states.specs.Frames.{own_name}
-use Rattle.policy_audit.specs.declared.out_frame.OutFrame.{OutFrame}
+use Rattle.policy_audit.specs.OutFrame.{OutFrame}
 use Rattle.std.specs.Option.{option_map, option_map_or}
 use Rattle.policy_audit.specs.Owed.{narrow}
 use Rattle.node_core.specs.declared.link_state.LinkState.{LinkState}

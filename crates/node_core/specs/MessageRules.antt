@@ -9,7 +9,7 @@ use Rattle.scope_core.specs.Table.{Table, local_count, node_total, max_rows}
 use Rattle.scope_core.specs.Calls.{Counts, are_counted}
 use Rattle.link_frames.specs.declared.message.Message.{Message}
 use Rattle.link_frames.specs.declared.message.Message.TheVariants as said
-use Rattle.policy_audit.specs.declared.out_frame.OutFrame.{OutFrame}
+use Rattle.policy_audit.specs.OutFrame.{OutFrame}
 use Rattle.policy_audit.specs.declared.change.Change.{Change}
 use Rattle.policy_audit.specs.declared.rule.Rule.TheVariants as rule
 use Rattle.policy_audit.specs.History.{History}

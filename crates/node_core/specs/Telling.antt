@@ -6,7 +6,7 @@ use Rattle.dist_types.specs.Difference.{is_empty}
 use Rattle.dist_types.specs.Order.{text_cmp}
 use Rattle.link_frames.specs.declared.message.Message.{Message}
 use Rattle.link_frames.specs.declared.message.Message.TheVariants as said
-use Rattle.policy_audit.specs.declared.out_frame.OutFrame.{OutFrame}
+use Rattle.policy_audit.specs.OutFrame.{OutFrame}
 use Rattle.node_core.specs.declared.running.Running.{Running}
 use Rattle.node_core.specs.Links.{KeptLink, is_shown, with_frames, unroomed}
 use Rattle.node_core.specs.ScopeFacts.{is_number}

@@ -13,7 +13,7 @@ use Rattle.policy_audit.specs.declared.event.Event.TheVariants as event
 use Rattle.policy_audit.specs.declared.rule.Rule.{Rule}
 use Rattle.policy_audit.specs.declared.entry.Verdict.TheVariants.{Refused}
 use Rattle.policy_audit.specs.declared.entry.Entry.{Entry}
-use Rattle.policy_audit.specs.declared.out_frame.OutFrame.{OutFrame}
+use Rattle.policy_audit.specs.OutFrame.{OutFrame}
 use Rattle.policy_audit.specs.History.{History, is_accepted}
 use Rattle.policy_audit.specs.Sides.{AwaitName, AwaitMessage, awaits, is_last, is_name_up, is_peer, is_whole, peer_of, present_link}
 use Rattle.policy_audit.specs.Links.{frame_ends, gives_up, is_open, is_unfinished_dial, is_up, named_by, share_peer}

@@ -1,4 +1,5 @@
 pub mod Rules
+pub mod OutFrame
 pub mod Wire
 pub mod Log
 pub mod History

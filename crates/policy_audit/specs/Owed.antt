@@ -23,7 +23,7 @@ use Rattle.policy_audit.specs.declared.rule.Rule.TheVariants as rule
 use Rattle.policy_audit.specs.declared.entry.Verdict.{Verdict}
 use Rattle.policy_audit.specs.declared.entry.Verdict.TheVariants.{Accepted, Refused}
 use Rattle.policy_audit.specs.declared.entry.Entry.{Entry}
-use Rattle.policy_audit.specs.declared.out_frame.OutFrame.{OutFrame}
+use Rattle.policy_audit.specs.OutFrame.{OutFrame}
 use Rattle.policy_audit.specs.History.{History, past, is_accepted, creation}
 use Rattle.policy_audit.specs.Admission.{cookie}
 use Rattle.policy_audit.specs.Own.{running_scopes, own}

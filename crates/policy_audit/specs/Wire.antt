@@ -2,7 +2,7 @@
 use Rattle.std.specs.Prelude.{ℕ, ◌<◌, ◌^◌, List, length, if◌then◌else◌}
 use Rattle.std.specs.Int.{Width, w16, w32, byte_len}
 use Rattle.handshake_frames.specs.Spelling.{counted}
-use Rattle.policy_audit.specs.declared.out_frame.OutFrame.{OutFrame}
+use Rattle.policy_audit.specs.OutFrame.{OutFrame}
 
 -- the width of the length: 4 bytes after the handshake, 2 in it
 abbrev pub width_of : OutFrame → Width

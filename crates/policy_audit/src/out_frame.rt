@@ -1,26 +1,40 @@
 //! The frames that a node owes to its links.
 ghost use Rattle.std.specs.Prelude.{◌≡◌, ◌++◌, OnOk, OnErr};
-ghost use Rattle.policy_audit.specs.Wire.{FitsWire, wire_bytes};
+ghost use Rattle.policy_audit.specs.Wire.{wire_bytes};
 
 use crate::body::Body;
 use dist_types::{Items, OutOfMemory, TryClone};
 use std::alloc::Global;
+use std::marker::Model;
 
 /// Frames, the first to send first.
 pub type OutFrames = Items<OutFrame>;
 
-/// A frame to send, with the width of its length: 4 bytes where it is wide, as after the handshake, else 2.
+/// A frame to send, with the width of its length: 4 bytes where it is wide, as after the handshake, else 2. The length of its
+/// body fits that width.
 #[derive(Debug, Drop, PartialEq, Eq)]
 pub struct OutFrame {
     pub wide: bool,
     pub body: Body,
 }
 
+impl Model for OutFrame {
+    ghost use Rattle.policy_audit.specs.OutFrame.{OutFrame};
+    ghost use Rattle.policy_audit.specs.Wire.{FitsWire};
+
+    ghost Value = { OutFrame };
+
+    ghost view = { λ frame. record { wide = frame.wide; body = frame.body } };
+
+    ghost inverse = { λ frame. record { wide = frame.wide; body = frame.body } };
+
+    ghost invariant = { λ frame. FitsWire (record { wide = frame.wide; body = frame.body }) };
+}
+
 impl OutFrame {
     /// Appends the frame as it goes over the wire: the length of the body, big-endian, and the body
     /// (Distribution Protocol, Distribution Handshake and Protocol between Connected Nodes).
     pub fn wire(&self, out: &mut Vec<u8>) -> Result<(), OutOfMemory>
-        requires { FitsWire self.now }
         ensures ok { OnOk result (out.new.items ≡ out.old.items ++ wire_bytes self.now) }
         ensures memory { OnErr result (out.new.items ≡ out.old.items) }
     {
