@@ -4,7 +4,7 @@ ghost use Rattle.link_frames.specs.Spelling.{HasSpelling};
 ghost use Rattle.policy_audit.specs.Owed.{wide};
 
 use dist_types::{OutOfMemory, Scope, TryClone};
-use link_frames::{Message, encode};
+use link_frames::{Message, encode, fits_a_reader};
 use policy_audit::{Body, OutFrame};
 use std::alloc::Global;
 
@@ -13,6 +13,8 @@ pub fn frame_of(alloc: Global, message: &Message) -> Result<OutFrame, OutOfMemor
     requires { HasSpelling message.now }
     ensures { IfOk result (λ frame. frame ≡ wide message.now) }
 {
+    // Its length has 4 bytes, and the body is far below that.
+    fits_a_reader();
     let mut body = Vec::new(alloc);
     encode(message, &mut body)?;
     Ok(OutFrame {
