@@ -124,7 +124,7 @@ fn prints_updates(rt: HostRuntime) -> Result<(), Fail> {
 fn prints_frames(rt: HostRuntime) -> Result<(), Fail> {
     let alloc = rt.alloc();
     let mut frames = Vec::new(alloc);
-    for bytes in [b"sok".as_slice(), b"\x00\xff".as_slice()] {
+    for bytes in [b"ok", b"\x00\xff"] {
         let mut body = Vec::new(alloc);
         body.extend_from_slice(bytes)?;
         frames.push(OutFrame {
@@ -132,7 +132,7 @@ fn prints_frames(rt: HostRuntime) -> Result<(), Fail> {
             body: Body::of(body),
         })?;
     }
-    prints(&rt, Ok(Reply::Out(Items::of(frames))), "out 736f6b 00ff\n")
+    prints(&rt, Ok(Reply::Out(Items::of(frames))), "out 6f6b 00ff\n")
 }
 
 /// Sees that an entry has this line.
