@@ -1,5 +1,5 @@
 -- A count has one listing of its groups.
-use Rattle.std.specs.Prelude.{◌≡◌, ℕ, Bool, true, false, List}
+use Rattle.std.specs.Prelude.{◌≡◌, ℕ, true, List}
 use Rattle.std.proofs.Common.{arith}
 use Rattle.std.proofs.lemmas.Map.Lookups.{exact_bytes}
 use Rattle.dist_types.specs.declared.pid.Pid.{Pid}

@@ -1,6 +1,5 @@
 -- The limits of the texts, as facts and as tests that compute.
-use Rattle.std.proofs.Common.{◌≡◌, ◌≢◌, ◌↔◌, ℕ, ◌-◌, ◌<◌, ◌≤◌, Bool, true, false, ◌&&◌, not, nat_lt, nat_le, List, length, get_or, refl, IsTrue, rules, arith, ap, Result, Ok, Err, IfErr, IsErr, MatchResult}
-use Rattle.std.specs.Prelude.{slice_get, Some, ◌==◌}
+use Rattle.std.proofs.Common.{◌≡◌, ◌≢◌, ◌↔◌, ℕ, ◌-◌, ◌<◌, true, false, List, length, refl, IsTrue, arith, ap, Result, Ok, Err, IfErr, IsErr, MatchResult}
 use Rattle.std.proofs.lemmas.Bool.{and_parts, and_from}
 use Rattle.std.proofs.lemmas.List.Sums.{AllPass-from_list_all, list_all-from_AllPass}
 use Rattle.std.proofs.lemmas.Option.{slice_get-get_or}
@@ -8,7 +7,7 @@ use Rattle.std.specs.List.{list_all}
 use Rattle.dist_types.specs.declared.fault.TextFault.{TextFault}
 use Rattle.dist_types.specs.declared.fault.TextFault.TheVariants as faults
 use Rattle.dist_types.specs.Fault.{IsNameFault}
-use Rattle.dist_types.specs.Text.{IsTextByte, IsText, HasInnerAt, IsNodeName, is_text_byte, is_text, has_inner_at, is_node_name}
+use Rattle.dist_types.specs.Text.{IsText, HasInnerAt, IsNodeName, is_text_byte, is_text, has_inner_at, is_node_name}
 
 pub texts_compute : (bytes : List ℕ) → IsTrue (is_text bytes) ↔ IsText bytes
 texts_compute bytes = (

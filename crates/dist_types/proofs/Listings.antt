@@ -1,13 +1,12 @@
 -- A count for each element, and an ascending list with repeats: the one gives the other.
 use Rattle.std.specs.Prelude.{◌≡◌, ℕ, zero, suc, ◌+◌, ◌<◌, ◌≤◌, Bool, true, false, cond, ◌||◌, List, [], ◌∷◌, ◌++◌, replicate, length}
-use Rattle.std.proofs.Common.{refl, ap, ◌∙◌, sym, arith, inl, inr, length-append}
+use Rattle.std.proofs.Common.{refl, ap, ◌∙◌, sym, arith, length-append}
 use Rattle.std.specs.declared.cmp.Ordering.{Ordering}
 use Rattle.std.specs.declared.cmp.Ordering.TheVariants.{Less, Equal, Greater}
-use Rattle.std.specs.Ordering.{is_gt, ordering_reverse, match_ordering}
+use Rattle.std.specs.Ordering.{is_gt, ordering_reverse}
 use Rattle.std.specs.List.{AllByRecursion}
 use Rattle.std.specs.Bool.{Decides}
 use Rattle.std.specs.Cmp.{IsTotalOrder}
-use Rattle.std.proofs.lemmas.Bool.{cases_lt}
 use Rattle.std.proofs.lemmas.Cmp.{tied_itself}
 use Rattle.std.proofs.lemmas.List.{length-replicate}
 use Rattle.dist_types.specs.Listing.{total, occurrences, stands_in, Rises, Ascends, spread, placed, ascending, listing, IsListing}
@@ -50,22 +49,16 @@ length-spread key times [] = refl
 length-spread key times (e ∷ es) = omega (arith, length-spread key times es, length-replicate (times e) (key e), length-append (replicate (times e) (key e)) (spread key times es))
 
 module _ {A : Type 0} (R : A → A → Ordering) (alike : A → A → Bool) (order : IsTotalOrder R) (exact : (x y : A) → R x y ≡ Equal → x ≡ y) (decides : (x y : A) → Decides (alike x y) (x ≡ y)) where
-  first_counts : (x : A) (xs : List A) → occurrences alike x (x ∷ xs) ≡ suc (occurrences alike x xs)
-  first_counts x xs = grind (arith, decides x x)
-
   unlike : (x y : A) → R x y ≡ Less → alike y x ≡ false
   unlike x y l = grind (arith, decides y x, tied_itself order x)
 
   less_from : (x y z : A) → R x y ≡ Less → is_gt (R y z) ≡ false → R x z ≡ Less
   less_from x y z l n = grind (arith, order.trans x y z l, exact y z)
 
-  absent : (x y : A) (ys : List A) → R x y ≡ Less → AllByRecursion (λ z. is_gt (R y z) ≡ false) ys → occurrences alike x ys ≡ 0
-  absent x y [] l b = refl
-  absent x y (z ∷ zs) l b = grind (arith, absent x y zs l b.1, unlike x z (less_from x y z l b.0))
-
   -- a list whose first is above x has no x
   absent_below : (x y : A) (ys : List A) → R x y ≡ Less → AllByRecursion (λ z. is_gt (R y z) ≡ false) ys → occurrences alike x (y ∷ ys) ≡ 0
-  absent_below x y ys l b = grind (arith, absent x y ys l b, unlike x y l)
+  absent_below x y [] l b = grind (arith, unlike x y l)
+  absent_below x y (z ∷ zs) l b = grind (arith, absent_below x y zs l b.1, unlike x y l, unlike x z (less_from x y z l b.0))
 
   flip : (x y : A) → R x y ≡ Greater → R y x ≡ Less
   flip x y g = order.antisymm y x ∙ ap ordering_reverse g
@@ -73,12 +66,12 @@ module _ {A : Type 0} (R : A → A → Ordering) (alike : A → A → Bool) (ord
   -- an ascending list is known by how often each stands in it
   pub same_ascending : (xs ys : List A) → Ascends R xs → Ascends R ys → ((x : A) → occurrences alike x xs ≡ occurrences alike x ys) → xs ≡ ys
   same_ascending [] [] ax ay m = refl
-  same_ascending [] (y ∷ ys) ax ay m = absurd (omega (arith, m y, first_counts y ys))
-  same_ascending (x ∷ xs) [] ax ay m = absurd (omega (arith, m x, first_counts x xs))
+  same_ascending [] (y ∷ ys) ax ay m = absurd (grind (arith, m y, decides y y))
+  same_ascending (x ∷ xs) [] ax ay m = absurd (grind (arith, m x, decides x x))
   same_ascending (x ∷ xs) (y ∷ ys) ax ay m =
       elim (R x y) as (λ o. R x y ≡ o → x ∷ xs ≡ y ∷ ys) [
-        | Less ↦ λ e. absurd (omega (arith, m x, first_counts x xs, absent_below x y ys e ay.0))
-        | Greater ↦ λ e. absurd (omega (arith, m y, first_counts y ys, absent_below y x xs (flip x y e) ax.0))
+        | Less ↦ λ e. absurd (grind (arith, m x, decides x x, absent_below x y ys e ay.0))
+        | Greater ↦ λ e. absurd (grind (arith, m y, decides y y, absent_below y x xs (flip x y e) ax.0))
         | Equal ↦ λ e.
             let first : x ≡ y = exact x y e in
             let tail : xs ≡ ys = same_ascending xs ys ax.1 ay.1 (λ z. grind (arith, m z, first)) in
@@ -137,7 +130,7 @@ module _ {A : Type 0} (R : A → A → Ordering) (alike : A → A → Bool) (ord
 
   -- rising lists in which the same stand are the same
   pub same_rising : (xs ys : List A) → Rises R xs → Rises R ys → ((q : A) → stands_in alike q xs ≡ stands_in alike q ys) → xs ≡ ys
-  same_rising xs ys rx ry m = same_ascending xs ys (rising_ascends xs rx) (rising_ascends ys ry) (λ q. counted q xs rx ∙ ap (λ b. cond b 1 0) (m q) ∙ sym (counted q ys ry))
+  same_rising xs ys rx ry m = same_ascending xs ys (rising_ascends xs rx) (rising_ascends ys ry) (λ q. grind (arith, counted q xs rx, m q, counted q ys ry))
     where
       not_greater : (x : A) (zs : List A) → AllByRecursion (λ z. R x z ≡ Less) zs → AllByRecursion (λ z. is_gt (R x z) ≡ false) zs
       not_greater x [] a = tt
@@ -149,9 +142,7 @@ module _ {A : Type 0} (R : A → A → Ordering) (alike : A → A → Bool) (ord
 
       counted : (q : A) (zs : List A) → Rises R zs → occurrences alike q zs ≡ cond (stands_in alike q zs) 1 0
       counted q [] r = refl
-      counted q (z ∷ zs) r =
-          let none : alike z q ≡ true → stands_in alike q zs ≡ false = λ e. none_above z q zs e r.0 in
-          grind (arith, counted q zs r.1, none)
+      counted q (z ∷ zs) r = let none : alike z q ≡ true → stands_in alike q zs ≡ false = λ e. none_above z q zs e r.0 in grind (arith, counted q zs r.1, none)
 
 module _ {A : Type 0} (alike : A → A → Bool) (decides : (x y : A) → Decides (alike x y) (x ≡ y)) where
   -- the list without the first x

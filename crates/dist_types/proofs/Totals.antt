@@ -1,6 +1,6 @@
 -- Sums and counts over lists.
-use Rattle.std.specs.Prelude.{◌≡◌, ℕ, zero, suc, ◌+◌, ◌≤◌, Bool, true, false, cond, ◌&&◌, List, [], ◌∷◌, ◌++◌, replicate, count_by, length}
-use Rattle.std.proofs.Common.{refl, ap, arith}
+use Rattle.std.specs.Prelude.{◌≡◌, ℕ, zero, suc, ◌+◌, ◌≤◌, Bool, cond, ◌&&◌, List, [], ◌∷◌, ◌++◌, replicate, count_by, length}
+use Rattle.std.proofs.Common.{refl, arith}
 use Rattle.std.specs.List.{sum_by, filter}
 use Rattle.std.proofs.lemmas.List.Recursion.{is_sum_by, is_count_by}
 use Rattle.dist_types.specs.Listing.{total, how_many}
