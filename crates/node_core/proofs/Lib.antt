@@ -51,7 +51,7 @@ pub mod MessageKept
 pub mod MessageScopes
 pub mod MessageRefused
 pub mod MessageRoom
-pub mod Stepped
+pub mod StepAnswers
 pub mod GroupRows
 pub mod Said
 pub mod Joining
@@ -61,3 +61,5 @@ pub mod Moved
 pub mod Leaving
 pub mod Exits
 pub mod RowsGone
+pub mod AfterStep
+pub mod ReadLinks

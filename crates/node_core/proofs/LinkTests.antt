@@ -29,7 +29,7 @@ use Rattle.node_core.proofs.Found.{any_map}
 use Rattle.node_core.proofs.Once.{same_names}
 
 -- tests that agree on all
-agree : {A : Type 0} (P : A → Type 0) (f g : A → Bool) → ((x : A) → P x → f x ≡ g x) → (xs : List A) → AllByRecursion P xs → list_any f xs ≡ list_any g xs
+pub agree : {A : Type 0} (P : A → Type 0) (f g : A → Bool) → ((x : A) → P x → f x ≡ g x) → (xs : List A) → AllByRecursion P xs → list_any f xs ≡ list_any g xs
 agree P f g each [] a = refl
 agree P f g each (x ∷ xs) a = λ i. each x a.0 i || agree P f g each xs a.1 i
 

@@ -16,3 +16,4 @@ pub mod Handshakes
 pub mod MessageRules
 pub mod Moving
 pub mod Exiting
+pub mod Reading

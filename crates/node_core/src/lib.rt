@@ -2,12 +2,14 @@
 #![tactic(auto)]
 
 mod admitting;
+mod awaiting;
 mod changes;
 mod entering;
 mod fault;
 mod frames;
 mod handshaking;
 mod hearing;
+mod laws;
 mod link;
 mod link_state;
 mod linking;
@@ -18,9 +20,13 @@ mod monitoring;
 mod node;
 mod processes;
 mod queries;
+mod readers;
 mod running;
 mod scoping;
 mod telling;
 
+pub use awaiting::{Awaiting, Frame};
 pub use fault::{CoreFault, OpenFault};
+pub use laws::stepped;
 pub use node::NodeCore;
+pub use queries::Query;

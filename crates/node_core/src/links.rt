@@ -47,24 +47,49 @@ pub fn dial_to<'a>(links: &'a [Link], peer: &NodeName) -> Option<&'a Link>
     links.iter().find(|link| link.is_dial_to(peer))
 }
 
+/// Whether the link of this number is up.
+pub fn is_up(links: &[Link], number: u32) -> bool
+    ensures { result ≡ list_any (λ x. nat_eq x.number number && is_some (up_peer x.state)) links.now }
+{
+    links
+        .iter()
+        .any(|link| link.number() == number && link.up_peer().is_some())
+}
+
+/// The peers that are up.
+pub fn up_peers(alloc: Global, links: &[Link]) -> Result<Vec<NodeName>, OutOfMemory>
+    ensures { IfOk result (λ names. names.items ≡ flat_map (λ x. option_to_list (up_peer x.state)) links.now) }
+{
+    let mut peers = Vec::new(alloc);
+    for link in links {
+        if let Some(peer) = link.up_peer() {
+            peers.push(peer.try_clone(alloc)?)?;
+        }
+    }
+    Ok(peers)
+}
+
+/// The peers of the own dials that are unfinished.
+fn dialled_peers(alloc: Global, links: &[Link]) -> Result<Vec<NodeName>, OutOfMemory>
+    ensures { IfOk result (λ names. names.items ≡ flat_map (λ x. option_to_list (dialled_peer x.state)) links.now) }
+{
+    let mut peers = Vec::new(alloc);
+    for link in links {
+        if let Some(peer) = link.dialled_peer() {
+            peers.push(peer.try_clone(alloc)?)?;
+        }
+    }
+    Ok(peers)
+}
+
 /// The peers that are up, and the own dials.
 pub fn pending_of(alloc: Global, links: &[Link]) -> Result<Pending, OutOfMemory>
     ensures up { IfOk result (λ p. p.up ≡ flat_map (λ x. option_to_list (up_peer x.state)) links.now) }
     ensures dials { IfOk result (λ p. p.dials ≡ flat_map (λ x. option_to_list (dialled_peer x.state)) links.now) }
 {
-    let mut up = Vec::new(alloc);
-    let mut dials = Vec::new(alloc);
-    for link in links {
-        if let Some(peer) = link.up_peer() {
-            up.push(peer.try_clone(alloc)?)?;
-        }
-        if let Some(peer) = link.dialled_peer() {
-            dials.push(peer.try_clone(alloc)?)?;
-        }
-    }
     Ok(Pending {
-        up: Names::of(up),
-        dials: Names::of(dials),
+        up: Names::of(up_peers(alloc, links)?),
+        dials: Names::of(dialled_peers(alloc, links)?),
     })
 }
 

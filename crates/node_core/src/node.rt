@@ -1,5 +1,5 @@
 //! A node.
-ghost use Rattle.std.specs.Prelude.{◌≡◌, ◌<◌, ℕ, false, cond, List, [], Some, None, is_some, length, IfOk, IfErr, IfSome, OnOk};
+ghost use Rattle.std.specs.Prelude.{◌≡◌, ◌<◌, ◌≤◌, ◌^◌, ℕ, false, cond, List, [], Some, None, is_some, length, IfOk, IfErr, IfSome, OnOk};
 ghost use Rattle.dist_types.specs.declared.pid.Pid.{Pid};
 ghost use Rattle.scope_core.specs.Table.{count_of};
 ghost use Rattle.policy_audit.specs.History.{past, creation};
@@ -95,6 +95,8 @@ impl NodeCore {
         ensures entries { result.now.entries ≡ self.now.entries }
         ensures limit { result.now.limit ≡ self.now.opening.entries }
         ensures legal { IsLegal self.now }
+        ensures few { length self.now.entries ≤ self.now.opening.entries }
+        ensures fits { self.now.opening.entries < 2 ^ 32 }
     {
         &self.audit
     }

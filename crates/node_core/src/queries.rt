@@ -1,4 +1,4 @@
-//! Calls that change nothing but the audit, and refusals.
+//! Queries, which change nothing but the audit or not even that, and refusals.
 ghost use Rattle.std.specs.Prelude.{◌≡◌, Some, None, true, false, IfSome, IfNone};
 ghost use Rattle.policy_audit.specs.Own.{is_running};
 ghost use Rattle.policy_audit.specs.Checks.{checks, first_broken};
@@ -6,6 +6,7 @@ ghost use Rattle.policy_audit.specs.Policy.{is_full, answer, IsLegal};
 ghost use Rattle.node_core.specs.ScopeFacts.{IsRunningOf, scope_words};
 ghost use Rattle.node_core.specs.Step.{Steps};
 ghost use Rattle.node_core.specs.Calm.{is_query, refuses_calmly, IsCalmFault};
+ghost use Rattle.node_core.specs.Reading.{event_of, IsAnswer};
 
 use crate::entering::{accept, make_ready, reject};
 use crate::fault::CoreFault;
@@ -13,6 +14,19 @@ use crate::node::NodeCore;
 use crate::running::{Running, find};
 use dist_types::{Group, Scope};
 use policy_audit::{Event, Groups, Members, Reply, Rule};
+
+/// What may be asked of the rows of a scope.
+#[derive(Clone, Copy, Debug)]
+pub enum Query<'a> {
+    /// The processes of a group.
+    Members(&'a Group),
+    /// The own processes of a group.
+    LocalMembers(&'a Group),
+    /// The groups with a process.
+    Groups,
+    /// The groups with an own process.
+    LocalGroups,
+}
 
 impl NodeCore {
     /// Enters a refusal that ends no link.
@@ -83,6 +97,43 @@ impl NodeCore {
         find(&self.scopes, scope)
     }
 
+    /// Answers a query as `step` would now, with no entry: a full audit doesn't stop it.
+    pub fn look(&self, scope: &Scope, query: Query<'_>) -> Result<Reply, CoreFault>
+        ensures { IsAnswer self.now (event_of scope.now query.entry) result }
+    {
+        let Some(running) = self.running(scope) else {
+            return Err(CoreFault::Refused(Rule::NoScope));
+        };
+        let table = &running.table;
+        match query {
+            Query::Members(group) => Ok(Reply::Pids(Members::of(table.members(group)?)?)),
+            Query::LocalMembers(group) => {
+                Ok(Reply::Pids(Members::of(table.local_members(group)?)?))
+            }
+            Query::Groups => Ok(Reply::Groups(Groups::of(table.groups()?)?)),
+            Query::LocalGroups => Ok(Reply::Groups(Groups::of(table.local_groups()?)?)),
+        }
+    }
+
+    /// Enters a query with its answer.
+    #[tactic(auto, unfolding(crate::specs::Step::Steps))]
+    fn enter(
+        &mut self,
+        seat: u32,
+        event: Event,
+        answer: Result<Reply, CoreFault>,
+    ) -> Result<Reply, CoreFault>
+        requires space { is_full self.old ≡ false }
+        requires query { is_query event ≡ true }
+        requires answer { IsAnswer self.old event answer }
+        ensures { Steps self.old seat event self.new result }
+    {
+        match answer {
+            Ok(reply) => self.reply(seat, event, reply),
+            Err(fault) => self.give_up(seat, event, fault),
+        }
+    }
+
     /// The processes of a group.
     #[tactic(auto, unfolding(crate::specs::Step::Steps))]
     pub(crate) fn members(
@@ -94,11 +145,8 @@ impl NodeCore {
         requires { is_full self.old ≡ false }
         ensures { Steps self.old seat (Event.Members scope group) self.new result }
     {
-        let Some(running) = self.running(&scope) else {
-            return self.refuse(seat, Event::Members(scope, group), Rule::NoScope);
-        };
-        let pids = Members::of(running.table.members(&group)?)?;
-        self.reply(seat, Event::Members(scope, group), Reply::Pids(pids))
+        let answer = self.look(&scope, Query::Members(&group));
+        self.enter(seat, Event::Members(scope, group), answer)
     }
 
     /// The own processes of a group.
@@ -112,11 +160,8 @@ impl NodeCore {
         requires { is_full self.old ≡ false }
         ensures { Steps self.old seat (Event.LocalMembers scope group) self.new result }
     {
-        let Some(running) = self.running(&scope) else {
-            return self.refuse(seat, Event::LocalMembers(scope, group), Rule::NoScope);
-        };
-        let pids = Members::of(running.table.local_members(&group)?)?;
-        self.reply(seat, Event::LocalMembers(scope, group), Reply::Pids(pids))
+        let answer = self.look(&scope, Query::LocalMembers(&group));
+        self.enter(seat, Event::LocalMembers(scope, group), answer)
     }
 
     /// The groups with a process.
@@ -125,11 +170,8 @@ impl NodeCore {
         requires { is_full self.old ≡ false }
         ensures { Steps self.old seat (Event.Groups scope) self.new result }
     {
-        let Some(running) = self.running(&scope) else {
-            return self.refuse(seat, Event::Groups(scope), Rule::NoScope);
-        };
-        let groups = Groups::of(running.table.groups()?)?;
-        self.reply(seat, Event::Groups(scope), Reply::Groups(groups))
+        let answer = self.look(&scope, Query::Groups);
+        self.enter(seat, Event::Groups(scope), answer)
     }
 
     /// The groups with an own process.
@@ -138,10 +180,7 @@ impl NodeCore {
         requires { is_full self.old ≡ false }
         ensures { Steps self.old seat (Event.LocalGroups scope) self.new result }
     {
-        let Some(running) = self.running(&scope) else {
-            return self.refuse(seat, Event::LocalGroups(scope), Rule::NoScope);
-        };
-        let groups = Groups::of(running.table.local_groups()?)?;
-        self.reply(seat, Event::LocalGroups(scope), Reply::Groups(groups))
+        let answer = self.look(&scope, Query::LocalGroups);
+        self.enter(seat, Event::LocalGroups(scope), answer)
     }
 }

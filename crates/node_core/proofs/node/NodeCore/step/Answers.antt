@@ -1,6 +1,6 @@
 use Rattle.std.proofs.Common.{sym, ◌∙◌}
 use Rattle.policy_audit.specs.declared.event.Event.TheVariants as event
-use Rattle.node_core.proofs.Stepped.{handled, full_step}
+use Rattle.node_core.proofs.StepAnswers.{handled, full_step}
 use Rattle.node_core.proofs.node.NodeCore.step.Goals as goal
 
 pub returns-then-is_full : goal.returns-then-is_full

@@ -1,0 +1,39 @@
+-- What a step leaves of a history.
+use Rattle.std.specs.Prelude.{◌≡◌, ℕ, Bool, true, false, cond, Ok, Err}
+use Rattle.std.specs.declared.result.Result.{Result}
+use Rattle.std.proofs.Common.{refl, ap, ◌∙◌, sym, subst}
+use Rattle.policy_audit.specs.declared.event.Event.{Event}
+use Rattle.policy_audit.specs.declared.reply.Reply.{Reply}
+use Rattle.policy_audit.specs.History.{History}
+use Rattle.policy_audit.specs.Policy.{is_full, after, with_entry, entry_of, IsLegal}
+use Rattle.policy_audit.proofs.ChangeLemmas.{next_is}
+use Rattle.node_core.specs.declared.fault.CoreFault.{CoreFault}
+use Rattle.node_core.specs.declared.fault.CoreFault.TheVariants as faults
+use Rattle.node_core.specs.Step.{IsStepped}
+
+module _ (h : History) (seat : ℕ) (e : Event) where
+  after_legal : IsLegal h → IsLegal (after h seat e)
+  after_legal legal = by (is_full h) refl
+    where
+      by : (b : Bool) → is_full h ≡ b → IsLegal (cond b h (with_entry h (entry_of h seat e)))
+      by true q = legal
+      by false q = (next_is h seat e q, legal)
+
+  after_opening : (after h seat e).opening ≡ h.opening
+  after_opening = by (is_full h)
+    where
+      by : (b : Bool) → (cond b h (with_entry h (entry_of h seat e))).opening ≡ h.opening
+      by true = refl
+      by false = refl
+
+pub stepped_legal : (old new : History) (seat : ℕ) (e : Event) (result : Result Reply CoreFault) → IsLegal old → IsStepped old seat e new result → IsLegal new
+unfolding IsStepped
+stepped_legal old new seat e (Ok reply) legal t = subst IsLegal (sym t.1) (after_legal old seat e legal)
+stepped_legal old new seat e (Err (faults.Refused rule)) legal t = subst IsLegal (sym t.1) (after_legal old seat e legal)
+stepped_legal old new seat e (Err faults.OutOfMemory) legal t = subst IsLegal (sym t.1) legal
+
+pub stepped_opening : (old new : History) (seat : ℕ) (e : Event) (result : Result Reply CoreFault) → IsStepped old seat e new result → new.opening ≡ old.opening
+unfolding IsStepped
+stepped_opening old new seat e (Ok reply) t = ap (λ h. h.opening) t.1 ∙ after_opening old seat e
+stepped_opening old new seat e (Err (faults.Refused rule)) t = ap (λ h. h.opening) t.1 ∙ after_opening old seat e
+stepped_opening old new seat e (Err faults.OutOfMemory) t = ap (λ h. h.opening) t.1

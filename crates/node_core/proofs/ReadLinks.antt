@@ -1,0 +1,138 @@
+-- What is read of the kept links, in the policy's words.
+use Rattle.std.specs.Prelude.{◌≡◌, ℕ, suc, ◌≤◌, nat_eq, Bool, true, false, cond, ◌&&◌, ◌||◌, not, List, [], ◌∷◌, ◌++◌, Option, Some, None, is_some, map}
+use Rattle.std.proofs.Common.{refl, ap, ◌∙◌, sym, subst, arith}
+use Rattle.std.proofs.lemmas.Bool.{eqb-true, eq-eqb}
+use Rattle.std.specs.List.{list_any, flat_map, AllByRecursion}
+use Rattle.std.specs.Option.{option_map_or, option_to_list}
+use Rattle.dist_types.specs.Listing.{same, how_many, occurrences}
+use Rattle.dist_types.proofs.Orders.{same_decides}
+use Rattle.policy_audit.specs.History.{History}
+use Rattle.policy_audit.specs.Sides.{awaits, is_name_up, is_peer, is_whole, peer_of}
+use Rattle.policy_audit.specs.Links.{is_open, is_up}
+use Rattle.policy_audit.specs.Owed.{is_kept, waiting}
+use Rattle.dist_types.specs.Difference.{is_empty}
+use Rattle.policy_audit.proofs.KeptNumbers.{kept_among, kept_once, name_up_kept, one_up}
+use Rattle.policy_audit.proofs.Accepted.{lie}
+use Rattle.policy_audit.proofs.UpLinks.{and_false, and_left, and_right}
+use Rattle.node_core.specs.declared.link_state.LinkState.{LinkState}
+use Rattle.node_core.specs.declared.link_state.LinkState.TheVariants as state
+use Rattle.node_core.specs.Core.{Parts, Follows}
+use Rattle.node_core.specs.Links.{KeptLink, up_peer}
+use Rattle.node_core.specs.LinkFacts.{facts, kept_numbers, link_words, IsState, IsLinkOf}
+use Rattle.node_core.specs.Reading.{up_name, up_names, frame_of, frame_awaited, awaiting}
+use Rattle.node_core.proofs.Found.{any_map}
+use Rattle.node_core.proofs.LinkTests.{agree, up_is}
+
+-- ---- what a link's state tells
+
+module _ (h : History) (l : ℕ) where
+  up_told : (s : LinkState) → IsState (facts h l) s → is_some (up_peer s) ≡ is_up l h.entries
+  up_told (state.Name c) t = grind (arith, t.0.whole)
+  up_told (state.Answer s) t = grind (arith, t.0.whole)
+  up_told (state.Reply s) t = grind (arith, t.0.whole)
+  up_told (state.Status s) t = grind (arith, t.0.whole)
+  up_told (state.Challenge s) t = grind (arith, t.0.whole)
+  up_told (state.Ack s) t = grind (arith, t.0.whole)
+  up_told (state.Up s) t = sym (λ i. t.0.open_now i && t.0.whole i)
+  up_told state.Ended t = sym (ap (λ b. b && is_whole l h.entries) t)
+
+  name_told : (s : LinkState) → IsState (facts h l) s → option_to_list (up_peer s) ≡ up_name h l
+  name_told (state.Up s) t = sym (λ i. cond (t.0.open_now i && t.0.whole i) (option_to_list (t.1.peer.peer i)) [])
+  name_told (state.Name c) t = ap (λ b. cond b (option_to_list (peer_of l h.entries)) []) (up_told (state.Name c) t)
+  name_told (state.Answer s) t = ap (λ b. cond b (option_to_list (peer_of l h.entries)) []) (up_told (state.Answer s) t)
+  name_told (state.Reply s) t = ap (λ b. cond b (option_to_list (peer_of l h.entries)) []) (up_told (state.Reply s) t)
+  name_told (state.Status s) t = ap (λ b. cond b (option_to_list (peer_of l h.entries)) []) (up_told (state.Status s) t)
+  name_told (state.Challenge s) t = ap (λ b. cond b (option_to_list (peer_of l h.entries)) []) (up_told (state.Challenge s) t)
+  name_told (state.Ack s) t = ap (λ b. cond b (option_to_list (peer_of l h.entries)) []) (up_told (state.Ack s) t)
+  name_told state.Ended t = ap (λ b. cond b (option_to_list (peer_of l h.entries)) []) (up_told state.Ended t)
+
+  frame_told : (s : LinkState) → IsState (facts h l) s → frame_awaited s ≡ cond (is_open l h.entries) (Some (frame_of (awaits l h.entries))) None
+  frame_told (state.Name c) t = sym (λ i. cond (t.0.open_now i) (Some (frame_of (t.0.awaited i))) None)
+  frame_told (state.Answer s) t = sym (λ i. cond (t.0.open_now i) (Some (frame_of (t.0.awaited i))) None)
+  frame_told (state.Reply s) t = sym (λ i. cond (t.0.open_now i) (Some (frame_of (t.0.awaited i))) None)
+  frame_told (state.Status s) t = sym (λ i. cond (t.0.open_now i) (Some (frame_of (t.0.awaited i))) None)
+  frame_told (state.Challenge s) t = sym (λ i. cond (t.0.open_now i) (Some (frame_of (t.0.awaited i))) None)
+  frame_told (state.Ack s) t = sym (λ i. cond (t.0.open_now i) (Some (frame_of (t.0.awaited i))) None)
+  frame_told (state.Up s) t = sym (λ i. cond (t.0.open_now i) (Some (frame_of (t.0.awaited i))) None)
+  frame_told state.Ended t = sym (ap (λ b. cond b (Some (frame_of (awaits l h.entries))) None) t)
+
+-- ---- lists of numbers
+
+-- one number among others
+any_here : (test : ℕ → Bool) (l : ℕ) (xs : List ℕ) → list_any (λ k. nat_eq k l && test k) xs ≡ (list_any (λ k. nat_eq k l) xs && test l)
+any_here test l [] = refl
+any_here test l (x ∷ xs) = grind (arith, any_here test l xs, eqb-true x l)
+
+-- where one test implies another, it counts no more
+counts_less : {A : Type 0} (f g : A → Bool) → ((x : A) → f x ≡ true → g x ≡ true) → (xs : List A) → how_many f xs ≤ how_many g xs
+counts_less f g on [] = omega arith
+counts_less f g on (x ∷ xs) = grind (arith, counts_less f g on xs, on x)
+
+-- where one number at most passes, and each is there once, one is counted where there is one
+counts_one : (test : ℕ → Bool) → ((a b : ℕ) → test a ≡ true → test b ≡ true → a ≡ b) → (xs : List ℕ) → ((l : ℕ) → how_many (nat_eq l) xs ≤ 1) → how_many test xs ≡ cond (list_any test xs) 1 0
+counts_one test one [] once = refl
+counts_one test one (x ∷ xs) once = by (test x) refl (counts_one test one xs (λ l. grind (arith, once l)))
+  where
+    by : (b : Bool) → test x ≡ b → how_many test xs ≡ cond (list_any test xs) 1 0 → cond b (suc (how_many test xs)) (how_many test xs) ≡ cond (b || list_any test xs) 1 0
+    by false e rest = rest
+    by true e rest =
+        let few = counts_less test (nat_eq x) (λ y q. eq-eqb x y (one x y e q)) xs in
+        let own = subst (λ b. cond b (suc (how_many (nat_eq x) xs)) (how_many (nat_eq x) xs) ≤ 1) (eq-eqb x x refl) (once x) in
+        omega (arith, few, own)
+
+names_count : (h : History) (n : List ℕ) (xs : List ℕ) → occurrences same n (flat_map (up_name h) xs) ≡ how_many (λ l. is_up l h.entries && is_peer n l h.entries) xs
+names_count h n [] = refl
+names_count h n (x ∷ xs) = by (is_up x h.entries) (peer_of x h.entries) (names_count h n xs)
+  where
+    by : (b : Bool) (o : Option (List ℕ)) → occurrences same n (flat_map (up_name h) xs) ≡ how_many (λ l. is_up l h.entries && is_peer n l h.entries) xs
+        → occurrences same n (cond b (option_to_list o) [] ++ flat_map (up_name h) xs)
+        ≡ cond (b && option_map_or (λ m. same m n) o false) (suc (how_many (λ l. is_up l h.entries && is_peer n l h.entries) xs)) (how_many (λ l. is_up l h.entries && is_peer n l h.entries) xs)
+    by true (Some m) q = ap (λ k. cond (same m n) (suc k) k) q
+    by true None q = q
+    by false o q = q
+
+-- ---- the readers
+
+module _ {h : History} {parts : Parts} (t : Follows h parts) where
+  pub link_up : (l : ℕ) → list_any (λ x. nat_eq x.number l && is_some (up_peer x.state)) parts.links ≡ is_up l h.entries
+  link_up l =
+      agree (IsLinkOf (link_words h)) (λ x. nat_eq x.number l && is_some (up_peer x.state)) (λ x. nat_eq x.number l && is_up x.number h.entries) (λ x it. ap (λ b. nat_eq x.number l && b) (up_told h x.number x.state it.state)) parts.links t.links.each
+      ∙ sym (any_map (λ k. nat_eq k l && is_up k h.entries) (λ x. x.number) parts.links)
+      ∙ ap (list_any (λ k. nat_eq k l && is_up k h.entries)) t.links.numbers
+      ∙ any_here (λ k. is_up k h.entries) l (kept_numbers h)
+      ∙ ap (λ b. b && is_up l h.entries) (sym (kept_among h t.sound.legal l))
+      ∙ open_kept (is_open l h.entries) (is_whole l h.entries) (not (is_empty (waiting h l)))
+    where
+      open_kept : (a w b : Bool) → ((a || b) && (a && w)) ≡ (a && w)
+      open_kept true w b = refl
+      open_kept false w b = and_false b
+
+  pub peer_up : (n : List ℕ) → list_any (λ x. option_map_or (λ m. same m n) (up_peer x.state) false) parts.links ≡ is_name_up n h.entries
+  peer_up n = up_is h n t.sound.legal parts.links t.links
+
+  pub names_are : flat_map (λ x. option_to_list (up_peer x.state)) parts.links ≡ up_names h
+  names_are = all parts.links t.links.each ∙ ap (flat_map (up_name h)) t.links.numbers
+    where
+      all : (xs : List KeptLink) → AllByRecursion (IsLinkOf (link_words h)) xs → flat_map (λ x. option_to_list (up_peer x.state)) xs ≡ flat_map (up_name h) (map (λ x. x.number) xs)
+      all [] a = refl
+      all (x ∷ xs) a = λ i. name_told h x.number x.state a.0.state i ++ all xs a.1 i
+
+  pub names_once : (n : List ℕ) → occurrences same n (up_names h) ≡ cond (is_name_up n h.entries) 1 0
+  names_once n =
+      names_count h n (kept_numbers h)
+      ∙ counts_one (λ l. is_up l h.entries && is_peer n l h.entries) alone (kept_numbers h) (kept_once h t.sound.legal)
+      ∙ ap (λ b. cond b 1 0) (sym (name_up_kept h t.sound.legal n))
+    where
+      its : (o : Option (List ℕ)) → option_map_or (λ m. same m n) o false ≡ true → o ≡ Some n
+      its None p = lie (sym p)
+      its (Some m) p = ap Some ((same_decides m n).0 p)
+
+      alone : (a b : ℕ) → (is_up a h.entries && is_peer n a h.entries) ≡ true → (is_up b h.entries && is_peer n b h.entries) ≡ true → a ≡ b
+      alone a b p q = one_up h t.sound.legal n a b (and_left _ _ p) (and_left _ _ q) (its (peer_of a h.entries) (and_right (is_up a h.entries) _ p)) (its (peer_of b h.entries) (and_right (is_up b h.entries) _ q))
+
+  pub links_are : map (λ x. record { link = x.number; frame = frame_awaited x.state }) parts.links ≡ map (awaiting h) (kept_numbers h)
+  links_are = all parts.links t.links.each ∙ ap (map (awaiting h)) t.links.numbers
+    where
+      all : (xs : List KeptLink) → AllByRecursion (IsLinkOf (link_words h)) xs → map (λ x. record { link = x.number; frame = frame_awaited x.state }) xs ≡ map (awaiting h) (map (λ x. x.number) xs)
+      all [] a = refl
+      all (x ∷ xs) a = λ i. record { link = x.number; frame = frame_told h x.number x.state a.0.state i } ∷ all xs a.1 i

@@ -1,0 +1,10 @@
+use Rattle.std.proofs.Common.{◌≡◌}
+use Rattle.std.specs.Prelude.{take}
+use Rattle.std.specs.List.{flat_map}
+use Rattle.std.specs.Option.{option_to_list}
+use Rattle.node_core.specs.Links.{up_peer}
+use Rattle.node_core.proofs.links.up_peers.Given as goal
+
+-- the names so far
+abbrev pub invariant-loop-link : goal.invariant-loop-link
+invariant-loop-link l = l.peers.items ≡ flat_map (λ x. option_to_list (up_peer x.state)) (take l.link-index l.links)

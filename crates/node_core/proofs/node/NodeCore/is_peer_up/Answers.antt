@@ -1,0 +1,13 @@
+use Rattle.std.proofs.Common.{◌∙◌, ap, false}
+use Rattle.std.specs.Prelude.{is_some}
+use Rattle.std.specs.Option.{option_map_or}
+use Rattle.dist_types.specs.Listing.{same}
+use Rattle.node_core.specs.Links.{up_peer}
+use Rattle.node_core.proofs.Found.{place_found}
+use Rattle.node_core.proofs.ReadLinks.{peer_up}
+use Rattle.node_core.proofs.node.NodeCore.is_peer_up.Goals as goal
+
+pub returns : goal.returns
+returns c = rw (← c.self.view_is) (
+    c.is_some.ensures ∙ ap is_some (rw c.deref.ensures.value at c.place_of_up.ensures)
+    ∙ place_found (λ x. option_map_or (λ n. same n c.args.peer.now) (up_peer x.state) false) c.self.inside.links.items ∙ peer_up c.self.invariant c.args.peer.now)
