@@ -19,8 +19,7 @@ use Rattle.group_monitors.specs.declared.monitor.Monitor.{Monitor}
 use Rattle.group_monitors.specs.Monitors.{target, monitor_of, at_place, IsFree, IsNumbered, without, without_scope, with_place}
 use Rattle.group_monitors.specs.Fetches.{IsLastFetch}
 use Rattle.group_monitors.specs.Follows.{FollowsPolicy, concerns_monitors}
-use Rattle.group_monitors.proofs.Found.{none_found, free_not_found}
-use Rattle.group_monitors.proofs.FoundAfter.{both, found_added, found_removed, found_moved, found_dropped}
+use Rattle.group_monitors.proofs.Found.{none_found, free_not_found, found_added, found_removed, found_moved, found_dropped}
 use Rattle.group_monitors.proofs.Fetched.{stays_last, becomes_last}
 use Rattle.group_monitors.proofs.Numbers.{AtMost, none_numbered, all_passing, one_more, at_most, greater_free, numbered_last, numbers_stay, moved_at_most}
 
@@ -154,7 +153,7 @@ module _ (h : History) (e : Entry) (ms : List (ℕ × Monitor)) (number : e.numb
     as_before seat k = by (e.number == k && e.seat == seat) refl
       where
         by : (b : Bool) → (e.number == k && e.seat == seat) ≡ b → cond b None (monitor h seat k) ≡ monitor h seat k
-        by true is = sym (none_before seat k (both (e.number == k) (e.seat == seat) is).0)
+        by true is = sym (none_before seat k (grind (arith, is)))
         by false is = refl
 
     -- an accepted event of another kind
@@ -205,7 +204,7 @@ module _ (h : History) (e : Entry) (ms : List (ℕ × Monitor)) (number : e.numb
               → IsLastFetch seat k m.place (e ∷ h.entries)
           by_place seat k m true is at =
               subst (λ m. IsLastFetch seat k m.place (e ∷ h.entries)) (same_Some new_one m at)
-              (becomes_last seat k e h.entries (own_fetch seat k (both (e.number == k) (e.seat == seat) is).0))
+              (becomes_last seat k e h.entries (own_fetch seat k (grind (arith, is))))
           by_place seat k m false is at =
               stays_last seat k m.place e h.entries (f.places seat k m at) (no_fetch seat k (at_most (length h.entries) ms seat k m f.past at) (other seat k))
 

@@ -1,14 +1,12 @@
 -- What monitors that follow the policy say of its answers.
-use Rattle.std.proofs.Common.{◌≡◌, ◌∙◌, sym, ap, refl, ℕ, cond, not, List, Option, Some, None, length, ◌≤◌, true≢false, is_some, arith}
+use Rattle.std.proofs.Common.{◌≡◌, ◌∙◌, sym, ap, refl, ℕ, List, Some, None, length, ◌≤◌, arith}
 use Rattle.std.specs.Option.{IsSome, option_map}
-use Rattle.std.proofs.lemmas.Option.{none-some, same_Some}
 use Rattle.policy_audit.specs.declared.event.Event.TheVariants as event
-use Rattle.policy_audit.specs.declared.rule.Rule.{Rule}
 use Rattle.policy_audit.specs.declared.rule.Rule.TheVariants as rule
 use Rattle.policy_audit.specs.declared.entry.Entry.{Entry}
 use Rattle.policy_audit.specs.declared.reply.Update.{Update}
 use Rattle.policy_audit.specs.History.{History}
-use Rattle.policy_audit.specs.Monitors.{Target, monitor, updates}
+use Rattle.policy_audit.specs.Monitors.{monitor, updates}
 use Rattle.policy_audit.specs.Checks.{first_broken, checks}
 use Rattle.group_monitors.specs.declared.monitor.Monitor.{Monitor}
 use Rattle.group_monitors.specs.Monitors.{target, monitor_of, HasSeen, updates_behind}
@@ -26,43 +24,22 @@ module _ (h : History) (ms : List (ℕ × Monitor)) (f : FollowsPolicy h ms) (se
 
   -- it has seen no more entries than there are
   pub follows_seen : HasSeen (monitor_of ms seat k) h.entries
-  follows_seen = by (monitor_of ms seat k) refl
-    where
-      by : (x : Option Monitor) → monitor_of ms seat k ≡ x → HasSeen x h.entries
-      by None is = tt
-      by (Some m) is = seen_all seat k m.place h.entries (f.places seat k m is)
+  follows_seen = let seen = λ (m : Monitor) (at : monitor_of ms seat k ≡ Some m). seen_all seat k m.place h.entries (f.places seat k m at) in grind (arith, seen)
 
   -- nor than there are later
   pub follows_seen_later : (later : List Entry) → length h.entries ≤ length later → HasSeen (monitor_of ms seat k) later
-  follows_seen_later later more = by (monitor_of ms seat k) follows_seen
-    where
-      by : (x : Option Monitor) → HasSeen x h.entries → HasSeen x later
-      by None seen = tt
-      by (Some m) seen = omega (arith, seen, more)
+  follows_seen_later later more = grind (arith, follows_seen)
 
   -- whether an Updates and a Demonitor of it are refused
-  abbrev no_monitor : Option Target → Option Rule
-  no_monitor x = cond (not (is_some x)) (Some rule.NoMonitor) None
-
   pub follows_refused : monitor_of ms seat k ≡ None
       → (first_broken (checks h seat (event.Updates k)) ≡ Some rule.NoMonitor) × (first_broken (checks h seat (event.Demonitor k)) ≡ Some rule.NoMonitor)
-  follows_refused none = let none_there : monitor h seat k ≡ None = sym (f.found seat k) ∙ ap (option_map target) none in (ap no_monitor none_there, ap no_monitor none_there)
+  follows_refused none = let none_there : monitor h seat k ≡ None = sym (f.found seat k) ∙ ap (option_map target) none in rw none_there (refl, refl)
 
   pub follows_checked : IsSome (monitor_of ms seat k)
       → (first_broken (checks h seat (event.Updates k)) ≡ None) × (first_broken (checks h seat (event.Demonitor k)) ≡ None)
-  follows_checked some = by (monitor_of ms seat k) refl some
-    where
-      by : (x : Option Monitor) → monitor_of ms seat k ≡ x → IsSome x
-          → (first_broken (checks h seat (event.Updates k)) ≡ None) × (first_broken (checks h seat (event.Demonitor k)) ≡ None)
-      by None is some = absurd (true≢false (sym some))
-      by (Some m) is some = (ap no_monitor (is_one m is), ap no_monitor (is_one m is))
+  follows_checked some = grind (arith, is_one)
 
   -- what is told where there is such a monitor
   pub follows_told : (us : List Update) → option_map (updates_behind h.entries) (monitor_of ms seat k) ≡ Some us
       → (first_broken (checks h seat (event.Updates k)) ≡ None) × (updates h seat k ≡ us)
-  follows_told us told = by (monitor_of ms seat k) refl told
-    where
-      by : (x : Option Monitor) → monitor_of ms seat k ≡ x → option_map (updates_behind h.entries) x ≡ Some us
-          → (first_broken (checks h seat (event.Updates k)) ≡ None) × (updates h seat k ≡ us)
-      by None is told = absurd (none-some us told)
-      by (Some m) is told = ((follows_checked (ap is_some is)).0, follows_answer m is ∙ same_Some _ us told)
+  follows_told us told = grind (arith, follows_checked, follows_answer)

@@ -1,5 +1,4 @@
 pub mod Found
-pub mod FoundAfter
 pub mod Fetched
 pub mod FetchedAll
 pub mod Numbers

@@ -1,13 +1,11 @@
 -- The numbers of the monitors: no two are the same, and all are of entries so far.
-use Rattle.std.proofs.Common.{◌≡◌, ◌∙◌, sym, ap, refl, ℕ, suc, ◌<◌, ◌≤◌, Bool, true, false, cond, nat_eq, ◌==◌, ◌||◌, ◌++◌, List, [], ◌∷◌, Some, true≢false, is_some, arith}
-use Rattle.std.specs.List.{AllByRecursion, IsDistinct, filter, list_any}
+use Rattle.std.proofs.Common.{◌≡◌, refl, ℕ, suc, ◌<◌, ◌≤◌, Bool, false, nat_eq, ◌==◌, ◌++◌, List, [], ◌∷◌, Some, arith}
+use Rattle.std.specs.List.{AllByRecursion, IsDistinct, filter}
 use Rattle.std.specs.Map.{keys_of}
-use Rattle.std.proofs.lemmas.Bool.{false_from_ne_true}
-use Rattle.std.proofs.lemmas.Bool.Decides.{Decides-eqb}
+use Rattle.std.proofs.lemmas.Bool.Decides.{nat_tests}
 use Rattle.std.proofs.lemmas.Map.Keys.{IsDistinct-head, IsDistinct-cons, IsDistinct-tail}
 use Rattle.group_monitors.specs.declared.monitor.Monitor.{Monitor}
-use Rattle.group_monitors.specs.Monitors.{is_of, at_place, monitor_of, IsFree, IsNumbered, with_place}
-use Rattle.group_monitors.proofs.FoundAfter.{both}
+use Rattle.group_monitors.specs.Monitors.{monitor_of, IsFree, IsNumbered, with_place}
 
 -- no two of none are the same
 pub none_numbered : IsNumbered []
@@ -21,11 +19,7 @@ AtMost j ms = AllByRecursion (λ m. m.0 ≤ j) ms
 -- what holds of each holds of those that pass a test
 pub all_passing : {A : Type 0} (P : A → Type 0) (p : A → Bool) (xs : List A) → AllByRecursion P xs → AllByRecursion P (filter p xs)
 all_passing P p [] all = tt
-all_passing P p (x ∷ xs) all = by (p x) (all_passing P p xs all.1)
-  where
-    by : (b : Bool) → AllByRecursion P (filter p xs) → AllByRecursion P (cond b (x ∷ filter p xs) (filter p xs))
-    by true rest = (all.0, rest)
-    by false rest = rest
+all_passing P p (x ∷ xs) all = grind (arith, all, all_passing P p xs)
 
 -- at most j is at most one more
 pub one_more : (j : ℕ) (ms : List (ℕ × Monitor)) → AtMost j ms → AtMost (suc j) ms
@@ -34,22 +28,13 @@ one_more j (m ∷ ms) past = (let le = past.0 in omega (arith, le), one_more j m
 
 -- a seat's monitor has such a number
 pub at_most : (j : ℕ) (ms : List (ℕ × Monitor)) (seat k : ℕ) (m : Monitor) → AtMost j ms → monitor_of ms seat k ≡ Some m → k ≤ j
-at_most j [] seat k m past at = absurd (true≢false (sym (ap is_some at)))
-at_most j (x ∷ ms) seat k m past at = by (is_of seat k x) refl (at_most j ms seat k m past.1)
-  where
-    by : (b : Bool) → is_of seat k x ≡ b → (monitor_of ms seat k ≡ Some m → k ≤ j) → k ≤ j
-    by true is later =
-        let number : k ≡ x.0 = (Decides-eqb k x.0).0 (both (k == x.0) (x.1.seat == seat) is).0 in
-        let le = past.0 in
-        omega (arith, number, le)
-    by false is later = later (sym (ap (λ b. cond b (Some x.1) (monitor_of ms seat k)) is) ∙ at)
+at_most j [] seat k m past at = absurd (cc)
+at_most j (x ∷ ms) seat k m past at = grind (arith, nat_tests, past.0, at_most j ms seat k m past.1)
 
 -- a greater number is free
 pub greater_free : (j n : ℕ) (ms : List (ℕ × Monitor)) → j < n → AtMost j ms → IsFree n ms
 greater_free j n [] lt past = refl
-greater_free j n (m ∷ ms) lt past =
-    let other : (n == m.0) ≡ false = false_from_ne_true (n == m.0) (λ yes. let same = (Decides-eqb n m.0).0 yes in let le = past.0 in omega (arith, same, lt, le)) in
-    ap (λ b. b || list_any (λ m. n == m.0) ms) other ∙ greater_free j n ms lt past.1
+greater_free j n (m ∷ ms) lt past = grind (arith, nat_tests, past.0, greater_free j n ms lt past.1)
 
 -- with a greater number behind them no two are the same
 pub numbered_last : (j n : ℕ) (x : Monitor) (ms : List (ℕ × Monitor)) → j < n → AtMost j ms → IsNumbered ms → IsNumbered (ms ++ (n, x) ∷ [])
@@ -59,27 +44,16 @@ numbered_last j n x (m ∷ ms) lt past numbered =
     (apart ms (IsDistinct-head nat_eq m.0 (keys_of ms) numbered))
     (numbered_last j n x ms lt past.1 (IsDistinct-tail nat_eq m.0 (keys_of ms) numbered))
   where
-    other : nat_eq m.0 n ≡ false
-    other = false_from_ne_true (m.0 == n) (λ yes. let same = (Decides-eqb m.0 n).0 yes in let le = past.0 in omega (arith, same, lt, le))
-
     apart : (ms : List (ℕ × Monitor)) → AllByRecursion (λ k. nat_eq m.0 k ≡ false) (keys_of ms) → AllByRecursion (λ k. nat_eq m.0 k ≡ false) (keys_of (ms ++ (n, x) ∷ []))
-    apart [] all = (other, tt)
+    apart [] all = (grind (arith, nat_tests, past.0), tt)
     apart (y ∷ ms) all = (all.0, apart ms all.1)
 
 -- a move leaves all numbers
 pub numbers_stay : (own n place : ℕ) (ms : List (ℕ × Monitor)) → keys_of (with_place own n place ms) ≡ keys_of ms
 numbers_stay own n place [] = refl
-numbers_stay own n place (m ∷ ms) = λ i. by (is_of own n m) i ∷ numbers_stay own n place ms i
-  where
-    by : (b : Bool) → (cond b (m.0, at_place place m.1) m).0 ≡ m.0
-    by true = refl
-    by false = refl
+numbers_stay own n place (m ∷ ms) = grind (arith, numbers_stay own n place ms)
 
 -- so they are at most j again
 pub moved_at_most : (j own n place : ℕ) (ms : List (ℕ × Monitor)) → AtMost j ms → AtMost j (with_place own n place ms)
 moved_at_most j own n place [] past = tt
-moved_at_most j own n place (m ∷ ms) past = (by (is_of own n m), moved_at_most j own n place ms past.1)
-  where
-    by : (b : Bool) → (cond b (m.0, at_place place m.1) m).0 ≤ j
-    by true = past.0
-    by false = past.0
+moved_at_most j own n place (m ∷ ms) past = grind (arith, past, moved_at_most j own n place ms)

@@ -1,4 +1,4 @@
-use Rattle.group_monitors.proofs.FoundAfter.{found_added, found_removed, found_moved, found_dropped}
+use Rattle.group_monitors.proofs.Found.{found_added, found_removed, found_moved, found_dropped}
 use Rattle.group_monitors.proofs.laws.found_after.Goals as goal
 
 pub returns-clause-added : goal.returns-clause-added
