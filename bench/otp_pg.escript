@@ -3,12 +3,33 @@
 %% The work of node_events.sh on OTP's own pg, by the clock: a line `KEY MICROSECONDS` for each, the least of seven runs
 %% after one that isn't counted. Peers are processes that speak pg's own messages; only the handshake has a second node.
 %% Members and Syncs are lines that are read and answered, as they are for the console, and KEY_bare is the same call
-%% without its line. The first argument is a folder for their files, /tmp if there is none.
+%% without its line. The first argument is a folder for their files, /tmp if there is none. It ends with status 0, or with 1
+%% and a line on standard error: after a fault, or after MINUTES, with the lines so far.
 -mode(compile).
 -define(RUNS, 7).
+-define(MINUTES, 15).
+-define(SECONDS_EACH, 10).
 
 main([]) -> main(["/tmp"]);
 main([Folder]) ->
+    {Worker, Ref} = spawn_monitor(fun() -> measure(Folder) end),
+    receive
+        {'DOWN', Ref, process, Worker, normal} -> leave(0);
+        {'DOWN', Ref, process, Worker, Reason} -> give_up(io_lib:format("ended by a fault: ~0p", [Reason]))
+    after timer:minutes(?MINUTES) ->
+        give_up(io_lib:format("not done after ~b minutes", [?MINUTES]))
+    end.
+
+give_up(Why) ->
+    io:format(standard_error, "otp_pg: ~s~n", [Why]),
+    leave(1).
+
+%% Ends at once. To flush the ports would be to wait for the second node's, too, so what was printed gets a moment to be written.
+leave(Status) ->
+    timer:sleep(500),
+    erlang:halt(Status, [{flush, false}]).
+
+measure(Folder) ->
     Script = filename:join(Folder, "otp_script"),
     join_leave(join_leave, 1, 20000),
     join_leave(join_leave_999, 1000, 5000),
@@ -71,6 +92,9 @@ stop(Pids) ->
     [exit(Pid, kill) || Pid <- Pids],
     [receive {'DOWN', Ref, process, _, _} -> ok end || Ref <- [monitor(process, Pid) || Pid <- Pids]].
 
+%% The second from which on something is waited for no more.
+deadline() -> erlang:monotonic_time(second) + ?SECONDS_EACH.
+
 %% Work with a scope, which is stopped afterwards.
 with_scope(Name, Work) ->
     {ok, Scope} = pg:start(Name),
@@ -78,8 +102,8 @@ with_scope(Name, Work) ->
     stop([Scope]),
     Result.
 
-%% Until the scope lists so many groups, or for 10 seconds.
-listed(Scope, Groups) -> listed(Scope, Groups, erlang:monotonic_time(second) + 10).
+%% Until the scope lists so many groups, or up to the deadline.
+listed(Scope, Groups) -> listed(Scope, Groups, deadline()).
 
 listed(Scope, Groups, End) ->
     case {ets:info(Scope, size), erlang:monotonic_time(second) < End} of
@@ -87,11 +111,21 @@ listed(Scope, Groups, End) ->
         {_, true} -> erlang:yield(), listed(Scope, Groups, End)
     end.
 
-%% Until the second node has lost its connection, too.
-alone(Peer) ->
-    case peer:call(Peer, erlang, nodes, []) of
-        [] -> ok;
-        _ -> alone(Peer)
+%% Until neither node is connected. A scope of the second node that hears of a connection only once it is lost sends to this
+%% node's scope all the same, and so connects anew: such a connection is ended again.
+alone(Peer, Node) -> alone(Peer, Node, deadline()).
+
+alone(Peer, Node, End) ->
+    erlang:disconnect_node(Node),
+    case {peer:call(Peer, erlang, nodes, []), nodes()} of
+        {[], []} -> forget(Node);
+        _ -> true = erlang:monotonic_time(second) < End, timer:sleep(1), alone(Peer, Node, End)
+    end.
+
+%% Drops what was told of connections before.
+forget(Node) ->
+    receive {Told, Node} when Told =:= nodeup; Told =:= nodedown -> forget(Node)
+    after 0 -> ok
     end.
 
 %% Until the scope has taken all messages that it was sent before.
@@ -155,11 +189,11 @@ with_node(Work) ->
 
 connect(Node) ->
     true = net_kernel:connect_node(Node),
-    receive {nodeup, Node} -> ok end.
+    receive {nodeup, Node} -> ok after timer:seconds(?SECONDS_EACH) -> exit(no_nodeup) end.
 
 disconnect(Node) ->
     true = erlang:disconnect_node(Node),
-    receive {nodedown, Node} -> ok end.
+    receive {nodedown, Node} -> ok after timer:seconds(?SECONDS_EACH) -> exit(no_nodedown) end.
 
 %% A node connects to a second one, and lets it go.
 handshakes(Count) ->
@@ -194,7 +228,7 @@ loss(Count) ->
              [ok = peer:call(Peer, pg, join, [Scope, group(I), Pids]) || I <- lists:seq(1, 64)]
          end || Scope <- Scopes],
         least(loss, 1, fun() ->
-            alone(Peer),
+            alone(Peer, Node),
             connect(Node),
             [listed(Scope, 64) || Scope <- Scopes],
             elapsed(fun() -> disconnect(Node), [listed(Scope, 0) || Scope <- Scopes] end)
