@@ -12,9 +12,9 @@ use Rattle.dist_types.specs.Text.{IsText, HasInnerAt, IsNodeName, is_text_byte, 
 pub texts_compute : (bytes : List ℕ) → IsTrue (is_text bytes) ↔ IsText bytes
 texts_compute bytes = (
   λ h. let visible : list_all is_text_byte bytes ≡ true = grind (arith, h) in record {
-      not_empty = grind (arith, h);
-      not_long = grind (arith, h);
-      visible = λ k d inside. grind (arith, AllPass-from_list_all is_text_byte bytes visible k d inside);
+    not_empty = grind (arith, h);
+    not_long = grind (arith, h);
+    visible = λ k d inside. grind (arith, AllPass-from_list_all is_text_byte bytes visible k d inside);
   },
   λ h. let visible = list_all-from_AllPass is_text_byte bytes (λ k d inside. grind (arith, h.visible k d inside)) in grind (arith, visible, h.not_empty, h.not_long),
 )

@@ -19,8 +19,15 @@ after_it script = play node (calls script)
 -- a link to a@h whose side is whole and for which no frames wait: up or ended, visible or not, and the scopes told and heard
 abbrev whole_link : Bool → Bool → List (List ℕ) → Shown
 whole_link lives visible scopes = record {
-  is_open = lives; is_up = lives; is_kept = lives; is_visible = visible;
-  peer = Some (codes "a@h"); awaits = AwaitMessage; told = scopes; heard = scopes; waiting = [];
+  is_open = lives;
+  is_up = lives;
+  is_kept = lives;
+  is_visible = visible;
+  peer = Some (codes "a@h");
+  awaits = AwaitMessage;
+  told = scopes;
+  heard = scopes;
+  waiting = [];
 }
 
 -- the newer link of a@h is up, and nobody is heard on it
