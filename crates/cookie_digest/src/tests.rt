@@ -1,5 +1,7 @@
 use super::*;
 use dist_types::Cookie;
+use rand_chacha::ChaCha20Rng;
+use rand_core::SeedableRng;
 use std::test::Fail;
 
 #[test]
@@ -25,6 +27,16 @@ fn answers_as_other_nodes_do(rt: HostRuntime) -> Result<(), Fail> {
         assert_eq!(rt; other.number(), number ^ 1);
         assert!(rt; other.check(&cookie, answer).is_err(), "at {number}");
         Challenge::new(number).discard();
+    }
+    Ok(())
+}
+
+/// The first words of ChaCha20's key stream with a key and a nonce of zeros (RFC 8439, appendix A.1).
+#[test]
+fn draws_the_words_of_its_generator(rt: HostRuntime) -> Result<(), Fail> {
+    let mut source = ChallengeSource::new(ChaCha20Rng::from_seed([0; 32]));
+    for word in [0xade0b876_u32, 0x903df1a0, 0xe56a5d40, 0x28bd8653] {
+        assert_eq!(rt; source.draw(), word);
     }
     Ok(())
 }
