@@ -1,6 +1,6 @@
 -- What a reader found stands behind `Ok`.
-use Rattle.std.proofs.Common.{◌≡◌, Option, Some, None, Ok, refl, sym, ap}
-use Rattle.std.specs.Option.{IsSome, IsSomeAnd, IfSome, ok_or}
+use Rattle.std.proofs.Common.{◌≡◌, Option, Some, None, refl, sym}
+use Rattle.std.specs.Option.{IsSomeAnd, IfSome, ok_or}
 use Rattle.std.specs.Result.{IsOkAnd, MatchResult}
 
 -- what a value has, it has behind `Ok`
@@ -8,25 +8,13 @@ pub ok_or_has : {T E : Type 0} (o : Option T) (P : T → Type 0) (e : E) → IsS
 ok_or_has (Some x) P e h = h
 ok_or_has None P e h = absurd h
 
--- a value that was found stands behind `Ok`
-pub ok_or_is : {T E : Type 0} (o : Option T) (x : T) (e : E) → o ≡ Some x → ok_or o e ≡ Ok x
-ok_or_is o x e is = ap (λ p. ok_or p e) is
-
-pub IsSome-from_has : {T : Type 0} (o : Option T) (P : T → Type 0) → IsSomeAnd o P → IsSome o
-IsSome-from_has (Some x) P h = refl
-IsSome-from_has None P h = absurd h
-
-pub IsSome-from_is : {T : Type 0} (o : Option T) (x : T) → o ≡ Some x → IsSome o
-IsSome-from_is (Some y) x is = refl
-IsSome-from_is None x is = absurd (cc is)
-
 -- a call that finds exactly what is spelled answers as the reader that computes it does
 pub reads_as : {T F E : Type 0} (Spells : F → Type 0) (said : T → F) (read : Option F) (o : Option T) (e : E)
-    → ((f : F) → Spells f → read ≡ Some f) → ((f : F) → read ≡ Some f → Spells f) → IfSome o (λ x. Spells (said x)) → ((f : F) → Spells f → IsSome o)
-    → MatchResult (ok_or o e) (λ x. read ≡ Some (said x)) (λ _. read ≡ None)
+    → ((f : F) → Spells f → read ≡ Some f) → ((f : F) → read ≡ Some f → Spells f) → IfSome o (λ x. Spells (said x))
+    → ((f : F) → Spells f → IsSomeAnd o (λ x. said x ≡ f)) → MatchResult (ok_or o e) (λ x. read ≡ Some (said x)) (λ _. read ≡ None)
 reads_as Spells said read (Some x) e reads spells found only = reads (said x) found
 reads_as Spells said None None e reads spells found only = refl
-reads_as Spells said (Some f) None e reads spells found only = absurd (cc (only f (spells f refl)))
+reads_as Spells said (Some f) None e reads spells found only = absurd (only f (spells f refl))
 
 -- so does a call that gives what that reader gives
 pub reads_same : {T E : Type 0} (read o : Option T) (e : E) → o ≡ read → MatchResult (ok_or o e) (λ x. read ≡ Some x) (λ _. read ≡ None)

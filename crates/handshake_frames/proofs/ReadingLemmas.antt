@@ -1,7 +1,7 @@
 -- A reader gives a frame exactly where the body spells it.
-use Rattle.std.proofs.Common.{◌≡◌, ℕ, ◌<◌, ◌^◌, ◌&&◌, Bool, true, false, cond, eqb, List, [], ◌∷◌, ◌++◌, length, take, drop, Option, Some, None, sym, ap, subst, refl, ◌∙◌, arith}
-use Rattle.std.specs.Int.{w16, w32, w64, to_be_bytes, from_be_bytes}
-use Rattle.std.specs.List.{starts_with, slice_range, find}
+use Rattle.std.proofs.Common.{◌≡◌, ℕ, ◌<◌, ◌^◌, ◌&&◌, Bool, true, false, cond, eqb, List, [], ◌∷◌, ◌++◌, length, take, drop, Some, None, sym, ap, subst, refl, ◌∙◌, arith}
+use Rattle.std.specs.Int.{w16, from_be_bytes}
+use Rattle.std.specs.List.{starts_with, find}
 use Rattle.std.specs.Str.{bytes_eq}
 use Rattle.std.proofs.lemmas.Bool.{and_parts, and_from}
 use Rattle.std.proofs.lemmas.Bool.Decides.{Decides-eqb}
@@ -9,7 +9,6 @@ use Rattle.std.proofs.lemmas.Slice.Eq.{starts_is, bytes_eq-Decides}
 use Rattle.std.proofs.lemmas.Nat.{from_be_bytes-to_be_bytes_2, from_be_bytes-to_be_bytes_4, from_be_bytes-to_be_bytes_8}
 use Rattle.std.proofs.lemmas.List.{take_at, length-take}
 use Rattle.handshake_frames.specs.declared.frame.StatusWord.{StatusWord}
-use Rattle.handshake_frames.specs.declared.frame.StatusWord.TheVariants as word
 use Rattle.handshake_frames.specs.declared.frame.ReplyFrame.{ReplyFrame}
 use Rattle.handshake_frames.specs.declared.frame.AckFrame.{AckFrame}
 use Rattle.handshake_frames.specs.Frame.{Name, Challenge}
@@ -23,18 +22,10 @@ guarded : {A : Type 0} (test : Bool) (x y : A) → cond test (Some x) None ≡ S
 guarded true x y e = (refl, cc e)
 guarded false x y e = absurd (cc e)
 
--- two values that one reader gives are one
-pub same_read : {A : Type 0} (read : Option A) (x y : A) → read ≡ Some x → read ≡ Some y → x ≡ y
-same_read read x y e h = cc (e, h)
-
-passes_or_later : {A : Type 0} (test : A → Bool) (y : A) (ys : List A) (x : A) → (passes : Bool) → test y ≡ passes → (find test ys ≡ Some x → test x ≡ true) → cond passes (Some y) (find test ys) ≡ Some x → test x ≡ true
-passes_or_later test y ys x true is later e = cc (is, e)
-passes_or_later test y ys x false is later e = later e
-
 -- what was found passes the test
-found_passes : {A : Type 0} (test : A → Bool) (xs : List A) (x : A) → find test xs ≡ Some x → test x ≡ true
+pub found_passes : {A : Type 0} (test : A → Bool) (xs : List A) (x : A) → find test xs ≡ Some x → test x ≡ true
 found_passes test [] x e = absurd (cc e)
-found_passes test (y ∷ ys) x e = passes_or_later test y ys x (test y) refl (found_passes test ys x) e
+found_passes test (y ∷ ys) x e = grind (arith, found_passes test ys x)
 
 begins_true : (body front rest : List ℕ) → body ≡ front ++ rest → starts_with eqb body front ≡ true
 begins_true body front rest e = (starts_is Decides-eqb body front (starts_with eqb body front) refl).1 rest e
@@ -44,21 +35,12 @@ begins_so body front e = (starts_is Decides-eqb body front (starts_with eqb body
 
 -- ---- numbers
 
-number_8 : (n : ℕ) → from_be_bytes w64 (to_be_bytes w64 n) < 2 ^ 64
-number_8 n = omega arith
-
-number_4 : (n : ℕ) → from_be_bytes w32 (to_be_bytes w32 n) < 2 ^ 32
-number_4 n = omega arith
-
-number_2 : (n : ℕ) → from_be_bytes w16 (to_be_bytes w16 n) < 2 ^ 16
-number_2 n = omega arith
-
-counted_in-counted : (name extra : List ℕ) → length name < 2 ^ 16 → counted_in (counted w16 name ++ extra) ≡ name
+pub counted_in-counted : (name extra : List ℕ) → length name < 2 ^ 16 → counted_in (counted w16 name ++ extra) ≡ name
 counted_in-counted name extra fits = ap (λ n. take n (name ++ extra)) (from_be_bytes-to_be_bytes_2 (length name) fits) ∙ take_at name extra (length name) refl
 
 counted_in_fits : (bytes rest : List ℕ) → bytes ≡ counted w16 (counted_in bytes) ++ rest → length (counted_in bytes) < 2 ^ 16
 counted_in_fits bytes rest e =
-    let short : from_be_bytes w16 (take 2 bytes) < 2 ^ 16 = subst (λ b. from_be_bytes w16 (take 2 b) < 2 ^ 16) (sym e) (number_2 (length (counted_in bytes))) in
+    let short : from_be_bytes w16 (take 2 bytes) < 2 ^ 16 = rw e (omega arith) in
     omega (arith, length-take (from_be_bytes w16 (take 2 bytes)) (drop 2 bytes))
 
 -- ---- a name frame
@@ -73,8 +55,8 @@ name_in-name_bytes f extra fits =
 
 name_in_fits : (body rest : List ℕ) → body ≡ name_bytes (name_in body) ++ rest → NameFits (name_in body)
 name_in_fits body rest e = record {
-  flags = subst (λ b. from_be_bytes w64 (slice_range b 1 9) < 2 ^ 64) (sym e) (number_8 (name_in body).flags);
-  creation = subst (λ b. from_be_bytes w32 (slice_range b 9 13) < 2 ^ 32) (sym e) (number_4 (name_in body).creation);
+  flags = rw e (omega arith);
+  creation = rw e (omega arith);
   length = counted_in_fits (drop 13 body) rest (ap (drop 13) e);
 }
 
@@ -82,7 +64,8 @@ pub name_frame-spelled : (body : List ℕ) (f : Name) → SpellsName body f → 
 unfolding name_frame
 name_frame-spelled body f spells =
     let same : name_in body ≡ f = ap name_in spells.bytes ∙ name_in-name_bytes f spells.extra spells.fits in
-    let begins : starts_with eqb body (name_bytes (name_in body)) ≡ true = subst (λ g. starts_with eqb body (name_bytes g) ≡ true) (sym same) (begins_true body (name_bytes f) spells.extra spells.bytes) in
+    let begins : starts_with eqb body (name_bytes (name_in body)) ≡ true =
+    subst (λ g. starts_with eqb body (name_bytes g) ≡ true) (sym same) (begins_true body (name_bytes f) spells.extra spells.bytes) in
     λ i. cond (begins i) (Some (same i)) None
 
 pub SpellsName-read : (body : List ℕ) (f : Name) → name_frame body ≡ Some f → SpellsName body f
@@ -97,13 +80,7 @@ SpellsName-read body f read =
 
 pub status_of-spelled : (body : List ℕ) (status : StatusWord) → SpellsStatus body status → status_of body ≡ Some status
 unfolding status_of
-status_of-spelled body word.Ok spells = rw spells.bytes
-status_of-spelled body word.OkSimultaneous spells = rw spells.bytes
-status_of-spelled body word.Nok spells = rw spells.bytes
-status_of-spelled body word.NotAllowed spells = rw spells.bytes
-status_of-spelled body word.Alive spells = rw spells.bytes
-status_of-spelled body word.True spells = rw spells.bytes
-status_of-spelled body word.False spells = rw spells.bytes
+status_of-spelled body status spells = rw spells.bytes (grind arith)
 
 pub SpellsStatus-read : (body : List ℕ) (status : StatusWord) → status_of body ≡ Some status → SpellsStatus body status
 unfolding status_of
@@ -122,9 +99,9 @@ challenge_in-challenge_bytes f extra fits =
 
 challenge_in_fits : (body rest : List ℕ) → body ≡ challenge_bytes (challenge_in body) ++ rest → ChallengeFits (challenge_in body)
 challenge_in_fits body rest e = record {
-  flags = subst (λ b. from_be_bytes w64 (slice_range b 1 9) < 2 ^ 64) (sym e) (number_8 (challenge_in body).flags);
-  challenge = subst (λ b. from_be_bytes w32 (slice_range b 9 13) < 2 ^ 32) (sym e) (number_4 (challenge_in body).challenge);
-  creation = subst (λ b. from_be_bytes w32 (slice_range b 13 17) < 2 ^ 32) (sym e) (number_4 (challenge_in body).creation);
+  flags = rw e (omega arith);
+  challenge = rw e (omega arith);
+  creation = rw e (omega arith);
   length = counted_in_fits (drop 17 body) rest (ap (drop 17) e);
 }
 
@@ -132,7 +109,8 @@ pub challenge_frame-spelled : (body : List ℕ) (f : Challenge) → SpellsChalle
 unfolding challenge_frame
 challenge_frame-spelled body f spells =
     let same : challenge_in body ≡ f = ap challenge_in spells.bytes ∙ challenge_in-challenge_bytes f spells.extra spells.fits in
-    let begins : starts_with eqb body (challenge_bytes (challenge_in body)) ≡ true = subst (λ g. starts_with eqb body (challenge_bytes g) ≡ true) (sym same) (begins_true body (challenge_bytes f) spells.extra spells.bytes) in
+    let begins : starts_with eqb body (challenge_bytes (challenge_in body)) ≡ true =
+    subst (λ g. starts_with eqb body (challenge_bytes g) ≡ true) (sym same) (begins_true body (challenge_bytes f) spells.extra spells.bytes) in
     λ i. cond (begins i) (Some (same i)) None
 
 pub SpellsChallenge-read : (body : List ℕ) (f : Challenge) → challenge_frame body ≡ Some f → SpellsChallenge body f
@@ -145,14 +123,18 @@ SpellsChallenge-read body f read =
 
 -- ---- a reply
 
+reply_in-spelled : (body : List ℕ) (f : ReplyFrame) → SpellsReply body f → reply_in body ≡ f
+reply_in-spelled body f spells = λ i. record {
+  challenge = (ap (λ b. (reply_in b).challenge) spells.bytes ∙ from_be_bytes-to_be_bytes_4 f.challenge spells.fits.challenge) i;
+  digest = drop 5 (spells.bytes i);
+}
+
 pub reply_frame-spelled : (body : List ℕ) (f : ReplyFrame) → SpellsReply body f → reply_frame body ≡ Some f
 unfolding reply_frame
 reply_frame-spelled body f spells =
-    let challenge : (reply_in body).challenge ≡ f.challenge = ap (λ b. (reply_in b).challenge) spells.bytes ∙ from_be_bytes-to_be_bytes_4 f.challenge spells.fits.challenge in
-    let digest : (reply_in body).digest ≡ f.digest = ap (drop 5) spells.bytes in
-    let same : reply_in body ≡ f = λ i. record { challenge = challenge i; digest = digest i } in
+    let same = reply_in-spelled body f spells in
     let bytes : bytes_eq (reply_bytes (reply_in body)) body ≡ true = (bytes_eq-Decides _ body).1 (ap reply_bytes same ∙ sym spells.bytes) in
-    let long : eqb (length (reply_in body).digest) 16 ≡ true = (Decides-eqb _ 16).1 (ap length digest ∙ spells.fits.digest) in
+    let long : eqb (length (reply_in body).digest) 16 ≡ true = (Decides-eqb _ 16).1 (ap (λ g. length g.digest) same ∙ spells.fits.digest) in
     λ i. cond (and_from _ _ bytes long i) (Some (same i)) None
 
 pub SpellsReply-read : (body : List ℕ) (f : ReplyFrame) → reply_frame body ≡ Some f → SpellsReply body f
@@ -161,7 +143,7 @@ SpellsReply-read body f read =
     let found = guarded (bytes_eq (reply_bytes (reply_in body)) body && eqb (length (reply_in body).digest) 16) (reply_in body) f read in
     let tests = and_parts _ _ found.0 in
     let bytes = sym ((bytes_eq-Decides (reply_bytes (reply_in body)) body).0 tests.0) in
-    let challenge : (reply_in body).challenge < 2 ^ 32 = subst (λ b. from_be_bytes w32 (slice_range b 1 5) < 2 ^ 32) (sym bytes) (number_4 (reply_in body).challenge) in
+    let challenge : (reply_in body).challenge < 2 ^ 32 = rw bytes (omega arith) in
     subst (SpellsReply body) found.1 (record { fits = record { challenge = challenge; digest = (Decides-eqb _ 16).0 tests.1 }; bytes = bytes })
 
 -- ---- an acknowledgement
@@ -169,11 +151,8 @@ SpellsReply-read body f read =
 pub ack_frame-spelled : (body : List ℕ) (f : AckFrame) → SpellsAck body f → ack_frame body ≡ Some f
 unfolding ack_frame
 ack_frame-spelled body f spells =
-    let digest : (ack_in body).digest ≡ f.digest = ap (drop 1) spells.bytes in
-    let same : ack_in body ≡ f = λ i. record { digest = digest i } in
-    let bytes : bytes_eq (ack_bytes (ack_in body)) body ≡ true = (bytes_eq-Decides _ body).1 (ap ack_bytes same ∙ sym spells.bytes) in
-    let long : eqb (length (ack_in body).digest) 16 ≡ true = (Decides-eqb _ 16).1 (ap length digest ∙ spells.fits.digest) in
-    λ i. cond (and_from _ _ bytes long i) (Some (same i)) None
+    let same : ack_in body ≡ f = λ i. record { digest = drop 1 (spells.bytes i) } in
+    rw same (grind (arith, spells.bytes, spells.fits.digest, bytes_eq-Decides (ack_bytes f) body, Decides-eqb (length f.digest) 16))
 
 pub SpellsAck-read : (body : List ℕ) (f : AckFrame) → ack_frame body ≡ Some f → SpellsAck body f
 unfolding ack_frame

@@ -1,14 +1,14 @@
 -- The bodies of a stream and its rest, for a length of any width that is read as it was written.
-use Rattle.std.proofs.Common.{◌≡◌, ℕ, zero, suc, ◌+◌, ◌-◌, ◌<◌, ◌^◌, List, [], ◌∷◌, ◌++◌, length, take, drop, Option, Some, None, refl, sym, ap, ◌∙◌, subst, arith, append_assoc, append-nil, length-append, inl, inr}
+use Rattle.std.proofs.Common.{◌≡◌, ℕ, zero, suc, ◌+◌, ◌-◌, ◌<◌, ◌^◌, List, [], ◌∷◌, ◌++◌, length, take, drop, Option, Some, None, refl, sym, ap, ◌∙◌, arith, append_assoc, append-nil, length-append, inl, inr}
 use Rattle.std.specs.Int.{Width, w16, byte_len, to_be_bytes, from_be_bytes, bytes_high_first}
-use Rattle.std.specs.List.{flat_map, All}
+use Rattle.std.specs.List.{flat_map}
 use Rattle.std.specs.Option.{option_to_list}
 use Rattle.std.proofs.Math.Seq.{take-append-add, take-length}
 use Rattle.std.proofs.lemmas.Bool.{cases_lt}
 use Rattle.std.proofs.lemmas.Grind.{flat_map-append}
 use Rattle.std.proofs.lemmas.Nat.{from_be_bytes-to_be_bytes_2}
 use Rattle.std.proofs.lemmas.List.{take-append-le, take-append-drop, take_at, append_cancel_left}
-use Rattle.std.proofs.lemmas.List.Elements.{All-append}
+use Rattle.std.proofs.lemmas.List.Elements.{All-nil, All-cons, All-tail, All-append}
 use Rattle.handshake_frames.specs.Spelling.{counted}
 use Rattle.handshake_frames.specs.Stream.{FitsLength, IsPartial, Splits, EndsBody, IsFed, Call, AreFed, stream_of, bodies_of}
 
@@ -76,16 +76,9 @@ first_body w reads body other later more fits others same =
       append_cancel_left (counted w other) later more (ap (λ xs. xs ++ later) (sym bodies) ∙ same),
     )
 
-All-tail : (P : List ℕ → Type 0) (x : List ℕ) (xs : List (List ℕ)) → All P (x ∷ xs) → All P xs
-All-tail P x xs all k d inside = all (suc k) d (omega arith)
-
-All-one : (P : List ℕ → Type 0) (x : List ℕ) → P x → All P (x ∷ [])
-All-one P x holds zero d inside = holds
-All-one P x holds (suc k) d inside = absurd (omega arith)
-
 -- a stream is read in one way alone
 pub one_reading : (w : Width) → Reads w → (stream : List ℕ) (bodies others : List (List ℕ)) (rest last : List ℕ) → Splits w stream bodies rest → Splits w stream others last → (bodies ≡ others) × (rest ≡ last)
-one_reading w reads stream [] [] rest last a b = (refl, sym a.whole ∙ b.whole)
+one_reading w reads stream [] [] rest last a b = (refl, cc (a.whole, b.whole))
 one_reading w reads stream [] (other ∷ others) rest last a b =
     absurd (a.partial other (flat_map (counted w) others ++ last) (b.fit 0 other (omega arith)) (sym a.whole ∙ b.whole ∙ append_assoc (counted w other) _ last))
 one_reading w reads stream (body ∷ bodies) [] rest last a b =
@@ -97,22 +90,16 @@ one_reading w reads stream (body ∷ bodies) (other ∷ others) rest last a b =
 
 -- one call carries the reading of a stream on
 pub goes_on : (w : Width) → Reads w → (stream : List ℕ) (bodies : List (List ℕ)) (rest piece : List ℕ) (used : ℕ) (body : Option (List ℕ)) (new : List ℕ) → Splits w stream bodies rest → IsFed w rest piece used body new → Splits w (stream ++ take used piece) (bodies ++ option_to_list body) new
-goes_on w reads stream bodies rest piece used (Some body) new so_far fed =
-    let front = flat_map (counted w) bodies in
-    let given : flat_map (counted w) (bodies ++ body ∷ []) ++ new ≡ front ++ counted w body = ap (λ xs. flat_map (counted w) (bodies ++ body ∷ []) ++ xs) fed.empty ∙ append-nil _ ∙ flat_map-append (counted w) bodies (body ∷ []) ∙ ap (λ xs. front ++ xs) (append-nil (counted w body)) in
-    record {
-      fit = All-append (FitsLength w) bodies (body ∷ []) so_far.fit (All-one (FitsLength w) body fed.fits);
-      whole = ap (λ xs. xs ++ take used piece) so_far.whole ∙ append_assoc front rest (take used piece) ∙ ap (λ xs. front ++ xs) fed.whole ∙ sym given;
-      partial = subst (IsPartial w) (sym fed.empty) (IsPartial-empty w reads);
-    }
-goes_on w reads stream bodies rest piece used None new so_far fed =
-    let front = flat_map (counted w) bodies in
-    let taken : take used piece ≡ piece = ap (λ n. take n piece) fed.whole ∙ take-length piece in
-    record {
-      fit = subst (All (FitsLength w)) (sym (append-nil bodies)) so_far.fit;
-      whole = ap (λ xs. xs ++ take used piece) so_far.whole ∙ append_assoc front rest (take used piece) ∙ ap (λ xs. front ++ (rest ++ xs)) taken ∙ ap (λ xs. front ++ xs) (sym fed.kept) ∙ ap (λ xs. flat_map (counted w) xs ++ new) (sym (append-nil bodies));
-      partial = fed.partial;
-    }
+goes_on w reads stream bodies rest piece used (Some body) new so_far fed = record {
+  fit = All-append (FitsLength w) bodies (body ∷ []) so_far.fit (All-cons (FitsLength w) body [] fed.fits (All-nil (FitsLength w)));
+  whole = simp (so_far.whole, fed.empty, flat_map-append, append-nil, append_assoc, fed.whole);
+  partial = rw fed.empty (IsPartial-empty w reads);
+}
+goes_on w reads stream bodies rest piece used None new so_far fed = record {
+  fit = rw (append-nil bodies) so_far.fit;
+  whole = simp (so_far.whole, fed.kept, fed.whole, take-length, append-nil, append_assoc);
+  partial = fed.partial;
+}
 
 -- so do calls in turn
 pub go_on : (w : Width) → Reads w → (calls : List Call) (stream : List ℕ) (bodies : List (List ℕ)) (rest new : List ℕ) → Splits w stream bodies rest → AreFed w rest calls new → Splits w (stream ++ stream_of calls) (bodies ++ bodies_of calls) new
@@ -124,4 +111,4 @@ go_on w reads (call ∷ calls) stream bodies rest new so_far fed =
 -- what calls on a new reader make of a stream
 pub read_from_empty : (w : Width) → Reads w → (calls : List Call) (rest : List ℕ) → AreFed w [] calls rest → Splits w (stream_of calls) (bodies_of calls) rest
 read_from_empty w reads calls rest fed =
-    go_on w reads calls [] [] [] rest (record { fit = λ k d inside. absurd (omega arith); whole = refl; partial = IsPartial-empty w reads }) fed
+    go_on w reads calls [] [] [] rest (record { fit = All-nil (FitsLength w); whole = refl; partial = IsPartial-empty w reads }) fed

@@ -1,11 +1,12 @@
+use Rattle.std.proofs.Common.{refl}
 use Rattle.handshake_frames.specs.Spelling.{SpellsAck}
 use Rattle.handshake_frames.specs.Reading.{ack_frame}
-use Rattle.handshake_frames.proofs.FoundFrames.{IsSome-from_is, reads_as}
+use Rattle.handshake_frames.proofs.FoundFrames.{reads_as}
 use Rattle.handshake_frames.proofs.ReadingLemmas.{ack_frame-spelled, SpellsAck-read}
 use Rattle.handshake_frames.proofs.decoding.decode_ack.Goals as goal
 
 pub returns-clause-value : goal.returns-clause-value
 returns-clause-value c =
     let body = c.args.body.now in
-    let read = c.ack_at in
-    rw c.ok_or.ensures.value (reads_as (SpellsAck body) (λ f. f) (ack_frame body) read.result _ (ack_frame-spelled body) (SpellsAck-read body) read.ensures.found (λ f spelled. IsSome-from_is read.result f (read.ensures.only f spelled)))
+    rw c.ok_or.ensures.value
+    (reads_as (SpellsAck body) (λ f. f) (ack_frame body) _ _ (ack_frame-spelled body) (SpellsAck-read body) c.ack_at.ensures.found (λ f spelled. rw (c.ack_at.ensures.only f spelled) refl))

@@ -1,7 +1,7 @@
 use Rattle.handshake_frames.specs.Frame.{challenge_said}
 use Rattle.handshake_frames.specs.Spelling.{SpellsChallenge}
 use Rattle.handshake_frames.specs.Reading.{challenge_frame}
-use Rattle.handshake_frames.proofs.FoundFrames.{ok_or_has, IsSome-from_has, reads_as}
+use Rattle.handshake_frames.proofs.FoundFrames.{ok_or_has, reads_as}
 use Rattle.handshake_frames.proofs.ReadingLemmas.{challenge_frame-spelled, SpellsChallenge-read}
 use Rattle.handshake_frames.proofs.decoding.decode_challenge.Goals as goal
 
@@ -11,5 +11,5 @@ returns-clause-only c = λ challenge spelled. rw c.ok_or.ensures.value (ok_or_ha
 pub returns-clause-value : goal.returns-clause-value
 returns-clause-value c =
     let body = c.args.body.now in
-    let read = c.challenge_at in
-    rw c.ok_or.ensures.value (reads_as (SpellsChallenge body) challenge_said (challenge_frame body) read.result _ (challenge_frame-spelled body) (SpellsChallenge-read body) read.ensures.found (λ f spelled. IsSome-from_has read.result _ (read.ensures.only f spelled)))
+    rw c.ok_or.ensures.value
+    (reads_as (SpellsChallenge body) challenge_said (challenge_frame body) _ _ (challenge_frame-spelled body) (SpellsChallenge-read body) c.challenge_at.ensures.found c.challenge_at.ensures.only)

@@ -1,11 +1,11 @@
-use Rattle.std.proofs.Common.{◌≡◌, ◌∙◌, rules, tests}
+use Rattle.std.proofs.Common.{◌≡◌, ◌∙◌, refl, rules, tests}
 use Rattle.std.specs.Str.{bytes_eq}
 use Rattle.std.proofs.lemmas.Iterator.{YieldsList-from_slice}
 use Rattle.std.proofs.lemmas.Iterator.Search.{find_from_yields_List}
 use Rattle.handshake_frames.specs.declared.frame.StatusWord.{StatusWord}
 use Rattle.handshake_frames.specs.Spelling.{status_bytes}
 use Rattle.handshake_frames.specs.Reading.{words, status_of}
-use Rattle.handshake_frames.proofs.FoundFrames.{ok_or_is, reads_same}
+use Rattle.handshake_frames.proofs.FoundFrames.{reads_same}
 use Rattle.handshake_frames.proofs.ReadingLemmas.{status_of-spelled}
 use Rattle.handshake_frames.proofs.decoding.decode_status.Goals as goal
 
@@ -17,7 +17,7 @@ word_found c =
     c.copied.ensures ∙ find_from_yields_List test _ _ c.find-word.result c.find-word.ensures.ran (YieldsList-from_slice words cc) (λ x b q k. search (rules, tests))
 
 pub returns-clause-only : goal.returns-clause-only
-returns-clause-only c = λ word spelled. c.ok_or.ensures.value ∙ ok_or_is c.copied.result word _ (word_found c ∙ status_of-spelled _ word spelled)
+returns-clause-only c = λ word spelled. rw (c.ok_or.ensures.value, word_found c ∙ status_of-spelled _ word spelled) refl
 
 pub returns-clause-value : goal.returns-clause-value
 returns-clause-value c = rw c.ok_or.ensures.value (reads_same (status_of c.args.body.now) c.copied.result _ (word_found c))
