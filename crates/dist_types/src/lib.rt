@@ -1,6 +1,7 @@
 //! The words that every other crate speaks of: names, texts, flags, processes and rows.
 #![tactic(auto)]
 
+mod body;
 mod change;
 mod cookie;
 mod fault;
@@ -16,6 +17,7 @@ mod scope;
 mod shared;
 mod text;
 
+pub use body::Body;
 pub use change::{GroupChange, Pids};
 pub use cookie::Cookie;
 pub use fault::{OutOfMemory, TextFault};

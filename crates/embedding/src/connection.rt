@@ -2,10 +2,11 @@
 ghost use Rattle.std.specs.Prelude.{◌<◌, ◌≤◌, IfOk, length};
 
 use anyhow::{Result, bail};
+use dist_types::Body;
 use handshake_frames::{Fed, HsReader};
 use link_frames::LinkReader;
 use node_core::{CoreFault, NodeCore};
-use policy_audit::{Body, Event, Reply, Rule};
+use policy_audit::{Event, Reply, Rule};
 use std::alloc::Global;
 
 /// The caller in whose name links are kept.
@@ -56,7 +57,7 @@ impl Connection {
             let fed = self.reader.feed(left)?;
             left = &left[fed.used..];
             if let Some(body) = fed.body
-                && self.hear(node, Body::of(body.into_vec()))? == Fate::Close
+                && self.hear(node, body)? == Fate::Close
             {
                 return Ok(Fate::Close);
             }

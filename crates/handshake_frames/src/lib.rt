@@ -16,7 +16,7 @@ pub use encoding::encode;
 pub use fault::BadFrame;
 pub use frame::{AckFrame, ChallengeFrame, HsFrame, NameFrame, ReplyFrame, StatusWord};
 pub use laws::{any_cut, one_frame, readers, round_trip};
-pub use reader::{Body, Fed, HsReader};
+pub use reader::{Fed, HsReader};
 
 #[cfg(test)]
 mod tests;

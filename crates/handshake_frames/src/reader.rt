@@ -5,15 +5,12 @@ ghost use Rattle.std.specs.Int.{w16};
 ghost use Rattle.handshake_frames.specs.Stream.{IsFed};
 
 use crate::counted::counted_at;
-use dist_types::{Items, OutOfMemory};
+use dist_types::{Body, OutOfMemory};
 use std::alloc::Global;
 use std::marker::Model;
 
 /// The bytes of the length before a body.
 const LENGTH_LEN: usize = 2;
-
-/// The bytes of a body.
-pub type Body = Items<u8>;
 
 /// What a piece brought: how many of its bytes were used, and the body that ended there, if one did.
 #[derive(Debug, Drop)]

@@ -6,7 +6,8 @@ ghost use Rattle.link_frames.specs.Stream.{ticks, Feeds, IsFeedFault};
 
 use crate::fault::FeedFault;
 use crate::front::{LENGTH_LEN, MAX_BODY, after_ticks, body_at, length_across};
-use handshake_frames::{Body, Fed};
+use dist_types::Body;
+use handshake_frames::Fed;
 use std::alloc::Global;
 use std::marker::Model;
 

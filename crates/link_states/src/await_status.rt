@@ -6,8 +6,8 @@ ghost use Rattle.link_states.specs.Frames.{own_name, status_owed};
 ghost use Rattle.link_states.specs.Stopped.{IsBroken, IsStopped};
 
 use crate::await_challenge::AwaitChallenge;
-use crate::body::Body;
 use crate::frames::{Bodies, name_frame, status_answer};
+use crate::handshake_body::HandshakeBody;
 use crate::pending::{Pending, has_name};
 use crate::refusal::{Refusal, unless};
 use crate::state_rule::StateRule;
@@ -45,7 +45,7 @@ impl AwaitStatus {
         peer: NodeName,
         challenge: Challenge,
         admission: &Admission,
-    ) -> Result<(AwaitStatus, Body), (NodeName, Challenge)>
+    ) -> Result<(AwaitStatus, HandshakeBody), (NodeName, Challenge)>
         ensures ok { IfOk result (λ (state, frame).
             (state ≡ record { peer = peer; challenge = challenge }) × (frame ≡ own_name admission.now)) }
         ensures memory { IfErr result (λ back. back ≡ (peer, challenge)) }

@@ -3,7 +3,7 @@ ghost use Rattle.std.specs.Prelude.{◌≡◌, ◌<◌, ◌^◌, ◌∷◌, [], 
 ghost use Rattle.handshake_frames.specs.Spelling.{HasSpelling, spelling, status_bytes};
 ghost use Rattle.link_states.specs.Frames.{own_name, own_challenge, greeting_owed, reply_owed, ack_owed, status_owed, refusal_frames};
 
-use crate::body::Body;
+use crate::handshake_body::HandshakeBody;
 use crate::state_rule::StateRule;
 use admission_rules::Admission;
 use cookie_digest::digest;
@@ -14,10 +14,10 @@ use handshake_frames::{
 use std::alloc::Global;
 
 /// Frames to send, in this order.
-pub type Bodies = Items<Body>;
+pub type Bodies = Items<HandshakeBody>;
 
 /// The name frame of the node itself.
-pub fn name_frame(alloc: Global, admission: &Admission) -> Result<Body, OutOfMemory>
+pub fn name_frame(alloc: Global, admission: &Admission) -> Result<HandshakeBody, OutOfMemory>
     ensures { IfOk result (λ body. body ≡ own_name admission.now) }
 {
     let name = NameFrame {
@@ -33,7 +33,7 @@ fn challenge_frame(
     alloc: Global,
     admission: &Admission,
     challenge: u32,
-) -> Result<Body, OutOfMemory>
+) -> Result<HandshakeBody, OutOfMemory>
     ensures { IfOk result (λ body. body ≡ own_challenge admission.now challenge) }
 {
     let challenge = ChallengeFrame {
@@ -137,7 +137,7 @@ fn status_alone(alloc: Global, word: StatusWord) -> Result<Bodies, OutOfMemory>
     alone(alloc, body)
 }
 
-fn alone(alloc: Global, body: Body) -> Result<Bodies, OutOfMemory>
+fn alone(alloc: Global, body: HandshakeBody) -> Result<Bodies, OutOfMemory>
     ensures { IfOk result (λ frames. frames ≡ body ∷ []) }
 {
     let mut frames = Vec::new(alloc);
@@ -145,12 +145,12 @@ fn alone(alloc: Global, body: Body) -> Result<Bodies, OutOfMemory>
     Ok(Bodies::of(frames))
 }
 
-fn body_of(alloc: Global, frame: &HsFrame<'_>) -> Result<Body, OutOfMemory>
+fn body_of(alloc: Global, frame: &HsFrame<'_>) -> Result<HandshakeBody, OutOfMemory>
     requires spelt { HasSpelling frame.now }
     requires limits { length (spelling frame.now) < 2 ^ 16 }
     ensures { IfOk result (λ body. body ≡ spelling frame.now) }
 {
     let mut body = Vec::new(alloc);
     encode(frame, &mut body)?;
-    Ok(Body::of(body))
+    Ok(HandshakeBody::of(body))
 }

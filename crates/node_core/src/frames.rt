@@ -3,9 +3,9 @@ ghost use Rattle.std.specs.Prelude.{◌≡◌, IfOk};
 ghost use Rattle.link_frames.specs.Spelling.{HasSpelling};
 ghost use Rattle.policy_audit.specs.Owed.{wide};
 
-use dist_types::{OutOfMemory, Scope, TryClone};
+use dist_types::{Body, OutOfMemory, Scope, TryClone};
 use link_frames::{Message, encode, fits_a_reader};
-use policy_audit::{Body, OutFrame};
+use policy_audit::OutFrame;
 use std::alloc::Global;
 
 /// The frame of a message.

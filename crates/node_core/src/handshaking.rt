@@ -24,9 +24,9 @@ use crate::link_state::LinkState;
 use crate::links::{dial_to, pending_of, place_of, remove};
 use crate::node::NodeCore;
 use crate::running::Running;
-use dist_types::{NodeName, OutOfMemory, TryClone};
+use dist_types::{Body, NodeName, OutOfMemory, TryClone};
 use link_states::{Bodies, Up};
-use policy_audit::{Body, Change, Event, OutFrame, Reply, Rule};
+use policy_audit::{Change, Event, OutFrame, Reply, Rule};
 use std::alloc::Global;
 
 /// The most frames of the handshake that one frame owes.

@@ -6,8 +6,8 @@ ghost use Rattle.node_core.specs.Links.{KeptLink, with_frames, with_prepared, wi
 
 use crate::link_state::LinkState;
 use dist_types::{NodeName, OutOfMemory};
-use link_states::{Bodies, Body as StateBody};
-use policy_audit::{Body, OutFrame, OutFrames};
+use link_states::{Bodies, HandshakeBody};
+use policy_audit::{OutFrame, OutFrames};
 use std::alloc::Global;
 use std::marker::Model;
 use std::mem;
@@ -242,13 +242,15 @@ fn put_frames(waiting: &mut Vec<OutFrame>, frames: Vec<OutFrame>)
 }
 
 /// Puts bodies behind the frames, in the room that there is.
-fn put_bodies(waiting: &mut Vec<OutFrame>, bodies: Vec<StateBody>)
+fn put_bodies(waiting: &mut Vec<OutFrame>, bodies: Vec<HandshakeBody>)
     requires { vec_len waiting.old + length bodies.items ≤ vec_capacity waiting.old }
     ensures items { waiting.new.items ≡ waiting.old.items ++ narrow_frames bodies.items }
     ensures room { vec_capacity waiting.old ≤ vec_capacity waiting.new }
 {
     for body in bodies {
-        let body = Body::of(body.into_vec());
-        waiting.push_reserved(OutFrame { wide: false, body });
+        waiting.push_reserved(OutFrame {
+            wide: false,
+            body: body.into_body(),
+        });
     }
 }

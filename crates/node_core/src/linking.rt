@@ -18,7 +18,7 @@ use admission_rules::Admission;
 use cookie_digest::Challenge;
 use dist_types::{NodeName, OutOfMemory, TryClone};
 use link_states::{AwaitName, AwaitStatus};
-use policy_audit::{Body, Change, Event, OutFrame, OutFrames, Reply, Rule};
+use policy_audit::{Change, Event, OutFrame, OutFrames, Reply, Rule};
 use std::alloc::Global;
 
 impl NodeCore {
@@ -185,8 +185,10 @@ fn dialled(
     let name = peer.try_clone(alloc)?;
     match AwaitStatus::dial(alloc, name, Challenge::new(challenge), admission) {
         Ok((state, body)) => {
-            let body = Body::of(body.into_vec());
-            waiting.push_reserved(OutFrame { wide: false, body });
+            waiting.push_reserved(OutFrame {
+                wide: false,
+                body: body.into_body(),
+            });
             Ok(Link::new(number, LinkState::Status(state), waiting))
         }
         Err((_name, challenge)) => {

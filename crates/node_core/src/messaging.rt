@@ -25,10 +25,10 @@ use crate::links;
 use crate::membership::fault_of;
 use crate::node::NodeCore;
 use crate::running::{Running, place_of};
-use dist_types::{GroupChange, NodeName, OutOfMemory, Row, Scope, TryClone};
+use dist_types::{Body, GroupChange, NodeName, OutOfMemory, Row, Scope, TryClone};
 use link_frames::{Message, MessageFault, Rows, decode};
 use link_states::Up;
-use policy_audit::{Audit, Body, Change, Event, OutFrame, Reply, Rule};
+use policy_audit::{Audit, Change, Event, OutFrame, Reply, Rule};
 use std::alloc::Global;
 
 impl NodeCore {

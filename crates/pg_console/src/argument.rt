@@ -5,9 +5,8 @@ ghost use Rattle.pg_console.specs.Faults.{IsUnread};
 
 use crate::command::LineFault;
 use crate::values::{cut, long_number, number};
-use dist_types::{Cookie, Group, NodeName, Pid, Scope};
+use dist_types::{Body, Cookie, Group, NodeName, Pid, Scope};
 use hex::FromHexError;
-use policy_audit::Body;
 use std::alloc::Global;
 
 /// A value that one word says.

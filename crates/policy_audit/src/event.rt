@@ -1,8 +1,7 @@
 //! What may happen to a node.
 ghost use Rattle.std.specs.Prelude.{◌≡◌, IfOk};
 
-use crate::body::Body;
-use dist_types::{Cookie, Group, Items, NodeName, OutOfMemory, Pid, Pids, Scope, TryClone};
+use dist_types::{Body, Cookie, Group, Items, NodeName, OutOfMemory, Pid, Pids, Scope, TryClone};
 use std::alloc::Global;
 
 /// Names of nodes, in any order.

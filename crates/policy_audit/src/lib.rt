@@ -2,7 +2,6 @@
 #![tactic(auto)]
 
 mod audit;
-mod body;
 mod change;
 mod entry;
 mod event;
@@ -13,7 +12,6 @@ mod reply;
 mod rule;
 
 pub use audit::{Audit, AuditFault};
-pub use body::Body;
 pub use change::{Change, Changes};
 pub use entry::{Entry, Verdict};
 pub use event::{Event, NodeNames};

@@ -2,8 +2,7 @@
 ghost use Rattle.std.specs.Prelude.{◌≡◌, ◌++◌, OnOk, OnErr};
 ghost use Rattle.policy_audit.specs.Wire.{wire_bytes};
 
-use crate::body::Body;
-use dist_types::{Items, OutOfMemory, TryClone};
+use dist_types::{Body, Items, OutOfMemory, TryClone};
 use std::alloc::Global;
 use std::marker::Model;
 

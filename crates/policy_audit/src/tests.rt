@@ -1,6 +1,8 @@
 //! What is printed, frames on the wire, the audit, and copies with ample memory.
 use super::*;
-use dist_types::{Group, GroupChange, Items, NodeName, OutOfMemory, Pid, Pids, Scope, TryClone};
+use dist_types::{
+    Body, Group, GroupChange, Items, NodeName, OutOfMemory, Pid, Pids, Scope, TryClone,
+};
 use std::alloc::Global;
 use std::test::Fail;
 

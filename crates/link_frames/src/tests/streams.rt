@@ -1,7 +1,8 @@
 //! Streams in one piece, byte by byte, and cut at many places.
 use super::asserts_eq;
 use crate::{FeedFault, LinkReader};
-use handshake_frames::{Body, Fed};
+use dist_types::Body;
+use handshake_frames::Fed;
 use std::alloc::Global;
 
 /// A tick and a Discover of `pg`.

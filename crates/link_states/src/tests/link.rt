@@ -27,7 +27,7 @@ pub fn dialled(
     node: &Admission,
     peer: &[u8],
     challenge: u32,
-) -> Result<(Link, Body), TextFault> {
+) -> Result<(Link, HandshakeBody), TextFault> {
     let peer = NodeName::parse(alloc, peer)?;
     match AwaitStatus::dial(alloc, peer, Challenge::new(challenge), node) {
         Ok((state, name)) => Ok((Link::AwaitStatus(state), name)),
@@ -40,7 +40,7 @@ fn dialled_again(
     node: &Admission,
     peer: NodeName,
     challenge: Challenge,
-) -> Result<(Link, Body), TextFault> {
+) -> Result<(Link, HandshakeBody), TextFault> {
     match AwaitStatus::dial(alloc, peer, challenge, node) {
         Ok((state, name)) => Ok((Link::AwaitStatus(state), name)),
         Err((peer, challenge)) => {
@@ -231,6 +231,6 @@ pub fn are(frames: &Bodies, wanted: &[&[u8]]) -> bool {
     true
 }
 
-fn is_body(frame: &Body, body: &[u8]) -> bool {
+fn is_body(frame: &HandshakeBody, body: &[u8]) -> bool {
     frame.as_slice() == body
 }

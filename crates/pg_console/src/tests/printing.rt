@@ -1,9 +1,9 @@
 //! Answers as lines.
 use crate::answers::{put_entry, put_step};
-use dist_types::{Group, Items, NodeName, Pid, Pids};
+use dist_types::{Body, Group, Items, NodeName, Pid, Pids};
 use node_core::CoreFault;
 use policy_audit::{
-    Body, Contents, Entry, Event, GroupPids, Groups, Members, OutFrame, Reply, Rule, Update,
+    Contents, Entry, Event, GroupPids, Groups, Members, OutFrame, Reply, Rule, Update,
     Updates, Verdict,
 };
 use std::alloc::Global;

@@ -1,35 +1,35 @@
 //! The bytes of a frame of the handshake.
 ghost use Rattle.std.specs.Prelude.{◌≡◌, ◌<◌, ◌^◌, length};
 
-use dist_types::Items;
+use dist_types::Body;
 use std::marker::Model;
 
 /// The bytes of a frame of the handshake, without the length before them, which has 2 bytes (Distribution Protocol,
 /// Distribution Handshake): at most 65,535.
 #[derive(Debug, Drop, PartialEq, Eq)]
-pub struct Body {
-    bytes: Items<u8>,
+pub struct HandshakeBody {
+    body: Body,
 }
 
-impl Model for Body {
+impl Model for HandshakeBody {
     ghost use Rattle.std.specs.Prelude.{List, ℕ, length, ◌<◌, ◌^◌};
 
     ghost Value = { List ℕ };
 
-    ghost view = { λ body. body.bytes };
+    ghost view = { λ frame. frame.body };
 
-    ghost inverse = { λ bytes. record { bytes = bytes } };
+    ghost inverse = { λ bytes. record { body = bytes } };
 
-    ghost invariant = { λ body. length body.bytes < 2 ^ 16 };
+    ghost invariant = { λ frame. length frame.body < 2 ^ 16 };
 }
 
-impl Body {
-    pub(crate) fn of(bytes: Vec<u8>) -> Body
+impl HandshakeBody {
+    pub(crate) fn of(bytes: Vec<u8>) -> HandshakeBody
         requires { length bytes.items < 2 ^ 16 }
         ensures { result ≡ bytes.items }
     {
-        Body {
-            bytes: Items::of(bytes),
+        HandshakeBody {
+            body: Body::of(bytes),
         }
     }
 
@@ -37,13 +37,14 @@ impl Body {
         ensures value { result.now ≡ self.now }
         ensures limits { length self.now < 2 ^ 16 }
     {
-        self.bytes.as_slice()
+        self.body.as_slice()
     }
 
-    pub fn into_vec(self) -> Vec<u8>
-        ensures value { result.items ≡ self }
+    /// The same bytes, without the promise that they are so few.
+    pub fn into_body(self) -> Body
+        ensures value { result ≡ self }
         ensures limits { length self < 2 ^ 16 }
     {
-        self.bytes.into_vec()
+        self.body
     }
 }

@@ -1,13 +1,14 @@
-//! The bytes of a frame.
+//! The bytes of a frame or a message of a link.
 ghost use Rattle.std.specs.Prelude.{◌≡◌, List, ℕ, nat_eq};
 ghost use Rattle.std.specs.Cmp as laws_of;
 ghost use Rattle.std.specs.Cmp.Lexicographic.{pointwise, nat_list_eq_equiv};
 
-use dist_types::{OutOfMemory, TryClone};
+use crate::fault::OutOfMemory;
+use crate::items::TryClone;
 use std::alloc::Global;
 use std::marker::Model;
 
-/// The bytes of a frame, without the length before them.
+/// The bytes of a frame or a message of a link, without the length before them.
 #[derive(Debug, Drop)]
 pub struct Body {
     bytes: Vec<u8>,
@@ -30,6 +31,12 @@ impl Body {
         ensures { result.now ≡ self.now }
     {
         self.bytes.as_slice()
+    }
+
+    pub fn into_vec(self) -> Vec<u8>
+        ensures { result.items ≡ self }
+    {
+        self.bytes
     }
 }
 
