@@ -7,7 +7,7 @@ use Rattle.std.specs.Cmp.Lexicographic.{nat_list_eq_equiv}
 use Rattle.std.proofs.lemmas.List.{append-nil, take-append-drop}
 use Rattle.std.proofs.Math.Bool.{or_assoc, or-false}
 use Rattle.std.proofs.Math.Seq.{take-append_seam}
-use Rattle.std.proofs.lemmas.Bool.{not-true, or_cases, or_left, or_right}
+use Rattle.std.proofs.lemmas.Bool.{or_cases, or_left, or_right}
 use Rattle.std.proofs.lemmas.List.Folds.{list_any-append, list_any_at}
 use Rattle.std.proofs.lemmas.List.Sums.{fold-append, fold_more}
 use Rattle.std.proofs.lemmas.Map.Steps.{list_any_congr}
@@ -42,14 +42,8 @@ front_stays names all = let more = behind names all in rw more.1 (take-append_se
 
 -- a name is there after another is inserted where it was there before or is that one
 has_one_inserted : (name other : List ℕ) (all : List (List ℕ)) → has name (insert_key bytes_eq all other) ≡ (has name all || bytes_eq name other)
-has_one_inserted name other all = by (has other all) refl (bytes_eq name other) refl
-  where
-    by : (b : Bool) → has other all ≡ b → (same : Bool) → bytes_eq name other ≡ same
-        → has name (cond b all (all ++ other ∷ [])) ≡ (has name all || same)
-    by true there true same =
-        let found = list_any_congr nat_list_eq_equiv name other all same ∙ there in found ∙ sym (or_left (has name all) true found)
-    by true there false apart = sym (or-false (has name all))
-    by false absent same is = list_any-append (bytes_eq name) all (other ∷ []) ∙ ap (λ b. has name all || b) (or-false (bytes_eq name other) ∙ is)
+has_one_inserted name other all =
+    grind (arith, list_any_congr nat_list_eq_equiv name other all, list_any-append (bytes_eq name) all (other ∷ []), or-false)
 
 -- a name is there after the insertions where it was there before or is among the names
 pub has_inserted : (name : List ℕ) (names all : List (List ℕ)) → has name (insert_all bytes_eq all names) ≡ (has name all || has name names)
@@ -81,7 +75,7 @@ length_of_front all names i =
 -- the test may take its names in either order
 pub has_flipped : (name : List ℕ) (names : List (List ℕ)) → list_any (λ other. bytes_eq other name) names ≡ has name names
 has_flipped name [] = refl
-has_flipped name (first ∷ names) = ap (λ b. b || list_any (λ other. bytes_eq other name) names) (nat_list_eq_equiv.symm first name) ∙ ap (λ b. bytes_eq name first || b) (has_flipped name names)
+has_flipped name (first ∷ names) = grind (arith, has_flipped name names, nat_list_eq_equiv.symm first name)
 
 -- what the look-up answers among names of which there are some
 pub allowed_decides : (name : List ℕ) (names : List (List ℕ)) (found : Bool) → found ≡ has name names → length names ≢ 0
@@ -97,8 +91,7 @@ allowed_decides name names found is some = (
 -- a name that isn't there and isn't among the names isn't there after the insertions
 pub absent_from_both : (name : List ℕ) (names all : List (List ℕ)) (among : Bool) → has name all ≡ false
     → among ≡ list_any (λ other. bytes_eq other name) names → not among ≡ not (has name (insert_all bytes_eq all names))
-absent_from_both name names all among absent is =
-    ap not (is ∙ has_flipped name names ∙ ap (λ b. b || has name names) (sym absent) ∙ sym (has_inserted name names all))
+absent_from_both name names all among absent is = grind (arith, has_flipped name names, has_inserted name names all)
 
 -- a new name in the list makes one more, at least
 pub new_name_makes_more : (all names : List (List ℕ)) (i : ℕ) (name : List ℕ) → i < length names → name ≡ get_or names i name
@@ -106,19 +99,13 @@ pub new_name_makes_more : (all names : List (List ℕ)) (i : ℕ) (name : List �
     → length (insert_all bytes_eq all (take i names)) + 1 ≤ length (insert_all bytes_eq all names)
 new_name_makes_more all names i name lt at new =
     let before = insert_all bytes_eq all (take i names) in
-    let put : insert_all bytes_eq all (take (i + 1) names) ≡ before ++ name ∷ [] =
-    insert_all_more all names i name lt at ∙ ap (λ b. cond b before (before ++ name ∷ [])) (not-true _ new) in
-    omega (arith, ap length put, length-append before (name ∷ []), length_of_front all names (i + 1))
+    grind (arith, insert_all_more all names i name lt at, length-append before (name ∷ []), length_of_front all names (i + 1))
 
 -- names make no more than they are
 pub length_inserted : (names all : List (List ℕ)) → length (insert_all bytes_eq all names) ≤ length all + length names
 length_inserted [] all = omega arith
-length_inserted (name ∷ names) all = by (has name all) (length_inserted names)
-  where
-    by : (b : Bool) → ((all : List (List ℕ)) → length (insert_all bytes_eq all names) ≤ length all + length names)
-        → length (insert_all bytes_eq (cond b all (all ++ name ∷ [])) names) ≤ length all + length (name ∷ names)
-    by true later = omega (arith, later all)
-    by false later = omega (arith, later (all ++ name ∷ []), length-append all (name ∷ []))
+length_inserted (name ∷ names) all =
+    grind (arith, length_inserted names all, length_inserted names (all ++ name ∷ []), length-append all (name ∷ []))
 
 -- the names that are there after the insertions
 pub allowed_after : (all names : List (List ℕ)) (name : List ℕ) → Contains (insert_all bytes_eq all names) name ↔ (Contains all name ⊎ Contains names name)

@@ -209,13 +209,11 @@ IsRest-empty = record { partial = IsPartial-empty w32 reads_32; short = λ too_l
 
 -- more frames behind the rest of a stream
 more_frames : (stream more : List ℕ) (frames news : List (List ℕ)) (rest new : List ℕ) → Splits w32 stream frames rest → All (FitsLength w32) news → rest ++ more ≡ flat_map (counted w32) news ++ new → IsPartial w32 new → Splits w32 (stream ++ more) (frames ++ news) new
-more_frames stream more frames news rest new so_far fit whole partial =
-    let front = flat_map (counted w32) frames in
-    record {
-      fit = All-append (FitsLength w32) frames news so_far.fit fit;
-      whole = ap (λ xs. xs ++ more) so_far.whole ∙ append_assoc front rest more ∙ ap (λ xs. front ++ xs) whole ∙ sym (append_assoc front (flat_map (counted w32) news) new) ∙ ap (λ xs. xs ++ new) (sym (flat_map-append (counted w32) frames news));
-      partial = partial;
-    }
+more_frames stream more frames news rest new so_far fit whole partial = record {
+  fit = All-append (FitsLength w32) frames news so_far.fit fit;
+  whole = simp (so_far.whole, flat_map-append, append_assoc, whole);
+  partial = partial;
+}
 
 abbrev IsShort : List ℕ → Type 0
 IsShort frame = length frame ≤ max_body
@@ -237,25 +235,22 @@ goes_on stream bodies rest piece used (Some body) new so_far fed =
     let idle = tick_frames fed.skipped in
     let news = idle ++ body ∷ [] in
     let short : All IsShort news = All-append IsShort idle (body ∷ []) (ticks_are_short fed.skipped) (All-cons IsShort body [] fed.fits (All-nil IsShort)) in
-    let whole : rest ++ take used piece ≡ flat_map (counted w32) news ++ new =
-    fed.whole ∙ ap (λ xs. xs ++ counted w32 body) (sym (ticks_are_frames fed.skipped)) ∙ ap (λ xs. flat_map (counted w32) idle ++ xs) (sym (append-nil (counted w32 body))) ∙ sym (flat_map-append (counted w32) idle (body ∷ [])) ∙ sym (append-nil _) ∙ ap (λ xs. flat_map (counted w32) news ++ xs) (sym fed.empty) in
-    let given : filter is_body news ≡ body ∷ [] = filter-append is_body idle (body ∷ []) ∙ ap (λ xs. xs ++ filter is_body (body ∷ [])) (ticks_are_no_bodies fed.skipped) ∙ body_is_body body fed.some in
+    let whole : rest ++ take used piece ≡ flat_map (counted w32) news ++ new = simp (fed.whole, fed.empty, flat_map-append, ticks_are_frames, append-nil) in
     record {
       frames = so_far.frames ++ news;
-      splits = more_frames stream (take used piece) so_far.frames news rest new so_far.splits (fits_from_short news short) whole (subst (IsPartial w32) (sym fed.empty) IsRest-empty.partial);
-      given = ap (λ xs. xs ++ body ∷ []) so_far.given ∙ ap (λ xs. filter is_body so_far.frames ++ xs) (sym given) ∙ sym (filter-append is_body so_far.frames news);
+      splits = more_frames stream (take used piece) so_far.frames news rest new so_far.splits (fits_from_short news short) whole (rw fed.empty IsRest-empty.partial);
+      given = simp (so_far.given, filter-append, ticks_are_no_bodies, body_is_body body fed.some);
       within = All-append IsShort so_far.frames news so_far.within short;
-      short = subst (λ xs. ¬ BeginsTooLong xs) (sym fed.empty) IsRest-empty.short;
+      short = rw fed.empty IsRest-empty.short;
     }
 goes_on stream bodies rest piece used None new so_far fed =
     let idle = tick_frames fed.skipped in
     let short = ticks_are_short fed.skipped in
-    let taken : take used piece ≡ piece = ap (λ n. take n piece) fed.whole ∙ take-length piece in
-    let whole : rest ++ take used piece ≡ flat_map (counted w32) idle ++ new = ap (λ xs. rest ++ xs) taken ∙ fed.kept ∙ ap (λ xs. xs ++ new) (sym (ticks_are_frames fed.skipped)) in
+    let whole : rest ++ take used piece ≡ flat_map (counted w32) idle ++ new = simp (fed.whole, take-length, ticks_are_frames, fed.kept) in
     record {
       frames = so_far.frames ++ idle;
       splits = more_frames stream (take used piece) so_far.frames idle rest new so_far.splits (fits_from_short idle short) whole fed.left.partial;
-      given = append-nil bodies ∙ so_far.given ∙ sym (append-nil (filter is_body so_far.frames)) ∙ ap (λ xs. filter is_body so_far.frames ++ xs) (sym (ticks_are_no_bodies fed.skipped)) ∙ sym (filter-append is_body so_far.frames idle);
+      given = simp (so_far.given, filter-append, ticks_are_no_bodies, append-nil);
       within = All-append IsShort so_far.frames idle so_far.within short;
       short = fed.left.short;
     }
@@ -321,9 +316,7 @@ ahead (frame ∷ frames) (other ∷ others) bytes rest short shorter long left s
 pub too_long_for_all : (stream piece later : List ℕ) (bodies others : List (List ℕ)) (rest last : List ℕ) → SplitsLink stream bodies rest → ComesTooLong rest piece → ¬ SplitsLink (stream ++ piece ++ later) others last
 too_long_for_all stream piece later bodies others rest last so_far comes other =
     let idle = tick_frames comes.skipped in
-    let front = flat_map (counted w32) so_far.frames in
-    let ends : front ++ ticks comes.skipped ≡ flat_map (counted w32) (so_far.frames ++ idle) = ap (λ xs. front ++ xs) (sym (ticks_are_frames comes.skipped)) ∙ sym (flat_map-append (counted w32) so_far.frames idle) in
     let met : stream ++ piece ≡ flat_map (counted w32) (so_far.frames ++ idle) ++ comes.bytes =
-    ap (λ xs. xs ++ piece) so_far.splits.whole ∙ append_assoc front rest piece ∙ ap (λ xs. front ++ xs) comes.behind ∙ sym (append_assoc front (ticks comes.skipped) comes.bytes) ∙ ap (λ xs. xs ++ comes.bytes) ends in
+    simp (so_far.splits.whole, flat_map-append, ticks_are_frames, append_assoc, comes.behind) in
     ahead (so_far.frames ++ idle) other.frames (comes.bytes ++ later) last (All-append IsShort so_far.frames idle so_far.within (ticks_are_short comes.skipped)) other.within (BeginsTooLong-append comes.bytes later comes.begins) (record { partial = other.splits.partial; short = other.short })
     (sym (append_assoc _ comes.bytes later) ∙ ap (λ xs. xs ++ later) (sym met) ∙ other.splits.whole)

@@ -1,18 +1,19 @@
 -- The reader gives a message exactly where the body spells it.
 use Rattle.std.proofs.Common.{◌≡◌, ◌↔◌, ℕ, zero, suc, ◌<◌, ◌≤◌, ◌^◌, ◌&&◌, Bool, true, false, cond, nat_lt, nat_le, IsTrue, List, [], ◌∷◌, ◌++◌, length, take, drop, Option, Some, None, All, refl, sym, ap, ◌∙◌, rules, arith, append_assoc}
 use Rattle.std.specs.Int.{w16, w32, w64, to_be_bytes, from_be_bytes}
-use Rattle.std.specs.List.{flat_map, find}
+use Rattle.std.specs.List.{flat_map, list_all}
 use Rattle.std.specs.Str.{bytes_eq}
 use Rattle.std.proofs.lemmas.Bool.{and_parts, and_from}
+use Rattle.std.proofs.lemmas.Bool.Decides.{Decides-and, Decides-by_and}
 use Rattle.std.proofs.lemmas.Slice.Eq.{bytes_eq-Decides}
 use Rattle.std.proofs.lemmas.Nat.{from_be_bytes-to_be_bytes_2, from_be_bytes-to_be_bytes_4, from_be_bytes-to_be_bytes_8}
 use Rattle.std.proofs.lemmas.List.{take_at, take_all, drop_at, append_cancel_left}
 use Rattle.std.proofs.lemmas.List.Elements.{All-head, All-tail}
-use Rattle.std.proofs.lemmas.List.Sums.{AllPass-from_list_all, list_all-from_AllPass}
 use Rattle.dist_types.specs.declared.row.Row.{Row}
 use Rattle.dist_types.proofs.LimitLemmas.{texts_compute, names_compute}
 use Rattle.handshake_frames.specs.Spelling.{counted}
 use Rattle.handshake_frames.specs.Reading.{counted_in}
+use Rattle.handshake_frames.proofs.ReadingLemmas.{found_passes, counted_in-counted}
 use Rattle.link_frames.specs.declared.message.Message.{Message}
 use Rattle.link_frames.specs.declared.message.Message.TheVariants as messages
 use Rattle.link_frames.specs.Spelling.{text_bytes, row_bytes, rows_bytes, message_bytes, IsRow, AreRows, IsMessage, SpellsMessage}
@@ -27,41 +28,28 @@ at_most : (m n : ℕ) → (nat_le m n ≡ true) ↔ (m ≤ n)
 at_most m n = search rules
 
 row_computes : (row : Row) → IsTrue (is_row row) ↔ IsRow row
-row_computes row = (
-  λ h. let first = and_parts _ _ h in let second = and_parts _ _ first.0 in let third = and_parts _ _ second.0 in
-      record {
-        group = (texts_compute row.group).0 third.0;
-        node = (names_compute row.pid.node).0 third.1;
-        creation = (below _ _).0 second.1;
-        number = (below _ _).0 first.1;
-      },
-  λ h. and_from _ _ (and_from _ _ (and_from _ _ ((texts_compute row.group).1 h.group) ((names_compute row.pid.node).1 h.node)) ((below _ _).1 h.creation)) ((below _ _).1 h.number),
-)
+row_computes row =
+    let texts = Decides-and _ _ (texts_compute row.group) (names_compute row.pid.node) in
+    let all = Decides-and _ _ (Decides-and _ _ texts (below row.pid.creation (2 ^ 32))) (below row.pid.number (2 ^ 64)) in (
+      λ h. let is = all.0 h in record { group = is.0.0.0; node = is.0.0.1; creation = is.0.1; number = is.1 },
+      λ is. all.1 (((is.group, is.node), is.creation), is.number),
+    )
 
 rows_compute : (rows : List Row) → IsTrue (are_rows rows) ↔ AreRows rows
-rows_compute rows = (
-  λ h. let parts = and_parts _ _ h in
-      record {
-        count = (at_most _ _).0 parts.0;
-        each = λ k d inside. (row_computes _).0 (AllPass-from_list_all is_row rows parts.1 k d inside);
-      },
-  λ h. and_from _ _ ((at_most _ _).1 h.count) (list_all-from_AllPass is_row rows (λ k d inside. (row_computes _).1 (h.each k d inside))),
-)
+rows_compute rows =
+    let all = Decides-and _ _ (at_most (length rows) 4096) (Decides-by_and is_row IsRow (list_all is_row) row_computes refl (λ _ _. refl) rows) in
+    (λ h. record { count = (all.0 h).0; each = (all.0 h).1 }, λ are. all.1 (are.count, are.each))
+
+listing_computes : (scope : List ℕ) (rows : List Row) → IsTrue (is_message (messages.Join scope rows)) ↔ IsMessage (messages.Join scope rows)
+listing_computes scope rows =
+    let all = Decides-and _ _ (Decides-and _ _ (texts_compute scope) (rows_compute rows)) (below 0 (length rows)) in
+    (λ h. let is = all.0 h in (is.0.0, is.0.1, is.1), λ is. all.1 ((is.0, is.1), is.2))
 
 pub message_computes : (m : Message) → IsTrue (is_message m) ↔ IsMessage m
 message_computes (messages.Discover scope) = texts_compute scope
-message_computes (messages.Sync scope rows) = (
-  λ h. let parts = and_parts _ _ h in ((texts_compute scope).0 parts.0, (rows_compute rows).0 parts.1),
-  λ h. and_from _ _ ((texts_compute scope).1 h.0) ((rows_compute rows).1 h.1),
-)
-message_computes (messages.Join scope rows) = (
-  λ h. let some = and_parts _ _ h in let parts = and_parts _ _ some.0 in ((texts_compute scope).0 parts.0, (rows_compute rows).0 parts.1, (below _ _).0 some.1),
-  λ h. and_from _ _ (and_from _ _ ((texts_compute scope).1 h.0) ((rows_compute rows).1 h.1)) ((below _ _).1 h.2),
-)
-message_computes (messages.Leave scope rows) = (
-  λ h. let some = and_parts _ _ h in let parts = and_parts _ _ some.0 in ((texts_compute scope).0 parts.0, (rows_compute rows).0 parts.1, (below _ _).0 some.1),
-  λ h. and_from _ _ (and_from _ _ ((texts_compute scope).1 h.0) ((rows_compute rows).1 h.1)) ((below _ _).1 h.2),
-)
+message_computes (messages.Sync scope rows) = Decides-and _ _ (texts_compute scope) (rows_compute rows)
+message_computes (messages.Join scope rows) = listing_computes scope rows
+message_computes (messages.Leave scope rows) = listing_computes scope rows
 message_computes (messages.Down scope) = texts_compute scope
 
 -- ---- fields
@@ -71,9 +59,6 @@ text_in-text_bytes text rest = take_at text rest (length text) refl
 
 pub behind_text-text_bytes : (text rest : List ℕ) → behind_text (text_bytes text ++ rest) ≡ rest
 behind_text-text_bytes text rest = drop_at text rest (length text) refl
-
-counted_in-counted : (name rest : List ℕ) → length name < 2 ^ 16 → counted_in (counted w16 name ++ rest) ≡ name
-counted_in-counted name rest fits = ap (λ n. take n (name ++ rest)) (from_be_bytes-to_be_bytes_2 (length name) fits) ∙ take_at name rest (length name) refl
 
 behind_name-counted : (name rest : List ℕ) → length name < 2 ^ 16 → behind_name (counted w16 name ++ rest) ≡ rest
 behind_name-counted name rest fits = ap (λ n. drop n (name ++ rest)) (from_be_bytes-to_be_bytes_2 (length name) fits) ∙ drop_at name rest (length name) refl
@@ -137,15 +122,6 @@ next_row zero (row ∷ rows) all inside = (row, All-head IsRow row rows all, (ro
 next_row (suc n) (row ∷ rows) all inside = next_row n rows (All-tail IsRow row rows all) (omega arith)
 
 -- ---- a message
-
-passes_or_later : {A : Type 0} (test : A → Bool) (y : A) (ys : List A) (x : A) → (passes : Bool) → test y ≡ passes → (find test ys ≡ Some x → test x ≡ true) → cond passes (Some y) (find test ys) ≡ Some x → test x ≡ true
-passes_or_later test y ys x true is later e = cc (is, e)
-passes_or_later test y ys x false is later e = later e
-
--- what was found passes the test
-found_passes : {A : Type 0} (test : A → Bool) (xs : List A) (x : A) → find test xs ≡ Some x → test x ≡ true
-found_passes test [] x e = absurd (cc e)
-found_passes test (y ∷ ys) x e = passes_or_later test y ys x (test y) refl (found_passes test ys x) e
 
 -- the test that the reader makes
 abbrev spells : List ℕ → Message → Bool

@@ -1,27 +1,12 @@
 -- The test for an allowed name decides that the rules allow it.
-use Rattle.std.proofs.Common.{◌≡◌, ◌↔◌, IsTrue, ◌∙◌, ℕ, Bool, true, ◌||◌, List, [], ◌∷◌, Contains, length, refl, sym, ap, rules, arith}
+use Rattle.std.proofs.Common.{◌≡◌, ◌↔◌, IsTrue, ℕ, Bool, true, List, [], ◌∷◌, length, refl, ap, rules, arith}
 use Rattle.std.specs.Prelude.{◌==◌}
 use Rattle.std.specs.Bool.{Decides}
-use Rattle.std.specs.Str.{bytes_eq}
-use Rattle.std.specs.List.{list_any}
-use Rattle.std.specs.Cmp.Lexicographic.{nat_list_eq_equiv}
 use Rattle.std.proofs.lemmas.Bool.Decides.{same_from_decides, Decides-or}
-use Rattle.std.proofs.lemmas.Map.Views.{list_any-from_Contains, Contains-from_any}
-use Rattle.std.proofs.lemmas.Slice.Eq.{bytes_eq-Decides}
 use Rattle.admission_rules.specs.Admission.{AdmissionRules, IsAllowed}
+use Rattle.admission_rules.proofs.NameLists.{has_flipped, has_decides}
 use Rattle.link_states.specs.Pending.{has_name}
 use Rattle.link_states.specs.Checks.{allows}
-
-flipped : (name : List ℕ) (names : List (List ℕ)) → has_name names name ≡ list_any (bytes_eq name) names
-flipped name [] = refl
-flipped name (first ∷ names) =
-    ap (λ b. b || has_name names name) (nat_list_eq_equiv.symm first name) ∙ ap (λ b. bytes_eq name first || b) (flipped name names)
-
-has_decides : (name : List ℕ) (names : List (List ℕ)) → Decides (has_name names name) (Contains names name)
-has_decides name names = (
-  (λ has. Contains-from_any (λ x y. (bytes_eq-Decides x y).0) name names (sym (flipped name names) ∙ has)),
-  (λ found. flipped name names ∙ list_any-from_Contains nat_list_eq_equiv name names found),
-)
 
 empty_decides : (names : List (List ℕ)) → Decides (length names == 0) (names ≡ [])
 empty_decides [] = (λ _. refl, λ _. refl)
@@ -29,7 +14,8 @@ empty_decides (name ∷ names) = (search rules, λ none. absurd (omega (arith, a
 
 allows_decides : (r : AdmissionRules) (name : List ℕ) → Decides (allows r name) (IsAllowed r name)
 allows_decides r name =
-    Decides-or (length r.allowed == 0) (has_name r.allowed name) (empty_decides r.allowed) (has_decides name r.allowed)
+    Decides-or (length r.allowed == 0) (has_name r.allowed name) (empty_decides r.allowed)
+    (rw (has_flipped name r.allowed) (has_decides name r.allowed))
 
 -- the answer to whether a name is allowed is the test
 pub allowed_is : (found : Bool) (r : AdmissionRules) (name : List ℕ) → IsTrue found ↔ IsAllowed r name → found ≡ allows r name

@@ -23,16 +23,13 @@ use Rattle.link_states.specs.Meeting.{MayDial}
 use Rattle.link_states.proofs.AllowedLemmas.{allows_allowed}
 
 own_flags_fit : (hidden : Bool) → own_flags hidden < 2 ^ 64
-own_flags_fit true = omega arith
-own_flags_fit false = omega arith
+own_flags_fit hidden = grind arith
 
 own_flags_speak : (hidden : Bool) → has_bit 24 (own_flags hidden) ≡ true
-own_flags_speak true = refl
-own_flags_speak false = refl
+own_flags_speak hidden = grind arith
 
 own_flags_name : (hidden : Bool) → has_bit 33 (own_flags hidden) ≡ false
-own_flags_name true = refl
-own_flags_name false = refl
+own_flags_name hidden = grind arith
 
 same_bytes : (xs ys : List ℕ) → xs ≡ ys → bytes_eq xs ys ≡ true
 same_bytes xs ys e = (bytes_eq-Decides xs ys).1 e

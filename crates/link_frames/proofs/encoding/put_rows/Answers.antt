@@ -1,7 +1,8 @@
-use Rattle.std.proofs.Common.{◌≡◌, ℕ, ◌+◌, List, [], ◌∷◌, ◌++◌, take, length, ap, sym, ◌∙◌, append_assoc, rules}
+use Rattle.std.proofs.Common.{◌≡◌, ℕ, ◌+◌, List, [], ◌∷◌, ◌++◌, take, length, ap, sym, ◌∙◌, append_assoc, append-nil, rules}
 use Rattle.std.specs.Int.{w32, to_be_bytes}
 use Rattle.std.specs.List.{flat_map}
-use Rattle.std.proofs.lemmas.List.{take_more, flat_map_more}
+use Rattle.std.proofs.lemmas.Grind.{flat_map-append}
+use Rattle.std.proofs.lemmas.List.{take_more}
 use Rattle.std.proofs.lemmas.List.Elements.{All-same, All-push}
 use Rattle.dist_types.specs.declared.row.Row.{Row}
 use Rattle.link_frames.specs.Spelling.{row_bytes, IsRow}
@@ -9,8 +10,7 @@ use Rattle.link_frames.proofs.encoding.put_rows.Goals as goal
 
 -- one row more behind the rows that were put
 rows_put : (old before after count : List ℕ) (done : List Row) (row : Row) (more : List Row) → before ≡ old ++ (count ++ flat_map row_bytes done) → after ≡ before ++ row_bytes row → more ≡ done ++ row ∷ [] → after ≡ old ++ (count ++ flat_map row_bytes more)
-rows_put old before after count done row more were put next =
-    put ∙ ap (λ xs. xs ++ row_bytes row) were ∙ append_assoc old _ (row_bytes row) ∙ ap (λ xs. old ++ xs) (flat_map_more row_bytes count done row) ∙ ap (λ xs. old ++ (count ++ flat_map row_bytes xs)) (sym next)
+rows_put old before after count done row more were put next = simp (put, were, next, flat_map-append, append-nil, append_assoc)
 
 pub returns-in_err-put_row-clause-grown : goal.returns-in_err-put_row-clause-grown
 returns-in_err-put_row-clause-grown c =
