@@ -31,9 +31,8 @@ module _ {A : Type 0} (P : A → Type 0) where
 
 pub rises_insert : (cs : List Counted) (i : ℕ) (x : Counted) → i ≤ length cs → Rises counted_cmp cs
     → IsGap x.row cs i → Rises counted_cmp (insert cs i x)
-rises_insert cs zero x l r p =
-    (all_from (λ d. counted_cmp x d ≡ Less) cs (λ k d m h. rows_total.antisymm x.row (get_or cs k d).row ∙ ap ordering_reverse (p.1 k d m h)), r)
-rises_insert [] (suc i) x l r p = absurd (omega (arith, l))
+rises_insert cs zero x l r p = grind (arith, rows_total.antisymm, all_from)
+rises_insert [] (suc i) x l r p = grind arith
 rises_insert (c ∷ cs) (suc i) x l r p = (
   all_insert (λ d. counted_cmp c d ≡ Less) cs i x (p.0 0 c (omega arith) (omega arith)) r.0,
   rises_insert cs i x (omega (arith, l)) r.1 ((λ k d m h. p.0 (suc k) d (omega arith) (omega (arith, h))), (λ k d m h. p.1 (suc k) d (omega (arith, m)) (omega (arith, h)))),
@@ -48,75 +47,38 @@ rises_set (c ∷ cs) (suc i) x l e r = (
 )
 
 pub tally-more : (cs : List Counted) (i : ℕ) (c : Counted) → i < length cs → c ≡ get_or cs i c → Adds (c.row ∷ []) cs (set cs i (record { row = c.row; count = c.count + 1 }))
-tally-more cs i c l e test =
-    let f = λ (d : Counted). cond (test d.row) d.count 0 in
-    let a = total_is f (set cs i (record { row = c.row; count = c.count + 1 })) in
-    let b = total_is f cs in
-    let s = sum_by-set f cs i (record { row = c.row; count = c.count + 1 }) c l in
-    let g : f (get_or cs i c) ≡ f c = ap f (sym e) in
-    let n : f (record { row = c.row; count = c.count + 1 }) ≡ f c + cond (test c.row) 1 0 = elim (test c.row) as (λ v. cond v (c.count + 1) 0 ≡ cond v c.count 0 + cond v 1 0) [ true ↦ refl | false ↦ omega arith ] in
-    omega (arith, a, b, s, g, n)
+tally-more cs i c l e test = grind (arith, total_is, sum_by-set)
 
 -- one more entry
 pub tally-put : (cs : List Counted) (i : ℕ) (x : Counted) → Joins (x ∷ []) cs (insert cs i x)
-tally-put cs i x test =
-    let f = λ (c : Counted). cond (test c.row) c.count 0 in
-    let a = total_is f (insert cs i x) in
-    let b = total_is f cs in
-    let s = sum_by-insert f cs i x in
-    omega (arith, a, b, s)
+tally-put cs i x test = grind (arith, total_is, sum_by-insert)
 
 -- an entry that is there already
 pub tally-grown : (cs : List Counted) (i : ℕ) (c x : Counted) → i < length cs → c ≡ get_or cs i c → c.row ≡ x.row → Joins (x ∷ []) cs (set cs i (record { row = c.row; count = c.count + x.count }))
-tally-grown cs i c x l e same test =
-    let f = λ (d : Counted). cond (test d.row) d.count 0 in
-    let a = total_is f (set cs i (record { row = c.row; count = c.count + x.count })) in
-    let b = total_is f cs in
-    let s = sum_by-set f cs i (record { row = c.row; count = c.count + x.count }) c l in
-    let g : f (get_or cs i c) ≡ f c = ap f (sym e) in
-    let n : f (record { row = c.row; count = c.count + x.count }) ≡ f c + cond (test c.row) x.count 0 = elim (test c.row) as (λ v. cond v (c.count + x.count) 0 ≡ cond v c.count 0 + cond v x.count 0) [ true ↦ refl | false ↦ omega arith ] in
-    let m : cond (test c.row) x.count 0 ≡ f x = ap (λ r. cond (test r) x.count 0) same in
-    omega (arith, a, b, s, g, n, m)
+tally-grown cs i c x l e same test = grind (arith, total_is, sum_by-set)
 
 pub inserted : {T E : Type 0} {A : Type 0} (r : Result T E) (new a b : A) → IsOk r → new ≡ cond (is_ok r) a b → new ≡ a
 inserted (Ok x) new a b h e = e
-inserted (Err x) new a b h e = absurd (let f : false ≡ true = h in cc)
+inserted (Err x) new a b h e = grind arith
 
 -- a count has room for one more
 pub count_fits : (cs : List Counted) (i : ℕ) (c : Counted) → i < length cs → c ≡ get_or cs i c → ((node : List ℕ) → tally (is_of_node node) cs ≤ 4096) → c.count ≤ 4096
 count_fits cs i c l e all_few =
     let node = c.row.pid.node in
     let f = λ (d : Counted). cond (is_of_node node d.row) d.count 0 in
-    let a = get_or-le-sum_by f cs i c l in
-    let g : f (get_or cs i c) ≡ f c = ap f (sym e) in
-    let n : f c ≡ c.count = ap (λ b. cond b c.count 0) ((same_decides node node).1 refl) in
-    let b = total_is f cs in
-    let few = all_few node in
-    omega (arith, a, g, n, b, few)
+    grind (arith, get_or-le-sum_by f cs i c l, total_is f cs, same_decides node node, all_few node)
 
 -- a count that has room is no more than a node may have
 pub one_fits : (cs : List Counted) (x : Counted) → HasRoomBeside (x ∷ []) cs → x.count ≤ 4096
-one_fits cs x few =
-    let node = x.row.pid.node in
-    let n : cond (is_of_node node x.row) x.count 0 ≡ x.count = ap (λ b. cond b x.count 0) ((same_decides node node).1 refl) in
-    let m = few node in
-    omega (arith, m, n)
+one_fits cs x few = grind (arith, few x.row.pid.node, same_decides x.row.pid.node x.row.pid.node)
 
 pub put_kept : (cs : List Counted) (i : ℕ) (x : Counted) → i ≤ length cs → IsKept cs → 0 < x.count → HasRoomBeside (x ∷ []) cs → IsGap x.row cs i → IsKept (insert cs i x)
-put_kept cs i x l kept some few gap = record {
-  rises = rises_insert cs i x l kept.rises gap;
-  counted = all_insert (λ c. 0 < c.count) cs i x some kept.counted;
-  few = λ n. let a = tally-put cs i x (is_of_node n) in let b = few n in omega (arith, a, b);
-}
+put_kept cs i x l kept some few gap = grind (arith, rises_insert, all_insert, tally-put)
 
 pub grown_kept : (cs : List Counted) (i : ℕ) (c x : Counted) → i < length cs → c ≡ get_or cs i c → c.row ≡ x.row → IsKept cs → 0 < x.count → HasRoomBeside (x ∷ []) cs
     → IsKept (set cs i (record { row = c.row; count = c.count + x.count }))
-grown_kept cs i c x l e same kept some few = record {
-  rises = rises_set cs i (record { row = c.row; count = c.count + x.count }) l (ap (λ y. y.row) (e ∙ get_or_default cs i c (record { row = c.row; count = c.count + x.count }) l)) kept.rises;
-  counted = all_set (λ y. 0 < y.count) cs i (record { row = c.row; count = c.count + x.count }) (omega (arith, some)) kept.counted;
-  few = λ n. let a = tally-grown cs i c x l e same (is_of_node n) in let b = few n in omega (arith, a, b);
-}
+grown_kept cs i c x l e same kept some few = grind (arith, get_or_default, rises_set, all_set, tally-grown)
 
 -- the last of the rows to put in counts as one
 pub last_counts : (test : Row → Bool) (rows rest : List Row) (row : Row) → rows ≡ rest ++ row ∷ [] → how_many test rows ≡ how_many test rest + cond (test row) 1 0
-last_counts test rows rest row e = ap (how_many test) e ∙ how_many_append test rest (row ∷ [])
+last_counts test rows rest row e = grind (arith, how_many_append)

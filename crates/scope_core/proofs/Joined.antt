@@ -6,7 +6,7 @@ use Rattle.dist_types.specs.declared.row.Row.{Row}
 use Rattle.scope_core.specs.declared.counted.Counted.{Counted}
 use Rattle.dist_types.specs.Listing.{same, same_row, occurrences, spread, same_pid, mentions, how_many, IsPidListing}
 use Rattle.dist_types.specs.Difference.{IsDifference, change_unless_empty}
-use Rattle.scope_core.proofs.Peers.{AreOf, all_pass, rows_fit}
+use Rattle.scope_core.proofs.Peers.{AreOf, all_or_none, rows_fit}
 use Rattle.scope_core.proofs.Shares.{each, of_node, node_flat}
 use Rattle.dist_types.proofs.Listings.{fewer_length, length-spread}
 use Rattle.scope_core.specs.Table.{Table, local_count, local_total, is_row, is_of_node, tally, IsKept}
@@ -16,35 +16,21 @@ use Rattle.dist_types.proofs.Sorts.{all_from}
 use Rattle.dist_types.proofs.Differences.{one_difference}
 use Rattle.std.specs.List.{AllByRecursion}
 use Rattle.std.proofs.lemmas.List.{length-map}
-
-counted : (g h : List ℕ) (p : Pid) (b : Bool) → same g h ≡ b → (qs : List Pid) → how_many (is_row h p) (map (row_in g) qs) ≡ cond b (mentions p qs) 0
-counted g h p true e [] = refl
-counted g h p true e (q ∷ qs) =
-    ap (λ v. cond (v && same_pid q p) (suc (how_many (is_row h p) (map (row_in g) qs))) (how_many (is_row h p) (map (row_in g) qs))) e
-    ∙ ap (λ n. cond (same_pid q p) (suc n) n) (counted g h p true e qs)
-counted g h p false e [] = refl
-counted g h p false e (q ∷ qs) =
-    ap (λ v. cond (v && same_pid q p) (suc (how_many (is_row h p) (map (row_in g) qs))) (how_many (is_row h p) (map (row_in g) qs))) e
-    ∙ counted g h p false e qs
+use Rattle.scope_core.proofs.Shares.{fewer_rows}
 
 -- the rows of a list of processes are the mentions of each
 pub mentions_in : (g h : List ℕ) (p : Pid) (ps : List Pid) → how_many (is_row h p) (map (row_in g) ps) ≡ cond (same h g) (mentions p ps) 0
-mentions_in g h p ps = counted g h p (same h g) (same_sym g h) ps
+mentions_in g h p [] = grind arith
+mentions_in g h p (q ∷ qs) = grind (arith, mentions_in g h p qs, same_sym g h)
 
 -- what is counted after a join
 pub joined_counts : (g : List ℕ) (ps : List Pid) (rows : List Row) (old new : List Counted) → rows ≡ map (row_in g) ps → Adds rows old new → (h : List ℕ) (p : Pid) → tally (is_row h p) new ≡ tally (is_row h p) old + cond (same h g) (mentions p ps) 0
-joined_counts g ps rows old new e a h p = a (is_row h p) ∙ ap (λ n. tally (is_row h p) old + n) (ap (how_many (is_row h p)) e ∙ mentions_in g h p ps)
+joined_counts g ps rows old new e a h p = grind (arith, a (is_row h p), mentions_in)
 
 -- the change of a join
 pub joined_change : (g : List ℕ) (ps sorted : List Pid) (before after : List ℕ → Pid → ℕ) → IsPidListing (λ p. mentions p ps) sorted → ((h : List ℕ) (p : Pid) → after h p ≡ before h p + cond (same h g) (mentions p ps) 0)
     → IsDifference before after (change_unless_empty g [] sorted)
-joined_change g ps sorted before after listing is =
-    one_difference before after g [] sorted tt listing.ascends
-    (λ h p. let a = is h p in elim (same g h) as (λ v. before h p - after h p ≡ cond v 0 0) [ true ↦ omega (arith, a) | false ↦ omega (arith, a) ])
-    (λ h p.
-    let a = is h p in
-    let m : after h p - before h p ≡ cond (same h g) (mentions p ps) 0 = omega (arith, a) in
-    m ∙ ap (λ (t : Bool × ℕ). cond t.0 t.1 0) (λ i. (same_sym h g i, sym (listing.counts p) i)))
+joined_change g ps sorted before after listing is = grind (arith, one_difference, same_sym)
 
 rows_of_own : (g own : List ℕ) (ps : List Pid) → AllByRecursion (λ p. p.node ≡ own) ps → AreOf own (map (row_in g) ps)
 rows_of_own g own [] a = tt
@@ -54,9 +40,8 @@ rows_of_own g own (p ∷ ps) a = (a.0, rows_of_own g own ps a.1)
 pub joined_total : (g own : List ℕ) (ps : List Pid) (rows : List Row) (old new : List Counted) → rows ≡ map (row_in g) ps → Adds rows old new → All (λ p. p.node ≡ own) ps
     → (n : ℕ) → n ≡ tally (is_of_node own) old → n + length ps ≡ tally (is_of_node own) new
 joined_total g own ps rows old new e a all n is =
-    let added = a (is_of_node own) in
-    let many : how_many (is_of_node own) rows ≡ length (map (row_in g) ps) = ap (how_many (is_of_node own)) e ∙ all_pass own (map (row_in g) ps) (rows_of_own g own ps (all_from (λ p. p.node ≡ own) ps (λ k d l h. all k d h))) in
-    omega (arith, added, many, is, length-map ps (row_in g))
+    let rows_own = rows_of_own g own ps (all_from (λ p. p.node ≡ own) ps (λ k d l h. all k d h)) in
+    grind (arith, a (is_of_node own), all_or_none own own (map (row_in g) ps) rows_own, same_decides own own, length-map ps (row_in g))
 
 -- own processes have room where the own node has
 pub room_for : (g own : List ℕ) (ps : List Pid) (rows : List Row) (old : List Counted) → rows ≡ map (row_in g) ps → IsKept old → All (λ p. p.node ≡ own) ps → tally (is_of_node own) old + length ps ≤ 4096 → HasRoomFor rows old
@@ -67,15 +52,5 @@ room_for g own ps rows old e kept all few =
 -- own processes of one group are no more than all own rows
 pub length-part : (t : Table) (g : List ℕ) (ps : List Pid) → ((p : Pid) → mentions p ps ≤ local_count t g p) → length ps ≤ local_total t
 length-part t g ps few =
-    let flat = spread (λ (c : Counted). c.row) (each (of_node t.own)) t.rows in
-    let l : length (map (row_in g) ps) ≤ length flat = fewer_length same_row same_row_decides (map (row_in g) ps) flat (λ r.
-    let a = mentions_in g r.group r.pid ps in
-    let b = node_flat t.own t r in
-    let m = few r.pid in
-    elim (same r.group g) as (λ v. same r.group g ≡ v → how_many (is_row r.group r.pid) (map (row_in g) ps) ≡ cond v (mentions r.pid ps) 0 → how_many (is_row r.group r.pid) (map (row_in g) ps) ≤ occurrences same_row r flat) [
-      | true ↦ λ e d.
-          let s : local_count t r.group r.pid ≡ local_count t g r.pid = ap (λ k. local_count t k r.pid) ((same_decides r.group g).0 e) in
-          omega (arith, b, m, s, d)
-      | false ↦ λ e d. omega (arith, d)
-    ] refl a) in
-    omega (arith, l, length-map ps (row_in g), length-spread (λ (c : Counted). c.row) (each (of_node t.own)) t.rows)
+    let rows = fewer_rows t.own t (map (row_in g) ps) (λ r. grind (arith, mentions_in g r.group r.pid ps, few r.pid, same_decides r.group g)) in
+    omega (arith, rows, length-map ps (row_in g))

@@ -17,32 +17,25 @@ use Rattle.scope_core.proofs.Runs.{all_at, filter_takes}
 
 -- where neither comes after the other, they are the same
 neither_above : (p q : Pid) → is_gt (pid_cmp p q) ≡ false → is_gt (pid_cmp q p) ≡ false → p ≡ q
-neither_above p q a b =
-    elim (pid_cmp p q) as (λ o. pid_cmp p q ≡ o → is_gt o ≡ false → is_gt (ordering_reverse o) ≡ false → p ≡ q) [
-      | Less ↦ λ e x y. absurd (let f : true ≡ false = y in cc)
-      | Equal ↦ λ e x y. exact_pids p q e
-      | Greater ↦ λ e x y. absurd (let f : true ≡ false = x in cc)
-    ] refl a (ap is_gt (sym (pids_total.antisymm q p)) ∙ b)
+neither_above p q a b = grind (arith, exact_pids, pids_total.antisymm)
 
 -- behind a process, those that are the same come first
 pub run_partitions : (q : Pid) (ps : List Pid) → Ascends pid_cmp (q ∷ ps) → IsPartitionedBy (λ x. same_pid x q) ps
-run_partitions q [] a i j d l h e = absurd (omega (arith, h))
+run_partitions q [] a i j d l h e = grind arith
 run_partitions q (p ∷ ps) a zero zero d l h e = e
 run_partitions q (p ∷ ps) a zero (suc j) d l h e =
-    let s : get_or ps j d ≡ q = (same_pid_decides (get_or ps j d) q).0 e in
     let up = all_at (λ x. is_gt (pid_cmp p x) ≡ false) ps j d a.1.0 (omega (arith, h)) in
-    (same_pid_decides p q).1 (neither_above p q (ap (λ x. is_gt (pid_cmp p x)) (sym s) ∙ up) a.0.0)
-run_partitions q (p ∷ ps) a (suc i) zero d l h e = absurd (omega (arith, l))
+    grind (arith, up, e, a.0.0, same_pid_decides, neither_above p q)
+run_partitions q (p ∷ ps) a (suc i) zero d l h e = grind arith
 run_partitions q (p ∷ ps) a (suc i) (suc j) d l h e = run_partitions q ps (a.0.1, a.1.1) i j d (omega (arith, l)) (omega (arith, h)) e
 
 -- so the front is a run of the same
 pub front_is : (q : Pid) (n : ℕ) (ps : List Pid) → n ≤ length ps → AllWithin (λ x. same_pid x q ≡ true) ps 0 n → take n ps ≡ replicate n q
 front_is q zero ps l a = refl
-front_is q (suc n) [] l a = absurd (omega (arith, l))
+front_is q (suc n) [] l a = grind arith
 front_is q (suc n) (p ∷ ps) l a =
-    let s : p ≡ q = (same_pid_decides p q).0 (a 0 p (omega arith) (omega arith)) in
     let rest = front_is q n ps (omega (arith, l)) (λ k d m h. a (suc k) d (omega arith) (omega (arith, h))) in
-    λ i. s i ∷ rest i
+    grind (arith, same_pid_decides p q, a 0 p, rest)
 
 -- and there are no more of them behind it
 pub front_counts : (q : Pid) (n : ℕ) (ps : List Pid) → n ≤ length ps → AllWithin (λ x. same_pid x q ≡ true) ps 0 n → AllWithin (λ x. same_pid x q ≡ false) ps n (length ps) → n ≡ mentions q ps
@@ -63,7 +56,7 @@ ascends_without (x ∷ xs) y zs a = (all_without (λ p. is_gt (pid_cmp x p) ≡ 
 -- a run in the midst may be shorter
 ascends_less : (xs : List Pid) (q : Pid) (m n : ℕ) (zs : List Pid) → m ≤ n → Ascends pid_cmp (xs ++ (replicate n q ++ zs)) → Ascends pid_cmp (xs ++ (replicate m q ++ zs))
 ascends_less xs q zero zero zs l a = a
-ascends_less xs q (suc m) zero zs l a = absurd (omega (arith, l))
+ascends_less xs q (suc m) zero zs l a = grind arith
 ascends_less xs q m (suc n) zs l a = elim (cases_lt m (suc n)) [
   | inl b ↦ ascends_less xs q m n zs (omega (arith, b)) (ascends_without xs q (replicate n q ++ zs) a)
   | inr b ↦ let e : suc n ≡ m = omega (arith, b, l) in subst (λ k. Ascends pid_cmp (xs ++ (replicate k q ++ zs))) e a
@@ -75,7 +68,7 @@ ascends_behind (x ∷ xs) ys a = ascends_behind xs ys a.1
 
 module _ (q : Pid) (n : ℕ) (ps : List Pid) (run : take n ps ≡ replicate n q) where
   front_first : ps ≡ replicate n q ++ drop n ps
-  front_first = sym (take-append-drop n ps) ∙ ap (λ xs. xs ++ drop n ps) run
+  front_first = grind (arith, take-append-drop)
 
   -- some of the run are put behind those that are gone, and the rest of it is passed over
   pub ascends_on : (gone : List Pid) (m : ℕ) → m ≤ n + 1 → Ascends pid_cmp (gone ++ q ∷ ps) → Ascends pid_cmp ((gone ++ replicate m q) ++ drop n ps)
@@ -88,14 +81,5 @@ module _ (q : Pid) (n : ℕ) (ps : List Pid) (run : take n ps ≡ replicate n q)
       → mentions p (gone ++ replicate m q) + min (mentions p (drop n ps)) (count p) ≡ mentions p gone + min (mentions p (q ∷ ps)) (count p)
   counts_on all count gone m is p =
       let test = λ (x : Pid). same_pid x p in
-      elim (same_pid q p) as (λ v. same_pid q p ≡ v → mentions p ps ≡ cond v n 0 + mentions p (drop n ps) → mentions p (gone ++ replicate m q) ≡ mentions p gone + cond v m 0
-      → mentions p (gone ++ replicate m q) + min (mentions p (drop n ps)) (count p) ≡ mentions p gone + min (cond v (suc (mentions p ps)) (mentions p ps)) (count p)) [
-        | true ↦ λ e behind put.
-            let s : q ≡ p = (same_pid_decides q p).0 e in
-            let none : n ≡ mentions p ps = all ∙ ap (λ x. mentions x ps) s in
-            let c : count q ≡ count p = ap count s in
-            omega (arith, is, behind, put, none, c)
-        | false ↦ λ e behind put. omega (arith, behind, put)
-      ] refl
-      (ap (mentions p) front_first ∙ how_many_append test (replicate n q) (drop n ps) ∙ ap (λ k. k + mentions p (drop n ps)) (how_many_replicate test n q))
-      (how_many_append test gone (replicate m q) ∙ ap (λ k. mentions p gone + k) (how_many_replicate test m q))
+      let run = ap (mentions p) front_first ∙ how_many_append test (replicate n q) (drop n ps) in
+      grind (arith, run, how_many_append test gone (replicate m q), how_many_replicate test n q, how_many_replicate test m q, same_pid_decides q p)

@@ -14,24 +14,18 @@ use Rattle.scope_core.specs.Table.{tally, IsKept, AreCounted}
 use Rattle.scope_core.proofs.Runs.{all_at}
 
 tally_append : (test : Row → Bool) (xs ys : List Counted) → tally test (xs ++ ys) ≡ tally test xs + tally test ys
-tally_append test xs ys =
-    let f = λ (c : Counted). cond (test c.row) c.count 0 in
-    let a = total_is f (xs ++ ys) in
-    let b = total_is f xs in
-    let d = total_is f ys in
-    let s = sum_by-append f xs ys in
-    omega (arith, a, b, d, s)
+tally_append test xs ys = grind (arith, total_is, sum_by-append)
 
 -- what is taken from the end of a list, and what stays
 pub popped_tally : (test : Row → Bool) (old new : List Counted) (r : Option Counted) → old ≡ new ++ option_to_list r → tally test old ≡ tally test new + tally test (option_to_list r)
-popped_tally test old new r e = ap (tally test) e ∙ tally_append test new (option_to_list r)
+popped_tally test old new r e = grind (arith, tally_append)
 
 all_behind : (xs ys : List Counted) → AreCounted (xs ++ ys) → AreCounted ys
 all_behind [] ys a = a
 all_behind (x ∷ xs) ys a = all_behind xs ys a.1
 
 pub popped_counted : (old new : List Counted) (r : Option Counted) → old ≡ new ++ option_to_list r → AreCounted old → AreCounted (option_to_list r)
-popped_counted old new r e a = all_behind new (option_to_list r) (subst AreCounted e a)
+popped_counted old new r e a = grind (arith, all_behind)
 
 all_before : (xs ys : List Counted) → AreCounted (xs ++ ys) → AreCounted xs
 all_before [] ys a = tt
@@ -39,23 +33,18 @@ all_before (x ∷ xs) ys a = (a.0, all_before xs ys a.1)
 
 -- the same of an entry that is there
 pub last_tally : (test : Row → Bool) (old new : List Counted) (c : Counted) → old ≡ new ++ c ∷ [] → tally test old ≡ tally test new + tally test (c ∷ [])
-last_tally test old new c e = ap (tally test) e ∙ tally_append test new (c ∷ [])
+last_tally test old new c e = grind (arith, tally_append)
 
 pub last_counted : (old new : List Counted) (c : Counted) → old ≡ new ++ c ∷ [] → AreCounted old → AreCounted new × (0 < c.count)
-last_counted old new c e a =
-    let b = subst AreCounted e a in
-    (all_before new (c ∷ []) b, (all_behind new (c ∷ []) b).0)
+last_counted old new c e a = grind (arith, all_before, all_behind)
 
 -- the same rows the other way round
 pub reversed_tally : (test : Row → Bool) (xs ys : List Counted) → IsPermutation xs ys → tally test ys ≡ tally test xs
-reversed_tally test xs ys p =
-    let f = λ (c : Counted). cond (test c.row) c.count 0 in
-    total_is f ys ∙ sum_by-IsPermutation f xs ys p ∙ sym (total_is f xs)
+reversed_tally test xs ys p = grind (arith, total_is, sum_by-IsPermutation)
 
 pub reversed_counted : (xs ys : List Counted) (n : ℕ) → length xs ≡ n → length ys ≡ n → ReversedBelow xs ys n → AreCounted xs → AreCounted ys
-reversed_counted xs ys n e f b a = all_from (λ c. 0 < c.count) ys (λ k d l h.
-    subst (λ c. 0 < c.count) (sym (b k d (omega (arith, f, h)))) (all_at (λ c. 0 < c.count) xs (n - 1 - k) d a (omega (arith, e, f, h))))
+reversed_counted xs ys n e f b a = grind (arith, all_at, all_from)
 
 -- no rows are kept
 pub none_kept : (xs : List Counted) → xs ≡ [] → IsKept xs
-none_kept xs e = subst IsKept (sym e) (record { rises = tt; counted = tt; few = λ n. omega arith })
+none_kept xs e = grind arith

@@ -16,6 +16,8 @@ use Rattle.dist_types.proofs.Listings.{all_append}
 use Rattle.scope_core.specs.Table.{is_row}
 use Rattle.scope_core.specs.Added.{row_in, rows_left, rows_joined}
 use Rattle.scope_core.proofs.Joined.{mentions_in}
+use Rattle.std.proofs.Common.{arith}
+use Rattle.scope_core.proofs.Rising.{all_map}
 
 module _ {A B : Type 0} (P : B → Type 0) (f : A → B) where
   pub all_mapped : (xs : List A) → AllByRecursion (λ x. P (f x)) xs → AllByRecursion P (map f xs)
@@ -29,18 +31,13 @@ module _ {A B : Type 0} (P : B → Type 0) (f : A → B) where
 -- rows of one group ascend as their processes
 not_above_in : (g : List ℕ) (p : Pid) (ps : List Pid) → AllByRecursion (λ q. is_gt (pid_cmp p q) ≡ false) ps → AllByRecursion (λ r. is_gt (row_cmp (row_in g p) r) ≡ false) (map (row_in g) ps)
 not_above_in g p [] a = tt
-not_above_in g p (q ∷ ps) a = (ap is_gt (in_one_group (row_in g p) (row_in g q) refl) ∙ a.0, not_above_in g p ps a.1)
+not_above_in g p (q ∷ ps) a = grind (arith, not_above_in g p ps a.1, in_one_group (row_in g p) (row_in g q) refl)
 
 rows_ascend : (g : List ℕ) (ps : List Pid) (rest : List Row) → Ascends pid_cmp ps → AllByRecursion (λ r. text_cmp g r.group ≡ Less) rest → Ascends row_cmp rest → Ascends row_cmp (map (row_in g) ps ++ rest)
 rows_ascend g [] rest a b r = r
-rows_ascend g (p ∷ ps) rest a b r = (
-  all_append (λ s. is_gt (row_cmp (row_in g p) s) ≡ false) (map (row_in g) ps) rest (not_above_in g p ps a.0) (below rest b),
-  rows_ascend g ps rest a.1 b r,
-)
-  where
-    below : (ss : List Row) → AllByRecursion (λ s. text_cmp g s.group ≡ Less) ss → AllByRecursion (λ s. is_gt (row_cmp (row_in g p) s) ≡ false) ss
-    below [] c = tt
-    below (s ∷ ss) c = (ap (λ o. is_gt (ordering_then o (pid_cmp p s.pid))) c.0, below ss c.1)
+rows_ascend g (p ∷ ps) rest a b r =
+    let below = all_map (λ s. text_cmp g s.group ≡ Less) (λ s. is_gt (row_cmp (row_in g p) s) ≡ false) (λ s l. grind (arith, l)) rest b in
+    (all_append (λ s. is_gt (row_cmp (row_in g p) s) ≡ false) (map (row_in g) ps) rest (not_above_in g p ps a.0) below, rows_ascend g ps rest a.1 b r)
 
 module _ (part : GroupChange → List Pid) where
   abbrev moved : List GroupChange → List Row
@@ -62,29 +59,18 @@ module _ (part : GroupChange → List Pid) where
 
   moved_counts : (x : Row) (changes : List GroupChange) → occurrences same_row x (moved changes) ≡ total (λ c. cond (same c.group x.group) (mentions x.pid (part c)) 0) changes
   moved_counts x [] = refl
-  moved_counts x (c ∷ cs) =
-      how_many_append (is_row x.group x.pid) (map (row_in c.group) (part c)) (moved cs)
-      ∙ ap (λ n. n + occurrences same_row x (moved cs)) (mentions_in c.group x.group x.pid (part c) ∙ ap (λ b. cond b (mentions x.pid (part c)) 0) (same_sym x.group c.group))
-      ∙ ap (λ n. cond (same c.group x.group) (mentions x.pid (part c)) 0 + n) (moved_counts x cs)
-
-proper_left : (changes : List GroupChange) → AllByRecursion IsProper changes → AllByRecursion (λ c. Ascends pid_cmp c.left) changes
-proper_left [] a = tt
-proper_left (c ∷ cs) a = (a.0.left, proper_left cs a.1)
-
-proper_joined : (changes : List GroupChange) → AllByRecursion IsProper changes → AllByRecursion (λ c. Ascends pid_cmp c.joined) changes
-proper_joined [] a = tt
-proper_joined (c ∷ cs) a = (a.0.joined, proper_joined cs a.1)
+  moved_counts x (c ∷ cs) = grind (arith, moved_counts x cs, how_many_append (is_row x.group x.pid) (map (row_in c.group) (part c)) (moved cs), mentions_in c.group x.group x.pid (part c), same_sym x.group c.group)
 
 -- the rows of what left are what is less
 pub left_listing : (before after : List ℕ → Pid → ℕ) (changes : List GroupChange) → IsDifference before after changes → IsRowListing (λ g p. before g p - after g p) (rows_left changes)
 left_listing before after changes d = record {
-  ascends = moved_ascends (λ c. c.left) changes d.groups (proper_left changes d.proper);
+  ascends = moved_ascends (λ c. c.left) changes d.groups (all_map IsProper (λ c. Ascends pid_cmp c.left) (λ c p. p.left) changes d.proper);
   counts = λ x. moved_counts (λ c. c.left) x changes ∙ d.left x.group x.pid;
 }
 
 -- the rows of what joined are what is more
 pub joined_listing : (before after : List ℕ → Pid → ℕ) (changes : List GroupChange) → IsDifference before after changes → IsRowListing (λ g p. after g p - before g p) (rows_joined changes)
 joined_listing before after changes d = record {
-  ascends = moved_ascends (λ c. c.joined) changes d.groups (proper_joined changes d.proper);
+  ascends = moved_ascends (λ c. c.joined) changes d.groups (all_map IsProper (λ c. Ascends pid_cmp c.joined) (λ c p. p.joined) changes d.proper);
   counts = λ x. moved_counts (λ c. c.joined) x changes ∙ d.joined x.group x.pid;
 }

@@ -26,9 +26,9 @@ use Rattle.scope_core.proofs.Shares.{share_absent}
 
 -- rows that rise can be searched
 rising_next : (cs : List Counted) → Rises counted_cmp cs → (k : ℕ) (d : Counted) → suc k < length cs → is_lt (row_cmp (get_or cs (suc k) d).row (get_or cs k d).row) ≡ false
-rising_next [] r k d h = absurd (omega (arith, h))
-rising_next (c ∷ []) r k d h = absurd (omega (arith, h))
-rising_next (c ∷ x ∷ xs) r zero d h = ap is_lt (rows_total.antisymm x.row c.row ∙ ap ordering_reverse r.0.0)
+rising_next [] r k d h = grind arith
+rising_next (c ∷ []) r k d h = grind arith
+rising_next (c ∷ x ∷ xs) r zero d h = grind (arith, rows_total.antisymm)
 rising_next (c ∷ x ∷ xs) r (suc k) d h = rising_next (x ∷ xs) r.1 k d (omega (arith, h))
 
 rising_sorted : (cs : List Counted) → Rises counted_cmp cs → IsSortedBy (λ c d. is_lt (row_cmp c.row d.row)) cs
@@ -38,7 +38,7 @@ pub searchable : (cs : List Counted) (row : Row) → Rises counted_cmp cs → Is
 searchable cs row r = searchable_from_sorted rows_total (λ (c : Counted). c.row) cs row (rising_sorted cs r)
 
 pub found_is : (cs : List Counted) (row : Row) (r : Result ℕ ℕ) → IsBinarySearchResult (λ c. row_cmp c.row row) cs r → IfOk r (HoldsAt (λ c. c.row ≡ row) cs)
-found_is cs row (Ok i) h = λ d. exact_rows (get_or cs i d).row row (h d)
+found_is cs row (Ok i) h = grind (arith, exact_rows)
 found_is cs row (Err i) h = tt
 
 pub gap_is : (cs : List Counted) (row : Row) (r : Result ℕ ℕ) → Rises counted_cmp cs → IsBinarySearchResult (λ c. row_cmp c.row row) cs r → IfErr r (IsGap row cs)
@@ -46,45 +46,32 @@ gap_is cs row (Ok i) r h = tt
 gap_is cs row (Err i) r h = h (searchable cs row r)
 
 pub lt_is : (o : Ordering) → is_lt o ≡ true → o ≡ Less
-lt_is Less e = refl
-lt_is Equal e = absurd (let f : false ≡ true = e in cc)
-lt_is Greater e = absurd (let f : false ≡ true = e in cc)
+lt_is o e = grind arith
 
 -- rows whose last is below a row are all below it
 all_below : (cs : List Counted) (row : Row) (n : ℕ) (d : Counted) → Rises counted_cmp cs → suc n ≡ length cs → row_cmp (get_or cs n d).row row ≡ Less → AllByRecursion (λ c. row_cmp c.row row ≡ Less) cs
 all_below [] row n d r l h = tt
 all_below (c ∷ []) row zero d r l h = (h, tt)
-all_below (c ∷ []) row (suc n) d r l h = absurd (omega (arith, l))
-all_below (c ∷ x ∷ xs) row zero d r l h = absurd (omega (arith, l))
+all_below (c ∷ []) row (suc n) d r l h = grind arith
+all_below (c ∷ x ∷ xs) row zero d r l h = grind arith
 all_below (c ∷ x ∷ xs) row (suc n) d r l h =
     let rest = all_below (x ∷ xs) row n d r.1 (omega (arith, l)) h in
     (rows_total.trans c.row x.row row r.0.0 rest.0, rest)
 
 -- so the row goes behind them
 pub gap_behind : (cs : List Counted) (row : Row) (n : ℕ) (d : Counted) → Rises counted_cmp cs → suc n ≡ length cs → row_cmp (get_or cs n d).row row ≡ Less → IsGap row cs (length cs)
-gap_behind cs row n d r l h = ((λ k e m b. all_at (λ c. row_cmp c.row row ≡ Less) cs k e (all_below cs row n d r l h) b), (λ k e m b. absurd (omega (arith, m, b))))
+gap_behind cs row n d r l h = grind (arith, all_below, all_at)
 
 -- the row of g and p is that of g and p
 itself : (g : List ℕ) (p : Pid) → is_row g p (row_in g p) ≡ true
-itself g p = and_from _ _ ((same_decides g g).1 refl) ((same_pid_decides p p).1 refl)
+itself g p = grind (arith, same_decides, same_pid_decides, and_from)
 
 other : (g : List ℕ) (p : Pid) (r : Row) → (row_cmp r (row_in g p) ≡ Equal → ⊥) → is_row g p r ≡ false
-other g p r n = elim (is_row g p r) as (λ v. is_row g p r ≡ v → v ≡ false) [
-  | true ↦ λ e.
-      let x = row_is g p r e in
-      let s : r ≡ row_in g p = λ i. record { group = x.0 i; pid = x.1 i } in
-      absurd (n (ap (λ z. row_cmp z (row_in g p)) s ∙ tied_itself rows_total (row_in g p)))
-  | false ↦ λ e. refl
-] refl
+other g p r n = grind (arith, row_is g p r, tied_itself rows_total (row_in g p))
 
 -- where there is a gap in the place of a row, no row is it
 pub none_is : (cs : List Counted) (g : List ℕ) (p : Pid) (i : ℕ) → i ≤ length cs → IsGap (row_in g p) cs i → AllByRecursion (λ c. is_row g p c.row ≡ false) cs
-none_is cs g p i l gap = all_from (λ c. is_row g p c.row ≡ false) cs (λ k d m h.
-    other g p (get_or cs k d).row (λ e.
-    elim (nat_lt k i) as (λ v. nat_lt k i ≡ v → ⊥) [
-      | true ↦ λ b. let f : Less ≡ Equal = sym (gap.0 k d (omega arith) (ltb-true k i b)) ∙ e in cc
-      | false ↦ λ b. let f : Greater ≡ Equal = sym (gap.1 k d (grind (arith, b)) h) ∙ e in cc
-    ] refl))
+none_is cs g p i l gap = grind (arith, ltb-true, other, all_from)
 
 -- and it isn't counted
 pub absent : (cs : List Counted) (g : List ℕ) (p : Pid) (i : ℕ) → i ≤ length cs → IsGap (row_in g p) cs i → tally (is_row g p) cs ≡ 0
@@ -96,28 +83,19 @@ present cs g p i l counted at =
     let d : Counted = record { row = row_in g p; count = 0 } in
     let f = λ (c : Counted). cond (is_row g p c.row) c.count 0 in
     let some = all_at (λ c. 0 < c.count) cs i d counted l in
-    let is : f (get_or cs i d) ≡ (get_or cs i d).count = ap (λ b. cond b (get_or cs i d).count 0) (ap (is_row g p) (at d) ∙ itself g p) in
-    let le = get_or-le-sum_by f cs i d l in
-    let whole = total_is f cs in
-    omega (arith, some, is, le, whole)
+    grind (arith, some, at d, itself g p, get_or-le-sum_by f cs i d l, total_is f cs)
 
 -- where a row stands, its count is what is counted
 pub found_counts : (cs : List Counted) (g : List ℕ) (p : Pid) (i : ℕ) (d : Counted) → i < length cs → Rises counted_cmp cs → HoldsAt (λ c. c.row ≡ row_in g p) cs i → (get_or cs i d).count ≡ tally (is_row g p) cs
-found_counts [] g p i d l r at = absurd (omega (arith, l))
+found_counts [] g p i d l r at = grind arith
 found_counts (c ∷ cs) g p zero d l r at =
     let e = ap (is_row g p) (at c) ∙ itself g p in
-    let none = share_absent (λ x. x.count) g p cs (once g p c cs e r.0) in
-    let first : cond (is_row g p c.row) c.count 0 ≡ c.count = ap (λ b. cond b c.count 0) e in
-    omega (arith, none, first)
+    grind (arith, e, share_absent (λ x. x.count) g p cs (once g p c cs e r.0))
 found_counts (c ∷ cs) g p (suc i) d l r at =
-    let k : i < length cs = omega (arith, l) in
-    let rest = found_counts cs g p i d k r.1 at in
-    let below = ap (row_cmp c.row) (sym (at c)) ∙ all_at (λ x. counted_cmp c x ≡ Less) cs i c r.0 k in
-    let e = other g p c.row (λ f. let x : Less ≡ Equal = sym below ∙ f in cc) in
-    let first : cond (is_row g p c.row) c.count 0 ≡ 0 = ap (λ b. cond b c.count 0) e in
-    omega (arith, rest, first)
+    let below = all_at (λ x. counted_cmp c x ≡ Less) cs i c r.0 (omega (arith, l)) in
+    grind (arith, found_counts cs g p i d (omega (arith, l)) r.1 at, below, at c, other g p c.row)
 
 pub joined_is : (cs : List Counted) (g : List ℕ) (p : Pid) (r : Result ℕ ℕ) → AllByRecursion (λ c. 0 < c.count) cs
     → IfOk r (λ i. i < length cs) → IfOk r (HoldsAt (λ c. c.row ≡ row_in g p) cs) → IfErr r (λ i. i ≤ length cs) → IfErr r (IsGap (row_in g p) cs) → is_ok r ≡ nat_lt 0 (tally (is_row g p) cs)
 joined_is cs g p (Ok i) counted bound found end gap = sym (lt-ltb 0 (tally (is_row g p) cs) (present cs g p i bound counted found))
-joined_is cs g p (Err i) counted bound found end gap = sym (ap (nat_lt 0) (absent cs g p i end gap))
+joined_is cs g p (Err i) counted bound found end gap = grind (arith, absent cs g p i end gap)

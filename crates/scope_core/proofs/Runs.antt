@@ -23,42 +23,36 @@ module _ {A : Type 0} (p : A → Bool) where
   filter_skips zero xs a = refl
   filter_skips (suc n) [] a = refl
   filter_skips (suc n) (x ∷ xs) a =
-      ap (λ v. cond v (x ∷ filter p xs) (filter p xs)) (a 0 x (omega arith) (omega arith))
-      ∙ filter_skips n xs (λ k d l h. a (suc k) d (omega arith) (omega (arith, h)))
+      grind (arith, a 0 x, filter_skips n xs (λ k d l h. a (suc k) d (omega arith) (omega (arith, h))))
 
   filter_none : (xs : List A) → AllWithin (λ x. p x ≡ false) xs 0 (length xs) → filter p xs ≡ []
   filter_none [] a = refl
-  filter_none (x ∷ xs) a =
-      ap (λ v. cond v (x ∷ filter p xs) (filter p xs)) (a 0 x (omega arith) (omega arith))
-      ∙ filter_none xs (λ k d l h. a (suc k) d (omega arith) (omega (arith, h)))
+  filter_none (x ∷ xs) a = grind (arith, a 0 x, filter_none xs (λ k d l h. a (suc k) d (omega arith) (omega (arith, h))))
 
   -- those up to n are all that pass
   pub filter_takes : (n : ℕ) (xs : List A) → n ≤ length xs → AllWithin (λ x. p x ≡ true) xs 0 n → AllWithin (λ x. p x ≡ false) xs n (length xs) → filter p xs ≡ take n xs
   filter_takes zero xs l a b = filter_none xs b
   filter_takes (suc n) [] l a b = refl
   filter_takes (suc n) (x ∷ xs) l a b =
-      ap (λ v. cond v (x ∷ filter p xs) (filter p xs)) (a 0 x (omega arith) (omega arith))
-      ∙ ap (λ ys. x ∷ ys) (filter_takes n xs (omega (arith, l)) (λ k d m h. a (suc k) d (omega arith) (omega (arith, h))) (λ k d m h. b (suc k) d (omega (arith, m)) (omega (arith, h))))
+      let front = λ (k : ℕ) (d : A) (m : 0 ≤ k) (h : k < n). a (suc k) d (omega arith) (omega (arith, h)) in
+      let back = λ (k : ℕ) (d : A) (m : n ≤ k) (h : k < length xs). b (suc k) d (omega (arith, m)) (omega (arith, h)) in
+      grind (arith, a 0 x, filter_takes n xs (omega (arith, l)) front back)
 
   -- a test that fails for all after a place where it failed
   partitioned_from : (xs : List A) → ((i j : ℕ) (d : A) → i ≤ j → j < length xs → p (get_or xs i d) ≡ false → p (get_or xs j d) ≡ false) → IsPartitionedBy p xs
-  partitioned_from xs f i j d l h e =
-      elim (p (get_or xs i d)) as (λ v. p (get_or xs i d) ≡ v → v ≡ true) [
-        | true ↦ λ _. refl
-        | false ↦ λ n. let x : true ≡ false = sym e ∙ f i j d l h n in cc
-      ] refl
+  partitioned_from xs f i j d l h e = grind arith
 
 pub all_at : {A : Type 0} (P : A → Type 0) (xs : List A) (k : ℕ) (d : A) → AllByRecursion P xs → k < length xs → P (get_or xs k d)
-all_at P [] k d a l = absurd (omega (arith, l))
+all_at P [] k d a l = grind arith
 all_at P (x ∷ xs) zero d a l = a.0
 all_at P (x ∷ xs) (suc k) d a l = all_at P xs k d a.1 (omega (arith, l))
 
 -- the groups of rising rows don't fall
 pub groups_ascend : (cs : List Counted) → Rises counted_cmp cs → (i j : ℕ) (d : Counted) → i ≤ j → j < length cs → is_gt (text_cmp (get_or cs i d).row.group (get_or cs j d).row.group) ≡ false
-groups_ascend [] r i j d l h = absurd (omega (arith, h))
+groups_ascend [] r i j d l h = grind arith
 groups_ascend (c ∷ cs) r zero zero d l h = ap is_gt (tied_itself texts_total c.row.group)
-groups_ascend (c ∷ cs) r zero (suc j) d l h = all_at (λ x. is_gt (text_cmp c.row.group x.row.group) ≡ false) cs j d (groups_above c cs r.0) (omega (arith, h))
-groups_ascend (c ∷ cs) r (suc i) zero d l h = absurd (omega (arith, l))
+groups_ascend (c ∷ cs) r zero (suc j) d l h = grind (arith, groups_above, all_at)
+groups_ascend (c ∷ cs) r (suc i) zero d l h = grind arith
 groups_ascend (c ∷ cs) r (suc i) (suc j) d l h = groups_ascend cs r.1 i j d (omega (arith, l)) (omega (arith, h))
 
 pub rises_drop : (n : ℕ) (cs : List Counted) → Rises counted_cmp cs → Rises counted_cmp (drop n cs)
@@ -66,53 +60,28 @@ rises_drop zero cs r = r
 rises_drop (suc n) [] r = tt
 rises_drop (suc n) (c ∷ cs) r = rises_drop n cs r.1
 
-lt_reversed : (o : Ordering) → is_lt (ordering_reverse o) ≡ is_gt o
-lt_reversed Less = refl
-lt_reversed Equal = refl
-lt_reversed Greater = refl
-
 turned : (a b : List ℕ) → is_lt (text_cmp a b) ≡ is_gt (text_cmp b a)
-turned a b = ap is_lt (texts_total.antisymm a b) ∙ lt_reversed (text_cmp b a)
+turned a b = grind (arith, texts_total.antisymm)
 
 -- whether a row stands before the group
 abbrev pub is_before : List ℕ → Counted → Bool
 is_before g c = is_lt (text_cmp c.row.group g)
 
 pub before_partitions : (g : List ℕ) (cs : List Counted) → Rises counted_cmp cs → IsPartitionedBy (is_before g) cs
-before_partitions g cs r = partitioned_from (is_before g) cs (λ i j d l h n.
-    turned (get_or cs j d).row.group g
-    ∙ upto texts_total g (get_or cs i d).row.group (get_or cs j d).row.group (sym (turned (get_or cs i d).row.group g) ∙ n) (groups_ascend cs r i j d l h))
+before_partitions g cs r = grind (arith, partitioned_from, groups_ascend, turned, upto texts_total)
 
 equal_from : (a b : List ℕ) → is_lt (text_cmp a b) ≡ false → is_gt (text_cmp a b) ≡ false → same a b ≡ true
-equal_from a b l g = elim (text_cmp a b) as (λ o. text_cmp a b ≡ o → is_lt o ≡ false → is_gt o ≡ false → same a b ≡ true) [
-  | Less ↦ λ e x y. absurd (let f : true ≡ false = x in cc)
-  | Equal ↦ λ e x y. (same_decides a b).1 (exact_bytes a b e)
-  | Greater ↦ λ e x y. absurd (let f : true ≡ false = y in cc)
-] refl l g
+equal_from a b l g = grind (arith, same_decides, exact_bytes)
 
 pub group_partitions : (g : List ℕ) (cs : List Counted) → Rises counted_cmp cs → AllWithin (λ c. is_before g c ≡ false) cs 0 (length cs) → IsPartitionedBy (is_in g) cs
-group_partitions g cs r from = partitioned_from (is_in g) cs (λ i j d l h n.
-    elim (is_in g (get_or cs j d)) as (λ v. is_in g (get_or cs j d) ≡ v → v ≡ false) [
-      | true ↦ λ e.
-          let s : (get_or cs j d).row.group ≡ g = (same_decides (get_or cs j d).row.group g).0 e in
-          let up = ap (λ x. is_gt (text_cmp (get_or cs i d).row.group x)) (sym s) ∙ groups_ascend cs r i j d l h in
-          let f : true ≡ false = sym (equal_from (get_or cs i d).row.group g (from i d (omega arith) (omega (arith, l, h))) up) ∙ n in
-          cc
-      | false ↦ λ _. refl
-    ] refl)
+group_partitions g cs r from = grind (arith, same_decides, groups_ascend, equal_from, partitioned_from)
 
 not_same : (g : List ℕ) (c : Counted) → is_before g c ≡ true → is_in g c ≡ false
-not_same g c b = elim (is_in g c) as (λ v. is_in g c ≡ v → v ≡ false) [
-  | true ↦ λ e.
-      let s : c.row.group ≡ g = (same_decides c.row.group g).0 e in
-      let f : false ≡ true = ap is_lt (sym (tied_itself texts_total g)) ∙ ap (λ x. is_lt (text_cmp x g)) (sym s) ∙ b in
-      cc
-  | false ↦ λ _. refl
-] refl
+not_same g c b = grind (arith, same_decides c.row.group g, tied_itself texts_total g)
 
 -- of the rows from the start of the group on, none stands before it
 pub from_start : (g : List ℕ) (cs : List Counted) (start : ℕ) → AllWithin (λ c. is_before g c ≡ false) cs start (length cs) → AllWithin (λ c. is_before g c ≡ false) (drop start cs) 0 (length (drop start cs))
-from_start g cs start a k d l h = ap (is_before g) (get_or-drop start cs k d) ∙ a (start + k) d (omega arith) (omega (arith, h, length-drop start cs))
+from_start g cs start a k d l h = grind (arith, get_or-drop, length-drop)
 
 -- the run between the two places is the group
 pub run_is : (g : List ℕ) (cs rest run : List Counted) (start end : ℕ) → IsPartitionPoint (λ c. is_before g c ≡ true) (λ c. is_before g c ≡ false) cs start

@@ -17,42 +17,25 @@ use Rattle.scope_core.proofs.Groups.{below}
 
 among_counts : (g : List ℕ) (gs : List (List ℕ)) → is_among g gs ≡ nat_lt 0 (occurrences same g gs)
 among_counts g [] = refl
-among_counts g (h ∷ gs) = elim (same h g) as (λ v. (v || is_among g gs) ≡ nat_lt 0 (cond v (suc (occurrences same g gs)) (occurrences same g gs))) [
-  | true ↦ sym (lt-ltb 0 (suc (occurrences same g gs)) (omega arith))
-  | false ↦ among_counts g gs
-]
+among_counts g (h ∷ gs) = grind (arith, among_counts g gs, lt-ltb)
 
 among_append : (g : List ℕ) (gs hs : List (List ℕ)) → is_among g (gs ++ hs) ≡ (is_among g gs || is_among g hs)
 among_append g [] hs = refl
-among_append g (k ∷ gs) hs = elim (same k g) as (λ v. (v || is_among g (gs ++ hs)) ≡ ((v || is_among g gs) || is_among g hs)) [ true ↦ refl | false ↦ among_append g gs hs ]
+among_append g (k ∷ gs) hs = grind (arith, among_append g gs hs)
 
 above_dedup : (j k : List ℕ) (gs : List (List ℕ)) → text_cmp j k ≡ Less → AllByRecursion (λ g. is_gt (text_cmp k g) ≡ false) gs → Ascends text_cmp gs → AllByRecursion (λ g. text_cmp j g ≡ Less) (dedup_from same k gs)
 above_dedup j k [] l a s = (l, tt)
 above_dedup j k (g ∷ gs) l a s =
-    elim (same g k) as (λ v. same g k ≡ v → AllByRecursion (λ h. text_cmp j h ≡ Less) (cond v (dedup_from same k gs) (k ∷ dedup_from same g gs))) [
-      | true ↦ λ e. above_dedup j k gs l a.1 s.1
-      | false ↦ λ e. (l, above_dedup j g gs (texts_total.trans j k g l (below k g a.0 (ap not (same_sym k g ∙ e)))) s.0 s.1)
-    ] refl
+    let on = λ (m : text_cmp k g ≡ Less). above_dedup j g gs (texts_total.trans j k g l m) s.0 s.1 in
+    grind (arith, above_dedup j k gs l a.1 s.1, on, below k g a.0, same_sym k g)
 
 dedup_rises : (k : List ℕ) (gs : List (List ℕ)) → AllByRecursion (λ g. is_gt (text_cmp k g) ≡ false) gs → Ascends text_cmp gs → Rises text_cmp (dedup_from same k gs)
 dedup_rises k [] a s = (tt, tt)
-dedup_rises k (g ∷ gs) a s =
-    elim (same g k) as (λ v. same g k ≡ v → Rises text_cmp (cond v (dedup_from same k gs) (k ∷ dedup_from same g gs))) [
-      | true ↦ λ e. dedup_rises k gs a.1 s.1
-      | false ↦ λ e. (above_dedup k g gs (below k g a.0 (ap not (same_sym k g ∙ e))) s.0 s.1, dedup_rises g gs s.0 s.1)
-    ] refl
+dedup_rises k (g ∷ gs) a s = grind (arith, dedup_rises k gs a.1 s.1, dedup_rises g gs s.0 s.1, same_sym, below, above_dedup)
 
 dedup_among : (g k : List ℕ) (gs : List (List ℕ)) → is_among g (dedup_from same k gs) ≡ is_among g (k ∷ gs)
 dedup_among g k [] = refl
-dedup_among g k (h ∷ gs) =
-    elim (same h k) as (λ v. same h k ≡ v → is_among g (cond v (dedup_from same k gs) (k ∷ dedup_from same h gs)) ≡ (same k g || (same h g || is_among g gs))) [
-      | true ↦ λ e. dedup_among g k gs ∙ twice (same k g) (is_among g gs) ∙ ap (λ x. same k g || (same x g || is_among g gs)) (sym ((same_decides h k).0 e))
-      | false ↦ λ e. ap (λ b. same k g || b) (dedup_among g h gs)
-    ] refl
-  where
-    twice : (a b : Bool) → (a || b) ≡ (a || (a || b))
-    twice true b = refl
-    twice false b = refl
+dedup_among g k (h ∷ gs) = grind (arith, dedup_among g k gs, dedup_among g h gs, same_decides h k)
 
 pub union_is : (gs hs sorted union : List (List ℕ)) → IsPermutation (gs ++ hs) sorted → IsSorted text_cmp sorted → IsFiltered (DiffersFromLast same) [] sorted union → IsUnion gs hs union
 union_is gs hs sorted union p s f =

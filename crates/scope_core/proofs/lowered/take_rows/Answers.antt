@@ -1,5 +1,4 @@
 use Rattle.std.proofs.Common.{arith}
-use Rattle.scope_core.specs.Table.{is_of_node}
 use Rattle.scope_core.proofs.Lower.{all_taken, still_rises}
 use Rattle.scope_core.proofs.lowered.take_rows.Goals as goal
 

@@ -1,7 +1,5 @@
-use Rattle.std.proofs.Common.{rules, arith, ap, sym, ◌∙◌}
-use Rattle.scope_core.specs.Table.{tally, is_row}
-use Rattle.scope_core.specs.Calls.{count_after_leave, is_any_joined}
-use Rattle.scope_core.proofs.Left.{left_change}
+use Rattle.std.proofs.Common.{rules, ap, sym, ◌∙◌}
+use Rattle.scope_core.specs.Calls.{is_any_joined}
 use Rattle.scope_core.proofs.table.ScopeTable.leave_local.Goals as goal
 
 pub returns-in_err-left-clause-refused : goal.returns-in_err-left-clause-refused
