@@ -1,11 +1,7 @@
 -- What a step leaves of a history.
-use Rattle.std.specs.Prelude.{◌≡◌, ℕ, Bool, true, false, cond, Ok, Err}
-use Rattle.std.specs.declared.result.Result.{Result}
-use Rattle.std.proofs.Common.{refl, ap, ◌∙◌, sym, subst}
-use Rattle.policy_audit.specs.declared.event.Event.{Event}
-use Rattle.policy_audit.specs.declared.reply.Reply.{Reply}
-use Rattle.policy_audit.specs.History.{History}
-use Rattle.policy_audit.specs.Policy.{is_full, after, with_entry, entry_of, IsLegal}
+use Rattle.node_core.proofs.Words.{Bool, Err, Ok, ap, cond, false, refl, subst, sym, true, ℕ, ◌∙◌, ◌≡◌, Result, History, IsLegal, is_full}
+use Rattle.node_core.proofs.Words.{with_entry, Event, Reply}
+use Rattle.policy_audit.specs.Policy.{after, entry_of}
 use Rattle.policy_audit.proofs.ChangeLemmas.{next_is}
 use Rattle.node_core.specs.declared.fault.CoreFault.{CoreFault}
 use Rattle.node_core.specs.declared.fault.CoreFault.TheVariants as faults

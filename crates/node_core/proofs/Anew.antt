@@ -1,24 +1,12 @@
 -- A node that begins anew.
-use Rattle.std.specs.Prelude.{◌≡◌, ℕ, ◌+◌, Bool, true, false, cond, not, ◌==◌, List, [], Option, Some, None}
-use Rattle.std.proofs.Common.{refl, ap, ◌∙◌, sym, arith}
-use Rattle.std.proofs.lemmas.Bool.{eqb-true, eq-eqb}
-use Rattle.dist_types.specs.declared.pid.Pid.{Pid}
-use Rattle.dist_types.specs.Listing.{same}
+use Rattle.node_core.proofs.Words.{Bool, List, None, Option, Some, ap, arith, cond, false, not, refl, sym, true, ℕ, [], ◌+◌, ◌==◌, ◌∙◌, ◌≡◌}
+use Rattle.node_core.proofs.Words.{eq-eqb, eqb-true, same, Pid, no_count, stopped_lists, checks, first_broken, History, creation, listed}
+use Rattle.node_core.proofs.Words.{IsNext, is_full, with_entry, Change, Accepted, Follows, Parts, ArePartings}
 use Rattle.group_monitors.proofs.Followed.{follows_cleared}
-use Rattle.policy_audit.specs.declared.change.Change.{Change}
 use Rattle.policy_audit.specs.declared.event.Event.TheVariants as event
 use Rattle.policy_audit.specs.declared.reply.Reply.TheVariants as reply
 use Rattle.policy_audit.specs.declared.rule.Rule.TheVariants as rule
-use Rattle.policy_audit.specs.declared.entry.Verdict.TheVariants.{Accepted}
-use Rattle.policy_audit.specs.History.{History, creation}
-use Rattle.policy_audit.specs.Checks.{checks, first_broken}
-use Rattle.policy_audit.specs.Policy.{is_full, IsNext, with_entry}
-use Rattle.policy_audit.specs.Listed.{listed}
-use Rattle.policy_audit.proofs.ChangeLemmas.{stopped_lists}
 use Rattle.policy_audit.proofs.LivesNow.{own_pid, lives_restarted}
-use Rattle.scope_core.specs.Calls.{no_count}
-use Rattle.node_core.specs.Parting.{ArePartings}
-use Rattle.node_core.specs.Core.{Parts, Follows}
 use Rattle.node_core.proofs.Entered.{made, accepted_now, next_now, sound_now}
 use Rattle.node_core.proofs.PartingChange.{partings_change}
 

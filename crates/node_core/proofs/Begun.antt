@@ -1,14 +1,9 @@
 -- A node that has seen nothing.
-use Rattle.std.specs.Prelude.{◌≡◌, ℕ, zero, suc, ◌+◌, ◌<◌, ◌≤◌, ◌^◌, ◌==◌, nat_le, Bool, true, false, cond, ◌&&◌, List, [], Option, None}
-use Rattle.std.proofs.Common.{refl, ap, ◌∙◌, sym, arith}
-use Rattle.std.proofs.lemmas.Bool.{leb-true}
-use Rattle.policy_audit.proofs.UpLinks.{and_false}
-use Rattle.dist_types.specs.Listing.{same}
-use Rattle.admission_rules.specs.Admission.{AdmissionRules}
+use Rattle.node_core.proofs.Words.{Bool, List, None, Option, ap, arith, cond, false, nat_le, refl, suc, sym, true, zero, ℕ, [], ◌&&◌, ◌+◌}
+use Rattle.node_core.proofs.Words.{◌<◌, ◌==◌, ◌∙◌, ◌≡◌, ◌≤◌, leb-true, same, AdmissionRules, and_false, past, Follows}
+use Rattle.std.proofs.Common.{◌^◌}
 use Rattle.group_monitors.proofs.Followed.{follows_start}
 use Rattle.policy_audit.specs.declared.opening.Opening.{Opening}
-use Rattle.policy_audit.specs.History.{past}
-use Rattle.node_core.specs.Core.{Follows}
 
 -- the rules of admission at the start
 abbrev pub first_rules : Opening → AdmissionRules

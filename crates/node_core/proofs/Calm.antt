@@ -1,42 +1,19 @@
 -- Entries that leave alone all that a node keeps.
-use Rattle.std.specs.Prelude.{◌≡◌, ℕ, Bool, true, false, cond, ◌&&◌, ◌||◌, not, ◌==◌, List, [], ◌∷◌, ◌++◌, ◌+◌, length, reverse}
-use Rattle.std.proofs.Common.{refl, ap, ◌∙◌, sym, subst}
-use Rattle.std.proofs.lemmas.Bool.{eqb-true}
-use Rattle.std.specs.List.{filter}
-use Rattle.std.specs.Option.{unwrap_or}
-use Rattle.dist_types.specs.Difference.{is_empty}
-use Rattle.policy_audit.specs.declared.event.Event.{Event}
+use Rattle.node_core.proofs.Words.{Bool, List, ap, cond, false, length, not, refl, subst, sym, true, ℕ, [], ◌&&◌, ◌++◌, ◌+◌, ◌==◌, ◌||◌}
+use Rattle.node_core.proofs.Words.{◌∙◌, ◌∷◌, ◌≡◌, filter, unwrap_or, eqb-true, append-nil, is_empty, lie, no_change, and_left, and_right}
+use Rattle.node_core.proofs.Words.{IsChange, History, first_of, is_accepted, is_open, links, refusal_owes, waiting, running_scopes, IsNext}
+use Rattle.node_core.proofs.Words.{with_entry, is_whole, Entry, Accepted, Refused, Event, Reply, Rule, follows_other, AdmissionFollows}
+use Rattle.node_core.proofs.Words.{admission_words, refuses_calmly, Follows, Parts, LinksFollow, facts, link_words, ProcessesFollow}
+use Rattle.node_core.proofs.Words.{process_words, ScopesFollow, scope_words}
+use Rattle.std.proofs.Common.{reverse}
 use Rattle.policy_audit.specs.declared.event.Event.TheVariants as event
-use Rattle.policy_audit.specs.declared.reply.Reply.{Reply}
-use Rattle.policy_audit.specs.declared.rule.Rule.{Rule}
-use Rattle.policy_audit.specs.declared.entry.Verdict.TheVariants.{Accepted, Refused}
-use Rattle.policy_audit.specs.declared.entry.Entry.{Entry}
 use Rattle.group_monitors.specs.Follows.{concerns_monitors}
-use Rattle.group_monitors.proofs.Followed.{follows_other}
-use Rattle.policy_audit.specs.History.{is_accepted, History, first_of}
-use Rattle.policy_audit.specs.Sides.{is_whole}
-use Rattle.policy_audit.specs.Links.{is_open, links, ends}
+use Rattle.policy_audit.specs.Links.{ends}
 use Rattle.policy_audit.specs.Hearing.{hears, tells, talk}
-use Rattle.policy_audit.specs.Changes.{IsChange}
-use Rattle.policy_audit.specs.Owed.{refusal_owes, waiting, owed}
-use Rattle.policy_audit.specs.Policy.{with_entry, IsNext}
+use Rattle.policy_audit.specs.Owed.{owed}
 use Rattle.policy_audit.specs.Effects.{is_quiet}
-use Rattle.policy_audit.proofs.Accepted.{lie}
 use Rattle.policy_audit.proofs.Effects.{entry_rows}
-use Rattle.policy_audit.proofs.UpLinks.{and_left, and_right}
-use Rattle.std.proofs.lemmas.List.{append-nil}
-use Rattle.policy_audit.specs.Own.{running_scopes}
-use Rattle.node_core.specs.LinkFacts.{LinksFollow}
-use Rattle.node_core.specs.ScopeFacts.{ScopesFollow}
-use Rattle.node_core.specs.ProcessFacts.{ProcessesFollow}
-use Rattle.node_core.specs.AdmissionFacts.{AdmissionFollows}
-use Rattle.policy_audit.proofs.ChangeLemmas.{no_change}
-use Rattle.node_core.specs.LinkFacts.{facts, link_words}
-use Rattle.node_core.specs.ScopeFacts.{scope_words}
-use Rattle.node_core.specs.ProcessFacts.{process_words}
-use Rattle.node_core.specs.AdmissionFacts.{admission_words}
-use Rattle.node_core.specs.Core.{Parts, Follows}
-use Rattle.node_core.specs.Calm.{is_query, refuses_calmly}
+use Rattle.node_core.specs.Calm.{is_query}
 use Rattle.node_core.proofs.Entered.{made, sound_now}
 
 -- all that the policy's words say of what a node keeps is the same after k as after h

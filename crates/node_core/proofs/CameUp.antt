@@ -1,26 +1,15 @@
 -- The kept links after one has come up: the older link of its peer is gone.
-use Rattle.std.specs.Prelude.{◌≡◌, ℕ, ◌==◌, nat_eq, Bool, true, false, cond, ◌&&◌, not, List, [], ◌++◌, Option, Some, None, find, is_some}
-use Rattle.std.proofs.Common.{refl, ap, ◌∙◌, sym}
-use Rattle.std.proofs.lemmas.Bool.{eq-eqb, eqb-true}
-use Rattle.std.specs.Option.{option_map, option_map_or, unwrap_or}
-use Rattle.dist_types.specs.Listing.{same}
-use Rattle.dist_types.proofs.Orders.{same_decides}
-use Rattle.link_states.specs.States.{Linked}
-use Rattle.policy_audit.specs.declared.entry.Entry.{Entry}
+use Rattle.node_core.proofs.Words.{Bool, List, None, Option, Some, ap, cond, false, find, is_some, nat_eq, not, refl, sym, true, ℕ, []}
+use Rattle.node_core.proofs.Words.{◌&&◌, ◌++◌, ◌==◌, ◌∙◌, ◌≡◌, option_map, option_map_or, unwrap_or, eq-eqb, eqb-true, same_decides, same}
+use Rattle.node_core.proofs.Words.{Linked, lie, no_value, and_both, and_false, and_left, and_right, History, is_accepted, is_open, is_up}
+use Rattle.node_core.proofs.Words.{discovers, frame_owes, waiting, IsAnswered, IsLegal, with_entry, awaits, is_peer, is_whole, peer_of}
+use Rattle.node_core.proofs.Words.{present_link, Entry, older_of, IsLinkOf, LinksFollow, kept_numbers, link_words, KeptLink, narrow_frames}
+use Rattle.node_core.proofs.Words.{up_peer}
 use Rattle.policy_audit.specs.declared.event.Event.TheVariants as event
-use Rattle.policy_audit.specs.History.{History, is_accepted}
-use Rattle.policy_audit.specs.Sides.{awaits, is_peer, is_whole, peer_of, present_link}
-use Rattle.policy_audit.specs.Links.{is_open, is_up}
-use Rattle.policy_audit.specs.Owed.{discovers, frame_owes, waiting}
-use Rattle.policy_audit.specs.Policy.{IsAnswered, IsLegal, with_entry}
-use Rattle.policy_audit.proofs.Accepted.{lie, no_value}
 use Rattle.policy_audit.proofs.LinkFrames.{proved_links, replaced_by}
 use Rattle.policy_audit.proofs.LinksLeft.{proved_numbers}
-use Rattle.policy_audit.proofs.UpLinks.{agrees, and_both, and_false, and_left, and_right, number_of}
+use Rattle.policy_audit.proofs.UpLinks.{agrees, number_of}
 use Rattle.node_core.specs.declared.link_state.LinkState.TheVariants as state
-use Rattle.node_core.specs.Handshakes.{older_of}
-use Rattle.node_core.specs.LinkFacts.{kept_numbers, link_words, IsLinkOf, LinksFollow}
-use Rattle.node_core.specs.Links.{KeptLink, narrow_frames, up_peer}
 use Rattle.node_core.proofs.Found.{found_in, none_found}
 use Rattle.node_core.proofs.FrameFacts.{other_facts, own_awaits, same_stay, still_introduced}
 use Rattle.node_core.proofs.MovedOn.{AreMoves, stays_but}

@@ -1,26 +1,19 @@
 -- Cookies and allowed names after the events that set them.
-use Rattle.std.specs.Prelude.{◌≡◌, ℕ, Bool, true, false, cond, not, List, [], ◌∷◌, ◌++◌, Option, Some, None, length}
-use Rattle.std.proofs.Common.{refl, ap, ◌∙◌, sym, subst, arith}
-use Rattle.std.specs.Prelude.{◌<◌, ◌≤◌, ◌||◌, nat_le}
-use Rattle.std.proofs.lemmas.Bool.{le-leb, leb-true}
-use Rattle.std.specs.Option.{unwrap_or}
+use Rattle.node_core.proofs.Words.{Bool, List, None, Option, Some, ap, arith, cond, false, length, nat_le, not, refl, subst, sym, true, ℕ}
+use Rattle.node_core.proofs.Words.{[], ◌++◌, ◌<◌, ◌||◌, ◌∙◌, ◌∷◌, ◌≡◌, ◌≤◌, unwrap_or, le-leb, leb-true, same_decides, same_sym, same}
+use Rattle.node_core.proofs.Words.{AdmissionRules, lie, allow_list, History, creation, events, first_of, Reply, AdmissionFollows}
+use Rattle.node_core.proofs.Words.{admission_words, IsCalmFault}
 use Rattle.std.specs.Map.{lookup}
 use Rattle.std.specs.Str.{bytes_eq}
-use Rattle.dist_types.specs.Listing.{same}
-use Rattle.dist_types.proofs.Orders.{same_decides, same_sym}
 use Rattle.indexmap.specs.IndexMap.{insert_entry}
-use Rattle.admission_rules.specs.Admission.{AdmissionRules, max_peers, max_allowed, cookie_of, with_cookie_for, with_allowed}
+use Rattle.admission_rules.specs.Admission.{max_peers, max_allowed, cookie_of, with_cookie_for, with_allowed}
 use Rattle.admission_rules.proofs.Peers.{lookup_put, lookup_kept}
 use Rattle.policy_audit.specs.declared.event.Event.TheVariants as event
-use Rattle.policy_audit.specs.declared.reply.Reply.{Reply}
 use Rattle.policy_audit.specs.declared.rule.Rule.TheVariants as rule
-use Rattle.policy_audit.specs.History.{History, creation, events, first_of}
-use Rattle.policy_audit.specs.Admission.{cookie, own_cookie, own_cookie_set, cookie_set_for, cookie_peers, allow_list, different}
-use Rattle.policy_audit.proofs.Accepted.{lie}
+use Rattle.policy_audit.specs.Admission.{cookie, own_cookie, own_cookie_set, cookie_set_for, cookie_peers, different}
 use Rattle.node_core.specs.declared.fault.CoreFault.{CoreFault}
 use Rattle.node_core.specs.declared.fault.CoreFault.TheVariants as faults
-use Rattle.node_core.specs.AdmissionFacts.{AdmissionWords, admission_words, AdmissionFollows, IsCookieRefusal}
-use Rattle.node_core.specs.Calm.{IsCalmFault}
+use Rattle.node_core.specs.AdmissionFacts.{AdmissionWords, IsCookieRefusal}
 use Rattle.node_core.proofs.Calm.{answered}
 use Rattle.node_core.proofs.Once.{entry_once, all_once, names_of, how_many_names, length_names}
 

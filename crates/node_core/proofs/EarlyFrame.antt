@@ -1,31 +1,16 @@
 -- What an early frame of the handshake makes of a node: it goes on, or its link ends.
-use Rattle.std.specs.Prelude.{◌≡◌, ℕ, ◌≤◌, nat_eq, Bool, true, false, cond, List, [], Some, None, length, position}
-use Rattle.std.proofs.Common.{refl, ap, ◌∙◌, sym, subst, set}
-use Rattle.std.specs.List.{flat_map}
-use Rattle.std.specs.Option.{option_map, option_to_list}
-use Rattle.group_monitors.proofs.Followed.{follows_other}
-use Rattle.link_states.specs.declared.pending.Pending.{Pending}
+use Rattle.node_core.proofs.Words.{Bool, List, None, Some, ap, cond, false, length, nat_eq, position, refl, set, subst, sym, true, ℕ, []}
+use Rattle.node_core.proofs.Words.{◌∙◌, ◌≡◌, ◌≤◌, flat_map, option_map, option_to_list, Linked, Pending, lie, checks, first_broken, History}
+use Rattle.node_core.proofs.Words.{is_open, refusal_owes, IsNext, is_full, with_entry, awaits, is_last, is_whole, Accepted, Refused, Rule}
+use Rattle.node_core.proofs.Words.{follows_other, Follows, Parts, HaveEnded, Hears, is_handshake, rule_of, IsState, LinksFollow, facts}
+use Rattle.node_core.proofs.Words.{KeptLink, dial_beside, dialled_peer, narrow_frames, up_peer, ScopesFollow}
 use Rattle.link_states.specs.Checks as state_checked
-use Rattle.link_states.specs.States.{Linked}
 use Rattle.policy_audit.specs.declared.event.Event.TheVariants as event
 use Rattle.policy_audit.specs.declared.reply.Reply.TheVariants as reply
-use Rattle.policy_audit.specs.declared.rule.Rule.{Rule}
-use Rattle.policy_audit.specs.declared.entry.Verdict.TheVariants.{Accepted, Refused}
-use Rattle.policy_audit.specs.History.{History}
-use Rattle.policy_audit.specs.Sides.{awaits, is_last, is_whole}
-use Rattle.policy_audit.specs.Links.{is_open}
-use Rattle.policy_audit.specs.Owed.{refusal_owes}
-use Rattle.policy_audit.specs.Checks.{checks, first_broken}
-use Rattle.policy_audit.specs.Policy.{is_full, with_entry, IsNext}
-use Rattle.policy_audit.proofs.Accepted.{lie}
 use Rattle.node_core.specs.declared.hearing.Heard.TheVariants as heard
 use Rattle.node_core.specs.declared.link_state.LinkState.{LinkState}
-use Rattle.node_core.specs.Core.{Parts, Follows}
-use Rattle.node_core.specs.Handshakes.{HaveGoneOn, HaveEnded}
-use Rattle.node_core.specs.Hearing.{rule_of, state_checks, is_handshake, Hears}
-use Rattle.node_core.specs.LinkFacts.{facts, IsState, LinksFollow}
-use Rattle.node_core.specs.Links.{KeptLink, up_peer, dialled_peer, dial_beside, narrow_frames}
-use Rattle.node_core.specs.ScopeFacts.{ScopesFollow}
+use Rattle.node_core.specs.Handshakes.{HaveGoneOn}
+use Rattle.node_core.specs.Hearing.{state_checks}
 use Rattle.node_core.proofs.EarlyHeard.{is_early, early_rules, early_unlike, early_answered, early_goes, early_next, early_scopes}
 use Rattle.node_core.proofs.Emptied.{beside_same, moved_from}
 use Rattle.node_core.proofs.Entered.{made, sound_now}

@@ -1,39 +1,22 @@
 -- The node after an accepted frame that isn't the last of a handshake.
-use Rattle.std.specs.Prelude.{◌≡◌, ℕ, Bool, true, false, cond, not, List, [], Option, Some, None}
-use Rattle.std.proofs.Common.{refl, ap, ◌∙◌, sym, subst}
-use Rattle.std.specs.Option.{option_map}
-use Rattle.dist_types.specs.Flags.{has_bit}
-use Rattle.dist_types.specs.Listing.{same}
+use Rattle.node_core.proofs.Words.{Bool, List, None, Option, Some, ap, cond, false, not, refl, subst, sym, true, ℕ, [], ◌∙◌, ◌≡◌}
+use Rattle.node_core.proofs.Words.{option_map, same_decides, has_bit, same, Pid, Challenge, Name, challenge_frame, name_frame, reply_frame}
+use Rattle.node_core.proofs.Words.{status_of, StatusWord, AdmissionRules, found, is_dialled, Pending, StateRule, lie, no_value, no_change}
+use Rattle.node_core.proofs.Words.{always, checks, first_broken, frame_checks, History, is_dialling, is_open, listed, running_scopes}
+use Rattle.node_core.proofs.Words.{IsAnswered, IsLegal, IsNext, is_full, up_answer, verdict, with_entry, awaits, is_last, is_name_up, Entry}
+use Rattle.node_core.proofs.Words.{Accepted, Rule, AdmissionFollows, admission_words, heard_named, is_handshake, rule_of, IsState}
+use Rattle.node_core.proofs.Words.{LinksFollow, facts, link_words, KeptLink, dial_beside, dialled_peer, narrow_frames, scope_words}
 use Rattle.dist_types.specs.Text.{is_node_name}
-use Rattle.dist_types.proofs.Orders.{same_decides}
-use Rattle.handshake_frames.specs.Frame.{Name, Challenge}
-use Rattle.handshake_frames.specs.declared.frame.StatusWord.{StatusWord}
-use Rattle.handshake_frames.specs.Reading.{name_frame, challenge_frame, reply_frame, ack_frame, status_of}
-use Rattle.admission_rules.specs.Admission.{AdmissionRules}
-use Rattle.link_states.specs.declared.pending.Pending.{Pending}
-use Rattle.link_states.specs.declared.state_rule.StateRule.{StateRule}
+use Rattle.handshake_frames.specs.Reading.{ack_frame}
 use Rattle.link_states.specs.Checks as state_checked
 use Rattle.link_states.specs.Frames.{status_owed, reply_owed}
 use Rattle.link_states.specs.Named.{named_by}
-use Rattle.link_states.specs.Peer.{found}
 use Rattle.link_states.specs.States.{Dialled}
-use Rattle.link_states.specs.Pending.{is_up, is_dialled}
+use Rattle.link_states.specs.Pending.{is_up}
 use Rattle.policy_audit.specs.declared.event.Event.TheVariants as event
 use Rattle.policy_audit.specs.declared.reply.Reply.TheVariants as reply
-use Rattle.policy_audit.specs.declared.rule.Rule.{Rule}
 use Rattle.policy_audit.specs.declared.rule.Rule.TheVariants as rule
-use Rattle.policy_audit.specs.declared.entry.Verdict.TheVariants.{Accepted}
-use Rattle.policy_audit.specs.declared.entry.Entry.{Entry}
-use Rattle.policy_audit.specs.History.{History}
-use Rattle.dist_types.specs.declared.pid.Pid.{Pid}
-use Rattle.policy_audit.specs.Listed.{listed}
-use Rattle.policy_audit.specs.Own.{running_scopes}
-use Rattle.policy_audit.specs.Sides.{is_name_up, Awaited, awaits, is_last}
-use Rattle.policy_audit.specs.Links.{is_open, is_dialling}
-use Rattle.policy_audit.specs.Checks.{checks, first_broken, frame_checks, always}
-use Rattle.policy_audit.specs.Policy.{is_full, up_answer, verdict, with_entry, IsAnswered, IsLegal, IsNext}
-use Rattle.policy_audit.proofs.Accepted.{lie, no_value}
-use Rattle.policy_audit.proofs.ChangeLemmas.{no_change}
+use Rattle.policy_audit.specs.Sides.{Awaited}
 use Rattle.policy_audit.proofs.Finished.{is_message}
 use Rattle.policy_audit.proofs.HeardNow.{framed_heard}
 use Rattle.policy_audit.proofs.RowsAfter.{unfinished_rows}
@@ -41,11 +24,7 @@ use Rattle.node_core.specs.declared.hearing.Heard.{Heard}
 use Rattle.node_core.specs.declared.hearing.Heard.TheVariants as heard
 use Rattle.node_core.specs.declared.link_state.LinkState.{LinkState}
 use Rattle.node_core.specs.declared.link_state.LinkState.TheVariants as state
-use Rattle.node_core.specs.AdmissionFacts.{admission_words, AdmissionFollows}
-use Rattle.node_core.specs.Hearing.{rule_of, is_handshake, state_checks, accepted_as, heard_named}
-use Rattle.node_core.specs.LinkFacts.{facts, link_words, IsState, LinksFollow}
-use Rattle.node_core.specs.Links.{KeptLink, dialled_peer, dial_beside, narrow_frames}
-use Rattle.node_core.specs.ScopeFacts.{scope_words}
+use Rattle.node_core.specs.Hearing.{state_checks, accepted_as}
 use Rattle.node_core.proofs.EarlyMoves.{answer_moves, status_moves, challenge_moves}
 use Rattle.node_core.proofs.Entered.{made, accepted_now, answered_now}
 use Rattle.node_core.proofs.Found.{some_is}

@@ -1,30 +1,19 @@
 -- What an accepted Status, Challenge or answer to `alive` makes of its link.
-use Rattle.std.specs.Prelude.{◌≡◌, ℕ, true, ◌&&◌, not, List, [], ◌∷◌, ◌++◌, Some, None}
-use Rattle.std.proofs.Common.{refl, ap, ◌∙◌, sym}
-use Rattle.std.specs.Option.{option_map_or}
-use Rattle.dist_types.specs.Flags.{has_bit, own_flags}
-use Rattle.handshake_frames.specs.Frame.{Challenge}
-use Rattle.handshake_frames.specs.declared.frame.StatusWord.{StatusWord}
+use Rattle.node_core.proofs.Words.{List, None, Some, ap, not, refl, sym, true, ℕ, [], ◌&&◌, ◌++◌, ◌∙◌, ◌∷◌, ◌≡◌, option_map_or, has_bit}
+use Rattle.node_core.proofs.Words.{Challenge, challenge_frame, status_of, StatusWord, AdmissionRules, found, History, is_accepted, named_by}
+use Rattle.node_core.proofs.Words.{OutFrame, digest_for, narrow, own_challenge, waiting, IsAnswered, with_entry, is_last, Entry}
+use Rattle.node_core.proofs.Words.{AdmissionFollows, admission_words, IsState, facts, narrow_frames}
+use Rattle.dist_types.specs.Flags.{own_flags}
 use Rattle.handshake_frames.specs.declared.frame.StatusWord.TheVariants as word
-use Rattle.handshake_frames.specs.Reading.{challenge_frame, status_of}
 use Rattle.handshake_frames.specs.Spelling.{challenge_bytes, reply_bytes}
-use Rattle.admission_rules.specs.Admission.{AdmissionRules}
 use Rattle.link_states.specs.Frames as owes
-use Rattle.link_states.specs.Peer.{found, is_visible}
+use Rattle.link_states.specs.Peer.{is_visible}
 use Rattle.link_states.specs.States.{Dialled, Introduced}
-use Rattle.policy_audit.specs.declared.entry.Entry.{Entry}
 use Rattle.policy_audit.specs.declared.event.Event.TheVariants as event
-use Rattle.policy_audit.specs.OutFrame.{OutFrame}
-use Rattle.policy_audit.specs.History.{History, is_accepted}
-use Rattle.policy_audit.specs.Sides.{is_last, AwaitAnswer, AwaitStatus, AwaitChallenge}
-use Rattle.policy_audit.specs.Links.{named_by}
-use Rattle.policy_audit.specs.Owed.{narrow, own_challenge, own_challenge_frame, true_to, digest_for, waiting}
-use Rattle.policy_audit.specs.Policy.{IsAnswered, with_entry}
+use Rattle.policy_audit.specs.Sides.{AwaitAnswer, AwaitStatus, AwaitChallenge}
+use Rattle.policy_audit.specs.Owed.{own_challenge_frame, true_to}
 use Rattle.policy_audit.proofs.Onward.{answer_taken, status_taken, challenge_taken, hello_of}
 use Rattle.node_core.specs.declared.link_state.LinkState.TheVariants as state
-use Rattle.node_core.specs.Links.{narrow_frames}
-use Rattle.node_core.specs.LinkFacts.{facts, IsState}
-use Rattle.node_core.specs.AdmissionFacts.{admission_words, AdmissionFollows}
 use Rattle.node_core.proofs.FrameFacts.{own_awaits, same_challenge, still_dialled, still_introduced, inner_open, inner_waiting, inner_moves}
 use Rattle.node_core.proofs.FrameRules.{digest_is}
 use Rattle.node_core.proofs.MovedOn.{AreMoves, stays_but}

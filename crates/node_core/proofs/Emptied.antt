@@ -1,15 +1,12 @@
 -- A link whose state was taken out while a frame is heard.
-use Rattle.std.specs.Prelude.{◌≡◌, ℕ, ◌<◌, ◌≤◌, false, List, [], Option, Some, None, find, length}
-use Rattle.std.proofs.Common.{refl, ap, ◌∙◌, sym, subst, get_or, set}
-use Rattle.std.proofs.lemmas.List.{get_or_default, get_or-set_same, set-set, length-set}
+use Rattle.node_core.proofs.Words.{List, None, Option, Some, ap, false, find, get_or, length, refl, set, subst, sym, ℕ, [], ◌<◌, ◌∙◌, ◌≡◌}
+use Rattle.node_core.proofs.Words.{◌≤◌, option_map, option_map_or, get_or-set_same, get_or_default, set-set, same, OutFrame, moved_on}
+use Rattle.node_core.proofs.Words.{older_of, without_link, KeptLink, dial_beside, dialled_peer, up_peer, with_room}
+use Rattle.std.proofs.lemmas.List.{length-set}
 use Rattle.std.proofs.lemmas.List.Recursion.{found_set_other}
-use Rattle.std.specs.Option.{option_map, option_map_or}
-use Rattle.dist_types.specs.Listing.{same}
-use Rattle.policy_audit.specs.OutFrame.{OutFrame}
 use Rattle.node_core.specs.declared.link_state.LinkState.{LinkState}
 use Rattle.node_core.specs.declared.link_state.LinkState.TheVariants as states
-use Rattle.node_core.specs.Links.{KeptLink, up_peer, dialled_peer, dial_beside, with_room}
-use Rattle.node_core.specs.Handshakes.{moved_on, without_link, older_of, HaveMoved, IsReady}
+use Rattle.node_core.specs.Handshakes.{HaveMoved, IsReady}
 
 -- the link without its state, with this room
 abbrev pub emptied : ℕ → KeptLink → KeptLink

@@ -1,21 +1,13 @@
 -- A history with one entry more: what the policy says of it, and what a step that made it answers.
-use Rattle.std.specs.Prelude.{◌≡◌, ℕ, suc, ◌<◌, ◌≤◌, Bool, true, false, cond, not, nat_lt, List, [], ◌∷◌, map, Option, Some, None, length, Ok, Err}
-use Rattle.std.proofs.Common.{refl, ap, ◌∙◌, sym, subst, arith}
-use Rattle.std.proofs.lemmas.Bool.{ltb-true}
+use Rattle.node_core.proofs.Words.{Bool, Err, List, None, Ok, Option, Some, ap, arith, cond, false, length, map, nat_lt, not, refl, subst}
+use Rattle.node_core.proofs.Words.{suc, sym, true, ℕ, [], ◌<◌, ◌∙◌, ◌∷◌, ◌≡◌, ◌≤◌, ltb-true, IsChange, checks, first_broken, History}
+use Rattle.node_core.proofs.Words.{events, is_accepted, past, IsAnswered, IsNext, answer, is_full, next_number, verdict, with_entry, Change}
+use Rattle.node_core.proofs.Words.{Entry, Verdict, Accepted, Refused, Event, Reply, Rule}
 use Rattle.dist_types.specs.Listing.{how_many}
-use Rattle.policy_audit.specs.declared.event.Event.{Event}
-use Rattle.policy_audit.specs.declared.reply.Reply.{Reply}
-use Rattle.policy_audit.specs.declared.rule.Rule.{Rule}
 use Rattle.policy_audit.specs.declared.rule.Rule.TheVariants as rule
-use Rattle.policy_audit.specs.declared.change.Change.{Change}
-use Rattle.policy_audit.specs.declared.entry.Entry.{Entry}
-use Rattle.policy_audit.specs.declared.entry.Verdict.{Verdict}
-use Rattle.policy_audit.specs.declared.entry.Verdict.TheVariants.{Accepted, Refused}
-use Rattle.policy_audit.specs.History.{History, past, Moment, present, events, is_accepted, is_restart}
+use Rattle.policy_audit.specs.History.{Moment, present, is_restart}
 use Rattle.policy_audit.specs.Own.{is_spawn}
-use Rattle.policy_audit.specs.Changes.{IsChange}
-use Rattle.policy_audit.specs.Checks.{first_broken, checks}
-use Rattle.policy_audit.specs.Policy.{is_full, next_number, verdict, judged, answer, with_entry, IsAnswered, IsNext}
+use Rattle.policy_audit.specs.Policy.{judged}
 use Rattle.node_core.specs.declared.fault.CoreFault.TheVariants as faults
 use Rattle.node_core.specs.Core.{IsSound}
 use Rattle.node_core.specs.Step.{Steps}

@@ -1,45 +1,22 @@
 -- A process that ends.
-use Rattle.std.specs.Prelude.{◌≡◌, ℕ, ◌+◌, nat_eq, Bool, true, false, cond, ◌==◌, not, List, [], ◌∷◌, ◌++◌, Option, Some, None, length}
-use Rattle.std.proofs.Common.{refl, ap, ◌∙◌, sym, arith}
-use Rattle.std.specs.List.{AllByRecursion, AllZip, filter, flat_map}
-use Rattle.dist_types.specs.declared.pid.Pid.{Pid}
-use Rattle.dist_types.specs.Listing.{same, same_pid}
-use Rattle.dist_types.proofs.Orders.{same_decides}
+use Rattle.node_core.proofs.Words.{Bool, List, None, Option, Some, ap, arith, cond, false, length, nat_eq, not, refl, sym, true, ℕ, []}
+use Rattle.node_core.proofs.Words.{◌++◌, ◌+◌, ◌==◌, ◌∙◌, ◌∷◌, ◌≡◌, AllByRecursion, AllZip, filter, flat_map, same_decides, same, same_pid}
+use Rattle.node_core.proofs.Words.{Pid, count_after_exit, Table, stopped_lists, told_numbers, and_left, IsChange, checks, first_broken}
+use Rattle.node_core.proofs.Words.{local_rows, heard, told, History, creation, listed, OutFrame, waiting, wide, is_local, lives, IsAnswered}
+use Rattle.node_core.proofs.Words.{IsNext, is_full, with_entry, Change, Entry, Accepted, Rule, follows_other, Follows, Parts, all_frames}
+use Rattle.node_core.proofs.Words.{exit_frames, link_words, KeptLink, IsParting, rows_left, Spawned, IsRunningOf, is_number, scope_words}
 use Rattle.link_frames.specs.declared.message.Message.TheVariants as said
-use Rattle.scope_core.specs.Table.{Table}
-use Rattle.scope_core.specs.Calls.{count_after_exit}
-use Rattle.group_monitors.proofs.Followed.{follows_other}
-use Rattle.policy_audit.specs.declared.change.Change.{Change}
-use Rattle.policy_audit.specs.declared.entry.Entry.{Entry}
-use Rattle.policy_audit.specs.declared.entry.Verdict.TheVariants.{Accepted}
 use Rattle.policy_audit.specs.declared.event.Event.TheVariants as event
 use Rattle.policy_audit.specs.declared.reply.Reply.TheVariants as reply
-use Rattle.policy_audit.specs.declared.rule.Rule.{Rule}
 use Rattle.policy_audit.specs.declared.rule.Rule.TheVariants as rule
-use Rattle.policy_audit.specs.OutFrame.{OutFrame}
-use Rattle.policy_audit.specs.History.{History, creation}
-use Rattle.policy_audit.specs.Hearing.{heard, told}
-use Rattle.policy_audit.specs.Own.{is_local, lives}
-use Rattle.policy_audit.specs.Changes.{IsChange}
-use Rattle.policy_audit.specs.Checks.{checks, first_broken}
-use Rattle.policy_audit.specs.Contents.{local_rows}
-use Rattle.policy_audit.specs.Listed.{listed}
-use Rattle.policy_audit.specs.Owed.{if_told, wide, waiting}
-use Rattle.policy_audit.specs.Policy.{is_full, IsAnswered, IsNext, with_entry}
-use Rattle.policy_audit.proofs.ChangeLemmas.{stopped_lists}
+use Rattle.policy_audit.specs.Owed.{if_told}
 use Rattle.policy_audit.proofs.LivesNow.{exits_more, lives_exited, lives_of, spawned_exited}
 use Rattle.policy_audit.proofs.RowsAfter.{exited_rows}
-use Rattle.policy_audit.proofs.ScopeFrames.{exited_links, told_numbers}
-use Rattle.policy_audit.proofs.UpLinks.{and_left}
+use Rattle.policy_audit.proofs.ScopeFrames.{exited_links}
 use Rattle.node_core.specs.declared.changes.Part.{Part}
 use Rattle.node_core.specs.declared.running.Running.{Running}
-use Rattle.node_core.specs.Exiting.{all_frames, exit_frames, AreExitsTold}
-use Rattle.node_core.specs.Links.{KeptLink}
-use Rattle.node_core.specs.LinkFacts.{link_words}
-use Rattle.node_core.specs.Parting.{count_but, rows_left, HasParted, IsParting}
-use Rattle.node_core.specs.Processes.{Spawned}
-use Rattle.node_core.specs.ScopeFacts.{scope_words, is_number, IsRunningOf}
-use Rattle.node_core.specs.Core.{Parts, Follows}
+use Rattle.node_core.specs.Exiting.{AreExitsTold}
+use Rattle.node_core.specs.Parting.{count_but, HasParted}
 use Rattle.node_core.proofs.Entered.{made, accepted_now, answered_now, next_now, sound_now}
 use Rattle.node_core.proofs.Moved.{told_frames}
 use Rattle.node_core.proofs.PartingChange.{partings_change}

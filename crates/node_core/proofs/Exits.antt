@@ -1,24 +1,13 @@
 -- Links for which the Leaves of a process that ends are prepared.
-use Rattle.std.specs.Prelude.{◌≡◌, ℕ, Bool, true, false, cond, not, ◌==◌, List, [], ◌∷◌, ◌++◌, map, length}
-use Rattle.std.proofs.Common.{refl, ap, ◌∙◌, sym, subst, append_assoc, arith}
-use Rattle.std.proofs.lemmas.Bool.{eqb-true, eq-eqb}
-use Rattle.std.proofs.lemmas.List.{append-nil}
-use Rattle.std.specs.List.{AllZip}
-use Rattle.dist_types.specs.declared.pid.Pid.{Pid}
-use Rattle.dist_types.specs.declared.change.GroupChange.{GroupChange}
-use Rattle.dist_types.specs.Difference.{IsDifference, is_empty}
-use Rattle.scope_core.specs.Table.{count_of}
-use Rattle.scope_core.specs.Calls.{count_after_exit}
-use Rattle.policy_audit.specs.declared.change.Change.{Change}
-use Rattle.policy_audit.specs.OutFrame.{OutFrame}
-use Rattle.policy_audit.proofs.Accepted.{lie}
+use Rattle.node_core.proofs.Words.{Bool, List, ap, arith, cond, false, length, map, not, refl, subst, sym, true, ℕ, [], ◌++◌, ◌==◌, ◌∙◌}
+use Rattle.node_core.proofs.Words.{◌∷◌, ◌≡◌, AllZip, eq-eqb, eqb-true, append-nil, IsDifference, is_empty, GroupChange, Pid}
+use Rattle.node_core.proofs.Words.{count_after_exit, count_of, lie, OutFrame, Change, all_frames, exit_frames, KeptLink, committed}
+use Rattle.node_core.proofs.Words.{prepared_for, unroomed, with_frames, with_prepared, IsParting, is_number, Alike, AreIdle, AreTold}
+use Rattle.node_core.proofs.Words.{if_among}
+use Rattle.std.proofs.Common.{append_assoc}
 use Rattle.policy_audit.proofs.KeptNumbers.{filter_append}
 use Rattle.node_core.specs.declared.running.Running.{Running}
-use Rattle.node_core.specs.Links.{KeptLink, with_frames, with_prepared, unroomed, committed, prepared_for}
-use Rattle.node_core.specs.ScopeFacts.{is_number}
-use Rattle.node_core.specs.Telling.{AreIdle, Alike, AreTold, if_among}
-use Rattle.node_core.specs.Exiting.{bare, exit_frames, ArePrepared, all_frames, AreExits}
-use Rattle.node_core.specs.Parting.{IsParting}
+use Rattle.node_core.specs.Exiting.{bare, ArePrepared, AreExits}
 use Rattle.node_core.proofs.Told.{forgotten, zip_map}
 use Rattle.node_core.proofs.Zipped.{zipped_map, zipped_on, zipped_weaker}
 

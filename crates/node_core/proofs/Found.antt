@@ -1,10 +1,9 @@
 -- Elements that pass a test, and their places.
-use Rattle.std.specs.Prelude.{◌≡◌, ℕ, suc, ◌+◌, ◌<◌, nat_lt, Bool, true, false, cond, ◌||◌, not, List, [], ◌∷◌, Some, None, find, is_some, length, map, position}
-use Rattle.std.proofs.Common.{refl, ap, ◌∙◌, sym, subst, arith}
-use Rattle.std.proofs.lemmas.Bool.{lt-ltb, ltb-true, ltb-false}
-use Rattle.std.proofs.lemmas.List.Quantifiers.{position-Some}
-use Rattle.std.specs.List.{list_any, position_or_len, AllByRecursion}
-use Rattle.policy_audit.proofs.Accepted.{no_value}
+use Rattle.node_core.proofs.Words.{Bool, List, None, Some, ap, arith, cond, false, find, is_some, length, map, nat_lt, not, position, refl}
+use Rattle.node_core.proofs.Words.{subst, suc, sym, true, ℕ, [], ◌+◌, ◌<◌, ◌||◌, ◌∙◌, ◌∷◌, ◌≡◌, AllByRecursion, list_any, lt-ltb, ltb-true}
+use Rattle.node_core.proofs.Words.{position-Some, no_value}
+use Rattle.std.proofs.lemmas.Bool.{ltb-false}
+use Rattle.std.specs.List.{position_or_len}
 
 -- the value in an option
 pub some_is : {A : Type 0} {x y : A} → Some x ≡ Some y → x ≡ y

@@ -1,22 +1,14 @@
 -- What the state of a kept link says of the frame that it awaits.
-use Rattle.std.specs.Prelude.{◌≡◌, ℕ, nat_eq, Bool, true, false, cond, ◌&&◌, ◌||◌, not, List, position, Some, None}
-use Rattle.std.proofs.Common.{refl, ap, ◌∙◌, sym, subst, get_or, ◌⊎◌, inl, inr}
-use Rattle.dist_types.specs.Difference.{is_empty}
-use Rattle.link_states.specs.States.{Introduced, Linked}
+use Rattle.node_core.proofs.Words.{Bool, List, None, Some, ap, cond, false, get_or, nat_eq, not, position, refl, subst, sym, true, ℕ, ◌&&◌}
+use Rattle.node_core.proofs.Words.{◌||◌, ◌∙◌, ◌≡◌, is_empty, Linked, and_both, always, checks, first_broken, frame_checks, History, is_open}
+use Rattle.node_core.proofs.Words.{is_up, waiting, IsLegal, awaits, is_last, is_whole, refuses_calmly, IsState, LinkFacts, LinksFollow}
+use Rattle.node_core.proofs.Words.{facts, link_words, KeptLink}
+use Rattle.std.proofs.Common.{◌⊎◌, inl, inr}
+use Rattle.link_states.specs.States.{Introduced}
 use Rattle.policy_audit.specs.declared.event.Event.TheVariants as event
 use Rattle.policy_audit.specs.declared.rule.Rule.TheVariants as rule
-use Rattle.policy_audit.specs.History.{History}
-use Rattle.policy_audit.specs.Sides.{awaits, is_last, is_whole}
-use Rattle.policy_audit.specs.Links.{is_open, is_up}
-use Rattle.policy_audit.specs.Owed.{waiting}
-use Rattle.policy_audit.specs.Checks.{always, checks, first_broken, frame_checks}
-use Rattle.policy_audit.specs.Policy.{IsLegal}
-use Rattle.policy_audit.proofs.UpLinks.{and_both}
-use Rattle.node_core.specs.Calm.{refuses_calmly}
 use Rattle.node_core.specs.declared.link_state.LinkState.{LinkState}
 use Rattle.node_core.specs.declared.link_state.LinkState.TheVariants as state
-use Rattle.node_core.specs.Links.{KeptLink}
-use Rattle.node_core.specs.LinkFacts.{LinkFacts, facts, IsState, link_words, LinksFollow}
 use Rattle.node_core.proofs.Places.{link_at, not_kept}
 
 -- a frame is awaited that isn't the last

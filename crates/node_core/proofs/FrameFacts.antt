@@ -1,24 +1,16 @@
 -- What an accepted frame makes of what is said of its own link and of the others.
-use Rattle.std.specs.Prelude.{◌≡◌, ℕ, ◌==◌, Bool, true, false, cond, List, [], ◌∷◌, ◌++◌, Option, None}
-use Rattle.std.proofs.Common.{refl, ap, ◌∙◌, sym}
-use Rattle.std.proofs.lemmas.Bool.{eq-eqb}
-use Rattle.std.specs.List.{filter}
-use Rattle.std.specs.Option.{option_map_or}
-use Rattle.handshake_frames.specs.Frame.{Name}
+use Rattle.node_core.proofs.Words.{Bool, List, None, Option, ap, cond, false, refl, sym, true, ℕ, [], ◌++◌, ◌==◌, ◌∙◌, ◌∷◌, ◌≡◌, filter}
+use Rattle.node_core.proofs.Words.{option_map_or, eq-eqb, Name, History, is_accepted, is_open, named_by, OutFrame, frame_owes}
+use Rattle.node_core.proofs.Words.{own_challenge, waiting, IsAnswered, with_entry, awaits, challenge_in, is_last, peer_of, Entry}
+use Rattle.node_core.proofs.Words.{IsIntroduced, IsState, facts, kept_numbers}
 use Rattle.policy_audit.specs.declared.event.Event.TheVariants as event
-use Rattle.policy_audit.specs.declared.entry.Entry.{Entry}
-use Rattle.policy_audit.specs.OutFrame.{OutFrame}
-use Rattle.policy_audit.specs.History.{History, is_accepted}
-use Rattle.policy_audit.specs.Sides.{challenge_in, awaits, given, peer_of, is_last, Awaited}
-use Rattle.policy_audit.specs.Links.{is_open, named_by}
-use Rattle.policy_audit.specs.Owed.{own_challenge, waiting, frame_owes}
-use Rattle.policy_audit.specs.Policy.{IsAnswered, with_entry}
+use Rattle.policy_audit.specs.Sides.{given, Awaited}
 use Rattle.policy_audit.proofs.Effects.{entry_link}
 use Rattle.policy_audit.proofs.Onward.{IsOnward, frame_open}
 use Rattle.policy_audit.proofs.LinkFrames.{handshake_links}
 use Rattle.policy_audit.proofs.LinksLeft.{framed_numbers}
 use Rattle.node_core.specs.declared.link_state.LinkState.{LinkState}
-use Rattle.node_core.specs.LinkFacts.{facts, kept_numbers, Awaits, IsPeer, IsIntroduced, IsState}
+use Rattle.node_core.specs.LinkFacts.{Awaits, IsPeer}
 use Rattle.node_core.proofs.KeptOn.{facts_same}
 use Rattle.node_core.proofs.MovedOn.{AreMoves, stays_but}
 

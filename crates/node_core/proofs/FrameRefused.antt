@@ -1,37 +1,18 @@
 -- The node after a refused frame of the handshake.
-use Rattle.std.specs.Prelude.{◌≡◌, ℕ, ◌==◌, ◌<◌, Bool, true, false, cond, ◌&&◌, not, List, [], ◌++◌, Option, Some, None, length}
-use Rattle.std.proofs.Common.{refl, ap, ◌∙◌, sym, subst, get_or, set}
-use Rattle.std.proofs.lemmas.Bool.{eq-eqb, eqb-true}
-use Rattle.dist_types.specs.Difference.{is_empty}
-use Rattle.group_monitors.proofs.Followed.{follows_other}
-use Rattle.link_states.specs.declared.state_rule.StateRule.{StateRule}
+use Rattle.node_core.proofs.Words.{Bool, List, None, Option, Some, ap, cond, false, get_or, length, not, refl, set, subst, sym, true, ℕ, []}
+use Rattle.node_core.proofs.Words.{◌&&◌, ◌++◌, ◌<◌, ◌==◌, ◌∙◌, ◌≡◌, eq-eqb, eqb-true, is_empty, StateRule, no_change, and_false, flip}
+use Rattle.node_core.proofs.Words.{checks, first_broken, History, is_open, OutFrame, refusal_owes, waiting, running_scopes, IsNext, is_full}
+use Rattle.node_core.proofs.Words.{with_entry, is_whole, Entry, Refused, Rule, follows_other, Follows, Parts, HaveEnded, moved_on}
+use Rattle.node_core.proofs.Words.{without_link, rule_of, LinksFollow, facts, kept_numbers, link_words, KeptLink, narrow_frames}
+use Rattle.node_core.proofs.Words.{ScopesFollow, scope_words}
 use Rattle.link_states.specs.declared.state_rule.StateRule.TheVariants as broken
 use Rattle.link_states.specs.Frames.{refusal_frames}
 use Rattle.policy_audit.specs.declared.event.Event.TheVariants as event
-use Rattle.policy_audit.specs.declared.entry.Verdict.TheVariants.{Refused}
-use Rattle.policy_audit.specs.declared.entry.Entry.{Entry}
-use Rattle.policy_audit.specs.declared.rule.Rule.{Rule}
-use Rattle.policy_audit.specs.OutFrame.{OutFrame}
-use Rattle.policy_audit.specs.History.{History}
-use Rattle.policy_audit.specs.Own.{running_scopes}
-use Rattle.policy_audit.specs.Sides.{is_whole}
-use Rattle.policy_audit.specs.Links.{is_open}
-use Rattle.policy_audit.specs.Owed.{refusal_owes, waiting}
-use Rattle.policy_audit.specs.Checks.{checks, first_broken}
-use Rattle.policy_audit.specs.Policy.{is_full, with_entry, IsNext}
-use Rattle.policy_audit.proofs.ChangeLemmas.{no_change}
 use Rattle.policy_audit.proofs.Effects.{entry_rows}
 use Rattle.policy_audit.proofs.HeardNow.{refused_heard}
 use Rattle.policy_audit.proofs.LinkFrames.{refused_links}
 use Rattle.policy_audit.proofs.LinksLeft.{refused_numbers}
-use Rattle.policy_audit.proofs.UpLinks.{and_false, flip}
 use Rattle.node_core.specs.declared.link_state.LinkState.TheVariants as state
-use Rattle.node_core.specs.Core.{Parts, Follows}
-use Rattle.node_core.specs.Handshakes.{moved_on, without_link, HaveEnded}
-use Rattle.node_core.specs.Hearing.{rule_of}
-use Rattle.node_core.specs.LinkFacts.{facts, kept_numbers, link_words, LinksFollow}
-use Rattle.node_core.specs.Links.{KeptLink, narrow_frames}
-use Rattle.node_core.specs.ScopeFacts.{scope_words, ScopesFollow}
 use Rattle.node_core.proofs.Emptied.{IsEmptied, moved_from}
 use Rattle.node_core.proofs.Entered.{made, next_now, refused_now, sound_now}
 use Rattle.node_core.proofs.FrameFacts.{same_stay}

@@ -1,37 +1,22 @@
 -- The rules for a frame of the handshake, as a state knows them, are those of the policy.
-use Rattle.std.specs.Prelude.{◌≡◌, ℕ, ◌==◌, Bool, true, false, cond, ◌&&◌, ◌||◌, not, List, [], ◌∷◌, Option, Some, None, length, bytes_eq}
-use Rattle.std.proofs.Common.{refl, ap, ◌∙◌, sym}
-use Rattle.std.specs.Option.{option_map, option_map_or}
+use Rattle.node_core.proofs.Words.{Bool, List, None, Option, Some, ap, cond, false, length, not, refl, sym, true, ℕ, [], ◌&&◌, ◌==◌, ◌||◌}
+use Rattle.node_core.proofs.Words.{◌∙◌, ◌∷◌, ◌≡◌, option_map, option_map_or, same_decides, same_sym, is_empty, has_bit, is_among, same}
+use Rattle.node_core.proofs.Words.{text_cmp, Challenge, Name, ReplyFrame, StatusWord, AdmissionRules, is_dialled, Pending, StateRule, lie}
+use Rattle.node_core.proofs.Words.{allow_list, always, first_broken, History, is_dialling, digest_for, own_challenge, is_name_up, is_peer}
+use Rattle.node_core.proofs.Words.{peer_of, Rule, AdmissionFollows, admission_words, rule_of}
+use Rattle.std.proofs.Common.{bytes_eq}
 use Rattle.std.specs.Ordering.{is_gt}
 use Rattle.dist_types.specs.Text.{is_node_name}
-use Rattle.dist_types.specs.Flags.{has_bit}
-use Rattle.dist_types.specs.Order.{text_cmp}
-use Rattle.dist_types.specs.Listing.{same, is_among}
-use Rattle.dist_types.specs.Difference.{is_empty}
-use Rattle.dist_types.proofs.Orders.{same_decides, same_sym}
-use Rattle.handshake_frames.specs.Frame.{Name, Challenge}
-use Rattle.handshake_frames.specs.declared.frame.StatusWord.{StatusWord}
 use Rattle.handshake_frames.specs.declared.frame.StatusWord.TheVariants as word
-use Rattle.handshake_frames.specs.declared.frame.ReplyFrame.{ReplyFrame}
 use Rattle.handshake_frames.specs.declared.frame.AckFrame.{AckFrame}
 use Rattle.cookie_digest.specs.Digest.{digest_of}
-use Rattle.admission_rules.specs.Admission.{AdmissionRules, cookie_of}
-use Rattle.link_states.specs.declared.pending.Pending.{Pending}
-use Rattle.link_states.specs.declared.state_rule.StateRule.{StateRule}
+use Rattle.admission_rules.specs.Admission.{cookie_of}
 use Rattle.link_states.specs.declared.state_rule.StateRule.TheVariants as broken
 use Rattle.link_states.specs.Checks as state
-use Rattle.link_states.specs.Pending.{is_up, is_dialled}
-use Rattle.policy_audit.specs.declared.rule.Rule.{Rule}
+use Rattle.link_states.specs.Pending.{is_up}
 use Rattle.policy_audit.specs.declared.rule.Rule.TheVariants as rule
-use Rattle.policy_audit.specs.History.{History}
-use Rattle.policy_audit.specs.Admission.{allowed, allow_list, cookie}
-use Rattle.policy_audit.specs.Sides.{peer_of, is_peer, is_name_up}
-use Rattle.policy_audit.specs.Links.{is_dialling}
-use Rattle.policy_audit.specs.Owed.{own_challenge, digest_for}
-use Rattle.policy_audit.specs.Checks.{first_broken, always, name_checks, answer_checks, status_checks, challenge_checks, digest_checks, is_peer_up, is_simultaneous}
-use Rattle.policy_audit.proofs.Accepted.{lie}
-use Rattle.node_core.specs.AdmissionFacts.{admission_words, AdmissionFollows}
-use Rattle.node_core.specs.Hearing.{rule_of}
+use Rattle.policy_audit.specs.Admission.{allowed, cookie}
+use Rattle.policy_audit.specs.Checks.{name_checks, answer_checks, status_checks, challenge_checks, digest_checks, is_peer_up, is_simultaneous}
 use Rattle.node_core.proofs.Cookies.{cookie_is}
 use Rattle.node_core.proofs.Moves.{none_is_empty}
 use Rattle.node_core.proofs.Once.{same_names}

@@ -1,33 +1,14 @@
 -- What is left after a link is gone: the other links, the scopes without it, and what the scopes have lost.
-use Rattle.std.specs.Prelude.{◌≡◌, ℕ, ◌==◌, nat_eq, Bool, true, false, cond, ◌&&◌, not, List, [], Option, Some, None}
-use Rattle.std.proofs.Common.{refl, ap, ◌∙◌, sym, subst}
-use Rattle.std.proofs.Math.Bool.{and-true}
-use Rattle.std.proofs.lemmas.Bool.{eqb-true}
-use Rattle.std.specs.List.{filter}
-use Rattle.std.specs.Option.{unwrap_or}
-use Rattle.dist_types.specs.declared.pid.Pid.{Pid}
-use Rattle.dist_types.specs.Listing.{same}
-use Rattle.scope_core.specs.Calls.{count_after_drop}
-use Rattle.policy_audit.specs.declared.change.Change.{Change}
-use Rattle.policy_audit.specs.History.{History, first_of}
-use Rattle.policy_audit.specs.Links.{is_open, is_up}
-use Rattle.policy_audit.specs.Hearing.{heard, hears, talk, tells, told}
-use Rattle.policy_audit.specs.Own.{running_scopes}
-use Rattle.policy_audit.specs.Listed.{listed}
-use Rattle.policy_audit.specs.Owed.{waiting}
-use Rattle.policy_audit.specs.Changes.{IsChange}
+use Rattle.node_core.proofs.Words.{Bool, List, None, Option, Some, ap, cond, false, nat_eq, not, refl, subst, sym, true, ℕ, [], ◌&&◌, ◌==◌}
+use Rattle.node_core.proofs.Words.{◌∙◌, ◌≡◌, filter, unwrap_or, and-true, eqb-true, same, Pid, count_after_drop, lie, no_change}
+use Rattle.node_core.proofs.Words.{stopped_lists, and_false, flip, IsChange, heard, told, History, first_of, is_open, is_up, listed}
+use Rattle.node_core.proofs.Words.{waiting, running_scopes, Change, AreCut, AreLost, IsLinkOf, IsState, LinksFollow, facts, link_words}
+use Rattle.node_core.proofs.Words.{KeptLink, ArePartings, ScopesFollow, scope_words}
+use Rattle.policy_audit.specs.Hearing.{hears, talk, tells}
 use Rattle.policy_audit.specs.Effects.{IsSameLink}
-use Rattle.policy_audit.proofs.Accepted.{lie}
-use Rattle.policy_audit.proofs.UpLinks.{and_false, flip}
-use Rattle.policy_audit.proofs.ChangeLemmas.{no_change, stopped_lists}
 use Rattle.policy_audit.proofs.HeardNow.{IsHeardNow}
 use Rattle.policy_audit.proofs.KeptNumbers.{kept_numbers}
 use Rattle.node_core.specs.declared.running.Running.{Running}
-use Rattle.node_core.specs.Links.{KeptLink}
-use Rattle.node_core.specs.LinkFacts.{facts, link_words, IsState, IsLinkOf, LinksFollow}
-use Rattle.node_core.specs.ScopeFacts.{scope_words, ScopesFollow}
-use Rattle.node_core.specs.Parting.{ArePartings}
-use Rattle.node_core.specs.Gone.{AreLost, AreCut}
 use Rattle.node_core.proofs.Places.{stay_follow}
 use Rattle.node_core.proofs.KeptOn.{facts_same}
 use Rattle.node_core.proofs.PartingChange.{partings_change}

@@ -1,13 +1,8 @@
 -- The rows of processes in a group, in order.
-use Rattle.std.specs.Prelude.{◌≡◌, ℕ, suc, cond, List, [], ◌∷◌, length, map}
-use Rattle.std.proofs.Common.{refl, ap, ◌∙◌}
-use Rattle.dist_types.specs.declared.pid.Pid.{Pid}
-use Rattle.dist_types.specs.declared.row.Row.{Row}
-use Rattle.dist_types.specs.Listing.{mentions, occurrences, same, same_row, IsListing, IsRowListing}
-use Rattle.dist_types.specs.Order.{row_cmp}
-use Rattle.dist_types.proofs.Orders.{same_row_decides, same_sym}
+use Rattle.node_core.proofs.Words.{List, ap, cond, length, map, refl, suc, ℕ, [], ◌∙◌, ◌∷◌, ◌≡◌, same_sym, IsListing, IsRowListing}
+use Rattle.node_core.proofs.Words.{mentions, occurrences, same, same_row, row_cmp, Pid, Row, row}
+use Rattle.dist_types.proofs.Orders.{same_row_decides}
 use Rattle.dist_types.proofs.Listings.{same_length}
-use Rattle.policy_audit.specs.Contents.{row}
 use Rattle.policy_audit.proofs.Lists.{count_in_group}
 
 module _ (g : List ℕ) (pids : List Pid) (rows sorted : List Row) (is : rows ≡ map (row g) pids) (listing : IsListing row_cmp same_row (λ r. occurrences same_row r rows) sorted) where

@@ -1,39 +1,26 @@
 -- A frame of the handshake, as the node hears it: the state of its link, and what is heard of it.
-use Rattle.std.specs.Prelude.{◌≡◌, ℕ, ◌+◌, ◌==◌, ◌<◌, ◌≤◌, nat_eq, Bool, true, false, cond, ◌||◌, not, if◌then◌else◌, List, [], ◌∷◌, Option, Some, None, length, position}
-use Rattle.std.proofs.Common.{refl, ap, ◌∙◌, sym, subst, arith, get_or}
+use Rattle.node_core.proofs.Words.{Bool, List, None, Option, Some, ap, arith, cond, false, get_or, length, nat_eq, not, position, refl}
+use Rattle.node_core.proofs.Words.{subst, sym, true, ℕ, [], ◌+◌, ◌<◌, ◌==◌, ◌||◌, ◌∙◌, ◌∷◌, ◌≡◌, ◌≤◌, list_any, option_map, is_empty}
+use Rattle.node_core.proofs.Words.{Challenge, Name, challenge_frame, name_frame, reply_frame, status_of, ReplyFrame, StatusWord}
+use Rattle.node_core.proofs.Words.{AdmissionRules, found, is_dialled, Pending, StateRule, lie, no_value, kept_among, History, is_open}
+use Rattle.node_core.proofs.Words.{is_kept, waiting, awaits, is_last, is_whole, Follows, Parts, heard_named, is_handshake, IsLinkOf}
+use Rattle.node_core.proofs.Words.{IsState, facts, link_words, KeptLink}
+use Rattle.std.proofs.Common.{if◌then◌else◌}
 use Rattle.std.proofs.lemmas.Iterator.Adapters.{position_from-zero}
-use Rattle.std.specs.List.{list_any, position_from}
-use Rattle.std.specs.Option.{option_map}
-use Rattle.dist_types.specs.Difference.{is_empty}
-use Rattle.handshake_frames.specs.Frame.{Name, Challenge}
-use Rattle.handshake_frames.specs.declared.frame.StatusWord.{StatusWord}
+use Rattle.std.specs.List.{position_from}
 use Rattle.handshake_frames.specs.declared.frame.StatusWord.TheVariants as word
-use Rattle.handshake_frames.specs.declared.frame.ReplyFrame.{ReplyFrame}
-use Rattle.handshake_frames.specs.Reading.{name_frame, challenge_frame, reply_frame, status_of}
-use Rattle.admission_rules.specs.Admission.{AdmissionRules}
 use Rattle.link_states.specs.declared.await_name.Named.TheVariants as named
-use Rattle.link_states.specs.declared.pending.Pending.{Pending}
-use Rattle.link_states.specs.declared.state_rule.StateRule.{StateRule}
 use Rattle.link_states.specs.declared.state_rule.StateRule.TheVariants as broken
 use Rattle.link_states.specs.Frames.{refusal_frames, status_owed, reply_owed, ack_owed, greeting_owed}
 use Rattle.link_states.specs.Named as says
-use Rattle.link_states.specs.Peer.{found, introduced}
-use Rattle.link_states.specs.Pending.{is_up, is_dialled}
+use Rattle.link_states.specs.Peer.{introduced}
+use Rattle.link_states.specs.Pending.{is_up}
 use Rattle.link_states.specs.States.{linked}
-use Rattle.policy_audit.specs.History.{History}
-use Rattle.policy_audit.specs.Sides.{awaits, is_last, is_whole}
-use Rattle.policy_audit.specs.Links.{is_open}
-use Rattle.policy_audit.specs.Owed.{is_kept, waiting}
-use Rattle.policy_audit.proofs.KeptNumbers.{kept_among}
-use Rattle.policy_audit.proofs.Accepted.{lie, no_value}
 use Rattle.node_core.specs.declared.hearing.Heard.{Heard}
 use Rattle.node_core.specs.declared.hearing.Heard.TheVariants as heard
 use Rattle.node_core.specs.declared.link_state.LinkState.{LinkState}
 use Rattle.node_core.specs.declared.link_state.LinkState.TheVariants as state
-use Rattle.node_core.specs.Core.{Parts, Follows}
-use Rattle.node_core.specs.Hearing.{is_handshake, heard_named, accepted_as}
-use Rattle.node_core.specs.LinkFacts.{facts, link_words, IsState, IsLinkOf}
-use Rattle.node_core.specs.Links.{KeptLink}
+use Rattle.node_core.specs.Hearing.{accepted_as}
 use Rattle.node_core.proofs.EarlyHeard.{is_early}
 use Rattle.node_core.proofs.Found.{any_map, some_is}
 use Rattle.node_core.proofs.KeptOn.{each_at, place_is}

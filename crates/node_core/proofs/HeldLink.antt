@@ -1,15 +1,10 @@
 -- A link with room for frames, whose state is held apart while a frame is heard.
-use Rattle.std.specs.Prelude.{◌≡◌, ℕ, ◌<◌, ◌≤◌, nat_eq, List, Some, length, position}
-use Rattle.std.proofs.Common.{refl, ap, ◌∙◌, sym, subst, get_or, set}
-use Rattle.std.proofs.lemmas.List.{get_or-set_same, set-set}
-use Rattle.policy_audit.specs.History.{History}
-use Rattle.policy_audit.proofs.KeptNumbers.{kept_climbs}
+use Rattle.node_core.proofs.Words.{List, Some, ap, get_or, length, nat_eq, position, refl, set, subst, sym, ℕ, ◌<◌, ◌∙◌, ◌≡◌, ◌≤◌}
+use Rattle.node_core.proofs.Words.{get_or-set_same, set-set, kept_climbs, History, Follows, Parts, IsLinkOf, IsState, facts, link_words}
+use Rattle.node_core.proofs.Words.{KeptLink, with_room}
 use Rattle.node_core.specs.declared.link_state.LinkState.{LinkState}
 use Rattle.node_core.specs.declared.link_state.LinkState.TheVariants as states
-use Rattle.node_core.specs.Core.{Parts, Follows}
 use Rattle.node_core.specs.Handshakes.{IsReady}
-use Rattle.node_core.specs.LinkFacts.{facts, link_words, IsState, IsLinkOf}
-use Rattle.node_core.specs.Links.{KeptLink, with_room}
 use Rattle.node_core.proofs.Emptied.{IsEmptied, taken_out, ready}
 use Rattle.node_core.proofs.HeardFrames.{is_there, link_there, state_there}
 use Rattle.node_core.proofs.KeptOn.{each_at, one_follows}

@@ -1,48 +1,24 @@
 -- Own processes that join groups.
-use Rattle.std.specs.Prelude.{◌≡◌, ℕ, zero, suc, ◌+◌, ◌==◌, ◌<◌, ◌≤◌, nat_le, Bool, true, false, cond, ◌&&◌, not, List, [], ◌∷◌, ◌++◌, Option, Some, None, map, length, position, All}
-use Rattle.std.proofs.Common.{refl, ap, ◌∙◌, sym, arith, get_or, set}
-use Rattle.std.proofs.lemmas.Bool.{le-leb, leb-true}
-use Rattle.std.specs.List.{list_all}
-use Rattle.dist_types.specs.declared.pid.Pid.{Pid}
-use Rattle.dist_types.specs.Listing.{listing, mentions, same}
-use Rattle.dist_types.specs.Order.{pid_cmp}
-use Rattle.dist_types.proofs.Orders.{same_decides}
-use Rattle.link_frames.specs.declared.message.Message.{Message}
+use Rattle.node_core.proofs.Words.{All, Bool, List, None, Option, Some, ap, arith, cond, false, get_or, length, map, nat_le, not, position}
+use Rattle.node_core.proofs.Words.{refl, set, suc, sym, true, zero, ℕ, [], ◌&&◌, ◌++◌, ◌+◌, ◌<◌, ◌==◌, ◌∙◌, ◌∷◌, ◌≡◌, ◌≤◌, list_all, le-leb}
+use Rattle.node_core.proofs.Words.{leb-true, same_decides, listing, mentions, same, pid_cmp, Pid, Message, local_total, all_hold, lie}
+use Rattle.node_core.proofs.Words.{no_value, unbroken, told_numbers, and_left, and_right, checks, first_broken, local_rows, row, History}
+use Rattle.node_core.proofs.Words.{creation, listed, waiting, wide, is_local, is_running, lives, IsAnswered, IsNext, is_full, with_entry}
+use Rattle.node_core.proofs.Words.{Change, Entry, Accepted, Rule, follows_other, IsCalmFault, Follows, Parts, link_words, KeptLink, IsMoved}
+use Rattle.node_core.proofs.Words.{ProcessesFollow, process_words, Spawned, IsRunningOf, is_number, scope_words, if_among, said_to}
 use Rattle.link_frames.specs.declared.message.Message.TheVariants as said
-use Rattle.scope_core.specs.Table.{local_total, max_rows}
+use Rattle.scope_core.specs.Table.{max_rows}
 use Rattle.scope_core.specs.Calls.{count_after_join}
-use Rattle.group_monitors.proofs.Followed.{follows_other}
-use Rattle.policy_audit.specs.declared.change.Change.{Change}
-use Rattle.policy_audit.specs.declared.entry.Entry.{Entry}
-use Rattle.policy_audit.specs.declared.entry.Verdict.TheVariants.{Accepted}
 use Rattle.policy_audit.specs.declared.event.Event.TheVariants as event
 use Rattle.policy_audit.specs.declared.reply.Reply.TheVariants as reply
-use Rattle.policy_audit.specs.declared.rule.Rule.{Rule}
 use Rattle.policy_audit.specs.declared.rule.Rule.TheVariants as rule
-use Rattle.policy_audit.specs.History.{History, creation}
-use Rattle.policy_audit.specs.Own.{is_local, is_running, lives}
-use Rattle.policy_audit.specs.Checks.{checks, first_broken}
-use Rattle.policy_audit.specs.Contents.{local_rows, row}
-use Rattle.policy_audit.specs.Listed.{listed}
-use Rattle.policy_audit.specs.Owed.{wide, waiting}
-use Rattle.policy_audit.specs.Policy.{is_full, IsAnswered, IsNext, with_entry}
-use Rattle.policy_audit.proofs.Accepted.{all_hold, lie, no_value, unbroken}
 use Rattle.policy_audit.proofs.LivesNow.{lives_of}
 use Rattle.policy_audit.proofs.RowsAfter.{joined_rows}
-use Rattle.policy_audit.proofs.ScopeFrames.{joined_links, told_numbers}
-use Rattle.policy_audit.proofs.UpLinks.{and_left, and_right}
+use Rattle.policy_audit.proofs.ScopeFrames.{joined_links}
 use Rattle.node_core.specs.declared.running.Running.{Running}
-use Rattle.node_core.specs.Processes.{Spawned}
-use Rattle.node_core.specs.ProcessFacts.{process_words, ProcessesFollow}
-use Rattle.node_core.specs.Links.{KeptLink}
-use Rattle.node_core.specs.LinkFacts.{link_words}
-use Rattle.node_core.specs.ScopeFacts.{scope_words, is_number, IsRunningOf}
-use Rattle.node_core.specs.Core.{Parts, Follows}
 use Rattle.node_core.specs.declared.fault.CoreFault.{CoreFault}
 use Rattle.node_core.specs.declared.fault.CoreFault.TheVariants as faults
-use Rattle.node_core.specs.Calm.{IsCalmFault}
-use Rattle.node_core.specs.Moving.{IsMoved, IsJoinRefusal, own_checks}
-use Rattle.node_core.specs.Telling.{if_among, said_to}
+use Rattle.node_core.specs.Moving.{IsJoinRefusal, own_checks}
 use Rattle.node_core.proofs.Entered.{made, accepted_now, answered_now, next_now, sound_now}
 use Rattle.node_core.proofs.OwnTotal.{rows_total}
 use Rattle.node_core.proofs.Placed.{follows_there, runs_there, scope_is}

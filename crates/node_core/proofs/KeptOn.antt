@@ -1,18 +1,10 @@
 -- The kept links after an entry: which of them stay, and how one of them or each is changed.
-use Rattle.std.specs.Prelude.{◌≡◌, ℕ, zero, suc, ◌<◌, nat_eq, nat_lt, Bool, true, false, cond, List, [], ◌∷◌, map, length, Some, position}
-use Rattle.std.proofs.Common.{refl, ap, ◌∙◌, sym, subst, arith, get_or, set}
-use Rattle.std.proofs.lemmas.Bool.{eqb-true, ltb-true}
-use Rattle.std.proofs.lemmas.List.Quantifiers.{position-Some}
-use Rattle.std.specs.List.{filter, list_all, AllByRecursion}
-use Rattle.std.specs.Option.{option_map_or}
-use Rattle.policy_audit.specs.History.{History}
-use Rattle.policy_audit.specs.Sides.{challenge_in}
-use Rattle.policy_audit.specs.Links.{is_open}
+use Rattle.node_core.proofs.Words.{Bool, List, Some, ap, arith, cond, false, get_or, length, map, nat_eq, nat_lt, position, refl, set}
+use Rattle.node_core.proofs.Words.{subst, suc, sym, true, zero, ℕ, [], ◌<◌, ◌∙◌, ◌∷◌, ◌≡◌, AllByRecursion, filter, list_all, option_map_or}
+use Rattle.node_core.proofs.Words.{eqb-true, ltb-true, position-Some, and_left, and_right, History, is_open, challenge_in, IsLinkOf}
+use Rattle.node_core.proofs.Words.{LinkWords, LinksFollow, facts, KeptLink}
 use Rattle.policy_audit.specs.Effects.{IsSameLink}
 use Rattle.policy_audit.proofs.KeptNumbers.{Climbs}
-use Rattle.policy_audit.proofs.UpLinks.{and_left, and_right}
-use Rattle.node_core.specs.Links.{KeptLink}
-use Rattle.node_core.specs.LinkFacts.{facts, LinkWords, IsLinkOf, LinksFollow}
 
 -- what is said of a link is the same, where its words are
 pub facts_same : (h k : History) → k.opening ≡ h.opening → (l : ℕ) → IsSameLink l h.entries k.entries → is_open l k.entries ≡ is_open l h.entries → facts k l ≡ facts h l

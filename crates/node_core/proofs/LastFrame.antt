@@ -1,39 +1,17 @@
 -- The node after an accepted last frame of a handshake.
-use Rattle.std.specs.Prelude.{◌≡◌, ℕ, ◌<◌, Bool, true, false, cond, List, [], ◌∷◌, ◌++◌, None, map, length}
-use Rattle.std.proofs.Common.{refl, ap, ◌∙◌, sym, subst, get_or, set}
-use Rattle.std.specs.List.{AllZip}
-use Rattle.std.specs.Option.{unwrap_or}
-use Rattle.dist_types.specs.declared.pid.Pid.{Pid}
-use Rattle.dist_types.specs.Listing.{same}
-use Rattle.group_monitors.proofs.Followed.{follows_other}
+use Rattle.node_core.proofs.Words.{Bool, List, None, ap, cond, false, get_or, length, map, refl, set, subst, sym, true, ℕ, [], ◌++◌, ◌<◌}
+use Rattle.node_core.proofs.Words.{◌∙◌, ◌∷◌, ◌≡◌, AllZip, unwrap_or, same, Pid, Linked, count_after_drop, stopped_lists, and_left, heard}
+use Rattle.node_core.proofs.Words.{told, History, is_up, listed, OutFrame, discovers, wide, IsAnswered, IsNext, answer, is_full, with_entry}
+use Rattle.node_core.proofs.Words.{present_link, Change, Entry, Accepted, Reply, follows_other, Follows, Parts, moved_on, older_of}
+use Rattle.node_core.proofs.Words.{without_link, LinksFollow, link_words, KeptLink, narrow_frames, up_peer, ArePartings, IsCutOff}
+use Rattle.node_core.proofs.Words.{scope_words}
 use Rattle.link_frames.specs.declared.message.Message.TheVariants as said
-use Rattle.link_states.specs.States.{Linked}
-use Rattle.policy_audit.specs.declared.change.Change.{Change}
-use Rattle.policy_audit.specs.declared.entry.Entry.{Entry}
-use Rattle.policy_audit.specs.declared.entry.Verdict.TheVariants.{Accepted}
 use Rattle.policy_audit.specs.declared.event.Event.TheVariants as event
-use Rattle.policy_audit.specs.OutFrame.{OutFrame}
-use Rattle.policy_audit.specs.declared.reply.Reply.{Reply}
-use Rattle.policy_audit.specs.History.{History}
-use Rattle.policy_audit.specs.Sides.{present_link}
-use Rattle.policy_audit.specs.Hearing.{heard, told}
-use Rattle.policy_audit.specs.Links.{is_up}
-use Rattle.policy_audit.specs.Listed.{listed}
-use Rattle.policy_audit.specs.Owed.{discovers, wide}
-use Rattle.policy_audit.specs.Policy.{IsAnswered, IsNext, answer, is_full, with_entry}
-use Rattle.policy_audit.proofs.ChangeLemmas.{stopped_lists}
 use Rattle.policy_audit.proofs.HeardNow.{proved_heard}
 use Rattle.policy_audit.proofs.RowsAfter.{up_rows}
-use Rattle.policy_audit.proofs.UpLinks.{and_left}
-use Rattle.scope_core.specs.Calls.{count_after_drop}
 use Rattle.node_core.specs.declared.link_state.LinkState.TheVariants as state
 use Rattle.node_core.specs.declared.running.Running.{Running}
-use Rattle.node_core.specs.Core.{Parts, Follows}
-use Rattle.node_core.specs.Handshakes.{HaveComeUp, moved_on, older_of, without_link}
-use Rattle.node_core.specs.LinkFacts.{link_words, LinksFollow}
-use Rattle.node_core.specs.Links.{KeptLink, narrow_frames, up_peer}
-use Rattle.node_core.specs.Parting.{ArePartings, IsCutOff}
-use Rattle.node_core.specs.ScopeFacts.{scope_words}
+use Rattle.node_core.specs.Handshakes.{HaveComeUp}
 use Rattle.node_core.proofs.CameUp.{but_replaced, came_up_moves, older_present}
 use Rattle.node_core.proofs.Emptied.{IsEmptied, moved_from, older_same}
 use Rattle.node_core.proofs.Entered.{accepted_now, answered_now, made, next_now, sound_now}

@@ -1,36 +1,17 @@
 -- What the last frame of a handshake makes of a node: its link comes up, or ends.
-use Rattle.std.specs.Prelude.{◌≡◌, ℕ, ◌≤◌, nat_eq, Bool, true, false, List, [], Some, is_some, length, map, position}
-use Rattle.std.proofs.Common.{refl, ap, ◌∙◌, sym, subst, set}
-use Rattle.std.specs.List.{AllZip}
-use Rattle.std.specs.Option.{unwrap_or}
+use Rattle.node_core.proofs.Words.{Bool, List, Some, ap, false, is_some, length, map, nat_eq, position, refl, set, subst, sym, true, ℕ, []}
+use Rattle.node_core.proofs.Words.{◌∙◌, ◌≡◌, ◌≤◌, AllZip, unwrap_or, Linked, Pending, count_after_drop, lie, first_broken, frame_checks}
+use Rattle.node_core.proofs.Words.{History, is_open, OutFrame, refusal_owes, wide, IsNext, answer, is_full, with_entry, awaits, is_last}
+use Rattle.node_core.proofs.Words.{Change, Accepted, Refused, Reply, Rule, Follows, Parts, HaveEnded, older_of, Hears, is_handshake}
+use Rattle.node_core.proofs.Words.{IsState, facts, KeptLink, known_peer, narrow_frames, up_peer, ArePartings, IsCutOff}
 use Rattle.link_frames.specs.declared.message.Message.TheVariants as said
-use Rattle.link_states.specs.declared.pending.Pending.{Pending}
-use Rattle.link_states.specs.States.{Linked}
-use Rattle.policy_audit.specs.declared.change.Change.{Change}
-use Rattle.policy_audit.specs.declared.entry.Verdict.TheVariants.{Accepted, Refused}
 use Rattle.policy_audit.specs.declared.event.Event.TheVariants as event
-use Rattle.policy_audit.specs.OutFrame.{OutFrame}
-use Rattle.policy_audit.specs.declared.reply.Reply.{Reply}
 use Rattle.policy_audit.specs.declared.reply.Reply.TheVariants as reply
-use Rattle.policy_audit.specs.declared.rule.Rule.{Rule}
-use Rattle.policy_audit.specs.History.{History}
-use Rattle.policy_audit.specs.Sides.{awaits, is_last}
-use Rattle.policy_audit.specs.Links.{is_open}
-use Rattle.policy_audit.specs.Checks.{first_broken, frame_checks}
-use Rattle.policy_audit.specs.Owed.{refusal_owes, wide}
-use Rattle.policy_audit.specs.Policy.{IsNext, answer, is_full, with_entry}
-use Rattle.policy_audit.proofs.Accepted.{lie}
-use Rattle.scope_core.specs.Calls.{count_after_drop}
 use Rattle.node_core.specs.declared.hearing.Heard.TheVariants as heard
 use Rattle.node_core.specs.declared.link_state.LinkState.{LinkState}
 use Rattle.node_core.specs.declared.link_state.LinkState.TheVariants as state
 use Rattle.node_core.specs.declared.running.Running.{Running}
-use Rattle.node_core.specs.Core.{Parts, Follows}
-use Rattle.node_core.specs.Handshakes.{HaveComeUp, HaveEnded, older_of}
-use Rattle.node_core.specs.Hearing.{Hears, is_handshake}
-use Rattle.node_core.specs.LinkFacts.{facts, IsState}
-use Rattle.node_core.specs.Links.{KeptLink, known_peer, narrow_frames, up_peer}
-use Rattle.node_core.specs.Parting.{ArePartings, IsCutOff}
+use Rattle.node_core.specs.Handshakes.{HaveComeUp}
 use Rattle.node_core.proofs.Entered.{made}
 use Rattle.node_core.proofs.Found.{some_is}
 use Rattle.node_core.proofs.FrameRefused.{refused_follows, refused_next}

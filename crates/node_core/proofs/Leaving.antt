@@ -1,43 +1,23 @@
 -- Own processes that leave groups.
-use Rattle.std.specs.Prelude.{◌≡◌, ℕ, ◌-◌, ◌==◌, nat_lt, min, Bool, true, false, cond, ◌||◌, not, List, [], ◌∷◌, ◌++◌, Option, Some, None, map, position, All}
-use Rattle.std.proofs.Common.{refl, ap, ◌∙◌, sym, subst, get_or, set}
-use Rattle.std.specs.List.{list_all, list_any}
-use Rattle.dist_types.specs.declared.pid.Pid.{Pid}
-use Rattle.dist_types.specs.Listing.{listing, mentions, same}
-use Rattle.dist_types.specs.Order.{pid_cmp}
-use Rattle.dist_types.proofs.Orders.{same_decides}
-use Rattle.link_frames.specs.declared.message.Message.{Message}
+use Rattle.node_core.proofs.Words.{All, Bool, List, None, Option, Some, ap, cond, false, get_or, map, nat_lt, not, position, refl, set}
+use Rattle.node_core.proofs.Words.{subst, sym, true, ℕ, [], ◌++◌, ◌-◌, ◌==◌, ◌||◌, ◌∙◌, ◌∷◌, ◌≡◌, list_all, list_any, same_decides, listing}
+use Rattle.node_core.proofs.Words.{mentions, same, pid_cmp, Pid, Message, count_of, local_count, told_numbers, and_left, and_right, checks}
+use Rattle.node_core.proofs.Words.{first_broken, row, History, creation, listed, waiting, wide, is_local, is_running, IsAnswered, IsNext}
+use Rattle.node_core.proofs.Words.{is_full, with_entry, Change, Entry, Accepted, Rule, follows_other, IsCalmFault, Follows, Parts}
+use Rattle.node_core.proofs.Words.{link_words, KeptLink, IsMoved, IsRunningOf, scope_words, if_among, said_to}
+use Rattle.std.proofs.Common.{min}
 use Rattle.link_frames.specs.declared.message.Message.TheVariants as said
-use Rattle.scope_core.specs.Table.{count_of, local_count}
 use Rattle.scope_core.specs.Calls.{count_after_leave, is_any_joined}
-use Rattle.group_monitors.proofs.Followed.{follows_other}
-use Rattle.policy_audit.specs.declared.change.Change.{Change}
-use Rattle.policy_audit.specs.declared.entry.Entry.{Entry}
-use Rattle.policy_audit.specs.declared.entry.Verdict.TheVariants.{Accepted}
 use Rattle.policy_audit.specs.declared.event.Event.TheVariants as event
 use Rattle.policy_audit.specs.declared.reply.Reply.TheVariants as reply
-use Rattle.policy_audit.specs.declared.rule.Rule.{Rule}
 use Rattle.policy_audit.specs.declared.rule.Rule.TheVariants as rule
-use Rattle.policy_audit.specs.History.{History, creation}
-use Rattle.policy_audit.specs.Own.{is_local, is_running, own}
-use Rattle.policy_audit.specs.Checks.{checks, first_broken}
-use Rattle.policy_audit.specs.Contents.{row}
-use Rattle.policy_audit.specs.Listed.{listed}
-use Rattle.policy_audit.specs.Owed.{wide, waiting}
-use Rattle.policy_audit.specs.Policy.{is_full, IsAnswered, IsNext, with_entry}
+use Rattle.policy_audit.specs.Own.{own}
 use Rattle.policy_audit.proofs.RowsAfter.{left_rows}
-use Rattle.policy_audit.proofs.ScopeFrames.{left_links, told_numbers}
-use Rattle.policy_audit.proofs.UpLinks.{and_left, and_right}
+use Rattle.policy_audit.proofs.ScopeFrames.{left_links}
 use Rattle.node_core.specs.declared.running.Running.{Running}
-use Rattle.node_core.specs.Links.{KeptLink}
-use Rattle.node_core.specs.LinkFacts.{link_words}
-use Rattle.node_core.specs.ScopeFacts.{scope_words, IsRunningOf}
-use Rattle.node_core.specs.Core.{Parts, Follows}
 use Rattle.node_core.specs.declared.fault.CoreFault.{CoreFault}
 use Rattle.node_core.specs.declared.fault.CoreFault.TheVariants as faults
-use Rattle.node_core.specs.Calm.{IsCalmFault}
-use Rattle.node_core.specs.Moving.{IsMoved, IsLeaveRefusal}
-use Rattle.node_core.specs.Telling.{if_among, said_to}
+use Rattle.node_core.specs.Moving.{IsLeaveRefusal}
 use Rattle.node_core.proofs.Entered.{made, accepted_now, answered_now, next_now, sound_now}
 use Rattle.node_core.proofs.Placed.{follows_there, runs_there, scope_is}
 use Rattle.node_core.proofs.Scopes.{own_counts}

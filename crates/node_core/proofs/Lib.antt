@@ -1,3 +1,4 @@
+pub mod Words
 pub mod Entered
 pub mod Begun
 pub mod Calm

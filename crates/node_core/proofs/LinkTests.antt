@@ -1,30 +1,21 @@
 -- Which peers are up and which are dialled, by the states of the kept links.
-use Rattle.std.specs.Prelude.{◌≡◌, ℕ, ◌==◌, Bool, true, false, cond, ◌&&◌, ◌||◌, not, List, [], ◌∷◌, Option, Some, None, length, nat_lt}
-use Rattle.std.proofs.Common.{refl, ap, ◌∙◌, sym, arith}
-use Rattle.std.proofs.lemmas.Bool.{eqb-true}
-use Rattle.std.specs.List.{list_any, AllByRecursion}
-use Rattle.std.specs.Option.{option_map_or}
-use Rattle.dist_types.specs.Listing.{same, is_among}
-use Rattle.dist_types.specs.Difference.{is_empty}
-use Rattle.dist_types.proofs.Orders.{same_decides}
-use Rattle.admission_rules.specs.Admission.{AdmissionRules}
+use Rattle.node_core.proofs.Words.{Bool, List, None, Option, Some, ap, arith, cond, false, length, nat_lt, not, refl, sym, true, ℕ, []}
+use Rattle.node_core.proofs.Words.{◌&&◌, ◌==◌, ◌||◌, ◌∙◌, ◌∷◌, ◌≡◌, AllByRecursion, list_any, option_map_or, eqb-true, same_decides}
+use Rattle.node_core.proofs.Words.{is_empty, is_among, same, AdmissionRules, lie, and_false, allow_list, dial_checks, first_broken, History}
+use Rattle.node_core.proofs.Words.{is_dialling, is_open, is_unfinished_dial, is_up, IsLegal, awaits, is_name_up, is_peer, is_whole, peer_of}
+use Rattle.node_core.proofs.Words.{AdmissionFollows, admission_words, IsLinkOf, IsState, LinksFollow, facts, link_words, KeptLink}
+use Rattle.node_core.proofs.Words.{dialled_peer, up_peer}
 use Rattle.link_states.specs.Checks.{allows}
-use Rattle.policy_audit.specs.History.{History}
-use Rattle.policy_audit.specs.Admission.{allowed, allow_list}
-use Rattle.policy_audit.specs.Sides.{awaits, is_peer, is_name_up, is_whole, opened, peer_of}
-use Rattle.policy_audit.specs.Links.{is_open, is_up, is_dial_to, is_dialling, is_unfinished_dial}
+use Rattle.policy_audit.specs.Admission.{allowed}
+use Rattle.policy_audit.specs.Sides.{opened}
+use Rattle.policy_audit.specs.Links.{is_dial_to}
 use Rattle.policy_audit.specs.declared.rule.Rule.TheVariants as rule
-use Rattle.policy_audit.specs.Checks.{dial_checks, first_broken, kept_links}
-use Rattle.policy_audit.specs.Policy.{IsLegal}
-use Rattle.policy_audit.proofs.Accepted.{lie}
-use Rattle.policy_audit.proofs.UpLinks.{and_false}
+use Rattle.policy_audit.specs.Checks.{kept_links}
 use Rattle.policy_audit.proofs.KeptNumbers.{name_up_kept, dialling_kept}
 use Rattle.policy_audit.proofs.Onward.{is_acceptors, is_diallers, by_peer, by_dial}
 use Rattle.node_core.specs.declared.link_state.LinkState.{LinkState}
 use Rattle.node_core.specs.declared.link_state.LinkState.TheVariants as state
-use Rattle.node_core.specs.Links.{KeptLink, up_peer, dialled_peer}
-use Rattle.node_core.specs.LinkFacts.{facts, link_words, Awaits, IsState, IsLinkOf, LinksFollow}
-use Rattle.node_core.specs.AdmissionFacts.{admission_words, AdmissionFollows}
+use Rattle.node_core.specs.LinkFacts.{Awaits}
 use Rattle.node_core.proofs.Found.{any_map}
 use Rattle.node_core.proofs.Once.{same_names}
 

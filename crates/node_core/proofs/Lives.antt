@@ -1,22 +1,12 @@
 -- The processes of a node after those that were spawned.
-use Rattle.std.specs.Prelude.{◌≡◌, ℕ, ◌+◌, ◌<◌, nat_eq, nat_le, nat_lt, Bool, true, false, cond, List, [], length}
-use Rattle.std.proofs.Common.{refl, ap, ◌∙◌, sym, arith}
-use Rattle.std.proofs.lemmas.Bool.{le-leb, leb-true, lt-ltb, ltb-true, ltb-false}
+use Rattle.node_core.proofs.Words.{Bool, List, ap, arith, cond, false, length, nat_eq, nat_le, nat_lt, refl, sym, true, ℕ, [], ◌+◌, ◌<◌}
+use Rattle.node_core.proofs.Words.{◌∙◌, ◌≡◌, le-leb, leb-true, lt-ltb, ltb-true, lie, and_left, and_right, History, creation, lives}
+use Rattle.node_core.proofs.Words.{IsLegal, IsNext, answer, Accepted, Reply, ProcessesFollow, process_words, Spawned, is_number}
+use Rattle.std.proofs.lemmas.Bool.{ltb-false}
 use Rattle.policy_audit.specs.declared.event.Event.TheVariants as event
-use Rattle.policy_audit.specs.declared.reply.Reply.{Reply}
-use Rattle.policy_audit.specs.declared.entry.Verdict.TheVariants.{Accepted}
-use Rattle.policy_audit.specs.History.{History}
-use Rattle.policy_audit.specs.Own.{spawned, living, lives}
-use Rattle.policy_audit.specs.History.{creation}
+use Rattle.policy_audit.specs.Own.{spawned, living}
 use Rattle.policy_audit.specs.declared.reply.Reply.TheVariants as reply
-use Rattle.policy_audit.specs.Policy.{answer}
-use Rattle.policy_audit.specs.Policy.{IsLegal, IsNext}
-use Rattle.policy_audit.proofs.Accepted.{lie}
-use Rattle.policy_audit.proofs.UpLinks.{and_left, and_right}
 use Rattle.policy_audit.proofs.LivesNow.{own_pid, lives_spawned}
-use Rattle.node_core.specs.Processes.{Spawned}
-use Rattle.node_core.specs.ProcessFacts.{process_words, ProcessesFollow}
-use Rattle.node_core.specs.ScopeFacts.{is_number}
 use Rattle.node_core.proofs.Entered.{made}
 use Rattle.node_core.proofs.Calm.{answered}
 

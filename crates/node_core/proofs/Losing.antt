@@ -1,40 +1,24 @@
 -- Links that are lost or given up.
-use Rattle.std.specs.Prelude.{◌≡◌, ℕ, ◌<◌, nat_eq, true, false, cond, ◌&&◌, not, List, Option, Some, None, length, position, is_some}
-use Rattle.std.proofs.Common.{refl, ap, ◌∙◌, sym, subst, get_or}
-use Rattle.std.proofs.lemmas.List.Quantifiers.{position-Some}
-use Rattle.std.specs.List.{filter}
-use Rattle.std.specs.Option.{option_map_or}
-use Rattle.dist_types.specs.Listing.{same}
-use Rattle.dist_types.proofs.Orders.{same_decides}
-use Rattle.policy_audit.specs.declared.change.Change.{Change}
+use Rattle.node_core.proofs.Words.{List, None, Option, Some, ap, cond, false, get_or, is_some, length, nat_eq, not, position, refl, subst}
+use Rattle.node_core.proofs.Words.{sym, true, ℕ, ◌&&◌, ◌<◌, ◌∙◌, ◌≡◌, filter, option_map_or, position-Some, same_decides, same, lie}
+use Rattle.node_core.proofs.Words.{no_value, and_both, and_false, History, is_open, is_up, IsAnswered, IsNext, is_full, with_entry}
+use Rattle.node_core.proofs.Words.{is_name_up, is_whole, peer_of, present_link, Change, Entry, Accepted, follows_other, Follows, Parts}
+use Rattle.node_core.proofs.Words.{AreCut, AreLost, IsLinkOf, IsState, LinksFollow, facts, link_words, KeptLink, up_peer}
 use Rattle.policy_audit.specs.declared.event.Event.TheVariants as event
 use Rattle.policy_audit.specs.declared.reply.Reply.TheVariants as reply
 use Rattle.policy_audit.specs.declared.rule.Rule.TheVariants as rule
-use Rattle.policy_audit.specs.declared.entry.Entry.{Entry}
-use Rattle.policy_audit.specs.declared.entry.Verdict.TheVariants.{Accepted}
-use Rattle.policy_audit.specs.History.{History}
-use Rattle.policy_audit.specs.Sides.{is_name_up, is_whole, peer_of, present_link}
-use Rattle.policy_audit.specs.Links.{is_open, is_up}
-use Rattle.policy_audit.specs.Policy.{IsAnswered, IsNext, is_full, with_entry}
-use Rattle.policy_audit.proofs.Accepted.{lie, no_value}
-use Rattle.policy_audit.proofs.UpLinks.{agrees, and_both, and_false}
+use Rattle.policy_audit.proofs.UpLinks.{agrees}
 use Rattle.policy_audit.proofs.LinkFrames.{lost_links, disconnected_links}
 use Rattle.policy_audit.proofs.LinksLeft.{facts_left, lost_numbers, disconnected_numbers}
 use Rattle.policy_audit.proofs.HeardNow.{lost_heard, disconnected_heard}
 use Rattle.policy_audit.proofs.RowsAfter.{lost_rows, lost_other, disconnected_rows}
-use Rattle.group_monitors.proofs.Followed.{follows_other}
 use Rattle.node_core.specs.declared.link_state.LinkState.{LinkState}
 use Rattle.node_core.specs.declared.link_state.LinkState.TheVariants as state
 use Rattle.node_core.specs.declared.running.Running.{Running}
-use Rattle.node_core.specs.Links.{KeptLink, up_peer}
-use Rattle.node_core.specs.LinkFacts.{facts, link_words, IsState, IsLinkOf, LinksFollow}
-use Rattle.node_core.specs.Gone.{AreLost, AreCut}
-use Rattle.node_core.specs.Core.{Parts, Follows}
 use Rattle.node_core.proofs.Entered.{made, accepted_now, answered_now, next_now, sound_now}
 use Rattle.node_core.proofs.Gone.{IsGone, RowsGone, gone_links, gone_change, gone_scopes}
-use Rattle.node_core.proofs.Found.{some_is}
+use Rattle.node_core.proofs.Found.{some_is, place_found}
 use Rattle.node_core.proofs.KeptOn.{each_at}
-use Rattle.node_core.proofs.Found.{place_found}
 use Rattle.node_core.proofs.LinkTests.{up_is}
 use Rattle.node_core.proofs.Places.{is_kept_at, link_at}
 

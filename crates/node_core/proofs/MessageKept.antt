@@ -1,40 +1,21 @@
 -- What a node keeps after a message that is accepted.
-use Rattle.std.specs.Prelude.{◌≡◌, ℕ, nat_eq, ◌<◌, Bool, true, false, cond, ◌==◌, List, [], ◌++◌, length, position, Some, None}
-use Rattle.std.proofs.Common.{refl, ap, ◌∙◌, sym, subst, get_or, set}
-use Rattle.std.proofs.lemmas.Bool.{eqb-true, eq-eqb}
-use Rattle.std.proofs.lemmas.List.{append-nil}
-use Rattle.std.specs.Option.{option_map_or}
-use Rattle.dist_types.specs.declared.pid.Pid.{Pid}
-use Rattle.dist_types.specs.Listing.{same}
-use Rattle.link_frames.specs.declared.message.Message.{Message}
+use Rattle.node_core.proofs.Words.{Bool, List, None, Some, ap, cond, false, get_or, length, nat_eq, position, refl, set, subst, sym, true}
+use Rattle.node_core.proofs.Words.{ℕ, [], ◌++◌, ◌<◌, ◌==◌, ◌∙◌, ◌≡◌, option_map_or, eq-eqb, eqb-true, append-nil, same, Pid, Message}
+use Rattle.node_core.proofs.Words.{kept_climbs, running_rises, and_left, and_right, flip, IsChange, always, checks, first_broken}
+use Rattle.node_core.proofs.Words.{frame_checks, message_checks, heard, message_taken, told, History, is_open, is_up, links, named_by}
+use Rattle.node_core.proofs.Words.{listed, frame_owes, waiting, IsAnswered, IsLegal, IsNext, is_full, up_answer, verdict, with_entry}
+use Rattle.node_core.proofs.Words.{AwaitMessage, awaits, challenge_in, is_last, is_whole, Change, Entry, Accepted, follows_other, Follows}
+use Rattle.node_core.proofs.Words.{Parts, IsState, LinksFollow, facts, kept_numbers, link_words, KeptLink, IsRunningOf, ScopesFollow}
+use Rattle.node_core.proofs.Words.{scope_words}
 use Rattle.policy_audit.specs.declared.event.Event.TheVariants as event
 use Rattle.policy_audit.specs.declared.reply.Reply.TheVariants as reply
 use Rattle.policy_audit.specs.declared.rule.Rule.TheVariants as rule
-use Rattle.policy_audit.specs.declared.change.Change.{Change}
-use Rattle.policy_audit.specs.declared.entry.Entry.{Entry}
-use Rattle.policy_audit.specs.declared.entry.Verdict.TheVariants.{Accepted}
-use Rattle.policy_audit.specs.History.{History}
-use Rattle.policy_audit.specs.Sides.{AwaitMessage, awaits, is_whole, is_last, challenge_in}
-use Rattle.policy_audit.specs.Links.{is_open, is_up, links, named_by}
-use Rattle.policy_audit.specs.Hearing.{message_taken, heard, told}
-use Rattle.policy_audit.specs.Listed.{listed}
-use Rattle.policy_audit.specs.Checks.{checks, first_broken, frame_checks, message_checks, always}
-use Rattle.policy_audit.specs.Owed.{waiting, message_owes, frame_owes}
-use Rattle.policy_audit.specs.Changes.{IsChange}
-use Rattle.policy_audit.specs.Policy.{is_full, with_entry, up_answer, verdict, IsAnswered, IsNext, IsLegal}
-use Rattle.policy_audit.proofs.UpLinks.{and_left, and_right, flip}
+use Rattle.policy_audit.specs.Owed.{message_owes}
 use Rattle.policy_audit.proofs.Effects.{entry_link}
 use Rattle.policy_audit.proofs.Onward.{message_taken_on}
 use Rattle.policy_audit.proofs.LinkFrames.{message_links}
 use Rattle.policy_audit.proofs.LinksLeft.{framed_numbers}
-use Rattle.policy_audit.proofs.KeptNumbers.{kept_climbs}
-use Rattle.policy_audit.proofs.ScopesNow.{running_rises}
-use Rattle.group_monitors.proofs.Followed.{follows_other}
 use Rattle.node_core.specs.declared.running.Running.{Running}
-use Rattle.node_core.specs.Links.{KeptLink}
-use Rattle.node_core.specs.LinkFacts.{facts, IsState, kept_numbers, link_words, LinksFollow}
-use Rattle.node_core.specs.ScopeFacts.{scope_words, IsRunningOf, ScopesFollow}
-use Rattle.node_core.specs.Core.{Parts, Follows}
 use Rattle.node_core.proofs.Entered.{made, accepted_now, answered_now, next_now, sound_now}
 use Rattle.node_core.proofs.Calm.{same_links}
 use Rattle.node_core.proofs.KeptOn.{facts_same, one_follows, place_is}

@@ -1,26 +1,12 @@
 -- Where the link and the scope of a message are kept.
-use Rattle.std.specs.Prelude.{◌≡◌, ℕ, ◌<◌, nat_eq, true, false, cond, ◌||◌, not, List, length, Some, None, position}
-use Rattle.std.proofs.Common.{refl, ap, ◌∙◌, sym, subst, get_or}
-use Rattle.std.proofs.lemmas.List.{get_or_default}
-use Rattle.std.proofs.lemmas.List.Quantifiers.{position-Some}
-use Rattle.dist_types.specs.Listing.{same}
-use Rattle.dist_types.proofs.Orders.{same_decides}
-use Rattle.link_states.specs.States.{Linked}
-use Rattle.policy_audit.specs.History.{History}
-use Rattle.policy_audit.specs.Own.{is_running}
-use Rattle.policy_audit.specs.Sides.{AwaitMessage, awaits, is_whole}
-use Rattle.policy_audit.specs.Links.{is_open, is_up}
-use Rattle.policy_audit.specs.Owed.{is_kept, waiting}
-use Rattle.policy_audit.specs.Policy.{IsLegal}
-use Rattle.dist_types.specs.Difference.{is_empty}
-use Rattle.policy_audit.proofs.Accepted.{lie}
-use Rattle.policy_audit.proofs.UpLinks.{and_left, and_right}
+use Rattle.node_core.proofs.Words.{List, None, Some, ap, cond, false, get_or, length, nat_eq, not, position, refl, subst, sym, true, ℕ, ◌<◌}
+use Rattle.node_core.proofs.Words.{◌||◌, ◌∙◌, ◌≡◌, get_or_default, position-Some, same_decides, is_empty, same, Linked, lie, and_left}
+use Rattle.node_core.proofs.Words.{and_right, History, is_open, is_up, is_kept, waiting, is_running, IsLegal, AwaitMessage, awaits}
+use Rattle.node_core.proofs.Words.{is_whole, IsIntroduced, IsLinkOf, IsState, LinkFacts, LinksFollow, facts, link_words, KeptLink}
+use Rattle.node_core.proofs.Words.{IsRunningOf, ScopesFollow, scope_words}
 use Rattle.node_core.specs.declared.running.Running.{Running}
 use Rattle.node_core.specs.declared.link_state.LinkState.{LinkState}
 use Rattle.node_core.specs.declared.link_state.LinkState.TheVariants as state
-use Rattle.node_core.specs.Links.{KeptLink}
-use Rattle.node_core.specs.LinkFacts.{LinkFacts, facts, IsIntroduced, IsState, link_words, IsLinkOf, LinksFollow}
-use Rattle.node_core.specs.ScopeFacts.{scope_words, IsRunningOf, ScopesFollow}
 use Rattle.node_core.proofs.Found.{no_place, some_place, place_within}
 use Rattle.node_core.proofs.Scopes.{runs_is}
 use Rattle.node_core.proofs.KeptOn.{each_at}

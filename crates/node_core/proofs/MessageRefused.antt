@@ -1,46 +1,32 @@
 -- The rules that a message breaks, by what a node keeps of its link and of its scope.
-use Rattle.std.specs.Prelude.{◌≡◌, ℕ, ◌+◌, ◌≤◌, ◌<◌, nat_le, Bool, true, false, cond, ◌&&◌, ◌||◌, ◌==◌, not, List, [], ◌∷◌, ◌++◌, length, Some, None, All}
-use Rattle.std.proofs.Common.{refl, ap, ◌∙◌, sym, subst, arith}
-use Rattle.std.proofs.lemmas.Bool.{le-leb, leb-true}
+use Rattle.node_core.proofs.Words.{All, Bool, List, None, Some, ap, arith, cond, false, length, nat_le, not, refl, subst, sym, true, ℕ, []}
+use Rattle.node_core.proofs.Words.{◌&&◌, ◌++◌, ◌+◌, ◌<◌, ◌==◌, ◌||◌, ◌∙◌, ◌∷◌, ◌≡◌, ◌≤◌, AllByRecursion, filter, flat_map, list_all}
+use Rattle.node_core.proofs.Words.{option_map_or, le-leb, leb-true, same_decides, same_sym, is_empty, has_bit, IsPidListing, same, Pid, Row}
+use Rattle.node_core.proofs.Words.{Name, Message, all_hold, no_value, unbroken, and_left, and_right, flip, always, checks, first_broken}
+use Rattle.node_core.proofs.Words.{message_checks, heard, message_taken, History, is_open, is_up, listed, refusal_owes, is_running}
+use Rattle.node_core.proofs.Words.{AwaitMessage, awaits, is_whole, peer_of, Rule, IsCalmFault, refuses_calmly, facts, KeptLink, up_peer}
+use Rattle.node_core.proofs.Words.{IsRunningOf, is_number, scope_words}
 use Rattle.std.proofs.lemmas.List.Elements.{All-from_recursion}
-use Rattle.std.specs.List.{list_all, flat_map, filter, AllByRecursion}
-use Rattle.std.specs.Option.{option_map_or}
-use Rattle.dist_types.specs.declared.pid.Pid.{Pid}
-use Rattle.dist_types.specs.declared.row.Row.{Row}
-use Rattle.dist_types.specs.Flags.{has_bit}
-use Rattle.dist_types.specs.Listing.{same, IsPidListing, IsGroupListing}
-use Rattle.dist_types.specs.Difference.{is_empty}
-use Rattle.dist_types.proofs.Orders.{same_decides, same_sym}
+use Rattle.dist_types.specs.Listing.{IsGroupListing}
 use Rattle.scope_core.specs.Table.{node_total, max_rows}
 use Rattle.scope_core.specs.Calls.{are_counted}
 use Rattle.scope_core.proofs.Members.{length-members}
-use Rattle.handshake_frames.specs.Frame.{Name}
-use Rattle.link_frames.specs.declared.message.Message.{Message}
 use Rattle.link_frames.specs.declared.message.Message.TheVariants as said
 use Rattle.policy_audit.specs.declared.event.Event.TheVariants as event
-use Rattle.policy_audit.specs.declared.rule.Rule.{Rule}
 use Rattle.policy_audit.specs.declared.rule.Rule.TheVariants as rule
-use Rattle.policy_audit.specs.History.{History}
-use Rattle.policy_audit.specs.Own.{is_running}
-use Rattle.policy_audit.specs.Sides.{AwaitMessage, awaits, peer_of, is_visible, is_whole}
-use Rattle.policy_audit.specs.Links.{is_open, is_up}
-use Rattle.policy_audit.specs.Hearing.{message_taken, heard, rows_of}
-use Rattle.policy_audit.specs.Listed.{listed, is_from}
+use Rattle.policy_audit.specs.Sides.{is_visible}
+use Rattle.policy_audit.specs.Hearing.{rows_of}
+use Rattle.policy_audit.specs.Listed.{is_from}
 use Rattle.policy_audit.specs.Contents.{members, groups}
-use Rattle.policy_audit.specs.Checks.{Check, checks, are_from, hears_in, runs, first_broken, message_checks, always, unless, peer_rows, are_listed}
-use Rattle.policy_audit.specs.Owed.{refusal_owes}
-use Rattle.policy_audit.proofs.Accepted.{no_value, unbroken, all_hold}
-use Rattle.policy_audit.proofs.UpLinks.{and_left, and_right, flip}
+use Rattle.policy_audit.specs.Checks.{Check, are_from, hears_in, runs, unless, peer_rows, are_listed}
 use Rattle.policy_audit.proofs.Onward.{whole_is_message}
 use Rattle.node_core.specs.declared.fault.CoreFault.{CoreFault}
 use Rattle.node_core.specs.declared.fault.CoreFault.TheVariants as faults
 use Rattle.node_core.specs.declared.running.Running.{Running}
-use Rattle.node_core.specs.Links.{KeptLink, up_peer, is_shown, are_of_peer}
-use Rattle.node_core.specs.LinkFacts.{facts, IsGiven}
+use Rattle.node_core.specs.Links.{is_shown, are_of_peer}
+use Rattle.node_core.specs.LinkFacts.{IsGiven}
 use Rattle.node_core.specs.Messages.{scope_in, refusal}
 use Rattle.node_core.specs.MessageRules.{early_checks, IsAddRefusal, IsTakeRefusal}
-use Rattle.node_core.specs.ScopeFacts.{is_number, scope_words, IsRunningOf}
-use Rattle.node_core.specs.Calm.{refuses_calmly, IsCalmFault}
 use Rattle.node_core.proofs.Found.{some_is}
 use Rattle.node_core.proofs.Scopes.{counts_listed, members_listing, groups_listing}
 use Rattle.node_core.proofs.MessagePlaces.{IsUpHere}

@@ -1,30 +1,17 @@
 -- Room that is made for a message, and the answer to a Discover.
-use Rattle.std.specs.Prelude.{◌≡◌, ℕ, ◌<◌, nat_eq, cond, List, [], ◌∷◌, ◌++◌, length, position, Some, None, false, true}
-use Rattle.std.proofs.Common.{refl, ap, ◌∙◌, sym, subst, get_or, set}
-use Rattle.std.proofs.lemmas.List.{get_or-set_same, set-set}
-use Rattle.dist_types.specs.Listing.{IsRowListing}
-use Rattle.scope_core.specs.Table.{count_of}
+use Rattle.node_core.proofs.Words.{List, None, Some, ap, cond, false, get_or, length, nat_eq, position, refl, set, subst, sym, true, ℕ, []}
+use Rattle.node_core.proofs.Words.{◌++◌, ◌<◌, ◌∙◌, ◌∷◌, ◌≡◌, get_or-set_same, set-set, IsRowListing, count_of, kept_climbs, running_rises}
+use Rattle.node_core.proofs.Words.{first_broken, message_checks, local_rows, heard, message_taken, History, is_up, OutFrame, wide, IsLegal}
+use Rattle.node_core.proofs.Words.{is_full, with_entry, Accepted, Follows, Parts, IsLinkOf, LinksFollow, link_words, KeptLink, with_frames}
+use Rattle.node_core.proofs.Words.{with_room, IsRunningOf, ScopesFollow, is_number, scope_words}
 use Rattle.link_frames.specs.declared.message.Message.TheVariants as said
 use Rattle.policy_audit.specs.declared.event.Event.TheVariants as event
 use Rattle.policy_audit.specs.declared.reply.Reply.TheVariants as reply
-use Rattle.policy_audit.specs.declared.entry.Verdict.TheVariants.{Accepted}
-use Rattle.policy_audit.specs.OutFrame.{OutFrame}
-use Rattle.policy_audit.specs.History.{History}
-use Rattle.policy_audit.specs.Links.{is_up}
-use Rattle.policy_audit.specs.Hearing.{message_taken, heard}
-use Rattle.policy_audit.specs.Contents.{local_rows}
-use Rattle.policy_audit.specs.Checks.{first_broken, message_checks}
-use Rattle.policy_audit.specs.Owed.{wide, message_owes}
-use Rattle.policy_audit.specs.Policy.{is_full, with_entry, IsLegal}
+use Rattle.policy_audit.specs.Owed.{message_owes}
 use Rattle.policy_audit.proofs.OwnRows.{sync_listing}
-use Rattle.policy_audit.proofs.KeptNumbers.{kept_climbs}
-use Rattle.policy_audit.proofs.ScopesNow.{running_rises}
 use Rattle.node_core.specs.declared.running.Running.{Running}
-use Rattle.node_core.specs.Links.{KeptLink, with_frames, with_room}
-use Rattle.node_core.specs.LinkFacts.{link_words, IsLinkOf, LinksFollow}
-use Rattle.node_core.specs.ScopeFacts.{is_number, with_number, scope_words, IsRunningOf, ScopesFollow}
+use Rattle.node_core.specs.ScopeFacts.{with_number}
 use Rattle.node_core.specs.MessageRules.{HasBecome, AnswersDiscover}
-use Rattle.node_core.specs.Core.{Parts, Follows}
 use Rattle.node_core.proofs.Entered.{made}
 use Rattle.node_core.proofs.KeptOn.{one_follows, place_is}
 use Rattle.node_core.proofs.OneScope.{one_scope_follows}

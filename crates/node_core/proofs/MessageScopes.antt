@@ -1,44 +1,22 @@
 -- What each accepted message makes of its scope and of its link.
-use Rattle.std.specs.Prelude.{◌≡◌, ℕ, nat_eq, ◌+◌, ◌-◌, Bool, true, false, cond, ◌&&◌, ◌||◌, ◌==◌, not, List, [], ◌∷◌, ◌++◌, Some, None}
-use Rattle.std.proofs.Common.{refl, ap, ◌∙◌, sym, subst, get_or, set}
-use Rattle.std.proofs.Math.Bool.{and-true}
-use Rattle.std.proofs.lemmas.Bool.{eqb-true}
+use Rattle.node_core.proofs.Words.{Bool, List, None, Some, ap, cond, false, get_or, nat_eq, not, refl, set, subst, sym, true, ℕ, [], ◌&&◌}
+use Rattle.node_core.proofs.Words.{◌++◌, ◌+◌, ◌-◌, ◌==◌, ◌||◌, ◌∙◌, ◌∷◌, ◌≡◌, and-true, eqb-true, same_decides, same_sym, IsDifference}
+use Rattle.node_core.proofs.Words.{occurrences, same, same_row, GroupChange, Pid, Row, count_after_drop, count_of, no_change, and_false}
+use Rattle.node_core.proofs.Words.{flip, if_some, first_broken, message_checks, row, heard, message_taken, told, History, is_up, listed}
+use Rattle.node_core.proofs.Words.{IsAnswered, IsLegal, IsNext, is_full, with_entry, peer_of, Change, Entry, Accepted, Follows, Parts}
+use Rattle.node_core.proofs.Words.{LinksFollow, link_words, KeptLink, IsCutOff, IsRunningOf, is_number, scope_words}
 use Rattle.std.proofs.lemmas.List.Folds.{list_any-append}
-use Rattle.dist_types.specs.declared.pid.Pid.{Pid}
-use Rattle.dist_types.specs.declared.row.Row.{Row}
-use Rattle.dist_types.specs.declared.change.GroupChange.{GroupChange}
-use Rattle.dist_types.specs.Listing.{same, same_row, occurrences}
-use Rattle.dist_types.specs.Difference.{IsDifference}
-use Rattle.dist_types.proofs.Orders.{same_decides, same_sym}
-use Rattle.scope_core.specs.Table.{count_of}
-use Rattle.scope_core.specs.Calls.{count_after_sync, count_after_add, count_after_take, count_after_drop}
+use Rattle.scope_core.specs.Calls.{count_after_sync, count_after_add, count_after_take}
 use Rattle.link_frames.specs.declared.message.Message.TheVariants as said
 use Rattle.policy_audit.specs.declared.event.Event.TheVariants as event
 use Rattle.policy_audit.specs.declared.reply.Reply.TheVariants as reply
-use Rattle.policy_audit.specs.declared.change.Change.{Change}
-use Rattle.policy_audit.specs.declared.entry.Entry.{Entry}
-use Rattle.policy_audit.specs.declared.entry.Verdict.TheVariants.{Accepted}
-use Rattle.policy_audit.specs.History.{History}
-use Rattle.policy_audit.specs.Links.{is_up}
-use Rattle.policy_audit.specs.Sides.{peer_of}
-use Rattle.policy_audit.specs.Hearing.{message_taken, heard, told}
-use Rattle.policy_audit.specs.Listed.{listed}
-use Rattle.policy_audit.specs.Checks.{first_broken, message_checks}
-use Rattle.policy_audit.specs.Changes.{if_some}
-use Rattle.policy_audit.specs.Policy.{is_full, with_entry, IsAnswered, IsNext, IsLegal}
-use Rattle.policy_audit.proofs.UpLinks.{and_false, flip}
-use Rattle.policy_audit.proofs.ChangeLemmas.{no_change}
-use Rattle.policy_audit.specs.Contents.{row}
 use Rattle.policy_audit.proofs.HeardNow.{IsHeardNow}
 use Rattle.policy_audit.proofs.HeardSaid.{synced_heard, discovered_heard, downed_heard, joined_heard, left_heard}
 use Rattle.policy_audit.proofs.MessageRows.{discovered_rows, synced_rows, added_rows, taken_rows, downed_rows}
 use Rattle.node_core.specs.declared.running.Running.{Running}
-use Rattle.node_core.specs.Links.{KeptLink}
-use Rattle.node_core.specs.LinkFacts.{link_words, LinksFollow}
-use Rattle.node_core.specs.ScopeFacts.{is_number, with_number, scope_words, IsRunningOf}
-use Rattle.node_core.specs.Parting.{without, IsCutOff}
+use Rattle.node_core.specs.ScopeFacts.{with_number}
+use Rattle.node_core.specs.Parting.{without}
 use Rattle.node_core.specs.MessageRules.{HasBecome}
-use Rattle.node_core.specs.Core.{Parts, Follows}
 use Rattle.node_core.proofs.Entered.{made}
 use Rattle.node_core.proofs.MessagePlaces.{IsUpHere, IsScopeHere}
 use Rattle.node_core.proofs.OneScope.{scope_change}

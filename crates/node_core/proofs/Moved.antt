@@ -1,30 +1,14 @@
 -- One scope whose own rows have changed, and the links that are told of it.
-use Rattle.std.specs.Prelude.{◌≡◌, ℕ, Bool, true, false, cond, ◌||◌, not, List, [], ◌∷◌, Some, position}
-use Rattle.std.proofs.Common.{refl, ap, ◌∙◌, sym, subst, get_or, set}
+use Rattle.node_core.proofs.Words.{Bool, List, Some, ap, cond, false, get_or, not, position, refl, set, subst, sym, true, ℕ, [], ◌||◌, ◌∙◌}
+use Rattle.node_core.proofs.Words.{◌∷◌, ◌≡◌, IsDifference, is_empty, same, Pid, Row, Message, count_of, IsChange, if_some, heard, told}
+use Rattle.node_core.proofs.Words.{History, listed, OutFrame, wide, running_scopes, Change, Follows, Parts, KeptLink, IsMoved, IsRunningOf}
+use Rattle.node_core.proofs.Words.{ScopesFollow, is_number, scope_words, Alike, if_among, running_rises}
 use Rattle.std.proofs.lemmas.List.{set-get_or}
-use Rattle.dist_types.specs.declared.pid.Pid.{Pid}
-use Rattle.dist_types.specs.declared.row.Row.{Row}
-use Rattle.dist_types.specs.Difference.{IsDifference, is_empty}
-use Rattle.dist_types.specs.Listing.{same}
-use Rattle.link_frames.specs.declared.message.Message.{Message}
-use Rattle.scope_core.specs.Table.{count_of}
-use Rattle.policy_audit.specs.declared.change.Change.{Change}
-use Rattle.policy_audit.specs.OutFrame.{OutFrame}
-use Rattle.policy_audit.specs.History.{History}
-use Rattle.policy_audit.specs.Own.{running_scopes}
-use Rattle.policy_audit.specs.Changes.{IsChange, if_some}
-use Rattle.policy_audit.specs.Hearing.{heard, told}
-use Rattle.policy_audit.specs.Listed.{listed}
-use Rattle.policy_audit.specs.Owed.{if_told, wide}
+use Rattle.policy_audit.specs.Owed.{if_told}
 use Rattle.node_core.specs.declared.running.Running.{Running}
-use Rattle.node_core.specs.Links.{KeptLink}
-use Rattle.node_core.specs.ScopeFacts.{scope_words, is_number, IsRunningOf, ScopesFollow}
-use Rattle.node_core.specs.Core.{Parts, Follows}
-use Rattle.node_core.specs.Moving.{IsMoved}
-use Rattle.node_core.specs.Telling.{Alike, if_among}
 use Rattle.node_core.proofs.Scopes.{counts_listed}
-use Rattle.node_core.proofs.Placed.{follows_there, one_scope_follows, scope_is}
-use Rattle.node_core.proofs.OneScope.{scope_change}
+use Rattle.node_core.proofs.Placed.{follows_there, scope_is, within}
+use Rattle.node_core.proofs.OneScope.{one_scope_follows, scope_change}
 use Rattle.node_core.proofs.Told.{alike_again}
 
 -- ---- what waits for the links that are told
@@ -78,7 +62,8 @@ module _ (h : History) (seat : ℕ) (parts : Parts) (t : Follows h parts) (s : L
     }
 
     pub moved_scopes : ScopesFollow (scope_words k) (set parts.scopes p b)
-    moved_scopes = one_scope_follows h parts.scopes t.scopes s p here a at (scope_words k) running b moved.scope changed still
+    moved_scopes = one_scope_follows (scope_words h) (scope_words k) s b changed (moved.scope ∙ its_scope) still
+        parts.scopes p a t.scopes (running_rises h) running (within h parts.scopes t.scopes s p here a at) (sym (ap (λ r. r.scope) at) ∙ its_scope)
 
   -- what is told of rows, to links of which as many are told as the policy says
   pub moved_frames : (say : List ℕ → List Row → Message) (brought : List Row) (l : ℕ)

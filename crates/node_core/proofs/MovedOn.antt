@@ -1,18 +1,9 @@
 -- The kept links after an entry by which one moves on, and perhaps another goes.
-use Rattle.std.specs.Prelude.{◌≡◌, ℕ, ◌==◌, ◌<◌, nat_eq, Bool, true, false, cond, ◌||◌, not, List, [], ◌∷◌, ◌++◌, Option, Some, None, map, length}
-use Rattle.std.proofs.Common.{refl, ap, ◌∙◌, sym, subst, get_or, set}
-use Rattle.std.proofs.lemmas.Bool.{eq-eqb}
-use Rattle.std.specs.List.{filter}
-use Rattle.policy_audit.specs.OutFrame.{OutFrame}
-use Rattle.policy_audit.specs.History.{History}
-use Rattle.policy_audit.specs.Owed.{waiting}
-use Rattle.policy_audit.specs.Policy.{IsLegal}
-use Rattle.policy_audit.proofs.KeptNumbers.{kept_climbs}
-use Rattle.policy_audit.proofs.UpLinks.{flip}
+use Rattle.node_core.proofs.Words.{Bool, List, None, Option, Some, ap, cond, false, get_or, length, map, nat_eq, not, refl, set, subst, sym}
+use Rattle.node_core.proofs.Words.{true, ℕ, [], ◌++◌, ◌<◌, ◌==◌, ◌||◌, ◌∙◌, ◌∷◌, ◌≡◌, filter, eq-eqb, kept_climbs, flip, History, OutFrame}
+use Rattle.node_core.proofs.Words.{waiting, IsLegal, moved_on, without_link, IsLinkOf, IsState, LinkWords, LinksFollow, facts, kept_numbers}
+use Rattle.node_core.proofs.Words.{link_words, KeptLink}
 use Rattle.node_core.specs.declared.link_state.LinkState.{LinkState}
-use Rattle.node_core.specs.Links.{KeptLink}
-use Rattle.node_core.specs.LinkFacts.{LinkWords, facts, kept_numbers, link_words, IsState, IsLinkOf, LinksFollow}
-use Rattle.node_core.specs.Handshakes.{moved_on, without_link}
 use Rattle.node_core.proofs.KeptOn.{all_follow, one_follows, each_at}
 
 -- a link stays unless it has this number

@@ -1,13 +1,9 @@
 -- One link at a place that moves on.
-use Rattle.std.specs.Prelude.{◌≡◌, ℕ, ◌<◌, ◌==◌, Bool, true, false, cond, List, [], ◌∷◌, ◌++◌, Option, Some, None, length}
-use Rattle.std.proofs.Common.{refl, ap, ◌∙◌, sym, arith, get_or, set}
-use Rattle.std.proofs.lemmas.Bool.{eqb-true}
-use Rattle.std.proofs.lemmas.List.{get_or_default, get_or-set_same, set-set}
-use Rattle.dist_types.specs.Difference.{is_empty}
-use Rattle.policy_audit.specs.OutFrame.{OutFrame}
+use Rattle.node_core.proofs.Words.{Bool, List, None, Option, Some, ap, arith, cond, false, get_or, length, refl, set, sym, true, ℕ, []}
+use Rattle.node_core.proofs.Words.{◌++◌, ◌<◌, ◌==◌, ◌∙◌, ◌∷◌, ◌≡◌, eqb-true, get_or-set_same, get_or_default, set-set, is_empty, OutFrame}
+use Rattle.node_core.proofs.Words.{moved_on, without_link, KeptLink, with_frames, with_room}
 use Rattle.node_core.specs.declared.link_state.LinkState.{LinkState}
-use Rattle.node_core.specs.Links.{KeptLink, with_frames, with_room}
-use Rattle.node_core.specs.Handshakes.{moved_on, without_link, HaveMoved}
+use Rattle.node_core.specs.Handshakes.{HaveMoved}
 
 -- no element is as many as none
 pub none_is_empty : {A : Type 0} (xs : List A) (b : Bool) → b ≡ (length xs == 0) → is_empty xs ≡ b

@@ -1,41 +1,29 @@
 -- What an accepted Name makes of its link, and of the own dial to that peer.
-use Rattle.std.specs.Prelude.{◌≡◌, ℕ, ◌==◌, nat_eq, Bool, true, false, cond, ◌&&◌, not, if◌then◌else◌, List, [], ◌∷◌, ◌++◌, Option, Some, None}
-use Rattle.std.proofs.Common.{refl, ap, ◌∙◌, sym, subst}
-use Rattle.std.proofs.lemmas.Bool.{eqb-true, eq-eqb}
-use Rattle.std.specs.Option.{option_map, option_map_or}
-use Rattle.dist_types.specs.Listing.{same}
-use Rattle.handshake_frames.specs.Frame.{Name}
+use Rattle.node_core.proofs.Words.{Bool, List, None, Option, Some, ap, cond, false, nat_eq, not, refl, subst, sym, true, ℕ, [], ◌&&◌, ◌++◌}
+use Rattle.node_core.proofs.Words.{◌==◌, ◌∙◌, ◌∷◌, ◌≡◌, option_map, option_map_or, eq-eqb, eqb-true, same, Name, name_frame, AdmissionRules}
+use Rattle.node_core.proofs.Words.{is_dialled, Pending, lie, and_left, and_right, History, is_accepted, is_dialling, is_open}
+use Rattle.node_core.proofs.Words.{is_unfinished_dial, OutFrame, waiting, IsAnswered, IsLegal, with_entry, is_name_up, Entry}
+use Rattle.node_core.proofs.Words.{AdmissionFollows, admission_words, heard_named, IsIntroduced, IsLinkOf, IsState, LinksFollow, facts}
+use Rattle.node_core.proofs.Words.{kept_numbers, link_words, KeptLink, dial_beside, dialled_peer, narrow_frames}
+use Rattle.std.proofs.Common.{if◌then◌else◌}
 use Rattle.handshake_frames.specs.declared.frame.StatusWord.TheVariants as word
-use Rattle.handshake_frames.specs.Reading.{name_frame}
-use Rattle.admission_rules.specs.Admission.{AdmissionRules}
 use Rattle.link_states.specs.declared.await_name.Named.{Named}
 use Rattle.link_states.specs.declared.await_name.Named.TheVariants as named
-use Rattle.link_states.specs.declared.pending.Pending.{Pending}
 use Rattle.link_states.specs.Frames as owes
 use Rattle.link_states.specs.Named as says
 use Rattle.link_states.specs.Peer.{introduced, is_visible}
-use Rattle.link_states.specs.Pending.{is_up, is_dialled}
-use Rattle.policy_audit.specs.declared.entry.Entry.{Entry}
+use Rattle.link_states.specs.Pending.{is_up}
 use Rattle.policy_audit.specs.declared.event.Event.TheVariants as event
-use Rattle.policy_audit.specs.OutFrame.{OutFrame}
-use Rattle.policy_audit.specs.History.{History, is_accepted}
-use Rattle.policy_audit.specs.Sides.{is_name_up, AwaitAnswer, AwaitReply}
-use Rattle.policy_audit.specs.Links.{is_open, is_dialling, is_unfinished_dial}
-use Rattle.policy_audit.specs.Owed.{own_challenge_frame, status_frame, welcome, waiting}
-use Rattle.policy_audit.specs.Policy.{IsAnswered, IsLegal, with_entry}
-use Rattle.policy_audit.proofs.Accepted.{lie}
+use Rattle.policy_audit.specs.Sides.{AwaitAnswer, AwaitReply}
+use Rattle.policy_audit.specs.Owed.{own_challenge_frame, status_frame, welcome}
 use Rattle.policy_audit.proofs.LinkFrames.{named_links, given_up_by}
 use Rattle.policy_audit.proofs.LinksLeft.{named_numbers}
 use Rattle.policy_audit.proofs.Onward.{name_taken}
-use Rattle.policy_audit.proofs.UpLinks.{and_left, and_right}
 use Rattle.node_core.specs.declared.hearing.Heard.{Heard}
 use Rattle.node_core.specs.declared.hearing.Heard.TheVariants as heard
 use Rattle.node_core.specs.declared.link_state.LinkState.{LinkState}
 use Rattle.node_core.specs.declared.link_state.LinkState.TheVariants as state
-use Rattle.node_core.specs.Links.{KeptLink, dialled_peer, dial_to, dial_beside, narrow_frames}
-use Rattle.node_core.specs.Hearing.{heard_named}
-use Rattle.node_core.specs.LinkFacts.{facts, kept_numbers, link_words, IsIntroduced, IsState, IsLinkOf, LinksFollow}
-use Rattle.node_core.specs.AdmissionFacts.{admission_words, AdmissionFollows}
+use Rattle.node_core.specs.Links.{dial_to}
 use Rattle.node_core.proofs.EarlyMoves.{own_challenge_is, visible_is}
 use Rattle.node_core.proofs.FrameFacts.{other_facts, own_awaits, same_challenge, same_stay}
 use Rattle.node_core.proofs.Found.{found_in, none_found}

@@ -1,10 +1,7 @@
 -- Names that are kept once each.
-use Rattle.std.specs.Prelude.{◌≡◌, suc, ◌≤◌, ℕ, ◌+◌, Bool, true, false, cond, ◌||◌, List, [], ◌∷◌, ◌++◌, map, length}
-use Rattle.std.proofs.Common.{refl, ap, ◌∙◌, sym, arith}
-use Rattle.std.specs.List.{list_any}
+use Rattle.node_core.proofs.Words.{Bool, List, ap, arith, cond, false, length, map, refl, suc, sym, true, ℕ, [], ◌++◌, ◌+◌, ◌||◌, ◌∙◌, ◌∷◌}
+use Rattle.node_core.proofs.Words.{◌≡◌, ◌≤◌, list_any, same_decides, same_sym, is_among, occurrences, same}
 use Rattle.std.specs.Str.{bytes_eq}
-use Rattle.dist_types.specs.Listing.{same, is_among, occurrences}
-use Rattle.dist_types.proofs.Orders.{same_decides, same_sym}
 use Rattle.indexmap.specs.IndexMap.{insert_entry}
 use Rattle.indexmap.specs.IndexSet.{insert_all}
 use Rattle.policy_audit.specs.Admission.{different}

@@ -1,28 +1,19 @@
 -- One own dial to a peer is unfinished at a time.
-use Rattle.std.specs.Prelude.{◌≡◌, ℕ, ◌==◌, Bool, true, false, cond, ◌&&◌, ◌||◌, not, List, [], ◌∷◌, ◌++◌, Option, Some, None}
-use Rattle.std.proofs.Common.{refl, ap, ◌∙◌, sym}
-use Rattle.std.proofs.lemmas.Bool.{eqb-true}
-use Rattle.std.specs.Option.{option_map_or}
-use Rattle.dist_types.specs.Listing.{same}
-use Rattle.dist_types.proofs.Orders.{same_decides}
+use Rattle.node_core.proofs.Words.{Bool, List, None, Option, Some, ap, cond, false, not, refl, sym, true, ℕ, [], ◌&&◌, ◌++◌, ◌==◌, ◌||◌}
+use Rattle.node_core.proofs.Words.{◌∙◌, ◌∷◌, ◌≡◌, option_map_or, eqb-true, same_decides, same, all_hold, lie, unbroken, and_left, and_right}
+use Rattle.node_core.proofs.Words.{dial_checks, first_broken, History, past, is_dialling, is_open, is_unfinished_dial, links, IsLegal}
+use Rattle.node_core.proofs.Words.{verdict, is_whole, Entry, Verdict, Accepted, Refused, Event, Reply}
 use Rattle.policy_audit.specs.declared.opening.Opening.{Opening}
-use Rattle.policy_audit.specs.declared.event.Event.{Event}
-use Rattle.policy_audit.specs.declared.reply.Reply.{Reply}
 use Rattle.policy_audit.specs.declared.event.Event.TheVariants as event
-use Rattle.policy_audit.specs.declared.entry.Verdict.{Verdict}
-use Rattle.policy_audit.specs.declared.entry.Verdict.TheVariants.{Accepted, Refused}
-use Rattle.policy_audit.specs.declared.entry.Entry.{Entry}
-use Rattle.policy_audit.specs.History.{History, past}
-use Rattle.policy_audit.specs.Sides.{Start, ByPeer, ByDial, Opened, Taken, and_frame, opened, taken, is_whole}
-use Rattle.policy_audit.specs.Links.{is_open, links, ends, is_dialling, is_dial_to, is_unfinished_dial}
-use Rattle.policy_audit.specs.Checks.{dial_checks, first_broken}
-use Rattle.policy_audit.specs.Policy.{IsLegal, IsLegalIn, verdict}
-use Rattle.policy_audit.proofs.Accepted.{lie, accepted, all_hold, unbroken}
+use Rattle.policy_audit.specs.Sides.{Start, ByPeer, ByDial, Opened, Taken, and_frame, opened, taken}
+use Rattle.policy_audit.specs.Links.{ends, is_dial_to}
+use Rattle.policy_audit.specs.Policy.{IsLegalIn}
+use Rattle.policy_audit.proofs.Accepted.{accepted}
 use Rattle.policy_audit.proofs.Walked.{but, open_opened}
 use Rattle.policy_audit.proofs.Finished.{whole_by, whole_kept}
 use Rattle.policy_audit.proofs.KeptLinks.{opened_linked}
 use Rattle.policy_audit.proofs.KeptNumbers.{some_of}
-use Rattle.policy_audit.proofs.UpLinks.{and_left, and_right, was_before}
+use Rattle.policy_audit.proofs.UpLinks.{was_before}
 
 -- the link is an own dial to n that is unfinished
 abbrev pub dials : List ℕ → List Entry → ℕ → Bool

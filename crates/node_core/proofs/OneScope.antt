@@ -1,21 +1,10 @@
 -- One of the running scopes changes.
-use Rattle.std.specs.Prelude.{◌≡◌, ℕ, zero, suc, ◌<◌, Bool, true, false, ◌||◌, not, List, [], ◌∷◌, map, length}
-use Rattle.std.proofs.Common.{refl, ap, ◌∙◌, sym, subst, arith, get_or, set}
-use Rattle.std.specs.List.{AllByRecursion, filter}
-use Rattle.std.specs.declared.cmp.Ordering.TheVariants.{Less}
-use Rattle.dist_types.specs.declared.pid.Pid.{Pid}
-use Rattle.dist_types.specs.declared.change.GroupChange.{GroupChange}
-use Rattle.dist_types.specs.Difference.{IsDifference, is_empty}
-use Rattle.dist_types.specs.Order.{text_cmp}
-use Rattle.dist_types.specs.Listing.{same, Rises}
-use Rattle.dist_types.proofs.Orders.{same_sym}
-use Rattle.policy_audit.specs.History.{History}
-use Rattle.policy_audit.specs.Changes.{IsChange, if_some}
-use Rattle.policy_audit.specs.Listed.{listed}
+use Rattle.node_core.proofs.Words.{Bool, List, ap, arith, false, get_or, length, map, not, refl, set, subst, suc, sym, true, zero, ℕ, []}
+use Rattle.node_core.proofs.Words.{◌<◌, ◌||◌, ◌∙◌, ◌∷◌, ◌≡◌, AllByRecursion, filter, Less, same_sym, IsDifference, is_empty, Rises, same}
+use Rattle.node_core.proofs.Words.{text_cmp, GroupChange, Pid, IsChange, if_some, History, listed, IsRunningOf, ScopeWords, ScopesFollow}
 use Rattle.policy_audit.proofs.OneDifference.{apart}
 use Rattle.policy_audit.proofs.ScopeChanges.{changes_are}
 use Rattle.node_core.specs.declared.running.Running.{Running}
-use Rattle.node_core.specs.ScopeFacts.{ScopeWords, IsRunningOf, ScopesFollow}
 
 module _ (w v : ScopeWords) (s : List ℕ) (y : Running) (here : IsRunningOf v y) (named : y.scope ≡ s) (on : (r : Running) → same r.scope s ≡ false → IsRunningOf w r → IsRunningOf v r) where
   -- those above it stay

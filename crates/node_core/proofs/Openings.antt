@@ -1,43 +1,29 @@
 -- Links that open: the new link follows its opening, and all others are as before.
-use Rattle.std.specs.Prelude.{◌≡◌, ℕ, ◌+◌, ◌<◌, ◌≤◌, ◌==◌, nat_le, nat_lt, Bool, true, false, cond, not, ◌||◌, List, [], ◌∷◌, ◌++◌, Some, None, length, map}
-use Rattle.std.proofs.Common.{refl, ap, ◌∙◌, sym, subst, arith}
-use Rattle.std.proofs.lemmas.Bool.{eqb-true, eq-eqb, leb-true, lt-ltb, ltb-true}
+use Rattle.node_core.proofs.Words.{Bool, List, None, Some, ap, arith, cond, false, length, map, nat_le, nat_lt, not, refl, subst, sym, true}
+use Rattle.node_core.proofs.Words.{ℕ, [], ◌++◌, ◌+◌, ◌<◌, ◌==◌, ◌||◌, ◌∙◌, ◌∷◌, ◌≡◌, ◌≤◌, AllByRecursion, list_all, option_map_or, eq-eqb}
+use Rattle.node_core.proofs.Words.{eqb-true, leb-true, lt-ltb, ltb-true, same, AdmissionRules, all_hold, lie, unbroken, no_change, and_left}
+use Rattle.node_core.proofs.Words.{and_right, dial_checks, first_broken, History, is_accepted, is_open, is_kept, narrow, running_scopes}
+use Rattle.node_core.proofs.Words.{IsAnswered, IsLegal, IsNext, is_full, next_number, with_entry, challenge_in, Entry, Accepted}
+use Rattle.node_core.proofs.Words.{follows_other, AdmissionFollows, admission_words, Follows, Parts, IsLinkOf, IsState, LinksFollow, facts}
+use Rattle.node_core.proofs.Words.{link_words, KeptLink, ScopesFollow, scope_words}
 use Rattle.std.proofs.lemmas.List.{length-map, map-append}
-use Rattle.std.specs.List.{list_all, AllByRecursion}
-use Rattle.std.specs.Option.{option_map_or}
-use Rattle.dist_types.specs.Listing.{same}
 use Rattle.dist_types.specs.Flags.{own_flags}
 use Rattle.handshake_frames.specs.Spelling.{name_bytes}
-use Rattle.admission_rules.specs.Admission.{AdmissionRules}
 use Rattle.link_states.specs.Frames.{own_name}
 use Rattle.policy_audit.specs.declared.event.Event.TheVariants as event
 use Rattle.policy_audit.specs.declared.reply.Reply.TheVariants as reply
 use Rattle.policy_audit.specs.declared.rule.Rule.TheVariants as rule
-use Rattle.policy_audit.specs.declared.entry.Entry.{Entry}
-use Rattle.policy_audit.specs.declared.entry.Verdict.TheVariants.{Accepted}
-use Rattle.policy_audit.specs.History.{History, is_accepted}
-use Rattle.policy_audit.specs.Sides.{Start, ByPeer, ByDial, start_of, challenge_in}
-use Rattle.policy_audit.specs.Links.{is_open}
-use Rattle.policy_audit.specs.Own.{running_scopes}
-use Rattle.policy_audit.specs.Owed.{narrow, own_name_frame, is_kept}
-use Rattle.policy_audit.specs.Checks.{kept_links, first_broken, dial_checks}
-use Rattle.policy_audit.specs.Policy.{IsAnswered, IsLegal, IsNext, with_entry, next_number, is_full}
-use Rattle.policy_audit.proofs.Accepted.{lie, all_hold, unbroken}
-use Rattle.policy_audit.proofs.UpLinks.{and_left, and_right}
-use Rattle.policy_audit.proofs.ChangeLemmas.{no_change}
+use Rattle.policy_audit.specs.Sides.{Start, ByPeer, ByDial, start_of}
+use Rattle.policy_audit.specs.Owed.{own_name_frame}
+use Rattle.policy_audit.specs.Checks.{kept_links}
 use Rattle.policy_audit.proofs.KeptLinks.{links_below}
 use Rattle.policy_audit.proofs.KeptNumbers.{kept_numbers, kept_count, kept_opening, opening_waiting, all_left, all_reverse}
 use Rattle.policy_audit.proofs.NewLinks.{IsNewLink, opened_apart, opened_new, opened_open}
 use Rattle.policy_audit.proofs.ScopeFrames.{opened_waiting, dialled_waiting}
 use Rattle.policy_audit.proofs.HeardNow.{opening_heard}
 use Rattle.policy_audit.proofs.RowsAfter.{opened_rows, dialled_rows}
-use Rattle.group_monitors.proofs.Followed.{follows_other}
 use Rattle.node_core.specs.declared.link_state.LinkState.TheVariants as state
-use Rattle.node_core.specs.Links.{KeptLink, dialled_link}
-use Rattle.node_core.specs.LinkFacts.{facts, link_words, IsState, IsLinkOf, LinksFollow}
-use Rattle.node_core.specs.ScopeFacts.{scope_words, ScopesFollow}
-use Rattle.node_core.specs.AdmissionFacts.{admission_words, AdmissionFollows}
-use Rattle.node_core.specs.Core.{Parts, Follows}
+use Rattle.node_core.specs.Links.{dialled_link}
 use Rattle.node_core.proofs.KeptOn.{facts_same}
 use Rattle.node_core.proofs.Entered.{made, accepted_now, answered_now, next_now, sound_now}
 

@@ -1,18 +1,14 @@
 -- How many rows the own processes have in a scope.
-use Rattle.std.specs.Prelude.{◌≡◌, ℕ, ◌+◌, ◌≤◌, Bool, true, false, cond, List, [], ◌∷◌, length}
-use Rattle.std.proofs.Common.{refl, ap, ◌∙◌, sym, arith}
-use Rattle.dist_types.specs.declared.row.Row.{Row}
-use Rattle.dist_types.specs.Listing.{occurrences, same_row, spread, total, IsListing}
+use Rattle.node_core.proofs.Words.{Bool, List, ap, arith, cond, false, length, refl, sym, true, ℕ, [], ◌+◌, ◌∙◌, ◌∷◌, ◌≡◌, ◌≤◌, IsListing}
+use Rattle.node_core.proofs.Words.{occurrences, same_row, Row, Table, local_count, local_total, local_rows, History, IsLegal, IsRunningOf}
+use Rattle.node_core.proofs.Words.{scope_words}
+use Rattle.dist_types.specs.Listing.{spread, total}
 use Rattle.dist_types.proofs.Listings.{fewer_length, same_length, length-spread, spread_counts}
 use Rattle.dist_types.proofs.Orders.{same_row_decides}
 use Rattle.scope_core.specs.declared.counted.Counted.{Counted}
-use Rattle.scope_core.specs.Table.{Table, is_of_node, local_count, local_total}
-use Rattle.policy_audit.specs.History.{History}
-use Rattle.policy_audit.specs.Contents.{local_rows}
-use Rattle.policy_audit.specs.Policy.{IsLegal}
+use Rattle.scope_core.specs.Table.{is_of_node}
 use Rattle.policy_audit.proofs.OwnRows.{local_rows_are}
 use Rattle.node_core.specs.declared.running.Running.{Running}
-use Rattle.node_core.specs.ScopeFacts.{scope_words, IsRunningOf}
 use Rattle.node_core.proofs.Scopes.{own_counts}
 
 -- the own rows of a table, each as often as it is counted

@@ -1,22 +1,9 @@
 -- What leaves the scopes together is the change of a history.
-use Rattle.std.specs.Prelude.{◌≡◌, ℕ, false, List, map}
-use Rattle.std.proofs.Common.{refl, ap, ◌∙◌, sym, subst}
-use Rattle.dist_types.specs.declared.pid.Pid.{Pid}
-use Rattle.dist_types.specs.Difference.{IsDifference}
-use Rattle.dist_types.specs.Listing.{Rises, is_among}
-use Rattle.dist_types.specs.Order.{text_cmp}
-use Rattle.scope_core.specs.Table.{Table, count_of}
-use Rattle.policy_audit.specs.declared.change.Change.{Change}
-use Rattle.policy_audit.specs.History.{History}
-use Rattle.policy_audit.specs.Own.{is_running, running_scopes}
-use Rattle.policy_audit.specs.Listed.{listed}
-use Rattle.policy_audit.specs.Changes.{IsChange}
-use Rattle.policy_audit.proofs.ChangeLemmas.{stopped_lists}
+use Rattle.node_core.proofs.Words.{List, ap, false, map, refl, subst, sym, ℕ, ◌∙◌, ◌≡◌, IsDifference, Rises, is_among, text_cmp, Pid, Table}
+use Rattle.node_core.proofs.Words.{count_of, stopped_lists, running_among, running_rises, IsChange, History, listed, is_running}
+use Rattle.node_core.proofs.Words.{running_scopes, Change, ArePartings, IsParting, IsRunningOf, ScopesFollow, scope_words}
 use Rattle.policy_audit.proofs.ScopeChanges.{changes_are}
-use Rattle.policy_audit.proofs.ScopesNow.{running_rises, running_among}
 use Rattle.node_core.specs.declared.running.Running.{Running}
-use Rattle.node_core.specs.Parting.{IsParting, ArePartings}
-use Rattle.node_core.specs.ScopeFacts.{scope_words, IsRunningOf, ScopesFollow}
 use Rattle.node_core.proofs.Scopes.{counts_listed}
 use Rattle.node_core.proofs.Zipped.{zipped_map, zipped_weaker, zipped_each}
 

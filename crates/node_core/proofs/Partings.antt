@@ -1,17 +1,9 @@
 -- What leaves the scopes, one scope after the other.
-use Rattle.std.specs.Prelude.{◌≡◌, ℕ, true, false, cond, not, List, [], ◌∷◌, ◌++◌, length, ◌==◌}
-use Rattle.std.proofs.Common.{refl, ap, ◌∙◌, sym, subst, arith}
-use Rattle.std.proofs.lemmas.Bool.{eqb-true, eq-eqb}
-use Rattle.std.proofs.lemmas.List.{append-nil}
-use Rattle.dist_types.specs.declared.pid.Pid.{Pid}
-use Rattle.dist_types.specs.declared.change.GroupChange.{GroupChange}
-use Rattle.dist_types.specs.Difference.{is_empty, IsDifference}
-use Rattle.scope_core.specs.Table.{Table, count_of}
-use Rattle.policy_audit.specs.declared.change.Change.{Change}
-use Rattle.policy_audit.proofs.Accepted.{lie}
+use Rattle.node_core.proofs.Words.{List, ap, arith, cond, false, length, not, refl, subst, sym, true, ℕ, [], ◌++◌, ◌==◌, ◌∙◌, ◌∷◌, ◌≡◌}
+use Rattle.node_core.proofs.Words.{eq-eqb, eqb-true, append-nil, IsDifference, is_empty, GroupChange, Pid, Table, count_of, lie, Change}
+use Rattle.node_core.proofs.Words.{ArePartings, IsParting}
 use Rattle.policy_audit.proofs.KeptNumbers.{filter_append}
 use Rattle.node_core.specs.declared.running.Running.{Running}
-use Rattle.node_core.specs.Parting.{IsParting, ArePartings}
 use Rattle.node_core.proofs.Zipped.{zipped_on}
 
 module _ (left : Table → List ℕ → Pid → ℕ) where

@@ -1,17 +1,8 @@
 -- The peers that are up and the own dials, as the kept links show them.
-use Rattle.std.specs.Prelude.{◌≡◌, ℕ, Bool, false, ◌||◌, List, [], ◌∷◌, ◌++◌, Option, Some, None}
-use Rattle.std.proofs.Common.{refl, ap, ◌∙◌}
-use Rattle.std.specs.List.{list_any, flat_map}
-use Rattle.std.specs.Option.{option_map_or, option_to_list}
-use Rattle.dist_types.specs.Listing.{same}
-use Rattle.link_states.specs.declared.pending.Pending.{Pending}
+use Rattle.node_core.proofs.Words.{Bool, List, None, Option, Some, ap, false, refl, ℕ, [], ◌++◌, ◌||◌, ◌∙◌, ◌∷◌, ◌≡◌, flat_map, list_any}
+use Rattle.node_core.proofs.Words.{option_map_or, option_to_list, same, Pending, History, is_dialling, IsLegal, is_name_up, LinksFollow}
+use Rattle.node_core.proofs.Words.{link_words, KeptLink, dialled_peer, up_peer}
 use Rattle.link_states.specs.Pending as pending
-use Rattle.policy_audit.specs.History.{History}
-use Rattle.policy_audit.specs.Sides.{is_name_up}
-use Rattle.policy_audit.specs.Links.{is_dialling}
-use Rattle.policy_audit.specs.Policy.{IsLegal}
-use Rattle.node_core.specs.Links.{KeptLink, up_peer, dialled_peer}
-use Rattle.node_core.specs.LinkFacts.{link_words, LinksFollow}
 use Rattle.node_core.proofs.LinkTests.{up_is, dialling_is}
 
 -- what is said of a list of options is said of those that are there

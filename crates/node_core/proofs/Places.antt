@@ -1,14 +1,8 @@
 -- The place of a kept link, and links that are taken away.
-use Rattle.std.specs.Prelude.{◌≡◌, ℕ, zero, suc, ◌<◌, nat_eq, Bool, true, false, cond, List, [], ◌∷◌, Some, None, length, position, is_some}
-use Rattle.std.proofs.Common.{refl, ap, ◌∙◌, sym, subst, arith, get_or, set}
+use Rattle.node_core.proofs.Words.{Bool, List, None, Some, ap, arith, cond, false, get_or, is_some, length, nat_eq, position, refl, set}
+use Rattle.node_core.proofs.Words.{subst, suc, sym, true, zero, ℕ, [], ◌<◌, ◌∙◌, ◌∷◌, ◌≡◌, filter, list_any, kept_among, History, is_kept}
+use Rattle.node_core.proofs.Words.{IsLegal, IsLinkOf, LinkWords, LinksFollow, link_words, KeptLink}
 use Rattle.std.proofs.lemmas.List.{map-id}
-use Rattle.std.specs.List.{filter, list_any}
-use Rattle.policy_audit.specs.History.{History}
-use Rattle.policy_audit.specs.Owed.{is_kept}
-use Rattle.policy_audit.specs.Policy.{IsLegal}
-use Rattle.policy_audit.proofs.KeptNumbers.{kept_among}
-use Rattle.node_core.specs.Links.{KeptLink}
-use Rattle.node_core.specs.LinkFacts.{LinkWords, link_words, IsLinkOf, LinksFollow}
 use Rattle.node_core.proofs.Found.{any_map, place_found}
 use Rattle.node_core.proofs.KeptOn.{all_follow, each_at, place_is}
 

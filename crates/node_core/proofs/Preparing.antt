@@ -1,13 +1,9 @@
 -- Frames that are prepared for links, one link after the other.
-use Rattle.std.specs.Prelude.{◌≡◌, ℕ, zero, suc, ◌<◌, nat_eq, Bool, true, false, cond, List, [], ◌∷◌, ◌++◌, map, length, Ok, Err, OnOk, OnErr}
-use Rattle.std.proofs.Common.{refl, ap, ◌∙◌, sym, arith, get_or, set}
-use Rattle.std.specs.declared.result.Result.{Result}
-use Rattle.std.specs.List.{list_any}
+use Rattle.node_core.proofs.Words.{Bool, Err, List, Ok, OnErr, ap, arith, cond, false, get_or, length, map, nat_eq, refl, set, suc, sym}
+use Rattle.node_core.proofs.Words.{true, zero, ℕ, [], ◌++◌, ◌<◌, ◌∙◌, ◌∷◌, ◌≡◌, list_any, Result, lie, flip, OutFrame, KeptLink}
+use Rattle.node_core.proofs.Words.{prepared_for, unroomed, with_prepared, with_room}
+use Rattle.std.proofs.Common.{OnOk}
 use Rattle.std.specs.Result.{is_err}
-use Rattle.policy_audit.specs.OutFrame.{OutFrame}
-use Rattle.policy_audit.proofs.Accepted.{lie}
-use Rattle.policy_audit.proofs.UpLinks.{flip}
-use Rattle.node_core.specs.Links.{KeptLink, with_prepared, with_room, unroomed, prepared_for}
 use Rattle.node_core.proofs.Zipped.{SoFar}
 
 -- what holds where there is an error, and where there is none

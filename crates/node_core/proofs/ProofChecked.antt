@@ -1,38 +1,23 @@
 -- What the last frame of a handshake leads to, by the policy's words.
-use Rattle.std.specs.Prelude.{◌≡◌, ℕ, Bool, true, false, cond, ◌&&◌, not, List, [], ◌∷◌, ◌++◌, Option, Some, None}
-use Rattle.std.proofs.Common.{refl, ap, ◌∙◌, sym, subst}
-use Rattle.std.specs.Option.{option_map, option_map_or, unwrap_or}
-use Rattle.dist_types.specs.Flags.{has_bit}
-use Rattle.handshake_frames.specs.Frame.{Name}
-use Rattle.handshake_frames.specs.declared.frame.ReplyFrame.{ReplyFrame}
-use Rattle.handshake_frames.specs.Reading.{reply_frame, ack_frame}
+use Rattle.node_core.proofs.Words.{Bool, List, None, Option, Some, ap, cond, false, not, refl, subst, sym, true, ℕ, [], ◌&&◌, ◌++◌, ◌∙◌}
+use Rattle.node_core.proofs.Words.{◌∷◌, ◌≡◌, option_map, option_map_or, unwrap_or, has_bit, Name, reply_frame, ReplyFrame, AdmissionRules}
+use Rattle.node_core.proofs.Words.{Linked, Pending, lie, no_value, always, checks, first_broken, frame_checks, History, is_accepted}
+use Rattle.node_core.proofs.Words.{is_open, OutFrame, digest_for, discovers, frame_owes, narrow, refusal_owes, IsAnswered, answer}
+use Rattle.node_core.proofs.Words.{up_answer, AwaitMessage, awaits, is_last, is_whole, peer_of, Entry, Rule, AdmissionFollows}
+use Rattle.node_core.proofs.Words.{admission_words, Hears, rule_of, IsIntroduced, IsState, facts, known_peer, narrow_frames, up_peer}
+use Rattle.handshake_frames.specs.Reading.{ack_frame}
 use Rattle.handshake_frames.specs.Spelling.{ack_bytes}
-use Rattle.admission_rules.specs.Admission.{AdmissionRules}
 use Rattle.link_states.specs.Frames.{ack_owed}
-use Rattle.link_states.specs.States.{Linked, linked}
-use Rattle.link_states.specs.declared.pending.Pending.{Pending}
-use Rattle.policy_audit.specs.declared.entry.Entry.{Entry}
+use Rattle.link_states.specs.States.{linked}
 use Rattle.policy_audit.specs.declared.event.Event.TheVariants as event
-use Rattle.policy_audit.specs.OutFrame.{OutFrame}
 use Rattle.policy_audit.specs.declared.reply.Reply.TheVariants as reply
-use Rattle.policy_audit.specs.declared.rule.Rule.{Rule}
 use Rattle.policy_audit.specs.declared.rule.Rule.TheVariants as rule
-use Rattle.policy_audit.specs.History.{History, is_accepted}
-use Rattle.policy_audit.specs.Sides.{AwaitMessage, awaits, given, is_last, is_visible, is_whole, peer_of}
-use Rattle.policy_audit.specs.Links.{is_open}
-use Rattle.policy_audit.specs.Owed.{digest_for, discovers, frame_owes, narrow, refusal_owes}
-use Rattle.policy_audit.specs.Checks.{always, checks, first_broken, frame_checks}
-use Rattle.policy_audit.specs.Policy.{IsAnswered, answer, up_answer}
-use Rattle.policy_audit.proofs.Accepted.{lie, no_value}
+use Rattle.policy_audit.specs.Sides.{given, is_visible}
 use Rattle.policy_audit.proofs.Onward.{IsOnward, reply_taken, ack_taken}
 use Rattle.node_core.specs.declared.hearing.Heard.{Heard}
 use Rattle.node_core.specs.declared.hearing.Heard.TheVariants as heard
 use Rattle.node_core.specs.declared.link_state.LinkState.{LinkState}
 use Rattle.node_core.specs.declared.link_state.LinkState.TheVariants as state
-use Rattle.node_core.specs.AdmissionFacts.{admission_words, AdmissionFollows}
-use Rattle.node_core.specs.Hearing.{Hears, rule_of}
-use Rattle.node_core.specs.LinkFacts.{facts, IsIntroduced, IsState}
-use Rattle.node_core.specs.Links.{known_peer, narrow_frames, up_peer}
 use Rattle.node_core.proofs.Found.{some_is}
 use Rattle.node_core.proofs.FrameRefused.{owes_alike}
 use Rattle.node_core.proofs.FrameRules.{ack_rules, digest_is, reply_rules}

@@ -1,23 +1,9 @@
 -- Events that change no row and no link.
-use Rattle.std.specs.Prelude.{◌≡◌, ℕ, true, false, List, [], None}
-use Rattle.std.proofs.Common.{refl, subst, sym}
-use Rattle.std.proofs.lemmas.List.{append-nil}
-use Rattle.admission_rules.specs.Admission.{AdmissionRules}
-use Rattle.group_monitors.proofs.Followed.{follows_other}
-use Rattle.policy_audit.specs.declared.event.Event.{Event}
+use Rattle.node_core.proofs.Words.{List, None, false, refl, subst, sym, true, ℕ, [], ◌≡◌, append-nil, AdmissionRules, checks, first_broken}
+use Rattle.node_core.proofs.Words.{History, waiting, IsNext, answer, is_full, Accepted, Event, Reply, follows_other, AdmissionFollows}
+use Rattle.node_core.proofs.Words.{admission_words, Follows, Parts, LinksFollow, ProcessesFollow, process_words, Spawned}
 use Rattle.policy_audit.specs.declared.event.Event.TheVariants as event
-use Rattle.policy_audit.specs.declared.reply.Reply.{Reply}
-use Rattle.policy_audit.specs.declared.entry.Verdict.TheVariants.{Accepted}
-use Rattle.policy_audit.specs.History.{History}
-use Rattle.policy_audit.specs.Owed.{waiting}
 use Rattle.policy_audit.specs.Effects.{is_quiet}
-use Rattle.policy_audit.specs.Checks.{checks, first_broken}
-use Rattle.policy_audit.specs.Policy.{is_full, answer, IsNext}
-use Rattle.node_core.specs.LinkFacts.{LinksFollow}
-use Rattle.node_core.specs.AdmissionFacts.{admission_words, AdmissionFollows}
-use Rattle.node_core.specs.ProcessFacts.{process_words, ProcessesFollow}
-use Rattle.node_core.specs.Processes.{Spawned}
-use Rattle.node_core.specs.Core.{Parts, Follows}
 use Rattle.node_core.proofs.Entered.{made, accepted_now, next_now, sound_now}
 use Rattle.node_core.proofs.Calm.{answered, quiet_change, same_links}
 

@@ -1,24 +1,13 @@
 -- What is read of the kept links, in the policy's words.
-use Rattle.std.specs.Prelude.{◌≡◌, ℕ, suc, ◌≤◌, nat_eq, Bool, true, false, cond, ◌&&◌, ◌||◌, not, List, [], ◌∷◌, ◌++◌, Option, Some, None, is_some, map}
-use Rattle.std.proofs.Common.{refl, ap, ◌∙◌, sym, subst, arith}
-use Rattle.std.proofs.lemmas.Bool.{eqb-true, eq-eqb}
-use Rattle.std.specs.List.{list_any, flat_map, AllByRecursion}
-use Rattle.std.specs.Option.{option_map_or, option_to_list}
-use Rattle.dist_types.specs.Listing.{same, how_many, occurrences}
-use Rattle.dist_types.proofs.Orders.{same_decides}
-use Rattle.policy_audit.specs.History.{History}
-use Rattle.policy_audit.specs.Sides.{awaits, is_name_up, is_peer, is_whole, peer_of}
-use Rattle.policy_audit.specs.Links.{is_open, is_up}
-use Rattle.policy_audit.specs.Owed.{is_kept, waiting}
-use Rattle.dist_types.specs.Difference.{is_empty}
-use Rattle.policy_audit.proofs.KeptNumbers.{kept_among, kept_once, name_up_kept, one_up}
-use Rattle.policy_audit.proofs.Accepted.{lie}
-use Rattle.policy_audit.proofs.UpLinks.{and_false, and_left, and_right}
+use Rattle.node_core.proofs.Words.{Bool, List, None, Option, Some, ap, arith, cond, false, is_some, map, nat_eq, not, refl, subst, suc, sym}
+use Rattle.node_core.proofs.Words.{true, ℕ, [], ◌&&◌, ◌++◌, ◌||◌, ◌∙◌, ◌∷◌, ◌≡◌, ◌≤◌, AllByRecursion, flat_map, list_any, option_map_or}
+use Rattle.node_core.proofs.Words.{option_to_list, eq-eqb, eqb-true, same_decides, is_empty, occurrences, same, lie, kept_among, and_false}
+use Rattle.node_core.proofs.Words.{and_left, and_right, History, is_open, is_up, is_kept, waiting, awaits, is_name_up, is_peer, is_whole}
+use Rattle.node_core.proofs.Words.{peer_of, Follows, Parts, IsLinkOf, IsState, facts, kept_numbers, link_words, KeptLink, up_peer}
+use Rattle.dist_types.specs.Listing.{how_many}
+use Rattle.policy_audit.proofs.KeptNumbers.{kept_once, name_up_kept, one_up}
 use Rattle.node_core.specs.declared.link_state.LinkState.{LinkState}
 use Rattle.node_core.specs.declared.link_state.LinkState.TheVariants as state
-use Rattle.node_core.specs.Core.{Parts, Follows}
-use Rattle.node_core.specs.Links.{KeptLink, up_peer}
-use Rattle.node_core.specs.LinkFacts.{facts, kept_numbers, link_words, IsState, IsLinkOf}
 use Rattle.node_core.specs.Reading.{up_name, up_names, frame_of, frame_awaited, awaiting}
 use Rattle.node_core.proofs.Found.{any_map}
 use Rattle.node_core.proofs.LinkTests.{agree, up_is}

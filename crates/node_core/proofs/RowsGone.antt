@@ -1,29 +1,18 @@
 -- The rows that leave with a process.
-use Rattle.std.specs.Prelude.{◌≡◌, ℕ, ◌+◌, ◌-◌, ◌≤◌, Bool, true, false, cond, List, [], ◌∷◌, ◌++◌, map, length}
-use Rattle.std.proofs.Common.{refl, ap, ◌∙◌, sym, arith}
-use Rattle.std.specs.List.{AllByRecursion, filter}
+use Rattle.node_core.proofs.Words.{Bool, List, ap, arith, cond, false, length, map, refl, sym, true, ℕ, [], ◌++◌, ◌+◌, ◌-◌, ◌∙◌, ◌∷◌, ◌≡◌}
+use Rattle.node_core.proofs.Words.{◌≤◌, AllByRecursion, filter, Less, same_decides, same_pid_decides, IsDifference, Rises, occurrences}
+use Rattle.node_core.proofs.Words.{same, same_pid, same_row, pid_cmp, row_cmp, text_cmp, GroupChange, Pid, Row, count_after_exit, Table}
+use Rattle.node_core.proofs.Words.{count_of, local_count, local_total, local_rows, row, History, IsLegal, rows_left, IsRunningOf}
+use Rattle.node_core.proofs.Words.{scope_words}
 use Rattle.std.specs.declared.cmp.Ordering.{Ordering}
-use Rattle.std.specs.declared.cmp.Ordering.TheVariants.{Less}
 use Rattle.std.specs.Ordering.{is_gt, ordering_then}
-use Rattle.dist_types.specs.declared.pid.Pid.{Pid}
-use Rattle.dist_types.specs.declared.row.Row.{Row}
-use Rattle.dist_types.specs.declared.change.GroupChange.{GroupChange}
-use Rattle.dist_types.specs.Difference.{IsDifference, IsProper, times_left}
-use Rattle.dist_types.specs.Listing.{Ascends, Rises, occurrences, same, same_pid, same_row}
-use Rattle.dist_types.specs.Order.{pid_cmp, row_cmp, text_cmp}
+use Rattle.dist_types.specs.Difference.{IsProper, times_left}
+use Rattle.dist_types.specs.Listing.{Ascends}
 use Rattle.dist_types.proofs.Listings.{all_append}
-use Rattle.dist_types.proofs.Orders.{same_decides, same_pid_decides}
 use Rattle.dist_types.proofs.Totals.{how_many_append}
-use Rattle.scope_core.specs.Table.{Table, count_of, local_count, local_total}
-use Rattle.scope_core.specs.Calls.{count_after_exit}
-use Rattle.policy_audit.specs.History.{History}
-use Rattle.policy_audit.specs.Contents.{local_rows, row}
-use Rattle.policy_audit.specs.Policy.{IsLegal}
 use Rattle.policy_audit.proofs.Lists.{count_in_group, rows_of_group}
 use Rattle.policy_audit.proofs.OwnRows.{exit_listing}
 use Rattle.node_core.specs.declared.running.Running.{Running}
-use Rattle.node_core.specs.Parting.{rows_left}
-use Rattle.node_core.specs.ScopeFacts.{scope_words, IsRunningOf}
 use Rattle.node_core.proofs.OwnTotal.{few_rows}
 use Rattle.node_core.proofs.Scopes.{own_counts}
 

@@ -1,31 +1,21 @@
 -- Messages of own rows, and the links that are told them.
-use Rattle.std.specs.Prelude.{◌≡◌, ℕ, ◌<◌, min, Bool, true, false, cond, not, List, [], ◌∷◌, ◌++◌, map, length, Result, OnErr}
-use Rattle.std.proofs.Common.{refl, ap, ◌∙◌, sym, subst, arith}
-use Rattle.std.specs.List.{AllZip}
-use Rattle.dist_types.specs.declared.pid.Pid.{Pid}
-use Rattle.dist_types.specs.declared.row.Row.{Row}
-use Rattle.dist_types.specs.Difference.{is_empty}
-use Rattle.dist_types.specs.Order.{pid_cmp}
-use Rattle.dist_types.specs.Listing.{same, same_pid, listing, mentions, stands_in, IsListing, IsRowListing, IsPidListing}
-use Rattle.dist_types.proofs.Orders.{exact_pids, pids_total, same_pid_decides}
+use Rattle.node_core.proofs.Words.{Bool, List, OnErr, ap, arith, cond, false, length, map, not, refl, subst, sym, true, ℕ, [], ◌++◌, ◌<◌}
+use Rattle.node_core.proofs.Words.{◌∙◌, ◌∷◌, ◌≡◌, AllZip, same_pid_decides, is_empty, IsListing, IsPidListing, IsRowListing, listing}
+use Rattle.node_core.proofs.Words.{mentions, same, same_pid, pid_cmp, Pid, Row, Message, Table, lie, row, OutFrame, wide, KeptLink}
+use Rattle.node_core.proofs.Words.{prepared_for, unroomed, with_prepared, is_number, Alike, AreIdle, said_to}
+use Rattle.std.proofs.Common.{min, Result}
+use Rattle.dist_types.specs.Listing.{stands_in}
+use Rattle.dist_types.proofs.Orders.{exact_pids, pids_total}
 use Rattle.dist_types.proofs.Listings.{listing_counts}
-use Rattle.link_frames.specs.declared.message.Message.{Message}
 use Rattle.link_frames.specs.declared.message.Message.TheVariants as said
 use Rattle.link_frames.specs.Spelling.{HasSpelling}
 use Rattle.scope_core.specs.declared.fault.TableFault.{TableFault}
 use Rattle.scope_core.specs.declared.fault.TableFault.TheVariants as fault
-use Rattle.scope_core.specs.Table.{Table}
 use Rattle.scope_core.specs.Calls.{IsJoinFault, IsLeaveFault, IsAddFault, IsTakeFault}
-use Rattle.policy_audit.specs.OutFrame.{OutFrame}
-use Rattle.policy_audit.specs.Contents.{row}
-use Rattle.policy_audit.specs.Owed.{wide}
-use Rattle.policy_audit.proofs.Accepted.{lie}
 use Rattle.policy_audit.proofs.Named.{occurs_stands}
 use Rattle.policy_audit.proofs.OwnRows.{one_row_listing, rows_in_group}
 use Rattle.node_core.specs.declared.running.Running.{Running}
-use Rattle.node_core.specs.Links.{KeptLink, unroomed, with_prepared, prepared_for}
-use Rattle.node_core.specs.ScopeFacts.{is_number}
-use Rattle.node_core.specs.Telling.{AreIdle, Alike, IsBrief, is_said, said_to}
+use Rattle.node_core.specs.Telling.{IsBrief, is_said}
 use Rattle.node_core.specs.MessageRules.{IsAddRefusal, IsTakeRefusal}
 use Rattle.node_core.specs.Moving.{fault_of, IsJoinRefusal, IsLeaveRefusal}
 use Rattle.node_core.proofs.Told.{at_errors, zip_map}

@@ -1,32 +1,20 @@
 -- The scopes that run, as a node keeps them.
-use Rattle.std.specs.Prelude.{◌≡◌, true, false, List, Option, Some, None, find, IfSome, IfNone, [], ◌∷◌, map}
-use Rattle.std.proofs.Common.{refl, ap, ◌∙◌, sym, subst, ℕ}
-use Rattle.std.specs.List.{list_any, AllByRecursion}
+use Rattle.node_core.proofs.Words.{List, None, Option, Some, ap, cond, false, find, map, refl, subst, sym, true, ℕ, [], ◌∙◌, ◌∷◌, ◌≡◌}
+use Rattle.node_core.proofs.Words.{AllByRecursion, list_any, option_map, same_decides, same_pid_decides, IsPidListing, is_among, same}
+use Rattle.node_core.proofs.Words.{same_pid, pid_cmp, Pid, count_of, local_count, running_among, History, events, listed, is_running}
+use Rattle.node_core.proofs.Words.{IsLegal, IsRunningOf, ScopesFollow, scope_words}
+use Rattle.std.proofs.Common.{IfSome, IfNone}
 use Rattle.policy_audit.specs.declared.reply.GroupPids.{GroupPids}
-use Rattle.std.specs.Option.{option_map}
 use Rattle.std.specs.Borrow.{Bor}
-use Rattle.dist_types.specs.Listing.{same, is_among}
-use Rattle.dist_types.proofs.Orders.{same_decides}
-use Rattle.policy_audit.specs.History.{History}
-use Rattle.policy_audit.specs.Own.{is_running}
-use Rattle.policy_audit.proofs.ScopesNow.{running_among}
 use Rattle.node_core.specs.declared.running.Running.{Running}
-use Rattle.node_core.specs.ScopeFacts.{scope_words, IsRunningOf, ScopesFollow}
-use Rattle.dist_types.specs.declared.pid.Pid.{Pid}
-use Rattle.dist_types.specs.Order.{pid_cmp}
-use Rattle.dist_types.specs.Listing.{same_pid, IsPidListing, IsGroupListing}
-use Rattle.dist_types.proofs.Orders.{pids_total, exact_pids, same_pid_decides}
+use Rattle.dist_types.specs.Listing.{IsGroupListing}
+use Rattle.dist_types.proofs.Orders.{pids_total, exact_pids}
 use Rattle.dist_types.proofs.Listings.{one_listing}
 use Rattle.dist_types.proofs.GroupListings.{one_group_listing}
-use Rattle.scope_core.specs.Table.{count_of, local_count}
-use Rattle.policy_audit.specs.History.{events}
-use Rattle.policy_audit.specs.Listed.{listed}
 use Rattle.policy_audit.specs.Contents.{groups_named, pids_named, members, groups, contents, local_members, local_groups}
 use Rattle.policy_audit.proofs.Named.{listed_named, own_named, group_named, pid_named}
 use Rattle.policy_audit.proofs.OwnRows.{own_is_listed}
-use Rattle.policy_audit.specs.Policy.{IsLegal}
 use Rattle.policy_audit.specs.Own.{own}
-use Rattle.std.specs.Prelude.{cond}
 use Rattle.policy_audit.proofs.Lists as lists
 use Rattle.node_core.proofs.Found.{found_in, none_found, some_found, any_map}
 

@@ -1,14 +1,9 @@
 -- The scopes after a link of a peer is gone, or another of its links has come up.
-use Rattle.std.specs.Prelude.{◌≡◌, ℕ, nat_eq, Bool, true, false, ◌==◌, cond, ◌&&◌, ◌||◌, not, List, [], ◌∷◌}
-use Rattle.std.proofs.Common.{refl, ap, ◌∙◌, sym}
-use Rattle.std.proofs.lemmas.Bool.{eqb-true, eq-eqb}
-use Rattle.std.specs.List.{AllZip}
-use Rattle.dist_types.specs.declared.pid.Pid.{Pid}
-use Rattle.dist_types.specs.Listing.{same}
-use Rattle.policy_audit.proofs.UpLinks.{and_false, flip}
+use Rattle.node_core.proofs.Words.{Bool, List, ap, cond, false, nat_eq, not, refl, sym, true, ℕ, [], ◌&&◌, ◌==◌, ◌||◌, ◌∙◌, ◌∷◌, ◌≡◌}
+use Rattle.node_core.proofs.Words.{AllZip, eq-eqb, eqb-true, same, Pid, and_false, flip, IsCutOff, IsRunningOf, ScopeWords, ScopesFollow}
+use Rattle.node_core.proofs.Words.{is_number}
 use Rattle.node_core.specs.declared.running.Running.{Running}
-use Rattle.node_core.specs.Parting.{IsCutOff, without}
-use Rattle.node_core.specs.ScopeFacts.{ScopeWords, IsRunningOf, ScopesFollow, is_number}
+use Rattle.node_core.specs.Parting.{without}
 use Rattle.node_core.proofs.Zipped.{zipped_map, zipped_weaker, zipped_each}
 
 -- whether a number is left of these

@@ -1,45 +1,29 @@
 -- A scope that starts.
-use Rattle.std.specs.Prelude.{◌≡◌, ℕ, zero, suc, ◌<◌, ◌≤◌, Bool, true, false, cond, nat_lt, ◌||◌, not, List, [], ◌∷◌, ◌++◌, Option, Some, None, map, length}
-use Rattle.std.proofs.Common.{refl, ap, ◌∙◌, sym, arith, get_or}
-use Rattle.std.proofs.lemmas.Bool.{lt-ltb, ltb-true}
+use Rattle.node_core.proofs.Words.{Bool, List, None, Option, Some, ap, arith, cond, false, get_or, length, map, nat_lt, not, refl, suc, sym}
+use Rattle.node_core.proofs.Words.{true, zero, ℕ, [], ◌++◌, ◌<◌, ◌||◌, ◌∙◌, ◌∷◌, ◌≡◌, ◌≤◌, AllByRecursion, Less, lt-ltb, ltb-true}
+use Rattle.node_core.proofs.Words.{same_decides, Rises, is_among, same, text_cmp, Pid, count_of, lie, no_change, stopped_lists}
+use Rattle.node_core.proofs.Words.{told_numbers, running_among, checks, first_broken, heard, told, History, listed, waiting, wide}
+use Rattle.node_core.proofs.Words.{is_running, running_scopes, IsAnswered, IsNext, is_full, with_entry, Entry, Accepted, Rule}
+use Rattle.node_core.proofs.Words.{follows_other, Follows, Parts, link_words, KeptLink, IsRunningOf, ScopesFollow, is_number, scope_words}
+use Rattle.node_core.proofs.Words.{AreTold, if_among, shown_numbers}
 use Rattle.std.proofs.lemmas.Map.Lookups.{exact_bytes}
 use Rattle.std.specs.declared.cmp.Ordering.{Ordering}
-use Rattle.std.specs.declared.cmp.Ordering.TheVariants.{Less, Equal, Greater}
+use Rattle.std.specs.declared.cmp.Ordering.TheVariants.{Equal, Greater}
 use Rattle.std.specs.Ordering.{is_lt, ordering_reverse, match_ordering}
-use Rattle.std.specs.List.{AllByRecursion, insert}
+use Rattle.std.specs.List.{insert}
 use Rattle.std.specs.List.Sorted.{IsPartitionedBy, IsPartitionPoint}
-use Rattle.dist_types.specs.declared.pid.Pid.{Pid}
-use Rattle.dist_types.specs.Listing.{Rises, is_among, placed, same}
-use Rattle.dist_types.specs.Order.{text_cmp}
-use Rattle.dist_types.proofs.Orders.{same_decides, texts_total}
+use Rattle.dist_types.specs.Listing.{placed}
+use Rattle.dist_types.proofs.Orders.{texts_total}
 use Rattle.link_frames.specs.declared.message.Message.TheVariants as said
-use Rattle.scope_core.specs.Table.{count_of}
-use Rattle.group_monitors.proofs.Followed.{follows_other}
 use Rattle.policy_audit.specs.declared.event.Event.TheVariants as event
 use Rattle.policy_audit.specs.declared.reply.Reply.TheVariants as reply
-use Rattle.policy_audit.specs.declared.rule.Rule.{Rule}
 use Rattle.policy_audit.specs.declared.rule.Rule.TheVariants as rule
-use Rattle.policy_audit.specs.declared.entry.Entry.{Entry}
-use Rattle.policy_audit.specs.declared.entry.Verdict.TheVariants.{Accepted}
-use Rattle.policy_audit.specs.History.{History}
-use Rattle.policy_audit.specs.Own.{is_running, running_scopes}
-use Rattle.policy_audit.specs.Hearing.{heard, told}
-use Rattle.policy_audit.specs.Listed.{listed}
-use Rattle.policy_audit.specs.Owed.{wide, waiting}
-use Rattle.policy_audit.specs.Checks.{checks, first_broken}
-use Rattle.policy_audit.specs.Policy.{is_full, IsAnswered, IsNext, with_entry}
-use Rattle.policy_audit.proofs.Accepted.{lie}
-use Rattle.policy_audit.proofs.ChangeLemmas.{no_change, stopped_lists}
 use Rattle.policy_audit.proofs.KeptLinks.{told_runs, heard_runs'}
 use Rattle.policy_audit.proofs.RowsAfter.{started_rows}
-use Rattle.policy_audit.proofs.ScopeFrames.{started_links, told_numbers}
-use Rattle.policy_audit.proofs.ScopesNow.{running_among, running_started}
+use Rattle.policy_audit.proofs.ScopeFrames.{started_links}
+use Rattle.policy_audit.proofs.ScopesNow.{running_started}
 use Rattle.node_core.specs.declared.running.Running.{Running}
-use Rattle.node_core.specs.Links.{KeptLink}
-use Rattle.node_core.specs.LinkFacts.{link_words}
-use Rattle.node_core.specs.ScopeFacts.{scope_words, is_number, IsRunningOf, ScopesFollow}
-use Rattle.node_core.specs.Core.{Parts, Follows}
-use Rattle.node_core.specs.Telling.{AreTold, if_among, shown_numbers, put_scope}
+use Rattle.node_core.specs.Telling.{put_scope}
 use Rattle.node_core.proofs.Entered.{made, accepted_now, answered_now, next_now, sound_now}
 use Rattle.node_core.proofs.Told.{told_follow, shown_number}
 

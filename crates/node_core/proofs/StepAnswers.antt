@@ -1,16 +1,8 @@
 -- What a step answers, from what it enters.
-use Rattle.std.specs.Prelude.{◌≡◌, ℕ, false, true, cond, Ok, Err}
-use Rattle.std.specs.declared.result.Result.{Result}
-use Rattle.std.proofs.Common.{ap, ◌∙◌, sym, subst}
-use Rattle.policy_audit.specs.declared.event.Event.{Event}
-use Rattle.policy_audit.specs.declared.reply.Reply.{Reply}
+use Rattle.node_core.proofs.Words.{Err, Ok, ap, cond, false, subst, sym, true, ℕ, ◌∙◌, ◌≡◌, Result, checks, first_broken, History, IsNext}
+use Rattle.node_core.proofs.Words.{is_full, verdict, with_entry, Entry, Verdict, Accepted, Refused, Event, Reply}
 use Rattle.policy_audit.specs.declared.rule.Rule.TheVariants as rule
-use Rattle.policy_audit.specs.declared.entry.Entry.{Entry}
-use Rattle.policy_audit.specs.declared.entry.Verdict.{Verdict}
-use Rattle.policy_audit.specs.declared.entry.Verdict.TheVariants.{Accepted, Refused}
-use Rattle.policy_audit.specs.History.{History}
-use Rattle.policy_audit.specs.Checks.{first_broken, checks}
-use Rattle.policy_audit.specs.Policy.{is_full, verdict, judged, after, with_entry, entry_of, IsNext}
+use Rattle.policy_audit.specs.Policy.{judged, after, entry_of}
 use Rattle.policy_audit.proofs.ScopeChanges.{next_is_after}
 use Rattle.node_core.specs.declared.fault.CoreFault.{CoreFault}
 use Rattle.node_core.specs.declared.fault.CoreFault.TheVariants as faults

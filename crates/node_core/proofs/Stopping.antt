@@ -1,39 +1,20 @@
 -- A scope that stops.
-use Rattle.std.specs.Prelude.{◌≡◌, ℕ, Bool, true, false, cond, ◌&&◌, not, List, [], ◌∷◌, ◌++◌, Some, None}
-use Rattle.std.proofs.Common.{refl, ap, ◌∙◌, sym, subst}
-use Rattle.std.proofs.Math.Bool.{and-true}
-use Rattle.std.specs.List.{AllByRecursion, filter}
-use Rattle.dist_types.specs.declared.change.GroupChange.{GroupChange}
-use Rattle.dist_types.specs.Difference.{IsDifference}
-use Rattle.dist_types.specs.Listing.{same}
-use Rattle.dist_types.proofs.Orders.{same_decides, same_sym}
+use Rattle.node_core.proofs.Words.{Bool, List, None, Some, ap, cond, false, not, refl, subst, sym, true, ℕ, [], ◌&&◌, ◌++◌, ◌∙◌, ◌∷◌, ◌≡◌}
+use Rattle.node_core.proofs.Words.{AllByRecursion, filter, and-true, same_decides, same_sym, IsDifference, same, GroupChange, no_count}
+use Rattle.node_core.proofs.Words.{told_numbers, if_some, checks, first_broken, heard, told, History, listed, waiting, wide, is_running}
+use Rattle.node_core.proofs.Words.{IsAnswered, IsNext, is_full, with_entry, Entry, Accepted, Follows, Parts, link_words, KeptLink}
+use Rattle.node_core.proofs.Words.{IsRunningOf, scope_words, AreTold, if_among, shown_numbers}
 use Rattle.link_frames.specs.declared.message.Message.TheVariants as said
-use Rattle.scope_core.specs.Calls.{no_count}
 use Rattle.group_monitors.specs.Monitors.{without_scope}
 use Rattle.group_monitors.proofs.Followed.{follows_dropped}
 use Rattle.policy_audit.specs.declared.event.Event.TheVariants as event
 use Rattle.policy_audit.specs.declared.reply.Reply.TheVariants as reply
 use Rattle.policy_audit.specs.declared.rule.Rule.TheVariants as rule
-use Rattle.policy_audit.specs.declared.entry.Entry.{Entry}
-use Rattle.policy_audit.specs.declared.entry.Verdict.TheVariants.{Accepted}
-use Rattle.policy_audit.specs.History.{History}
-use Rattle.policy_audit.specs.Own.{is_running}
-use Rattle.policy_audit.specs.Hearing.{heard, told}
-use Rattle.policy_audit.specs.Changes.{if_some}
-use Rattle.policy_audit.specs.Listed.{listed}
-use Rattle.policy_audit.specs.Owed.{wide, waiting}
-use Rattle.policy_audit.specs.Checks.{checks, first_broken}
-use Rattle.policy_audit.specs.Policy.{is_full, IsAnswered, IsNext, with_entry}
 use Rattle.policy_audit.proofs.HeardNow.{stopped_heard}
 use Rattle.policy_audit.proofs.RowsAfter.{stopped_rows}
-use Rattle.policy_audit.proofs.ScopeFrames.{stopped_links, told_numbers}
+use Rattle.policy_audit.proofs.ScopeFrames.{stopped_links}
 use Rattle.policy_audit.proofs.ScopesNow.{running_stopped}
 use Rattle.node_core.specs.declared.running.Running.{Running}
-use Rattle.node_core.specs.Links.{KeptLink}
-use Rattle.node_core.specs.LinkFacts.{link_words}
-use Rattle.node_core.specs.ScopeFacts.{scope_words, IsRunningOf}
-use Rattle.node_core.specs.Core.{Parts, Follows}
-use Rattle.node_core.specs.Telling.{AreTold, if_among, shown_numbers}
 use Rattle.node_core.proofs.Entered.{made, accepted_now, answered_now, next_now, sound_now}
 use Rattle.node_core.proofs.OneScope.{scope_change}
 use Rattle.node_core.proofs.Starting.{names}

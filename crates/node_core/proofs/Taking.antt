@@ -1,30 +1,17 @@
 -- The frames that wait for a link are handed over.
-use Rattle.std.specs.Prelude.{◌≡◌, ℕ, ◌<◌, ◌==◌, nat_eq, Bool, true, false, cond, ◌&&◌, not, List, [], Some, None, length, position}
-use Rattle.std.proofs.Common.{refl, ap, ◌∙◌, sym, subst, get_or, set}
-use Rattle.std.proofs.lemmas.Bool.{eqb-true, eq-eqb}
-use Rattle.std.specs.List.{filter}
+use Rattle.node_core.proofs.Words.{Bool, List, None, Some, ap, cond, false, get_or, length, nat_eq, not, position, refl, set, subst, sym}
+use Rattle.node_core.proofs.Words.{true, ℕ, [], ◌&&◌, ◌<◌, ◌==◌, ◌∙◌, ◌≡◌, filter, eq-eqb, eqb-true, lie, kept_climbs, flip, History}
+use Rattle.node_core.proofs.Words.{is_open, OutFrame, waiting, IsNext, is_full, with_entry, Entry, Accepted, follows_other, Follows, Parts}
+use Rattle.node_core.proofs.Words.{IsLinkOf, IsState, LinksFollow, facts, link_words, KeptLink}
 use Rattle.policy_audit.specs.declared.event.Event.TheVariants as event
 use Rattle.policy_audit.specs.declared.reply.Reply.TheVariants as reply
 use Rattle.policy_audit.specs.declared.rule.Rule.TheVariants as rule
-use Rattle.policy_audit.specs.declared.entry.Entry.{Entry}
-use Rattle.policy_audit.specs.declared.entry.Verdict.TheVariants.{Accepted}
-use Rattle.policy_audit.specs.OutFrame.{OutFrame}
-use Rattle.policy_audit.specs.History.{History}
-use Rattle.policy_audit.specs.Links.{is_open}
-use Rattle.policy_audit.specs.Owed.{waiting}
-use Rattle.policy_audit.specs.Policy.{IsNext, is_full, with_entry}
-use Rattle.policy_audit.proofs.Accepted.{lie}
-use Rattle.policy_audit.proofs.UpLinks.{flip}
-use Rattle.policy_audit.proofs.KeptNumbers.{kept_climbs}
 use Rattle.policy_audit.proofs.LinkFrames.{taken_links}
 use Rattle.policy_audit.proofs.LinksLeft.{taken_numbers}
-use Rattle.group_monitors.proofs.Followed.{follows_other}
 use Rattle.node_core.specs.declared.link_state.LinkState.{LinkState}
 use Rattle.node_core.specs.declared.link_state.LinkState.TheVariants as state
-use Rattle.node_core.specs.Links.{KeptLink, is_ended}
+use Rattle.node_core.specs.Links.{is_ended}
 use Rattle.node_core.specs.Gone.{without_ended}
-use Rattle.node_core.specs.LinkFacts.{facts, link_words, IsState, IsLinkOf, LinksFollow}
-use Rattle.node_core.specs.Core.{Parts, Follows}
 use Rattle.node_core.proofs.Entered.{made, sound_now}
 use Rattle.node_core.proofs.Quiet.{quiet_next}
 use Rattle.node_core.proofs.KeptOn.{one_follows}

@@ -1,21 +1,13 @@
 -- Links for which further frames wait.
-use Rattle.std.specs.Prelude.{◌≡◌, ℕ, Bool, true, false, cond, nat_eq, ◌&&◌, ◌||◌, not, List, [], ◌∷◌, ◌++◌, Some, map, Result, Ok, Err, OnErr, Option, None, is_some, IfSome, IfNone}
-use Rattle.std.proofs.Common.{refl, ap, ◌∙◌, sym, subst}
-use Rattle.std.proofs.lemmas.Bool.{eqb-true, eq-eqb}
-use Rattle.std.specs.List.{filter, AllByRecursion, AllZip}
-use Rattle.std.specs.Option.{option_map_or}
-use Rattle.dist_types.specs.Flags.{has_bit}
-use Rattle.policy_audit.specs.OutFrame.{OutFrame}
-use Rattle.policy_audit.proofs.Accepted.{lie}
-use Rattle.policy_audit.proofs.UpLinks.{and_false}
+use Rattle.node_core.proofs.Words.{Bool, Err, List, None, Ok, OnErr, Option, Some, ap, cond, false, is_some, map, nat_eq, not, refl, subst}
+use Rattle.node_core.proofs.Words.{sym, true, ℕ, [], ◌&&◌, ◌++◌, ◌||◌, ◌∙◌, ◌∷◌, ◌≡◌, AllByRecursion, AllZip, filter, option_map_or, eq-eqb}
+use Rattle.node_core.proofs.Words.{eqb-true, has_bit, lie, and_false, History, OutFrame, Follows, Parts, IsLinkOf, IsState, LinkFacts}
+use Rattle.node_core.proofs.Words.{LinkWords, LinksFollow, link_words, KeptLink, committed, prepared_for, unroomed, with_frames}
+use Rattle.node_core.proofs.Words.{with_prepared, is_number, Alike, AreIdle, AreTold, if_among, shown_numbers}
+use Rattle.std.proofs.Common.{Result, IfSome, IfNone}
 use Rattle.node_core.specs.declared.link_state.LinkState.{LinkState}
 use Rattle.node_core.specs.declared.link_state.LinkState.TheVariants as state
-use Rattle.node_core.specs.Links.{KeptLink, is_shown, with_frames, with_prepared, unroomed, committed, prepared_for}
-use Rattle.policy_audit.specs.History.{History}
-use Rattle.node_core.specs.Core.{Parts, Follows}
-use Rattle.node_core.specs.LinkFacts.{link_words, LinkFacts, LinkWords, IsState, IsLinkOf, LinksFollow}
-use Rattle.node_core.specs.ScopeFacts.{is_number}
-use Rattle.node_core.specs.Telling.{AreIdle, Alike, AreTold, if_among, shown_numbers}
+use Rattle.node_core.specs.Links.{is_shown}
 use Rattle.node_core.proofs.Zipped.{zipped_map}
 
 -- ---- over plain values

@@ -1,23 +1,13 @@
 -- Events that change monitors alone.
-use Rattle.std.specs.Prelude.{◌≡◌, ℕ, Bool, true, false, List, [], ◌∷◌, ◌++◌, Option, Some, None, length, Ok, Err, OnOk, OnErr, IsSome}
-use Rattle.std.specs.declared.result.Result.{Result}
-use Rattle.std.specs.Option.{option_map}
-use Rattle.std.proofs.Common.{refl, subst, sym}
-use Rattle.std.proofs.lemmas.List.{append-nil}
+use Rattle.node_core.proofs.Words.{Bool, Err, List, None, Ok, OnErr, Option, Some, false, length, refl, subst, sym, true, ℕ, [], ◌++◌, ◌∷◌}
+use Rattle.node_core.proofs.Words.{◌≡◌, option_map, Result, append-nil, lie, no_value, History, waiting, IsNext, next_number, Accepted}
+use Rattle.node_core.proofs.Words.{Event, Reply, Follows, Parts, LinksFollow}
+use Rattle.std.proofs.Common.{OnOk, IsSome}
 use Rattle.group_monitors.specs.declared.monitor.Monitor.{Monitor}
 use Rattle.group_monitors.specs.Monitors.{without, with_place}
 use Rattle.group_monitors.specs.Follows.{FollowsPolicy}
 use Rattle.group_monitors.proofs.Followed.{follows_group, follows_scope, follows_removed, follows_moved}
-use Rattle.policy_audit.specs.declared.event.Event.{Event}
 use Rattle.policy_audit.specs.declared.event.Event.TheVariants as event
-use Rattle.policy_audit.specs.declared.reply.Reply.{Reply}
-use Rattle.policy_audit.specs.declared.entry.Verdict.TheVariants.{Accepted}
-use Rattle.policy_audit.specs.History.{History}
-use Rattle.policy_audit.specs.Owed.{waiting}
-use Rattle.policy_audit.specs.Policy.{IsNext, next_number}
-use Rattle.policy_audit.proofs.Accepted.{lie, no_value}
-use Rattle.node_core.specs.LinkFacts.{LinksFollow}
-use Rattle.node_core.specs.Core.{Parts, Follows}
 use Rattle.node_core.proofs.Entered.{made, sound_now}
 use Rattle.node_core.proofs.Calm.{answered, same_links}
 

@@ -1,6 +1,6 @@
 -- A list whose elements are written one after the other.
-use Rattle.std.specs.Prelude.{◌≡◌, ℕ, zero, suc, ◌+◌, ◌<◌, List, [], ◌∷◌, ◌++◌, map, take, drop, length}
-use Rattle.std.proofs.Common.{refl, ap, ◌∙◌, subst, arith, get_or, set}
+use Rattle.node_core.proofs.Words.{List, ap, arith, drop, get_or, length, map, refl, set, subst, suc, take, zero, ℕ, [], ◌++◌, ◌+◌, ◌<◌}
+use Rattle.node_core.proofs.Words.{◌∙◌, ◌∷◌, ◌≡◌}
 
 module _ {A : Type 0} (f : A → A) where
   -- the first i elements, changed, and the others

@@ -1,5 +1,5 @@
-use Rattle.std.proofs.Common.{vec_len, ◌≡◌, ◌<◌, take, length, arith}
-use Rattle.std.proofs.lemmas.List.{take_more, take_all}
+use Rattle.node_core.proofs.Words.{arith, length, take, vec_len, ◌<◌, ◌≡◌, take_all}
+use Rattle.std.proofs.lemmas.List.{take_more}
 use Rattle.node_core.specs.Parting.{count_but}
 use Rattle.node_core.proofs.Partings.{no_partings, parted_some, parted_none, none_there, some_there}
 use Rattle.node_core.proofs.changes.changes_of.Goals as goal

@@ -1,5 +1,4 @@
-use Rattle.std.proofs.Common.{rules, refl, not, nat_eq}
-use Rattle.std.proofs.lemmas.Fn.{filter_same}
+use Rattle.node_core.proofs.Words.{nat_eq, not, refl, rules, filter_same}
 use Rattle.node_core.proofs.changes.cut_off.Goals as goal
 
 pub returns : goal.returns

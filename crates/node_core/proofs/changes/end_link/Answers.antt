@@ -1,5 +1,4 @@
-use Rattle.std.proofs.Common.{arith, drop, length}
-use Rattle.node_core.specs.Parting.{IsCutOff}
+use Rattle.node_core.proofs.Words.{arith, drop, length, IsCutOff}
 use Rattle.node_core.proofs.Zipped.{begun, zipped, all_zipped, whole}
 use Rattle.node_core.proofs.changes.end_link.Goals as goal
 

@@ -1,4 +1,4 @@
-use Rattle.std.proofs.Common.{arith, refl, drop, length}
+use Rattle.node_core.proofs.Words.{arith, drop, length, refl}
 use Rattle.node_core.specs.Parting.{HasParted}
 use Rattle.node_core.proofs.Zipped.{begun, zipped, all_zipped, whole}
 use Rattle.node_core.proofs.changes.leave_all.Goals as goal

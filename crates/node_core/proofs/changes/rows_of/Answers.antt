@@ -1,10 +1,6 @@
-use Rattle.std.proofs.Common.{◌∙◌, ap, map}
-use Rattle.std.proofs.lemmas.List.{take_all}
-use Rattle.dist_types.specs.Order.{row_cmp}
-use Rattle.dist_types.specs.Listing.{same_row}
+use Rattle.node_core.proofs.Words.{ap, map, ◌∙◌, take_all, same_row, row_cmp, row}
 use Rattle.dist_types.proofs.Orders.{rows_total}
 use Rattle.dist_types.proofs.Sorts.{sorted_listing}
-use Rattle.policy_audit.specs.Contents.{row}
 use Rattle.node_core.proofs.GroupRows.{rows_listing, rows_length}
 use Rattle.node_core.proofs.changes.rows_of.Goals as goal
 

@@ -1,7 +1,5 @@
-use Rattle.std.proofs.Common.{ap, ◌∙◌, ◌++◌, [], cond, set}
+use Rattle.node_core.proofs.Words.{ap, cond, set, [], ◌++◌, ◌∙◌, moved_on, older_of, without_link, narrow_frames}
 use Rattle.node_core.specs.declared.link_state.LinkState.TheVariants as states
-use Rattle.node_core.specs.Links.{narrow_frames}
-use Rattle.node_core.specs.Handshakes.{older_of, without_link, moved_on}
 use Rattle.node_core.proofs.Moves.{gone_on}
 use Rattle.node_core.proofs.handshaking.come_up.Goals as goal
 

@@ -1,8 +1,5 @@
-use Rattle.std.proofs.Common.{ap, ◌∙◌, sym, true, false, not, nat_eq, length, ℕ, set, refl}
-use Rattle.std.specs.Prelude.{◌==◌}
-use Rattle.std.specs.List.{filter}
-use Rattle.std.proofs.lemmas.List.{get_or_default, get_or-set_same}
-use Rattle.node_core.specs.Links.{KeptLink, narrow_frames}
+use Rattle.node_core.proofs.Words.{ap, false, length, nat_eq, not, refl, set, sym, true, ℕ, ◌==◌, ◌∙◌, filter, get_or-set_same}
+use Rattle.node_core.proofs.Words.{get_or_default, KeptLink, narrow_frames}
 use Rattle.node_core.proofs.Moves.{ended, none_is_empty}
 use Rattle.node_core.proofs.handshaking.end.Goals as goal
 

@@ -1,6 +1,4 @@
-use Rattle.std.proofs.Common.{ap, ◌∙◌, cond, None, set}
-use Rattle.node_core.specs.Links.{KeptLink, narrow_frames, dial_beside}
-use Rattle.node_core.specs.Handshakes.{without_link}
+use Rattle.node_core.proofs.Words.{None, ap, cond, set, ◌∙◌, without_link, KeptLink, dial_beside, narrow_frames}
 use Rattle.node_core.proofs.Moves.{gone_on, owed_on}
 use Rattle.node_core.proofs.handshaking.go_on.Goals as goal
 

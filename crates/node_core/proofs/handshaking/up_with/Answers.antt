@@ -1,9 +1,4 @@
-use Rattle.std.proofs.Common.{rules, tests, false}
-use Rattle.std.specs.Option.{option_map_or}
-use Rattle.std.proofs.lemmas.Iterator.{YieldsList-from_slice}
-use Rattle.std.proofs.lemmas.Iterator.Search.{find_from_yields_List}
-use Rattle.dist_types.specs.Listing.{same}
-use Rattle.node_core.specs.Links.{up_peer}
+use Rattle.node_core.proofs.Words.{false, rules, tests, option_map_or, YieldsList-from_slice, find_from_yields_List, same, up_peer}
 use Rattle.node_core.proofs.handshaking.up_with.Goals as goal
 
 pub returns : goal.returns

@@ -1,5 +1,4 @@
-use Rattle.std.proofs.Common.{arith}
-use Rattle.node_core.specs.Links.{committed}
+use Rattle.node_core.proofs.Words.{arith, committed}
 use Rattle.node_core.proofs.Written.{written}
 use Rattle.node_core.proofs.links.commit.Goals as goal
 

@@ -1,5 +1,4 @@
-use Rattle.std.proofs.Common.{◌≡◌, [], arith, ap, drop, length}
-use Rattle.node_core.specs.Links.{with_prepared, unroomed}
+use Rattle.node_core.proofs.Words.{ap, arith, drop, length, [], ◌≡◌, unroomed, with_prepared}
 use Rattle.node_core.proofs.Zipped.{begun, zipped, all_zipped, zipped_map, whole}
 use Rattle.node_core.proofs.links.forget.Goals as goal
 

@@ -1,9 +1,5 @@
-use Rattle.std.proofs.Common.{rules, tests, false}
-use Rattle.std.specs.Option.{option_map_or}
-use Rattle.std.proofs.lemmas.Iterator.{YieldsList-from_slice}
+use Rattle.node_core.proofs.Words.{false, rules, tests, option_map_or, YieldsList-from_slice, same, dialled_peer}
 use Rattle.std.proofs.lemmas.Iterator.Search.{any_from_yields_List}
-use Rattle.dist_types.specs.Listing.{same}
-use Rattle.node_core.specs.Links.{dialled_peer}
 use Rattle.node_core.proofs.links.is_dialling.Goals as goal
 
 pub returns : goal.returns

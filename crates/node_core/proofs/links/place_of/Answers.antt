@@ -1,6 +1,4 @@
-use Rattle.std.proofs.Common.{rules, tests, nat_eq}
-use Rattle.std.proofs.lemmas.Iterator.{YieldsList-from_slice}
-use Rattle.std.proofs.lemmas.Iterator.Search.{position_from_yields_List}
+use Rattle.node_core.proofs.Words.{nat_eq, rules, tests, YieldsList-from_slice, position_from_yields_List}
 use Rattle.node_core.proofs.links.place_of.Goals as goal
 
 pub returns : goal.returns

@@ -1,7 +1,4 @@
-use Rattle.std.proofs.Common.{◌<◌, [], map, length, arith, ap, sym, ◌∙◌}
-use Rattle.policy_audit.specs.Owed.{wide}
-use Rattle.policy_audit.proofs.Accepted.{lie}
-use Rattle.node_core.specs.Links.{with_prepared, unroomed, prepared_for}
+use Rattle.node_core.proofs.Words.{ap, arith, length, map, sym, [], ◌<◌, ◌∙◌, lie, wide, prepared_for, unroomed, with_prepared}
 use Rattle.node_core.proofs.Zipped.{begun, zipped, zipped_still, zipped_long, all_zipped, zipped_map}
 use Rattle.node_core.proofs.Preparing.{Prepared, unprepared, one_prepared, all_dropped, map_set, same_at, on_err, on_ok}
 use Rattle.node_core.proofs.links.prepare.Goals as goal

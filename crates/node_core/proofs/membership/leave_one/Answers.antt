@@ -1,6 +1,4 @@
-use Rattle.std.proofs.Common.{refl, ap}
-use Rattle.policy_audit.specs.Owed.{wide}
-use Rattle.node_core.specs.Telling.{said_to}
+use Rattle.node_core.proofs.Words.{ap, refl, wide, said_to}
 use Rattle.node_core.specs.Moving.{leave_of}
 use Rattle.node_core.proofs.Said.{leave_fault, dropped_again, untold}
 use Rattle.node_core.proofs.Told.{prepared_told}

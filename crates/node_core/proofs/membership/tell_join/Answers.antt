@@ -1,4 +1,4 @@
-use Rattle.std.proofs.Common.{◌∙◌}
+use Rattle.node_core.proofs.Words.{◌∙◌}
 use Rattle.node_core.proofs.Said.{joined_rows_are}
 use Rattle.node_core.proofs.Told.{at_errors, forgotten}
 use Rattle.node_core.proofs.membership.tell_join.Goals as goal

@@ -1,5 +1,4 @@
-use Rattle.std.proofs.Common.{◌∙◌}
-use Rattle.scope_core.specs.Table.{local_count}
+use Rattle.node_core.proofs.Words.{◌∙◌, local_count}
 use Rattle.node_core.proofs.Said.{left_rows_are}
 use Rattle.node_core.proofs.Told.{at_errors, forgotten}
 use Rattle.node_core.proofs.membership.tell_leave.Goals as goal

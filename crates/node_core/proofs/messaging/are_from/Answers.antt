@@ -1,8 +1,4 @@
-use Rattle.std.proofs.Common.{rules, tests, ◌&&◌}
-use Rattle.std.specs.Prelude.{◌==◌}
-use Rattle.std.proofs.lemmas.Iterator.{YieldsList-from_slice}
-use Rattle.std.proofs.lemmas.Iterator.Search.{all_from_yields_List}
-use Rattle.dist_types.specs.Listing.{same}
+use Rattle.node_core.proofs.Words.{rules, tests, ◌&&◌, ◌==◌, YieldsList-from_slice, all_from_yields_List, same}
 use Rattle.node_core.proofs.messaging.are_from.Goals as goal
 
 pub returns : goal.returns

@@ -1,4 +1,4 @@
-use Rattle.std.proofs.Common.{◌∙◌}
+use Rattle.node_core.proofs.Words.{◌∙◌}
 use Rattle.node_core.proofs.Told.{at_errors, forgotten}
 use Rattle.node_core.proofs.scoping.prepare_shown.Goals as goal
 

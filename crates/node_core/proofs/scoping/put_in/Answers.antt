@@ -1,4 +1,4 @@
-use Rattle.std.proofs.Common.{rules}
+use Rattle.node_core.proofs.Words.{rules}
 use Rattle.std.proofs.lemmas.List.Sorted.{IsPartitionPoint-from_clause}
 use Rattle.node_core.proofs.Starting.{is_before, before_partitions, put_at}
 use Rattle.node_core.proofs.scoping.put_in.Goals as goal

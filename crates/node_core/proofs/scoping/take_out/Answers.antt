@@ -1,6 +1,4 @@
-use Rattle.std.proofs.Common.{rules, not}
-use Rattle.std.proofs.lemmas.Fn.{filter_same}
-use Rattle.dist_types.specs.Listing.{same}
+use Rattle.node_core.proofs.Words.{not, rules, filter_same, same}
 use Rattle.node_core.proofs.scoping.take_out.Goals as goal
 
 pub returns : goal.returns

@@ -1,5 +1,4 @@
-use Rattle.policy_audit.specs.Owed.{wide}
-use Rattle.node_core.specs.Telling.{shown_numbers}
+use Rattle.node_core.proofs.Words.{wide, shown_numbers}
 use Rattle.node_core.proofs.Told.{prepared_told}
 use Rattle.node_core.proofs.scoping.tell_shown.Goals as goal
 

@@ -1,10 +1,5 @@
-use Rattle.std.proofs.Common.{◌∙◌, sym, arith}
-use Rattle.std.specs.Prelude.{vec_len}
+use Rattle.node_core.proofs.Words.{arith, sym, vec_len, ◌∙◌, wide, exit_frames, rows_left, said_to}
 use Rattle.link_frames.specs.declared.message.Message.TheVariants as said
-use Rattle.policy_audit.specs.Owed.{wide}
-use Rattle.node_core.specs.Exiting.{exit_frames}
-use Rattle.node_core.specs.Parting.{rows_left}
-use Rattle.node_core.specs.Telling.{said_to}
 use Rattle.node_core.proofs.Exits.{forgot_bare, prepared_among, prepared_none, no_frames, is_none}
 use Rattle.node_core.proofs.RowsGone.{few_left}
 use Rattle.node_core.proofs.Told.{at_errors}

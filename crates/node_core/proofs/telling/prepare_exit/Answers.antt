@@ -1,8 +1,7 @@
-use Rattle.std.proofs.Common.{◌∙◌, ap, sym, subst, take, ◌≡◌, ◌++◌, ◌∷◌, [], cond, not, refl, arith, true, false}
-use Rattle.std.specs.Prelude.{vec_len}
-use Rattle.dist_types.specs.Difference.{is_empty}
-use Rattle.std.proofs.lemmas.List.{take_all, take_more}
-use Rattle.node_core.specs.Exiting.{all_frames, exit_frames, AreExits}
+use Rattle.node_core.proofs.Words.{ap, arith, cond, false, not, refl, subst, sym, take, true, vec_len, [], ◌++◌, ◌∙◌, ◌∷◌, ◌≡◌, take_all}
+use Rattle.node_core.proofs.Words.{is_empty, all_frames, exit_frames}
+use Rattle.std.proofs.lemmas.List.{take_more}
+use Rattle.node_core.specs.Exiting.{AreExits}
 use Rattle.node_core.proofs.Exits.{exits_none, exits_on, prepared_bare, one_more, none_more, none_is}
 use Rattle.node_core.proofs.KeptOn.{each_at}
 use Rattle.node_core.proofs.Told.{at_errors}

@@ -1,4 +1,4 @@
-use Rattle.std.proofs.Common.{◌∙◌, sym}
+use Rattle.node_core.proofs.Words.{sym, ◌∙◌}
 use Rattle.node_core.proofs.Said.{spelled, said_prepared, unsaid_prepared}
 use Rattle.node_core.proofs.telling.prepare_said.Goals as goal
 

@@ -1,4 +1,4 @@
-use Rattle.node_core.specs.Exiting.{all_frames}
+use Rattle.node_core.proofs.Words.{all_frames}
 use Rattle.node_core.proofs.Exits.{prepared_waits, dropped_all}
 use Rattle.node_core.proofs.telling.tell_exit.Goals as goal
 

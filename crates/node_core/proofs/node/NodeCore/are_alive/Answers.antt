@@ -1,9 +1,5 @@
-use Rattle.std.proofs.Common.{rules, tests, ◌∙◌}
-use Rattle.std.proofs.lemmas.Iterator.{YieldsList-from_slice}
-use Rattle.std.proofs.lemmas.Iterator.Search.{all_from_yields_List}
-use Rattle.policy_audit.specs.History.{past}
+use Rattle.node_core.proofs.Words.{rules, tests, ◌∙◌, YieldsList-from_slice, all_from_yields_List, past, is_number}
 use Rattle.node_core.proofs.Joining.{alive_all}
-use Rattle.node_core.specs.ScopeFacts.{is_number}
 use Rattle.node_core.proofs.node.NodeCore.are_alive.Goals as goal
 
 pub returns : goal.returns

@@ -1,7 +1,4 @@
-use Rattle.std.proofs.Common.{rules, tests}
-use Rattle.std.proofs.lemmas.Iterator.{YieldsList-from_slice}
-use Rattle.std.proofs.lemmas.Iterator.Search.{all_from_yields_List}
-use Rattle.policy_audit.specs.Own.{is_local}
+use Rattle.node_core.proofs.Words.{rules, tests, YieldsList-from_slice, all_from_yields_List, is_local}
 use Rattle.node_core.proofs.node.NodeCore.are_local.Goals as goal
 
 pub returns : goal.returns

@@ -1,7 +1,6 @@
-use Rattle.std.proofs.Common.{refl, []}
+use Rattle.node_core.proofs.Words.{refl, [], past}
 use Rattle.policy_audit.specs.declared.event.Event.TheVariants as event
 use Rattle.policy_audit.specs.declared.reply.Reply.TheVariants as reply
-use Rattle.policy_audit.specs.History.{past}
 use Rattle.node_core.proofs.Entered.{steps_on}
 use Rattle.node_core.proofs.Quiet.{quiet_next}
 use Rattle.group_monitors.proofs.FromPolicy.{follows_checked}

@@ -1,7 +1,6 @@
-use Rattle.std.proofs.Common.{[], sym, ◌∙◌}
+use Rattle.node_core.proofs.Words.{sym, [], ◌∙◌, past}
 use Rattle.policy_audit.specs.declared.event.Event.TheVariants as event
 use Rattle.policy_audit.specs.declared.reply.Reply.TheVariants as reply
-use Rattle.policy_audit.specs.History.{past}
 use Rattle.node_core.proofs.Entered.{steps_on}
 use Rattle.node_core.proofs.Openings.{dialled_next, dialled_follows}
 use Rattle.node_core.proofs.LinkTests.{not_some}

@@ -1,9 +1,6 @@
-use Rattle.std.proofs.Common.{◌∙◌, sym, ap, true, false, refl, arith}
-use Rattle.std.specs.Option.{option_map_or, is_some}
-use Rattle.dist_types.specs.Listing.{same}
+use Rattle.node_core.proofs.Words.{ap, arith, false, refl, sym, true, ◌∙◌, option_map_or, same, past, up_peer}
+use Rattle.std.specs.Option.{is_some}
 use Rattle.link_states.proofs.AllowedLemmas.{allowed_is}
-use Rattle.policy_audit.specs.History.{past}
-use Rattle.node_core.specs.Links.{up_peer}
 use Rattle.node_core.proofs.Openings.{links_full, links_fit}
 use Rattle.node_core.proofs.LinkTests.{up_is, dialling_is, allowed_by, dial_by}
 use Rattle.node_core.proofs.Found.{place_found}

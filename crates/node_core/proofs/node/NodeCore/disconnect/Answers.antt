@@ -1,13 +1,8 @@
-use Rattle.std.proofs.Common.{[], ap, sym, ◌∙◌, cond, not, Some, None, subst, length, ◌<◌, false}
-use Rattle.std.specs.Option.{option_map_or}
-use Rattle.std.proofs.lemmas.List.Quantifiers.{position-Some}
-use Rattle.dist_types.specs.Listing.{same}
+use Rattle.node_core.proofs.Words.{None, Some, ap, cond, false, length, not, subst, sym, [], ◌<◌, ◌∙◌, option_map_or, position-Some, same}
+use Rattle.node_core.proofs.Words.{past, AreCut, AreLost, up_peer}
 use Rattle.policy_audit.specs.declared.event.Event.TheVariants as event
 use Rattle.policy_audit.specs.declared.reply.Reply.TheVariants as reply
 use Rattle.policy_audit.specs.declared.rule.Rule.TheVariants as rule
-use Rattle.policy_audit.specs.History.{past}
-use Rattle.node_core.specs.Links.{up_peer}
-use Rattle.node_core.specs.Gone.{AreLost, AreCut}
 use Rattle.node_core.proofs.Entered.{steps_on}
 use Rattle.node_core.proofs.Preparing.{same_at}
 use Rattle.node_core.proofs.Losing.{not_up, parting_next, parting_follows}

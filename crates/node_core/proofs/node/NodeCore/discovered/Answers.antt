@@ -1,6 +1,4 @@
-use Rattle.std.proofs.Common.{[], ap, ◌∙◌, arith, set, subst}
-use Rattle.std.proofs.lemmas.List.{get_or-set_same}
-use Rattle.policy_audit.specs.History.{past}
+use Rattle.node_core.proofs.Words.{ap, arith, set, subst, [], ◌∙◌, get_or-set_same, past}
 use Rattle.policy_audit.specs.declared.event.Event.TheVariants as event
 use Rattle.policy_audit.specs.declared.reply.Reply.TheVariants as reply
 use Rattle.link_frames.specs.declared.message.Message.TheVariants as said

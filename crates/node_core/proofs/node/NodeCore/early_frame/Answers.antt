@@ -1,14 +1,8 @@
-use Rattle.std.proofs.Common.{ap, sym, ◌∙◌, nat_eq, [], List, ℕ, length, ◌≤◌, subst, arith}
-use Rattle.std.specs.Prelude.{position}
-use Rattle.std.specs.List.{flat_map}
-use Rattle.std.specs.Option.{option_to_list}
+use Rattle.node_core.proofs.Words.{List, ap, arith, length, nat_eq, position, subst, sym, ℕ, [], ◌∙◌, ◌≤◌, flat_map, option_to_list, lie}
+use Rattle.node_core.proofs.Words.{past, Hears, KeptLink, dialled_peer, up_peer}
 use Rattle.policy_audit.specs.declared.event.Event.TheVariants as event
 use Rattle.policy_audit.specs.declared.reply.Reply.TheVariants as reply
-use Rattle.policy_audit.specs.History.{past}
-use Rattle.policy_audit.proofs.Accepted.{lie}
 use Rattle.node_core.specs.declared.hearing.Heard.TheVariants as heard
-use Rattle.node_core.specs.Hearing.{Hears}
-use Rattle.node_core.specs.Links.{KeptLink, up_peer, dialled_peer}
 use Rattle.node_core.proofs.EarlyFrame.{handshakes, early_never_up, early_few, early_few_ended, early_went_on, early_broke}
 use Rattle.node_core.proofs.Entered.{steps_on, steps_refused}
 use Rattle.node_core.proofs.HeardFrames.{closed_without, is_there}

@@ -1,8 +1,6 @@
-use Rattle.std.proofs.Common.{◌∙◌, sym, refl}
+use Rattle.node_core.proofs.Words.{refl, sym, ◌∙◌, past, link_words}
 use Rattle.policy_audit.specs.declared.event.Event.TheVariants as event
 use Rattle.policy_audit.specs.declared.reply.Reply.TheVariants as reply
-use Rattle.policy_audit.specs.History.{past}
-use Rattle.node_core.specs.LinkFacts.{link_words}
 use Rattle.node_core.proofs.Entered.{steps_on}
 use Rattle.node_core.proofs.Told.{alike_again, follow_idle}
 use Rattle.node_core.proofs.Exited.{exit_foreign, exit_own, exit_next, exit_follows}

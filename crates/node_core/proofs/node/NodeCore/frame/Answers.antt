@@ -1,7 +1,5 @@
-use Rattle.std.proofs.Common.{sym, ◌∙◌}
-use Rattle.policy_audit.specs.History.{past}
+use Rattle.node_core.proofs.Words.{sym, ◌∙◌, past, facts}
 use Rattle.node_core.specs.declared.link_state.LinkState.TheVariants as states
-use Rattle.node_core.specs.LinkFacts.{facts}
 use Rattle.node_core.proofs.FrameArms.{early_by, last_by, closed_rule, closed_calm, none_open, state_at, up_by}
 use Rattle.node_core.proofs.node.NodeCore.frame.Goals as goal
 

@@ -1,8 +1,4 @@
-use Rattle.std.proofs.Common.{◌∙◌, ap, false}
-use Rattle.std.specs.Prelude.{is_some}
-use Rattle.std.specs.Option.{option_map_or}
-use Rattle.dist_types.specs.Listing.{same}
-use Rattle.node_core.specs.Links.{up_peer}
+use Rattle.node_core.proofs.Words.{ap, false, is_some, ◌∙◌, option_map_or, same, up_peer}
 use Rattle.node_core.proofs.Found.{place_found}
 use Rattle.node_core.proofs.ReadLinks.{peer_up}
 use Rattle.node_core.proofs.node.NodeCore.is_peer_up.Goals as goal

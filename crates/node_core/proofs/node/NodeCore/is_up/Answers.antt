@@ -1,4 +1,4 @@
-use Rattle.std.proofs.Common.{◌∙◌}
+use Rattle.node_core.proofs.Words.{◌∙◌}
 use Rattle.node_core.proofs.ReadLinks.{link_up}
 use Rattle.node_core.proofs.node.NodeCore.is_up.Goals as goal
 

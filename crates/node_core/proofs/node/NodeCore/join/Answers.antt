@@ -1,8 +1,6 @@
-use Rattle.std.proofs.Common.{sym}
+use Rattle.node_core.proofs.Words.{sym, past, link_words}
 use Rattle.policy_audit.specs.declared.event.Event.TheVariants as event
 use Rattle.policy_audit.specs.declared.reply.Reply.TheVariants as reply
-use Rattle.policy_audit.specs.History.{past}
-use Rattle.node_core.specs.LinkFacts.{link_words}
 use Rattle.node_core.proofs.Entered.{steps_on}
 use Rattle.node_core.proofs.Moved.{unmoved}
 use Rattle.node_core.proofs.Placed.{runs_at, unplaced}

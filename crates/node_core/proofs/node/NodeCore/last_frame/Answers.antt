@@ -1,14 +1,11 @@
-use Rattle.std.proofs.Common.{refl, ap, sym, subst, ◌∙◌, ◌≡◌, nat_eq, [], List, ℕ, length, ◌+◌, ◌≤◌, arith}
+use Rattle.node_core.proofs.Words.{List, ap, arith, length, nat_eq, position, refl, subst, sym, ℕ, [], ◌+◌, ◌∙◌, ◌≡◌, ◌≤◌, lie, past, Hears}
+use Rattle.node_core.proofs.Words.{KeptLink, known_peer}
 use Rattle.std.proofs.lemmas.List.{length-map}
-use Rattle.std.specs.Prelude.{position}
 use Rattle.policy_audit.specs.declared.event.Event.TheVariants as event
 use Rattle.policy_audit.specs.declared.reply.Reply.TheVariants as reply
-use Rattle.policy_audit.specs.History.{past}
-use Rattle.policy_audit.proofs.Accepted.{lie}
 use Rattle.node_core.specs.declared.hearing.Heard.TheVariants as heard
 use Rattle.node_core.specs.declared.link_state.LinkState.TheVariants as states
-use Rattle.node_core.specs.Hearing.{Hears, nobody}
-use Rattle.node_core.specs.Links.{KeptLink, known_peer}
+use Rattle.node_core.specs.Hearing.{nobody}
 use Rattle.node_core.proofs.Entered.{steps_on, steps_refused}
 use Rattle.node_core.proofs.HeardFrames.{closed_without, is_there, link_there}
 use Rattle.node_core.proofs.HeldLink.{held_now, held_ready, held_restored, held_seen, room_follows}

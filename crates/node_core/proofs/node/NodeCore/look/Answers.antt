@@ -1,4 +1,4 @@
-use Rattle.std.proofs.Common.{◌∙◌, ap, sym, cond, not, Some, None}
+use Rattle.node_core.proofs.Words.{None, Some, ap, cond, not, sym, ◌∙◌}
 use Rattle.policy_audit.specs.declared.reply.Reply.TheVariants as reply
 use Rattle.policy_audit.specs.declared.rule.Rule.TheVariants as rule
 use Rattle.node_core.proofs.Scopes.{members_are, local_members_are, groups_are, local_groups_are}

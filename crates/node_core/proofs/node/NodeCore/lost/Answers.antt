@@ -1,10 +1,7 @@
-use Rattle.std.proofs.Common.{ap, sym, ◌∙◌, cond, not, Some, None, subst, length, ◌<◌}
+use Rattle.node_core.proofs.Words.{None, Some, ap, cond, length, not, subst, sym, ◌<◌, ◌∙◌, past, AreCut, AreLost, up_peer}
 use Rattle.policy_audit.specs.declared.event.Event.TheVariants as event
 use Rattle.policy_audit.specs.declared.reply.Reply.TheVariants as reply
 use Rattle.policy_audit.specs.declared.rule.Rule.TheVariants as rule
-use Rattle.policy_audit.specs.History.{past}
-use Rattle.node_core.specs.Links.{up_peer}
-use Rattle.node_core.specs.Gone.{AreLost, AreCut}
 use Rattle.node_core.proofs.Entered.{steps_on}
 use Rattle.node_core.proofs.Places.{not_kept, link_at}
 use Rattle.node_core.proofs.Preparing.{same_at}

@@ -1,4 +1,4 @@
-use Rattle.std.proofs.Common.{◌∙◌}
+use Rattle.node_core.proofs.Words.{◌∙◌}
 use Rattle.node_core.proofs.Scopes.{members_are}
 use Rattle.node_core.proofs.node.NodeCore.monitor.Goals as goal
 

@@ -1,4 +1,4 @@
-use Rattle.std.proofs.Common.{rules}
+use Rattle.node_core.proofs.Words.{rules}
 use Rattle.node_core.proofs.Begun.{begun}
 use Rattle.node_core.proofs.node.NodeCore.new.Goals as goal
 

@@ -1,8 +1,7 @@
-use Rattle.std.proofs.Common.{[], ap, cond, not, Some, None, arith, ◌∙◌, ◌≤◌, ◌<◌, length}
+use Rattle.node_core.proofs.Words.{None, Some, ap, arith, cond, length, not, [], ◌<◌, ◌∙◌, ◌≤◌, past}
 use Rattle.policy_audit.specs.declared.event.Event.TheVariants as event
 use Rattle.policy_audit.specs.declared.reply.Reply.TheVariants as reply
 use Rattle.policy_audit.specs.declared.rule.Rule.TheVariants as rule
-use Rattle.policy_audit.specs.History.{past}
 use Rattle.node_core.proofs.Entered.{steps_on}
 use Rattle.node_core.proofs.Openings.{links_full, links_fit, opened_next, opened_follows}
 use Rattle.node_core.proofs.node.NodeCore.opened.Goals as goal

@@ -1,5 +1,4 @@
-use Rattle.std.proofs.Common.{◌∙◌, ap}
-use Rattle.dist_types.specs.Listing.{same, occurrences}
+use Rattle.node_core.proofs.Words.{ap, ◌∙◌, occurrences, same}
 use Rattle.node_core.proofs.ReadLinks.{names_are, names_once}
 use Rattle.node_core.proofs.node.NodeCore.peers.Goals as goal
 

@@ -1,5 +1,4 @@
-use Rattle.std.proofs.Common.{refl, []}
-use Rattle.policy_audit.specs.declared.entry.Verdict.TheVariants.{Refused}
+use Rattle.node_core.proofs.Words.{refl, [], Refused}
 use Rattle.node_core.proofs.Entered.{refused_now, next_now, steps_refused}
 use Rattle.node_core.proofs.Calm.{refused_same, refused_change, follows_same}
 use Rattle.node_core.proofs.node.NodeCore.refuse.Goals as goal

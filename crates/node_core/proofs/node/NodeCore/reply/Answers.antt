@@ -1,6 +1,4 @@
-use Rattle.std.proofs.Common.{[]}
-use Rattle.policy_audit.specs.declared.entry.Verdict.TheVariants.{Accepted}
-use Rattle.policy_audit.specs.History.{past}
+use Rattle.node_core.proofs.Words.{[], past, Accepted}
 use Rattle.node_core.proofs.Entered.{accepted_now, next_now, steps_on}
 use Rattle.node_core.proofs.Calm.{query_same, query_change, query_watches, follows_same}
 use Rattle.node_core.proofs.node.NodeCore.reply.Goals as goal

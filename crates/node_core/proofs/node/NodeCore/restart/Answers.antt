@@ -1,7 +1,6 @@
-use Rattle.std.proofs.Common.{refl, ◌∙◌, sym, ap, ℕ, ◌+◌}
+use Rattle.node_core.proofs.Words.{ap, refl, sym, ℕ, ◌+◌, ◌∙◌, past}
 use Rattle.policy_audit.specs.declared.event.Event.TheVariants as event
 use Rattle.policy_audit.specs.declared.reply.Reply.TheVariants as reply
-use Rattle.policy_audit.specs.History.{past}
 use Rattle.node_core.proofs.Entered.{steps_on}
 use Rattle.node_core.proofs.Anew.{creation_spent, creation_left, anew_next, anew_follows}
 use Rattle.node_core.proofs.node.NodeCore.restart.Goals as goal

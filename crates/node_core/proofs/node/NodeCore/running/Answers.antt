@@ -1,4 +1,4 @@
-use Rattle.policy_audit.specs.History.{past}
+use Rattle.node_core.proofs.Words.{past}
 use Rattle.node_core.proofs.Scopes.{running_here, not_running}
 use Rattle.node_core.proofs.node.NodeCore.running.Goals as goal
 

@@ -1,8 +1,7 @@
-use Rattle.std.proofs.Common.{refl, [], ap, cond, not, Some, None}
+use Rattle.node_core.proofs.Words.{None, Some, ap, cond, not, refl, [], past}
 use Rattle.policy_audit.specs.declared.event.Event.TheVariants as event
 use Rattle.policy_audit.specs.declared.reply.Reply.TheVariants as reply
 use Rattle.policy_audit.specs.declared.rule.Rule.TheVariants as rule
-use Rattle.policy_audit.specs.History.{past}
 use Rattle.node_core.proofs.Entered.{steps_on}
 use Rattle.node_core.proofs.Cookies.{cookie_for_follows, cookie_calm, peers_fit}
 use Rattle.node_core.proofs.Quiet.{quiet_next, set_cookie_for_follows}

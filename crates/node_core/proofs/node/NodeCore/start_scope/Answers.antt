@@ -1,11 +1,6 @@
-use Rattle.std.proofs.Common.{◌∙◌, ◌<◌, sym, subst, [], length, arith}
+use Rattle.node_core.proofs.Words.{arith, length, subst, sym, [], ◌<◌, ◌∙◌, Rises, text_cmp, running_rises, past, link_words}
 use Rattle.policy_audit.specs.declared.event.Event.TheVariants as event
 use Rattle.policy_audit.specs.declared.reply.Reply.TheVariants as reply
-use Rattle.policy_audit.specs.History.{past}
-use Rattle.policy_audit.proofs.ScopesNow.{running_rises}
-use Rattle.dist_types.specs.Listing.{Rises}
-use Rattle.dist_types.specs.Order.{text_cmp}
-use Rattle.node_core.specs.LinkFacts.{link_words}
 use Rattle.node_core.proofs.Entered.{steps_on}
 use Rattle.node_core.proofs.Told.{at_none, at_some, follow_idle, alike_again}
 use Rattle.node_core.proofs.Starting.{scope_running, start_next, start_follows}

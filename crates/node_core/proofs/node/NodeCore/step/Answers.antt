@@ -1,4 +1,4 @@
-use Rattle.std.proofs.Common.{sym, ◌∙◌}
+use Rattle.node_core.proofs.Words.{sym, ◌∙◌}
 use Rattle.policy_audit.specs.declared.event.Event.TheVariants as event
 use Rattle.node_core.proofs.StepAnswers.{handled, full_step}
 use Rattle.node_core.proofs.node.NodeCore.step.Goals as goal

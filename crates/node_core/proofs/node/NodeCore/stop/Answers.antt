@@ -1,8 +1,6 @@
+use Rattle.node_core.proofs.Words.{if_some, past, link_words}
 use Rattle.policy_audit.specs.declared.event.Event.TheVariants as event
 use Rattle.policy_audit.specs.declared.reply.Reply.TheVariants as reply
-use Rattle.policy_audit.specs.Changes.{if_some}
-use Rattle.policy_audit.specs.History.{past}
-use Rattle.node_core.specs.LinkFacts.{link_words}
 use Rattle.node_core.proofs.Entered.{steps_on}
 use Rattle.node_core.proofs.Told.{follow_idle, alike_again}
 use Rattle.node_core.proofs.Stopping.{stop_next, stop_follows}

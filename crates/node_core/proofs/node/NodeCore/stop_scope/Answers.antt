@@ -1,6 +1,4 @@
-use Rattle.std.proofs.Common.{subst}
-use Rattle.dist_types.specs.Difference.{IsDifference}
-use Rattle.scope_core.specs.Calls.{no_count}
+use Rattle.node_core.proofs.Words.{subst, IsDifference, no_count}
 use Rattle.node_core.proofs.Scopes.{counts_listed}
 use Rattle.node_core.proofs.node.NodeCore.stop_scope.Goals as goal
 

@@ -1,6 +1,4 @@
-use Rattle.std.proofs.Common.{arith, set}
-use Rattle.policy_audit.specs.History.{past}
-use Rattle.policy_audit.specs.Changes.{if_some}
+use Rattle.node_core.proofs.Words.{arith, set, if_some, past}
 use Rattle.policy_audit.specs.declared.event.Event.TheVariants as event
 use Rattle.policy_audit.specs.declared.reply.Reply.TheVariants as reply
 use Rattle.link_frames.specs.declared.message.Message.TheVariants as said

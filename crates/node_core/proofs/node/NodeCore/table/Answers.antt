@@ -1,5 +1,4 @@
-use Rattle.std.proofs.Common.{ap, sym, ◌∙◌}
-use Rattle.policy_audit.specs.Listed.{listed}
+use Rattle.node_core.proofs.Words.{ap, sym, ◌∙◌, listed}
 use Rattle.node_core.proofs.node.NodeCore.table.Goals as goal
 
 pub returns-clause-runs : goal.returns-clause-runs

@@ -1,9 +1,7 @@
-use Rattle.std.proofs.Common.{[], ap, sym, ◌∙◌, cond, not, Some, None, length, ◌<◌}
-use Rattle.std.proofs.lemmas.List.{get_or-set_same}
+use Rattle.node_core.proofs.Words.{None, Some, ap, cond, length, not, sym, [], ◌<◌, ◌∙◌, get_or-set_same, past}
 use Rattle.policy_audit.specs.declared.event.Event.TheVariants as event
 use Rattle.policy_audit.specs.declared.reply.Reply.TheVariants as reply
 use Rattle.policy_audit.specs.declared.rule.Rule.TheVariants as rule
-use Rattle.policy_audit.specs.History.{past}
 use Rattle.node_core.proofs.Entered.{steps_on}
 use Rattle.node_core.proofs.Places.{not_kept, link_at}
 use Rattle.node_core.proofs.Preparing.{same_at}

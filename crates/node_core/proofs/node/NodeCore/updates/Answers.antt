@@ -1,10 +1,8 @@
-use Rattle.std.proofs.Common.{refl, [], ◌∷◌, ap, length, arith}
+use Rattle.node_core.proofs.Words.{ap, arith, length, refl, [], ◌∷◌, past, Accepted}
 use Rattle.group_monitors.specs.Monitors.{monitor_of, with_place, updates_behind}
 use Rattle.group_monitors.proofs.FromPolicy.{follows_seen, follows_seen_later, follows_refused, follows_told}
 use Rattle.policy_audit.specs.declared.event.Event.TheVariants as event
 use Rattle.policy_audit.specs.declared.reply.Reply.TheVariants as reply
-use Rattle.policy_audit.specs.declared.entry.Verdict.TheVariants.{Accepted}
-use Rattle.policy_audit.specs.History.{past}
 use Rattle.node_core.proofs.Entered.{made, steps_on}
 use Rattle.node_core.proofs.Quiet.{quiet_next}
 use Rattle.node_core.proofs.Watching.{advanced, fetched, told_one}

@@ -1,6 +1,4 @@
-use Rattle.std.proofs.Common.{◌≡◌, arith, sym, ◌∙◌, ap, cond, length, subst, Some, None}
-use Rattle.policy_audit.specs.History.{past}
-use Rattle.policy_audit.specs.Owed.{waiting, is_kept}
+use Rattle.node_core.proofs.Words.{None, Some, ap, arith, cond, length, subst, sym, ◌∙◌, ◌≡◌, past, is_kept, waiting}
 use Rattle.node_core.proofs.MessagePlaces.{link_within, waits_none, waits_some}
 use Rattle.node_core.proofs.node.NodeCore.waiting.Goals as goal
 

@@ -1,8 +1,7 @@
-use Rattle.std.proofs.Common.{refl, [], ap, sym, cond, not, Some, None, subst}
+use Rattle.node_core.proofs.Words.{None, Some, ap, cond, not, refl, subst, sym, [], past}
 use Rattle.policy_audit.specs.declared.event.Event.TheVariants as event
 use Rattle.policy_audit.specs.declared.reply.Reply.TheVariants as reply
 use Rattle.policy_audit.specs.declared.rule.Rule.TheVariants as rule
-use Rattle.policy_audit.specs.History.{past}
 use Rattle.node_core.proofs.Entered.{steps_on}
 use Rattle.node_core.proofs.Quiet.{quiet_next}
 use Rattle.group_monitors.specs.Monitors.{IsFree}

@@ -1,5 +1,4 @@
-use Rattle.std.proofs.Common.{◌≡◌, ◌+◌, ◌∙◌, sym, ap, cond}
-use Rattle.std.specs.Prelude.{length, true}
+use Rattle.node_core.proofs.Words.{ap, cond, length, sym, true, ◌+◌, ◌∙◌, ◌≡◌}
 use Rattle.node_core.proofs.processes.Processes.exit.Goals as goal
 
 pub returns-clause-count : goal.returns-clause-count
