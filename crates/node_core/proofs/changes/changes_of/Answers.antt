@@ -1,12 +1,9 @@
-use Rattle.node_core.proofs.Words.{arith, length, take, vec_len, ◌<◌, ◌≡◌, take_all}
+use Rattle.node_core.proofs.Words.{arith, length, take, vec_len, ◌<◌, ◌≡◌}
 use Rattle.std.proofs.lemmas.List.{take_more}
 use Rattle.node_core.specs.Parting.{count_but}
-use Rattle.node_core.proofs.Partings.{no_partings, parted_some, parted_none, none_there, some_there}
+use Rattle.node_core.proofs.Partings.{parted_some, parted_none, none_there, some_there}
 use Rattle.node_core.proofs.changes.changes_of.Goals as goal
 use Rattle.node_core.proofs.changes.changes_of.Goals.{then-not-is_empty+in_ok-try_clone+in_ok-push, else-not-is_empty}
-
-pub loop-running-init : goal.loop-running-init
-loop-running-init c = rw c.new-changes.ensures.items (no_partings (count_but c.args.part))
 
 pub loop-running-preserved : goal.loop-running-preserved
 loop-running-preserved c =
@@ -20,8 +17,3 @@ loop-running-preserved c =
           let long : vec_len c.in_ok-groups.groups ≡ length c.in_ok-groups.groups.items = omega arith in
           rw w.changes-is (parted_none (count_but c.args.part) (take c.loop-running.running-index c.args.scopes.now) c.loop-running.changes.items c.running-item.result c.in_ok-groups.groups.items c.loop-running.invariant c.in_ok-groups.ensures (none_there (vec_len c.in_ok-groups.groups) c.in_ok-groups.groups.items long w.if-not-is_empty.ensures))
     ])
-
-pub returns : goal.returns
-returns c =
-    let whole = take_all c.loop-running.running-index c.args.scopes.now (omega arith) in
-    rw whole at c.loop-running.invariant

@@ -1,9 +1,6 @@
 use Rattle.node_core.proofs.Words.{ap, arith, drop, length, [], ◌≡◌, unroomed, with_prepared}
-use Rattle.node_core.proofs.Zipped.{begun, zipped, all_zipped, zipped_map, whole}
+use Rattle.node_core.proofs.Zipped.{zipped, all_zipped, zipped_map, whole}
 use Rattle.node_core.proofs.links.forget.Goals as goal
-
-pub loop-link-init : goal.loop-link-init
-loop-link-init c = rw c.deref_mut-link-items.ensures.value (begun (λ x y. unroomed y ≡ unroomed (with_prepared x [])) c.args.links.now.items)
 
 pub loop-link-preserved : goal.loop-link-preserved
 loop-link-preserved c = zipped (λ x y. unroomed y ≡ unroomed (with_prepared x [])) c.args.links.now.items c.loop-link.link-items c.loop-link.link-index c.link-item.result c.forget.new.self c.loop-link.invariant (omega arith) (ap unroomed c.forget.ensures)

@@ -1,11 +1,8 @@
 use Rattle.node_core.proofs.Words.{ap, arith, length, map, sym, [], ◌<◌, ◌∙◌, lie, wide, prepared_for, unroomed, with_prepared}
-use Rattle.node_core.proofs.Zipped.{begun, zipped, zipped_still, zipped_long, all_zipped, zipped_map}
+use Rattle.node_core.proofs.Zipped.{zipped, zipped_still, zipped_long, all_zipped, zipped_map}
 use Rattle.node_core.proofs.Preparing.{Prepared, unprepared, one_prepared, all_dropped, map_set, same_at, on_err, on_ok}
 use Rattle.node_core.proofs.links.prepare.Goals as goal
 use Rattle.node_core.proofs.links.prepare.Goals.{in-Ok, in-Err}
-
-pub loop-place-init : goal.loop-place-init
-loop-place-init c = begun (Prepared c.args.numbers.now (wide c.args.message.now)) c.args.links.now.items
 
 pub loop-place-preserved-then-not-contains : goal.loop-place-preserved-then-not-contains
 loop-place-preserved-then-not-contains c =

@@ -1,11 +1,8 @@
 use Rattle.node_core.proofs.Words.{ap, refl, wide, said_to}
 use Rattle.node_core.specs.Moving.{join_of}
-use Rattle.node_core.proofs.Said.{join_fault, dropped_again, untold}
+use Rattle.node_core.proofs.Said.{join_fault, dropped_again}
 use Rattle.node_core.proofs.Told.{prepared_told}
 use Rattle.node_core.proofs.membership.join_one.Goals as goal
-
-pub returns-in_err-tell_join-clause-same : goal.returns-in_err-tell_join-clause-same
-returns-in_err-tell_join-clause-same c = untold _ c.args.running.now c.args.links.now.items c.tell_join.new.links.items c.in_err-tell_join.ensures.same
 
 pub returns-in-Ok : goal.returns-in-Ok
 returns-in-Ok c =

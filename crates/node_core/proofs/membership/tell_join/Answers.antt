@@ -3,9 +3,6 @@ use Rattle.node_core.proofs.Said.{joined_rows_are}
 use Rattle.node_core.proofs.Told.{at_errors, forgotten}
 use Rattle.node_core.proofs.membership.tell_join.Goals as goal
 
-pub tell-requires : goal.tell-requires
-tell-requires c = rw (c.of-rows.ensures, c.in_ok-rows_of.ensures.length) c.requires.few
-
 pub returns-in_err-tell-clause-same : goal.returns-in_err-tell-clause-same
 returns-in_err-tell-clause-same c = at_errors _ (c.in_err-tell.ensures.forgot ∙ forgotten c.args.links.now.items c.requires.idle)
 

@@ -2,8 +2,7 @@ use Rattle.node_core.proofs.Words.{ap, arith, cond, false, not, refl, subst, sym
 use Rattle.node_core.proofs.Words.{is_empty, all_frames, exit_frames}
 use Rattle.std.proofs.lemmas.List.{take_more}
 use Rattle.node_core.specs.Exiting.{AreExits}
-use Rattle.node_core.proofs.Exits.{exits_none, exits_on, prepared_bare, one_more, none_more, none_is}
-use Rattle.node_core.proofs.KeptOn.{each_at}
+use Rattle.node_core.proofs.Exits.{exits_on, prepared_bare, one_more, none_more, none_is}
 use Rattle.node_core.proofs.Told.{at_errors}
 use Rattle.node_core.proofs.telling.prepare_exit.Goals as goal
 use Rattle.node_core.proofs.telling.prepare_exit.Goals.{then-not-is_empty+in_ok-try_clone+in_ok-push, else-not-is_empty}
@@ -20,12 +19,6 @@ pub returns-in_err-push-clause-same : goal.returns-in_err-push-clause-same
 returns-in_err-push-clause-same c = at_errors _ (
     prepared_bare (exit_frames c.running-item.result c.in_ok-groups.groups.items) c.loop-running.links.items c.exit_one.new.links.items c.in_ok-groups.ensures.told
     ∙ prepared_bare (all_frames (take c.loop-running.running-index c.args.scopes.now) c.loop-running.invariant.all) c.args.links.now.items c.loop-running.links.items c.loop-running.invariant.links)
-
-pub loop-running-init : goal.loop-running-init
-loop-running-init c = exits_none c.args.pid.now c.args.links.now.items c.new-changes.result.items c.new-changes.ensures.items
-
-pub exit_one-requires : goal.exit_one-requires
-exit_one-requires c = ap (λ r. r.table.own) c.running-item.is ∙ each_at (λ r. r.table.own ≡ c.args.pid.now.node) c.args.scopes.now c.loop-running.running-index c.running-item.result c.requires c.loop-running-test.true
 
 pub loop-running-preserved : goal.loop-running-preserved
 loop-running-preserved c =

@@ -1,7 +1,6 @@
-use Rattle.node_core.proofs.Words.{refl, [], past}
+use Rattle.node_core.proofs.Words.{refl, past}
 use Rattle.policy_audit.specs.declared.event.Event.TheVariants as event
 use Rattle.policy_audit.specs.declared.reply.Reply.TheVariants as reply
-use Rattle.node_core.proofs.Entered.{steps_on}
 use Rattle.node_core.proofs.Quiet.{quiet_next}
 use Rattle.group_monitors.proofs.FromPolicy.{follows_checked}
 use Rattle.node_core.proofs.Watching.{unwatched}
@@ -14,11 +13,3 @@ invariant_of-self-2 c =
     let next = quiet_next (past c.self.inside.opening c.self.inside.audit.entries) c.args.seat reply.Done (event.Demonitor c.args.number) space holds refl refl in
     rw (c.accept.ensures.entries, c.accept.ensures.limit, c.in_ok-make_room.ensures.ok.1, c.new.ensures.items, c.in_default.ensures.ok.1)
     (unwatched (past c.self.inside.opening c.self.inside.audit.entries) c.args.seat reply.Done _ c.self.invariant c.args.number next)
-
-pub returns : goal.returns
-returns c =
-    let pushed = rw (c.in_ok-make_room.ensures.ok.1, c.new.ensures.items) at c.accept.ensures.entries in
-    let space = rw (← c.self.view_is) at c.requires in
-    let holds = (follows_checked (past c.self.inside.opening c.self.inside.audit.entries) c.self.inside.monitors c.self.invariant.monitors c.args.seat c.args.number c.in_default.ensures.ok.0).1 in
-    let next = quiet_next (past c.self.inside.opening c.self.inside.audit.entries) c.args.seat reply.Done (event.Demonitor c.args.number) space holds refl refl in
-    steps_on c.self.view_is c.args.seat (event.Demonitor c.args.number) reply.Done [] next pushed

@@ -1,10 +1,10 @@
-use Rattle.node_core.proofs.Words.{ap, arith, set, subst, [], ◌∙◌, get_or-set_same, past}
+use Rattle.node_core.proofs.Words.{set, subst, [], past}
 use Rattle.policy_audit.specs.declared.event.Event.TheVariants as event
 use Rattle.policy_audit.specs.declared.reply.Reply.TheVariants as reply
 use Rattle.link_frames.specs.declared.message.Message.TheVariants as said
 use Rattle.node_core.specs.MessageRules.{AnswersDiscover}
 use Rattle.node_core.proofs.Entered.{steps_on}
-use Rattle.node_core.proofs.MessagePlaces.{up_placed, up_here, running_placed, scope_here, same_there, link_within, scope_within}
+use Rattle.node_core.proofs.MessagePlaces.{up_placed, up_here, running_placed, scope_here, same_there}
 use Rattle.node_core.proofs.MessageRefused.{scope_runs}
 use Rattle.node_core.proofs.MessageScopes.{discovered_next}
 use Rattle.node_core.proofs.MessageRoom.{roomed_links, same_scope, follows_with, answered_follows}
@@ -22,57 +22,6 @@ places-place-requires-clause-runs c =
 
 pub invariant_of-self : goal.invariant_of-self
 invariant_of-self c = rw c.in_err-make_room.ensures.same c.self.invariant
-
-pub index-requires : goal.index-requires
-index-requires c =
-    let placed_scope = rw c.deref-2.ensures.value at c.places-place.ensures.scope in
-    let within = scope_within c.self.inside.scopes.items c.args.scope c.places-place.result.1 placed_scope in
-    let len = rw c.deref-2.ensures.value at c.deref-2.ensures.len in
-    omega (arith, within, len)
-
-pub index_mut-requires : goal.index_mut-requires
-index_mut-requires c =
-    let placed = rw c.deref.ensures.value at c.places-place.ensures.link in
-    let within = link_within c.self.inside.links.items c.args.number c.places-place.result.0 placed in
-    let len = rw c.deref.ensures.value at c.deref.ensures.len in
-    omega (arith, within, len)
-
-pub make_room-requires-2 : goal.make_room-requires-2
-make_room-requires-2 c =
-    let up = rw (← c.self.view_is) at c.requires.up in
-    let placed = rw c.deref.ensures.value at c.places-place.ensures.link in
-    let here = up_here (past c.self.inside.opening c.self.inside.audit.entries) c.self.inside.links.items c.self.invariant.sound.legal c.self.invariant.links c.args.number up c.places-place.result.0 c.index_mut.result.now placed c.index_mut.ensures.value in
-    here.link.idle
-
-pub index_mut-requires-2 : goal.index_mut-requires-2
-index_mut-requires-2 c =
-    let placed_scope = rw c.deref-2.ensures.value at c.places-place.ensures.scope in
-    let within = scope_within c.self.inside.scopes.items c.args.scope c.places-place.result.1 placed_scope in
-    let len = rw c.deref-2.ensures.value at c.deref-2.ensures.len in
-    omega (arith, within, len)
-
-pub index_mut-requires-3 : goal.index_mut-requires-3
-index_mut-requires-3 c =
-    let placed = rw c.deref.ensures.value at c.places-place.ensures.link in
-    let within = link_within c.self.inside.links.items c.args.number c.places-place.result.0 placed in
-    let len = rw c.deref.ensures.value at c.deref.ensures.len in
-    omega (arith, within, len)
-
-pub owe-requires-clause-room : goal.owe-requires-clause-room
-owe-requires-clause-room c =
-    let placed = rw c.deref.ensures.value at c.places-place.ensures.link in
-    let within = link_within c.self.inside.links.items c.args.number c.places-place.result.0 placed in
-    let is = c.index_mut-3.ensures.value ∙ get_or-set_same c.self.inside.links.items c.places-place.result.0 c.make_room-2.new.self c.index_mut-3.result.now within in
-    rw is (omega (arith, c.in_ok-make_room-2.ensures.ok, c.len.ensures, c.in_ok-frames.frames.ok))
-
-pub owe-requires-clause-idle : goal.owe-requires-clause-idle
-owe-requires-clause-idle c =
-    let up = rw (← c.self.view_is) at c.requires.up in
-    let placed = rw c.deref.ensures.value at c.places-place.ensures.link in
-    let here = up_here (past c.self.inside.opening c.self.inside.audit.entries) c.self.inside.links.items c.self.invariant.sound.legal c.self.invariant.links c.args.number up c.places-place.result.0 c.index_mut.result.now placed c.index_mut.ensures.value in
-    let within = link_within c.self.inside.links.items c.args.number c.places-place.result.0 placed in
-    let is = c.index_mut-3.ensures.value ∙ get_or-set_same c.self.inside.links.items c.places-place.result.0 c.make_room-2.new.self c.index_mut-3.result.now within ∙ c.in_ok-make_room-2.ensures.same in
-    ap (λ x. x.prepared) is ∙ here.link.idle
 
 pub invariant_of-self-in_err-make_room-2 : goal.invariant_of-self-in_err-make_room-2
 invariant_of-self-in_err-make_room-2 c =

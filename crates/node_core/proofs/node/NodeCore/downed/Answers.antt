@@ -1,9 +1,9 @@
-use Rattle.node_core.proofs.Words.{arith, if_some, past}
+use Rattle.node_core.proofs.Words.{if_some, past}
 use Rattle.policy_audit.specs.declared.event.Event.TheVariants as event
 use Rattle.policy_audit.specs.declared.reply.Reply.TheVariants as reply
 use Rattle.link_frames.specs.declared.message.Message.TheVariants as said
 use Rattle.node_core.proofs.Entered.{steps_on}
-use Rattle.node_core.proofs.MessagePlaces.{up_placed, up_here, running_placed, scope_here, same_there, link_within, scope_within}
+use Rattle.node_core.proofs.MessagePlaces.{up_placed, up_here, running_placed, scope_here, same_there}
 use Rattle.node_core.proofs.MessageRefused.{scope_runs, peer_is, has_peer}
 use Rattle.node_core.proofs.MessageScopes.{downed_next, downed_follows}
 use Rattle.node_core.proofs.node.NodeCore.downed.Goals as goal
@@ -27,30 +27,6 @@ unreachable-requires c =
 
 pub invariant_of-self : goal.invariant_of-self
 invariant_of-self c = rw c.in_err-room.ensures.same c.self.invariant
-
-pub index-requires : goal.index-requires
-index-requires c =
-    let placed = rw c.deref.ensures.value at c.places-place.ensures.link in
-    let within = link_within c.self.inside.links.items c.args.number c.places-place.result.0 placed in
-    let len = rw c.deref.ensures.value at c.deref.ensures.len in
-    omega (arith, within, len)
-
-pub index_mut-requires : goal.index_mut-requires
-index_mut-requires c =
-    let placed_scope = rw c.deref-2.ensures.value at c.places-place.ensures.scope in
-    let within = scope_within c.self.inside.scopes.items c.args.scope c.places-place.result.1 placed_scope in
-    let len = rw c.deref-2.ensures.value at c.deref-2.ensures.len in
-    omega (arith, within, len)
-
-pub index-requires-2 : goal.index-requires-2
-index-requires-2 c =
-    let placed_scope = rw c.deref-2.ensures.value at c.places-place.ensures.scope in
-    let within = scope_within c.self.inside.scopes.items c.args.scope c.places-place.result.1 placed_scope in
-    let len = rw c.deref-2.ensures.value at c.deref-2.ensures.len in
-    omega (arith, within, len)
-
-pub invariant_of-self-in_err-groups : goal.invariant_of-self-in_err-groups
-invariant_of-self-in_err-groups c = rw c.in_ok-room.ensures.room c.self.invariant
 
 pub invariant_of-self-2 : goal.invariant_of-self-2
 invariant_of-self-2 c =

@@ -3,11 +3,8 @@ use Rattle.policy_audit.specs.declared.event.Event.TheVariants as event
 use Rattle.policy_audit.specs.declared.reply.Reply.TheVariants as reply
 use Rattle.node_core.proofs.Entered.{steps_on}
 use Rattle.node_core.proofs.Told.{alike_again, follow_idle}
-use Rattle.node_core.proofs.Exited.{exit_foreign, exit_own, exit_next, exit_follows}
+use Rattle.node_core.proofs.Exited.{exit_own, exit_next, exit_follows}
 use Rattle.node_core.proofs.node.NodeCore.exit.Goals as goal
-
-pub refuse-requires-clause-broken : goal.refuse-requires-clause-broken
-refuse-requires-clause-broken c = exit_foreign c.args.self.now c.args.seat c.args.pid (sym c.is_local.ensures ∙ c.if-not-is_local.true)
 
 pub tell_exit-requires-clause-own : goal.tell_exit-requires-clause-own
 tell_exit-requires-clause-own c = rw c.deref.ensures.value (exit_own (past c.self.inside.opening c.self.inside.audit.entries) c.args.seat _ c.self.invariant c.args.pid (rw (← c.self.view_is) at (sym c.is_local.ensures ∙ c.if-not-is_local.false)))

@@ -5,7 +5,7 @@ use Rattle.node_core.proofs.Entered.{steps_on}
 use Rattle.node_core.proofs.Moved.{unmoved}
 use Rattle.node_core.proofs.Placed.{runs_at, unplaced}
 use Rattle.node_core.proofs.Told.{follow_idle}
-use Rattle.node_core.proofs.Joining.{join_nowhere, join_own, join_calm, joins_own, joins_few, join_next, join_follows}
+use Rattle.node_core.proofs.Joining.{join_nowhere, join_own, join_calm, joins_own, join_next, join_follows}
 use Rattle.node_core.proofs.node.NodeCore.join.Goals as goal
 
 pub refuse-requires-clause-broken : goal.refuse-requires-clause-broken
@@ -18,9 +18,6 @@ refuse-requires-in-Some-join_refusal-clause-broken c =
 
 pub join_one-changes-requires-clause-own : goal.join_one-changes-requires-clause-own
 join_one-changes-requires-clause-own c = rw c.as_slice-2.ensures (joins_own (past c.self.inside.opening c.self.inside.audit.entries) c.args.seat _ c.self.invariant c.args.scope c.args.group c.args.pids c.in-Some.place (sym (rw c.deref.ensures.value at c.in-Some.ensures)) c.index_mut.result.now c.index_mut.ensures.value (sym (rw (c.as_slice.ensures, ← c.self.view_is) at c.in_default-join_refusal.ensures)))
-
-pub join_one-changes-requires-clause-few : goal.join_one-changes-requires-clause-few
-join_one-changes-requires-clause-few c = rw c.as_slice-2.ensures (joins_few (past c.self.inside.opening c.self.inside.audit.entries) c.args.pids (sym (rw (c.as_slice.ensures, ← c.self.view_is) at c.in_default-join_refusal.ensures)))
 
 pub join_one-changes-requires-clause-idle : goal.join_one-changes-requires-clause-idle
 join_one-changes-requires-clause-idle c = follow_idle (link_words (past c.self.inside.opening c.self.inside.audit.entries)) c.self.inside.links.items c.self.invariant.links.each

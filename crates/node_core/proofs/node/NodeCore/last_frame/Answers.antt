@@ -7,7 +7,7 @@ use Rattle.node_core.specs.declared.hearing.Heard.TheVariants as heard
 use Rattle.node_core.specs.declared.link_state.LinkState.TheVariants as states
 use Rattle.node_core.specs.Hearing.{nobody}
 use Rattle.node_core.proofs.Entered.{steps_on, steps_refused}
-use Rattle.node_core.proofs.HeardFrames.{closed_without, is_there, link_there}
+use Rattle.node_core.proofs.HeardFrames.{closed_without, is_there}
 use Rattle.node_core.proofs.HeldLink.{held_now, held_ready, held_restored, held_seen, room_follows}
 use Rattle.node_core.proofs.LastHeard.{handshakes, has_peer, last_never_on, last_few, last_few_ended, last_broke, last_ended, last_next, last_came_up}
 use Rattle.node_core.proofs.node.NodeCore.last_frame.Goals as goal
@@ -17,11 +17,6 @@ unreachable-requires c =
     let opens = rw (← c.self.view_is) at c.requires.opens in
     let none = ap (position (λ (x : KeptLink). nat_eq x.number c.args.number)) (sym c.deref.ensures.value) ∙ sym c.place_of.ensures ∙ c.in_default.is in
     lie (sym opens ∙ closed_without (past c.self.inside.opening c.self.inside.audit.entries) _ c.self.invariant c.args.number none)
-
-pub make_room-requires : goal.make_room-requires
-make_room-requires c =
-    let at = ap (position (λ (x : KeptLink). nat_eq x.number c.args.number)) (sym c.deref.ensures.value) ∙ sym c.place_of.ensures ∙ c.in-Some.is in
-    ap (λ (x : KeptLink). x.prepared) c.index_mut.ensures.value ∙ (link_there (past c.self.inside.opening c.self.inside.audit.entries) _ c.self.invariant c.args.number c.in-Some.place at c.index_mut.result.now).idle
 
 pub invariant_of-self : goal.invariant_of-self
 invariant_of-self c =

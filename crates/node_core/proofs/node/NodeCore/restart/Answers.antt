@@ -1,12 +1,9 @@
-use Rattle.node_core.proofs.Words.{ap, refl, sym, ℕ, ◌+◌, ◌∙◌, past}
+use Rattle.node_core.proofs.Words.{ap, refl, ℕ, ◌+◌, ◌∙◌, past}
 use Rattle.policy_audit.specs.declared.event.Event.TheVariants as event
 use Rattle.policy_audit.specs.declared.reply.Reply.TheVariants as reply
 use Rattle.node_core.proofs.Entered.{steps_on}
-use Rattle.node_core.proofs.Anew.{creation_spent, creation_left, anew_next, anew_follows}
+use Rattle.node_core.proofs.Anew.{creation_left, anew_next, anew_follows}
 use Rattle.node_core.proofs.node.NodeCore.restart.Goals as goal
-
-pub refuse-requires-clause-broken : goal.refuse-requires-clause-broken
-refuse-requires-clause-broken c = rw (← c.self.view_is) (creation_spent (past c.self.inside.opening c.self.inside.audit.entries) c.args.seat (sym c.self.invariant.admission.creation ∙ sym c.creation.ensures ∙ c.if-creation.true))
 
 pub invariant_of-self : goal.invariant_of-self
 invariant_of-self c = rw c.in_err-make_room.ensures.same c.self.invariant

@@ -1,17 +1,9 @@
-use Rattle.node_core.proofs.Words.{refl, [], past}
+use Rattle.node_core.proofs.Words.{refl, past}
 use Rattle.policy_audit.specs.declared.event.Event.TheVariants as event
 use Rattle.policy_audit.specs.declared.reply.Reply.TheVariants as reply
-use Rattle.node_core.proofs.Entered.{steps_on}
 use Rattle.node_core.proofs.Cookies.{cookie_follows}
 use Rattle.node_core.proofs.Quiet.{quiet_next, set_cookie_follows}
 use Rattle.node_core.proofs.node.NodeCore.set_cookie.Goals as goal
-
-pub returns : goal.returns
-returns c =
-    let pushed = rw (c.in_ok-make_room.ensures.ok.1, c.new.ensures.items) at c.accept.ensures.entries in
-    let space = rw (← c.self.view_is) at c.requires in
-    let next = quiet_next _ c.args.seat reply.Done (event.SetCookie c.args.cookie) space refl refl refl in
-    steps_on c.self.view_is c.args.seat (event.SetCookie c.args.cookie) reply.Done [] next pushed
 
 pub invariant_of-self-2 : goal.invariant_of-self-2
 invariant_of-self-2 c =

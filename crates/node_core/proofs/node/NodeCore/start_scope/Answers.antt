@@ -1,19 +1,10 @@
-use Rattle.node_core.proofs.Words.{arith, length, subst, sym, [], ◌<◌, ◌∙◌, Rises, text_cmp, running_rises, past, link_words}
+use Rattle.node_core.proofs.Words.{arith, length, subst, sym, [], ◌<◌, ◌∙◌, Rises, text_cmp, running_rises, past}
 use Rattle.policy_audit.specs.declared.event.Event.TheVariants as event
 use Rattle.policy_audit.specs.declared.reply.Reply.TheVariants as reply
 use Rattle.node_core.proofs.Entered.{steps_on}
-use Rattle.node_core.proofs.Told.{at_none, at_some, follow_idle, alike_again}
-use Rattle.node_core.proofs.Starting.{scope_running, start_next, start_follows}
+use Rattle.node_core.proofs.Told.{at_none, alike_again}
+use Rattle.node_core.proofs.Starting.{start_next, start_follows}
 use Rattle.node_core.proofs.node.NodeCore.start_scope.Goals as goal
-
-pub refuse-requires-clause-broken : goal.refuse-requires-clause-broken
-refuse-requires-clause-broken c = scope_running c.args.self.now c.args.seat c.args.scope (at_some c.running.result (sym c.is_some.ensures ∙ c.if-is_some.true) (λ r q. q.2) c.running.ensures.found)
-
-pub invariant_of-self-in_err-make_room : goal.invariant_of-self-in_err-make_room
-invariant_of-self-in_err-make_room c = rw (c.in_err-make_room.ensures.same, c.in_ok-reserve.ensures.items) c.self.invariant
-
-pub asked_scope-requires : goal.asked_scope-requires
-asked_scope-requires c = follow_idle (link_words (past c.self.inside.opening c.self.inside.audit.entries)) c.self.inside.links.items c.self.invariant.links.each
 
 pub put_in-requires-clause-ascending : goal.put_in-requires-clause-ascending
 put_in-requires-clause-ascending c = rw c.in_ok-reserve.ensures.items (subst (Rises text_cmp) (sym c.self.invariant.scopes.running) (running_rises (past c.self.inside.opening c.self.inside.audit.entries)))

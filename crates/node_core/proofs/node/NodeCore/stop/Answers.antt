@@ -1,13 +1,10 @@
-use Rattle.node_core.proofs.Words.{if_some, past, link_words}
+use Rattle.node_core.proofs.Words.{if_some, past}
 use Rattle.policy_audit.specs.declared.event.Event.TheVariants as event
 use Rattle.policy_audit.specs.declared.reply.Reply.TheVariants as reply
 use Rattle.node_core.proofs.Entered.{steps_on}
-use Rattle.node_core.proofs.Told.{follow_idle, alike_again}
+use Rattle.node_core.proofs.Told.{alike_again}
 use Rattle.node_core.proofs.Stopping.{stop_next, stop_follows}
 use Rattle.node_core.proofs.node.NodeCore.stop.Goals as goal
-
-pub tell_stop-requires : goal.tell_stop-requires
-tell_stop-requires c = follow_idle (link_words (past c.self.inside.opening c.self.inside.audit.entries)) c.self.inside.links.items c.self.invariant.links.each
 
 pub invariant_of-self : goal.invariant_of-self
 invariant_of-self c =

@@ -1,9 +1,9 @@
-use Rattle.node_core.proofs.Words.{arith, set, if_some, past}
+use Rattle.node_core.proofs.Words.{set, if_some, past}
 use Rattle.policy_audit.specs.declared.event.Event.TheVariants as event
 use Rattle.policy_audit.specs.declared.reply.Reply.TheVariants as reply
 use Rattle.link_frames.specs.declared.message.Message.TheVariants as said
 use Rattle.node_core.proofs.Entered.{steps_on}
-use Rattle.node_core.proofs.MessagePlaces.{up_placed, up_here, running_placed, scope_here, link_within, scope_within}
+use Rattle.node_core.proofs.MessagePlaces.{up_placed, up_here, running_placed, scope_here}
 use Rattle.node_core.proofs.MessageRefused.{scope_runs, rows_from, all_of_peer, peer_is, has_peer}
 use Rattle.node_core.proofs.MessageScopes.{synced_next, synced_follows}
 use Rattle.node_core.proofs.MessageRoom.{same_scope, follows_with}
@@ -29,20 +29,6 @@ unreachable-requires c =
 pub invariant_of-self : goal.invariant_of-self
 invariant_of-self c = rw c.in_err-room.ensures.same c.self.invariant
 
-pub index-requires : goal.index-requires
-index-requires c =
-    let placed = rw c.deref.ensures.value at c.places-place.ensures.link in
-    let within = link_within c.self.inside.links.items c.args.number c.places-place.result.0 placed in
-    let len = rw c.deref.ensures.value at c.deref.ensures.len in
-    omega (arith, within, len)
-
-pub index_mut-requires : goal.index_mut-requires
-index_mut-requires c =
-    let placed_scope = rw c.deref-2.ensures.value at c.places-place.ensures.scope in
-    let within = scope_within c.self.inside.scopes.items c.args.scope c.places-place.result.1 placed_scope in
-    let len = rw c.deref-2.ensures.value at c.deref-2.ensures.len in
-    omega (arith, within, len)
-
 pub hear_rows-requires-clause-of_peer : goal.hear_rows-requires-clause-of_peer
 hear_rows-requires-clause-of_peer c =
     let up = rw (← c.self.view_is) at c.requires.up in
@@ -51,9 +37,6 @@ hear_rows-requires-clause-of_peer c =
     let here = up_here (past c.self.inside.opening c.self.inside.audit.entries) c.self.inside.links.items c.self.invariant.sound.legal c.self.invariant.links c.args.number up c.places-place.result.0 c.index.result.now placed c.index.ensures in
     let peer = peer_is (past c.self.inside.opening c.self.inside.audit.entries) c.args.number c.index.result.now here c.in-Some.peer.now c.in-Some.ensures in
     rw peer (all_of_peer (past c.self.inside.opening c.self.inside.audit.entries) c.args.number c.index.result.now here c.args.rows (rows_from (past c.self.inside.opening c.self.inside.audit.entries) c.args.number c.args.scope c.args.rows holds))
-
-pub hear_rows-requires-clause-few : goal.hear_rows-requires-clause-few
-hear_rows-requires-clause-few c = c.requires.few
 
 pub invariant_of-self-in_err-groups : goal.invariant_of-self-in_err-groups
 invariant_of-self-in_err-groups c =

@@ -13,12 +13,6 @@ refuse-requires-clause-broken c =
     let none = rw c.deref.ensures.value at (sym c.place_of.ensures ∙ c.in_default.is) in
     rw (← c.self.view_is) (ap (λ b. cond (not b) (Some rule.NoSuchLink) None) (not_kept (past c.self.inside.opening c.self.inside.audit.entries) c.self.invariant.sound.legal c.self.inside.links.items c.self.invariant.links c.args.number none))
 
-pub hand_over-frames-requires : goal.hand_over-frames-requires
-hand_over-frames-requires c =
-    let found = rw c.deref.ensures.value at (sym c.place_of.ensures ∙ c.in-Some.is) in
-    let at = link_at (past c.self.inside.opening c.self.inside.audit.entries) c.self.invariant.sound.legal c.self.inside.links.items c.self.invariant.links c.args.number c.in-Some.place c.index_mut.result.now found in
-    ap (λ x. x.prepared) c.index_mut.ensures.value ∙ at.0.idle
-
 pub invariant_of-self-2 : goal.invariant_of-self-2
 invariant_of-self-2 c =
     let found = rw c.deref.ensures.value at (sym c.place_of.ensures ∙ c.in-Some.is) in

@@ -1,9 +1,9 @@
-use Rattle.node_core.proofs.Words.{arith, set, if_some, past}
+use Rattle.node_core.proofs.Words.{set, if_some, past}
 use Rattle.policy_audit.specs.declared.event.Event.TheVariants as event
 use Rattle.policy_audit.specs.declared.reply.Reply.TheVariants as reply
 use Rattle.link_frames.specs.declared.message.Message.TheVariants as said
 use Rattle.node_core.proofs.Entered.{steps_on}
-use Rattle.node_core.proofs.MessagePlaces.{up_placed, up_here, running_placed, scope_here, link_within, scope_within}
+use Rattle.node_core.proofs.MessagePlaces.{up_placed, up_here, running_placed, scope_here}
 use Rattle.node_core.proofs.MessageRefused.{scope_runs, left_from, all_of_peer, peer_is, has_peer, take_calm, leave_listed}
 use Rattle.node_core.proofs.MessageScopes.{taken_next, taken_follows}
 use Rattle.node_core.proofs.MessageRoom.{same_scope, unchanged_scope, follows_with}
@@ -25,20 +25,6 @@ unreachable-requires c =
     let placed = rw c.deref.ensures.value at c.places-place.ensures.link in
     let here = up_here (past c.self.inside.opening c.self.inside.audit.entries) c.self.inside.links.items c.self.invariant.sound.legal c.self.invariant.links c.args.number up c.places-place.result.0 c.index.result.now placed c.index.ensures in
     has_peer (past c.self.inside.opening c.self.inside.audit.entries) c.args.number c.index.result.now here c.in_default.ensures
-
-pub index-requires : goal.index-requires
-index-requires c =
-    let placed = rw c.deref.ensures.value at c.places-place.ensures.link in
-    let within = link_within c.self.inside.links.items c.args.number c.places-place.result.0 placed in
-    let len = rw c.deref.ensures.value at c.deref.ensures.len in
-    omega (arith, within, len)
-
-pub index_mut-requires : goal.index_mut-requires
-index_mut-requires c =
-    let placed_scope = rw c.deref-2.ensures.value at c.places-place.ensures.scope in
-    let within = scope_within c.self.inside.scopes.items c.args.scope c.places-place.result.1 placed_scope in
-    let len = rw c.deref-2.ensures.value at c.deref-2.ensures.len in
-    omega (arith, within, len)
 
 pub take_rows-changes-requires : goal.take_rows-changes-requires
 take_rows-changes-requires c =

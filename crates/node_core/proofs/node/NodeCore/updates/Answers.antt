@@ -1,6 +1,6 @@
 use Rattle.node_core.proofs.Words.{ap, arith, length, refl, [], ◌∷◌, past, Accepted}
 use Rattle.group_monitors.specs.Monitors.{monitor_of, with_place, updates_behind}
-use Rattle.group_monitors.proofs.FromPolicy.{follows_seen, follows_seen_later, follows_refused, follows_told}
+use Rattle.group_monitors.proofs.FromPolicy.{follows_seen, follows_seen_later, follows_told}
 use Rattle.policy_audit.specs.declared.event.Event.TheVariants as event
 use Rattle.policy_audit.specs.declared.reply.Reply.TheVariants as reply
 use Rattle.node_core.proofs.Entered.{made, steps_on}
@@ -10,11 +10,6 @@ use Rattle.node_core.proofs.node.NodeCore.updates.Goals as goal
 
 pub updates-requires : goal.updates-requires
 updates-requires c = follows_seen (past c.self.inside.opening c.self.inside.audit.entries) c.self.inside.monitors c.self.invariant.monitors c.args.seat c.args.number
-
-pub refuse-requires-clause-broken : goal.refuse-requires-clause-broken
-refuse-requires-clause-broken c =
-    let none = rw c.in-Err-NoMonitor.field-0-is at c.in-Err-NoMonitor.ensures.refused in
-    rw (← c.self.view_is) ((follows_refused (past c.self.inside.opening c.self.inside.audit.entries) c.self.inside.monitors c.self.invariant.monitors c.args.seat c.args.number none).0)
 
 pub advance-requires : goal.advance-requires
 advance-requires c =

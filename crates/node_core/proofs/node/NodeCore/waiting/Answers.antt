@@ -1,5 +1,5 @@
-use Rattle.node_core.proofs.Words.{None, Some, ap, arith, cond, length, subst, sym, ◌∙◌, ◌≡◌, past, is_kept, waiting}
-use Rattle.node_core.proofs.MessagePlaces.{link_within, waits_none, waits_some}
+use Rattle.node_core.proofs.Words.{None, Some, ap, cond, length, subst, sym, ◌∙◌, ◌≡◌, past, is_kept, waiting}
+use Rattle.node_core.proofs.MessagePlaces.{waits_none, waits_some}
 use Rattle.node_core.proofs.node.NodeCore.waiting.Goals as goal
 
 pub returns-in_err-place : goal.returns-in_err-place
@@ -8,13 +8,6 @@ returns-in_err-place c =
     c.from_residual.ensures
     ∙ subst (λ h. None ≡ cond (is_kept h c.args.link) (Some (length (waiting h c.args.link))) None) c.self.view_is
     (waits_none (past c.self.inside.opening c.self.inside.audit.entries) c.self.inside.links.items c.self.invariant.sound.legal c.self.invariant.links c.args.link placed)
-
-pub index-requires : goal.index-requires
-index-requires c =
-    let placed = rw c.deref.ensures.value at (sym c.in_ok-place.ensures) in
-    let within = link_within c.self.inside.links.items c.args.link c.in_ok-place.place placed in
-    let len = rw c.deref.ensures.value at c.deref.ensures.len in
-    omega (arith, within, len)
 
 pub returns : goal.returns
 returns c =
