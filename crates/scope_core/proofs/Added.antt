@@ -1,10 +1,9 @@
 -- One more of a row.
-use Rattle.std.specs.Prelude.{◌≡◌, ℕ, zero, suc, ◌+◌, ◌<◌, ◌≤◌, Bool, true, false, cond, List, [], ◌∷◌, ◌++◌, length, Result, Ok, Err, IsOk, is_ok}
-use Rattle.std.proofs.Common.{refl, ap, ◌∙◌, sym, subst, arith, get_or}
+use Rattle.std.specs.Prelude.{◌≡◌, ℕ, zero, suc, ◌+◌, ◌<◌, ◌≤◌, Bool, cond, List, [], ◌∷◌, ◌++◌, length, Result, Ok, Err, IsOk, is_ok}
+use Rattle.std.proofs.Common.{ap, ◌∙◌, sym, subst, arith, get_or}
 use Rattle.std.proofs.Math.ListN.{set}
 use Rattle.std.proofs.lemmas.List.{get_or_default}
 use Rattle.std.specs.declared.cmp.Ordering.TheVariants.{Less}
-use Rattle.std.specs.Ordering.{ordering_reverse}
 use Rattle.std.specs.List.{insert, AllByRecursion}
 use Rattle.std.proofs.lemmas.List.Sums.{sum_by-insert, sum_by-set, get_or-le-sum_by}
 use Rattle.dist_types.specs.declared.row.Row.{Row}

@@ -1,13 +1,13 @@
 -- The changes where some rows leave and others join.
 use Rattle.std.specs.Prelude.{◌≡◌, ℕ, ◌+◌, ◌-◌, ◌<◌, Bool, true, false, cond, ◌&&◌, List, [], ◌∷◌, map, None}
-use Rattle.std.proofs.Common.{refl, ap, ◌∙◌, sym, subst, arith, inl, inr}
+use Rattle.std.proofs.Common.{refl, ◌∙◌, sym, arith}
 use Rattle.std.specs.List.{AllByRecursion}
-use Rattle.std.proofs.lemmas.Bool.{or_right, or_left, or_cases, cases_lt}
+use Rattle.std.proofs.lemmas.Bool.{or_right, or_left}
 use Rattle.std.proofs.lemmas.Map.Lookups.{exact_bytes}
 use Rattle.dist_types.specs.declared.pid.Pid.{Pid}
 use Rattle.dist_types.specs.Order.{text_cmp}
 use Rattle.dist_types.specs.Listing.{same, mentions, is_among, total, Rises, IsPidListing, IsGroupListing}
-use Rattle.dist_types.specs.Difference.{is_empty, IsProper, times_left, times_joined}
+use Rattle.dist_types.specs.Difference.{is_empty, IsProper}
 use Rattle.dist_types.proofs.Orders.{texts_total, same_decides}
 use Rattle.dist_types.proofs.Listings.{one_of_many}
 use Rattle.scope_core.specs.declared.counted.Counted.{Counted}

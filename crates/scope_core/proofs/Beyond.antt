@@ -1,6 +1,6 @@
 -- Rows that are counted more often than among others.
-use Rattle.std.specs.Prelude.{◌≡◌, ℕ, ◌+◌, ◌-◌, Bool, true, false, cond, nat_lt, List, [], ◌∷◌, ◌++◌, length}
-use Rattle.std.proofs.Common.{refl, ap, ◌∙◌, sym, arith}
+use Rattle.std.specs.Prelude.{◌≡◌, ℕ, ◌-◌, Bool, true, cond, List, [], ◌∷◌, length}
+use Rattle.std.proofs.Common.{refl, ap, ◌∙◌, arith}
 use Rattle.std.specs.declared.cmp.Ordering.TheVariants.{Less}
 use Rattle.std.specs.List.{AllByRecursion}
 use Rattle.dist_types.specs.declared.pid.Pid.{Pid}

@@ -1,16 +1,16 @@
 -- The groups of rows that rise.
 use Rattle.std.specs.Prelude.{◌≡◌, ℕ, ◌+◌, ◌<◌, Bool, true, false, cond, not, ◌&&◌, ◌||◌, nat_lt, ◌-◌, List, [], ◌∷◌, ◌++◌, length, drop, slice_get, Option, Some, None}
 use Rattle.std.proofs.Common.{refl, ap, ◌∙◌, sym, subst, arith, inl, inr, get_or, append_assoc}
-use Rattle.std.specs.declared.cmp.Ordering.TheVariants.{Less, Equal, Greater}
+use Rattle.std.specs.declared.cmp.Ordering.TheVariants.{Less}
 use Rattle.std.specs.Ordering.{is_gt}
 use Rattle.std.specs.List.{list_any, AllByRecursion}
-use Rattle.std.proofs.lemmas.Bool.{and_parts, and_from, or_cases, or_left, or_right, ltb-true}
+use Rattle.std.proofs.lemmas.Bool.{and_parts, or_cases}
 use Rattle.std.proofs.lemmas.List.{drop_more, length_push}
 use Rattle.std.proofs.lemmas.Map.Lookups.{exact_bytes}
 use Rattle.dist_types.specs.declared.pid.Pid.{Pid}
 use Rattle.dist_types.specs.Order.{text_cmp}
 use Rattle.scope_core.specs.declared.counted.Counted.{Counted}
-use Rattle.dist_types.specs.Listing.{same, same_pid, is_among, Rises, IsGroupListing}
+use Rattle.dist_types.specs.Listing.{same, is_among, Rises, IsGroupListing}
 use Rattle.scope_core.specs.Table.{is_row, tally, counted_cmp}
 use Rattle.scope_core.specs.Listed.{is_in, heads, differs, last_of, share}
 use Rattle.dist_types.proofs.Orders.{texts_total, same_decides, same_pid_decides}
@@ -36,7 +36,14 @@ last-push (h ∷ gs) g = last-push gs g
 -- one row on, in a loop over the rows
 pub heads_yes : (times : Counted → ℕ) (gs : List (List ℕ)) (cs : List Counted) (i : ℕ) (c : Counted) → i < length cs → c ≡ get_or cs i c → (nat_lt 0 (times c) && differs (last_of gs) c.row.group) ≡ true
     → (gs ++ c.row.group ∷ []) ++ heads times (last_of (gs ++ c.row.group ∷ [])) (drop (i + 1) cs) ≡ gs ++ heads times (last_of gs) (drop i cs)
-heads_yes times gs cs i c l e t = grind (arith, drop_more, last-push, length_push, append_assoc)
+heads_yes times gs cs i c l e t =
+    let g = c.row.group in
+    let n : length (gs ++ g ∷ []) - 1 ≡ length gs = omega (arith, length_push gs g) in
+    let last : last_of (gs ++ g ∷ []) ≡ Some g = ap (slice_get (gs ++ g ∷ [])) n ∙ last-push gs g in
+    append_assoc gs (g ∷ []) (heads times (last_of (gs ++ g ∷ [])) (drop (i + 1) cs))
+    ∙ ap (λ o. gs ++ g ∷ heads times o (drop (i + 1) cs)) last
+    ∙ sym (ap (λ b. gs ++ cond b (g ∷ heads times (Some g) (drop (i + 1) cs)) (heads times (last_of gs) (drop (i + 1) cs))) t)
+    ∙ sym (ap (λ xs. gs ++ heads times (last_of gs) xs) (drop_more cs i c l ∙ ap (λ x. x ∷ drop (i + 1) cs) (sym e)))
 
 pub heads_no : (times : Counted → ℕ) (gs : List (List ℕ)) (cs : List Counted) (i : ℕ) (c : Counted) → i < length cs → c ≡ get_or cs i c → (nat_lt 0 (times c) && differs (last_of gs) c.row.group) ≡ false
     → gs ++ heads times (last_of gs) (drop (i + 1) cs) ≡ gs ++ heads times (last_of gs) (drop i cs)

@@ -1,17 +1,15 @@
 -- One more for each mention.
-use Rattle.std.specs.Prelude.{◌≡◌, ℕ, suc, ◌+◌, ◌-◌, ◌≤◌, Bool, true, false, cond, ◌&&◌, map, List, [], ◌∷◌, length, All}
-use Rattle.std.proofs.Common.{refl, ap, ◌∙◌, sym, subst, arith}
+use Rattle.std.specs.Prelude.{◌≡◌, ℕ, ◌+◌, ◌≤◌, cond, map, List, [], ◌∷◌, length, All}
+use Rattle.std.proofs.Common.{sym, subst, arith}
 use Rattle.dist_types.specs.declared.pid.Pid.{Pid}
 use Rattle.dist_types.specs.declared.row.Row.{Row}
 use Rattle.scope_core.specs.declared.counted.Counted.{Counted}
-use Rattle.dist_types.specs.Listing.{same, same_row, occurrences, spread, same_pid, mentions, how_many, IsPidListing}
+use Rattle.dist_types.specs.Listing.{same, mentions, how_many, IsPidListing}
 use Rattle.dist_types.specs.Difference.{IsDifference, change_unless_empty}
 use Rattle.scope_core.proofs.Peers.{AreOf, all_or_none, rows_fit}
-use Rattle.scope_core.proofs.Shares.{each, of_node, node_flat}
-use Rattle.dist_types.proofs.Listings.{fewer_length, length-spread}
 use Rattle.scope_core.specs.Table.{Table, local_count, local_total, is_row, is_of_node, tally, IsKept}
 use Rattle.scope_core.specs.Added.{row_in, Adds, HasRoomFor}
-use Rattle.dist_types.proofs.Orders.{same_decides, same_sym, same_row_decides}
+use Rattle.dist_types.proofs.Orders.{same_decides, same_sym}
 use Rattle.dist_types.proofs.Sorts.{all_from}
 use Rattle.dist_types.proofs.Differences.{one_difference}
 use Rattle.std.specs.List.{AllByRecursion}

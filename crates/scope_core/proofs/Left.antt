@@ -1,6 +1,6 @@
 -- One less for each mention, as far as it goes: what really left.
-use Rattle.std.specs.Prelude.{◌≡◌, ℕ, suc, ◌-◌, min, Bool, true, false, cond, List, [], ◌∷◌, All}
-use Rattle.std.proofs.Common.{refl, ap, ◌∙◌, sym, arith}
+use Rattle.std.specs.Prelude.{◌≡◌, ℕ, ◌-◌, min, false, cond, List, [], All}
+use Rattle.std.proofs.Common.{◌∙◌, arith}
 use Rattle.dist_types.specs.declared.pid.Pid.{Pid}
 use Rattle.scope_core.specs.declared.counted.Counted.{Counted}
 use Rattle.dist_types.specs.Listing.{same, same_pid, mentions, IsPidListing}

@@ -1,9 +1,8 @@
 -- One less of a row.
-use Rattle.std.specs.Prelude.{◌≡◌, ℕ, zero, suc, ◌+◌, ◌-◌, ◌<◌, ◌≤◌, Bool, true, false, cond, ◌&&◌, List, [], ◌∷◌, ◌++◌, take, length}
-use Rattle.std.proofs.Common.{refl, ap, ◌∙◌, sym, subst, arith, get_or}
+use Rattle.std.specs.Prelude.{◌≡◌, ℕ, zero, suc, ◌+◌, ◌-◌, ◌<◌, ◌≤◌, Bool, true, false, cond, ◌&&◌, List, [], ◌∷◌, take, length}
+use Rattle.std.proofs.Common.{arith, get_or}
 use Rattle.std.proofs.Math.ListN.{set}
 use Rattle.std.proofs.lemmas.List.{get_or_default, take_more}
-use Rattle.std.specs.declared.cmp.Ordering.TheVariants.{Less}
 use Rattle.std.specs.List.{remove, HoldsAt, AllByRecursion}
 use Rattle.std.proofs.lemmas.List.Sums.{sum_by-remove, sum_by-set}
 use Rattle.dist_types.specs.declared.pid.Pid.{Pid}
@@ -54,7 +53,11 @@ pub its_last : (cs : List Counted) (i : ℕ) (c : Counted) → i < length cs →
 its_last cs i c l e kept last = grind (arith, all_at)
 
 pub removed_kept : (cs : List Counted) (i : ℕ) (c : Counted) → i < length cs → c ≡ get_or cs i c → c.count ≡ 1 → IsKept cs → IsKept (remove cs i)
-removed_kept cs i c l e one kept = grind (arith, rises_remove, all_remove, tally-remove)
+removed_kept cs i c l e one kept = record {
+  rises = rises_remove cs i kept.rises;
+  counted = all_remove (λ x. 0 < x.count) cs i kept.counted;
+  few = λ n. let a = tally-remove cs i c l e one (is_of_node n) in let b = kept.few n in omega (arith, a, b);
+}
 
 pub less_kept : (cs : List Counted) (i : ℕ) (c : Counted) → i < length cs → c ≡ get_or cs i c → 1 < c.count → IsKept cs → IsKept (set cs i (record { row = c.row; count = c.count - 1 }))
 less_kept cs i c l e more kept = grind (arith, get_or_default, rises_set, all_set, tally-less)

@@ -1,18 +1,16 @@
 -- The members of all groups are the rows.
-use Rattle.std.specs.Prelude.{◌≡◌, ℕ, suc, ◌+◌, ◌<◌, ◌≤◌, Bool, true, false, cond, List, [], ◌∷◌, ◌++◌, map, length}
-use Rattle.std.proofs.Common.{refl, ap, ◌∙◌, sym, arith, inl, inr, length-append}
+use Rattle.std.specs.Prelude.{◌≡◌, ℕ, ◌≤◌, cond, List, [], ◌∷◌, map, length}
+use Rattle.std.proofs.Common.{refl, ◌∙◌, arith, length-append}
 use Rattle.std.specs.List.{filter, flat_map}
-use Rattle.std.proofs.lemmas.Bool.{cases_lt}
 use Rattle.std.proofs.lemmas.List.{length-map}
 use Rattle.std.proofs.lemmas.Map.Lookups.{exact_bytes}
 use Rattle.dist_types.specs.declared.pid.Pid.{Pid}
 use Rattle.dist_types.specs.declared.row.Row.{Row}
 use Rattle.dist_types.specs.Order.{text_cmp}
-use Rattle.dist_types.specs.Listing.{same, same_row, same_pid, occurrences, mentions, total, is_among, spread, IsPidListing, IsGroupListing}
-use Rattle.dist_types.proofs.Orders.{texts_total, same_decides, same_sym, same_pid_decides, same_row_decides}
+use Rattle.dist_types.specs.Listing.{same, same_row, occurrences, mentions, total, IsPidListing, IsGroupListing}
+use Rattle.dist_types.proofs.Orders.{texts_total, same_decides, same_sym, same_pid_decides}
 use Rattle.dist_types.proofs.Totals.{how_many_append}
-use Rattle.dist_types.proofs.Listings.{fewer_length, same_length, length-spread, one_of_many}
-use Rattle.scope_core.specs.declared.counted.Counted.{Counted}
+use Rattle.dist_types.proofs.Listings.{one_of_many}
 use Rattle.scope_core.specs.Table.{Table, is_row, count_of, node_total}
 use Rattle.scope_core.specs.Added.{row_in}
 use Rattle.scope_core.proofs.Shares.{of_node, same_rows, fewer_rows}

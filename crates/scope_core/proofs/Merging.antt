@@ -1,6 +1,6 @@
 -- Two lists of rows, made one.
-use Rattle.std.specs.Prelude.{◌≡◌, ℕ, ◌+◌, ◌-◌, ◌<◌, Bool, cond, List, [], ◌∷◌, ◌++◌, length, Option}
-use Rattle.std.proofs.Common.{ap, ◌∙◌, sym, subst, arith}
+use Rattle.std.specs.Prelude.{◌≡◌, ℕ, ◌+◌, ◌<◌, Bool, List, [], ◌∷◌, ◌++◌, length, Option}
+use Rattle.std.proofs.Common.{arith}
 use Rattle.std.specs.Option.{option_to_list}
 use Rattle.std.specs.List.{ReversedBelow}
 use Rattle.std.specs.List.Sorted.{IsPermutation}

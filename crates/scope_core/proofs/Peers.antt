@@ -1,14 +1,14 @@
 -- Rows of one node that are put in.
-use Rattle.std.specs.Prelude.{◌≡◌, ℕ, suc, ◌+◌, ◌≤◌, Bool, true, false, cond, not, List, [], ◌∷◌, length}
-use Rattle.std.proofs.Common.{refl, ap, ◌∙◌, sym, arith}
+use Rattle.std.specs.Prelude.{◌≡◌, ℕ, ◌+◌, ◌≤◌, Bool, false, cond, List, [], ◌∷◌, length}
+use Rattle.std.proofs.Common.{refl, arith}
 use Rattle.std.specs.List.{AllByRecursion}
 use Rattle.std.specs.List.Sorted.{IsPermutation}
-use Rattle.std.proofs.lemmas.Bool.{and_right, not-true}
+use Rattle.std.proofs.lemmas.Bool.{not-true}
 use Rattle.std.proofs.lemmas.List.Sorted.{sum_by-IsPermutation}
 use Rattle.dist_types.specs.declared.pid.Pid.{Pid}
 use Rattle.dist_types.specs.declared.row.Row.{Row}
 use Rattle.dist_types.specs.declared.change.GroupChange.{GroupChange}
-use Rattle.dist_types.specs.Listing.{same, same_pid, how_many}
+use Rattle.dist_types.specs.Listing.{same, how_many}
 use Rattle.dist_types.specs.Difference.{IsDifference}
 use Rattle.dist_types.proofs.Orders.{same_decides, same_pid_decides}
 use Rattle.dist_types.proofs.Totals.{how_many_is, how_many_le}

@@ -1,9 +1,9 @@
 -- Where a row is among rows that rise, and what is counted there.
 use Rattle.std.specs.Prelude.{◌≡◌, ℕ, zero, suc, ◌<◌, ◌≤◌, true, false, cond, nat_lt, List, [], ◌∷◌, length, Result, Ok, Err, IfOk, IfErr, is_ok}
-use Rattle.std.proofs.Common.{refl, ap, ◌∙◌, sym, arith, get_or, add-one}
+use Rattle.std.proofs.Common.{ap, ◌∙◌, sym, arith, get_or, add-one}
 use Rattle.std.specs.declared.cmp.Ordering.{Ordering}
-use Rattle.std.specs.declared.cmp.Ordering.TheVariants.{Less, Equal, Greater}
-use Rattle.std.specs.Ordering.{is_lt, ordering_reverse, ordering_index}
+use Rattle.std.specs.declared.cmp.Ordering.TheVariants.{Less, Equal}
+use Rattle.std.specs.Ordering.{is_lt, ordering_index}
 use Rattle.std.specs.List.{HoldsAt, AllByRecursion}
 use Rattle.std.specs.List.Sorted.{IsBinarySearchResult, IsSortedBy, IsNonDecreasingBy}
 use Rattle.std.proofs.lemmas.Bool.{lt-ltb, ltb-true, and_from}

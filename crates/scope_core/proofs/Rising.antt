@@ -1,17 +1,16 @@
 -- Rows that rise: what is filtered from them rises, and a row stands in them once.
-use Rattle.std.specs.Prelude.{◌≡◌, ℕ, Bool, true, false, cond, List, [], ◌∷◌}
-use Rattle.std.proofs.Common.{refl, ap, ◌∙◌, sym}
+use Rattle.std.specs.Prelude.{◌≡◌, ℕ, Bool, true, false, List, [], ◌∷◌}
 use Rattle.std.specs.declared.cmp.Ordering.{Ordering}
-use Rattle.std.specs.declared.cmp.Ordering.TheVariants.{Less, Equal, Greater}
-use Rattle.std.specs.Ordering.{is_gt, ordering_then}
+use Rattle.std.specs.declared.cmp.Ordering.TheVariants.{Less}
+use Rattle.std.specs.Ordering.{is_gt}
 use Rattle.std.specs.List.{filter, AllByRecursion}
 use Rattle.std.proofs.lemmas.Bool.{and_parts}
 use Rattle.std.proofs.lemmas.Cmp.{tied_itself}
 use Rattle.dist_types.specs.declared.pid.Pid.{Pid}
 use Rattle.dist_types.specs.declared.row.Row.{Row}
-use Rattle.dist_types.specs.Order.{text_cmp, pid_cmp, row_cmp}
+use Rattle.dist_types.specs.Order.{text_cmp, pid_cmp}
 use Rattle.scope_core.specs.declared.counted.Counted.{Counted}
-use Rattle.dist_types.specs.Listing.{same, same_pid, Rises}
+use Rattle.dist_types.specs.Listing.{Rises}
 use Rattle.scope_core.specs.Table.{is_row, counted_cmp}
 use Rattle.scope_core.specs.Listed.{is_in}
 use Rattle.dist_types.proofs.Orders.{same_decides, same_pid_decides, rows_total, in_one_group}

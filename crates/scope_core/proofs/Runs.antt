@@ -1,9 +1,7 @@
 -- The rows of a group stand in a row.
-use Rattle.std.specs.Prelude.{◌≡◌, ℕ, zero, suc, ◌+◌, ◌<◌, ◌≤◌, Bool, true, false, cond, List, [], ◌∷◌, take, drop, length}
+use Rattle.std.specs.Prelude.{◌≡◌, ℕ, zero, suc, ◌<◌, ◌≤◌, Bool, true, false, List, [], ◌∷◌, take, drop, length}
 use Rattle.std.proofs.Common.{refl, ap, ◌∙◌, sym, arith, get_or}
-use Rattle.std.specs.declared.cmp.Ordering.{Ordering}
-use Rattle.std.specs.declared.cmp.Ordering.TheVariants.{Less, Equal, Greater}
-use Rattle.std.specs.Ordering.{is_gt, is_lt, ordering_reverse}
+use Rattle.std.specs.Ordering.{is_gt, is_lt}
 use Rattle.std.specs.List.{filter, AllByRecursion, AllWithin}
 use Rattle.std.specs.List.Sorted.{IsPartitionedBy, IsPartitionPoint}
 use Rattle.std.proofs.lemmas.Cmp.{upto, tied_itself}

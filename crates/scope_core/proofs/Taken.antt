@@ -1,13 +1,11 @@
 -- What is left of the rows where some are taken.
-use Rattle.std.specs.Prelude.{◌≡◌, ℕ, ◌+◌, ◌<◌, ◌≤◌, Bool, true, false, cond, not, List, [], ◌∷◌}
-use Rattle.std.proofs.Common.{refl, ap, ◌∙◌, sym, arith}
+use Rattle.std.specs.Prelude.{◌≡◌, ℕ, ◌≤◌, Bool, true, false, cond, not, List, [], ◌∷◌}
+use Rattle.std.proofs.Common.{refl, arith}
 use Rattle.std.specs.List.{filter}
-use Rattle.std.proofs.lemmas.Bool.{and_right, not-true, not-false}
 use Rattle.dist_types.specs.declared.pid.Pid.{Pid}
 use Rattle.dist_types.specs.declared.row.Row.{Row}
 use Rattle.scope_core.specs.declared.counted.Counted.{Counted}
-use Rattle.dist_types.specs.Listing.{same, same_pid}
-use Rattle.scope_core.specs.Table.{is_row, is_of_node, tally, counted_cmp, IsKept}
+use Rattle.scope_core.specs.Table.{is_row, tally, IsKept}
 use Rattle.dist_types.proofs.Orders.{same_pid_decides}
 use Rattle.scope_core.proofs.Rising.{all_filter, filter_rises}
 
