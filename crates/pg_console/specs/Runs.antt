@@ -20,11 +20,11 @@ pub record Begins (o : Opening) (script : List ℕ) (old new : Option (List ℕ)
   pub parts : text lacking o script ≡ written ++ unwritten
   pub appended : Appends old new written
 
--- how a run of a script ends. Nothing is known of what a failed write wrote.
+-- how a run of a script ends
 abbrev pub RunsAs : {U : Type 0} → Opening → List ℕ → Option (List ℕ) → Option (List ℕ) → Result U RunFault → Type 0
 RunsAs o script old new (Ok u) = (fault_in script ≡ None) × Writes o script old new
 RunsAs o script old new (Err (faults.Script k)) = (fault_in script ≡ Some k) × Writes o script old new
 RunsAs o script old new (Err faults.BadOpening) = ⊥
 RunsAs o script old new (Err faults.Read) = Begins o script old new
 RunsAs o script old new (Err faults.Memory) = Begins o script old new
-RunsAs o script old new (Err faults.Write) = Unit {0}
+RunsAs o script old new (Err faults.Write) = Begins o script old new

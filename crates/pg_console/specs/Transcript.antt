@@ -48,6 +48,10 @@ line_text lacks p line = cond (is_quiet line) [] (answer_of lacks p (said_by lin
 abbrev pub line_left : Bool → Playing → List ℕ → Playing
 line_left lacks p line = cond (is_quiet line) p (left_of lacks p (said_by line))
 
+-- what line k is owed: its answer, or that it can't be read
+abbrev pub owed_line : Bool → Playing → ℕ → List ℕ → List ℕ
+owed_line lacks p k line = cond (is_fault line) (fault_line k) (line_text lacks p line)
+
 -- whether memory lacks at the first of some lines, and at the others; past the end of the list it lacks nowhere
 abbrev pub at_first : List Bool → Bool
 at_first [] = false

@@ -6,6 +6,7 @@ mod argument;
 mod arguments;
 mod command;
 mod console;
+mod diagnosis;
 mod event_kind;
 mod laws;
 mod link_commands;
@@ -21,17 +22,22 @@ mod words;
 
 use clap::ArgMatches;
 use clap::error::{Error as LineError, ErrorKind as LineFault};
+use diagnosis::diagnose;
 use options::{command, opening};
 use policy_audit::Opening;
-use script::{RunFault, run};
+use script::RunFault;
+use std::alloc::{AllocError, Global};
 use std::io::{self, BufReader, ErrorKind};
 use std::process::ExitCode;
+use words::without_feed;
+
+const OUT_OF_MEMORY: &str = "error: out of memory";
 
 /// Status 0 at the end of a script, 1 at a fault of the script, of a stream or of memory, 2 at one of the command line.
-fn main(rt: HostRuntime) -> io::Result<ExitCode> {
+fn main(rt: HostRuntime) -> ExitCode {
     let alloc = rt.alloc();
-    let words: Vec<String> = match std::env::args(&rt) {
-        Ok(words) => words.collect(alloc)?,
+    let words = match std::env::args(&rt) {
+        Ok(words) => words.collect(alloc),
         Err(error) if error.kind() == ErrorKind::InvalidData => {
             return failed(
                 &rt,
@@ -39,10 +45,14 @@ fn main(rt: HostRuntime) -> io::Result<ExitCode> {
                 "error: the command line has a word that is not UTF-8",
             );
         }
-        Err(error) => return Err(error),
+        Err(_) => return failed(&rt, 1, OUT_OF_MEMORY),
+    };
+    let words: Vec<String> = match words {
+        Ok(words) => words,
+        Err(_) => return failed(&rt, 1, OUT_OF_MEMORY),
     };
     let Ok(command) = command(alloc) else {
-        return failed(&rt, 1, "error: out of memory");
+        return failed(&rt, 1, OUT_OF_MEMORY);
     };
     match command.try_get_matches_from(words.as_slice()) {
         Ok(matches) => follow(&rt, &matches),
@@ -51,52 +61,84 @@ fn main(rt: HostRuntime) -> io::Result<ExitCode> {
 }
 
 /// Ends a program whose command line has no matches: it is refused, or it asks for a text, as `--help` does.
-fn unmatched<R: AllocGlobal + Print + Eprint>(rt: &R, error: &LineError) -> io::Result<ExitCode> {
+fn unmatched<R: AllocGlobal + Print + Eprint>(rt: &R, error: &LineError) -> ExitCode {
     if error.kind() == LineFault::OutOfMemory {
-        return failed(rt, 1, "error: out of memory");
+        return failed(rt, 1, OUT_OF_MEMORY);
     }
     if error.use_stderr() {
-        let text = error.to_string(rt.alloc())?;
-        return failed(rt, 2, text.as_str());
+        return match refusal(rt.alloc(), error) {
+            Ok(line) => failed(rt, 2, line.as_str()),
+            Err(_) => failed(rt, 1, OUT_OF_MEMORY),
+        };
     }
-    error.print(rt)?;
-    Ok(ExitCode::SUCCESS)
+    match error.print(rt) {
+        Ok(()) => ExitCode::SUCCESS,
+        Err(_) => failed(rt, 1, "error: standard output can't be written"),
+    }
+}
+
+/// What the parser of the command line says, as one line: its first paragraph, which names the words at fault.
+fn refusal(alloc: Global, error: &LineError) -> Result<String, AllocError> {
+    let text = error.to_string(alloc)?;
+    let mut line = String::new(alloc);
+    for part in text.lines().take_while(|part| !part.is_empty()) {
+        if !line.is_empty() {
+            line.push(' ')?;
+        }
+        line.push_str(part.trim())?;
+    }
+    Ok(line)
 }
 
 /// Does what the command line asks for.
-fn follow<R: AllocGlobal + Input + Print + Eprint>(
-    rt: &R,
-    matches: &ArgMatches<'_>,
-) -> io::Result<ExitCode> {
+fn follow<R: AllocGlobal + Input + Print + Eprint>(rt: &R, matches: &ArgMatches<'_>) -> ExitCode {
     let Some(run) = matches.subcommand_matches("run") else {
         return failed(rt, 2, "error: no command was given");
     };
     match opening(rt.alloc(), run) {
         Ok(opening) => play(rt, opening),
-        Err(fault) => {
-            let text = format!(in rt.alloc(); "{fault}")?;
-            failed(rt, fault.status(), text.as_str())
-        }
+        Err(fault) => match format!(in rt.alloc(); "{fault}") {
+            Ok(text) => failed(rt, fault.status(), text.as_str()),
+            Err(_) => failed(rt, 1, OUT_OF_MEMORY),
+        },
     }
 }
 
 /// Plays standard input on a node that is opened so.
-fn play<R: AllocGlobal + Input + Print + Eprint>(rt: &R, opening: Opening) -> io::Result<ExitCode> {
-    let mut reader = BufReader::new(rt.alloc(), rt.reader())?;
+fn play<R: AllocGlobal + Input + Print + Eprint>(rt: &R, opening: Opening) -> ExitCode {
+    let Ok(mut reader) = BufReader::new(rt.alloc(), rt.reader()) else {
+        return failed(rt, 1, OUT_OF_MEMORY);
+    };
+    let mut line = Vec::new(rt.alloc());
     let mut writer = io::writer(rt);
-    match run(rt, opening, &mut reader, &mut writer) {
-        Ok(()) => Ok(ExitCode::SUCCESS),
-        Err(RunFault::Script(_)) => Ok(ExitCode::from(1)),
-        Err(fault) => {
-            let text = format!(in rt.alloc(); "error: {fault}")?;
-            failed(rt, 1, text.as_str())
-        }
+    match script::play(rt.alloc(), opening, &mut reader, &mut line, &mut writer) {
+        Ok(()) => ExitCode::SUCCESS,
+        Err(RunFault::Script(number)) => misread(rt, number, without_feed(line.as_slice())),
+        Err(fault) => match format!(in rt.alloc(); "error: {fault}") {
+            Ok(text) => failed(rt, 1, text.as_str()),
+            Err(_) => failed(rt, 1, OUT_OF_MEMORY),
+        },
     }
 }
 
-/// One line on standard error, the first of the text, and this status.
-fn failed(rt: &impl Eprint, status: u8, text: &str) -> io::Result<ExitCode> {
-    let line = text.lines().next().unwrap_or("error");
-    rt.eprintln(line)?;
-    Ok(ExitCode::from(status))
+/// Ends a run at the line of this number, and says why it says no command.
+fn misread<R: AllocGlobal + Eprint>(rt: &R, number: u64, line: &[u8]) -> ExitCode {
+    let Some((reason, part)) = diagnose(rt.alloc(), line) else {
+        return failed(rt, 1, "error: the line can't be read");
+    };
+    let text = match part {
+        "" => format!(in rt.alloc(); "line {number}: {reason}"),
+        _ => format!(in rt.alloc(); "line {number}: {reason}: {part}"),
+    };
+    match text {
+        Ok(text) => failed(rt, 1, text.as_str()),
+        Err(_) => failed(rt, 1, OUT_OF_MEMORY),
+    }
+}
+
+/// One line on standard error, and this status.
+fn failed(rt: &impl Eprint, status: u8, line: &str) -> ExitCode {
+    // There is nobody left to be told where standard error is closed.
+    rt.eprintln(line).ok();
+    ExitCode::from(status)
 }

@@ -7,6 +7,23 @@ use std::alloc::Global;
 /// The most entries of an audit, where none are given.
 const ENTRIES: u32 = 1_000_000;
 
+/// The commands of a script and the statuses, behind the help of the parser.
+const SCRIPTS: &str = "\
+Commands of a script, one a line; a word with .. may come any number of times:
+  node       restart | cookie COOKIE | cookie_for NAME COOKIE | allow NAME..
+  scopes     start SCOPE | stop SCOPE
+  processes  spawn | exit PROCESS | join SCOPE GROUP PROCESS.. | leave SCOPE GROUP PROCESS..
+  queries    members SCOPE GROUP | local_members SCOPE GROUP | groups SCOPE | local_groups SCOPE
+  monitors   monitor SCOPE GROUP | monitor_scope SCOPE | demonitor REF | updates REF
+  links      dial NAME CHALLENGE | opened CHALLENGE | frame LINK HEX | take LINK | lost LINK | disconnect NAME
+  console    seat SEAT | size | audit ENTRY
+
+Example:
+  printf 'start pg\\nspawn\\njoin pg g b@h/1/1\\nmembers pg g\\n' | pg_console run b@h password
+
+Status: 0 at the end of the script; 1 at a line that is no command, at a fault of a stream, or for want of memory;
+2 at a fault of the command line. docs/FORMATS.md has the answers and the frames.";
+
 /// Why NAME or COOKIE is refused.
 #[derive(Clone, Copy, Debug, thiserror::Error)]
 pub enum OptionsFault {
@@ -34,6 +51,7 @@ pub fn command<'a>(alloc: Global) -> Result<Command<'a>, Error> {
         Command::new(alloc, "pg_console")
             .version("0.1.0")
             .about("Plays scripts on a node of process groups")
+            .after_help(SCRIPTS)
             .subcommand_required(true)
             .subcommand(run)?,
     )
@@ -43,6 +61,7 @@ fn run_command<'a>(alloc: Global) -> Result<Command<'a>, Error> {
     Ok(
         Command::new(alloc, "run")
             .about("Plays a script from standard input on one node")
+            .after_help(SCRIPTS)
             .arg(name(alloc))?
             .arg(cookie(alloc))?
             .arg(creation(alloc))?

@@ -1,13 +1,13 @@
 //! The run of a whole script.
-ghost use Rattle.std.specs.Prelude.{◌≡◌, ◌≢◌, ◌⊎◌, ◌<◌, ◌↔◌, Bool, true, false, OnOk, IfOk, IfErr, Some, IfSome, Err, length};
-ghost use Rattle.std.specs.Io.KnownBytes.{Appends, IsAtEnd};
+ghost use Rattle.std.specs.Prelude.{◌≡◌, ◌≢◌, ◌⊎◌, ◌<◌, ◌≤◌, ◌↔◌, ℕ, Bool, true, false, OnOk, OnErr, IfOk, IfErr, Some, IfSome, Err, length, take};
+ghost use Rattle.std.specs.Io.KnownBytes.{Appends, Keeps, IsAtEnd};
 ghost use Rattle.std.specs.Io.BufRead.{take_through, drop_through};
 ghost use Rattle.std.specs.IoError.{error_kind};
 ghost use Rattle.std.specs.declared.io.ErrorKind.TheVariants as kinds;
 ghost use Rattle.pg_console.specs.Answers.{fault_line};
 ghost use Rattle.pg_console.specs.Playing.{opened_with};
 ghost use Rattle.pg_console.specs.Runs.{RunsAs};
-ghost use Rattle.pg_console.specs.Transcript.{is_fault, line_text, line_left};
+ghost use Rattle.pg_console.specs.Transcript.{is_fault, line_text, line_left, owed_line};
 ghost use Rattle.policy_audit.specs.declared.opening.Opening.{Opening};
 ghost use Rattle.pg_console.specs.declared.script.RunFault.TheVariants as faults;
 
@@ -36,7 +36,7 @@ pub enum RunFault {
     Memory,
 }
 
-/// The most lines that are read.
+/// The most lines that are read, and the most writes of one answer.
 const TURNS: u64 = 1 << 32;
 
 /// Plays a script on a new node: one answer line for each command, up to the first line that can't be read. Each answer
@@ -52,9 +52,25 @@ pub fn run<A: AllocGlobal, R: BufRead, W: Write>(
     ensures text { 0 < opening.entries → IfSome (R.remaining reader.old) (λ script.
         RunsAs opening script (W.contents writer.old) (W.contents writer.new) result) }
 {
-    let alloc = rt.alloc();
+    let mut line = Vec::new(rt.alloc());
+    play(rt.alloc(), opening, reader, &mut line, writer)
+}
+
+/// The same, and leaves in `line` the line that was read last: at a fault of the script, the line that can't be read.
+pub fn play<R: BufRead, W: Write>(
+    alloc: Global,
+    opening: Opening,
+    reader: &mut R,
+    line: &mut Vec<u8>,
+    writer: &mut W,
+) -> Result<(), RunFault>
+    ensures bad { (result ≡ Err faults.BadOpening) ↔ (opening.entries ≡ 0) }
+    ensures untouched { result ≡ Err faults.BadOpening → (reader.new ≡ reader.old) × (writer.new ≡ writer.old) }
+    ensures text { 0 < opening.entries → IfSome (R.remaining reader.old) (λ script.
+        RunsAs opening script (W.contents writer.old) (W.contents writer.new) result) }
+{
     match Console::open(alloc, opening) {
-        Ok(mut console) => play_lines(alloc, &mut console, reader, writer),
+        Ok(mut console) => play_lines(alloc, &mut console, reader, line, writer),
         Err(OpenFault::BadLimit) => Err(RunFault::BadOpening),
         Err(OpenFault::OutOfMemory) => Err(RunFault::Memory),
     }
@@ -65,16 +81,16 @@ fn play_lines<R: BufRead, W: Write>(
     alloc: Global,
     console: &mut Console,
     reader: &mut R,
+    line: &mut Vec<u8>,
     writer: &mut W,
 ) -> Result<(), RunFault>
     ensures good { IfErr result (λ fault. fault ≢ faults.BadOpening) }
     ensures text { (o : Opening) → console.old ≡ opened_with o → IfSome (R.remaining reader.old) (λ script.
         RunsAs o script (W.contents writer.old) (W.contents writer.new) result) }
 {
-    let mut line = Vec::new(alloc);
     let mut out = Vec::new(alloc);
     for turn in 0..TURNS {
-        if !read_line(&mut line, reader)? {
+        if !read_line(line, reader)? {
             return Ok(());
         }
         let said = without_feed(line.as_slice());
@@ -114,6 +130,8 @@ fn answer_line<W: Write>(
     ensures told { result ≡ Err (faults.Script number) → (is_fault line.now ≡ true)
         × Appends (W.contents writer.old) (W.contents writer.new) (fault_line number) }
     ensures untold { result ≡ Err faults.Memory → writer.new ≡ writer.old }
+    ensures begun { result ≡ Err faults.Write → (lacks : Bool) × (n : ℕ)
+        × Appends (W.contents writer.old) (W.contents writer.new) (take n (owed_line lacks console.old number line.now)) }
 {
     out.clear();
     match console.answer(alloc, line, out) {
@@ -128,15 +146,17 @@ fn tell_fault<W: Write>(line: u64, out: &mut Vec<u8>, writer: &mut W) -> RunFaul
     ensures ended { (result ≡ faults.Script line) ⊎ (result ≡ faults.Memory) ⊎ (result ≡ faults.Write) }
     ensures told { result ≡ faults.Script line → Appends (W.contents writer.old) (W.contents writer.new) (fault_line line) }
     ensures untold { result ≡ faults.Memory → writer.new ≡ writer.old }
+    ensures begun { result ≡ faults.Write → (n : ℕ)
+        × Appends (W.contents writer.old) (W.contents writer.new) (take n (fault_line line)) }
 {
     out.clear();
     if put_numbered_line("fault line ", line, out).is_err() {
         return RunFault::Memory;
     }
-    if send(out.as_slice(), writer).is_err() {
-        return RunFault::Write;
+    match send(out.as_slice(), writer) {
+        Ok(()) => RunFault::Script(line),
+        Err(fault) => fault,
     }
-    RunFault::Script(line)
 }
 
 /// What a reader's error ends a run with.
@@ -151,13 +171,33 @@ fn read_fault(error: Error) -> RunFault
     }
 }
 
-/// Writes all bytes, and sees that they go out.
+/// Writes all bytes, and sees that they go out. After a fault a beginning of them was written.
 fn send<W: Write>(bytes: &[u8], writer: &mut W) -> Result<(), RunFault>
     ensures ok { OnOk result (Appends (W.contents writer.old) (W.contents writer.new) bytes.now) }
     ensures err { IfErr result (λ fault. fault ≡ faults.Write) }
+    ensures begun { OnErr result ((n : ℕ) × Appends (W.contents writer.old) (W.contents writer.new) (take n bytes.now)) }
 {
-    if writer.write_all(bytes).is_err() || writer.flush().is_err() {
-        return Err(RunFault::Write);
+    let mut sent = 0;
+    for _ in 0..TURNS {
+        if sent == bytes.len() {
+            return writer.flush().map_err(|_| RunFault::Write);
+        }
+        sent += write_some(&bytes[sent..], writer)?;
     }
-    Ok(())
+    Err(RunFault::Write)
+}
+
+/// Writes some of these bytes, and says how many: none where the write was interrupted.
+fn write_some<W: Write>(rest: &[u8], writer: &mut W) -> Result<usize, RunFault>
+    ensures within { IfOk result (λ count. count ≤ length rest.now) }
+    ensures ok { IfOk result (λ count. Appends (W.contents writer.old) (W.contents writer.new) (take count rest.now)) }
+    ensures err { IfErr result (λ fault. fault ≡ faults.Write) }
+    ensures none { OnErr result (Keeps (W.contents writer.old) (W.contents writer.new)) }
+{
+    match writer.write(rest) {
+        Ok(0) => Err(RunFault::Write),
+        Ok(count) => Ok(count),
+        Err(error) if error.kind() == ErrorKind::Interrupted => Ok(0),
+        Err(_) => Err(RunFault::Write),
+    }
 }

@@ -28,7 +28,7 @@ returns-in_err-answer_line-clause-text g c = λ o opened. weaken (g.R.Read.remai
     let failed = err_from_is_err_and c.from_residual-in_err-answer_line.result c.from_residual-in_err-answer_line.ensures.1 in
     let faulty = c.in_err-answer_line.ensures in
     rw (failed.1, failed.2) (played_told kept.2 c.in_err-answer_line.field-0.0 (came kept.0 (rw read.0 at some)) is faulty.fault
-    (λ e. faulty.told (ap Err e)) (λ e. ap g.W.Write.contents (faulty.untold (ap Err e))))) (c.loop-turn.invariant o opened)
+    (λ e. faulty.told (ap Err e)) (λ e. ap g.W.Write.contents (faulty.untold (ap Err e))) (λ e. faulty.begun (ap Err e)))) (c.loop-turn.invariant o opened)
 
 -- a line that was answered
 pub loop-turn-preserved : goal.loop-turn-preserved
