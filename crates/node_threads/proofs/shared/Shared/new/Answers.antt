@@ -1,0 +1,16 @@
+use Rattle.std.proofs.Common.{◌≡◌, List, [], ℕ, sym, subst, replicate, arith}
+use Rattle.policy_audit.specs.declared.entry.Entry.{Entry}
+use Rattle.policy_audit.specs.Policy.{IsLegalIn}
+use Rattle.node_threads.specs.Room.{AreCounted}
+use Rattle.node_threads.proofs.Counted.{AreCounted_none}
+use Rattle.node_threads.proofs.shared.Shared.new.Goals as goal
+
+pub invariant_of-result : goal.invariant_of-result
+invariant_of-result c =
+    let zeros : c.in_ok-counts.counts.items ≡ replicate c.args.seats 0 = c.in_ok-counts.ensures.items_if_clones_equal (λ y h. h) in
+    record {
+      legal = subst (λ (es : List Entry). IsLegalIn c.args.core.opening es) (sym c.requires.unused) tt;
+      counted = subst (λ (es : List Entry). AreCounted c.in_ok-counts.counts.items es) (sym c.requires.unused)
+          (subst (λ (ns : List ℕ). AreCounted ns []) (sym zeros) (AreCounted_none c.args.seats));
+      few = omega (arith, c.in_ok-counts.ensures.len, c.requires.few);
+    }

@@ -1,0 +1,21 @@
+-- A new node, and why there is none.
+use Rattle.std.specs.Prelude.{◌≡◌, ℕ, ◌<◌, ◌≤◌, List, [], length, slice_get, Some}
+use Rattle.policy_audit.specs.declared.opening.Opening.{Opening}
+use Rattle.node_threads.specs.declared.fault.NewFault.{NewFault}
+use Rattle.node_threads.specs.declared.fault.NewFault.TheVariants.{BadSeats, BadLimit, OutOfMemory}
+use Rattle.node_threads.specs.Calls.{Record}
+
+-- a pass for each seat, in the order of the seats, with no calls
+pub record IsOpened (seats : ℕ) (passes : List Record) : Type 0 where
+  pub count : length passes ≡ seats
+  pub each : (seat : ℕ) → seat < seats → slice_get passes seat ≡ Some (record { seat = seat; calls = [] })
+
+-- a node may have that many seats
+abbrev pub HasBounds : ℕ → Type 0
+HasBounds seats = (0 < seats) × (seats ≤ 256)
+
+-- why there is no node
+abbrev pub IsNewFault : NewFault → Opening → ℕ → Type 0
+IsNewFault BadSeats opening seats = HasBounds seats → ⊥
+IsNewFault BadLimit opening seats = HasBounds seats × (opening.entries ≡ 0)
+IsNewFault OutOfMemory opening seats = HasBounds seats × (0 < opening.entries)

@@ -1,0 +1,27 @@
+-- What lies behind the lock.
+use Rattle.std.specs.Prelude.{◌≡◌, ℕ, ◌+◌, ◌<◌, ◌≤◌, List, length, slice_index, slice_set}
+use Rattle.std.specs.List.{AllByRecursion}
+use Rattle.policy_audit.specs.declared.entry.Entry.{Entry}
+use Rattle.policy_audit.specs.History.{History}
+use Rattle.policy_audit.specs.Policy.{IsLegal}
+use Rattle.node_threads.specs.Calls.{entries_of}
+
+-- a node's history, and for each seat a count
+pub record Room : Type 0 where
+  pub history : History
+  pub counts : List ℕ
+
+-- every entry is of a seat that has a count, and each count is the number of that seat's entries
+pub record AreCounted (counts : List ℕ) (es : List Entry) : Type 0 where
+  pub seated : AllByRecursion (λ e. e.seat < length counts) es
+  pub each : (seat : ℕ) → seat < length counts → slice_index counts seat ≡ entries_of seat es
+
+-- the history is one that the policy makes, and its entries are counted
+pub record IsSound (room : Room) : Type 0 where
+  pub legal : IsLegal room.history
+  pub counted : AreCounted room.counts room.history.entries
+  pub few : length room.counts ≤ 256
+
+-- one more for this seat
+abbrev pub one_more : ℕ → List ℕ → List ℕ
+one_more seat counts = slice_set counts seat (slice_index counts seat + 1)

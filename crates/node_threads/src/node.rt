@@ -1,0 +1,66 @@
+//! A node for many threads.
+ghost use Rattle.std.specs.Prelude.{◌≡◌, ◌<◌, ◌≤◌, IfOk, IfErr, OnOk};
+ghost use Rattle.node_threads.specs.Opened.{IsOpened, IsNewFault, HasBounds};
+
+use crate::fault::NewFault;
+use crate::pass::Pass;
+use crate::shared::Shared;
+use dist_types::OutOfMemory;
+use node_core::{NodeCore, OpenFault};
+use policy_audit::Opening;
+use std::alloc::{AllocError, Global};
+use std::sync::{Condvar, Mutex};
+
+/// A node for many threads.
+#[derive(Drop)]
+pub struct Node {
+    /// Whoever takes this lock may read the node, and `apply` events to it.
+    pub shared: Mutex<Shared>,
+    /// Told of each `call`.
+    pub moved: Condvar,
+}
+
+impl Node {
+    pub const MAX_SEATS: u32 = 256;
+
+    /// A node that has seen nothing, with a pass for each seat, in the order of the seats. `BadSeats` where there are none or
+    /// more than 256, and then `BadLimit` where the opening allows no entry.
+    pub fn new(alloc: Global, opening: Opening, seats: u32) -> Result<(Node, Vec<Pass>), NewFault>
+        ensures ok { IfOk result (λ made. IsOpened seats made.1.items) }
+        ensures bounds { OnOk result (HasBounds seats × (0 < opening.entries)) }
+        ensures refused { IfErr result (λ fault. IsNewFault fault opening seats) }
+    {
+        if seats == 0 || seats > Node::MAX_SEATS {
+            return Err(NewFault::BadSeats);
+        }
+        let core = match NodeCore::new(alloc, opening) {
+            Ok(core) => core,
+            Err(OpenFault::BadLimit) => return Err(NewFault::BadLimit),
+            Err(OpenFault::OutOfMemory) => return Err(NewFault::OutOfMemory),
+        };
+        let Ok(passes) = new_passes(alloc, seats) else {
+            return Err(NewFault::OutOfMemory);
+        };
+        let Ok(shared) = Shared::new(alloc, core, seats) else {
+            return Err(NewFault::OutOfMemory);
+        };
+        let node = Node {
+            shared: Mutex::new(shared),
+            moved: Condvar::new(),
+        };
+        Ok((node, passes))
+    }
+}
+
+/// A pass for each seat.
+fn new_passes(alloc: Global, seats: u32) -> Result<Vec<Pass>, OutOfMemory>
+    ensures { IfOk result (λ passes. IsOpened seats passes.items) }
+{
+    let mut passes = Vec::new(alloc);
+    for seat in 0..seats {
+        passes
+            .push(Pass::new(alloc, seat))
+            .map_err(AllocError::from)?;
+    }
+    Ok(passes)
+}

@@ -1,0 +1,170 @@
+//! What lies behind the lock.
+ghost use Rattle.std.specs.Prelude.{◌≡◌, ◌+◌, ◌<◌, ◌≤◌, ◌↔◌, ◌++◌, ◌∷◌, [], false, replicate, length, vec_len, vec_capacity, slice_index, slice_set, Some, IsTrue, IsSome, IfOk, IfErr, IfSome, OnOk, OnErr};
+ghost use Rattle.policy_audit.specs.Policy.{verdict, after, is_full, next_number, IsLegal};
+ghost use Rattle.node_threads.specs.Calls.{last_reply};
+ghost use Rattle.node_threads.specs.Room.{IsSound, AreCounted, one_more};
+ghost use Rattle.node_threads.specs.Applied.{Fits, Applied, IsKept, room_after};
+
+use crate::fault::CallFault;
+use crate::pass::{Call, Pass};
+use dist_types::{OutOfMemory, TryClone};
+use node_core::{CoreFault, NodeCore};
+use policy_audit::{Event, Rule, Verdict};
+use std::alloc::Global;
+use std::marker::Model;
+
+/// A node, and how many entries each seat has.
+#[derive(Drop)]
+pub struct Shared {
+    alloc: Global,
+    core: NodeCore,
+    counts: Vec<u32>,
+}
+
+impl Model for Shared {
+    ghost use Rattle.node_threads.specs.Room.{Room, IsSound};
+
+    ghost Value = { Room };
+
+    ghost view = { λ shared. record { history = shared.core; counts = shared.counts.items } };
+
+    ghost invariant = { λ shared. IsSound (record { history = shared.core; counts = shared.counts.items }) };
+}
+
+impl Shared {
+    /// A node that has seen nothing, for that many seats.
+    pub(crate) fn new(alloc: Global, core: NodeCore, seats: u32) -> Result<Shared, OutOfMemory>
+        requires unused { core.entries ≡ [] }
+        requires few { seats ≤ 256 }
+        ensures { IfOk result (λ shared. shared ≡ record { history = core; counts = replicate seats 0 }) }
+    {
+        let counts = vec![in alloc; 0u32; seats as usize]?;
+        Ok(Shared {
+            alloc,
+            core,
+            counts,
+        })
+    }
+
+    /// The node, to be read while the lock is held.
+    pub fn core(&self) -> &NodeCore
+        ensures history { result.now ≡ self.now.history }
+        ensures sound { IsSound self.now }
+    {
+        &self.core
+    }
+
+    /// How many seats there are.
+    pub(crate) fn seats(&self) -> u32
+        ensures { result ≡ length self.now.counts }
+    {
+        self.counts.len() as u32
+    }
+
+    pub(crate) fn into_core(self) -> NodeCore
+        ensures { result ≡ self.history }
+    {
+        let Shared {
+            alloc: _,
+            core,
+            counts: _,
+        } = self;
+        core
+    }
+
+    /// Whether the pass is of this node, as far as its seat and its number of calls tell.
+    fn fits(&self, pass: &Pass) -> bool
+        ensures { IsTrue result ↔ Fits self.now pass.now }
+    {
+        match self.counts.get(pass.seat as usize) {
+            Some(count) => *count as usize == pass.calls.len(),
+            None => false,
+        }
+    }
+
+    /// Applies an event for the seat of the pass, and leaves the answer in the pass. All that grows has grown before the step.
+    pub(crate) fn enter(&mut self, pass: &mut Pass, event: Event) -> Result<(), CallFault>
+        ensures ok { OnOk result (IfSome (last_reply pass.new.calls) (λ reply. Applied self.old pass.old event (Ok reply) self.new pass.new)) }
+        ensures replied { OnOk result (IsSome (last_reply pass.new.calls)) }
+        ensures refused { IfErr result (λ fault. Applied self.old pass.old event (Err fault) self.new pass.new) }
+        ensures found { IsSound self.old }
+        ensures left { IsSound self.new }
+    {
+        if !self.fits(pass) {
+            drop(event);
+            return Err(CallFault::StrangePass);
+        }
+        if self.core.is_full() {
+            drop(event);
+            return Err(CallFault::Core(CoreFault::Refused(Rule::EntriesFull)));
+        }
+        let Ok(copy) = room_and_copy(self.alloc, &mut pass.calls, &event) else {
+            drop(event);
+            return Err(CallFault::Core(CoreFault::OutOfMemory));
+        };
+        let Ok((number, verdict)) = self.advance(pass.seat, event) else {
+            drop(copy);
+            return Err(CallFault::Core(CoreFault::OutOfMemory));
+        };
+        let call = Call {
+            number,
+            event: copy,
+            verdict,
+        };
+        keep(&mut pass.calls, call)
+    }
+
+    /// One step for a seat, which is counted: the number of the entry, and its verdict.
+    fn advance(&mut self, seat: u32, event: Event) -> Result<(u32, Verdict), OutOfMemory>
+        requires seat { seat < length self.old.counts }
+        requires free { is_full self.old.history ≡ false }
+        ensures number { IfOk result (λ entry. entry.0 ≡ next_number self.old.history) }
+        ensures verdict { IfOk result (λ entry. entry.1 ≡ verdict self.old.history seat event) }
+        ensures room { OnOk result (self.new ≡ room_after self.old seat event) }
+        ensures memory { OnErr result (self.new ≡ self.old) }
+        ensures left { IsSound self.new }
+    {
+        let verdict = judge(&mut self.core, seat, event)?;
+        let number = self.core.audit().len() as u32;
+        self.counts[seat as usize] += 1;
+        Ok((number, verdict))
+    }
+}
+
+/// Makes room for a call, and a copy of its event.
+fn room_and_copy(alloc: Global, calls: &mut Vec<Call>, event: &Event) -> Result<Event, OutOfMemory>
+    ensures copy { IfOk result (λ copy. copy ≡ event.now) }
+    ensures room { OnOk result (vec_len calls.new < vec_capacity calls.new) }
+    ensures same { calls.new.items ≡ calls.old.items }
+{
+    calls.reserve(1)?;
+    event.try_clone(alloc)
+}
+
+/// Keeps a call, in the room that there is, and tells whether it was refused.
+fn keep(calls: &mut Vec<Call>, call: Call) -> Result<(), CallFault>
+    requires { vec_len calls.old < vec_capacity calls.old }
+    ensures calls { calls.new.items ≡ calls.old.items ++ call ∷ [] }
+    ensures answer { IsKept call.verdict result }
+{
+    let answer = match &call.verdict {
+        Verdict::Accepted(_) => Ok(()),
+        Verdict::Refused(rule) => Err(CallFault::Core(CoreFault::Refused(*rule))),
+    };
+    calls.push_reserved(call);
+    answer
+}
+
+/// The verdict of one step.
+#[tactic(auto, unfolding(node_core::specs::Step::IsStepped))]
+fn judge(core: &mut NodeCore, seat: u32, event: Event) -> Result<Verdict, OutOfMemory>
+    ensures ok { IfOk result (λ v. v ≡ verdict core.old seat event) }
+    ensures entered { OnOk result (core.new ≡ after core.old seat event) }
+    ensures memory { OnErr result (core.new ≡ core.old) }
+{
+    match core.step(seat, event) {
+        Ok(reply) => Ok(Verdict::Accepted(reply)),
+        Err(CoreFault::Refused(rule)) => Ok(Verdict::Refused(rule)),
+        Err(CoreFault::OutOfMemory) => Err(OutOfMemory),
+    }
+}
