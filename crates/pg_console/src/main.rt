@@ -128,7 +128,7 @@ fn misread<R: AllocGlobal + Eprint>(rt: &R, number: u64, line: &[u8]) -> ExitCod
     };
     let text = match part {
         "" => format!(in rt.alloc(); "line {number}: {reason}"),
-        _ => format!(in rt.alloc(); "line {number}: {reason}: {part}"),
+        _ => format!(in rt.alloc(); "line {number}: {reason}: {part:.80}"),
     };
     match text {
         Ok(text) => failed(rt, 1, text.as_str()),

@@ -5,6 +5,7 @@ use policy_audit::Opening;
 use std::io::{BufRead, Write};
 use std::test::Fail;
 
+mod diagnoses;
 mod faults;
 mod printing;
 mod reading;
@@ -84,6 +85,16 @@ fn names_the_line_of_a_script_fault(rt: HostRuntime) -> Result<(), Fail> {
     assert_eq!(rt; ended, Err(RunFault::Script(4)));
     assert_eq!(rt; answers.as_slice(), b"size 0\nfault line 4\n".as_slice());
     assert_eq!(rt; rest, b"size\n".as_slice());
+    Ok(())
+}
+
+/// Behind the answers to the lines before it, and nothing is read behind it.
+#[test]
+fn a_misspelt_command_ends_a_script(rt: HostRuntime) -> Result<(), Fail> {
+    let (ended, answers, rest) = played(&rt, START, b"spawn\nspwan\nspawn\n")?;
+    assert_eq!(rt; ended, Err(RunFault::Script(2)));
+    assert_eq!(rt; answers.as_slice(), b"pid b@h/4/1\nfault line 2\n".as_slice());
+    assert_eq!(rt; rest, b"spawn\n".as_slice());
     Ok(())
 }
 

@@ -7,7 +7,7 @@ use std::alloc::Global;
 use std::test::Fail;
 
 /// Each command on events, with the kind of its event.
-const COMMANDS: [(&str, &str); 29] = [
+pub const COMMANDS: [(&str, &str); 29] = [
     ("restart", "Restart"),
     ("cookie secret", "SetCookie"),
     ("cookie_for a@h secret", "SetCookieFor"),
@@ -40,7 +40,7 @@ const COMMANDS: [(&str, &str); 29] = [
 ];
 
 /// Unknown commands, wrong numbers of words, and words that are empty or can't be read.
-const FAULTS: [&str; 72] = [
+pub const FAULTS: [&str; 72] = [
     "spwan",
     "SPAWN",
     " spawn",
