@@ -35,8 +35,7 @@ pub sent_more : (u v w : Option (List ℕ)) (bytes : List ℕ) (sent count : ℕ
     → Appends u v (take sent bytes) → Appends v w (take count (take (length bytes - sent) (drop sent bytes)))
     → (sent + count ≤ length bytes) × Appends u w (take (sent + count) bytes)
 sent_more u v w bytes sent count within some first more =
-    let left : take (length bytes - sent) (drop sent bytes) ≡ drop sent bytes = take_all (length bytes - sent) (drop sent bytes) (omega (arith, length-drop sent bytes)) in
-    (
+    let left : take (length bytes - sent) (drop sent bytes) ≡ drop sent bytes = take_all (length bytes - sent) (drop sent bytes) (omega (arith, length-drop sent bytes)) in (
       omega (arith, within, length-drop sent bytes, subst (λ (xs : List ℕ). count ≤ length xs) left some),
       rw (take-add sent count bytes) (appends_then u v w (take sent bytes) (take count (drop sent bytes)) first (subst (λ (xs : List ℕ). Appends v w (take count xs)) left more)),
     )

@@ -93,7 +93,10 @@ fn names_the_line_of_a_script_fault(rt: HostRuntime) -> Result<(), Fail> {
 fn a_misspelt_command_ends_a_script(rt: HostRuntime) -> Result<(), Fail> {
     let (ended, answers, rest) = played(&rt, START, b"spawn\nspwan\nspawn\n")?;
     assert_eq!(rt; ended, Err(RunFault::Script(2)));
-    assert_eq!(rt; answers.as_slice(), b"pid b@h/4/1\nfault line 2\n".as_slice());
+    assert_eq!(rt;
+        answers.as_slice(),
+        b"pid b@h/4/1\nfault line 2\n".as_slice()
+    );
     assert_eq!(rt; rest, b"spawn\n".as_slice());
     Ok(())
 }

@@ -8,10 +8,16 @@ use std::test::Fail;
 const SAID: [(&str, &str); 20] = [
     ("spwan", "no such command: spwan"),
     ("SPAWN", "no such command: SPAWN"),
-    ("spawn\r", "a carriage return; lines end with a line feed alone: "),
+    (
+        "spawn\r",
+        "a carriage return; lines end with a line feed alone: ",
+    ),
     ("spawn\t", "a tab; words are parted by one space: "),
     ("cookie \u{7f}", "a byte outside 0x20 to 0x7E: "),
-    ("allow a@h  c@h", "an empty word; words are parted by one space: "),
+    (
+        "allow a@h  c@h",
+        "an empty word; words are parted by one space: ",
+    ),
     ("spawn ", "an empty word; words are parted by one space: "),
     ("members pg", "a word is missing: members SCOPE GROUP"),
     ("exit", "a word is missing: exit PROCESS"),
@@ -58,9 +64,15 @@ fn names_the_first_fault_of_a_line(rt: HostRuntime) -> Result<(), Fail> {
 #[test]
 fn agrees_with_the_reading_of_lines(rt: HostRuntime) {
     for line in FAULTS {
-        assert!(rt; diagnose(rt.alloc(), line.as_bytes()).is_some(), "at {line}");
+        assert!(rt;
+            diagnose(rt.alloc(), line.as_bytes()).is_some(),
+            "at {line}"
+        );
     }
     for (line, _) in COMMANDS {
-        assert!(rt; diagnose(rt.alloc(), line.as_bytes()).is_none(), "at {line}");
+        assert!(rt;
+            diagnose(rt.alloc(), line.as_bytes()).is_none(),
+            "at {line}"
+        );
     }
 }

@@ -3,8 +3,8 @@ use crate::answers::{put_entry, put_step};
 use dist_types::{Body, Group, Items, NodeName, Pid, Pids};
 use node_core::CoreFault;
 use policy_audit::{
-    Contents, Entry, Event, GroupPids, Groups, Members, OutFrame, Reply, Rule, Update,
-    Updates, Verdict,
+    Contents, Entry, Event, GroupPids, Groups, Members, OutFrame, Reply, Rule, Update, Updates,
+    Verdict,
 };
 use std::alloc::Global;
 use std::process::Abort;
