@@ -1,20 +1,8 @@
 -- One more of a row.
-use Rattle.std.specs.Prelude.{◌≡◌, ℕ, zero, suc, ◌+◌, ◌<◌, ◌≤◌, Bool, cond, List, [], ◌∷◌, ◌++◌, length, Result, Ok, Err, IsOk, is_ok}
-use Rattle.std.proofs.Common.{ap, ◌∙◌, sym, subst, arith, get_or}
-use Rattle.std.proofs.Math.ListN.{set}
-use Rattle.std.proofs.lemmas.List.{get_or_default}
-use Rattle.std.specs.declared.cmp.Ordering.TheVariants.{Less}
-use Rattle.std.specs.List.{insert, AllByRecursion}
-use Rattle.std.proofs.lemmas.List.Sums.{sum_by-insert, sum_by-set, get_or-le-sum_by}
-use Rattle.dist_types.specs.declared.row.Row.{Row}
-use Rattle.dist_types.specs.Order.{row_cmp}
-use Rattle.scope_core.specs.declared.counted.Counted.{Counted}
-use Rattle.dist_types.specs.Listing.{how_many, Rises}
-use Rattle.scope_core.specs.Table.{tally, is_of_node, counted_cmp, IsKept}
-use Rattle.scope_core.specs.Added.{Adds, Joins, HasRoomBeside, IsGap}
-use Rattle.dist_types.proofs.Orders.{rows_total, same_decides}
-use Rattle.dist_types.proofs.Totals.{total_is, how_many_append}
-use Rattle.dist_types.proofs.Sorts.{all_from}
+use Rattle.scope_core.proofs.Words.{◌≡◌, ℕ, zero, suc, ◌+◌, ◌<◌, ◌≤◌, Bool, cond, List, [], ◌∷◌, ◌++◌, length, Result, Ok, Err, IsOk, is_ok, ap, ◌∙◌}
+use Rattle.scope_core.proofs.Words.{sym, subst, arith, get_or, set, get_or_default, Less, insert, AllByRecursion, sum_by-insert, sum_by-set}
+use Rattle.scope_core.proofs.Words.{get_or-le-sum_by, Row, row_cmp, Counted, how_many, Rises, tally, is_of_node, counted_cmp, IsKept, Adds, Joins}
+use Rattle.scope_core.proofs.Words.{HasRoomBeside, IsGap, rows_total, same_decides, total_is, how_many_append, all_from}
 use Rattle.scope_core.proofs.Runs.{all_at}
 
 module _ {A : Type 0} (P : A → Type 0) where

@@ -1,22 +1,11 @@
 -- The changes where some rows leave and others join.
-use Rattle.std.specs.Prelude.{◌≡◌, ℕ, ◌+◌, ◌-◌, ◌<◌, Bool, true, false, cond, ◌&&◌, List, [], ◌∷◌, map, None}
-use Rattle.std.proofs.Common.{refl, ◌∙◌, sym, arith}
-use Rattle.std.specs.List.{AllByRecursion}
-use Rattle.std.proofs.lemmas.Bool.{or_right, or_left}
-use Rattle.std.proofs.lemmas.Map.Lookups.{exact_bytes}
-use Rattle.dist_types.specs.declared.pid.Pid.{Pid}
-use Rattle.dist_types.specs.Order.{text_cmp}
-use Rattle.dist_types.specs.Listing.{same, mentions, is_among, total, Rises, IsPidListing, IsGroupListing}
-use Rattle.dist_types.specs.Difference.{is_empty, IsProper}
-use Rattle.dist_types.proofs.Orders.{texts_total, same_decides}
-use Rattle.dist_types.proofs.Listings.{one_of_many}
-use Rattle.scope_core.specs.declared.counted.Counted.{Counted}
-use Rattle.scope_core.specs.Table.{counted_cmp}
-use Rattle.scope_core.specs.Listed.{heads, share, moving, IsUnion, Tells}
+use Rattle.scope_core.proofs.Words.{◌≡◌, ℕ, ◌+◌, ◌-◌, ◌<◌, Bool, true, false, cond, ◌&&◌, List, [], ◌∷◌, map, None, refl, ◌∙◌, sym, arith}
+use Rattle.scope_core.proofs.Words.{AllByRecursion, or_right, or_left, exact_bytes, Pid, text_cmp, same, mentions, is_among, total, Rises}
+use Rattle.scope_core.proofs.Words.{IsPidListing, IsGroupListing, is_empty, IsProper, texts_total, same_decides, one_of_many, Counted, counted_cmp}
+use Rattle.scope_core.proofs.Words.{heads, share, moving, IsUnion, Tells, GroupChange}
 use Rattle.scope_core.proofs.Shares.{shares_listing}
 use Rattle.scope_core.proofs.Groups.{groups_shared}
 use Rattle.scope_core.proofs.Moved.{all_mapped}
-use Rattle.dist_types.specs.declared.change.GroupChange.{GroupChange}
 
 -- what is less, and what is more, where a part of a count ends
 pub less : (b : Bool) (n : ℕ) → n - cond b 0 n ≡ cond b n 0

@@ -1,18 +1,7 @@
 -- Rows that are counted more often than among others.
-use Rattle.std.specs.Prelude.{◌≡◌, ℕ, ◌-◌, Bool, true, cond, List, [], ◌∷◌, length}
-use Rattle.std.proofs.Common.{refl, ap, ◌∙◌, arith}
-use Rattle.std.specs.declared.cmp.Ordering.TheVariants.{Less}
-use Rattle.std.specs.List.{AllByRecursion}
-use Rattle.dist_types.specs.declared.pid.Pid.{Pid}
-use Rattle.dist_types.specs.declared.row.Row.{Row}
-use Rattle.dist_types.specs.declared.change.GroupChange.{GroupChange}
-use Rattle.dist_types.specs.Listing.{same, how_many, total, Rises}
-use Rattle.dist_types.specs.Difference.{IsDifference}
-use Rattle.scope_core.specs.declared.counted.Counted.{Counted}
-use Rattle.scope_core.specs.Table.{is_row, tally, counted_cmp}
-use Rattle.scope_core.specs.Added.{Adds}
-use Rattle.scope_core.specs.Beyond.{times_beyond, picked}
-use Rattle.scope_core.specs.Listed.{share, Tells}
+use Rattle.scope_core.proofs.Words.{◌≡◌, ℕ, ◌-◌, Bool, true, cond, List, [], ◌∷◌, length, refl, ap, ◌∙◌, arith, Less, AllByRecursion, Pid, Row}
+use Rattle.scope_core.proofs.Words.{GroupChange, same, how_many, total, Rises, IsDifference, Counted, is_row, tally, counted_cmp, Adds, times_beyond}
+use Rattle.scope_core.proofs.Words.{picked, share, Tells}
 use Rattle.scope_core.proofs.Rising.{row_is}
 use Rattle.scope_core.proofs.Shares.{share_is, IsPart}
 

@@ -1,19 +1,9 @@
 -- The groups of rows that rise.
-use Rattle.std.specs.Prelude.{◌≡◌, ℕ, ◌+◌, ◌<◌, Bool, true, false, cond, not, ◌&&◌, ◌||◌, nat_lt, ◌-◌, List, [], ◌∷◌, ◌++◌, length, drop, slice_get, Option, Some, None}
-use Rattle.std.proofs.Common.{refl, ap, ◌∙◌, sym, subst, arith, inl, inr, get_or, append_assoc}
-use Rattle.std.specs.declared.cmp.Ordering.TheVariants.{Less}
-use Rattle.std.specs.Ordering.{is_gt}
-use Rattle.std.specs.List.{list_any, AllByRecursion}
-use Rattle.std.proofs.lemmas.Bool.{and_parts, or_cases}
-use Rattle.std.proofs.lemmas.List.{drop_more, length_push}
-use Rattle.std.proofs.lemmas.Map.Lookups.{exact_bytes}
-use Rattle.dist_types.specs.declared.pid.Pid.{Pid}
-use Rattle.dist_types.specs.Order.{text_cmp}
-use Rattle.scope_core.specs.declared.counted.Counted.{Counted}
-use Rattle.dist_types.specs.Listing.{same, is_among, Rises, IsGroupListing}
-use Rattle.scope_core.specs.Table.{is_row, tally, counted_cmp}
-use Rattle.scope_core.specs.Listed.{is_in, heads, differs, last_of, share}
-use Rattle.dist_types.proofs.Orders.{texts_total, same_decides, same_pid_decides}
+use Rattle.scope_core.proofs.Words.{◌≡◌, ℕ, ◌+◌, ◌<◌, Bool, true, false, cond, not, ◌&&◌, ◌||◌, nat_lt, ◌-◌, List, [], ◌∷◌, ◌++◌, length, drop}
+use Rattle.scope_core.proofs.Words.{slice_get, Option, Some, None, refl, ap, ◌∙◌, sym, subst, arith, inl, inr, get_or, append_assoc, Less, is_gt}
+use Rattle.scope_core.proofs.Words.{list_any, AllByRecursion, and_parts, or_cases, drop_more, length_push, exact_bytes, Pid, text_cmp, Counted, same}
+use Rattle.scope_core.proofs.Words.{is_among, Rises, IsGroupListing, is_row, tally, counted_cmp, is_in, heads, differs, last_of, share, texts_total}
+use Rattle.scope_core.proofs.Words.{same_decides, same_pid_decides}
 use Rattle.scope_core.proofs.Rising.{all_map, groups_above}
 use Rattle.scope_core.proofs.Shares.{share_is, each, IsPart}
 

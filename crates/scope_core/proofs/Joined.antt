@@ -1,19 +1,9 @@
 -- One more for each mention.
-use Rattle.std.specs.Prelude.{◌≡◌, ℕ, ◌+◌, ◌≤◌, cond, map, List, [], ◌∷◌, length, All}
-use Rattle.std.proofs.Common.{sym, subst, arith}
-use Rattle.dist_types.specs.declared.pid.Pid.{Pid}
-use Rattle.dist_types.specs.declared.row.Row.{Row}
-use Rattle.scope_core.specs.declared.counted.Counted.{Counted}
-use Rattle.dist_types.specs.Listing.{same, mentions, how_many, IsPidListing}
-use Rattle.dist_types.specs.Difference.{IsDifference, change_unless_empty}
+use Rattle.scope_core.proofs.Words.{◌≡◌, ℕ, ◌+◌, ◌≤◌, cond, map, List, [], ◌∷◌, length, All, sym, subst, arith, Pid, Row, Counted, same, mentions}
+use Rattle.scope_core.proofs.Words.{how_many, IsPidListing, IsDifference, change_unless_empty, Table, local_count, local_total, is_row, is_of_node}
+use Rattle.scope_core.proofs.Words.{tally, IsKept, row_in, Adds, HasRoomFor, same_decides, same_sym, all_from, one_difference, AllByRecursion}
+use Rattle.scope_core.proofs.Words.{length-map}
 use Rattle.scope_core.proofs.Peers.{AreOf, all_or_none, rows_fit}
-use Rattle.scope_core.specs.Table.{Table, local_count, local_total, is_row, is_of_node, tally, IsKept}
-use Rattle.scope_core.specs.Added.{row_in, Adds, HasRoomFor}
-use Rattle.dist_types.proofs.Orders.{same_decides, same_sym}
-use Rattle.dist_types.proofs.Sorts.{all_from}
-use Rattle.dist_types.proofs.Differences.{one_difference}
-use Rattle.std.specs.List.{AllByRecursion}
-use Rattle.std.proofs.lemmas.List.{length-map}
 use Rattle.scope_core.proofs.Shares.{fewer_rows}
 
 -- the rows of a list of processes are the mentions of each

@@ -1,16 +1,9 @@
 -- One less for each mention, as far as it goes: what really left.
-use Rattle.std.specs.Prelude.{◌≡◌, ℕ, ◌-◌, min, false, cond, List, [], All}
-use Rattle.std.proofs.Common.{◌∙◌, arith}
-use Rattle.dist_types.specs.declared.pid.Pid.{Pid}
-use Rattle.scope_core.specs.declared.counted.Counted.{Counted}
-use Rattle.dist_types.specs.Listing.{same, same_pid, mentions, IsPidListing}
-use Rattle.dist_types.specs.Difference.{IsDifference, change_unless_empty}
-use Rattle.scope_core.specs.Table.{is_row, tally}
-use Rattle.dist_types.proofs.Orders.{same_decides, same_pid_decides, same_sym}
-use Rattle.dist_types.proofs.Differences.{one_difference}
+use Rattle.scope_core.proofs.Words.{◌≡◌, ℕ, ◌-◌, min, false, cond, List, [], All, ◌∙◌, arith, Pid, Counted, same, same_pid, mentions, IsPidListing}
+use Rattle.scope_core.proofs.Words.{IsDifference, change_unless_empty, is_row, tally, same_decides, same_pid_decides, same_sym, one_difference}
+use Rattle.scope_core.proofs.Words.{all_from}
 use Rattle.scope_core.proofs.Rising.{all_map}
 use Rattle.scope_core.proofs.Peers.{none_pass}
-use Rattle.dist_types.proofs.Sorts.{all_from}
 
 -- those that a leave takes from the group
 abbrev pub IsGone : List ℕ → List Pid → List Counted → List Pid → Type 0

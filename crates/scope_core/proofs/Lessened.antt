@@ -1,18 +1,8 @@
 -- One less of a row.
-use Rattle.std.specs.Prelude.{◌≡◌, ℕ, zero, suc, ◌+◌, ◌-◌, ◌<◌, ◌≤◌, Bool, true, false, cond, ◌&&◌, List, [], ◌∷◌, take, length}
-use Rattle.std.proofs.Common.{arith, get_or}
-use Rattle.std.proofs.Math.ListN.{set}
-use Rattle.std.proofs.lemmas.List.{get_or_default, take_more}
-use Rattle.std.specs.List.{remove, HoldsAt, AllByRecursion}
-use Rattle.std.proofs.lemmas.List.Sums.{sum_by-remove, sum_by-set}
-use Rattle.dist_types.specs.declared.pid.Pid.{Pid}
-use Rattle.dist_types.specs.declared.row.Row.{Row}
-use Rattle.scope_core.specs.declared.counted.Counted.{Counted}
-use Rattle.dist_types.specs.Listing.{same, same_pid, mentions, Rises}
-use Rattle.scope_core.specs.Table.{tally, is_row, is_of_node, counted_cmp, IsKept}
-use Rattle.scope_core.specs.Added.{row_in, Adds, Takes}
-use Rattle.dist_types.proofs.Orders.{same_decides, same_sym, same_pid_decides}
-use Rattle.dist_types.proofs.Totals.{total_is, how_many_append}
+use Rattle.scope_core.proofs.Words.{◌≡◌, ℕ, zero, suc, ◌+◌, ◌-◌, ◌<◌, ◌≤◌, Bool, true, false, cond, ◌&&◌, List, [], ◌∷◌, take, length, arith, get_or}
+use Rattle.scope_core.proofs.Words.{set, get_or_default, take_more, remove, HoldsAt, AllByRecursion, sum_by-remove, sum_by-set, Pid, Row, Counted}
+use Rattle.scope_core.proofs.Words.{same, same_pid, mentions, Rises, tally, is_row, is_of_node, counted_cmp, IsKept, row_in, Adds, Takes}
+use Rattle.scope_core.proofs.Words.{same_decides, same_sym, same_pid_decides, total_is, how_many_append}
 use Rattle.scope_core.proofs.Runs.{all_at}
 use Rattle.scope_core.proofs.Added.{rises_set, all_set}
 

@@ -1,3 +1,4 @@
+pub mod Words
 pub mod Rising
 pub mod Shares
 pub mod Runs

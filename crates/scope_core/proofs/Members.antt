@@ -1,18 +1,8 @@
 -- The members of all groups are the rows.
-use Rattle.std.specs.Prelude.{◌≡◌, ℕ, ◌≤◌, cond, List, [], ◌∷◌, map, length}
-use Rattle.std.proofs.Common.{refl, ◌∙◌, arith, length-append}
-use Rattle.std.specs.List.{filter, flat_map}
-use Rattle.std.proofs.lemmas.List.{length-map}
-use Rattle.std.proofs.lemmas.Map.Lookups.{exact_bytes}
-use Rattle.dist_types.specs.declared.pid.Pid.{Pid}
-use Rattle.dist_types.specs.declared.row.Row.{Row}
-use Rattle.dist_types.specs.Order.{text_cmp}
-use Rattle.dist_types.specs.Listing.{same, same_row, occurrences, mentions, total, IsPidListing, IsGroupListing}
-use Rattle.dist_types.proofs.Orders.{texts_total, same_decides, same_sym, same_pid_decides}
-use Rattle.dist_types.proofs.Totals.{how_many_append}
-use Rattle.dist_types.proofs.Listings.{one_of_many}
-use Rattle.scope_core.specs.Table.{Table, is_row, count_of, node_total}
-use Rattle.scope_core.specs.Added.{row_in}
+use Rattle.scope_core.proofs.Words.{◌≡◌, ℕ, ◌≤◌, cond, List, [], ◌∷◌, map, length, refl, ◌∙◌, arith, length-append, filter, flat_map, length-map}
+use Rattle.scope_core.proofs.Words.{exact_bytes, Pid, Row, text_cmp, same, same_row, occurrences, mentions, total, IsPidListing, IsGroupListing}
+use Rattle.scope_core.proofs.Words.{texts_total, same_decides, same_sym, same_pid_decides, how_many_append, one_of_many, Table, is_row, count_of}
+use Rattle.scope_core.proofs.Words.{node_total, row_in}
 use Rattle.scope_core.proofs.Shares.{of_node, same_rows, fewer_rows}
 use Rattle.scope_core.proofs.Joined.{mentions_in}
 use Rattle.std.proofs.lemmas.List.Elements.{filter-append}

@@ -1,17 +1,8 @@
 -- Processes in order: those that are the same stand in a run.
-use Rattle.std.specs.Prelude.{◌≡◌, ℕ, zero, suc, ◌+◌, ◌≤◌, min, true, false, List, [], ◌∷◌, ◌++◌, take, drop, replicate, length}
-use Rattle.std.proofs.Common.{refl, ap, ◌∙◌, sym, subst, arith, inl, inr}
-use Rattle.std.specs.Ordering.{is_gt}
-use Rattle.std.specs.List.{AllByRecursion, AllWithin}
-use Rattle.std.specs.List.Sorted.{IsPartitionedBy}
-use Rattle.std.proofs.lemmas.Bool.{cases_lt}
-use Rattle.std.proofs.lemmas.List.{take-append-drop, append_assoc, length-take-le}
-use Rattle.std.proofs.lemmas.List.Sums.{length-filter}
-use Rattle.dist_types.specs.declared.pid.Pid.{Pid}
-use Rattle.dist_types.specs.Order.{pid_cmp}
-use Rattle.dist_types.specs.Listing.{same_pid, mentions, Ascends}
-use Rattle.dist_types.proofs.Orders.{pids_total, exact_pids, same_pid_decides}
-use Rattle.dist_types.proofs.Totals.{how_many_is, how_many_append, how_many_replicate}
+use Rattle.scope_core.proofs.Words.{◌≡◌, ℕ, zero, suc, ◌+◌, ◌≤◌, min, true, false, List, [], ◌∷◌, ◌++◌, take, drop, replicate, length, refl, ap, ◌∙◌}
+use Rattle.scope_core.proofs.Words.{sym, subst, arith, inl, inr, is_gt, AllByRecursion, AllWithin, IsPartitionedBy, cases_lt, take-append-drop}
+use Rattle.scope_core.proofs.Words.{append_assoc, length-take-le, length-filter, Pid, pid_cmp, same_pid, mentions, Ascends, pids_total, exact_pids}
+use Rattle.scope_core.proofs.Words.{same_pid_decides, how_many_is, how_many_append, how_many_replicate}
 use Rattle.scope_core.proofs.Runs.{all_at, filter_takes}
 
 -- where neither comes after the other, they are the same

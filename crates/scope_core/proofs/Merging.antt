@@ -1,16 +1,7 @@
 -- Two lists of rows, made one.
-use Rattle.std.specs.Prelude.{◌≡◌, ℕ, ◌+◌, ◌<◌, Bool, List, [], ◌∷◌, ◌++◌, length, Option}
-use Rattle.std.proofs.Common.{arith}
+use Rattle.scope_core.proofs.Words.{◌≡◌, ℕ, ◌+◌, ◌<◌, Bool, List, [], ◌∷◌, ◌++◌, length, Option, arith, ReversedBelow, IsPermutation, sum_by-append}
+use Rattle.scope_core.proofs.Words.{sum_by-IsPermutation, Row, total_is, all_from, Counted, tally, IsKept, AreCounted}
 use Rattle.std.specs.Option.{option_to_list}
-use Rattle.std.specs.List.{ReversedBelow}
-use Rattle.std.specs.List.Sorted.{IsPermutation}
-use Rattle.std.proofs.lemmas.List.Sums.{sum_by-append}
-use Rattle.std.proofs.lemmas.List.Sorted.{sum_by-IsPermutation}
-use Rattle.dist_types.specs.declared.row.Row.{Row}
-use Rattle.dist_types.proofs.Totals.{total_is}
-use Rattle.dist_types.proofs.Sorts.{all_from}
-use Rattle.scope_core.specs.declared.counted.Counted.{Counted}
-use Rattle.scope_core.specs.Table.{tally, IsKept, AreCounted}
 use Rattle.scope_core.proofs.Runs.{all_at}
 
 tally_append : (test : Row → Bool) (xs ys : List Counted) → tally test (xs ++ ys) ≡ tally test xs + tally test ys

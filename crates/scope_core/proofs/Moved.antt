@@ -1,22 +1,9 @@
 -- The rows of a change in each group.
-use Rattle.std.specs.Prelude.{◌≡◌, ℕ, ◌-◌, false, cond, List, [], ◌∷◌, ◌++◌, map}
-use Rattle.std.proofs.Common.{refl, ◌∙◌}
-use Rattle.std.specs.declared.cmp.Ordering.TheVariants.{Less}
-use Rattle.std.specs.Ordering.{is_gt}
-use Rattle.std.specs.List.{AllByRecursion, flat_map}
-use Rattle.dist_types.specs.declared.pid.Pid.{Pid}
-use Rattle.dist_types.specs.declared.row.Row.{Row}
-use Rattle.dist_types.specs.declared.change.GroupChange.{GroupChange}
-use Rattle.dist_types.specs.Order.{text_cmp, pid_cmp, row_cmp}
-use Rattle.dist_types.specs.Listing.{same, same_row, occurrences, mentions, total, Rises, Ascends, IsRowListing}
-use Rattle.dist_types.specs.Difference.{IsProper, IsDifference}
-use Rattle.dist_types.proofs.Orders.{same_sym, in_one_group}
-use Rattle.dist_types.proofs.Totals.{how_many_append}
-use Rattle.dist_types.proofs.Listings.{all_append}
-use Rattle.scope_core.specs.Table.{is_row}
-use Rattle.scope_core.specs.Added.{row_in, rows_left, rows_joined}
+use Rattle.scope_core.proofs.Words.{◌≡◌, ℕ, ◌-◌, false, cond, List, [], ◌∷◌, ◌++◌, map, refl, ◌∙◌, Less, is_gt, AllByRecursion, flat_map, Pid, Row}
+use Rattle.scope_core.proofs.Words.{GroupChange, text_cmp, pid_cmp, row_cmp, same, same_row, occurrences, mentions, total, Rises, Ascends}
+use Rattle.scope_core.proofs.Words.{IsRowListing, IsProper, IsDifference, same_sym, in_one_group, how_many_append, all_append, is_row, row_in}
+use Rattle.scope_core.proofs.Words.{rows_left, rows_joined, arith}
 use Rattle.scope_core.proofs.Joined.{mentions_in}
-use Rattle.std.proofs.Common.{arith}
 use Rattle.scope_core.proofs.Rising.{all_map}
 
 module _ {A B : Type 0} (P : B → Type 0) (f : A → B) where

@@ -1,17 +1,9 @@
 -- How many own rows there are where rows of a peer come and go, and what is counted of a peer that has none.
-use Rattle.std.specs.Prelude.{◌≡◌, ℕ, ◌+◌, Bool, true, false, cond, List, [], ◌∷◌, length, OnOk, IfErr, Result, Ok, Err}
-use Rattle.std.proofs.Common.{refl, arith}
-use Rattle.std.specs.List.{list_any}
-use Rattle.std.proofs.lemmas.Bool.{not-true, not-false}
-use Rattle.dist_types.specs.declared.row.Row.{Row}
-use Rattle.dist_types.specs.Listing.{same, how_many}
-use Rattle.dist_types.proofs.Orders.{same_decides}
-use Rattle.scope_core.specs.declared.counted.Counted.{Counted}
+use Rattle.scope_core.proofs.Words.{◌≡◌, ℕ, ◌+◌, Bool, true, false, cond, List, [], ◌∷◌, length, OnOk, IfErr, Result, Ok, Err, refl, arith, list_any}
+use Rattle.scope_core.proofs.Words.{not-true, not-false, Row, same, how_many, same_decides, Counted, Table, is_row, is_of_node, tally, without_node}
+use Rattle.scope_core.proofs.Words.{Counts, count_after_sync, count_after_add, IsAddFault, IsSyncFault}
 use Rattle.scope_core.specs.declared.fault.TableFault.{TableFault}
 use Rattle.scope_core.specs.declared.fault.TableFault.TheVariants.{RowsFull, NotJoined, NotListed, OutOfMemory}
-use Rattle.scope_core.specs.Table.{Table, is_row, is_of_node, tally}
-use Rattle.scope_core.specs.Added.{without_node}
-use Rattle.scope_core.specs.Calls.{Counts, count_after_sync, count_after_add, IsAddFault, IsSyncFault}
 use Rattle.scope_core.proofs.Rising.{row_is}
 use Rattle.scope_core.proofs.Taken.{tally_none, tally_all}
 use Rattle.scope_core.proofs.Peers.{AreOf, all_or_none, none_of_other}

@@ -1,21 +1,8 @@
 -- Rows of one node that are put in.
-use Rattle.std.specs.Prelude.{◌≡◌, ℕ, ◌+◌, ◌≤◌, Bool, false, cond, List, [], ◌∷◌, length}
-use Rattle.std.proofs.Common.{refl, arith}
-use Rattle.std.specs.List.{AllByRecursion}
-use Rattle.std.specs.List.Sorted.{IsPermutation}
-use Rattle.std.proofs.lemmas.Bool.{not-true}
-use Rattle.std.proofs.lemmas.List.Sorted.{sum_by-IsPermutation}
-use Rattle.dist_types.specs.declared.pid.Pid.{Pid}
-use Rattle.dist_types.specs.declared.row.Row.{Row}
-use Rattle.dist_types.specs.declared.change.GroupChange.{GroupChange}
-use Rattle.dist_types.specs.Listing.{same, how_many}
-use Rattle.dist_types.specs.Difference.{IsDifference}
-use Rattle.dist_types.proofs.Orders.{same_decides, same_pid_decides}
-use Rattle.dist_types.proofs.Totals.{how_many_is, how_many_le}
-use Rattle.scope_core.specs.declared.counted.Counted.{Counted}
-use Rattle.scope_core.specs.Table.{is_row, is_of_node, tally, IsKept}
-use Rattle.scope_core.specs.Added.{without_node, Adds, Joins, HasRoomFor, HasRoomBeside}
-use Rattle.scope_core.specs.Listed.{Tells}
+use Rattle.scope_core.proofs.Words.{◌≡◌, ℕ, ◌+◌, ◌≤◌, Bool, false, cond, List, [], ◌∷◌, length, refl, arith, AllByRecursion, IsPermutation, not-true}
+use Rattle.scope_core.proofs.Words.{sum_by-IsPermutation, Pid, Row, GroupChange, same, how_many, IsDifference, same_decides, same_pid_decides}
+use Rattle.scope_core.proofs.Words.{how_many_is, how_many_le, Counted, is_row, is_of_node, tally, IsKept, without_node, Adds, Joins, HasRoomFor}
+use Rattle.scope_core.proofs.Words.{HasRoomBeside, Tells}
 use Rattle.scope_core.proofs.Taken.{tally_none, filter_kept, gone_counts}
 
 -- a permutation has as many that pass a test

@@ -1,25 +1,9 @@
 -- Where a row is among rows that rise, and what is counted there.
-use Rattle.std.specs.Prelude.{◌≡◌, ℕ, zero, suc, ◌<◌, ◌≤◌, true, false, cond, nat_lt, List, [], ◌∷◌, length, Result, Ok, Err, IfOk, IfErr, is_ok}
-use Rattle.std.proofs.Common.{ap, ◌∙◌, sym, arith, get_or, add-one}
-use Rattle.std.specs.declared.cmp.Ordering.{Ordering}
-use Rattle.std.specs.declared.cmp.Ordering.TheVariants.{Less, Equal}
-use Rattle.std.specs.Ordering.{is_lt, ordering_index}
-use Rattle.std.specs.List.{HoldsAt, AllByRecursion}
-use Rattle.std.specs.List.Sorted.{IsBinarySearchResult, IsSortedBy, IsNonDecreasingBy}
-use Rattle.std.proofs.lemmas.Bool.{lt-ltb, ltb-true, and_from}
-use Rattle.std.proofs.lemmas.Cmp.{tied_itself}
-use Rattle.std.proofs.lemmas.List.Sorted.{searchable_from_sorted}
-use Rattle.std.proofs.lemmas.List.Sums.{get_or-le-sum_by}
-use Rattle.dist_types.specs.declared.pid.Pid.{Pid}
-use Rattle.dist_types.specs.declared.row.Row.{Row}
-use Rattle.dist_types.specs.Order.{row_cmp}
-use Rattle.dist_types.specs.Listing.{Rises}
-use Rattle.scope_core.specs.declared.counted.Counted.{Counted}
-use Rattle.scope_core.specs.Table.{is_row, tally, counted_cmp}
-use Rattle.scope_core.specs.Added.{row_in, IsGap}
-use Rattle.dist_types.proofs.Orders.{rows_total, exact_rows, same_decides, same_pid_decides}
-use Rattle.dist_types.proofs.Totals.{total_is}
-use Rattle.dist_types.proofs.Sorts.{all_from}
+use Rattle.scope_core.proofs.Words.{◌≡◌, ℕ, zero, suc, ◌<◌, ◌≤◌, true, false, cond, nat_lt, List, [], ◌∷◌, length, Result, Ok, Err, IfOk, IfErr}
+use Rattle.scope_core.proofs.Words.{is_ok, ap, ◌∙◌, sym, arith, get_or, add-one, Ordering, Less, Equal, is_lt, ordering_index, HoldsAt}
+use Rattle.scope_core.proofs.Words.{AllByRecursion, IsBinarySearchResult, IsSortedBy, IsNonDecreasingBy, lt-ltb, ltb-true, and_from, tied_itself}
+use Rattle.scope_core.proofs.Words.{searchable_from_sorted, get_or-le-sum_by, Pid, Row, row_cmp, Rises, Counted, is_row, tally, counted_cmp, row_in}
+use Rattle.scope_core.proofs.Words.{IsGap, rows_total, exact_rows, same_decides, same_pid_decides, total_is, all_from}
 use Rattle.scope_core.proofs.Rising.{row_is, once}
 use Rattle.scope_core.proofs.Runs.{all_at}
 use Rattle.scope_core.proofs.Shares.{share_absent}

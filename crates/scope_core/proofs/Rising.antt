@@ -1,20 +1,7 @@
 -- Rows that rise: what is filtered from them rises, and a row stands in them once.
-use Rattle.std.specs.Prelude.{◌≡◌, ℕ, Bool, true, false, List, [], ◌∷◌}
-use Rattle.std.specs.declared.cmp.Ordering.{Ordering}
-use Rattle.std.specs.declared.cmp.Ordering.TheVariants.{Less}
-use Rattle.std.specs.Ordering.{is_gt}
-use Rattle.std.specs.List.{filter, AllByRecursion}
-use Rattle.std.proofs.lemmas.Bool.{and_parts}
-use Rattle.std.proofs.lemmas.Cmp.{tied_itself}
-use Rattle.dist_types.specs.declared.pid.Pid.{Pid}
-use Rattle.dist_types.specs.declared.row.Row.{Row}
-use Rattle.dist_types.specs.Order.{text_cmp, pid_cmp}
-use Rattle.scope_core.specs.declared.counted.Counted.{Counted}
-use Rattle.dist_types.specs.Listing.{Rises}
-use Rattle.scope_core.specs.Table.{is_row, counted_cmp}
-use Rattle.scope_core.specs.Listed.{is_in}
-use Rattle.dist_types.proofs.Orders.{same_decides, same_pid_decides, rows_total, in_one_group}
-use Rattle.std.proofs.Common.{arith}
+use Rattle.scope_core.proofs.Words.{◌≡◌, ℕ, Bool, true, false, List, [], ◌∷◌, Ordering, Less, is_gt, filter, AllByRecursion, and_parts, tied_itself}
+use Rattle.scope_core.proofs.Words.{Pid, Row, text_cmp, pid_cmp, Counted, Rises, is_row, counted_cmp, is_in, same_decides, same_pid_decides}
+use Rattle.scope_core.proofs.Words.{rows_total, in_one_group, arith}
 
 module _ {A : Type 0} (P : A → Type 0) (keep : A → Bool) where
   pub all_filter : (xs : List A) → AllByRecursion P xs → AllByRecursion P (filter keep xs)

@@ -1,18 +1,8 @@
 -- The rows of a group stand in a row.
-use Rattle.std.specs.Prelude.{◌≡◌, ℕ, zero, suc, ◌<◌, ◌≤◌, Bool, true, false, List, [], ◌∷◌, take, drop, length}
-use Rattle.std.proofs.Common.{refl, ap, ◌∙◌, sym, arith, get_or}
-use Rattle.std.specs.Ordering.{is_gt, is_lt}
-use Rattle.std.specs.List.{filter, AllByRecursion, AllWithin}
-use Rattle.std.specs.List.Sorted.{IsPartitionedBy, IsPartitionPoint}
-use Rattle.std.proofs.lemmas.Cmp.{upto, tied_itself}
-use Rattle.std.proofs.lemmas.List.{get_or-drop, length-drop}
-use Rattle.std.proofs.lemmas.Map.Lookups.{exact_bytes}
-use Rattle.dist_types.specs.Order.{text_cmp}
-use Rattle.scope_core.specs.declared.counted.Counted.{Counted}
-use Rattle.dist_types.specs.Listing.{same, Rises}
-use Rattle.scope_core.specs.Table.{counted_cmp}
-use Rattle.scope_core.specs.Listed.{is_in}
-use Rattle.dist_types.proofs.Orders.{texts_total, same_decides}
+use Rattle.scope_core.proofs.Words.{◌≡◌, ℕ, zero, suc, ◌<◌, ◌≤◌, Bool, true, false, List, [], ◌∷◌, take, drop, length, refl, ap, ◌∙◌, sym, arith}
+use Rattle.scope_core.proofs.Words.{get_or, is_gt, is_lt, filter, AllByRecursion, AllWithin, IsPartitionedBy, IsPartitionPoint, upto, tied_itself}
+use Rattle.scope_core.proofs.Words.{get_or-drop, length-drop, exact_bytes, text_cmp, Counted, same, Rises, counted_cmp, is_in, texts_total}
+use Rattle.scope_core.proofs.Words.{same_decides}
 use Rattle.scope_core.proofs.Rising.{groups_above}
 
 module _ {A : Type 0} (p : A → Bool) where

@@ -1,17 +1,9 @@
 -- What part of a count is listed.
-use Rattle.std.specs.Prelude.{◌≡◌, ℕ, ◌≤◌, Bool, true, false, cond, List, [], ◌∷◌, length}
-use Rattle.std.proofs.Common.{refl, ◌∙◌, sym, arith}
-use Rattle.std.specs.List.{filter, AllByRecursion}
-use Rattle.dist_types.specs.declared.pid.Pid.{Pid}
-use Rattle.dist_types.specs.declared.row.Row.{Row}
-use Rattle.dist_types.specs.Order.{pid_cmp, row_cmp}
-use Rattle.scope_core.specs.declared.counted.Counted.{Counted}
-use Rattle.dist_types.specs.Listing.{occurrences, same, same_pid, same_row, total, Rises, IsPidListing, IsRowListing, spread}
-use Rattle.scope_core.specs.Table.{Table, is_row, tally, counted_cmp, count_of, node_total, local_count, local_total}
-use Rattle.scope_core.specs.Listed.{is_in, share}
-use Rattle.dist_types.proofs.Orders.{pids_total, rows_total, same_row_decides}
-use Rattle.dist_types.proofs.Totals.{total_filter}
-use Rattle.dist_types.proofs.Listings.{spread_ascends, spread_counts, length-spread, same_length, fewer_length}
+use Rattle.scope_core.proofs.Words.{◌≡◌, ℕ, ◌≤◌, Bool, true, false, cond, List, [], ◌∷◌, length, refl, ◌∙◌, sym, arith, filter, AllByRecursion, Pid}
+use Rattle.scope_core.proofs.Words.{Row, pid_cmp, row_cmp, Counted, occurrences, same, same_pid, same_row, total, Rises, IsPidListing, IsRowListing}
+use Rattle.scope_core.proofs.Words.{spread, Table, is_row, tally, counted_cmp, count_of, node_total, local_count, local_total, is_in, share}
+use Rattle.scope_core.proofs.Words.{pids_total, rows_total, same_row_decides, total_filter, spread_ascends, spread_counts, length-spread, same_length}
+use Rattle.scope_core.proofs.Words.{fewer_length}
 use Rattle.scope_core.proofs.Rising.{in_group_rises, row_is, once}
 
 pub share_absent : (times : Counted → ℕ) (g : List ℕ) (p : Pid) (cs : List Counted) → AllByRecursion (λ c. is_row g p c.row ≡ false) cs → share times g p cs ≡ 0

@@ -1,12 +1,6 @@
 -- What is left of the rows where some are taken.
-use Rattle.std.specs.Prelude.{◌≡◌, ℕ, ◌≤◌, Bool, true, false, cond, not, List, [], ◌∷◌}
-use Rattle.std.proofs.Common.{refl, arith}
-use Rattle.std.specs.List.{filter}
-use Rattle.dist_types.specs.declared.pid.Pid.{Pid}
-use Rattle.dist_types.specs.declared.row.Row.{Row}
-use Rattle.scope_core.specs.declared.counted.Counted.{Counted}
-use Rattle.scope_core.specs.Table.{is_row, tally, IsKept}
-use Rattle.dist_types.proofs.Orders.{same_pid_decides}
+use Rattle.scope_core.proofs.Words.{◌≡◌, ℕ, ◌≤◌, Bool, true, false, cond, not, List, [], ◌∷◌, refl, arith, filter, Pid, Row, Counted, is_row, tally}
+use Rattle.scope_core.proofs.Words.{IsKept, same_pid_decides}
 use Rattle.scope_core.proofs.Rising.{all_filter, filter_rises}
 
 module _ (keep : Counted → Bool) where

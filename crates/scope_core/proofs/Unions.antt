@@ -1,18 +1,9 @@
 -- Two lists of groups, put together, sorted and without repeats.
-use Rattle.std.specs.Prelude.{◌≡◌, ℕ, false, ◌||◌, nat_lt, List, [], ◌∷◌, ◌++◌}
-use Rattle.std.proofs.Common.{refl, ap, ◌∙◌, sym, subst, arith}
-use Rattle.std.specs.declared.cmp.Ordering.TheVariants.{Less}
-use Rattle.std.specs.Ordering.{is_gt}
-use Rattle.std.specs.List.{AllByRecursion, dedup, dedup_from}
-use Rattle.std.specs.List.Sorted.{IsSorted, IsPermutation}
+use Rattle.scope_core.proofs.Words.{◌≡◌, ℕ, false, ◌||◌, nat_lt, List, [], ◌∷◌, ◌++◌, refl, ap, ◌∙◌, sym, subst, arith, Less, is_gt, AllByRecursion}
+use Rattle.scope_core.proofs.Words.{dedup, dedup_from, IsSorted, IsPermutation, lt-ltb, text_cmp, same, is_among, occurrences, Rises, Ascends}
+use Rattle.scope_core.proofs.Words.{texts_total, same_decides, same_sym, sorted_listing, IsUnion}
 use Rattle.std.specs.List.Retain.{IsFiltered, DiffersFromLast}
-use Rattle.std.proofs.lemmas.Bool.{lt-ltb}
 use Rattle.std.proofs.lemmas.List.Filters.{dedup_is}
-use Rattle.dist_types.specs.Order.{text_cmp}
-use Rattle.dist_types.specs.Listing.{same, is_among, occurrences, Rises, Ascends}
-use Rattle.dist_types.proofs.Orders.{texts_total, same_decides, same_sym}
-use Rattle.dist_types.proofs.Sorts.{sorted_listing}
-use Rattle.scope_core.specs.Listed.{IsUnion}
 use Rattle.scope_core.proofs.Groups.{below}
 
 among_counts : (g : List ℕ) (gs : List (List ℕ)) → is_among g gs ≡ nat_lt 0 (occurrences same g gs)

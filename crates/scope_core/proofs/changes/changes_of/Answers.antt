@@ -1,8 +1,4 @@
-use Rattle.std.specs.Prelude.{map}
-use Rattle.std.proofs.Common.{ap, ◌∙◌, sym, subst}
-use Rattle.std.proofs.lemmas.List.{take_all}
-use Rattle.scope_core.specs.Part.{times_of}
-use Rattle.scope_core.specs.Listed.{moving, Tells}
+use Rattle.scope_core.proofs.Words.{map, ap, ◌∙◌, sym, subst, take_all, times_of, moving, Tells}
 use Rattle.scope_core.proofs.Between.{tells}
 use Rattle.scope_core.proofs.changes.changes_of.Goals as goal
 

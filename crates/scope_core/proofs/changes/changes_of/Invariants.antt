@@ -1,7 +1,4 @@
-use Rattle.std.proofs.Common.{◌≡◌, map}
-use Rattle.std.specs.Prelude.{take}
-use Rattle.scope_core.specs.Part.{times_of}
-use Rattle.scope_core.specs.Listed.{moving}
+use Rattle.scope_core.proofs.Words.{◌≡◌, map, take, times_of, moving}
 use Rattle.scope_core.proofs.changes.changes_of.Given as goal
 
 -- the changes of the groups so far

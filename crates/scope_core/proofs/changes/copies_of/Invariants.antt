@@ -1,5 +1,4 @@
-use Rattle.std.proofs.Common.{◌≡◌}
-use Rattle.std.specs.Prelude.{take}
+use Rattle.scope_core.proofs.Words.{◌≡◌, take}
 use Rattle.scope_core.proofs.changes.copies_of.Given as goal
 
 -- the copies so far

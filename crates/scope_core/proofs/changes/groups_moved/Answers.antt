@@ -1,6 +1,4 @@
-use Rattle.std.specs.Prelude.{None}
-use Rattle.scope_core.specs.Part.{times_of}
-use Rattle.scope_core.specs.Listed.{heads}
+use Rattle.scope_core.proofs.Words.{None, times_of, heads}
 use Rattle.scope_core.proofs.Unions.{union_is}
 use Rattle.scope_core.proofs.changes.groups_moved.Goals as goal
 

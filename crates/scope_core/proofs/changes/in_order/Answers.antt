@@ -1,8 +1,4 @@
-use Rattle.std.proofs.Common.{subst}
-use Rattle.dist_types.specs.Order.{pid_cmp}
-use Rattle.dist_types.specs.Listing.{same_pid, mentions, IsPidListing}
-use Rattle.dist_types.proofs.Orders.{pids_total}
-use Rattle.dist_types.proofs.Sorts.{sorted_listing}
+use Rattle.scope_core.proofs.Words.{subst, pid_cmp, same_pid, mentions, IsPidListing, pids_total, sorted_listing}
 use Rattle.scope_core.proofs.changes.in_order.Goals as goal
 
 pub returns : goal.returns

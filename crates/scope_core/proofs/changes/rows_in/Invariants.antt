@@ -1,6 +1,4 @@
-use Rattle.std.proofs.Common.{◌≡◌, map}
-use Rattle.std.specs.Prelude.{take}
-use Rattle.scope_core.specs.Added.{row_in}
+use Rattle.scope_core.proofs.Words.{◌≡◌, map, take, row_in}
 use Rattle.scope_core.proofs.changes.rows_in.Given as goal
 
 -- the rows so far

@@ -1,7 +1,4 @@
-use Rattle.std.proofs.Common.{rules, arith, ap, sym, subst, ◌∙◌}
-use Rattle.std.specs.Prelude.{[], ◌∷◌}
-use Rattle.scope_core.specs.Table.{IsKept}
-use Rattle.scope_core.specs.Added.{Joins}
+use Rattle.scope_core.proofs.Words.{rules, arith, ap, sym, subst, ◌∙◌, [], ◌∷◌, IsKept, Joins}
 use Rattle.scope_core.proofs.Added.{tally-put, tally-grown, inserted, count_fits, one_fits, put_kept, grown_kept}
 use Rattle.scope_core.proofs.edits.add.Goals as goal
 

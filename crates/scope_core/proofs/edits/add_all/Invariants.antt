@@ -1,9 +1,4 @@
-use Rattle.std.proofs.Common.{◌≡◌, ◌+◌, ◌≤◌}
-use Rattle.std.specs.Prelude.{Bool, vec_len, vec_capacity}
-use Rattle.dist_types.specs.declared.row.Row.{Row}
-use Rattle.dist_types.specs.Listing.{how_many}
-use Rattle.scope_core.specs.Table.{tally, IsKept}
-use Rattle.scope_core.specs.Added.{HasRoomFor}
+use Rattle.scope_core.proofs.Words.{◌≡◌, ◌+◌, ◌≤◌, Bool, vec_len, vec_capacity, Row, how_many, tally, IsKept, HasRoomFor}
 use Rattle.scope_core.proofs.edits.add_all.Given as goal
 
 -- what is in and what is left to put in are what was in and what was to be put in

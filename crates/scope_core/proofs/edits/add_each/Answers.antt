@@ -1,5 +1,4 @@
-use Rattle.std.proofs.Common.{arith}
-use Rattle.scope_core.specs.Table.{is_of_node}
+use Rattle.scope_core.proofs.Words.{arith, is_of_node}
 use Rattle.scope_core.proofs.Merging.{last_tally, last_counted}
 use Rattle.scope_core.proofs.edits.add_each.Goals as goal
 

@@ -1,7 +1,4 @@
-use Rattle.std.proofs.Common.{◌≡◌, ◌+◌, ◌≤◌}
-use Rattle.std.specs.Prelude.{Bool, vec_len, vec_capacity}
-use Rattle.dist_types.specs.declared.row.Row.{Row}
-use Rattle.scope_core.specs.Table.{tally, IsKept, AreCounted}
+use Rattle.scope_core.proofs.Words.{◌≡◌, ◌+◌, ◌≤◌, Bool, vec_len, vec_capacity, Row, tally, IsKept, AreCounted}
 use Rattle.scope_core.proofs.edits.add_each.Given as goal
 
 -- what is in and what is left to put in are what was in and what was to be put in

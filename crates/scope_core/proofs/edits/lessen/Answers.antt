@@ -1,4 +1,4 @@
-use Rattle.std.proofs.Common.{rules, arith, ap}
+use Rattle.scope_core.proofs.Words.{rules, arith, ap}
 use Rattle.scope_core.proofs.Lessened.{less_takes, less_kept, remove_takes, removed_kept, same_at, its_last}
 use Rattle.scope_core.proofs.edits.lessen.Goals as goal
 

@@ -1,6 +1,4 @@
-use Rattle.std.proofs.Common.{rules, not}
-use Rattle.std.proofs.lemmas.Fn.{filter_same}
-use Rattle.dist_types.specs.Listing.{same}
+use Rattle.scope_core.proofs.Words.{rules, not, filter_same, same}
 use Rattle.scope_core.proofs.edits.remove_node.Goals as goal
 
 pub returns-clause-items : goal.returns-clause-items

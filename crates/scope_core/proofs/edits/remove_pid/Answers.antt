@@ -1,6 +1,4 @@
-use Rattle.std.proofs.Common.{rules, not}
-use Rattle.std.proofs.lemmas.Fn.{filter_same}
-use Rattle.dist_types.specs.Listing.{same_pid}
+use Rattle.scope_core.proofs.Words.{rules, not, filter_same, same_pid}
 use Rattle.scope_core.proofs.edits.remove_pid.Goals as goal
 
 pub returns : goal.returns

@@ -1,5 +1,4 @@
-use Rattle.std.proofs.Common.{not}
-use Rattle.dist_types.specs.Listing.{same}
+use Rattle.scope_core.proofs.Words.{not, same}
 use Rattle.scope_core.proofs.Taken.{filter_kept}
 use Rattle.scope_core.proofs.edits.replace_node.Goals as goal
 

@@ -1,4 +1,4 @@
-use Rattle.std.proofs.Common.{rules, arith}
+use Rattle.scope_core.proofs.Words.{rules, arith}
 use Rattle.scope_core.proofs.Lessened.{taken_counts, taken_total}
 use Rattle.scope_core.proofs.edits.take_each.Goals as goal
 

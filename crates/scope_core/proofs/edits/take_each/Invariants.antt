@@ -1,7 +1,4 @@
-use Rattle.std.proofs.Common.{◌≡◌, ◌+◌}
-use Rattle.std.specs.Prelude.{take}
-use Rattle.scope_core.specs.Table.{tally, is_of_node, IsKept}
-use Rattle.scope_core.specs.Added.{Leaves}
+use Rattle.scope_core.proofs.Words.{◌≡◌, ◌+◌, take, tally, is_of_node, IsKept, Leaves}
 use Rattle.scope_core.proofs.edits.take_each.Given as goal
 
 -- the mentions so far are taken

@@ -1,6 +1,4 @@
-use Rattle.std.proofs.Common.{◌≡◌}
-use Rattle.std.specs.Prelude.{take}
-use Rattle.scope_core.specs.Beyond.{times_beyond, picked}
+use Rattle.scope_core.proofs.Words.{◌≡◌, take, times_beyond, picked}
 use Rattle.scope_core.proofs.incoming.beyond.Given as goal
 
 -- what is more of the rows so far

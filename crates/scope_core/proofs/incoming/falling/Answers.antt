@@ -1,4 +1,4 @@
-use Rattle.std.proofs.Common.{◌∙◌}
+use Rattle.scope_core.proofs.Words.{◌∙◌}
 use Rattle.scope_core.proofs.Peers.{permuted}
 use Rattle.scope_core.proofs.incoming.falling.Goals as goal
 

@@ -1,9 +1,4 @@
-use Rattle.std.proofs.Common.{arith, ap, sym, subst, ◌∙◌}
-use Rattle.std.specs.Prelude.{◌+◌, ◌++◌, ◌∷◌, min}
-use Rattle.dist_types.specs.declared.pid.Pid.{Pid}
-use Rattle.dist_types.specs.Order.{pid_cmp}
-use Rattle.dist_types.specs.Listing.{Ascends, mentions}
-use Rattle.scope_core.specs.Table.{tally, is_row}
+use Rattle.scope_core.proofs.Words.{arith, ap, sym, subst, ◌∙◌, ◌+◌, ◌++◌, ◌∷◌, min, Pid, pid_cmp, Ascends, mentions, tally, is_row}
 use Rattle.scope_core.proofs.Mentioned.{ascends_behind, ascends_on, counts_on}
 use Rattle.scope_core.proofs.leaving.gone_in_order.Goals as goal
 

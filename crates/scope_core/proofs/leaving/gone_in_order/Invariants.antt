@@ -1,8 +1,4 @@
-use Rattle.std.proofs.Common.{◌≡◌, ◌+◌, ◌++◌, min, length}
-use Rattle.dist_types.specs.declared.pid.Pid.{Pid}
-use Rattle.dist_types.specs.Order.{pid_cmp}
-use Rattle.dist_types.specs.Listing.{Ascends, mentions}
-use Rattle.scope_core.specs.Table.{tally, is_row}
+use Rattle.scope_core.proofs.Words.{◌≡◌, ◌+◌, ◌++◌, min, length, Pid, pid_cmp, Ascends, mentions, tally, is_row}
 use Rattle.scope_core.proofs.leaving.gone_in_order.Given as goal
 
 -- those that are gone so far, and those of the rest that go, are all that go

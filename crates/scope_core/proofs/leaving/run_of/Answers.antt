@@ -1,6 +1,4 @@
-use Rattle.std.proofs.Common.{rules}
-use Rattle.std.proofs.lemmas.List.Sorted.{IsPartitionPoint-from_clause}
-use Rattle.dist_types.specs.Listing.{same_pid}
+use Rattle.scope_core.proofs.Words.{rules, IsPartitionPoint-from_clause, same_pid}
 use Rattle.scope_core.proofs.Mentioned.{run_partitions, front_is, front_counts}
 use Rattle.scope_core.proofs.leaving.run_of.Goals as goal
 

@@ -1,7 +1,4 @@
-use Rattle.std.proofs.Common.{arith, ◌∙◌, sym, subst}
-use Rattle.std.specs.Prelude.{◌<◌}
-use Rattle.dist_types.specs.Listing.{how_many}
-use Rattle.scope_core.specs.Table.{is_row}
+use Rattle.scope_core.proofs.Words.{arith, ◌∙◌, sym, subst, ◌<◌, how_many, is_row}
 use Rattle.scope_core.proofs.Lower.{still_rises, stands_counted, same_counts, all_in_is}
 use Rattle.scope_core.proofs.lowered.are_all_in.Goals as goal
 

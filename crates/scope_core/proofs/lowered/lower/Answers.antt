@@ -1,4 +1,4 @@
-use Rattle.std.proofs.Common.{arith, ◌∙◌}
+use Rattle.scope_core.proofs.Words.{arith, ◌∙◌}
 use Rattle.scope_core.proofs.Lower.{stops, takes_more, still_rises}
 use Rattle.scope_core.proofs.lowered.lower.Goals as goal
 

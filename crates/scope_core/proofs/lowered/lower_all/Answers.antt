@@ -1,5 +1,4 @@
-use Rattle.std.proofs.Common.{rules, arith}
-use Rattle.scope_core.specs.Table.{is_of_node}
+use Rattle.scope_core.proofs.Words.{rules, arith, is_of_node}
 use Rattle.scope_core.proofs.Lessened.{taken_counts, taken_total}
 use Rattle.scope_core.proofs.Lower.{still_rises, takes_less}
 use Rattle.scope_core.proofs.lowered.lower_all.Goals as goal

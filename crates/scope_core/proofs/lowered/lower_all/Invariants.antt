@@ -1,8 +1,4 @@
-use Rattle.std.proofs.Common.{◌≡◌, ◌+◌, ◌≤◌}
-use Rattle.std.specs.Prelude.{ℕ, List, take}
-use Rattle.dist_types.specs.Listing.{Rises}
-use Rattle.scope_core.specs.Table.{tally, counted_cmp, is_of_node, max_rows}
-use Rattle.scope_core.specs.Added.{Leaves}
+use Rattle.scope_core.proofs.Words.{◌≡◌, ◌+◌, ◌≤◌, ℕ, List, take, Rises, tally, counted_cmp, is_of_node, max_rows, Leaves}
 use Rattle.scope_core.proofs.lowered.lower_all.Given as goal
 
 -- the mentions so far are taken

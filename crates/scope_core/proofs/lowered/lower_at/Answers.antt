@@ -1,6 +1,4 @@
-use Rattle.std.proofs.Common.{rules, arith, refl, ap, ◌∙◌}
-use Rattle.std.specs.Prelude.{◌-◌}
-use Rattle.std.proofs.lemmas.List.{get_or_default}
+use Rattle.scope_core.proofs.Words.{rules, arith, refl, ap, ◌∙◌, ◌-◌, get_or_default}
 use Rattle.scope_core.proofs.Lessened.{less_takes, same_at}
 use Rattle.scope_core.proofs.Places.{found_counts}
 use Rattle.scope_core.proofs.Lower.{set_rows}

@@ -1,4 +1,4 @@
-use Rattle.std.proofs.Common.{refl}
+use Rattle.scope_core.proofs.Words.{refl}
 use Rattle.scope_core.proofs.Places.{absent}
 use Rattle.scope_core.proofs.lowered.lower_one.Goals as goal
 

@@ -1,7 +1,4 @@
-use Rattle.std.proofs.Common.{◌≡◌, arith, ap, ◌∙◌, sym, subst}
-use Rattle.std.specs.Prelude.{ℕ, ◌+◌, ◌<◌, cond}
-use Rattle.dist_types.specs.Listing.{how_many}
-use Rattle.scope_core.specs.Table.{is_row, is_of_node}
+use Rattle.scope_core.proofs.Words.{◌≡◌, arith, ap, ◌∙◌, sym, subst, ℕ, ◌+◌, ◌<◌, cond, how_many, is_row, is_of_node}
 use Rattle.scope_core.proofs.Lower.{pass_more, pass_less, itself_passes, still_rises}
 use Rattle.scope_core.proofs.lowered.raise.Goals as goal
 

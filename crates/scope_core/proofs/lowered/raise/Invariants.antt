@@ -1,8 +1,4 @@
-use Rattle.std.proofs.Common.{◌≡◌}
-use Rattle.std.specs.Prelude.{take}
-use Rattle.dist_types.specs.Listing.{Rises}
-use Rattle.scope_core.specs.Table.{counted_cmp}
-use Rattle.scope_core.specs.Added.{bare_rows, Adds}
+use Rattle.scope_core.proofs.Words.{◌≡◌, take, Rises, counted_cmp, bare_rows, Adds}
 use Rattle.scope_core.proofs.lowered.raise.Given as goal
 
 -- the rows so far are put back

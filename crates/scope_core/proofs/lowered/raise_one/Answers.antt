@@ -1,8 +1,4 @@
-use Rattle.std.proofs.Common.{rules, arith, ap, ◌∙◌, subst}
-use Rattle.std.specs.Prelude.{◌+◌, [], ◌∷◌}
-use Rattle.std.proofs.Math.ListN.{set}
-use Rattle.std.proofs.lemmas.List.{get_or_default}
-use Rattle.scope_core.specs.Added.{Adds}
+use Rattle.scope_core.proofs.Words.{rules, arith, ap, ◌∙◌, subst, ◌+◌, [], ◌∷◌, set, get_or_default, Adds}
 use Rattle.scope_core.proofs.Added.{count_fits, tally-more}
 use Rattle.scope_core.proofs.Places.{none_is}
 use Rattle.scope_core.proofs.Lower.{set_rows, stands_none}

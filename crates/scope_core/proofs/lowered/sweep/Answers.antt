@@ -1,8 +1,4 @@
-use Rattle.std.proofs.Common.{◌≡◌, rules, not, ap, ◌∙◌, subst, sym}
-use Rattle.std.specs.Prelude.{◌==◌}
-use Rattle.std.specs.List.{filter}
-use Rattle.std.proofs.lemmas.Fn.{filter_same}
-use Rattle.scope_core.specs.Table.{tally, IsKept}
+use Rattle.scope_core.proofs.Words.{◌≡◌, rules, not, ap, ◌∙◌, subst, sym, ◌==◌, filter, filter_same, tally, IsKept}
 use Rattle.scope_core.proofs.Lower.{tally-nonzero, swept_kept}
 use Rattle.scope_core.proofs.lowered.sweep.Goals as goal
 

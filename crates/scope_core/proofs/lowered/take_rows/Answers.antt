@@ -1,4 +1,4 @@
-use Rattle.std.proofs.Common.{arith}
+use Rattle.scope_core.proofs.Words.{arith}
 use Rattle.scope_core.proofs.Lower.{all_taken, still_rises}
 use Rattle.scope_core.proofs.lowered.take_rows.Goals as goal
 

@@ -1,4 +1,4 @@
-use Rattle.std.proofs.Common.{◌≡◌, arith, rules, ap, length, vec_len}
+use Rattle.scope_core.proofs.Words.{◌≡◌, arith, rules, ap, length, vec_len}
 use Rattle.scope_core.proofs.Merging.{reversed_tally, reversed_counted, none_kept}
 use Rattle.scope_core.proofs.merged.merge.Goals as goal
 

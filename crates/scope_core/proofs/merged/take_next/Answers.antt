@@ -1,4 +1,4 @@
-use Rattle.std.proofs.Common.{arith}
+use Rattle.scope_core.proofs.Words.{arith}
 use Rattle.scope_core.proofs.Merging.{popped_tally, popped_counted}
 use Rattle.scope_core.proofs.merged.take_next.Goals as goal
 

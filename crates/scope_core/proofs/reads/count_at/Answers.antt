@@ -1,4 +1,4 @@
-use Rattle.std.proofs.Common.{rules, sym}
+use Rattle.scope_core.proofs.Words.{rules, sym}
 use Rattle.scope_core.proofs.Places.{absent, found_counts}
 use Rattle.scope_core.proofs.reads.count_at.Goals as goal
 

@@ -1,5 +1,4 @@
-use Rattle.std.proofs.Common.{◌∙◌, sym}
-use Rattle.scope_core.specs.Part.{times_of}
+use Rattle.scope_core.proofs.Words.{◌∙◌, sym, times_of}
 use Rattle.scope_core.proofs.Groups.{heads_yes, heads_no}
 use Rattle.scope_core.proofs.reads.groups_of.Goals.{then-begins_group+in_ok-try_clone+in_ok-push, else-begins_group}
 use Rattle.scope_core.proofs.reads.groups_of.Goals as goal

@@ -1,7 +1,4 @@
-use Rattle.std.proofs.Common.{◌≡◌, ◌++◌}
-use Rattle.std.specs.Prelude.{drop, None}
-use Rattle.scope_core.specs.Part.{times_of}
-use Rattle.scope_core.specs.Listed.{heads, last_of}
+use Rattle.scope_core.proofs.Words.{◌≡◌, ◌++◌, drop, None, times_of, heads, last_of}
 use Rattle.scope_core.proofs.reads.groups_of.Given as goal
 
 -- the groups so far, and those of the rows to come, are all

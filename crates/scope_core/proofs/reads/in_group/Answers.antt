@@ -1,7 +1,4 @@
-use Rattle.std.proofs.Common.{rules, subst, sym}
-use Rattle.std.specs.List.Sorted.{IsPartitionedBy}
-use Rattle.std.proofs.lemmas.List.Sorted.{IsPartitionPoint-from_clause}
-use Rattle.scope_core.specs.Listed.{is_in}
+use Rattle.scope_core.proofs.Words.{rules, subst, sym, IsPartitionedBy, IsPartitionPoint-from_clause, is_in}
 use Rattle.scope_core.proofs.Runs.{is_before, before_partitions, group_partitions, from_start, rises_drop, run_is}
 use Rattle.scope_core.proofs.reads.in_group.Goals as goal
 

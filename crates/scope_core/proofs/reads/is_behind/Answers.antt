@@ -1,7 +1,4 @@
-use Rattle.std.proofs.Common.{arith, ap, sym, ◌∙◌}
-use Rattle.std.specs.Prelude.{◌-◌, length}
-use Rattle.dist_types.specs.Order.{row_cmp}
-use Rattle.scope_core.specs.Added.{row_in}
+use Rattle.scope_core.proofs.Words.{arith, ap, sym, ◌∙◌, ◌-◌, length, row_cmp, row_in}
 use Rattle.scope_core.proofs.Places.{gap_behind, lt_is}
 use Rattle.scope_core.proofs.reads.is_behind.Goals as goal
 

@@ -1,4 +1,4 @@
-use Rattle.std.proofs.Common.{◌∙◌}
+use Rattle.scope_core.proofs.Words.{◌∙◌}
 use Rattle.scope_core.proofs.Places.{joined_is}
 use Rattle.scope_core.proofs.reads.is_joined.Goals as goal
 

@@ -1,7 +1,4 @@
-use Rattle.std.proofs.Common.{rules}
-use Rattle.std.proofs.lemmas.Fn.{always_returns_same}
-use Rattle.dist_types.specs.Order.{row_cmp}
-use Rattle.scope_core.specs.Added.{row_in}
+use Rattle.scope_core.proofs.Words.{rules, always_returns_same, row_cmp, row_in}
 use Rattle.scope_core.proofs.Places.{found_is, gap_is}
 use Rattle.scope_core.proofs.reads.place_of.Goals as goal
 

@@ -1,7 +1,4 @@
-use Rattle.dist_types.specs.Listing.{spread}
-use Rattle.std.proofs.Common.{◌≡◌}
-use Rattle.std.specs.Prelude.{take}
-use Rattle.scope_core.specs.Part.{times_of}
+use Rattle.scope_core.proofs.Words.{spread, ◌≡◌, take, times_of}
 use Rattle.scope_core.proofs.reads.rows_of.Given as goal
 
 -- the copies so far

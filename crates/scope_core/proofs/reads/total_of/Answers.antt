@@ -1,9 +1,5 @@
-use Rattle.std.proofs.Common.{arith, cond}
+use Rattle.scope_core.proofs.Words.{arith, cond, sum_by_more_le, Counted, is_of_node, total_is}
 use Rattle.std.proofs.lemmas.Grind.{common_steps}
-use Rattle.std.proofs.lemmas.List.Sums.{sum_by_more_le}
-use Rattle.scope_core.specs.declared.counted.Counted.{Counted}
-use Rattle.scope_core.specs.Table.{is_of_node}
-use Rattle.dist_types.proofs.Totals.{total_is}
 use Rattle.scope_core.proofs.reads.total_of.Goals as goal
 
 pub overflow_add-total : goal.overflow_add-total

@@ -1,7 +1,4 @@
-use Rattle.std.proofs.Common.{◌≡◌, cond}
-use Rattle.std.specs.Prelude.{take}
-use Rattle.std.specs.List.{sum_by}
-use Rattle.scope_core.specs.Table.{is_of_node}
+use Rattle.scope_core.proofs.Words.{◌≡◌, cond, take, sum_by, is_of_node}
 use Rattle.scope_core.proofs.reads.total_of.Given as goal
 
 -- the total so far

@@ -1,6 +1,4 @@
-use Rattle.std.proofs.Common.{arith}
-use Rattle.scope_core.specs.Table.{tally, is_row}
-use Rattle.scope_core.specs.Calls.{no_count}
+use Rattle.scope_core.proofs.Words.{arith, tally, is_row, no_count}
 use Rattle.scope_core.proofs.Shares.{of_all, all_part, share_is}
 use Rattle.scope_core.proofs.table.ScopeTable.clear_change.Goals as goal
 

@@ -1,7 +1,4 @@
-use Rattle.std.specs.Prelude.{cond}
-use Rattle.std.proofs.Common.{sym, ◌∙◌}
-use Rattle.dist_types.specs.Listing.{same}
-use Rattle.scope_core.specs.Table.{tally, is_row}
+use Rattle.scope_core.proofs.Words.{cond, sym, ◌∙◌, same, tally, is_row}
 use Rattle.scope_core.proofs.Shares.{of_node, node_part, share_is}
 use Rattle.scope_core.proofs.Between.{less, more}
 use Rattle.scope_core.proofs.table.ScopeTable.drop_change.Goals as goal

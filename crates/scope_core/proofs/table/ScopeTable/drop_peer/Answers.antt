@@ -1,6 +1,4 @@
-use Rattle.std.proofs.Common.{not, ap, arith, ◌∙◌}
-use Rattle.dist_types.specs.Listing.{same}
-use Rattle.scope_core.specs.Calls.{count_after_drop}
+use Rattle.scope_core.proofs.Words.{not, ap, arith, ◌∙◌, same, count_after_drop}
 use Rattle.scope_core.proofs.Taken.{filter_kept, gone_counts}
 use Rattle.scope_core.proofs.Own.{own_left}
 use Rattle.scope_core.proofs.table.ScopeTable.drop_peer.Goals as goal

@@ -1,6 +1,4 @@
-use Rattle.std.proofs.Common.{not, ap, ◌∙◌}
-use Rattle.dist_types.specs.Listing.{same_pid}
-use Rattle.scope_core.specs.Calls.{count_after_exit}
+use Rattle.scope_core.proofs.Words.{not, ap, ◌∙◌, same_pid, count_after_exit}
 use Rattle.scope_core.proofs.Taken.{filter_kept, gone_counts}
 use Rattle.scope_core.proofs.table.ScopeTable.exit.Goals as goal
 

@@ -1,7 +1,4 @@
-use Rattle.std.specs.Prelude.{cond}
-use Rattle.std.proofs.Common.{sym, ◌∙◌}
-use Rattle.dist_types.specs.Listing.{same_pid}
-use Rattle.scope_core.specs.Table.{tally, is_row}
+use Rattle.scope_core.proofs.Words.{cond, sym, ◌∙◌, same_pid, tally, is_row}
 use Rattle.scope_core.proofs.Shares.{of_process, process_part, share_is}
 use Rattle.scope_core.proofs.Between.{less, more}
 use Rattle.scope_core.proofs.table.ScopeTable.exit_change.Goals as goal

@@ -1,9 +1,4 @@
-use Rattle.std.proofs.Common.{arith, ap, ◌∙◌}
-use Rattle.std.specs.Prelude.{◌≤◌, ◌+◌, length}
-use Rattle.std.proofs.lemmas.List.{length-map}
-use Rattle.scope_core.specs.Table.{tally, is_row, is_of_node}
-use Rattle.scope_core.specs.Calls.{count_after_join}
-use Rattle.scope_core.specs.Added.{row_in}
+use Rattle.scope_core.proofs.Words.{arith, ap, ◌∙◌, ◌≤◌, ◌+◌, length, length-map, tally, is_row, is_of_node, count_after_join, row_in}
 use Rattle.scope_core.proofs.Joined.{room_for, joined_counts, joined_total, joined_change}
 use Rattle.scope_core.proofs.Peers.{alone_fit, counted_fit, counted_add}
 use Rattle.scope_core.proofs.table.ScopeTable.join_local.Goals as goal

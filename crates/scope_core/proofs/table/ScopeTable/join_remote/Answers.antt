@@ -1,7 +1,5 @@
-use Rattle.std.proofs.Common.{◌≡◌, arith}
-use Rattle.dist_types.proofs.Sorts.{all_from}
+use Rattle.scope_core.proofs.Words.{◌≡◌, arith, all_from, is_of_node}
 use Rattle.scope_core.proofs.Peers.{alone_fit, counted_fit, rows_fit, added_change}
-use Rattle.scope_core.specs.Table.{is_of_node}
 use Rattle.scope_core.proofs.Own.{own_share}
 use Rattle.scope_core.proofs.table.ScopeTable.join_remote.Goals as goal
 

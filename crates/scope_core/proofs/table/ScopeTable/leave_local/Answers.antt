@@ -1,5 +1,4 @@
-use Rattle.std.proofs.Common.{rules, ap, sym, ◌∙◌}
-use Rattle.scope_core.specs.Calls.{is_any_joined}
+use Rattle.scope_core.proofs.Words.{rules, ap, sym, ◌∙◌, is_any_joined}
 use Rattle.scope_core.proofs.table.ScopeTable.leave_local.Goals as goal
 
 pub returns-in_err-left-clause-refused : goal.returns-in_err-left-clause-refused

@@ -1,8 +1,5 @@
-use Rattle.std.proofs.Common.{◌≡◌, rules, arith, ap, sym, ◌∙◌}
-use Rattle.scope_core.specs.Calls.{are_counted}
+use Rattle.scope_core.proofs.Words.{◌≡◌, rules, arith, ap, sym, ◌∙◌, are_counted, all_from, is_of_node}
 use Rattle.scope_core.proofs.Peers.{taken_change}
-use Rattle.dist_types.proofs.Sorts.{all_from}
-use Rattle.scope_core.specs.Table.{is_of_node}
 use Rattle.scope_core.proofs.Own.{own_share}
 use Rattle.scope_core.proofs.table.ScopeTable.leave_remote.Goals as goal
 

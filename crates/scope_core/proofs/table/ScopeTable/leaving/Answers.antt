@@ -1,4 +1,4 @@
-use Rattle.std.proofs.Common.{arith}
+use Rattle.scope_core.proofs.Words.{arith}
 use Rattle.scope_core.proofs.Joined.{length-part}
 use Rattle.scope_core.proofs.Left.{leaving_listing}
 use Rattle.scope_core.proofs.table.ScopeTable.leaving.Goals as goal

@@ -1,5 +1,4 @@
-use Rattle.scope_core.proofs.Shares.{each, of_node, node_part}
-use Rattle.scope_core.proofs.Shares.{pids_listing, few_pids}
+use Rattle.scope_core.proofs.Shares.{each, of_node, node_part, pids_listing, few_pids}
 use Rattle.scope_core.proofs.table.ScopeTable.local_members.Goals as goal
 
 pub returns-clause-value : goal.returns-clause-value

@@ -1,5 +1,4 @@
-use Rattle.scope_core.proofs.Shares.{each, of_node, node_part}
-use Rattle.scope_core.proofs.Shares.{rows_listing, few_rows}
+use Rattle.scope_core.proofs.Shares.{each, of_node, node_part, rows_listing, few_rows}
 use Rattle.scope_core.proofs.table.ScopeTable.local_rows.Goals as goal
 
 pub returns-clause-value : goal.returns-clause-value

@@ -1,5 +1,4 @@
-use Rattle.scope_core.proofs.Shares.{of_all, all_part}
-use Rattle.scope_core.proofs.Shares.{pids_listing}
+use Rattle.scope_core.proofs.Shares.{of_all, all_part, pids_listing}
 use Rattle.scope_core.proofs.table.ScopeTable.members.Goals as goal
 
 pub returns : goal.returns

@@ -1,14 +1,7 @@
-use Rattle.std.proofs.Common.{◌≡◌, ℕ, cond, refl, rules, arith, ap, ◌∙◌}
-use Rattle.dist_types.proofs.Sorts.{all_from}
-use Rattle.scope_core.specs.Beyond.{times_beyond}
-use Rattle.scope_core.specs.Calls.{count_after_sync}
-use Rattle.scope_core.specs.Added.{without_node}
+use Rattle.scope_core.proofs.Words.{◌≡◌, ℕ, cond, refl, rules, arith, ap, ◌∙◌, all_from, times_beyond, count_after_sync, without_node, List, length}
+use Rattle.scope_core.proofs.Words.{vec_len, Pid, same, how_many, is_of_node, is_row, tally}
 use Rattle.scope_core.proofs.Peers.{alone_fit, sync_fit, sync_counts, counted_fit, counted_add}
 use Rattle.scope_core.proofs.Beyond.{picked_rises, synced_change, unchanged}
-use Rattle.std.specs.Prelude.{List, length, vec_len}
-use Rattle.dist_types.specs.declared.pid.Pid.{Pid}
-use Rattle.dist_types.specs.Listing.{same, how_many}
-use Rattle.scope_core.specs.Table.{is_of_node, is_row, tally}
 use Rattle.scope_core.proofs.Own.{own_share, own_left, first_counts, first_fault, ok_then, err_then}
 use Rattle.scope_core.proofs.table.ScopeTable.sync.Goals as goal
 

@@ -1,5 +1,4 @@
-use Rattle.std.proofs.Common.{◌≡◌}
-use Rattle.std.specs.Prelude.{All, codes}
+use Rattle.scope_core.proofs.Words.{◌≡◌, All, codes}
 use Rattle.scope_core.proofs.tests.own_rows.crowd_of.Given as goal
 
 -- the processes so far are of the node

@@ -1,5 +1,4 @@
-use Rattle.std.proofs.Common.{◌≡◌}
-use Rattle.std.specs.Prelude.{All}
+use Rattle.scope_core.proofs.Words.{◌≡◌, All}
 use Rattle.scope_core.proofs.tests.peer_rows.rows_of.Given as goal
 
 -- the rows so far are of the peer
