@@ -1,28 +1,12 @@
 -- What an accepted event met.
-use Rattle.std.specs.Prelude.{◌≡◌, ℕ, Bool, true, false, cond, not, MatchBool, List, [], ◌∷◌, Option, Some, None, is_some, bytes_eq}
-use Rattle.std.proofs.Common.{refl, ap, subst}
-use Rattle.std.specs.Option.{option_and_then, option_map_or}
-use Rattle.dist_types.specs.Listing.{same}
-use Rattle.handshake_frames.specs.Frame.{Name, Challenge}
-use Rattle.handshake_frames.specs.declared.frame.StatusWord.{StatusWord}
-use Rattle.handshake_frames.specs.declared.frame.StatusWord.TheVariants as word
-use Rattle.handshake_frames.specs.declared.frame.ReplyFrame.{ReplyFrame}
-use Rattle.handshake_frames.specs.declared.frame.AckFrame.{AckFrame}
-use Rattle.handshake_frames.specs.Reading.{name_frame, challenge_frame, reply_frame, ack_frame, status_of}
-use Rattle.cookie_digest.specs.Digest.{digest_of}
-use Rattle.policy_audit.specs.declared.event.Event.{Event}
-use Rattle.policy_audit.specs.declared.reply.Reply.{Reply}
-use Rattle.policy_audit.specs.declared.rule.Rule.{Rule}
-use Rattle.policy_audit.specs.declared.rule.Rule.TheVariants as rule
-use Rattle.policy_audit.specs.declared.entry.Verdict.{Verdict}
-use Rattle.policy_audit.specs.declared.entry.Verdict.TheVariants.{Accepted, Refused}
-use Rattle.policy_audit.specs.History.{History}
-use Rattle.policy_audit.specs.Admission.{cookie, allowed}
-use Rattle.policy_audit.specs.Sides.{Opened, Taken, opened, taken, challenge_in, peer_in, peer_of, Awaited, AwaitName, AwaitAnswer, AwaitReply, AwaitStatus, AwaitChallenge, AwaitAck, AwaitMessage}
-use Rattle.policy_audit.specs.Owed.{own_challenge, digest_for}
-use Rattle.policy_audit.specs.Checks.{Check, always, first_broken, checks, name_checks, answer_checks, status_checks, challenge_checks, digest_checks, frame_checks, is_peer_up}
-use Rattle.policy_audit.specs.Policy.{answer, judged, verdict, is_full}
-use Rattle.policy_audit.specs.Admitted.{goes_on}
+use Rattle.policy_audit.proofs.Words.{ap, refl, subst, option_and_then, option_map_or, Bool, List, MatchBool, None, Option, Some, []}
+use Rattle.policy_audit.proofs.Words.{bytes_eq, cond, false, is_some, not, true, ℕ, ◌∷◌, ◌≡◌, same, Challenge, Name, ack_frame}
+use Rattle.policy_audit.proofs.Words.{challenge_frame, name_frame, reply_frame, status_of, AckFrame, ReplyFrame, StatusWord, digest_of}
+use Rattle.policy_audit.proofs.Words.{allowed, cookie, goes_on, Check, always, answer_checks, challenge_checks, checks, digest_checks}
+use Rattle.policy_audit.proofs.Words.{first_broken, frame_checks, is_peer_up, name_checks, status_checks, History, digest_for}
+use Rattle.policy_audit.proofs.Words.{own_challenge, answer, is_full, judged, verdict, AwaitAck, AwaitAnswer, AwaitChallenge, AwaitMessage}
+use Rattle.policy_audit.proofs.Words.{AwaitName, AwaitReply, AwaitStatus, Awaited, Opened, Taken, challenge_in, opened, peer_in, peer_of}
+use Rattle.policy_audit.proofs.Words.{taken, Verdict, Accepted, Refused, Event, Reply, Rule}
 
 -- what is not so gives anything
 pub lie : {P : Type 0} → true ≡ false → P
@@ -44,7 +28,7 @@ module _ (h : History) (seat : ℕ) (e : Event) (r : Reply) where
   by_rule None q = (refl, ap (reply_or r) q)
   by_rule (Some x) q = lie (ap is_yes q)
 
-  by_room : (b : Bool) → Accepted r ≡ cond b (Refused rule.EntriesFull) (judged h seat e (first_broken (checks h seat e))) → (first_broken (checks h seat e) ≡ None) × (r ≡ answer h seat e)
+  by_room : (b : Bool) → Accepted r ≡ cond b (Refused Rule.EntriesFull) (judged h seat e (first_broken (checks h seat e))) → (first_broken (checks h seat e) ≡ None) × (r ≡ answer h seat e)
   by_room false q = by_rule (first_broken (checks h seat e)) q
   by_room true q = lie (ap is_yes q)
 
@@ -69,7 +53,7 @@ pub unbroken : (b : Bool) → not b ≡ false → b ≡ true
 unbroken true e = refl
 unbroken false e = lie e
 
-pub open_first : (b : Bool) (cs : List Check) → first_broken (cond b cs (always rule.NoSuchLink)) ≡ None → (b ≡ true) × (first_broken cs ≡ None)
+pub open_first : (b : Bool) (cs : List Check) → first_broken (cond b cs (always Rule.NoSuchLink)) ≡ None → (b ≡ true) × (first_broken cs ≡ None)
 open_first true cs e = (refl, e)
 open_first false cs e = no_value e
 
@@ -83,7 +67,7 @@ own_digest h oe ts = digest_of (option_map_or (cookie h) (peer_by oe ts) []) (op
 -- what an accepted frame is, by what its link awaits
 abbrev pub Fits : History → Option Opened → List Taken → List ℕ → Awaited → Type 0
 Fits h oe ts body AwaitName = (f : Name) × (name_frame body ≡ Some f) × (allowed h f.name ≡ true)
-Fits h oe ts body AwaitAnswer = status_of body ≡ Some word.True
+Fits h oe ts body AwaitAnswer = status_of body ≡ Some StatusWord.True
 Fits h oe ts body AwaitReply = (g : ReplyFrame) × (reply_frame body ≡ Some g) × (bytes_eq g.digest (own_digest h oe ts) ≡ true)
 Fits h oe ts body AwaitStatus = (w : StatusWord) × (status_of body ≡ Some w) × (goes_on w ≡ true)
 Fits h oe ts body AwaitChallenge = (f : Challenge) × (challenge_frame body ≡ Some f) × (option_map_or (λ m. same m f.name) (peer_by oe ts) false ≡ true)
@@ -91,34 +75,34 @@ Fits h oe ts body AwaitAck = (g : AckFrame) × (ack_frame body ≡ Some g) × (b
 Fits h oe ts body AwaitMessage = Unit {0}
 
 module _ (h : History) (l : ℕ) (body : List ℕ) where
-  named : (x : Option Name) → first_broken (option_map_or (name_checks h) x (always rule.BadFrame)) ≡ None → (f : Name) × (x ≡ Some f) × (allowed h f.name ≡ true)
+  named : (x : Option Name) → first_broken (option_map_or (name_checks h) x (always Rule.BadFrame)) ≡ None → (f : Name) × (x ≡ Some f) × (allowed h f.name ≡ true)
   named None e = no_value e
   named (Some f) e = (f, refl, unbroken (allowed h f.name) (all_hold (name_checks h f) e).1.1.1.1.0)
 
-  answered : (x : Option StatusWord) → first_broken (option_map_or answer_checks x (always rule.BadFrame)) ≡ None → x ≡ Some word.True
+  answered : (x : Option StatusWord) → first_broken (option_map_or answer_checks x (always Rule.BadFrame)) ≡ None → x ≡ Some StatusWord.True
   answered None e = no_value e
-  answered (Some word.True) e = refl
+  answered (Some StatusWord.True) e = refl
   answered (Some w) e = no_value e
 
-  welcomed : (up : Bool) (x : Option StatusWord) → first_broken (option_map_or (status_checks up) x (always rule.BadFrame)) ≡ None → (w : StatusWord) × (x ≡ Some w) × (goes_on w ≡ true)
+  welcomed : (up : Bool) (x : Option StatusWord) → first_broken (option_map_or (status_checks up) x (always Rule.BadFrame)) ≡ None → (w : StatusWord) × (x ≡ Some w) × (goes_on w ≡ true)
   welcomed up None e = no_value e
-  welcomed up (Some word.Ok) e = (word.Ok, refl, refl)
-  welcomed up (Some word.OkSimultaneous) e = (word.OkSimultaneous, refl, refl)
-  welcomed up (Some word.Alive) e = (word.Alive, refl, refl)
+  welcomed up (Some StatusWord.Ok) e = (StatusWord.Ok, refl, refl)
+  welcomed up (Some StatusWord.OkSimultaneous) e = (StatusWord.OkSimultaneous, refl, refl)
+  welcomed up (Some StatusWord.Alive) e = (StatusWord.Alive, refl, refl)
   welcomed up (Some w) e = no_value e
 
-  asked : (x : Option Challenge) → first_broken (option_map_or (challenge_checks h l) x (always rule.BadFrame)) ≡ None → (f : Challenge) × (x ≡ Some f) × (option_map_or (λ m. same m f.name) (peer_of l h.entries) false ≡ true)
+  asked : (x : Option Challenge) → first_broken (option_map_or (challenge_checks h l) x (always Rule.BadFrame)) ≡ None → (f : Challenge) × (x ≡ Some f) × (option_map_or (λ m. same m f.name) (peer_of l h.entries) false ≡ true)
   asked None e = no_value e
   asked (Some f) e = (f, refl, unbroken (option_map_or (λ m. same m f.name) (peer_of l h.entries) false) (all_hold (challenge_checks h l f) e).1.0)
 
   digested : (digest : List ℕ) → first_broken (digest_checks h l digest) ≡ None → bytes_eq digest (digest_for h l (own_challenge l h.entries)) ≡ true
   digested digest e = unbroken (bytes_eq digest (digest_for h l (own_challenge l h.entries))) (all_hold (digest_checks h l digest) e).0
 
-  replied : (x : Option ReplyFrame) → first_broken (option_map_or (λ f. digest_checks h l f.digest) x (always rule.BadFrame)) ≡ None → (g : ReplyFrame) × (x ≡ Some g) × (bytes_eq g.digest (digest_for h l (own_challenge l h.entries)) ≡ true)
+  replied : (x : Option ReplyFrame) → first_broken (option_map_or (λ f. digest_checks h l f.digest) x (always Rule.BadFrame)) ≡ None → (g : ReplyFrame) × (x ≡ Some g) × (bytes_eq g.digest (digest_for h l (own_challenge l h.entries)) ≡ true)
   replied None e = no_value e
   replied (Some g) e = (g, refl, digested g.digest e)
 
-  acked : (x : Option AckFrame) → first_broken (option_map_or (λ f. digest_checks h l f.digest) x (always rule.BadFrame)) ≡ None → (g : AckFrame) × (x ≡ Some g) × (bytes_eq g.digest (digest_for h l (own_challenge l h.entries)) ≡ true)
+  acked : (x : Option AckFrame) → first_broken (option_map_or (λ f. digest_checks h l f.digest) x (always Rule.BadFrame)) ≡ None → (g : AckFrame) × (x ≡ Some g) × (bytes_eq g.digest (digest_for h l (own_challenge l h.entries)) ≡ true)
   acked None e = no_value e
   acked (Some g) e = (g, refl, digested g.digest e)
 

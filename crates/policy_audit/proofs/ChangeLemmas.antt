@@ -1,30 +1,14 @@
 -- The computed change is the exact difference of what two histories list.
-use Rattle.std.specs.Prelude.{◌≡◌, ℕ, ◌+◌, ◌-◌, ◌<◌, nat_lt, Bool, true, false, cond, ◌&&◌, ◌||◌, not, List, [], ◌∷◌, ◌++◌, Option, Some, None, length, map}
-use Rattle.std.proofs.Common.{refl, ap, ◌∙◌, sym, subst, arith}
-use Rattle.std.proofs.lemmas.Bool.{ltb-true, ltb-false}
-use Rattle.std.proofs.lemmas.Map.Lookups.{exact_bytes}
-use Rattle.std.specs.List.{AllByRecursion, flat_map}
-use Rattle.std.specs.Option.{unwrap_or, option_map_or}
-use Rattle.std.specs.declared.cmp.Ordering.TheVariants.{Less}
-use Rattle.std.specs.Ordering.{is_eq}
-use Rattle.dist_types.specs.declared.pid.Pid.{Pid}
-use Rattle.dist_types.specs.declared.change.GroupChange.{GroupChange}
-use Rattle.dist_types.specs.Order.{text_cmp, pid_cmp}
-use Rattle.dist_types.specs.Listing.{same, same_pid, same_row, total, mentions, is_among, ascending, listing, Rises, IsListing, IsPidListing}
-use Rattle.dist_types.specs.Difference.{is_empty, IsProper, IsDifference, change_unless_empty}
-use Rattle.dist_types.proofs.Orders.{texts_total, pids_total, exact_pids, same_decides, same_pid_decides}
-use Rattle.dist_types.proofs.Listings.{ascending_rises, ascending_stands, listing_counts, one_of_many}
-use Rattle.std.proofs.lemmas.Cmp.{tied_itself}
-use Rattle.policy_audit.specs.declared.event.Event.{Event}
-use Rattle.policy_audit.specs.declared.event.Event.TheVariants as event
-use Rattle.policy_audit.specs.declared.change.Change.{Change}
-use Rattle.policy_audit.specs.History.{History, events, first_of}
-use Rattle.policy_audit.specs.Own.{starts, is_running, scopes_started, is_local, own}
-use Rattle.policy_audit.specs.Sides.{present_link}
-use Rattle.policy_audit.specs.Listed.{listed_by, listed}
-use Rattle.policy_audit.specs.Contents.{row, rows_named, groups_named, pids_named}
-use Rattle.policy_audit.specs.Changes.{groups_in, IsChange, events_of, scope_change, if_some, change}
-use Rattle.policy_audit.specs.Policy.{IsNext, is_full, with_entry, entry_of}
+use Rattle.policy_audit.proofs.Words.{ap, arith, refl, subst, sym, ◌∙◌, ltb-false, ltb-true, tied_itself, exact_bytes, AllByRecursion}
+use Rattle.policy_audit.proofs.Words.{flat_map, option_map_or, unwrap_or, is_eq, Bool, List, None, Option, Some, [], cond, false, length}
+use Rattle.policy_audit.proofs.Words.{map, nat_lt, not, true, ℕ, ◌&&◌, ◌++◌, ◌+◌, ◌-◌, ◌<◌, ◌||◌, ◌∷◌, ◌≡◌, Less, ascending_rises}
+use Rattle.policy_audit.proofs.Words.{ascending_stands, listing_counts, one_of_many, exact_pids, pids_total, same_decides, same_pid_decides}
+use Rattle.policy_audit.proofs.Words.{texts_total, IsDifference, IsProper, change_unless_empty, is_empty, IsListing, IsPidListing, Rises}
+use Rattle.policy_audit.proofs.Words.{ascending, is_among, listing, mentions, same, same_pid, same_row, total, pid_cmp, text_cmp}
+use Rattle.policy_audit.proofs.Words.{GroupChange, Pid, IsChange, change, events_of, groups_in, if_some, scope_change, groups_named}
+use Rattle.policy_audit.proofs.Words.{pids_named, row, rows_named, History, events, first_of, listed, listed_by, is_local, is_running}
+use Rattle.policy_audit.proofs.Words.{own, scopes_started, starts, IsNext, entry_of, is_full, with_entry, present_link}
+use Rattle.policy_audit.proofs.Words.{Change, Event}
 use Rattle.policy_audit.proofs.Accepted.{lie}
 use Rattle.policy_audit.proofs.Named.{any_before, any_behind, has, named_in, listed_named, group_named, pid_named}
 
@@ -151,13 +135,13 @@ module _ (h k : History) where
 -- a scope that runs was started
 pub was_started : (s : List ℕ) (es : List Event) → unwrap_or (first_of (starts s) es) false ≡ true → is_among s (flat_map scopes_started es) ≡ true
 was_started s [] q = lie (sym q)
-was_started s (event.StartScope t ∷ es) q = by (was_started s es) (same t s) q
+was_started s (Event.StartScope t ∷ es) q = by (was_started s es) (same t s) q
   where
     by : (unwrap_or (first_of (starts s) es) false ≡ true → is_among s (flat_map scopes_started es) ≡ true) → (b : Bool)
         → unwrap_or (elim (cond {A = Option Bool} b (Some true) None) as (λ _. Option Bool) [ Some y ↦ Some y | None ↦ first_of (starts s) es ]) false ≡ true → (b || is_among s (flat_map scopes_started es)) ≡ true
     by others true q = refl
     by others false q = others q
-was_started s (event.StopScope t ∷ es) q = by (was_started s es) (same t s) q
+was_started s (Event.StopScope t ∷ es) q = by (was_started s es) (same t s) q
   where
     by : (unwrap_or (first_of (starts s) es) false ≡ true → is_among s (flat_map scopes_started es) ≡ true) → (b : Bool)
         → unwrap_or (elim (cond {A = Option Bool} b (Some false) None) as (λ _. Option Bool) [ Some y ↦ Some y | None ↦ first_of (starts s) es ]) false ≡ true → is_among s (flat_map scopes_started es) ≡ true

@@ -1,15 +1,8 @@
 -- A list of texts in which each stands once is as long as there are different texts in it.
-use Rattle.std.specs.Prelude.{◌≡◌, ℕ, suc, ◌<◌, ◌≤◌, nat_lt, Bool, true, false, cond, List, [], ◌∷◌, length}
-use Rattle.std.proofs.Common.{refl, ap, ◌∙◌, sym, arith}
-use Rattle.std.proofs.lemmas.Bool.{ltb-true, ltb-false}
-use Rattle.std.proofs.lemmas.Map.Keys.{IsDistinct-head, IsDistinct-tail}
-use Rattle.std.specs.List.{AllByRecursion, IsDistinct}
-use Rattle.std.specs.declared.cmp.Ordering.TheVariants.{Less}
-use Rattle.dist_types.specs.Listing.{Rises, ascending, is_among, occurrences, same}
-use Rattle.dist_types.proofs.Orders.{same_decides, same_sym}
-use Rattle.dist_types.proofs.Listings.{same_length}
-use Rattle.dist_types.specs.Order.{text_cmp}
-use Rattle.policy_audit.specs.Admission.{different}
+use Rattle.policy_audit.proofs.Words.{ap, arith, refl, sym, ◌∙◌, ltb-false, ltb-true, IsDistinct-head, IsDistinct-tail, AllByRecursion}
+use Rattle.policy_audit.proofs.Words.{IsDistinct, Bool, List, [], cond, false, length, nat_lt, suc, true, ℕ, ◌<◌, ◌∷◌, ◌≡◌, ◌≤◌, Less}
+use Rattle.policy_audit.proofs.Words.{same_length, same_decides, same_sym, Rises, ascending, is_among, occurrences, same, text_cmp}
+use Rattle.policy_audit.proofs.Words.{different}
 use Rattle.policy_audit.proofs.OneDifference.{apart}
 use Rattle.policy_audit.proofs.Accepted.{lie}
 use Rattle.policy_audit.proofs.Named.{occurs_stands, stands_occurs}

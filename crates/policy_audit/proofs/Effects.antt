@@ -1,24 +1,10 @@
 -- What an entry does to the words of the policy, and what it leaves alone.
-use Rattle.std.specs.Prelude.{◌≡◌, ℕ, ◌+◌, ◌-◌, ◌==◌, Bool, true, false, cond, ◌&&◌, List, [], ◌∷◌, ◌++◌, Option, Some, None}
-use Rattle.std.proofs.Common.{refl, ap, ◌∙◌, sym, subst, arith}
-use Rattle.std.specs.Option.{option_map_or, unwrap_or}
-use Rattle.dist_types.specs.declared.pid.Pid.{Pid}
-use Rattle.dist_types.specs.Listing.{same, same_pid, mentions}
-use Rattle.dist_types.proofs.Orders.{same_decides}
-use Rattle.policy_audit.specs.declared.event.Event.{Event}
-use Rattle.policy_audit.specs.declared.event.Event.TheVariants as event
-use Rattle.policy_audit.specs.declared.reply.Reply.{Reply}
-use Rattle.policy_audit.specs.declared.rule.Rule.{Rule}
-use Rattle.policy_audit.specs.declared.entry.Verdict.{Verdict}
-use Rattle.policy_audit.specs.declared.entry.Verdict.TheVariants.{Accepted, Refused}
-use Rattle.policy_audit.specs.declared.entry.Entry.{Entry}
-use Rattle.policy_audit.specs.History.{History, is_accepted, events, first_of}
-use Rattle.policy_audit.specs.Own.{is_running, is_local, joined, own}
-use Rattle.policy_audit.specs.Sides.{Opened, Taken, opened, taken, and_frame, given, peer_of, awaits, is_whole, present_link, is_visible}
-use Rattle.policy_audit.specs.Hearing.{hears, talk, talk_of, message_taken, stated_in}
-use Rattle.policy_audit.specs.Listed.{is_from, listed}
-use Rattle.policy_audit.specs.Policy.{IsAnswered, verdict, with_entry}
-use Rattle.policy_audit.specs.Effects.{leaves_rows, IsSameLink}
+use Rattle.policy_audit.proofs.Words.{ap, arith, refl, subst, sym, ◌∙◌, option_map_or, unwrap_or, Bool, List, None, Option, Some, [], cond}
+use Rattle.policy_audit.proofs.Words.{false, true, ℕ, ◌&&◌, ◌++◌, ◌+◌, ◌-◌, ◌==◌, ◌∷◌, ◌≡◌, same_decides, mentions, same, same_pid, Pid}
+use Rattle.policy_audit.proofs.Words.{IsSameLink, leaves_rows, hears, message_taken, stated_in, talk, talk_of, History, events, first_of}
+use Rattle.policy_audit.proofs.Words.{is_accepted, is_from, listed, is_local, is_running, joined, own, IsAnswered, verdict, with_entry}
+use Rattle.policy_audit.proofs.Words.{Opened, Taken, and_frame, awaits, given, is_visible, is_whole, opened, peer_of, present_link, taken}
+use Rattle.policy_audit.proofs.Words.{Entry, Verdict, Accepted, Refused, Event, Reply, Rule}
 use Rattle.policy_audit.proofs.Accepted.{lie, peer_by}
 use Rattle.policy_audit.proofs.Walked.{but}
 use Rattle.policy_audit.proofs.Finished.{whole_by, awaited_by, given_by}
@@ -28,7 +14,7 @@ use Rattle.policy_audit.proofs.UpLinks.{refused_up}
 
 module _ (es : List Entry) (e : Entry) (k l : ℕ) (body : List ℕ) (another : (k == l) ≡ false) where
   abbrev fr : Verdict → Entry
-  fr v = but e (event.Frame k body) v
+  fr v = but e (Event.Frame k body) v
 
   pub others_opened : (v : Verdict) → opened l (fr v ∷ es) ≡ opened l es
   others_opened (Accepted r) = refl
@@ -61,7 +47,7 @@ module _ (es : List Entry) (e : Entry) (k l : ℕ) (body : List ℕ) (another : 
 
 module _ (h : History) (e : Entry) (r : Reply) where
   pub own_joined : (s g : List ℕ) (ps : List Pid) → is_running h s ≡ true → (t f : List ℕ) (p : Pid)
-      → own (with_entry h (but e (event.Join s g ps) (Accepted r))) t f p ≡ cond (same s t && same g f) (own h t f p + mentions p ps) (own h t f p)
+      → own (with_entry h (but e (Event.Join s g ps) (Accepted r))) t f p ≡ cond (same s t && same g f) (own h t f p + mentions p ps) (own h t f p)
   own_joined s g ps up t f p = by (same s t) (same g f) refl
     where
       by : (a b : Bool) → same s t ≡ a → cond (is_running h t) (cond (a && b) (joined t f p (events h.entries) + mentions p ps) (joined t f p (events h.entries))) 0 ≡ cond (a && b) (own h t f p + mentions p ps) (own h t f p)
@@ -72,7 +58,7 @@ module _ (h : History) (e : Entry) (r : Reply) where
           ap (λ c. cond c (joined t f p (events h.entries) + mentions p ps) 0) up' ∙ sym (ap (λ c. cond c (joined t f p (events h.entries)) 0 + mentions p ps) up')
 
   pub own_left : (s g : List ℕ) (ps : List Pid) (t f : List ℕ) (p : Pid)
-      → own (with_entry h (but e (event.Leave s g ps) (Accepted r))) t f p ≡ cond (same s t && same g f) (own h t f p - mentions p ps) (own h t f p)
+      → own (with_entry h (but e (Event.Leave s g ps) (Accepted r))) t f p ≡ cond (same s t && same g f) (own h t f p - mentions p ps) (own h t f p)
   own_left s g ps t f p = by (same s t && same g f) (is_running h t)
     where
       by : (a b : Bool) → cond b (cond a (joined t f p (events h.entries) - mentions p ps) (joined t f p (events h.entries))) 0 ≡ cond a (cond b (joined t f p (events h.entries)) 0 - mentions p ps) (cond b (joined t f p (events h.entries)) 0)
@@ -80,7 +66,7 @@ module _ (h : History) (e : Entry) (r : Reply) where
       by true false = omega arith
       by false b = refl
 
-  pub own_exited : (q : Pid) (t f : List ℕ) (p : Pid) → own (with_entry h (but e (event.Exit q) (Accepted r))) t f p ≡ cond (same_pid q p) 0 (own h t f p)
+  pub own_exited : (q : Pid) (t f : List ℕ) (p : Pid) → own (with_entry h (but e (Event.Exit q) (Accepted r))) t f p ≡ cond (same_pid q p) 0 (own h t f p)
   own_exited q t f p = by (same_pid q p) (is_running h t)
     where
       by : (a b : Bool) → cond b (cond a 0 (joined t f p (events h.entries))) 0 ≡ cond a 0 (cond b (joined t f p (events h.entries)) 0)
@@ -92,27 +78,27 @@ module _ (h : History) (e : Entry) (r : Reply) where
 
 module _ (h : History) (e : Entry) where
   -- a refused frame ends at most an unfinished link
-  refused_frame : (k : ℕ) (body : List ℕ) (r : Rule) (s g : List ℕ) (p : Pid) → listed (with_entry h (but e (event.Frame k body) (Refused r))) s g p ≡ listed h s g p
+  refused_frame : (k : ℕ) (body : List ℕ) (r : Rule) (s g : List ℕ) (p : Pid) → listed (with_entry h (but e (Event.Frame k body) (Refused r))) s g p ≡ listed h s g p
   refused_frame k body r s g p =
       ap (λ (up : ℕ → Bool). cond (is_local h p) (own h s g p) (cond (is_running h s) (option_map_or (λ l. cond (is_visible h l && is_from l h.entries p) (cond (up l && unwrap_or (first_of (hears s) (talk l h.entries)) false) (stated_in s g p (talk l h.entries)) 0) 0) (present_link p.node h.entries) 0) 0))
       (λ i l. refused_up h.entries k l i)
 
   pub rows_left : (ev : Event) (v : Verdict) → leaves_rows (but e ev v) ≡ true → (s g : List ℕ) (p : Pid) → listed (with_entry h (but e ev v)) s g p ≡ listed h s g p
-  rows_left (event.Frame k body) (Refused r) q s g p = refused_frame k body r s g p
+  rows_left (Event.Frame k body) (Refused r) q s g p = refused_frame k body r s g p
   rows_left ev (Refused r) q s g p = refl
-  rows_left (event.SetCookie c) (Accepted r) q s g p = refl
-  rows_left (event.SetCookieFor n c) (Accepted r) q s g p = refl
-  rows_left (event.Allow ns) (Accepted r) q s g p = refl
-  rows_left event.Spawn (Accepted r) q s g p = refl
-  rows_left (event.Members t f) (Accepted r) q s g p = refl
-  rows_left (event.LocalMembers t f) (Accepted r) q s g p = refl
-  rows_left (event.Groups t) (Accepted r) q s g p = refl
-  rows_left (event.LocalGroups t) (Accepted r) q s g p = refl
-  rows_left (event.Monitor t f) (Accepted r) q s g p = refl
-  rows_left (event.MonitorScope t) (Accepted r) q s g p = refl
-  rows_left (event.Demonitor k) (Accepted r) q s g p = refl
-  rows_left (event.Updates k) (Accepted r) q s g p = refl
-  rows_left (event.Take l) (Accepted r) q s g p = refl
+  rows_left (Event.SetCookie c) (Accepted r) q s g p = refl
+  rows_left (Event.SetCookieFor n c) (Accepted r) q s g p = refl
+  rows_left (Event.Allow ns) (Accepted r) q s g p = refl
+  rows_left Event.Spawn (Accepted r) q s g p = refl
+  rows_left (Event.Members t f) (Accepted r) q s g p = refl
+  rows_left (Event.LocalMembers t f) (Accepted r) q s g p = refl
+  rows_left (Event.Groups t) (Accepted r) q s g p = refl
+  rows_left (Event.LocalGroups t) (Accepted r) q s g p = refl
+  rows_left (Event.Monitor t f) (Accepted r) q s g p = refl
+  rows_left (Event.MonitorScope t) (Accepted r) q s g p = refl
+  rows_left (Event.Demonitor k) (Accepted r) q s g p = refl
+  rows_left (Event.Updates k) (Accepted r) q s g p = refl
+  rows_left (Event.Take l) (Accepted r) q s g p = refl
   rows_left ev (Accepted r) q s g p = lie (sym q)
 
 -- ---- the same, of an entry that is given by its event
@@ -120,7 +106,7 @@ module _ (h : History) (e : Entry) where
 pub entry_rows : (h : History) (e : Entry) → leaves_rows e ≡ true → (s g : List ℕ) (p : Pid) → listed (with_entry h e) s g p ≡ listed h s g p
 entry_rows h e q s g p = rows_left h e e.event e.verdict q s g p
 
-pub entry_link : (es : List Entry) (e : Entry) (k l : ℕ) (body : List ℕ) → e.event ≡ event.Frame k body → (k == l) ≡ false → IsSameLink l es (e ∷ es)
+pub entry_link : (es : List Entry) (e : Entry) (k l : ℕ) (body : List ℕ) → e.event ≡ Event.Frame k body → (k == l) ≡ false → IsSameLink l es (e ∷ es)
 entry_link es e k l body q another = subst (λ ev. IsSameLink l es (but e ev e.verdict ∷ es)) (sym q) (record {
   opened = others_opened es e k l body another e.verdict;
   taken = others_taken es e k l body another e.verdict;
@@ -140,14 +126,14 @@ by_accepted e ev P q a each = subst (λ x. P (but e x e.verdict)) (sym q) (by e.
     by (Refused r) a = lie (sym a)
 
 module _ (h : History) (e : Entry) (s g : List ℕ) (ps : List Pid) where
-  pub entry_joined : e.event ≡ event.Join s g ps → is_accepted e.verdict ≡ true → is_running h s ≡ true → (t f : List ℕ) (p : Pid) → own (with_entry h e) t f p ≡ cond (same s t && same g f) (own h t f p + mentions p ps) (own h t f p)
-  entry_joined q a up t f p = by_accepted e (event.Join s g ps) (λ x. own (with_entry h x) t f p ≡ cond (same s t && same g f) (own h t f p + mentions p ps) (own h t f p)) q a (λ r. own_joined h e r s g ps up t f p)
+  pub entry_joined : e.event ≡ Event.Join s g ps → is_accepted e.verdict ≡ true → is_running h s ≡ true → (t f : List ℕ) (p : Pid) → own (with_entry h e) t f p ≡ cond (same s t && same g f) (own h t f p + mentions p ps) (own h t f p)
+  entry_joined q a up t f p = by_accepted e (Event.Join s g ps) (λ x. own (with_entry h x) t f p ≡ cond (same s t && same g f) (own h t f p + mentions p ps) (own h t f p)) q a (λ r. own_joined h e r s g ps up t f p)
 
-  pub entry_left : e.event ≡ event.Leave s g ps → is_accepted e.verdict ≡ true → (t f : List ℕ) (p : Pid) → own (with_entry h e) t f p ≡ cond (same s t && same g f) (own h t f p - mentions p ps) (own h t f p)
-  entry_left q a t f p = by_accepted e (event.Leave s g ps) (λ x. own (with_entry h x) t f p ≡ cond (same s t && same g f) (own h t f p - mentions p ps) (own h t f p)) q a (λ r. own_left h e r s g ps t f p)
+  pub entry_left : e.event ≡ Event.Leave s g ps → is_accepted e.verdict ≡ true → (t f : List ℕ) (p : Pid) → own (with_entry h e) t f p ≡ cond (same s t && same g f) (own h t f p - mentions p ps) (own h t f p)
+  entry_left q a t f p = by_accepted e (Event.Leave s g ps) (λ x. own (with_entry h x) t f p ≡ cond (same s t && same g f) (own h t f p - mentions p ps) (own h t f p)) q a (λ r. own_left h e r s g ps t f p)
 
-pub entry_exited : (h : History) (e : Entry) (q : Pid) → e.event ≡ event.Exit q → is_accepted e.verdict ≡ true → (t f : List ℕ) (p : Pid) → own (with_entry h e) t f p ≡ cond (same_pid q p) 0 (own h t f p)
-entry_exited h e q same_event a t f p = by_accepted e (event.Exit q) (λ x. own (with_entry h x) t f p ≡ cond (same_pid q p) 0 (own h t f p)) same_event a (λ r. own_exited h e r q t f p)
+pub entry_exited : (h : History) (e : Entry) (q : Pid) → e.event ≡ Event.Exit q → is_accepted e.verdict ≡ true → (t f : List ℕ) (p : Pid) → own (with_entry h e) t f p ≡ cond (same_pid q p) 0 (own h t f p)
+entry_exited h e q same_event a t f p = by_accepted e (Event.Exit q) (λ x. own (with_entry h x) t f p ≡ cond (same_pid q p) 0 (own h t f p)) same_event a (λ r. own_exited h e r q t f p)
 
 -- where a fact holds of each entry that accepts an event as the policy does, it holds of this one
 pub by_made : (h : History) (e : Entry) (ev : Event) (P : Entry → Type 0) → IsAnswered h e → is_accepted e.verdict ≡ true → e.event ≡ ev

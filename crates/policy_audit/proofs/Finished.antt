@@ -1,12 +1,8 @@
 -- What an accepted frame makes of its link: it completes the side, or leaves it whole or unfinished.
-use Rattle.std.specs.Prelude.{◌≡◌, ℕ, Bool, true, false, nat_le, List, [], ◌∷◌, ◌++◌, Option, Some, None, is_some, length, get_or}
-use Rattle.std.proofs.Common.{refl, ap, ◌∙◌, sym, arith}
-use Rattle.std.proofs.lemmas.Bool.{le-leb}
-use Rattle.std.specs.Option.{option_and_then, option_map_or}
-use Rattle.handshake_frames.specs.Frame.{Name, Challenge}
-use Rattle.policy_audit.specs.declared.opening.Opening.{Opening}
-use Rattle.policy_audit.specs.declared.entry.Entry.{Entry}
-use Rattle.policy_audit.specs.Sides.{Start, ByPeer, ByDial, Opened, Taken, was_up, whole_side, awaited_in, is_whole_in, given_in, peer_in, Awaited, AwaitMessage, is_last}
+use Rattle.policy_audit.proofs.Words.{ap, arith, refl, sym, ◌∙◌, le-leb, option_and_then, option_map_or, Bool, List, None, Option, Some, []}
+use Rattle.policy_audit.proofs.Words.{false, get_or, is_some, length, nat_le, true, ℕ, ◌++◌, ◌∷◌, ◌≡◌, Challenge, Name, AwaitMessage}
+use Rattle.policy_audit.proofs.Words.{Awaited, ByDial, ByPeer, Opened, Start, Taken, awaited_in, given_in, is_last, is_whole_in, peer_in}
+use Rattle.policy_audit.proofs.Words.{was_up, whole_side, Entry, Opening}
 use Rattle.policy_audit.proofs.Accepted.{lie, peer_by}
 use Rattle.policy_audit.proofs.Walked.{Follow, Reach, Walk, Far}
 

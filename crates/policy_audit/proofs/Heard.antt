@@ -1,26 +1,10 @@
 -- Who is heard in a scope: the scope runs, and the link has a whole side.
-use Rattle.std.specs.Prelude.{◌≡◌, ℕ, ◌+◌, ◌==◌, Bool, true, false, cond, ◌&&◌, List, [], ◌∷◌, ◌++◌, Option, Some, None, length}
-use Rattle.std.proofs.Common.{refl, ap, ◌∙◌, sym, subst, arith}
-use Rattle.std.proofs.lemmas.Bool.{eqb-true}
-use Rattle.std.specs.Option.{option_map_or, unwrap_or}
-use Rattle.dist_types.specs.Listing.{same}
-use Rattle.dist_types.proofs.Orders.{same_decides}
-use Rattle.link_frames.specs.declared.message.Message.{Message}
-use Rattle.link_frames.specs.declared.message.Message.TheVariants as said
-use Rattle.policy_audit.specs.declared.opening.Opening.{Opening}
-use Rattle.policy_audit.specs.declared.event.Event.{Event}
-use Rattle.policy_audit.specs.declared.entry.Verdict.{Verdict}
-use Rattle.policy_audit.specs.declared.entry.Verdict.TheVariants.{Accepted, Refused}
-use Rattle.policy_audit.specs.declared.entry.Entry.{Entry}
-use Rattle.policy_audit.specs.declared.event.Event.TheVariants as event
-use Rattle.policy_audit.specs.declared.rule.Rule.TheVariants as rule
-use Rattle.policy_audit.specs.History.{past, events, first_of, History}
-use Rattle.policy_audit.specs.Own.{starts, is_running}
-use Rattle.policy_audit.specs.Sides.{Start, ByPeer, ByDial, Opened, opened, taken, and_frame, awaits, is_whole}
-use Rattle.policy_audit.specs.Links.{is_open}
-use Rattle.policy_audit.specs.Hearing.{Talk, hears, message_taken, talk, talk_of, Said, Stopped, tells}
-use Rattle.policy_audit.specs.Checks.{first_broken, checks, frame_checks, message_checks, always}
-use Rattle.policy_audit.specs.Policy.{IsLegalIn, verdict}
+use Rattle.policy_audit.proofs.Words.{ap, arith, refl, subst, sym, ◌∙◌, eqb-true, option_map_or, unwrap_or, Bool, List, None, Option, Some}
+use Rattle.policy_audit.proofs.Words.{[], cond, false, length, true, ℕ, ◌&&◌, ◌++◌, ◌+◌, ◌==◌, ◌∷◌, ◌≡◌, same_decides, same, Message}
+use Rattle.policy_audit.proofs.Words.{always, checks, first_broken, frame_checks, message_checks, Said, Stopped, Talk, hears, message_taken}
+use Rattle.policy_audit.proofs.Words.{talk, talk_of, tells, History, events, first_of, past, is_open, is_running, starts, IsLegalIn}
+use Rattle.policy_audit.proofs.Words.{verdict, ByDial, ByPeer, Opened, Start, and_frame, awaits, is_whole, opened, taken, Entry, Verdict}
+use Rattle.policy_audit.proofs.Words.{Accepted, Refused, Event, Opening, Rule}
 use Rattle.policy_audit.proofs.Accepted.{lie, accepted, all_hold, unbroken, open_first, no_value}
 use Rattle.policy_audit.proofs.Walked.{but, unborn}
 use Rattle.policy_audit.proofs.Finished.{whole_by, whole_awaits, whole_kept}
@@ -37,19 +21,19 @@ has_discover s ts = unwrap_or (first_of (tells s) ts) false
 
 -- the scope of a message
 abbrev scope_of : Message → List ℕ
-scope_of (said.Discover t) = t
-scope_of (said.Sync t rows) = t
-scope_of (said.Join t rows) = t
-scope_of (said.Leave t rows) = t
-scope_of (said.Down t) = t
+scope_of (Message.Discover t) = t
+scope_of (Message.Sync t rows) = t
+scope_of (Message.Join t rows) = t
+scope_of (Message.Leave t rows) = t
+scope_of (Message.Down t) = t
 
 -- a message that is accepted is of a scope that runs
 scope_runs : (h : History) (k : ℕ) (m : Message) → first_broken (message_checks h k m) ≡ None → is_running h (scope_of m) ≡ true
-scope_runs h k (said.Discover t) q = unbroken (is_running h t) (all_hold (message_checks h k (said.Discover t)) q).1.0
-scope_runs h k (said.Sync t rows) q = unbroken (is_running h t) (all_hold (message_checks h k (said.Sync t rows)) q).1.0
-scope_runs h k (said.Join t rows) q = unbroken (is_running h t) (all_hold (message_checks h k (said.Join t rows)) q).1.0
-scope_runs h k (said.Leave t rows) q = unbroken (is_running h t) (all_hold (message_checks h k (said.Leave t rows)) q).1.0
-scope_runs h k (said.Down t) q = unbroken (is_running h t) (all_hold (message_checks h k (said.Down t)) q).1.0
+scope_runs h k (Message.Discover t) q = unbroken (is_running h t) (all_hold (message_checks h k (Message.Discover t)) q).1.0
+scope_runs h k (Message.Sync t rows) q = unbroken (is_running h t) (all_hold (message_checks h k (Message.Sync t rows)) q).1.0
+scope_runs h k (Message.Join t rows) q = unbroken (is_running h t) (all_hold (message_checks h k (Message.Join t rows)) q).1.0
+scope_runs h k (Message.Leave t rows) q = unbroken (is_running h t) (all_hold (message_checks h k (Message.Leave t rows)) q).1.0
+scope_runs h k (Message.Down t) q = unbroken (is_running h t) (all_hold (message_checks h k (Message.Down t)) q).1.0
 
 -- of a question about s, to which only messages of s give yes, and to which its stop gives no
 module _ (s : List ℕ) (asks : Talk → Option Bool) (stop : (t : List ℕ) → asks (Stopped t) ≡ cond (same t s) (Some false) None) (only : (m : Message) → asks (Said m) ≡ Some true → same (scope_of m) s ≡ true) where
@@ -60,7 +44,7 @@ module _ (s : List ℕ) (asks : Talk → Option Bool) (stop : (t : List ℕ) →
   after ts x = unwrap_or (elim x as (λ _. Option Bool) [ Some y ↦ Some y | None ↦ first_of asks ts ]) false
 
   module _ (o : Opening) (es : List Entry) (e : Entry) (l : ℕ) where
-    spoken : (k : ℕ) (x : Option Message) → first_broken (option_map_or (message_checks (past o es) k) x (always rule.BadFrame)) ≡ None
+    spoken : (k : ℕ) (x : Option Message) → first_broken (option_map_or (message_checks (past o es) k) x (always Rule.BadFrame)) ≡ None
         → (says_yes (talk l es) ≡ true → is_running (past o es) s ≡ true) → says_yes (talk_of x ++ talk l es) ≡ true → is_running (past o es) s ≡ true
     spoken k None q so_far h = so_far h
     spoken k (Some m) q so_far h = by (asks (Said m)) refl h
@@ -70,7 +54,7 @@ module _ (s : List ℕ) (asks : Talk → Option Bool) (stop : (t : List ℕ) →
         by (Some false) a h = lie (sym h)
         by (Some true) a h = ap (is_running (past o es)) (sym ((same_decides (scope_of m) s).0 (only m a))) ∙ scope_runs (past o es) k m q
 
-    framed : (k : ℕ) (body : List ℕ) → first_broken (checks (past o es) e.seat (event.Frame k body)) ≡ None → (says_yes (talk l es) ≡ true → is_running (past o es) s ≡ true)
+    framed : (k : ℕ) (body : List ℕ) → first_broken (checks (past o es) e.seat (Event.Frame k body)) ≡ None → (says_yes (talk l es) ≡ true → is_running (past o es) s ≡ true)
         → (a : Bool) → (k == l) ≡ a → (b : Bool) → is_whole l es ≡ b → says_yes (cond (a && b) (talk_of (message_taken body)) [] ++ talk l es) ≡ true → is_running (past o es) s ≡ true
     framed k body q so_far false n b w h = so_far h
     framed k body q so_far true n false w h = so_far h
@@ -91,10 +75,10 @@ module _ (s : List ℕ) (asks : Talk → Option Bool) (stop : (t : List ℕ) →
     by_event : (ev : Event) (v : Verdict) → v ≡ verdict (past o es) e.seat ev → (says_yes (talk l es) ≡ true → is_running (past o es) s ≡ true)
         → says_yes (talk l (but e ev v ∷ es)) ≡ true → is_running (past o (but e ev v ∷ es)) s ≡ true
     by_event ev (Refused r) q so_far h = so_far h
-    by_event event.Restart (Accepted r) q so_far h = lie (sym h)
-    by_event (event.StartScope t) (Accepted r) q so_far h = started (same t s) (so_far h)
-    by_event (event.StopScope t) (Accepted r) q so_far h = stopped (same t s) so_far (sym (ap (after (talk l es)) (stop t)) ∙ h)
-    by_event (event.Frame k body) (Accepted r) q so_far h = framed k body (accepted (past o es) e.seat (event.Frame k body) r q).0 so_far (k == l) refl (is_whole l es) refl h
+    by_event Event.Restart (Accepted r) q so_far h = lie (sym h)
+    by_event (Event.StartScope t) (Accepted r) q so_far h = started (same t s) (so_far h)
+    by_event (Event.StopScope t) (Accepted r) q so_far h = stopped (same t s) so_far (sym (ap (after (talk l es)) (stop t)) ∙ h)
+    by_event (Event.Frame k body) (Accepted r) q so_far h = framed k body (accepted (past o es) e.seat (Event.Frame k body) r q).0 so_far (k == l) refl (is_whole l es) refl h
     by_event ev (Accepted r) q so_far h = so_far h
 
   yes_runs : (o : Opening) (es : List Entry) → IsLegalIn o es → (l : ℕ) → says_yes (talk l es) ≡ true → is_running (past o es) s ≡ true
@@ -110,13 +94,13 @@ no_where true q = lie (sym (ap (λ x. unwrap_or x true) q))
 no_where false q = no_value (sym q)
 
 heard_only : (s : List ℕ) (m : Message) → hears s (Said m) ≡ Some true → same (scope_of m) s ≡ true
-heard_only s (said.Sync t rows) q = yes_where (same t s) q
-heard_only s (said.Down t) q = no_where (same t s) q
+heard_only s (Message.Sync t rows) q = yes_where (same t s) q
+heard_only s (Message.Down t) q = no_where (same t s) q
 heard_only s m q = no_value (sym q)
 
 told_only : (s : List ℕ) (m : Message) → tells s (Said m) ≡ Some true → same (scope_of m) s ≡ true
-told_only s (said.Discover t) q = yes_where (same t s) q
-told_only s (said.Down t) q = no_where (same t s) q
+told_only s (Message.Discover t) q = yes_where (same t s) q
+told_only s (Message.Down t) q = no_where (same t s) q
 told_only s m q = no_value (sym q)
 
 pub heard_runs : (o : Opening) (es : List Entry) → IsLegalIn o es → (l : ℕ) (s : List ℕ) → has_sync s (talk l es) ≡ true → is_running (past o es) s ≡ true
@@ -152,9 +136,9 @@ heard_whole o (e ∷ es) legal l s h = by_event e.event e.verdict (heard_whole o
 
     by_event : (ev : Event) (v : Verdict) → (has_sync s (talk l es) ≡ true → is_whole l es ≡ true) → has_sync s (talk l (but e ev v ∷ es)) ≡ true → is_whole l (but e ev v ∷ es) ≡ true
     by_event ev (Refused r) so_far h = so_far h
-    by_event event.Restart (Accepted r) so_far h = lie (sym h)
-    by_event (event.Opened c) (Accepted r) so_far h = opened_now (ByPeer c) (so_far h) (e.number == l) refl
-    by_event (event.Dial n c) (Accepted r) so_far h = opened_now (ByDial n c) (so_far h) (e.number == l) refl
-    by_event (event.StopScope t) (Accepted r) so_far h = stopped (same t s) so_far h
-    by_event (event.Frame k body) (Accepted r) so_far h = framed_now body (k == l) (is_whole l es) refl so_far h
+    by_event Event.Restart (Accepted r) so_far h = lie (sym h)
+    by_event (Event.Opened c) (Accepted r) so_far h = opened_now (ByPeer c) (so_far h) (e.number == l) refl
+    by_event (Event.Dial n c) (Accepted r) so_far h = opened_now (ByDial n c) (so_far h) (e.number == l) refl
+    by_event (Event.StopScope t) (Accepted r) so_far h = stopped (same t s) so_far h
+    by_event (Event.Frame k body) (Accepted r) so_far h = framed_now body (k == l) (is_whole l es) refl so_far h
     by_event ev (Accepted r) so_far h = so_far h

@@ -1,17 +1,7 @@
 -- Who is heard and told over a link, after each message.
-use Rattle.std.specs.Prelude.{◌≡◌, ℕ, ◌==◌, Bool, true, false, cond, ◌&&◌, ◌||◌, not, List, Option, Some, None}
-use Rattle.std.proofs.Common.{refl, ◌∙◌, sym}
-use Rattle.std.specs.Option.{unwrap_or}
-use Rattle.dist_types.specs.Listing.{same}
-use Rattle.dist_types.specs.declared.row.Row.{Row}
-use Rattle.link_frames.specs.declared.message.Message.{Message}
-use Rattle.link_frames.specs.declared.message.Message.TheVariants as said
-use Rattle.policy_audit.specs.declared.event.Event.TheVariants as event
-use Rattle.policy_audit.specs.declared.entry.Entry.{Entry}
-use Rattle.policy_audit.specs.History.{History, is_accepted}
-use Rattle.policy_audit.specs.Sides.{AwaitMessage, awaits}
-use Rattle.policy_audit.specs.Hearing.{Said, heard, hears, message_taken, tells, told}
-use Rattle.policy_audit.specs.Policy.{IsAnswered, IsLegal, with_entry}
+use Rattle.policy_audit.proofs.Words.{refl, sym, ◌∙◌, unwrap_or, Bool, List, None, Option, Some, cond, false, not, true, ℕ, ◌&&◌, ◌==◌}
+use Rattle.policy_audit.proofs.Words.{◌||◌, ◌≡◌, same, Row, Message, Said, heard, hears, message_taken, tells, told, History, is_accepted}
+use Rattle.policy_audit.proofs.Words.{IsAnswered, IsLegal, with_entry, AwaitMessage, awaits, Entry, Event}
 use Rattle.policy_audit.proofs.UpLinks.{and_false}
 use Rattle.policy_audit.proofs.HeardNow.{IsHeardNow, message_heard}
 
@@ -35,37 +25,37 @@ says_nothing : (here before : Bool) → cond here before before ≡ before
 says_nothing true before = refl
 says_nothing false before = refl
 
-module _ (h : History) (legal : IsLegal h) (e : Entry) (made : IsAnswered h e) (yes : is_accepted e.verdict ≡ true) (j : ℕ) (body : List ℕ) (is : e.event ≡ event.Frame j body) (up : awaits j h.entries ≡ AwaitMessage)
+module _ (h : History) (legal : IsLegal h) (e : Entry) (made : IsAnswered h e) (yes : is_accepted e.verdict ≡ true) (j : ℕ) (body : List ℕ) (is : e.event ≡ Event.Frame j body) (up : awaits j h.entries ≡ AwaitMessage)
     (l : ℕ) (s : List ℕ) where
   heard_by : (m : Message) → message_taken body ≡ Some m → IsHeardNow (with_entry h e) l s
       (cond (j == l) (unwrap_or (hears s (Said m)) (heard l s h.entries)) (heard l s h.entries)) (cond (j == l) (unwrap_or (tells s (Said m)) (told l s h.entries)) (told l s h.entries))
   heard_by m says = message_heard h legal e made yes j body is m up says l s
 
   -- after a Sync the peer is heard
-  pub synced_heard : (t : List ℕ) (rows : List Row) → message_taken body ≡ Some (said.Sync t rows) → IsHeardNow (with_entry h e) l s ((j == l && same t s) || heard l s h.entries) (told l s h.entries)
+  pub synced_heard : (t : List ℕ) (rows : List Row) → message_taken body ≡ Some (Message.Sync t rows) → IsHeardNow (with_entry h e) l s ((j == l && same t s) || heard l s h.entries) (told l s h.entries)
   synced_heard t rows says =
-      let it = heard_by (said.Sync t rows) says in
+      let it = heard_by (Message.Sync t rows) says in
       record { heard_is = it.heard_is ∙ says_yes (j == l) (same t s) (heard l s h.entries); told_is = it.told_is ∙ says_nothing (j == l) (told l s h.entries) }
 
   -- after a Discover it is told
-  pub discovered_heard : (t : List ℕ) → message_taken body ≡ Some (said.Discover t) → IsHeardNow (with_entry h e) l s (heard l s h.entries) ((j == l && same t s) || told l s h.entries)
+  pub discovered_heard : (t : List ℕ) → message_taken body ≡ Some (Message.Discover t) → IsHeardNow (with_entry h e) l s (heard l s h.entries) ((j == l && same t s) || told l s h.entries)
   discovered_heard t says =
-      let it = heard_by (said.Discover t) says in
+      let it = heard_by (Message.Discover t) says in
       record { heard_is = it.heard_is ∙ says_nothing (j == l) (heard l s h.entries); told_is = it.told_is ∙ says_yes (j == l) (same t s) (told l s h.entries) }
 
   -- after a Down neither
-  pub downed_heard : (t : List ℕ) → message_taken body ≡ Some (said.Down t) → IsHeardNow (with_entry h e) l s (heard l s h.entries && not (j == l && same t s)) (told l s h.entries && not (j == l && same t s))
+  pub downed_heard : (t : List ℕ) → message_taken body ≡ Some (Message.Down t) → IsHeardNow (with_entry h e) l s (heard l s h.entries && not (j == l && same t s)) (told l s h.entries && not (j == l && same t s))
   downed_heard t says =
-      let it = heard_by (said.Down t) says in
+      let it = heard_by (Message.Down t) says in
       record { heard_is = it.heard_is ∙ says_no (j == l) (same t s) (heard l s h.entries); told_is = it.told_is ∙ says_no (j == l) (same t s) (told l s h.entries) }
 
   -- a Join and a Leave say nothing of that
-  pub joined_heard : (t : List ℕ) (rows : List Row) → message_taken body ≡ Some (said.Join t rows) → IsHeardNow (with_entry h e) l s (heard l s h.entries) (told l s h.entries)
+  pub joined_heard : (t : List ℕ) (rows : List Row) → message_taken body ≡ Some (Message.Join t rows) → IsHeardNow (with_entry h e) l s (heard l s h.entries) (told l s h.entries)
   joined_heard t rows says =
-      let it = heard_by (said.Join t rows) says in
+      let it = heard_by (Message.Join t rows) says in
       record { heard_is = it.heard_is ∙ says_nothing (j == l) (heard l s h.entries); told_is = it.told_is ∙ says_nothing (j == l) (told l s h.entries) }
 
-  pub left_heard : (t : List ℕ) (rows : List Row) → message_taken body ≡ Some (said.Leave t rows) → IsHeardNow (with_entry h e) l s (heard l s h.entries) (told l s h.entries)
+  pub left_heard : (t : List ℕ) (rows : List Row) → message_taken body ≡ Some (Message.Leave t rows) → IsHeardNow (with_entry h e) l s (heard l s h.entries) (told l s h.entries)
   left_heard t rows says =
-      let it = heard_by (said.Leave t rows) says in
+      let it = heard_by (Message.Leave t rows) says in
       record { heard_is = it.heard_is ∙ says_nothing (j == l) (heard l s h.entries); told_is = it.told_is ∙ says_nothing (j == l) (told l s h.entries) }

@@ -1,34 +1,13 @@
 -- Which links have frames that wait, which are kept, and which numbers they have.
-use Rattle.std.specs.Prelude.{◌≡◌, ℕ, suc, ◌+◌, ◌<◌, ◌≤◌, ◌==◌, Bool, true, false, cond, ◌&&◌, ◌||◌, not, List, [], ◌∷◌, ◌++◌, Option, Some, None, is_some, length, nat_le, map, min, nat_lt}
-use Rattle.std.proofs.Common.{refl, ap, ◌∙◌, sym, subst, arith}
-use Rattle.std.proofs.lemmas.Bool.{eqb-true, le-leb, leb-true, lt-ltb, ltb-true}
-use Rattle.std.specs.List.{filter, flat_map, list_all, list_any}
-use Rattle.std.specs.Option.{unwrap_or}
-use Rattle.dist_types.specs.declared.row.Row.{Row}
-use Rattle.dist_types.specs.Listing.{how_many, listing, mentions, same_pid}
-use Rattle.dist_types.specs.Difference.{is_empty}
-use Rattle.dist_types.specs.Order.{pid_cmp}
-use Rattle.link_frames.specs.declared.message.Message.{Message}
-use Rattle.link_frames.specs.declared.message.Message.TheVariants as said
-use Rattle.policy_audit.specs.declared.event.Event.{Event}
-use Rattle.policy_audit.specs.declared.entry.Verdict.{Verdict}
-use Rattle.policy_audit.specs.declared.entry.Verdict.TheVariants.{Accepted, Refused}
-use Rattle.policy_audit.specs.declared.entry.Entry.{Entry}
-use Rattle.policy_audit.specs.declared.opening.Opening.{Opening}
-use Rattle.policy_audit.specs.OutFrame.{OutFrame}
-use Rattle.policy_audit.specs.declared.reply.Reply.{Reply}
-use Rattle.policy_audit.specs.declared.rule.Rule.{Rule}
-use Rattle.policy_audit.specs.declared.event.Event.TheVariants as event
-use Rattle.policy_audit.specs.declared.rule.Rule.TheVariants as rule
-use Rattle.policy_audit.specs.Sides.{ByDial, ByPeer, Opened, Start, awaits, is_visible, is_whole, opened, start_of, started_where}
-use Rattle.policy_audit.specs.History.{History, Moment, first_of, past, present}
-use Rattle.policy_audit.specs.Policy.{IsLegal, IsLegalIn, is_full, judged, verdict}
-use Rattle.policy_audit.specs.Checks.{always, first_broken, frame_checks}
-use Rattle.policy_audit.specs.Owed.{drops, frame_owes, if_told, if_visible, is_kept, owed, own_name_frame, refusal_owes, waiting, waiting_in, wide}
-use Rattle.policy_audit.specs.Hearing.{heard, talk, tells, told}
-use Rattle.policy_audit.specs.Links.{is_open, is_opened_by, links, is_up}
-use Rattle.policy_audit.specs.Contents.{local_rows, row}
-use Rattle.policy_audit.specs.Own.{own, running_scopes, is_running}
+use Rattle.policy_audit.proofs.Words.{ap, arith, refl, subst, sym, ◌∙◌, eqb-true, le-leb, leb-true, lt-ltb, ltb-true, filter, flat_map}
+use Rattle.policy_audit.proofs.Words.{list_all, list_any, unwrap_or, Bool, List, None, Option, Some, [], cond, false, is_some, length, map}
+use Rattle.policy_audit.proofs.Words.{min, nat_le, nat_lt, not, suc, true, ℕ, ◌&&◌, ◌++◌, ◌+◌, ◌<◌, ◌==◌, ◌||◌, ◌∷◌, ◌≡◌, ◌≤◌, is_empty}
+use Rattle.policy_audit.proofs.Words.{how_many, listing, mentions, same_pid, pid_cmp, Row, Message, always, first_broken, frame_checks}
+use Rattle.policy_audit.proofs.Words.{local_rows, row, heard, talk, tells, told, History, Moment, first_of, past, present, is_open}
+use Rattle.policy_audit.proofs.Words.{is_opened_by, is_up, links, OutFrame, drops, frame_owes, if_told, if_visible, is_kept, owed}
+use Rattle.policy_audit.proofs.Words.{own_name_frame, refusal_owes, waiting, waiting_in, wide, is_running, own, running_scopes, IsLegal}
+use Rattle.policy_audit.proofs.Words.{IsLegalIn, is_full, judged, verdict, ByDial, ByPeer, Opened, Start, awaits, is_visible, is_whole}
+use Rattle.policy_audit.proofs.Words.{opened, start_of, started_where, Entry, Verdict, Accepted, Refused, Event, Opening, Reply, Rule}
 use Rattle.policy_audit.proofs.Accepted.{accepted, lie, no_value}
 use Rattle.policy_audit.proofs.UpLinks.{and_both, and_left, and_right, other}
 use Rattle.policy_audit.proofs.Walked.{but, frame_fits, open_opened, unborn}
@@ -61,28 +40,28 @@ module _ (o : Opening) (es : List Entry) (l : ℕ) (closed : is_open l es ≡ fa
   unseen : (m : Message) → if_visible (past o es) l m ≡ []
   unseen m = ap (λ b. cond ((b && is_whole l es) && is_visible (past o es) l) (wide m ∷ []) []) closed
 
-  accepted_frame : (seat k : ℕ) (body : List ℕ) (r : Reply) → Accepted r ≡ verdict (past o es) seat (event.Frame k body) → (b : Bool) → (k == l) ≡ b → cond b (frame_owes (past o es) l body (awaits l es)) [] ≡ []
+  accepted_frame : (seat k : ℕ) (body : List ℕ) (r : Reply) → Accepted r ≡ verdict (past o es) seat (Event.Frame k body) → (b : Bool) → (k == l) ≡ b → cond b (frame_owes (past o es) l body (awaits l es)) [] ≡ []
   accepted_frame seat k body r q false m = refl
-  accepted_frame seat k body r q true m = lie (sym (subst (λ j. is_open j es ≡ true) (eqb-true k l m) (frame_fits o es seat k body (accepted (past o es) seat (event.Frame k body) r q).0).0) ∙ closed)
+  accepted_frame seat k body r q true m = lie (sym (subst (λ j. is_open j es ≡ true) (eqb-true k l m) (frame_fits o es seat k body (accepted (past o es) seat (Event.Frame k body) r q).0).0) ∙ closed)
 
-  refused_frame : (seat k : ℕ) (body : List ℕ) (r : Rule) → Refused r ≡ verdict (past o es) seat (event.Frame k body) → (b : Bool) → (k == l) ≡ b → cond b (refusal_owes r) [] ≡ []
+  refused_frame : (seat k : ℕ) (body : List ℕ) (r : Rule) → Refused r ≡ verdict (past o es) seat (Event.Frame k body) → (b : Bool) → (k == l) ≡ b → cond b (refusal_owes r) [] ≡ []
   refused_frame seat k body r q false m = refl
-  refused_frame seat k body r q true m = ap refusal (q ∙ ap (λ b. cond (is_full (past o es)) (Refused rule.EntriesFull) (judged (past o es) seat (event.Frame k body) (first_broken (cond b (frame_checks (past o es) k body (awaits k es)) (always rule.NoSuchLink)))))
+  refused_frame seat k body r q true m = ap refusal (q ∙ ap (λ b. cond (is_full (past o es)) (Refused Rule.EntriesFull) (judged (past o es) seat (Event.Frame k body) (first_broken (cond b (frame_checks (past o es) k body (awaits k es)) (always Rule.NoSuchLink)))))
       (ap (λ j. is_open j es) (eqb-true k l m) ∙ closed)) ∙ by (is_full (past o es))
     where
-      by : (b : Bool) → refusal (cond b (Refused rule.EntriesFull) (Refused rule.NoSuchLink)) ≡ []
+      by : (b : Bool) → refusal (cond b (Refused Rule.EntriesFull) (Refused Rule.NoSuchLink)) ≡ []
       by true = refl
       by false = refl
 
   pub unowed : (e : Entry) (ev : Event) (v : Verdict) → v ≡ verdict (past o es) e.seat ev → is_opened_by l (but e ev v) ≡ false → owed (past o es) l e.number ev v ≡ []
-  unowed e (event.StartScope s) (Accepted r) q other = unseen (said.Discover s)
-  unowed e (event.StopScope s) (Accepted r) q other = unseen (said.Down s)
-  unowed e (event.Exit p) (Accepted r) q other = all_untold (λ s. said.Leave s) (λ s. filter (λ w. same_pid w.pid p) (local_rows (past o es) s)) (running_scopes (past o es))
-  unowed e (event.Join s g ps) (Accepted r) q other = untold s (said.Join s) (map (row g) (listing pid_cmp (λ p. mentions p ps) ps))
-  unowed e (event.Leave s g ps) (Accepted r) q other = untold s (said.Leave s) (map (row g) (listing pid_cmp (λ p. min (mentions p ps) (own (past o es) s g p)) ps))
-  unowed e (event.Dial n c) (Accepted r) q other = ap (λ b. cond b (own_name_frame (past o es) ∷ []) []) other
-  unowed e (event.Frame k body) (Accepted r) q other = accepted_frame e.seat k body r q (k == l) refl
-  unowed e (event.Frame k body) (Refused r) q other = refused_frame e.seat k body r q (k == l) refl
+  unowed e (Event.StartScope s) (Accepted r) q other = unseen (Message.Discover s)
+  unowed e (Event.StopScope s) (Accepted r) q other = unseen (Message.Down s)
+  unowed e (Event.Exit p) (Accepted r) q other = all_untold (λ s. Message.Leave s) (λ s. filter (λ w. same_pid w.pid p) (local_rows (past o es) s)) (running_scopes (past o es))
+  unowed e (Event.Join s g ps) (Accepted r) q other = untold s (Message.Join s) (map (row g) (listing pid_cmp (λ p. mentions p ps) ps))
+  unowed e (Event.Leave s g ps) (Accepted r) q other = untold s (Message.Leave s) (map (row g) (listing pid_cmp (λ p. min (mentions p ps) (own (past o es) s g p)) ps))
+  unowed e (Event.Dial n c) (Accepted r) q other = ap (λ b. cond b (own_name_frame (past o es) ∷ []) []) other
+  unowed e (Event.Frame k body) (Accepted r) q other = accepted_frame e.seat k body r q (k == l) refl
+  unowed e (Event.Frame k body) (Refused r) q other = refused_frame e.seat k body r q (k == l) refl
   unowed e ev v q other = refl
 
 -- ---- a link with frames that wait was opened
@@ -112,9 +91,9 @@ unopened_waiting o (e ∷ es) legal l none = by_event e.event e.verdict legal.0.
 
     by_event : (ev : Event) (v : Verdict) → v ≡ verdict (past o es) e.seat ev → (opened l es ≡ None → waiting_in o l es ≡ []) → opened l (but e ev v ∷ es) ≡ None → waiting_in o l (but e ev v ∷ es) ≡ []
     by_event ev (Refused r) q so_far n = quiet ev (Refused r) q so_far refl n
-    by_event event.Restart (Accepted r) q so_far n = refl
-    by_event (event.Opened c) (Accepted r) q so_far n = (let was = not_now (record { start = ByPeer c; before = es }) (e.number == l) n in quiet (event.Opened c) (Accepted r) q so_far was.0 was.1)
-    by_event (event.Dial m c) (Accepted r) q so_far n = (let was = not_now (record { start = ByDial m c; before = es }) (e.number == l) n in quiet (event.Dial m c) (Accepted r) q so_far was.0 was.1)
+    by_event Event.Restart (Accepted r) q so_far n = refl
+    by_event (Event.Opened c) (Accepted r) q so_far n = (let was = not_now (record { start = ByPeer c; before = es }) (e.number == l) n in quiet (Event.Opened c) (Accepted r) q so_far was.0 was.1)
+    by_event (Event.Dial m c) (Accepted r) q so_far n = (let was = not_now (record { start = ByDial m c; before = es }) (e.number == l) n in quiet (Event.Dial m c) (Accepted r) q so_far was.0 was.1)
     by_event ev (Accepted r) q so_far n = quiet ev (Accepted r) q so_far refl n
 
 -- ---- the links of a history
@@ -222,9 +201,9 @@ below o (e ∷ es) legal = by_event e.event e.verdict (below o es legal.1)
     by_event : (ev : Event) (v : Verdict) → (list_all (λ x. nat_le x (length es)) (links es) ≡ true) × Falls (links es)
         → (list_all (λ x. nat_le x (length (e ∷ es))) (links (but e ev v ∷ es)) ≡ true) × Falls (links (but e ev v ∷ es))
     by_event ev (Refused r) a = (older a.0, a.1)
-    by_event event.Restart (Accepted r) a = (refl, tt)
-    by_event (event.Opened c) (Accepted r) a = newer a
-    by_event (event.Dial n c) (Accepted r) a = newer a
+    by_event Event.Restart (Accepted r) a = (refl, tt)
+    by_event (Event.Opened c) (Accepted r) a = newer a
+    by_event (Event.Dial n c) (Accepted r) a = newer a
     by_event ev (Accepted r) a = (older a.0, a.1)
 
 pub links_below : (h : History) → IsLegal h → list_all (λ x. nat_le x (length h.entries)) (links h.entries) ≡ true

@@ -1,3 +1,4 @@
+pub mod Words
 pub mod Lines
 mod Played
 pub mod Accepted

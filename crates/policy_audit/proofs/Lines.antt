@@ -1,16 +1,6 @@
 -- Scripts as lines: who asks for what, and the verdict that is wanted.
-use Rattle.std.specs.Prelude.{ℕ, zero, suc, ◌+◌, ◌-◌, ◌*◌, Bool, cond, true, false, nat_le, List, [], ◌∷◌, ◌++◌, map, codes}
-use Rattle.dist_types.specs.declared.pid.Pid.{Pid}
-use Rattle.policy_audit.specs.declared.event.Event.{Event}
-use Rattle.policy_audit.specs.declared.event.Event.TheVariants as event
-use Rattle.policy_audit.specs.declared.reply.Reply.{Reply}
-use Rattle.policy_audit.specs.declared.reply.Reply.TheVariants as reply
-use Rattle.policy_audit.specs.declared.rule.Rule.{Rule}
-use Rattle.policy_audit.specs.declared.entry.Verdict.{Verdict}
-use Rattle.policy_audit.specs.declared.entry.Verdict.TheVariants.{Accepted, Refused}
-use Rattle.policy_audit.specs.OutFrame.{OutFrame}
-use Rattle.policy_audit.specs.History.{History, past}
-use Rattle.policy_audit.specs.Scripts.{Call}
+use Rattle.policy_audit.proofs.Words.{Bool, List, [], codes, cond, false, map, nat_le, suc, true, zero, ℕ, ◌*◌, ◌++◌, ◌+◌, ◌-◌, ◌∷◌, Pid}
+use Rattle.policy_audit.proofs.Words.{cookie, History, creation, past, OutFrame, Call, Verdict, Accepted, Refused, Event, Reply, Rule}
 
 pub record Line : Type 0 where
   pub seat : ℕ
@@ -24,13 +14,13 @@ abbrev pub gives : Event → Reply → Line
 gives e r = by 0 e (Accepted r)
 
 abbrev pub done : Event → Line
-done e = gives e reply.Done
+done e = gives e Reply.Done
 
 abbrev pub breaks : Event → Rule → Line
 breaks e r = by 0 e (Refused r)
 
 abbrev pub takes : ℕ → List OutFrame → Line
-takes l frames = gives (event.Take l) (reply.Out frames)
+takes l frames = gives (Event.Take l) (Reply.Out frames)
 
 abbrev pub calls : List Line → List Call
 calls lines = map (λ line. record { seat = line.seat; event = line.event }) lines
@@ -66,21 +56,21 @@ message text = record { wide = true; body = hex text }
 
 -- a frame that came on link l, in hex
 abbrev pub sent : ℕ → List ℕ → Event
-sent l text = event.Frame l (hex text)
+sent l text = Event.Frame l (hex text)
 
 -- links from number l on are opened
 abbrev pub openings : ℕ → ℕ → List Line
 openings zero l = []
-openings (suc count) l = gives (event.Opened 1) (reply.Link l) ∷ openings count (l + 1)
+openings (suc count) l = gives (Event.Opened 1) (Reply.Link l) ∷ openings count (l + 1)
 
 -- link l is opened, and a@h names itself on it
 abbrev pub a_named : ℕ → List Line
-a_named l = gives (event.Opened 123) (reply.Link l) ∷ done (sent l (codes "4e0000000001000001000000050003614068")) ∷ []
+a_named l = gives (Event.Opened 123) (Reply.Link l) ∷ done (sent l (codes "4e0000000001000001000000050003614068")) ∷ []
 
 -- link l to a@h is up, and its frames are taken
 abbrev pub a_up : ℕ → List Line
 a_up l =
     a_named l
     ++ takes l (frame (codes "736f6b") ∷ frame (codes "4e00000000010000010000007b000000040003624068") ∷ [])
-    ∷ gives (sent l (codes "7200000001482c811da5d5b4bc6d497ffa98491e38")) (reply.Up (codes "a@h") 5 true)
+    ∷ gives (sent l (codes "7200000001482c811da5d5b4bc6d497ffa98491e38")) (Reply.Up (codes "a@h") 5 true)
     ∷ takes l (frame (codes "617c6a180b36896a0a8c02787eeafb0e4c") ∷ []) ∷ []

@@ -1,24 +1,10 @@
 -- Which links are open and kept, and which frames wait for them, after each event that ends links or owes frames.
-use Rattle.std.specs.Prelude.{◌≡◌, ℕ, ◌==◌, Bool, true, false, cond, ◌&&◌, ◌||◌, not, List, [], ◌∷◌, ◌++◌, Option, Some, None}
-use Rattle.std.proofs.Common.{refl, ap, ◌∙◌, sym, subst}
-use Rattle.std.proofs.lemmas.Bool.{eqb-true, eq-eqb}
-use Rattle.std.proofs.lemmas.List.{append-nil}
-use Rattle.std.specs.Option.{option_map_or}
-use Rattle.dist_types.specs.Listing.{same}
-use Rattle.dist_types.specs.Difference.{is_empty}
-use Rattle.dist_types.proofs.Orders.{same_decides}
-use Rattle.handshake_frames.specs.Frame.{Name}
-use Rattle.handshake_frames.specs.Reading.{name_frame}
-use Rattle.policy_audit.specs.declared.event.Event.TheVariants as event
-use Rattle.policy_audit.specs.declared.rule.Rule.{Rule}
-use Rattle.policy_audit.specs.declared.entry.Verdict.TheVariants.{Refused}
-use Rattle.policy_audit.specs.declared.entry.Entry.{Entry}
-use Rattle.policy_audit.specs.OutFrame.{OutFrame}
-use Rattle.policy_audit.specs.History.{History, is_accepted}
-use Rattle.policy_audit.specs.Sides.{AwaitName, AwaitMessage, awaits, is_last, is_name_up, is_peer, is_whole, peer_of, present_link}
-use Rattle.policy_audit.specs.Links.{frame_ends, gives_up, is_open, is_unfinished_dial, is_up, named_by, share_peer}
-use Rattle.policy_audit.specs.Owed.{frame_owes, is_kept, refusal_owes, waiting, welcome}
-use Rattle.policy_audit.specs.Policy.{IsAnswered, IsLegal, with_entry}
+use Rattle.policy_audit.proofs.Words.{ap, refl, subst, sym, ◌∙◌, eq-eqb, eqb-true, append-nil, option_map_or, Bool, List, None, Option}
+use Rattle.policy_audit.proofs.Words.{Some, [], cond, false, not, true, ℕ, ◌&&◌, ◌++◌, ◌==◌, ◌||◌, ◌∷◌, ◌≡◌, same_decides, is_empty, same}
+use Rattle.policy_audit.proofs.Words.{Name, name_frame, History, is_accepted, frame_ends, gives_up, is_open, is_unfinished_dial}
+use Rattle.policy_audit.proofs.Words.{is_up, named_by, share_peer, OutFrame, frame_owes, is_kept, refusal_owes, waiting, welcome, own}
+use Rattle.policy_audit.proofs.Words.{IsAnswered, IsLegal, with_entry, AwaitMessage, AwaitName, awaits, is_last, is_name_up, is_peer}
+use Rattle.policy_audit.proofs.Words.{is_whole, peer_of, present_link, Entry, Refused, Event, Rule}
 use Rattle.policy_audit.proofs.Accepted.{lie}
 use Rattle.policy_audit.proofs.Walked.{but}
 use Rattle.policy_audit.proofs.UpLinks.{agrees, and_both, and_false, and_left, and_right, number_of}
@@ -104,10 +90,10 @@ module _ (h : History) (e : Entry) (yes : is_accepted e.verdict ≡ true) where
   k = with_entry h e
 
   -- a link that is lost
-  pub lost_links : (j : ℕ) → e.event ≡ event.Lost j → (l : ℕ) → IsLinkNow k l (is_open l es && not (j == l)) (cond (j == l) [] (waiting h l)) (is_kept h l && not (j == l))
+  pub lost_links : (j : ℕ) → e.event ≡ Event.Lost j → (l : ℕ) → IsLinkNow k l (is_open l es && not (j == l)) (cond (j == l) [] (waiting h l)) (is_kept h l && not (j == l))
   lost_links j is l = now h k l (is_open l es && not (j == l)) (cond (j == l) [] (waiting h l)) (is_kept h l && not (j == l))
-      (by_accepted e (event.Lost j) (λ x. is_open l (x ∷ es) ≡ (is_open l es && not (j == l))) is yes (λ r. turn (j == l) (is_open l es)))
-      (by_accepted e (event.Lost j) (λ x. waiting (with_entry h x) l ≡ cond (j == l) [] (waiting h l)) is yes (λ r. dropped (j == l) (is_open l es)))
+      (by_accepted e (Event.Lost j) (λ x. is_open l (x ∷ es) ≡ (is_open l es && not (j == l))) is yes (λ r. turn (j == l) (is_open l es)))
+      (by_accepted e (Event.Lost j) (λ x. waiting (with_entry h x) l ≡ cond (j == l) [] (waiting h l)) is yes (λ r. dropped (j == l) (is_open l es)))
       (kept_unless (j == l) (is_open l es) (waiting h l))
     where
       dropped : (m o : Bool) → cond (m || (m && o)) [] (waiting h l ++ []) ≡ cond m [] (waiting h l)
@@ -115,10 +101,10 @@ module _ (h : History) (e : Entry) (yes : is_accepted e.verdict ≡ true) where
       dropped false o = append-nil (waiting h l)
 
   -- a link whose frames are taken
-  pub taken_links : (j : ℕ) → e.event ≡ event.Take j → (l : ℕ) → IsLinkNow k l (is_open l es) (cond (j == l) [] (waiting h l)) (is_kept h l && not (j == l && not (is_open l es)))
+  pub taken_links : (j : ℕ) → e.event ≡ Event.Take j → (l : ℕ) → IsLinkNow k l (is_open l es) (cond (j == l) [] (waiting h l)) (is_kept h l && not (j == l && not (is_open l es)))
   taken_links j is l = now h k l (is_open l es) (cond (j == l) [] (waiting h l)) (is_kept h l && not (j == l && not (is_open l es)))
-      (by_accepted e (event.Take j) (λ x. is_open l (x ∷ es) ≡ is_open l es) is yes (λ r. refl))
-      (by_accepted e (event.Take j) (λ x. waiting (with_entry h x) l ≡ cond (j == l) [] (waiting h l)) is yes (λ r. dropped (j == l)))
+      (by_accepted e (Event.Take j) (λ x. is_open l (x ∷ es) ≡ is_open l es) is yes (λ r. refl))
+      (by_accepted e (Event.Take j) (λ x. waiting (with_entry h x) l ≡ cond (j == l) [] (waiting h l)) is yes (λ r. dropped (j == l)))
       (kept_out (j == l) (is_open l es) (waiting h l))
     where
       dropped : (m : Bool) → cond (m || false) [] (waiting h l ++ []) ≡ cond m [] (waiting h l)
@@ -126,7 +112,7 @@ module _ (h : History) (e : Entry) (yes : is_accepted e.verdict ≡ true) where
       dropped false = append-nil (waiting h l)
 
   -- the present link of a node that is disconnected
-  module _ (legal : IsLegal h) (n : List ℕ) (j : ℕ) (here : present_link n es ≡ Some j) (is : e.event ≡ event.Disconnect n) where
+  module _ (legal : IsLegal h) (n : List ℕ) (j : ℕ) (here : present_link n es ≡ Some j) (is : e.event ≡ Event.Disconnect n) where
     its : (is_up j es ≡ true) × (peer_of j es ≡ Some n)
     its = (agrees h.opening es legal n j).0 here
 
@@ -158,8 +144,8 @@ module _ (h : History) (e : Entry) (yes : is_accepted e.verdict ≡ true) where
 
     pub disconnected_links : (l : ℕ) → IsLinkNow k l (is_open l es && not (j == l)) (cond (j == l) [] (waiting h l)) (is_kept h l && not (j == l))
     disconnected_links l = now h k l (is_open l es && not (j == l)) (cond (j == l) [] (waiting h l)) (is_kept h l && not (j == l))
-        (by_accepted e (event.Disconnect n) (λ x. is_open l (x ∷ es) ≡ (is_open l es && not (j == l))) is yes (λ r. turn (is_whole l es && is_peer n l es) (is_open l es) ∙ opens (is_open l es) refl))
-        (by_accepted e (event.Disconnect n) (λ x. waiting (with_entry h x) l ≡ cond (j == l) [] (waiting h l)) is yes (λ r. ap (λ b. cond b [] (waiting h l ++ [])) (drop (is_open l es) refl) ∙ wait_on (j == l) (waiting h l)))
+        (by_accepted e (Event.Disconnect n) (λ x. is_open l (x ∷ es) ≡ (is_open l es && not (j == l))) is yes (λ r. turn (is_whole l es && is_peer n l es) (is_open l es) ∙ opens (is_open l es) refl))
+        (by_accepted e (Event.Disconnect n) (λ x. waiting (with_entry h x) l ≡ cond (j == l) [] (waiting h l)) is yes (λ r. ap (λ b. cond b [] (waiting h l ++ [])) (drop (is_open l es) refl) ∙ wait_on (j == l) (waiting h l)))
         (kept_unless (j == l) (is_open l es) (waiting h l))
       where
         opens : (o : Bool) → is_open l es ≡ o → (o && not (is_whole l es && is_peer n l es)) ≡ (o && not (j == l))
@@ -177,15 +163,15 @@ module _ (h : History) (e : Entry) (yes : is_accepted e.verdict ≡ true) where
 -- ---- a refused frame
 
 -- it ends its own link, where that is unfinished
-pub refused_links : (h : History) (e : Entry) (j : ℕ) (body : List ℕ) (r : Rule) → e.event ≡ event.Frame j body → e.verdict ≡ Refused r → is_whole j h.entries ≡ false → (l : ℕ)
+pub refused_links : (h : History) (e : Entry) (j : ℕ) (body : List ℕ) (r : Rule) → e.event ≡ Event.Frame j body → e.verdict ≡ Refused r → is_whole j h.entries ≡ false → (l : ℕ)
     → IsLinkNow (with_entry h e) l (is_open l h.entries && not (j == l)) (cond (j == l) (waiting h l ++ refusal_owes r) (waiting h l)) (cond (j == l) (not (is_empty (waiting h l ++ refusal_owes r))) (is_kept h l))
 refused_links h e j body r is no_more unwhole l = now h (with_entry h e) l (is_open l h.entries && not (j == l)) (cond (j == l) (waiting h l ++ refusal_owes r) (waiting h l)) (cond (j == l) (not (is_empty (waiting h l ++ refusal_owes r))) (is_kept h l))
     (by_refused (λ x. is_open l (x ∷ h.entries) ≡ (is_open l h.entries && not (j == l))) (refused_open (j == l) (is_whole l h.entries) (is_open l h.entries) (λ m. sym (ap (λ x. is_whole x h.entries) (eqb-true j l m)) ∙ unwhole)))
     (by_refused (λ x. waiting (with_entry h x) l ≡ cond (j == l) (waiting h l ++ refusal_owes r) (waiting h l)) (owed_on (j == l) (waiting h l) (refusal_owes r)))
     (kept_refused (j == l) (is_open l h.entries) (waiting h l) (refusal_owes r))
   where
-    by_refused : (P : Entry → Type 0) → P (but e (event.Frame j body) (Refused r)) → P e
-    by_refused P p = subst (λ ev. P (but e ev e.verdict)) (sym is) (subst (λ v. P (but e (event.Frame j body) v)) (sym no_more) p)
+    by_refused : (P : Entry → Type 0) → P (but e (Event.Frame j body) (Refused r)) → P e
+    by_refused P p = subst (λ ev. P (but e ev e.verdict)) (sym is) (subst (λ v. P (but e (Event.Frame j body) v)) (sym no_more) p)
 
 -- ---- accepted frames
 
@@ -197,13 +183,13 @@ given_up_by j f es l = not (j == l) && not (is_name_up f.name es) && is_unfinish
 abbrev pub replaced_by : ℕ → List ℕ → List Entry → ℕ → Bool
 replaced_by j n es l = not (j == l) && is_whole l es && is_peer n l es
 
-module _ (h : History) (e : Entry) (made : IsAnswered h e) (yes : is_accepted e.verdict ≡ true) (j : ℕ) (body : List ℕ) (is : e.event ≡ event.Frame j body) where
+module _ (h : History) (e : Entry) (made : IsAnswered h e) (yes : is_accepted e.verdict ≡ true) (j : ℕ) (body : List ℕ) (is : e.event ≡ Event.Frame j body) where
   -- the links that it ends lose their frames, and its own is owed more
   framed : (gone : Bool) (more : List OutFrame) (l : ℕ) → (not (j == l) && frame_ends j body l h.entries) ≡ gone → ((j == l) ≡ true → frame_owes h l body (awaits l h.entries) ≡ more)
       → IsLinkNow (with_entry h e) l (is_open l h.entries && not gone) (cond (is_open l h.entries && gone) [] (cond (j == l) (waiting h l ++ more) (waiting h l))) (is_kept h l && not (is_open l h.entries && gone))
   framed gone more l ending owes = now h (with_entry h e) l (is_open l h.entries && not gone) (cond (is_open l h.entries && gone) [] (cond (j == l) (waiting h l ++ more) (waiting h l))) (is_kept h l && not (is_open l h.entries && gone))
-      (by_accepted e (event.Frame j body) (λ x. is_open l (x ∷ h.entries) ≡ (is_open l h.entries && not gone)) is yes (λ r. ap (λ b. not b && is_open l h.entries) ending ∙ turn gone (is_open l h.entries)))
-      (by_accepted e (event.Frame j body) (λ x. waiting (with_entry h x) l ≡ cond (is_open l h.entries && gone) [] (cond (j == l) (waiting h l ++ more) (waiting h l))) is yes (λ r.
+      (by_accepted e (Event.Frame j body) (λ x. is_open l (x ∷ h.entries) ≡ (is_open l h.entries && not gone)) is yes (λ r. ap (λ b. not b && is_open l h.entries) ending ∙ turn gone (is_open l h.entries)))
+      (by_accepted e (Event.Frame j body) (λ x. waiting (with_entry h x) l ≡ cond (is_open l h.entries && gone) [] (cond (j == l) (waiting h l ++ more) (waiting h l))) is yes (λ r.
       (λ i. cond (ending i && is_open l h.entries) [] (waiting h l ++ owed (j == l) refl i)) ∙ wait_framed gone (is_open l h.entries) (j == l) (waiting h l) more))
       (kept_framed gone (is_open l h.entries) (j == l) (waiting h l) more (λ m. subst (λ x. is_open x h.entries ≡ true) (eqb-true j l m) (frame_open h e made yes j body is)))
     where

@@ -1,21 +1,11 @@
 -- Lists in answers are the listings of their counts.
-use Rattle.std.specs.Prelude.{◌≡◌, ℕ, suc, ◌+◌, ◌<◌, nat_lt, Bool, true, false, cond, ◌&&◌, ◌||◌, not, List, [], ◌∷◌, ◌++◌, map}
-use Rattle.std.proofs.Common.{refl, ap, ◌∙◌, sym, subst, arith}
-use Rattle.std.proofs.lemmas.Bool.{ltb-true, ltb-false}
-use Rattle.std.proofs.lemmas.Map.Lookups.{exact_bytes}
-use Rattle.std.specs.List.{AllByRecursion, flat_map, filter}
-use Rattle.std.specs.declared.cmp.Ordering.{Ordering}
-use Rattle.std.specs.declared.cmp.Ordering.TheVariants.{Less}
-use Rattle.std.specs.Ordering.{is_gt, ordering_then}
-use Rattle.dist_types.specs.declared.pid.Pid.{Pid}
-use Rattle.dist_types.specs.declared.row.Row.{Row}
-use Rattle.dist_types.specs.Order.{text_cmp, pid_cmp, row_cmp}
-use Rattle.dist_types.specs.Listing.{same, same_pid, same_row, total, mentions, occurrences, stands_in, is_among, ascending, listing, Rises, Ascends, IsListing, IsPidListing, IsRowListing, IsGroupListing}
-use Rattle.dist_types.specs.Difference.{is_empty}
-use Rattle.dist_types.proofs.Orders.{texts_total, pids_total, exact_pids, same_decides, same_pid_decides, in_one_group}
-use Rattle.dist_types.proofs.Totals.{how_many_append}
-use Rattle.dist_types.proofs.Listings.{all_append, ascending_rises, ascending_stands, listing_counts, one_of_many}
-use Rattle.policy_audit.specs.Contents.{row}
+use Rattle.policy_audit.proofs.Words.{ap, arith, refl, subst, sym, ◌∙◌, ltb-false, ltb-true, exact_bytes, AllByRecursion, filter, flat_map}
+use Rattle.policy_audit.proofs.Words.{is_gt, ordering_then, Bool, List, [], cond, false, map, nat_lt, not, suc, true, ℕ, ◌&&◌, ◌++◌, ◌+◌}
+use Rattle.policy_audit.proofs.Words.{◌<◌, ◌||◌, ◌∷◌, ◌≡◌, Ordering, Less, all_append, ascending_rises, ascending_stands, listing_counts}
+use Rattle.policy_audit.proofs.Words.{one_of_many, exact_pids, in_one_group, pids_total, same_decides, same_pid_decides, texts_total}
+use Rattle.policy_audit.proofs.Words.{how_many_append, is_empty, Ascends, IsGroupListing, IsListing, IsPidListing, IsRowListing, Rises}
+use Rattle.policy_audit.proofs.Words.{ascending, is_among, listing, mentions, occurrences, same, same_pid, same_row, stands_in, total}
+use Rattle.policy_audit.proofs.Words.{pid_cmp, row_cmp, text_cmp, Pid, Row, row}
 use Rattle.policy_audit.proofs.Named.{stands_occurs, or_true}
 
 -- ---- what a filter leaves

@@ -1,21 +1,9 @@
 -- Which own processes live, after each Spawn, Exit and Restart.
-use Rattle.std.specs.Prelude.{◌≡◌, ℕ, suc, ◌+◌, ◌<◌, ◌≤◌, ◌==◌, nat_eq, nat_le, Bool, true, false, cond, ◌&&◌, ◌||◌, not, List, [], ◌∷◌}
-use Rattle.std.proofs.Common.{refl, ap, ◌∙◌, sym, arith}
-use Rattle.std.proofs.lemmas.Bool.{eqb-true, eqb-false, eq-eqb, le-leb, leb-true}
-use Rattle.std.specs.List.{list_any}
-use Rattle.dist_types.specs.declared.pid.Pid.{Pid}
-use Rattle.dist_types.specs.Listing.{how_many, same, same_pid}
-use Rattle.dist_types.proofs.Orders.{same_decides, same_pid_decides}
-use Rattle.policy_audit.specs.declared.opening.Opening.{Opening}
-use Rattle.policy_audit.specs.declared.event.Event.{Event}
-use Rattle.policy_audit.specs.declared.event.Event.TheVariants as event
-use Rattle.policy_audit.specs.declared.entry.Verdict.{Verdict}
-use Rattle.policy_audit.specs.declared.entry.Verdict.TheVariants.{Accepted, Refused}
-use Rattle.policy_audit.specs.declared.entry.Entry.{Entry}
-use Rattle.policy_audit.specs.History.{History, past, creation, events, is_accepted, is_restart}
-use Rattle.policy_audit.specs.Own.{is_exit, is_exit_of, is_local, is_spawn, lives, spawned}
-use Rattle.policy_audit.specs.Checks.{checks}
-use Rattle.policy_audit.specs.Policy.{IsAnswered, IsLegal, IsLegalIn, verdict, with_entry}
+use Rattle.policy_audit.proofs.Words.{ap, arith, refl, sym, ◌∙◌, eq-eqb, eqb-false, eqb-true, le-leb, leb-true, list_any, Bool, List, []}
+use Rattle.policy_audit.proofs.Words.{cond, false, nat_eq, nat_le, not, suc, true, ℕ, ◌&&◌, ◌+◌, ◌<◌, ◌==◌, ◌||◌, ◌∷◌, ◌≡◌, ◌≤◌}
+use Rattle.policy_audit.proofs.Words.{same_decides, same_pid_decides, how_many, same, same_pid, Pid, checks, History, creation, events}
+use Rattle.policy_audit.proofs.Words.{is_accepted, is_restart, past, is_exit, is_exit_of, is_local, is_spawn, lives, spawned, IsAnswered}
+use Rattle.policy_audit.proofs.Words.{IsLegal, IsLegalIn, verdict, with_entry, Entry, Verdict, Accepted, Refused, Event, Opening}
 use Rattle.policy_audit.proofs.Accepted.{accepted, all_hold, lie, unbroken}
 use Rattle.policy_audit.proofs.Walked.{but}
 use Rattle.policy_audit.proofs.UpLinks.{and_both, and_false, and_left, and_right}
@@ -71,10 +59,10 @@ unended o (e ∷ es) legal p above = by_event e.event e.verdict legal.0.verdict 
     by_event : (ev : Event) (v : Verdict) → v ≡ verdict (past o es) e.seat ev → (spawned (past o es) < p.number → list_any (is_exit_of p) (events es) ≡ false)
         → spawned (past o (but e ev v ∷ es)) < p.number → list_any (is_exit_of p) (events (but e ev v ∷ es)) ≡ false
     by_event ev (Refused r) q so_far b = so_far b
-    by_event event.Restart (Accepted r) q so_far b = refl
-    by_event event.Spawn (Accepted r) q so_far b = so_far (omega (arith, b))
-    by_event (event.Exit x) (Accepted r) q so_far b =
-        let lived = unbroken (lives (past o es) x) (all_hold (checks (past o es) e.seat (event.Exit x)) (accepted (past o es) e.seat (event.Exit x) r q).0).1.0 in
+    by_event Event.Restart (Accepted r) q so_far b = refl
+    by_event Event.Spawn (Accepted r) q so_far b = so_far (omega (arith, b))
+    by_event (Event.Exit x) (Accepted r) q so_far b =
+        let lived = unbroken (lives (past o es) x) (all_hold (checks (past o es) e.seat (Event.Exit x)) (accepted (past o es) e.seat (Event.Exit x) r q).0).1.0 in
         ap (λ c. c || list_any (is_exit_of p) (events es)) (ended x lived b) ∙ so_far b
     by_event ev (Accepted r) q so_far b = so_far b
 
@@ -109,33 +97,33 @@ module _ (h : History) (e : Entry) (made : IsAnswered h e) (yes : is_accepted e.
 
   -- ---- a Spawn
 
-  pub spawned_more : e.event ≡ event.Spawn → spawned k ≡ spawned h + 1
-  spawned_more is = by_accepted e event.Spawn (λ x. spawned (with_entry h x) ≡ spawned h + 1) is yes (λ r. omega arith)
+  pub spawned_more : e.event ≡ Event.Spawn → spawned k ≡ spawned h + 1
+  spawned_more is = by_accepted e Event.Spawn (λ x. spawned (with_entry h x) ≡ spawned h + 1) is yes (λ r. omega arith)
 
-  pub exits_spawned : e.event ≡ event.Spawn → how_many is_exit (events k.entries) ≡ how_many is_exit (events h.entries)
-  exits_spawned is = by_accepted e event.Spawn (λ x. how_many is_exit (events (x ∷ h.entries)) ≡ how_many is_exit (events h.entries)) is yes (λ r. refl)
+  pub exits_spawned : e.event ≡ Event.Spawn → how_many is_exit (events k.entries) ≡ how_many is_exit (events h.entries)
+  exits_spawned is = by_accepted e Event.Spawn (λ x. how_many is_exit (events (x ∷ h.entries)) ≡ how_many is_exit (events h.entries)) is yes (λ r. refl)
 
-  pub lives_spawned : IsLegal h → e.event ≡ event.Spawn → (n : ℕ) → lives k (own_pid h n) ≡ cond (nat_eq (spawned h + 1) n) true (lives h (own_pid h n))
-  lives_spawned legal is n = by_accepted e event.Spawn (λ x. lives (with_entry h x) (own_pid h n) ≡ cond (nat_eq (spawned h + 1) n) true (lives h (own_pid h n))) is yes (λ r.
+  pub lives_spawned : IsLegal h → e.event ≡ Event.Spawn → (n : ℕ) → lives k (own_pid h n) ≡ cond (nat_eq (spawned h + 1) n) true (lives h (own_pid h n))
+  lives_spawned legal is n = by_accepted e Event.Spawn (λ x. lives (with_entry h x) (own_pid h n) ≡ cond (nat_eq (spawned h + 1) n) true (lives h (own_pid h n))) is yes (λ r.
       born_more (is_local h (own_pid h n)) (list_any (is_exit_of (own_pid h n)) (events h.entries)) n (spawned h) (own_local h n) (unended h.opening h.entries legal (own_pid h n)))
 
   -- ---- an Exit
 
-  module _ (p : Pid) (is : e.event ≡ event.Exit p) where
+  module _ (p : Pid) (is : e.event ≡ Event.Exit p) where
     pub exited_local : is_local h p ≡ true
-    exited_local = by_made h e (event.Exit p) (λ x. is_local h p ≡ true) made yes is (λ r q. unbroken (is_local h p) (all_hold (checks h e.seat (event.Exit p)) (accepted h e.seat (event.Exit p) r q).0).0)
+    exited_local = by_made h e (Event.Exit p) (λ x. is_local h p ≡ true) made yes is (λ r q. unbroken (is_local h p) (all_hold (checks h e.seat (Event.Exit p)) (accepted h e.seat (Event.Exit p) r q).0).0)
 
     pub exited_lived : lives h p ≡ true
-    exited_lived = by_made h e (event.Exit p) (λ x. lives h p ≡ true) made yes is (λ r q. unbroken (lives h p) (all_hold (checks h e.seat (event.Exit p)) (accepted h e.seat (event.Exit p) r q).0).1.0)
+    exited_lived = by_made h e (Event.Exit p) (λ x. lives h p ≡ true) made yes is (λ r q. unbroken (lives h p) (all_hold (checks h e.seat (Event.Exit p)) (accepted h e.seat (Event.Exit p) r q).0).1.0)
 
     pub spawned_exited : spawned k ≡ spawned h
-    spawned_exited = by_accepted e (event.Exit p) (λ x. spawned (with_entry h x) ≡ spawned h) is yes (λ r. refl)
+    spawned_exited = by_accepted e (Event.Exit p) (λ x. spawned (with_entry h x) ≡ spawned h) is yes (λ r. refl)
 
     pub exits_more : how_many is_exit (events k.entries) ≡ suc (how_many is_exit (events h.entries))
-    exits_more = by_accepted e (event.Exit p) (λ x. how_many is_exit (events (x ∷ h.entries)) ≡ suc (how_many is_exit (events h.entries))) is yes (λ r. refl)
+    exits_more = by_accepted e (Event.Exit p) (λ x. how_many is_exit (events (x ∷ h.entries)) ≡ suc (how_many is_exit (events h.entries))) is yes (λ r. refl)
 
     pub lives_exited : (n : ℕ) → lives k (own_pid h n) ≡ cond (nat_eq p.number n) false (lives h (own_pid h n))
-    lives_exited n = by_accepted e (event.Exit p) (λ x. lives (with_entry h x) (own_pid h n) ≡ cond (nat_eq p.number n) false (lives h (own_pid h n))) is yes (λ r.
+    lives_exited n = by_accepted e (Event.Exit p) (λ x. lives (with_entry h x) (own_pid h n) ≡ cond (nat_eq p.number n) false (lives h (own_pid h n))) is yes (λ r.
         ended_more (is_local h (own_pid h n)) (same_pid p (own_pid h n)) (list_any (is_exit_of (own_pid h n)) (events h.entries)) n (spawned h) ∙ ap (λ b. cond b false (lives h (own_pid h n))) its)
       where
         its : same_pid p (own_pid h n) ≡ nat_eq p.number n
@@ -145,8 +133,8 @@ module _ (h : History) (e : Entry) (made : IsAnswered h e) (yes : is_accepted e.
 
   -- ---- a Restart
 
-  pub lives_restarted : e.event ≡ event.Restart → (p : Pid) → lives k p ≡ false
-  lives_restarted is p = by_accepted e event.Restart (λ x. lives (with_entry h x) p ≡ false) is yes (λ r. nobody (is_local (with_entry h (but e event.Restart (Accepted r))) p) p.number)
+  pub lives_restarted : e.event ≡ Event.Restart → (p : Pid) → lives k p ≡ false
+  lives_restarted is p = by_accepted e Event.Restart (λ x. lives (with_entry h x) p ≡ false) is yes (λ r. nobody (is_local (with_entry h (but e Event.Restart (Accepted r))) p) p.number)
     where
       nobody : (local : Bool) (n : ℕ) → alive local n 0 false ≡ false
       nobody local n = not_true (alive local n 0 false) (λ q. (
@@ -155,11 +143,11 @@ module _ (h : History) (e : Entry) (made : IsAnswered h e) (yes : is_accepted e.
           let below = leb-true n 0 (and_right (local && nat_le 1 n) (nat_le n 0) inside) in
           omega (arith, above, below)))
 
-  pub spawned_restarted : e.event ≡ event.Restart → spawned k ≡ 0
-  spawned_restarted is = by_accepted e event.Restart (λ x. spawned (with_entry h x) ≡ 0) is yes (λ r. refl)
+  pub spawned_restarted : e.event ≡ Event.Restart → spawned k ≡ 0
+  spawned_restarted is = by_accepted e Event.Restart (λ x. spawned (with_entry h x) ≡ 0) is yes (λ r. refl)
 
-  pub exits_restarted : e.event ≡ event.Restart → how_many is_exit (events k.entries) ≡ 0
-  exits_restarted is = by_accepted e event.Restart (λ x. how_many is_exit (events (x ∷ h.entries)) ≡ 0) is yes (λ r. refl)
+  pub exits_restarted : e.event ≡ Event.Restart → how_many is_exit (events k.entries) ≡ 0
+  exits_restarted is = by_accepted e Event.Restart (λ x. how_many is_exit (events (x ∷ h.entries)) ≡ 0) is yes (λ r. refl)
 
 -- ---- every other event
 
@@ -179,7 +167,7 @@ life_left h e q = by e.event e.verdict q
   where
     by : (ev : Event) (v : Verdict) → (is_accepted v && is_of_life ev) ≡ false → IsSameLife h (with_entry h (but e ev v))
     by ev (Refused r) q = record { spawned = refl; exits = refl; creation = refl; lives = λ p. refl }
-    by event.Spawn (Accepted r) q = lie q
-    by (event.Exit p) (Accepted r) q = lie q
-    by event.Restart (Accepted r) q = lie q
+    by Event.Spawn (Accepted r) q = lie q
+    by (Event.Exit p) (Accepted r) q = lie q
+    by Event.Restart (Accepted r) q = lie q
     by ev (Accepted r) q = record { spawned = refl; exits = refl; creation = refl; lives = λ p. refl }

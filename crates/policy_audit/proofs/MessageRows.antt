@@ -1,32 +1,12 @@
 -- How often a process is listed after each message.
-use Rattle.std.specs.Prelude.{◌≡◌, ℕ, ◌+◌, ◌-◌, ◌==◌, Bool, true, false, cond, ◌&&◌, not, List, [], ◌∷◌, ◌++◌, Option, Some, None}
-use Rattle.std.proofs.Common.{refl, ap, ◌∙◌, sym, subst, arith}
-use Rattle.std.proofs.lemmas.Bool.{eq-eqb}
-use Rattle.std.specs.List.{list_all}
-use Rattle.std.specs.Option.{option_map_or, unwrap_or}
-use Rattle.dist_types.specs.declared.pid.Pid.{Pid}
-use Rattle.dist_types.specs.declared.row.Row.{Row}
-use Rattle.dist_types.specs.Listing.{occurrences, same, same_row}
-use Rattle.dist_types.proofs.Orders.{same_decides, same_sym, same_row_decides}
-use Rattle.handshake_frames.specs.Frame.{Name}
-use Rattle.link_frames.specs.declared.message.Message.{Message}
-use Rattle.link_frames.specs.declared.message.Message.TheVariants as said
-use Rattle.policy_audit.specs.declared.reply.Reply.{Reply}
-use Rattle.policy_audit.specs.declared.entry.Verdict.TheVariants.{Accepted}
-use Rattle.policy_audit.specs.declared.entry.Entry.{Entry}
-use Rattle.policy_audit.specs.declared.event.Event.TheVariants as event
-use Rattle.policy_audit.specs.declared.reply.Reply.TheVariants as reply
-use Rattle.policy_audit.specs.declared.rule.Rule.TheVariants as rule
-use Rattle.policy_audit.specs.Sides.{AwaitMessage, Taken, and_frame, awaits, given, is_last, is_peer, is_visible, is_whole, opened, peer_of, present_link, taken}
-use Rattle.policy_audit.specs.History.{History, first_of, is_accepted}
-use Rattle.policy_audit.specs.Policy.{IsAnswered, IsLegal, with_entry}
-use Rattle.policy_audit.specs.Hearing.{Said, Talk, heard, hears, message_taken, rows_of, stated_in, talk, talk_of}
-use Rattle.policy_audit.specs.Checks.{always, first_broken, frame_checks, message_checks, runs}
-use Rattle.policy_audit.specs.Links.{frame_ends, is_open, is_up}
-use Rattle.policy_audit.specs.Effects.{is_about_rows}
-use Rattle.policy_audit.specs.Listed.{is_from, listed, listed_by}
-use Rattle.policy_audit.specs.Own.{is_running, own}
-use Rattle.policy_audit.specs.Contents.{row}
+use Rattle.policy_audit.proofs.Words.{ap, arith, refl, subst, sym, ◌∙◌, eq-eqb, list_all, option_map_or, unwrap_or, Bool, List, None}
+use Rattle.policy_audit.proofs.Words.{Option, Some, [], cond, false, not, true, ℕ, ◌&&◌, ◌++◌, ◌+◌, ◌-◌, ◌==◌, ◌∷◌, ◌≡◌, same_decides}
+use Rattle.policy_audit.proofs.Words.{same_row_decides, same_sym, occurrences, same, same_row, Pid, Row, Name, Message, always}
+use Rattle.policy_audit.proofs.Words.{first_broken, frame_checks, message_checks, runs, row, is_about_rows, Said, Talk, heard, hears}
+use Rattle.policy_audit.proofs.Words.{message_taken, rows_of, stated_in, talk, talk_of, History, first_of, is_accepted, frame_ends, is_open}
+use Rattle.policy_audit.proofs.Words.{is_up, is_from, listed, listed_by, is_running, own, IsAnswered, IsLegal, with_entry, AwaitMessage}
+use Rattle.policy_audit.proofs.Words.{Taken, and_frame, awaits, given, is_last, is_peer, is_visible, is_whole, opened, peer_of}
+use Rattle.policy_audit.proofs.Words.{present_link, taken, Entry, Accepted, Event, Reply, Rule}
 use Rattle.policy_audit.proofs.Accepted.{Hold, accepted, all_hold, lie, open_first, peer_by, unbroken}
 use Rattle.policy_audit.proofs.UpLinks.{agrees, and_both, and_false, and_right, other}
 use Rattle.policy_audit.proofs.Walked.{but, open_opened}
@@ -71,13 +51,13 @@ either : (b : Bool) (x : ℕ) → x ≡ cond b x x
 either true x = refl
 either false x = refl
 
-module _ (h : History) (legal : IsLegal h) (e : Entry) (made : IsAnswered h e) (yes : is_accepted e.verdict ≡ true) (l : ℕ) (body : List ℕ) (is : e.event ≡ event.Frame l body)
+module _ (h : History) (legal : IsLegal h) (e : Entry) (made : IsAnswered h e) (yes : is_accepted e.verdict ≡ true) (l : ℕ) (body : List ℕ) (is : e.event ≡ Event.Frame l body)
     (n : List ℕ) (awaited : awaits l h.entries ≡ AwaitMessage) (of : peer_of l h.entries ≡ Some n) (foreign : same n h.opening.name ≡ false) where
   abbrev es : List Entry
   es = h.entries
 
   abbrev fr : Reply → Entry
-  fr r = but e (event.Frame l body) (Accepted r)
+  fr r = but e (Event.Frame l body) (Accepted r)
 
   module _ (m : Message) (says : message_taken body ≡ Some m) where
     inner : is_last (awaits l es) ≡ false
@@ -86,9 +66,9 @@ module _ (h : History) (legal : IsLegal h) (e : Entry) (made : IsAnswered h e) (
     -- the link is open, and the message breaks no rule
     met : (is_open l es ≡ true) × (first_broken (message_checks h l m) ≡ None)
     met = done_frame h legal e made yes l body is inner (λ x. (is_open l es ≡ true) × (first_broken (message_checks h l m) ≡ None)) (λ q. (
-        let found = open_first (is_open l es) (frame_checks h l body (awaits l es)) (accepted h e.seat (event.Frame l body) reply.Done q).0 in
+        let found = open_first (is_open l es) (frame_checks h l body (awaits l es)) (accepted h e.seat (Event.Frame l body) Reply.Done q).0 in
         let kind = subst (λ a. first_broken (frame_checks h l body a) ≡ None) awaited found.1 in
-        (found.0, subst (λ x. first_broken (option_map_or (message_checks h l) x (always rule.BadFrame)) ≡ None) says kind)))
+        (found.0, subst (λ x. first_broken (option_map_or (message_checks h l) x (always Rule.BadFrame)) ≡ None) says kind)))
 
     whole : is_whole l es ≡ true
     whole = message_whole (opened l es) (taken l es) (open_opened l es met.0) (ap is_message awaited)
@@ -116,7 +96,7 @@ module _ (h : History) (legal : IsLegal h) (e : Entry) (made : IsAnswered h e) (
 
     now_said : (t f : List ℕ) (p : Pid) → same p.node n ≡ true → listed (with_entry h e) t f p ≡ said_so t f p (Said m ∷ talk l es)
     now_said t f p its = done_frame h legal e made yes l body is inner (λ x. listed (with_entry h x) t f p ≡ said_so t f p (Said m ∷ talk l es)) (λ q.
-        (λ i. cond (not_local h p n its foreign i) (own h t f p) (cond (is_running h t) (option_map_or (listed_by (with_entry h (fr reply.Done)) t f p) (present p its i) 0) 0))
+        (λ i. cond (not_local h p n its foreign i) (own h t f p) (cond (is_running h t) (option_map_or (listed_by (with_entry h (fr Reply.Done)) t f p) (present p its i) 0) 0))
         ∙ (λ i. own_words (is_running h t) (gave i) (peer i) (up i) t f p (talks i)))
       where
         moment : Taken
@@ -128,17 +108,17 @@ module _ (h : History) (legal : IsLegal h) (e : Entry) (made : IsAnswered h e) (
         frames : Bool → List Taken
         frames b = and_frame (taken l es) (cond b (Some (record { body = body; before = es })) None)
 
-        gave : given l (fr reply.Done ∷ es) ≡ given l es
+        gave : given l (fr Reply.Done ∷ es) ≡ given l es
         gave = ap (λ b. given_by (opened l es) (and_frame (taken l es) (cond b (Some (record { body = body; before = es })) None))) itself ∙ given_kept (record { body = body; before = es }) (opened l es) (taken l es) whole
 
-        peer : peer_of l (fr reply.Done ∷ es) ≡ peer_of l es
+        peer : peer_of l (fr Reply.Done ∷ es) ≡ peer_of l es
         peer = ap (λ b. peer_by (opened l es) (and_frame (taken l es) (cond b (Some (record { body = body; before = es })) None))) itself ∙ kept (record { body = body; before = es }) (opened l es) (taken l es) whole
 
-        up : is_up l (fr reply.Done ∷ es) ≡ true
+        up : is_up l (fr Reply.Done ∷ es) ≡ true
         up = ap (λ b. (not (not b && frame_ends l body l es) && is_open l es) && whole_by (opened l es) (and_frame (taken l es) (cond b (Some (record { body = body; before = es })) None))) itself
             ∙ and_both (is_open l es) _ met.0 (whole_kept (record { body = body; before = es }) (opened l es) (taken l es) whole)
 
-        talks : talk l (fr reply.Done ∷ es) ≡ Said m ∷ talk l es
+        talks : talk l (fr Reply.Done ∷ es) ≡ Said m ∷ talk l es
         talks = (λ i. cond (itself i && whole i) (talk_of (says i)) [] ++ talk l es)
 
     -- a process of another node
@@ -148,7 +128,7 @@ module _ (h : History) (legal : IsLegal h) (e : Entry) (made : IsAnswered h e) (
         not_its : is_peer p.node l es ≡ false
         not_its = ap (λ x. option_map_or (λ k. same k p.node) x false) of ∙ same_sym n p.node ∙ other
 
-  pub discovered_rows : (s : List ℕ) → message_taken body ≡ Some (said.Discover s) → (t f : List ℕ) (p : Pid) → listed (with_entry h e) t f p ≡ listed h t f p
+  pub discovered_rows : (s : List ℕ) → message_taken body ≡ Some (Message.Discover s) → (t f : List ℕ) (p : Pid) → listed (with_entry h e) t f p ≡ listed h t f p
   discovered_rows s says t f p = inner_rows h legal e made yes l body is (ap is_last awaited) t f p (ap (λ x. is_whole l es && is_peer p.node l es && is_about_rows t x) says ∙ nobody (is_whole l es) (is_peer p.node l es))
     where
       nobody : (a b : Bool) → (a && b && false) ≡ false
@@ -174,69 +154,69 @@ module _ (h : History) (legal : IsLegal h) (e : Entry) (made : IsAnswered h e) (
   foreign_from : (p : Pid) → same p.node n ≡ false → is_from l es p ≡ false
   foreign_from p other = ap (λ x. x && option_map_or (λ v. v.creation == p.creation) (given l es) false) (ap (λ x. option_map_or (λ k. same k p.node) x false) of ∙ same_sym n p.node ∙ other)
 
-  pub synced_rows : (s : List ℕ) (rows : List Row) → message_taken body ≡ Some (said.Sync s rows) → (t f : List ℕ) (p : Pid)
+  pub synced_rows : (s : List ℕ) (rows : List Row) → message_taken body ≡ Some (Message.Sync s rows) → (t f : List ℕ) (p : Pid)
       → listed (with_entry h e) t f p ≡ cond (same t s) (cond (same p.node n) (occurrences same_row (row f p) rows) (listed h t f p)) (listed h t f p)
   synced_rows s rows says t f p = by (same p.node n) refl
     where
       here : same p.node n ≡ true → (b : Bool) → same s t ≡ b
           → nest (is_running h t) (is_visible h l) (is_from l es p) (unwrap_or (elim (cond {A = Option Bool} b (Some true) None) as (λ _. Option Bool) [ Some y ↦ Some y | None ↦ first_of (hears t) (talk l es) ]) false) (cond b (rows_of f p rows) (stated_in t f p (talk l es)))
           ≡ cond b (rows_of f p rows) (listed h t f p)
-      here its true q = (let k = holds (said.Sync s rows) says in full (is_running h t) (is_visible h l) (is_from l es p) (rows_of f p rows) (running_as s t q k.1.0) (unbroken (is_visible h l) k.0) (none_from rows k.1.1.0 f p))
-      here its false q = sym (was_said (said.Sync s rows) says t f p its)
+      here its true q = (let k = holds (Message.Sync s rows) says in full (is_running h t) (is_visible h l) (is_from l es p) (rows_of f p rows) (running_as s t q k.1.0) (unbroken (is_visible h l) k.0) (none_from rows k.1.1.0 f p))
+      here its false q = sym (was_said (Message.Sync s rows) says t f p its)
 
       by : (a : Bool) → same p.node n ≡ a → listed (with_entry h e) t f p ≡ cond (same t s) (cond a (rows_of f p rows) (listed h t f p)) (listed h t f p)
-      by true its = in_scope s t (rows_of f p rows) (listed h t f p) (listed (with_entry h e) t f p) (now_said (said.Sync s rows) says t f p its ∙ here its (same s t) refl)
-      by false its = elsewhere (said.Sync s rows) says t f p its ∙ either (same t s) (listed h t f p)
+      by true its = in_scope s t (rows_of f p rows) (listed h t f p) (listed (with_entry h e) t f p) (now_said (Message.Sync s rows) says t f p its ∙ here its (same s t) refl)
+      by false its = elsewhere (Message.Sync s rows) says t f p its ∙ either (same t s) (listed h t f p)
 
-  pub added_rows : (s : List ℕ) (rows : List Row) → message_taken body ≡ Some (said.Join s rows) → (t f : List ℕ) (p : Pid)
+  pub added_rows : (s : List ℕ) (rows : List Row) → message_taken body ≡ Some (Message.Join s rows) → (t f : List ℕ) (p : Pid)
       → listed (with_entry h e) t f p ≡ cond (same t s) (listed h t f p + occurrences same_row (row f p) rows) (listed h t f p)
   added_rows s rows says t f p = by (same p.node n) refl
     where
       here : same p.node n ≡ true → (b : Bool) → same s t ≡ b
           → nest (is_running h t) (is_visible h l) (is_from l es p) (has_sync t (talk l es)) (cond b (stated_in t f p (talk l es) + rows_of f p rows) (stated_in t f p (talk l es))) ≡ cond b (listed h t f p + rows_of f p rows) (listed h t f p)
       here its true q =
-          let k = holds (said.Join s rows) says in
+          let k = holds (Message.Join s rows) says in
           more (is_running h t) (is_visible h l) (is_from l es p) (has_sync t (talk l es)) (stated_in t f p (talk l es)) (rows_of f p rows) (running_as s t q k.1.0) (unbroken (is_visible h l) k.0) (heard_as s t q k.1.1.0) (none_from rows k.1.1.1.0 f p)
-          ∙ ap (λ c. c + rows_of f p rows) (sym (was_said (said.Join s rows) says t f p its))
-      here its false q = sym (was_said (said.Join s rows) says t f p its)
+          ∙ ap (λ c. c + rows_of f p rows) (sym (was_said (Message.Join s rows) says t f p its))
+      here its false q = sym (was_said (Message.Join s rows) says t f p its)
 
       there : rows_of f p rows ≡ 0 → (b : Bool) → listed h t f p ≡ cond b (listed h t f p + rows_of f p rows) (listed h t f p)
       there none true = omega (arith, none)
       there none false = refl
 
       by : (a : Bool) → same p.node n ≡ a → listed (with_entry h e) t f p ≡ cond (same t s) (listed h t f p + rows_of f p rows) (listed h t f p)
-      by true its = in_scope s t (listed h t f p + rows_of f p rows) (listed h t f p) (listed (with_entry h e) t f p) (now_said (said.Join s rows) says t f p its ∙ here its (same s t) refl)
-      by false its = elsewhere (said.Join s rows) says t f p its ∙ there (none_from rows (holds (said.Join s rows) says).1.1.1.0 f p (foreign_from p its)) (same t s)
+      by true its = in_scope s t (listed h t f p + rows_of f p rows) (listed h t f p) (listed (with_entry h e) t f p) (now_said (Message.Join s rows) says t f p its ∙ here its (same s t) refl)
+      by false its = elsewhere (Message.Join s rows) says t f p its ∙ there (none_from rows (holds (Message.Join s rows) says).1.1.1.0 f p (foreign_from p its)) (same t s)
 
-  pub taken_rows : (s : List ℕ) (rows : List Row) → message_taken body ≡ Some (said.Leave s rows) → (t f : List ℕ) (p : Pid)
+  pub taken_rows : (s : List ℕ) (rows : List Row) → message_taken body ≡ Some (Message.Leave s rows) → (t f : List ℕ) (p : Pid)
       → listed (with_entry h e) t f p ≡ cond (same t s) (listed h t f p - occurrences same_row (row f p) rows) (listed h t f p)
   taken_rows s rows says t f p = by (same p.node n) refl
     where
       here : same p.node n ≡ true → (b : Bool) → same s t ≡ b
           → nest (is_running h t) (is_visible h l) (is_from l es p) (has_sync t (talk l es)) (cond b (stated_in t f p (talk l es) - rows_of f p rows) (stated_in t f p (talk l es))) ≡ cond b (listed h t f p - rows_of f p rows) (listed h t f p)
       here its true q =
-          let k = holds (said.Leave s rows) says in
+          let k = holds (Message.Leave s rows) says in
           less (is_running h t) (is_visible h l) (is_from l es p) (has_sync t (talk l es)) (stated_in t f p (talk l es)) (rows_of f p rows) (running_as s t q k.1.0) (unbroken (is_visible h l) k.0) (heard_as s t q k.1.1.0)
-          ∙ ap (λ c. c - rows_of f p rows) (sym (was_said (said.Leave s rows) says t f p its))
-      here its false q = sym (was_said (said.Leave s rows) says t f p its)
+          ∙ ap (λ c. c - rows_of f p rows) (sym (was_said (Message.Leave s rows) says t f p its))
+      here its false q = sym (was_said (Message.Leave s rows) says t f p its)
 
       there : rows_of f p rows ≡ 0 → (b : Bool) → listed h t f p ≡ cond b (listed h t f p - rows_of f p rows) (listed h t f p)
       there none true = omega (arith, none)
       there none false = refl
 
       by : (a : Bool) → same p.node n ≡ a → listed (with_entry h e) t f p ≡ cond (same t s) (listed h t f p - rows_of f p rows) (listed h t f p)
-      by true its = in_scope s t (listed h t f p - rows_of f p rows) (listed h t f p) (listed (with_entry h e) t f p) (now_said (said.Leave s rows) says t f p its ∙ here its (same s t) refl)
-      by false its = elsewhere (said.Leave s rows) says t f p its ∙ there (none_from rows (holds (said.Leave s rows) says).1.1.1.0 f p (foreign_from p its)) (same t s)
+      by true its = in_scope s t (listed h t f p - rows_of f p rows) (listed h t f p) (listed (with_entry h e) t f p) (now_said (Message.Leave s rows) says t f p its ∙ here its (same s t) refl)
+      by false its = elsewhere (Message.Leave s rows) says t f p its ∙ there (none_from rows (holds (Message.Leave s rows) says).1.1.1.0 f p (foreign_from p its)) (same t s)
 
-  pub downed_rows : (s : List ℕ) → message_taken body ≡ Some (said.Down s) → (t f : List ℕ) (p : Pid) → listed (with_entry h e) t f p ≡ cond (same t s) (cond (same p.node n) 0 (listed h t f p)) (listed h t f p)
+  pub downed_rows : (s : List ℕ) → message_taken body ≡ Some (Message.Down s) → (t f : List ℕ) (p : Pid) → listed (with_entry h e) t f p ≡ cond (same t s) (cond (same p.node n) 0 (listed h t f p)) (listed h t f p)
   downed_rows s says t f p = by (same p.node n) refl
     where
       here : same p.node n ≡ true → (b : Bool)
           → nest (is_running h t) (is_visible h l) (is_from l es p) (unwrap_or (elim (cond {A = Option Bool} b (Some false) None) as (λ _. Option Bool) [ Some y ↦ Some y | None ↦ first_of (hears t) (talk l es) ]) false) (cond b 0 (stated_in t f p (talk l es)))
           ≡ cond b 0 (listed h t f p)
       here its true = silent (is_running h t) (is_visible h l) (is_from l es p) 0
-      here its false = sym (was_said (said.Down s) says t f p its)
+      here its false = sym (was_said (Message.Down s) says t f p its)
 
       by : (a : Bool) → same p.node n ≡ a → listed (with_entry h e) t f p ≡ cond (same t s) (cond a 0 (listed h t f p)) (listed h t f p)
-      by true its = in_scope s t 0 (listed h t f p) (listed (with_entry h e) t f p) (now_said (said.Down s) says t f p its ∙ here its (same s t))
-      by false its = elsewhere (said.Down s) says t f p its ∙ either (same t s) (listed h t f p)
+      by true its = in_scope s t 0 (listed h t f p) (listed (with_entry h e) t f p) (now_said (Message.Down s) says t f p its ∙ here its (same s t))
+      by false its = elsewhere (Message.Down s) says t f p its ∙ either (same t s) (listed h t f p)

@@ -1,22 +1,10 @@
 -- Who is counted in a group was named by an event.
-use Rattle.std.specs.Prelude.{◌≡◌, ℕ, suc, ◌+◌, ◌-◌, ◌<◌, nat_lt, Bool, true, false, cond, ◌&&◌, ◌||◌, ◌==◌, List, [], ◌∷◌, ◌++◌, Option, Some, None, map}
-use Rattle.std.proofs.Common.{refl, ap, ◌∙◌, arith}
-use Rattle.std.proofs.lemmas.Bool.{ltb-true, ltb-false}
-use Rattle.std.specs.List.{list_any, flat_map, filter}
-use Rattle.std.specs.Option.{option_map_or}
-use Rattle.dist_types.specs.declared.pid.Pid.{Pid}
-use Rattle.dist_types.specs.declared.row.Row.{Row}
-use Rattle.dist_types.specs.Listing.{same, same_pid, same_row, mentions, occurrences, stands_in, is_among}
-use Rattle.link_frames.specs.declared.message.Message.{Message}
-use Rattle.link_frames.specs.declared.message.Message.TheVariants as said
-use Rattle.policy_audit.specs.declared.event.Event.{Event}
-use Rattle.policy_audit.specs.declared.event.Event.TheVariants as event
-use Rattle.policy_audit.specs.History.{History, Moment, present, events}
-use Rattle.policy_audit.specs.Own.{is_running, is_local, joined, own}
-use Rattle.policy_audit.specs.Sides.{present_link, is_whole, is_visible}
-use Rattle.policy_audit.specs.Hearing.{Talk, Said, message_taken, talk_of, talk_at, talk_in, talk, heard, rows_of, stated_in, stated}
-use Rattle.policy_audit.specs.Listed.{is_from, listed_by, listed}
-use Rattle.policy_audit.specs.Contents.{row, rows_brought, rows_named, groups_named, pids_named}
+use Rattle.policy_audit.proofs.Words.{ap, arith, refl, ◌∙◌, ltb-false, ltb-true, filter, flat_map, list_any, option_map_or, Bool, List}
+use Rattle.policy_audit.proofs.Words.{None, Option, Some, [], cond, false, map, nat_lt, suc, true, ℕ, ◌&&◌, ◌++◌, ◌+◌, ◌-◌, ◌<◌, ◌==◌, ◌||◌}
+use Rattle.policy_audit.proofs.Words.{◌∷◌, ◌≡◌, is_among, mentions, occurrences, same, same_pid, same_row, stands_in, Pid, Row, Message}
+use Rattle.policy_audit.proofs.Words.{groups_named, pids_named, row, rows_brought, rows_named, Said, Talk, heard, message_taken, rows_of}
+use Rattle.policy_audit.proofs.Words.{stated, stated_in, talk, talk_at, talk_in, talk_of, History, Moment, events, present, is_from, listed}
+use Rattle.policy_audit.proofs.Words.{listed_by, is_local, is_running, joined, own, is_visible, is_whole, present_link, Event}
 
 -- ---- lists
 
@@ -77,7 +65,7 @@ module _ (s g : List ℕ) (p : Pid) where
 
   pub joined_named : (es : List Event) → 0 < joined s g p es → named_in es ≡ true
   joined_named [] h = absurd (omega arith)
-  joined_named (event.Join t f ps ∷ es) h = by (joined_named es) (same t s) (same f g) refl h
+  joined_named (Event.Join t f ps ∷ es) h = by (joined_named es) (same t s) (same f g) refl h
     where
       by : (0 < joined s g p es → named_in es ≡ true) → (a b : Bool) → same f g ≡ b → 0 < cond (a && b) (joined s g p es + mentions p ps) (joined s g p es) → has (cond a (map (row f) ps) [] ++ flat_map (rows_named s) es) ≡ true
       by others false b e k = others k
@@ -85,29 +73,29 @@ module _ (s g : List ℕ) (p : Pid) where
       by others true true e k = one_of _ (joined s g p es) (mentions p ps) k
           (λ m. any_behind (λ r. same_row r (row g p)) (map (row f) ps) (flat_map (rows_named s) es) (others m))
           (λ m. any_before (λ r. same_row r (row g p)) (map (row f) ps) (flat_map (rows_named s) es) (mentioned f e ps m))
-  joined_named (event.Leave t f ps ∷ es) h = elim (same t s && same f g) as (λ b. 0 < cond b (joined s g p es - mentions p ps) (joined s g p es) → named_in es ≡ true) [ true ↦ λ k. joined_named es (omega (arith, k)) | false ↦ λ k. joined_named es k ] h
-  joined_named (event.Exit q ∷ es) h = joined_named es (some_unless (same_pid q p) (joined s g p es) h)
-  joined_named (event.StartScope t ∷ es) h = joined_named es (some_unless (same t s) (joined s g p es) h)
-  joined_named (event.Frame l body ∷ es) h = any_behind (λ r. same_row r (row g p)) (rows_brought s (message_taken body)) (flat_map (rows_named s) es) (joined_named es h)
+  joined_named (Event.Leave t f ps ∷ es) h = elim (same t s && same f g) as (λ b. 0 < cond b (joined s g p es - mentions p ps) (joined s g p es) → named_in es ≡ true) [ true ↦ λ k. joined_named es (omega (arith, k)) | false ↦ λ k. joined_named es k ] h
+  joined_named (Event.Exit q ∷ es) h = joined_named es (some_unless (same_pid q p) (joined s g p es) h)
+  joined_named (Event.StartScope t ∷ es) h = joined_named es (some_unless (same t s) (joined s g p es) h)
+  joined_named (Event.Frame l body ∷ es) h = any_behind (λ r. same_row r (row g p)) (rows_brought s (message_taken body)) (flat_map (rows_named s) es) (joined_named es h)
   joined_named (e ∷ es) h = joined_named es h
 
   -- what a message brings, before what was said
   said_named : (m : Message) (ts : List Talk) (rest : List Row) → (0 < stated_in s g p ts → has rest ≡ true) → 0 < stated_in s g p (Said m ∷ ts) → has (rows_brought s (Some m) ++ rest) ≡ true
-  said_named (said.Discover t) ts rest others h = others h
-  said_named (said.Down t) ts rest others h = others (some_unless (same t s) (stated_in s g p ts) h)
-  said_named (said.Sync t rows) ts rest others h =
+  said_named (Message.Discover t) ts rest others h = others h
+  said_named (Message.Down t) ts rest others h = others (some_unless (same t s) (stated_in s g p ts) h)
+  said_named (Message.Sync t rows) ts rest others h =
       elim (same t s) as (λ b. 0 < cond b (rows_of g p rows) (stated_in s g p ts) → has (cond b rows [] ++ rest) ≡ true) [
         | true ↦ λ k. any_before (λ r. same_row r (row g p)) rows rest (occurs_stands same_row (row g p) rows k)
         | false ↦ λ k. others k
       ] h
-  said_named (said.Join t rows) ts rest others h =
+  said_named (Message.Join t rows) ts rest others h =
       elim (same t s) as (λ b. 0 < cond b (stated_in s g p ts + rows_of g p rows) (stated_in s g p ts) → has (cond b rows [] ++ rest) ≡ true) [
         | true ↦ λ k. one_of _ (stated_in s g p ts) (rows_of g p rows) k
             (λ m. any_behind (λ r. same_row r (row g p)) rows rest (others m))
             (λ m. any_before (λ r. same_row r (row g p)) rows rest (occurs_stands same_row (row g p) rows m))
         | false ↦ λ k. others k
       ] h
-  said_named (said.Leave t rows) ts rest others h = elim (same t s) as (λ b. 0 < cond b (stated_in s g p ts - rows_of g p rows) (stated_in s g p ts) → has rest ≡ true) [ true ↦ λ k. others (omega (arith, k)) | false ↦ λ k. others k ] h
+  said_named (Message.Leave t rows) ts rest others h = elim (same t s) as (λ b. 0 < cond b (stated_in s g p ts - rows_of g p rows) (stated_in s g p ts) → has rest ≡ true) [ true ↦ λ k. others (omega (arith, k)) | false ↦ λ k. others k ] h
 
   stated_named : (l : ℕ) (ms : List Moment) → 0 < stated_in s g p (talk_in l ms) → named_in (map (λ m. m.event) ms) ≡ true
   stated_named l [] h = absurd (omega arith)
@@ -120,9 +108,9 @@ module _ (s g : List ℕ) (p : Pid) where
       by_frame true (Some y) others k = said_named y (talk_in l ms) (flat_map (rows_named s) (map (λ n. n.event) ms)) others k
 
       by_event : (ev : Event) → (0 < stated_in s g p (talk_in l ms) → named_in (map (λ n. n.event) ms) ≡ true) → 0 < stated_in s g p (talk_at l m.before ev ++ talk_in l ms) → named_in (ev ∷ map (λ n. n.event) ms) ≡ true
-      by_event (event.Frame k body) others h = by_frame (k == l && is_whole l m.before) (message_taken body) others h
-      by_event (event.StopScope t) others h = others (some_unless (same t s) (stated_in s g p (talk_in l ms)) h)
-      by_event (event.Join t f ps) others h = any_behind (λ r. same_row r (row g p)) (cond (same t s) (map (row f) ps) []) (flat_map (rows_named s) (map (λ n. n.event) ms)) (others h)
+      by_event (Event.Frame k body) others h = by_frame (k == l && is_whole l m.before) (message_taken body) others h
+      by_event (Event.StopScope t) others h = others (some_unless (same t s) (stated_in s g p (talk_in l ms)) h)
+      by_event (Event.Join t f ps) others h = any_behind (λ r. same_row r (row g p)) (cond (same t s) (map (row f) ps) []) (flat_map (rows_named s) (map (λ n. n.event) ms)) (others h)
       by_event ev others h = others h
 
   pub own_named : (h : History) → 0 < own h s g p → named_in (events h.entries) ≡ true

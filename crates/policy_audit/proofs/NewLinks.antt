@@ -1,19 +1,8 @@
 -- What an accepted Opened or Dial makes of links.
-use Rattle.std.specs.Prelude.{◌≡◌, ℕ, ◌==◌, true, false, cond, ◌||◌, List, [], ◌∷◌, Option, Some, None, length, ◌+◌}
-use Rattle.std.proofs.Common.{refl, ap, ◌∙◌, sym, subst}
-use Rattle.std.specs.Option.{unwrap_or}
-use Rattle.policy_audit.specs.declared.event.Event.{Event}
-use Rattle.policy_audit.specs.declared.entry.Verdict.{Verdict}
-use Rattle.policy_audit.specs.declared.entry.Verdict.TheVariants.{Accepted, Refused}
-use Rattle.policy_audit.specs.declared.entry.Entry.{Entry}
-use Rattle.policy_audit.specs.declared.opening.Opening.{Opening}
-use Rattle.policy_audit.specs.declared.event.Event.TheVariants as event
-use Rattle.policy_audit.specs.Sides.{ByDial, ByPeer, Opened, Start, awaited_in, awaits, given, given_in, is_whole, is_whole_in, opened, peer_in, peer_of, start_of, taken}
-use Rattle.policy_audit.specs.Policy.{IsLegalIn}
-use Rattle.policy_audit.specs.Effects.{IsSameLink}
-use Rattle.policy_audit.specs.History.{is_accepted}
-use Rattle.policy_audit.specs.Links.{is_open}
-use Rattle.policy_audit.specs.Hearing.{talk}
+use Rattle.policy_audit.proofs.Words.{ap, refl, subst, sym, ◌∙◌, unwrap_or, List, None, Option, Some, [], cond, false, length, true, ℕ, ◌+◌}
+use Rattle.policy_audit.proofs.Words.{◌==◌, ◌||◌, ◌∷◌, ◌≡◌, IsSameLink, talk, is_accepted, is_open, IsLegalIn, ByDial, ByPeer, Opened}
+use Rattle.policy_audit.proofs.Words.{Start, awaited_in, awaits, given, given_in, is_whole, is_whole_in, opened, peer_in, peer_of, start_of}
+use Rattle.policy_audit.proofs.Words.{taken, Entry, Verdict, Accepted, Refused, Event, Opening}
 use Rattle.policy_audit.proofs.Finished.{awaited_by, given_by, whole_by}
 use Rattle.policy_audit.proofs.Walked.{but}
 use Rattle.policy_audit.proofs.Accepted.{lie, no_value, peer_by}
@@ -44,8 +33,8 @@ start_is s st q = ap (λ x. unwrap_or x s) q
 module _ (es : List Entry) (e : Entry) (l : ℕ) (st : Start) where
   starts : (ev : Event) (v : Verdict) → is_accepted v ≡ true → start_of ev ≡ Some st → Starts l es (but e ev v) st
   starts ev (Refused r) a q = lie (sym a)
-  starts (event.Opened c) (Accepted r) a q = subst (Starts l es (but e (event.Opened c) (Accepted r))) (start_is (ByPeer c) st q) (record { opened = refl; taken = refl; talk = refl; opens = refl })
-  starts (event.Dial n c) (Accepted r) a q = subst (Starts l es (but e (event.Dial n c) (Accepted r))) (start_is (ByDial n c) st q) (record { opened = refl; taken = refl; talk = refl; opens = refl })
+  starts (Event.Opened c) (Accepted r) a q = subst (Starts l es (but e (Event.Opened c) (Accepted r))) (start_is (ByPeer c) st q) (record { opened = refl; taken = refl; talk = refl; opens = refl })
+  starts (Event.Dial n c) (Accepted r) a q = subst (Starts l es (but e (Event.Dial n c) (Accepted r))) (start_is (ByDial n c) st q) (record { opened = refl; taken = refl; talk = refl; opens = refl })
   starts ev (Accepted r) a q = no_start q
 
   module _ (yes : is_accepted e.verdict ≡ true) (begins : start_of e.event ≡ Some st) where

@@ -1,19 +1,9 @@
 -- There is one difference between two counts.
-use Rattle.std.specs.Prelude.{◌≡◌, ℕ, suc, ◌+◌, Bool, true, false, cond, ◌&&◌, List, [], ◌∷◌, map}
-use Rattle.std.proofs.Common.{refl, ap, ◌∙◌, sym, arith}
-use Rattle.std.proofs.lemmas.Map.Lookups.{exact_bytes}
-use Rattle.std.proofs.lemmas.Cmp.{tied_itself}
-use Rattle.std.specs.declared.cmp.Ordering.{Ordering}
-use Rattle.std.specs.declared.cmp.Ordering.TheVariants.{Less, Equal, Greater}
-use Rattle.std.specs.Ordering.{is_eq, ordering_reverse}
-use Rattle.std.specs.List.{AllByRecursion}
-use Rattle.dist_types.specs.Listing.{Ascends, Rises, mentions, same, same_pid, total}
-use Rattle.dist_types.specs.declared.change.GroupChange.{GroupChange}
-use Rattle.dist_types.specs.Difference.{IsDifference, IsProper, is_empty}
-use Rattle.dist_types.specs.declared.pid.Pid.{Pid}
-use Rattle.dist_types.proofs.Orders.{exact_pids, pids_total, same_decides, same_pid_decides, texts_total}
-use Rattle.dist_types.specs.Order.{pid_cmp, text_cmp}
-use Rattle.dist_types.proofs.Listings.{same_ascending}
+use Rattle.policy_audit.proofs.Words.{ap, arith, refl, sym, ◌∙◌, tied_itself, exact_bytes, AllByRecursion, is_eq, ordering_reverse, Bool}
+use Rattle.policy_audit.proofs.Words.{List, [], cond, false, map, suc, true, ℕ, ◌&&◌, ◌+◌, ◌∷◌, ◌≡◌, Ordering, Equal, Greater, Less}
+use Rattle.policy_audit.proofs.Words.{same_ascending, exact_pids, pids_total, same_decides, same_pid_decides, texts_total, IsDifference}
+use Rattle.policy_audit.proofs.Words.{IsProper, is_empty, Ascends, Rises, mentions, same, same_pid, total, pid_cmp, text_cmp, GroupChange}
+use Rattle.policy_audit.proofs.Words.{Pid, after}
 use Rattle.policy_audit.proofs.Accepted.{lie}
 
 -- a text that comes before another isn't the same

@@ -1,16 +1,10 @@
 -- What an accepted frame makes of its own link.
-use Rattle.std.specs.Prelude.{◌≡◌, ◌↔◌, ℕ, Bool, true, false, cond, List, [], ◌∷◌, ◌++◌, Option, Some, None, is_some, length, get_or}
-use Rattle.std.proofs.Common.{refl, ap, ◌∙◌, sym, subst}
-use Rattle.std.proofs.lemmas.Bool.{eq-eqb}
-use Rattle.std.specs.Option.{option_and_then, option_map_or}
-use Rattle.handshake_frames.specs.Frame.{Challenge, Name}
-use Rattle.handshake_frames.specs.Reading.{challenge_frame, name_frame}
-use Rattle.policy_audit.specs.declared.entry.Entry.{Entry}
-use Rattle.policy_audit.specs.declared.event.Event.TheVariants as event
-use Rattle.policy_audit.specs.Sides.{Opened, Taken, Awaited, AwaitName, AwaitAnswer, AwaitReply, AwaitStatus, AwaitChallenge, AwaitAck, AwaitMessage, ByDial, ByPeer, Start, and_frame, awaited_in, is_name_up, is_whole, peer_of, taken, was_up, whole_side, awaits, given, opened}
-use Rattle.policy_audit.specs.History.{History, is_accepted}
-use Rattle.policy_audit.specs.Policy.{IsAnswered}
-use Rattle.policy_audit.specs.Links.{is_open}
+use Rattle.policy_audit.proofs.Words.{ap, refl, subst, sym, ◌∙◌, eq-eqb, option_and_then, option_map_or, Bool, List, None, Option, Some, []}
+use Rattle.policy_audit.proofs.Words.{cond, false, get_or, is_some, length, true, ℕ, ◌++◌, ◌↔◌, ◌∷◌, ◌≡◌, Challenge, Name, challenge_frame}
+use Rattle.policy_audit.proofs.Words.{name_frame, History, is_accepted, ends, is_open, IsAnswered, AwaitAck, AwaitAnswer, AwaitChallenge}
+use Rattle.policy_audit.proofs.Words.{AwaitMessage, AwaitName, AwaitReply, AwaitStatus, Awaited, ByDial, ByPeer, Opened, Start, Taken}
+use Rattle.policy_audit.proofs.Words.{and_frame, awaited_in, awaits, given, is_name_up, is_whole, opened, peer_of, taken, was_up}
+use Rattle.policy_audit.proofs.Words.{whole_side, Entry, Event}
 use Rattle.policy_audit.proofs.Accepted.{accepted, lie, peer_by}
 use Rattle.policy_audit.proofs.Finished.{awaited_by, given_by, is_message, message_whole, three_of, two_of, whole_after, whole_awaits, whole_by}
 use Rattle.policy_audit.proofs.Effects.{by_accepted, by_made}
@@ -102,7 +96,7 @@ pub record IsOnward (l : ℕ) (es : List Entry) (e : Entry) (gave : Option Name)
   pub awaits : awaits l (e ∷ es) ≡ next
   pub whole : is_whole l (e ∷ es) ≡ ends
 
-module _ (h : History) (e : Entry) (made : IsAnswered h e) (yes : is_accepted e.verdict ≡ true) (l : ℕ) (body : List ℕ) (is : e.event ≡ event.Frame l body) where
+module _ (h : History) (e : Entry) (made : IsAnswered h e) (yes : is_accepted e.verdict ≡ true) (l : ℕ) (body : List ℕ) (is : e.event ≡ Event.Frame l body) where
   abbrev es : List Entry
   es = h.entries
 
@@ -111,14 +105,14 @@ module _ (h : History) (e : Entry) (made : IsAnswered h e) (yes : is_accepted e.
 
   -- its link is open
   pub frame_open : is_open l es ≡ true
-  frame_open = by_made h e (event.Frame l body) (λ x. is_open l es ≡ true) made yes is (λ r q. (frame_fits h.opening es e.seat l body (accepted h e.seat (event.Frame l body) r q).0).0)
+  frame_open = by_made h e (Event.Frame l body) (λ x. is_open l es ≡ true) made yes is (λ r q. (frame_fits h.opening es e.seat l body (accepted h e.seat (Event.Frame l body) r q).0).0)
 
   -- it is the newest of the link's frames
   same_opening : opened l (e ∷ es) ≡ opened l es
-  same_opening = by_accepted e (event.Frame l body) (λ x. opened l (x ∷ es) ≡ opened l es) is yes (λ r. refl)
+  same_opening = by_accepted e (Event.Frame l body) (λ x. opened l (x ∷ es) ≡ opened l es) is yes (λ r. refl)
 
   newest : taken l (e ∷ es) ≡ taken l es ++ moment ∷ []
-  newest = by_accepted e (event.Frame l body) (λ x. taken l (x ∷ es) ≡ taken l es ++ moment ∷ []) is yes (λ r. ap (λ b. and_frame (taken l es) (cond b (Some moment) None)) (eq-eqb l l refl))
+  newest = by_accepted e (Event.Frame l body) (λ x. taken l (x ∷ es) ≡ taken l es ++ moment ∷ []) is yes (λ r. ap (λ b. and_frame (taken l es) (cond b (Some moment) None)) (eq-eqb l l refl))
 
   onward : (gave : Option Name) (of : Option (List ℕ)) (next : Awaited) (ends : Bool) → Made moment (opened l es) (taken l es) gave of next ends → IsOnward l es e gave of next ends
   onward gave of next ends m = record {

@@ -1,29 +1,12 @@
 -- The own rows are listed, and nobody else's are; and the rows that an own Join, Leave, Exit and Sync name.
-use Rattle.std.specs.Prelude.{◌≡◌, ℕ, suc, ◌+◌, ◌-◌, ◌<◌, ◌==◌, min, Bool, true, false, cond, ◌&&◌, List, [], ◌∷◌, Option, Some, None, map}
-use Rattle.std.proofs.Common.{refl, ap, ◌∙◌, sym, arith}
-use Rattle.std.specs.List.{filter, list_all}
-use Rattle.std.specs.Option.{option_map_or}
-use Rattle.std.specs.declared.cmp.Ordering.{Ordering}
-use Rattle.std.specs.Ordering.{is_gt}
-use Rattle.dist_types.specs.declared.pid.Pid.{Pid}
-use Rattle.dist_types.specs.declared.row.Row.{Row}
-use Rattle.dist_types.specs.Order.{pid_cmp, row_cmp}
-use Rattle.dist_types.specs.Listing.{same, same_pid, same_row, mentions, occurrences, stands_in, listing, Ascends, IsListing, IsPidListing, IsRowListing}
-use Rattle.dist_types.proofs.Orders.{exact_pids, exact_rows, pids_total, rows_total, same_decides, same_pid_decides, same_row_decides, same_sym}
-use Rattle.dist_types.proofs.Listings.{listing_counts, one_listing}
-use Rattle.policy_audit.specs.declared.opening.Opening.{Opening}
-use Rattle.policy_audit.specs.declared.event.Event.{Event}
-use Rattle.policy_audit.specs.declared.event.Event.TheVariants as event
-use Rattle.policy_audit.specs.declared.entry.Verdict.{Verdict}
-use Rattle.policy_audit.specs.declared.entry.Verdict.TheVariants.{Accepted, Refused}
-use Rattle.policy_audit.specs.declared.entry.Entry.{Entry}
-use Rattle.policy_audit.specs.History.{History, past, creation, events}
-use Rattle.policy_audit.specs.Own.{is_local, is_running, joined, own}
-use Rattle.policy_audit.specs.Sides.{present_link}
-use Rattle.policy_audit.specs.Listed.{listed, listed_by}
-use Rattle.policy_audit.specs.Contents.{groups_named, local_groups, local_members, local_rows, pids_named, row}
-use Rattle.policy_audit.specs.Checks.{join_checks}
-use Rattle.policy_audit.specs.Policy.{IsLegal, IsLegalIn, verdict}
+use Rattle.policy_audit.proofs.Words.{ap, arith, refl, sym, ◌∙◌, filter, list_all, option_map_or, is_gt, Bool, List, None, Option, Some, []}
+use Rattle.policy_audit.proofs.Words.{cond, false, map, min, suc, true, ℕ, ◌&&◌, ◌+◌, ◌-◌, ◌<◌, ◌==◌, ◌∷◌, ◌≡◌, Ordering, listing_counts}
+use Rattle.policy_audit.proofs.Words.{one_listing, exact_pids, exact_rows, pids_total, rows_total, same_decides, same_pid_decides}
+use Rattle.policy_audit.proofs.Words.{same_row_decides, same_sym, Ascends, IsListing, IsPidListing, IsRowListing, listing, mentions}
+use Rattle.policy_audit.proofs.Words.{occurrences, same, same_pid, same_row, stands_in, pid_cmp, row_cmp, Pid, Row, join_checks}
+use Rattle.policy_audit.proofs.Words.{groups_named, local_groups, local_members, local_rows, pids_named, row, History, creation, events}
+use Rattle.policy_audit.proofs.Words.{past, listed, listed_by, is_local, is_running, joined, own, IsLegal, IsLegalIn, verdict, present_link}
+use Rattle.policy_audit.proofs.Words.{Entry, Verdict, Accepted, Refused, Event, Opening}
 use Rattle.policy_audit.proofs.Accepted.{accepted, all_hold, lie, unbroken}
 use Rattle.policy_audit.proofs.Walked.{but}
 use Rattle.policy_audit.proofs.UpLinks.{agrees}
@@ -67,13 +50,13 @@ unjoined o (e ∷ es) legal s g p foreign = by_event e.event e.verdict legal.0.v
     by_event : (ev : Event) (v : Verdict) → v ≡ verdict (past o es) e.seat ev → (is_local (past o es) p ≡ false → joined s g p (events es) ≡ 0)
         → is_local (past o (but e ev v ∷ es)) p ≡ false → joined s g p (events (but e ev v ∷ es)) ≡ 0
     by_event ev (Refused r) q so_far f = so_far f
-    by_event event.Restart (Accepted r) q so_far f = refl
-    by_event (event.Join t u ps) (Accepted r) q so_far f =
-        let all = unbroken (list_all (is_local (past o es)) ps) (all_hold (join_checks (past o es) t u ps) (accepted (past o es) e.seat (event.Join t u ps) r q).0).1.0 in
+    by_event Event.Restart (Accepted r) q so_far f = refl
+    by_event (Event.Join t u ps) (Accepted r) q so_far f =
+        let all = unbroken (list_all (is_local (past o es)) ps) (all_hold (join_checks (past o es) t u ps) (accepted (past o es) e.seat (Event.Join t u ps) r q).0).1.0 in
         none_more (same t s && same u g) (joined s g p (events es)) (mentions p ps) (so_far f) (uncounted same_pid (λ y x. (same_pid_decides y x).0) (is_local (past o es)) p ps all f)
-    by_event (event.Leave t u ps) (Accepted r) q so_far f = none_less (same t s && same u g) (joined s g p (events es)) (mentions p ps) (so_far f)
-    by_event (event.Exit x) (Accepted r) q so_far f = none_cleared (same_pid x p) (joined s g p (events es)) (so_far f)
-    by_event (event.StartScope t) (Accepted r) q so_far f = none_cleared (same t s) (joined s g p (events es)) (so_far f)
+    by_event (Event.Leave t u ps) (Accepted r) q so_far f = none_less (same t s && same u g) (joined s g p (events es)) (mentions p ps) (so_far f)
+    by_event (Event.Exit x) (Accepted r) q so_far f = none_cleared (same_pid x p) (joined s g p (events es)) (so_far f)
+    by_event (Event.StartScope t) (Accepted r) q so_far f = none_cleared (same t s) (joined s g p (events es)) (so_far f)
     by_event ev (Accepted r) q so_far f = so_far f
 
 pub foreign_own : (h : History) → IsLegal h → (s g : List ℕ) (p : Pid) → is_local h p ≡ false → own h s g p ≡ 0

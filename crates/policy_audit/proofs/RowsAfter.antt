@@ -1,27 +1,11 @@
 -- How often a process is listed after each accepted event.
-use Rattle.std.specs.Prelude.{◌≡◌, ℕ, ◌+◌, ◌-◌, ◌==◌, Bool, true, false, cond, ◌&&◌, not, List, [], ◌∷◌, Option, Some, None, suc, ◌||◌}
-use Rattle.std.proofs.Common.{refl, ap, ◌∙◌, sym, subst, arith}
-use Rattle.std.proofs.lemmas.Bool.{eq-eqb, eqb-true}
-use Rattle.std.specs.List.{list_all}
-use Rattle.std.specs.Option.{option_map_or, unwrap_or}
-use Rattle.dist_types.specs.declared.pid.Pid.{Pid}
-use Rattle.dist_types.specs.Listing.{mentions, occurrences, same, same_pid}
-use Rattle.dist_types.proofs.Orders.{same_decides, same_pid_decides, same_sym}
-use Rattle.policy_audit.specs.declared.event.Event.{Event}
-use Rattle.policy_audit.specs.declared.reply.Reply.{Reply}
-use Rattle.policy_audit.specs.declared.entry.Verdict.TheVariants.{Accepted}
-use Rattle.policy_audit.specs.declared.entry.Entry.{Entry}
-use Rattle.policy_audit.specs.declared.event.Event.TheVariants as event
-use Rattle.policy_audit.specs.declared.reply.Reply.TheVariants as reply
-use Rattle.policy_audit.specs.History.{History, creation, events, first_of, is_accepted}
-use Rattle.policy_audit.specs.Policy.{IsAnswered, IsLegal, up_answer, verdict, with_entry}
-use Rattle.policy_audit.specs.Sides.{awaits, is_last, is_peer, is_visible, is_whole, opened, peer_of, present_link, taken}
-use Rattle.policy_audit.specs.Checks.{checks, join_checks, leave_checks}
-use Rattle.policy_audit.specs.Effects.{is_about_rows, is_replaced, may_change}
-use Rattle.policy_audit.specs.Own.{is_local, is_running, own, starts}
-use Rattle.policy_audit.specs.Links.{is_open, is_up}
-use Rattle.policy_audit.specs.Listed.{listed, listed_by}
-use Rattle.policy_audit.specs.Hearing.{message_taken}
+use Rattle.policy_audit.proofs.Words.{ap, arith, refl, subst, sym, ◌∙◌, eq-eqb, eqb-true, list_all, option_map_or, unwrap_or, Bool, List}
+use Rattle.policy_audit.proofs.Words.{None, Option, Some, [], cond, false, not, suc, true, ℕ, ◌&&◌, ◌+◌, ◌-◌, ◌==◌, ◌||◌, ◌∷◌, ◌≡◌}
+use Rattle.policy_audit.proofs.Words.{same_decides, same_pid_decides, same_sym, mentions, occurrences, same, same_pid, Pid, checks}
+use Rattle.policy_audit.proofs.Words.{join_checks, leave_checks, is_about_rows, is_replaced, may_change, message_taken, History, creation}
+use Rattle.policy_audit.proofs.Words.{events, first_of, is_accepted, is_open, is_up, listed, listed_by, is_local, is_running, own, starts}
+use Rattle.policy_audit.proofs.Words.{IsAnswered, IsLegal, up_answer, verdict, with_entry, awaits, is_last, is_peer, is_visible, is_whole}
+use Rattle.policy_audit.proofs.Words.{opened, peer_of, present_link, taken, Entry, Accepted, Event, Reply}
 use Rattle.policy_audit.proofs.Finished.{Completed, is_message, whole_awaits}
 use Rattle.policy_audit.proofs.Accepted.{accepted, all_hold, lie, unbroken}
 use Rattle.policy_audit.proofs.UpLinks.{agrees, and_left, and_right, answered, done_now, value_of}
@@ -88,25 +72,25 @@ module _ (h : History) (e : Entry) (made : IsAnswered h e) (yes : is_accepted e.
   unmentioned : (ps : List Pid) → list_all (is_local h) ps ≡ true → (p : Pid) → is_local h p ≡ false → mentions p ps ≡ 0
   unmentioned ps all p out = uncounted same_pid (λ q r. (same_pid_decides q r).0) (is_local h) p ps all out
 
-  pub joined_rows : (s g : List ℕ) (ps : List Pid) → e.event ≡ event.Join s g ps → (t f : List ℕ) (p : Pid)
+  pub joined_rows : (s g : List ℕ) (ps : List Pid) → e.event ≡ Event.Join s g ps → (t f : List ℕ) (p : Pid)
       → listed (with_entry h e) t f p ≡ cond (same t s) (listed h t f p + cond (same f g) (mentions p ps) 0) (listed h t f p)
-  joined_rows s g ps is t f p = by_made h e (event.Join s g ps) (λ x. listed (with_entry h x) t f p ≡ cond (same t s) (listed h t f p + cond (same f g) (mentions p ps) 0) (listed h t f p)) made yes is (λ r q. (
-      let holds = all_hold (join_checks h s g ps) (accepted h e.seat (event.Join s g ps) r q).0 in
+  joined_rows s g ps is t f p = by_made h e (Event.Join s g ps) (λ x. listed (with_entry h x) t f p ≡ cond (same t s) (listed h t f p + cond (same f g) (mentions p ps) 0) (listed h t f p)) made yes is (λ r q. (
+      let holds = all_hold (join_checks h s g ps) (accepted h e.seat (Event.Join s g ps) r q).0 in
       ap (λ c. cond (is_local h p) c (remote t f p)) (own_joined h e r s g ps (unbroken (is_running h s) holds.0) t f p)
       ∙ plus_own (is_local h p) (same s t) (same g f) (own h t f p) (remote t f p) (mentions p ps) (unmentioned ps (unbroken (list_all (is_local h) ps) holds.1.0) p)
       ∙ (λ i. cond (same_sym s t i) (listed h t f p + cond (same_sym g f i) (mentions p ps) 0) (listed h t f p))))
 
-  pub left_rows : (s g : List ℕ) (ps : List Pid) → e.event ≡ event.Leave s g ps → (t f : List ℕ) (p : Pid)
+  pub left_rows : (s g : List ℕ) (ps : List Pid) → e.event ≡ Event.Leave s g ps → (t f : List ℕ) (p : Pid)
       → listed (with_entry h e) t f p ≡ cond (same t s) (listed h t f p - cond (same f g) (mentions p ps) 0) (listed h t f p)
-  left_rows s g ps is t f p = by_made h e (event.Leave s g ps) (λ x. listed (with_entry h x) t f p ≡ cond (same t s) (listed h t f p - cond (same f g) (mentions p ps) 0) (listed h t f p)) made yes is (λ r q. (
-      let holds = all_hold (leave_checks h s g ps) (accepted h e.seat (event.Leave s g ps) r q).0 in
+  left_rows s g ps is t f p = by_made h e (Event.Leave s g ps) (λ x. listed (with_entry h x) t f p ≡ cond (same t s) (listed h t f p - cond (same f g) (mentions p ps) 0) (listed h t f p)) made yes is (λ r q. (
+      let holds = all_hold (leave_checks h s g ps) (accepted h e.seat (Event.Leave s g ps) r q).0 in
       ap (λ c. cond (is_local h p) c (remote t f p)) (own_left h e r s g ps t f p)
       ∙ minus_own (is_local h p) (same s t) (same g f) (own h t f p) (remote t f p) (mentions p ps) (unmentioned ps (unbroken (list_all (is_local h) ps) holds.1.0) p)
       ∙ (λ i. cond (same_sym s t i) (listed h t f p - cond (same_sym g f i) (mentions p ps) 0) (listed h t f p))))
 
-  pub exited_rows : (q : Pid) → e.event ≡ event.Exit q → (t f : List ℕ) (p : Pid) → listed (with_entry h e) t f p ≡ cond (same_pid p q) 0 (listed h t f p)
-  exited_rows q is t f p = by_made h e (event.Exit q) (λ x. listed (with_entry h x) t f p ≡ cond (same_pid p q) 0 (listed h t f p)) made yes is (λ r v. (
-      let own_one = unbroken (is_local h q) (all_hold (checks h e.seat (event.Exit q)) (accepted h e.seat (event.Exit q) r v).0).0 in
+  pub exited_rows : (q : Pid) → e.event ≡ Event.Exit q → (t f : List ℕ) (p : Pid) → listed (with_entry h e) t f p ≡ cond (same_pid p q) 0 (listed h t f p)
+  exited_rows q is t f p = by_made h e (Event.Exit q) (λ x. listed (with_entry h x) t f p ≡ cond (same_pid p q) 0 (listed h t f p)) made yes is (λ r v. (
+      let own_one = unbroken (is_local h q) (all_hold (checks h e.seat (Event.Exit q)) (accepted h e.seat (Event.Exit q) r v).0).0 in
       ap (λ c. cond (is_local h p) c (remote t f p)) (own_exited h e r q t f p)
       ∙ exit_own (is_local h p) (same_pid q p) (own h t f p) (remote t f p) (another own_one (same_pid q p) refl)
       ∙ ap (λ b. cond b 0 (listed h t f p)) (pid_sym q p)))
@@ -115,8 +99,8 @@ module _ (h : History) (e : Entry) (made : IsAnswered h e) (yes : is_accepted e.
       another its false s out = refl
       another its true s out = lie (sym its ∙ ap (is_local h) ((same_pid_decides q p).0 s) ∙ out)
 
-  pub restarted_rows : e.event ≡ event.Restart → (t f : List ℕ) (p : Pid) → listed (with_entry h e) t f p ≡ 0
-  restarted_rows is t f p = by_accepted e event.Restart (λ x. listed (with_entry h x) t f p ≡ 0) is yes (λ r. stopped_lists (with_entry h (but e event.Restart (Accepted r))) t f p refl)
+  pub restarted_rows : e.event ≡ Event.Restart → (t f : List ℕ) (p : Pid) → listed (with_entry h e) t f p ≡ 0
+  restarted_rows is t f p = by_accepted e Event.Restart (λ x. listed (with_entry h x) t f p ≡ 0) is yes (λ r. stopped_lists (with_entry h (but e Event.Restart (Accepted r))) t f p refl)
 
 -- ---- scopes and links
 
@@ -148,29 +132,29 @@ module _ (h : History) (legal : IsLegal h) (e : Entry) (made : IsAnswered h e) (
   left_alone : (ev : Event) → e.event ≡ ev → (t f : List ℕ) (p : Pid) → ((r : Reply) → may_change es (but e ev (Accepted r)) t f p ≡ false) → listed (with_entry h e) t f p ≡ listed h t f p
   left_alone ev is t f p within = by_made h e ev (λ x. listed (with_entry h x) t f p ≡ listed h t f p) made yes is (λ r q. rows_step h.opening es legal e made.number t f p ev (Accepted r) q (within r))
 
-  pub started_rows : (s : List ℕ) → e.event ≡ event.StartScope s → (t f : List ℕ) (p : Pid) → listed (with_entry h e) t f p ≡ listed h t f p
-  started_rows s is t f p = left_alone (event.StartScope s) is t f p (λ r. unreplaced p.node es (but e (event.StartScope s) (Accepted r) ∷ es) refl)
+  pub started_rows : (s : List ℕ) → e.event ≡ Event.StartScope s → (t f : List ℕ) (p : Pid) → listed (with_entry h e) t f p ≡ listed h t f p
+  started_rows s is t f p = left_alone (Event.StartScope s) is t f p (λ r. unreplaced p.node es (but e (Event.StartScope s) (Accepted r) ∷ es) refl)
 
-  pub stopped_rows : (s : List ℕ) → e.event ≡ event.StopScope s → (t f : List ℕ) (p : Pid) → listed (with_entry h e) t f p ≡ cond (same t s) 0 (listed h t f p)
+  pub stopped_rows : (s : List ℕ) → e.event ≡ Event.StopScope s → (t f : List ℕ) (p : Pid) → listed (with_entry h e) t f p ≡ cond (same t s) 0 (listed h t f p)
   stopped_rows s is t f p = by (same t s) refl
     where
       stops : same t s ≡ true → is_running (with_entry h e) t ≡ false
-      stops m = by_accepted e (event.StopScope s) (λ x. is_running (with_entry h x) t ≡ false) is yes
+      stops m = by_accepted e (Event.StopScope s) (λ x. is_running (with_entry h x) t ≡ false) is yes
           (λ r. ap (λ b. unwrap_or (elim (cond {A = Option Bool} b (Some false) None) as (λ _. Option Bool) [ Some y ↦ Some y | None ↦ first_of (starts t) (events es) ]) false) (same_sym s t ∙ m))
 
       by : (b : Bool) → same t s ≡ b → listed (with_entry h e) t f p ≡ cond b 0 (listed h t f p)
       by true m = stopped_lists (with_entry h e) t f p (stops m)
-      by false m = left_alone (event.StopScope s) is t f p (λ r. or_none _ _ (same_sym s t ∙ m) (unreplaced p.node es (but e (event.StopScope s) (Accepted r) ∷ es) refl))
+      by false m = left_alone (Event.StopScope s) is t f p (λ r. or_none _ _ (same_sym s t ∙ m) (unreplaced p.node es (but e (Event.StopScope s) (Accepted r) ∷ es) refl))
 
-  pub opened_rows : (c : ℕ) → e.event ≡ event.Opened c → (t f : List ℕ) (p : Pid) → listed (with_entry h e) t f p ≡ listed h t f p
-  opened_rows c is t f p = left_alone (event.Opened c) is t f p (λ r. unreplaced p.node es (but e (event.Opened c) (Accepted r) ∷ es) refl)
+  pub opened_rows : (c : ℕ) → e.event ≡ Event.Opened c → (t f : List ℕ) (p : Pid) → listed (with_entry h e) t f p ≡ listed h t f p
+  opened_rows c is t f p = left_alone (Event.Opened c) is t f p (λ r. unreplaced p.node es (but e (Event.Opened c) (Accepted r) ∷ es) refl)
 
-  pub dialled_rows : (n : List ℕ) (c : ℕ) → e.event ≡ event.Dial n c → (t f : List ℕ) (p : Pid) → listed (with_entry h e) t f p ≡ listed h t f p
-  dialled_rows n c is t f p = left_alone (event.Dial n c) is t f p (λ r. unreplaced p.node es (but e (event.Dial n c) (Accepted r) ∷ es) refl)
+  pub dialled_rows : (n : List ℕ) (c : ℕ) → e.event ≡ Event.Dial n c → (t f : List ℕ) (p : Pid) → listed (with_entry h e) t f p ≡ listed h t f p
+  dialled_rows n c is t f p = left_alone (Event.Dial n c) is t f p (λ r. unreplaced p.node es (but e (Event.Dial n c) (Accepted r) ∷ es) refl)
 
   -- a lost link that isn't the present one of p's node
-  lost_apart : (l : ℕ) → e.event ≡ event.Lost l → (t f : List ℕ) (p : Pid) → ((j : ℕ) → present_link p.node es ≡ Some j → (j == l) ≡ false) → listed (with_entry h e) t f p ≡ listed h t f p
-  lost_apart l is t f p apart = left_alone (event.Lost l) is t f p (λ r. unreplaced p.node es (but e (event.Lost l) (Accepted r) ∷ es) (by (present_link p.node es) refl))
+  lost_apart : (l : ℕ) → e.event ≡ Event.Lost l → (t f : List ℕ) (p : Pid) → ((j : ℕ) → present_link p.node es ≡ Some j → (j == l) ≡ false) → listed (with_entry h e) t f p ≡ listed h t f p
+  lost_apart l is t f p apart = left_alone (Event.Lost l) is t f p (λ r. unreplaced p.node es (but e (Event.Lost l) (Accepted r) ∷ es) (by (present_link p.node es) refl))
     where
       by : (x : Option ℕ) → present_link p.node es ≡ x → cond (option_map_or (λ k. k == l) x false) None x ≡ x
       by None q = refl
@@ -184,12 +168,12 @@ module _ (h : History) (legal : IsLegal h) (e : Entry) (made : IsAnswered h e) (
       by false m = refl
       by true m = absurd (not_so (subst (λ k. (is_up k es ≡ true) × (peer_of k es ≡ Some p.node)) (eqb-true j l m) ((agrees h.opening es legal p.node j).0 q)))
 
-  pub lost_rows : (l : ℕ) (n : List ℕ) → e.event ≡ event.Lost l → is_up l es ≡ true → peer_of l es ≡ Some n → same n h.opening.name ≡ false
+  pub lost_rows : (l : ℕ) (n : List ℕ) → e.event ≡ Event.Lost l → is_up l es ≡ true → peer_of l es ≡ Some n → same n h.opening.name ≡ false
       → (t f : List ℕ) (p : Pid) → listed (with_entry h e) t f p ≡ cond (same p.node n) 0 (listed h t f p)
   lost_rows l n is up of foreign t f p = by (same p.node n) refl
     where
       gone : same p.node n ≡ true → present_link p.node (e ∷ es) ≡ None
-      gone m = by_accepted e (event.Lost l) (λ x. present_link p.node (x ∷ es) ≡ None) is yes (λ r.
+      gone m = by_accepted e (Event.Lost l) (λ x. present_link p.node (x ∷ es) ≡ None) is yes (λ r.
           ap (λ x. cond (option_map_or (λ k. k == l) x false) None x) (ap (λ v. present_link v es) ((same_decides p.node n).0 m) ∙ (agrees h.opening es legal n l).1 (up, of))
           ∙ ap (λ b. cond b None (Some l)) (eq-eqb l l refl))
 
@@ -197,35 +181,35 @@ module _ (h : History) (legal : IsLegal h) (e : Entry) (made : IsAnswered h e) (
       by true m = unlinked (with_entry h e) t f p (not_local (with_entry h e) p n m foreign) (gone m)
       by false m = lost_apart l is t f p (other_link l p (λ w. lie (sym ((same_decides p.node n).1 (value_of p.node n (sym w.1 ∙ of))) ∙ m)))
 
-  pub lost_other : (l : ℕ) → e.event ≡ event.Lost l → is_up l es ≡ false → (t f : List ℕ) (p : Pid) → listed (with_entry h e) t f p ≡ listed h t f p
+  pub lost_other : (l : ℕ) → e.event ≡ Event.Lost l → is_up l es ≡ false → (t f : List ℕ) (p : Pid) → listed (with_entry h e) t f p ≡ listed h t f p
   lost_other l is down t f p = lost_apart l is t f p (other_link l p (λ w. lie (sym w.0 ∙ down)))
 
-  pub disconnected_rows : (n : List ℕ) → e.event ≡ event.Disconnect n → same n h.opening.name ≡ false → (t f : List ℕ) (p : Pid) → listed (with_entry h e) t f p ≡ cond (same p.node n) 0 (listed h t f p)
+  pub disconnected_rows : (n : List ℕ) → e.event ≡ Event.Disconnect n → same n h.opening.name ≡ false → (t f : List ℕ) (p : Pid) → listed (with_entry h e) t f p ≡ cond (same p.node n) 0 (listed h t f p)
   disconnected_rows n is foreign t f p = by (same p.node n) refl
     where
       gone : same p.node n ≡ true → present_link p.node (e ∷ es) ≡ None
-      gone m = by_accepted e (event.Disconnect n) (λ x. present_link p.node (x ∷ es) ≡ None) is yes (λ r. ap (λ b. cond b None (present_link p.node es)) (same_sym n p.node ∙ m))
+      gone m = by_accepted e (Event.Disconnect n) (λ x. present_link p.node (x ∷ es) ≡ None) is yes (λ r. ap (λ b. cond b None (present_link p.node es)) (same_sym n p.node ∙ m))
 
       by : (b : Bool) → same p.node n ≡ b → listed (with_entry h e) t f p ≡ cond b 0 (listed h t f p)
       by true m = unlinked (with_entry h e) t f p (not_local (with_entry h e) p n m foreign) (gone m)
-      by false m = left_alone (event.Disconnect n) is t f p (λ r. unreplaced p.node es (but e (event.Disconnect n) (Accepted r) ∷ es) (ap (λ b. cond b None (present_link p.node es)) (same_sym n p.node ∙ m)))
+      by false m = left_alone (Event.Disconnect n) is t f p (λ r. unreplaced p.node es (but e (Event.Disconnect n) (Accepted r) ∷ es) (ap (λ b. cond b None (present_link p.node es)) (same_sym n p.node ∙ m)))
 
   -- ---- frames
 
-  module _ (l : ℕ) (body : List ℕ) (is : e.event ≡ event.Frame l body) where
+  module _ (l : ℕ) (body : List ℕ) (is : e.event ≡ Event.Frame l body) where
     abbrev pub fr : Reply → Entry
-    fr r = but e (event.Frame l body) (Accepted r)
+    fr r = but e (Event.Frame l body) (Accepted r)
 
     -- a frame that isn't the last of a side is answered Done
-    pub done_frame : is_last (awaits l es) ≡ false → (P : Entry → Type 0) → (Accepted reply.Done ≡ verdict h e.seat (event.Frame l body) → P (fr reply.Done)) → P e
-    done_frame inner P each = by_made h e (event.Frame l body) P made yes is (λ r q. (
-        let done = (accepted h e.seat (event.Frame l body) r q).1 ∙ ap (λ b. cond b (up_answer h l) reply.Done) inner in
+    pub done_frame : is_last (awaits l es) ≡ false → (P : Entry → Type 0) → (Accepted Reply.Done ≡ verdict h e.seat (Event.Frame l body) → P (fr Reply.Done)) → P e
+    done_frame inner P each = by_made h e (Event.Frame l body) P made yes is (λ r q. (
+        let done = (accepted h e.seat (Event.Frame l body) r q).1 ∙ ap (λ b. cond b (up_answer h l) Reply.Done) inner in
         subst (λ x. P (fr x)) (sym done) (each (ap Accepted (sym done) ∙ q))))
 
     -- and leaves the rows that it doesn't concern
     pub inner_rows : is_last (awaits l es) ≡ false → (t f : List ℕ) (p : Pid) → (is_whole l es && is_peer p.node l es && is_about_rows t (message_taken body)) ≡ false → listed (with_entry h e) t f p ≡ listed h t f p
     inner_rows inner t f p within = done_frame inner (λ x. listed (with_entry h x) t f p ≡ listed h t f p)
-        (λ q. rows_step h.opening es legal e made.number t f p (event.Frame l body) (Accepted reply.Done) q (or_none _ _ within (unreplaced p.node es (fr reply.Done ∷ es) refl)))
+        (λ q. rows_step h.opening es legal e made.number t f p (Event.Frame l body) (Accepted Reply.Done) q (or_none _ _ within (unreplaced p.node es (fr Reply.Done ∷ es) refl)))
 
     pub unfinished_rows : is_message (awaits l es) ≡ false → is_last (awaits l es) ≡ false → (t f : List ℕ) (p : Pid) → listed (with_entry h e) t f p ≡ listed h t f p
     unfinished_rows unlike inner t f p = inner_rows inner t f p (ap (λ b. b && is_peer p.node l es && is_about_rows t (message_taken body)) (unwhole (is_whole l es) refl))
@@ -238,7 +222,7 @@ module _ (h : History) (legal : IsLegal h) (e : Entry) (made : IsAnswered h e) (
     module _ (n : List ℕ) (last : is_last (awaits l es) ≡ true) (of : peer_of l es ≡ Some n) (foreign : same n h.opening.name ≡ false) (t f : List ℕ) (p : Pid) where
       module _ (opens : is_open l es ≡ true) (c : Completed (record { body = body; before = es }) (opened l es) (taken l es)) where
         abbrev up : Reply
-        up = reply.Up c.peer c.gave.creation (is_visible h l)
+        up = Reply.Up c.peer c.gave.creation (is_visible h l)
 
         now_linked : (b : Bool) → same p.node n ≡ b → present_link p.node (fr up ∷ es) ≡ cond b (Some l) (present_link p.node es)
         now_linked b m = ap (λ v. cond v (Some l) (present_link p.node es)) (same_sym c.peer p.node ∙ ap (same p.node) (value_of c.peer n (sym c.was_of ∙ of)) ∙ m)
@@ -248,14 +232,14 @@ module _ (h : History) (legal : IsLegal h) (e : Entry) (made : IsAnswered h e) (
             (λ i. cond (not_local (with_entry h (fr up)) p n m foreign i) (own (with_entry h (fr up)) t f p) (cond (is_running h t) (option_map_or (listed_by (with_entry h (fr up)) t f p) (now_linked true m i) 0) 0))
             ∙ ap (λ c. cond (is_running h t) c 0) (new_lists h.opening es legal e made.number t f p l body opens last c) ∙ nothing (is_running h t)
 
-        up_by : Accepted up ≡ verdict h e.seat (event.Frame l body) → (b : Bool) → same p.node n ≡ b → listed (with_entry h (fr up)) t f p ≡ cond b 0 (listed h t f p)
+        up_by : Accepted up ≡ verdict h e.seat (Event.Frame l body) → (b : Bool) → same p.node n ≡ b → listed (with_entry h (fr up)) t f p ≡ cond b 0 (listed h t f p)
         up_by q true m = now_silent m
-        up_by q false m = rows_step h.opening es legal e made.number t f p (event.Frame l body) (Accepted up) q
+        up_by q false m = rows_step h.opening es legal e made.number t f p (Event.Frame l body) (Accepted up) q
             (or_none _ _ (ap (λ b. b && is_peer p.node l es && is_about_rows t (message_taken body)) c.was_whole) (unreplaced p.node es (fr up ∷ es) (now_linked false m)))
 
       pub up_rows : listed (with_entry h e) t f p ≡ cond (same p.node n) 0 (listed h t f p)
-      up_rows = by_made h e (event.Frame l body) (λ x. listed (with_entry h x) t f p ≡ cond (same p.node n) 0 (listed h t f p)) made yes is (λ r q. (
-          let met = accepted h e.seat (event.Frame l body) r q in
+      up_rows = by_made h e (Event.Frame l body) (λ x. listed (with_entry h x) t f p ≡ cond (same p.node n) 0 (listed h t f p)) made yes is (λ r q. (
+          let met = accepted h e.seat (Event.Frame l body) r q in
           let opens = (frame_fits h.opening es e.seat l body met.0).0 in
           let c = done_now h.opening es legal p.node e made.number l body opens last in
           let is_up = met.1 ∙ answered h.opening es legal p.node e made.number l body opens last c in

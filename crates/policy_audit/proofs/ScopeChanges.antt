@@ -1,24 +1,9 @@
 -- The difference of two histories, from the differences in its scopes; and that there is one.
-use Rattle.std.specs.Prelude.{◌≡◌, ℕ, Bool, true, false, cond, ◌||◌, not, List, [], ◌∷◌, ◌++◌, length, map}
-use Rattle.std.proofs.Common.{refl, ap, ◌∙◌, sym, subst, arith}
-use Rattle.std.proofs.lemmas.Map.Lookups.{exact_bytes}
-use Rattle.std.proofs.lemmas.Bool.{lt-ltb}
-use Rattle.std.specs.declared.cmp.Ordering.TheVariants.{Less, Equal, Greater}
-use Rattle.std.specs.List.{AllByRecursion, filter}
-use Rattle.std.specs.declared.cmp.Ordering.{Ordering}
-use Rattle.dist_types.specs.declared.change.GroupChange.{GroupChange}
-use Rattle.dist_types.specs.Difference.{IsDifference, is_empty}
-use Rattle.dist_types.specs.declared.pid.Pid.{Pid}
-use Rattle.dist_types.specs.Listing.{Rises, is_among, same}
-use Rattle.dist_types.proofs.Orders.{same_decides}
-use Rattle.dist_types.specs.Order.{text_cmp}
-use Rattle.policy_audit.specs.declared.change.Change.{Change}
-use Rattle.policy_audit.specs.declared.entry.Entry.{Entry}
-use Rattle.policy_audit.specs.declared.entry.Verdict.{Verdict}
-use Rattle.policy_audit.specs.History.{History}
-use Rattle.policy_audit.specs.Changes.{IsChange, change, groups_in}
-use Rattle.policy_audit.specs.Policy.{IsNext, after, bare_entry, entry_of, verdict, with_entry}
-use Rattle.policy_audit.specs.Listed.{listed}
+use Rattle.policy_audit.proofs.Words.{ap, arith, refl, subst, sym, ◌∙◌, lt-ltb, exact_bytes, AllByRecursion, filter, Bool, List, [], cond}
+use Rattle.policy_audit.proofs.Words.{false, length, map, not, true, ℕ, ◌++◌, ◌||◌, ◌∷◌, ◌≡◌, Ordering, Equal, Greater, Less, same_decides}
+use Rattle.policy_audit.proofs.Words.{IsDifference, is_empty, Rises, is_among, same, text_cmp, GroupChange, Pid, IsChange, change}
+use Rattle.policy_audit.proofs.Words.{groups_in, History, listed, IsNext, after, bare_entry, entry_of, verdict, with_entry, Change, Entry}
+use Rattle.policy_audit.proofs.Words.{Verdict}
 use Rattle.policy_audit.proofs.OneDifference.{above_all, apart, one_group_difference, turned}
 use Rattle.policy_audit.proofs.ChangeLemmas.{change_is}
 use Rattle.policy_audit.proofs.Accepted.{lie}

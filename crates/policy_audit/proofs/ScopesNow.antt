@@ -1,18 +1,9 @@
 -- Which scopes run, after each start and each stop.
-use Rattle.std.specs.Prelude.{◌≡◌, ℕ, Bool, true, false, cond, ◌&&◌, ◌||◌, not, List, [], ◌∷◌, Option, Some, None}
-use Rattle.std.proofs.Common.{refl, ap, ◌∙◌, sym}
-use Rattle.std.proofs.lemmas.Map.Lookups.{exact_bytes}
-use Rattle.std.specs.List.{filter, flat_map}
-use Rattle.std.specs.Option.{unwrap_or}
-use Rattle.dist_types.specs.Listing.{Rises, ascending, is_among, same, placed}
-use Rattle.dist_types.proofs.Listings.{ascending_rises, ascending_stands, same_rising}
-use Rattle.dist_types.proofs.Orders.{same_decides, same_sym, texts_total}
-use Rattle.dist_types.specs.Order.{text_cmp}
-use Rattle.policy_audit.specs.declared.entry.Entry.{Entry}
-use Rattle.policy_audit.specs.declared.event.Event.TheVariants as event
-use Rattle.policy_audit.specs.History.{History, events, first_of, is_accepted}
-use Rattle.policy_audit.specs.Own.{is_running, running_scopes, scopes_started, starts}
-use Rattle.policy_audit.specs.Policy.{with_entry}
+use Rattle.policy_audit.proofs.Words.{ap, refl, sym, ◌∙◌, exact_bytes, filter, flat_map, unwrap_or, Bool, List, None, Option, Some, []}
+use Rattle.policy_audit.proofs.Words.{cond, false, not, true, ℕ, ◌&&◌, ◌||◌, ◌∷◌, ◌≡◌, ascending_rises, ascending_stands, same_rising}
+use Rattle.policy_audit.proofs.Words.{same_decides, same_sym, texts_total, Rises, ascending, is_among, placed, same, text_cmp, History}
+use Rattle.policy_audit.proofs.Words.{events, first_of, is_accepted, is_running, running_scopes, scopes_started, starts, with_entry, Entry}
+use Rattle.policy_audit.proofs.Words.{Event}
 use Rattle.policy_audit.proofs.UpLinks.{and_false}
 use Rattle.policy_audit.proofs.Effects.{by_accepted}
 use Rattle.policy_audit.proofs.Lists.{filter_rises, left_passes, passes_left}
@@ -79,15 +70,15 @@ running_among h s =
 
 module _ (h : History) (e : Entry) (yes : is_accepted e.verdict ≡ true) (s : List ℕ) where
   -- whether a scope runs, after a start or a stop of s
-  pub runs_started : e.event ≡ event.StartScope s → (t : List ℕ) → is_running (with_entry h e) t ≡ (same s t || is_running h t)
-  runs_started is t = by_accepted e (event.StartScope s) (λ x. is_running (with_entry h x) t ≡ (same s t || is_running h t)) is yes (λ r. by (same s t))
+  pub runs_started : e.event ≡ Event.StartScope s → (t : List ℕ) → is_running (with_entry h e) t ≡ (same s t || is_running h t)
+  runs_started is t = by_accepted e (Event.StartScope s) (λ x. is_running (with_entry h x) t ≡ (same s t || is_running h t)) is yes (λ r. by (same s t))
     where
       by : (b : Bool) → unwrap_or (elim (cond {A = Option Bool} b (Some true) None) as (λ _. Option Bool) [ Some y ↦ Some y | None ↦ first_of (starts t) (events h.entries) ]) false ≡ (b || is_running h t)
       by true = refl
       by false = refl
 
-  pub runs_stopped : e.event ≡ event.StopScope s → (t : List ℕ) → is_running (with_entry h e) t ≡ (is_running h t && not (same t s))
-  runs_stopped is t = by_accepted e (event.StopScope s) (λ x. is_running (with_entry h x) t ≡ (is_running h t && not (same t s))) is yes (λ r. by (same s t) ∙ ap (λ b. is_running h t && not b) (same_sym s t))
+  pub runs_stopped : e.event ≡ Event.StopScope s → (t : List ℕ) → is_running (with_entry h e) t ≡ (is_running h t && not (same t s))
+  runs_stopped is t = by_accepted e (Event.StopScope s) (λ x. is_running (with_entry h x) t ≡ (is_running h t && not (same t s))) is yes (λ r. by (same s t) ∙ ap (λ b. is_running h t && not b) (same_sym s t))
     where
       plain : (a : Bool) → a ≡ (a && true)
       plain true = refl
@@ -97,12 +88,12 @@ module _ (h : History) (e : Entry) (yes : is_accepted e.verdict ≡ true) (s : L
       by true = sym (and_false (is_running h t))
       by false = plain (is_running h t)
 
-  pub running_started : e.event ≡ event.StartScope s → running_scopes (with_entry h e) ≡ placed text_cmp s (running_scopes h)
+  pub running_started : e.event ≡ Event.StartScope s → running_scopes (with_entry h e) ≡ placed text_cmp s (running_scopes h)
   running_started is =
       one_rising (running_scopes (with_entry h e)) (ascending text_cmp (s ∷ running_scopes h)) (running_rises (with_entry h e)) (rising (s ∷ running_scopes h)) (λ t.
       running_among (with_entry h e) t ∙ runs_started is t ∙ ap (λ b. same s t || b) (sym (running_among h t)) ∙ sym (rising_stands t (s ∷ running_scopes h)))
       ∙ ap (placed text_cmp s) (rising_is (running_scopes h) (running_rises h))
 
-  pub running_stopped : e.event ≡ event.StopScope s → running_scopes (with_entry h e) ≡ filter (λ t. not (same t s)) (running_scopes h)
+  pub running_stopped : e.event ≡ Event.StopScope s → running_scopes (with_entry h e) ≡ filter (λ t. not (same t s)) (running_scopes h)
   running_stopped is = one_rising (running_scopes (with_entry h e)) (filter (λ t. not (same t s)) (running_scopes h)) (running_rises (with_entry h e)) (filter_rises text_cmp (λ t. not (same t s)) (running_scopes h) (running_rises h)) (λ t.
       running_among (with_entry h e) t ∙ runs_stopped is t ∙ ap (λ b. b && not (same t s)) (sym (running_among h t)) ∙ sym (among_left (λ u. not (same u s)) t (running_scopes h)))

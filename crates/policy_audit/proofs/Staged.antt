@@ -1,23 +1,11 @@
 -- What the accepted events alone say of the links is what the recorded answers say.
-use Rattle.std.specs.Prelude.{◌≡◌, ℕ, ◌==◌, Bool, true, false, cond, ◌&&◌, ◌||◌, not, List, [], ◌∷◌, ◌++◌, Option, Some, None, is_some}
-use Rattle.std.proofs.Common.{refl, ap, ◌∙◌, sym}
-use Rattle.std.proofs.lemmas.Bool.{eqb-true}
-use Rattle.std.specs.List.{list_any, flat_map}
-use Rattle.std.specs.Option.{option_map_or}
-use Rattle.dist_types.specs.Listing.{same}
-use Rattle.dist_types.proofs.Orders.{same_decides}
-use Rattle.handshake_frames.specs.Reading.{name_frame}
-use Rattle.policy_audit.specs.declared.opening.Opening.{Opening}
-use Rattle.policy_audit.specs.declared.event.Event.{Event}
-use Rattle.policy_audit.specs.declared.event.Event.TheVariants as event
-use Rattle.policy_audit.specs.declared.entry.Verdict.{Verdict}
-use Rattle.policy_audit.specs.declared.entry.Verdict.TheVariants.{Accepted, Refused}
-use Rattle.policy_audit.specs.declared.entry.Entry.{Entry}
-use Rattle.policy_audit.specs.History.{Moment, present, first_of}
-use Rattle.policy_audit.specs.Sides.{Start, Opened, Taken, start_of, started_where, opened, taken, and_frame, was_up, present_link, peer_of, is_peer, is_name_up, awaits, is_whole, is_last}
-use Rattle.policy_audit.specs.Links.{is_opened_by, is_dial_to, share_peer, named_by, ends, is_open, is_up, links}
-use Rattle.policy_audit.specs.Stages.{Stage, name_up_at, ends_at, was_up_after, is_up_at, stages, name_up}
-use Rattle.policy_audit.specs.Policy.{IsLegalIn}
+use Rattle.policy_audit.proofs.Words.{ap, refl, sym, ◌∙◌, eqb-true, flat_map, list_any, option_map_or, Bool, List, None, Option, Some, []}
+use Rattle.policy_audit.proofs.Words.{cond, false, is_some, not, true, ℕ, ◌&&◌, ◌++◌, ◌==◌, ◌||◌, ◌∷◌, ◌≡◌, same_decides, same, name_frame}
+use Rattle.policy_audit.proofs.Words.{Moment, first_of, present, ends, is_dial_to, is_open, is_opened_by, is_up, links, named_by}
+use Rattle.policy_audit.proofs.Words.{share_peer, IsLegalIn, Opened, Start, Taken, and_frame, awaits, is_last, is_name_up, is_peer}
+use Rattle.policy_audit.proofs.Words.{is_whole, opened, peer_of, present_link, start_of, started_where, taken, was_up, Stage, ends_at}
+use Rattle.policy_audit.proofs.Words.{is_up_at, name_up, name_up_at, stages, was_up_after, Entry, Verdict, Accepted, Refused, Event}
+use Rattle.policy_audit.proofs.Words.{Opening}
 use Rattle.policy_audit.proofs.Accepted.{lie}
 use Rattle.policy_audit.proofs.Walked.{but}
 use Rattle.policy_audit.proofs.Finished.{whole_by}
@@ -93,10 +81,10 @@ module _ (o : Opening) (es : List Entry) (legal : IsLegalIn o es) (e : Entry) (l
   agreed = λ i n. names_now o es legal n i
 
   same_end : (ev : Event) (v : Verdict) → ends_at (now es) l es v ev ≡ ends l es v ev
-  same_end (event.Frame k body) (Accepted r) =
+  same_end (Event.Frame k body) (Accepted r) =
       ap (λ (named : List ℕ → Bool). not (k == l) && cond (is_last (awaits k es)) (is_whole l es && share_peer k l es)
       (option_map_or (λ f. not (named f.name) && (option_map_or (λ x. is_dial_to f.name x.start) (opened l es) false && not (is_whole l es))) (named_by (awaits k es) body) false)) agreed
-  same_end (event.Frame k body) (Refused r) = refl
+  same_end (Event.Frame k body) (Refused r) = refl
   same_end ev (Refused r) = refl
   same_end ev (Accepted r) = refl
 
@@ -114,8 +102,8 @@ module _ (o : Opening) (es : List Entry) (legal : IsLegalIn o es) (e : Entry) (l
 
   same_was_up : (ev : Event) (v : Verdict) → was_up_after (now es) l es (taken l es) (taken l (but e ev v ∷ es)) ≡ was_up (taken l (but e ev v ∷ es))
   same_was_up ev (Refused r) = stayed (now es) (taken l es) refl
-  same_was_up event.Restart (Accepted r) = refl
-  same_was_up (event.Frame k body) (Accepted r) = grown (now es) (taken l es) refl agreed (k == l) body
+  same_was_up Event.Restart (Accepted r) = refl
+  same_was_up (Event.Frame k body) (Accepted r) = grown (now es) (taken l es) refl agreed (k == l) body
   same_was_up ev (Accepted r) = stayed (now es) (taken l es) refl
 
 -- the stages are what the other words say

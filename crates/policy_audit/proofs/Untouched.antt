@@ -1,25 +1,8 @@
 -- A refused entry leaves all as it was.
-use Rattle.std.specs.Prelude.{◌≡◌, ℕ, false, cond, ◌&&◌, List, [], ◌++◌, None}
-use Rattle.std.proofs.Common.{refl, ap, ◌∙◌, sym, arith}
-use Rattle.std.proofs.lemmas.List.{append-nil}
-use Rattle.std.specs.List.{flat_map}
-use Rattle.std.specs.Option.{option_map_or, unwrap_or}
-use Rattle.dist_types.specs.declared.change.GroupChange.{GroupChange}
-use Rattle.policy_audit.specs.declared.event.Event.{Event}
-use Rattle.policy_audit.specs.declared.event.Event.TheVariants as event
-use Rattle.policy_audit.specs.declared.rule.Rule.{Rule}
-use Rattle.policy_audit.specs.declared.entry.Verdict.{Verdict}
-use Rattle.policy_audit.specs.declared.entry.Verdict.TheVariants.{Accepted, Refused}
-use Rattle.policy_audit.specs.declared.entry.Entry.{Entry}
-use Rattle.policy_audit.specs.History.{History, is_accepted, first_of}
-use Rattle.policy_audit.specs.Sides.{frame_of}
-use Rattle.policy_audit.specs.Links.{is_up}
-use Rattle.policy_audit.specs.Hearing.{hears, tells, talk, heard, told}
-use Rattle.policy_audit.specs.Listed.{listed}
-use Rattle.policy_audit.specs.Changes.{IsChange, groups_in}
-use Rattle.policy_audit.specs.Monitors.{Target, is_watched, group_updates, monitor, updates_since}
-use Rattle.policy_audit.specs.Effects.{IsUntouched, IsAsOpen}
-use Rattle.policy_audit.specs.Policy.{IsNext, with_entry}
+use Rattle.policy_audit.proofs.Words.{ap, arith, refl, sym, ◌∙◌, append-nil, flat_map, option_map_or, unwrap_or, List, None, [], cond}
+use Rattle.policy_audit.proofs.Words.{false, ℕ, ◌&&◌, ◌++◌, ◌≡◌, GroupChange, IsChange, groups_in, IsAsOpen, IsUntouched, heard, hears}
+use Rattle.policy_audit.proofs.Words.{talk, tells, told, History, first_of, is_accepted, is_up, listed, Target, group_updates, is_watched}
+use Rattle.policy_audit.proofs.Words.{monitor, updates_since, IsNext, with_entry, frame_of, Entry, Verdict, Accepted, Refused, Event, Rule}
 use Rattle.policy_audit.proofs.Accepted.{lie}
 use Rattle.policy_audit.proofs.Walked.{but}
 use Rattle.policy_audit.proofs.Effects.{rows_left}
@@ -35,7 +18,7 @@ module _ (h : History) (e : Entry) (r : Rule) where
   kk ev = with_entry h (fr ev)
 
   up_left : (ev : Event) (l : ℕ) → is_up l (kk ev).entries ≡ is_up l h.entries
-  up_left (event.Frame k body) l = refused_up h.entries k l
+  up_left (Event.Frame k body) l = refused_up h.entries k l
   up_left ev l = refl
 
   heard_left : (ev : Event) (l : ℕ) (s : List ℕ) → heard l s (kk ev).entries ≡ heard l s h.entries

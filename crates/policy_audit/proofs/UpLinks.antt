@@ -1,23 +1,10 @@
 -- The present link of a peer is the one link of it that is up.
-use Rattle.std.specs.Prelude.{◌≡◌, ◌↔◌, ℕ, ◌+◌, ◌==◌, Bool, true, false, cond, ◌&&◌, ◌||◌, not, List, [], ◌∷◌, Option, Some, None, length}
-use Rattle.std.proofs.Common.{refl, ap, ◌∙◌, sym, subst, arith}
-use Rattle.std.proofs.lemmas.Bool.{eqb-true, eq-eqb}
-use Rattle.std.specs.Option.{option_map_or, unwrap_or}
-use Rattle.dist_types.specs.Listing.{same}
-use Rattle.dist_types.proofs.Orders.{same_decides, same_sym}
-use Rattle.handshake_frames.specs.Frame.{Name}
-use Rattle.policy_audit.specs.declared.opening.Opening.{Opening}
-use Rattle.policy_audit.specs.declared.event.Event.{Event}
-use Rattle.policy_audit.specs.declared.event.Event.TheVariants as event
-use Rattle.policy_audit.specs.declared.reply.Reply.{Reply}
-use Rattle.policy_audit.specs.declared.reply.Reply.TheVariants as reply
-use Rattle.policy_audit.specs.declared.entry.Verdict.{Verdict}
-use Rattle.policy_audit.specs.declared.entry.Verdict.TheVariants.{Accepted, Refused}
-use Rattle.policy_audit.specs.declared.entry.Entry.{Entry}
-use Rattle.policy_audit.specs.History.{past}
-use Rattle.policy_audit.specs.Sides.{Start, ByPeer, ByDial, Opened, Taken, opened, taken, and_frame, present_link, peer_of, is_peer, is_name_up, is_visible, awaits, is_whole, is_last}
-use Rattle.policy_audit.specs.Links.{is_open, is_up, is_dial_to, named_by, share_peer, gives_up, frame_ends}
-use Rattle.policy_audit.specs.Policy.{IsLegalIn, verdict, up_answer}
+use Rattle.policy_audit.proofs.Words.{ap, arith, refl, subst, sym, ◌∙◌, eq-eqb, eqb-true, option_map_or, unwrap_or, Bool, List, None}
+use Rattle.policy_audit.proofs.Words.{Option, Some, [], cond, false, length, not, true, ℕ, ◌&&◌, ◌+◌, ◌==◌, ◌||◌, ◌↔◌, ◌∷◌, ◌≡◌}
+use Rattle.policy_audit.proofs.Words.{same_decides, same_sym, same, Name, past, frame_ends, gives_up, is_dial_to, is_open, is_up, named_by}
+use Rattle.policy_audit.proofs.Words.{share_peer, IsLegalIn, up_answer, verdict, ByDial, ByPeer, Opened, Start, Taken, and_frame, awaits}
+use Rattle.policy_audit.proofs.Words.{is_last, is_name_up, is_peer, is_visible, is_whole, opened, peer_of, present_link, taken, Entry}
+use Rattle.policy_audit.proofs.Words.{Verdict, Accepted, Refused, Event, Opening, Reply}
 use Rattle.policy_audit.proofs.Accepted.{lie, no_value, accepted, peer_by}
 use Rattle.policy_audit.proofs.Walked.{but, unborn, Far, far, frame_fits}
 use Rattle.policy_audit.proofs.Finished.{whole_by, stays, kept, Completed, completed}
@@ -153,7 +140,7 @@ module _ (o : Opening) (es : List Entry) (legal : IsLegalIn o es) (n : List ℕ)
 
   module _ (k : ℕ) (body : List ℕ) where
     abbrev fr : Reply → Entry
-    fr r = but e (event.Frame k body) (Accepted r)
+    fr r = but e (Event.Frame k body) (Accepted r)
 
     abbrev pub moment : Taken
     moment = record { body = body; before = es }
@@ -179,8 +166,8 @@ module _ (o : Opening) (es : List Entry) (legal : IsLegalIn o es) (n : List ℕ)
         by (Some f) = three (not (is_name_up f.name es)) (option_map_or (λ y. is_dial_to f.name y.start) (opened l es) false) (is_whole l es)
 
     -- a frame that is not the last of a side
-    pub not_last : is_last (awaits k es) ≡ false → Agrees es n → Agrees (fr reply.Done ∷ es) n
-    not_last q p = unchanged es n (fr reply.Done) refl (λ l. ups l (k == l) refl) (λ l u. peers l (k == l) refl u) p
+    pub not_last : is_last (awaits k es) ≡ false → Agrees es n → Agrees (fr Reply.Done ∷ es) n
+    not_last q p = unchanged es n (fr Reply.Done) refl (λ l. ups l (k == l) refl) (λ l u. peers l (k == l) refl u) p
       where
         ups : (l : ℕ) (b : Bool) → (k == l) ≡ b → state_if l b ≡ is_up l es
         ups l true s = ap (λ x. is_open l es && x) (stays moment (opened l es) (taken l es) (subst (λ j. is_last (awaits j es) ≡ false) (eqb-true k l s) q))
@@ -198,13 +185,13 @@ module _ (o : Opening) (es : List Entry) (legal : IsLegalIn o es) (n : List ℕ)
       done_now = completed moment o (opened k es) (taken k es) (far o es legal k) last
 
       abbrev up_reply : Completed moment (opened k es) (taken k es) → Reply
-      up_reply c = reply.Up c.peer c.gave.creation (is_visible (past o es) k)
+      up_reply c = Reply.Up c.peer c.gave.creation (is_visible (past o es) k)
 
-      pub answered : (c : Completed moment (opened k es) (taken k es)) → cond (is_last (awaits k es)) (up_answer (past o es) k) reply.Done ≡ up_reply c
+      pub answered : (c : Completed moment (opened k es) (taken k es)) → cond (is_last (awaits k es)) (up_answer (past o es) k) Reply.Done ≡ up_reply c
       answered c =
-          ap (λ b. cond b (up_answer (past o es) k) reply.Done) last
-          ∙ ap (λ (x : Option Name). option_map_or (λ f. reply.Up (unwrap_or (peer_of k es) []) f.creation (is_visible (past o es) k)) x reply.Done) c.was_given
-          ∙ ap (λ (x : Option (List ℕ)). reply.Up (unwrap_or x []) c.gave.creation (is_visible (past o es) k)) c.was_of
+          ap (λ b. cond b (up_answer (past o es) k) Reply.Done) last
+          ∙ ap (λ (x : Option Name). option_map_or (λ f. Reply.Up (unwrap_or (peer_of k es) []) f.creation (is_visible (past o es) k)) x Reply.Done) c.was_given
+          ∙ ap (λ (x : Option (List ℕ)). Reply.Up (unwrap_or x []) c.gave.creation (is_visible (past o es) k)) c.was_of
 
       module _ (c : Completed moment (opened k es) (taken k es)) where
         kk : (k == k) ≡ true
@@ -253,34 +240,34 @@ module _ (o : Opening) (es : List Entry) (legal : IsLegalIn o es) (n : List ℕ)
         last_frame p l = (λ q. forth l (same c.peer n) refl p q, λ w. back l (k == l) refl p w.0 w.1)
 
     -- an accepted frame
-    frame_step : (r : Reply) → is_open k es ≡ true → r ≡ cond (is_last (awaits k es)) (up_answer (past o es) k) reply.Done → Agrees es n → Agrees (fr r ∷ es) n
+    frame_step : (r : Reply) → is_open k es ≡ true → r ≡ cond (is_last (awaits k es)) (up_answer (past o es) k) Reply.Done → Agrees es n → Agrees (fr r ∷ es) n
     frame_step r opens q p = by_last (is_last (awaits k es)) refl
       where
         by_last : (b : Bool) → is_last (awaits k es) ≡ b → Agrees (fr r ∷ es) n
         by_last true s = (let c = done_now opens s in subst (λ x. Agrees (fr x ∷ es) n) (sym (q ∙ answered opens s c)) (last_frame opens s c p))
-        by_last false s = subst (λ x. Agrees (fr x ∷ es) n) (sym (q ∙ ap (λ b. cond b (up_answer (past o es) k) reply.Done) s)) (not_last s p)
+        by_last false s = subst (λ x. Agrees (fr x ∷ es) n) (sym (q ∙ ap (λ b. cond b (up_answer (past o es) k) Reply.Done) s)) (not_last s p)
 
   -- ---- each event
 
-  lost_step : (j : ℕ) (r : Reply) → Agrees es n → Agrees (but e (event.Lost j) (Accepted r) ∷ es) n
-  lost_step j r p = fewer es n (but e (event.Lost j) (Accepted r)) (λ l. j == l) (option_map_or (λ k. k == j) (present_link n es) false) refl (λ l. refl) (λ l. refl)
+  lost_step : (j : ℕ) (r : Reply) → Agrees es n → Agrees (but e (Event.Lost j) (Accepted r) ∷ es) n
+  lost_step j r p = fewer es n (but e (Event.Lost j) (Accepted r)) (λ l. j == l) (option_map_or (λ k. k == j) (present_link n es) false) refl (λ l. refl) (λ l. refl)
       (λ l q of whole. flip j l ∙ sym (ap (λ x. option_map_or (λ k. k == j) x false) q)) p
 
-  disconnect_step : (m : List ℕ) (r : Reply) → Agrees es n → Agrees (but e (event.Disconnect m) (Accepted r) ∷ es) n
-  disconnect_step m r p = fewer es n (but e (event.Disconnect m) (Accepted r)) (λ l. is_whole l es && is_peer m l es) (same m n) refl (λ l. refl) (λ l. refl)
+  disconnect_step : (m : List ℕ) (r : Reply) → Agrees es n → Agrees (but e (Event.Disconnect m) (Accepted r) ∷ es) n
+  disconnect_step m r p = fewer es n (but e (Event.Disconnect m) (Accepted r)) (λ l. is_whole l es && is_peer m l es) (same m n) refl (λ l. refl) (λ l. refl)
       (λ l q of whole. ap (λ b. b && is_peer m l es) whole ∙ ap (λ x. option_map_or (λ y. same y m) x false) of ∙ same_sym n m) p
 
   pub step : (ev : Event) (v : Verdict) → v ≡ verdict (past o es) e.seat ev → Agrees es n → Agrees (but e ev v ∷ es) n
-  step (event.Frame k body) (Refused r) q p = unchanged es n (but e (event.Frame k body) (Refused r)) refl (λ l. refused_up es k l) (λ l u. refl) p
+  step (Event.Frame k body) (Refused r) q p = unchanged es n (but e (Event.Frame k body) (Refused r)) refl (λ l. refused_up es k l) (λ l u. refl) p
   step ev (Refused r) q p = unchanged es n (but e ev (Refused r)) refl (λ l. refl) (λ l u. refl) p
-  step (event.Frame k body) (Accepted r) q p =
-      let met = accepted (past o es) e.seat (event.Frame k body) r q in
+  step (Event.Frame k body) (Accepted r) q p =
+      let met = accepted (past o es) e.seat (Event.Frame k body) r q in
       frame_step k body r (frame_fits o es e.seat k body met.0).0 met.1 p
-  step event.Restart (Accepted r) q p = λ l. (λ w. no_value (sym w), λ w. lie (sym w.0))
-  step (event.Lost j) (Accepted r) q p = lost_step j r p
-  step (event.Disconnect m) (Accepted r) q p = disconnect_step m r p
-  step (event.Opened c) (Accepted r) q p = unchanged es n (but e (event.Opened c) (Accepted r)) refl (opened_up (ByPeer c) refl) (opened_peer (ByPeer c)) p
-  step (event.Dial m c) (Accepted r) q p = unchanged es n (but e (event.Dial m c) (Accepted r)) refl (opened_up (ByDial m c) refl) (opened_peer (ByDial m c)) p
+  step Event.Restart (Accepted r) q p = λ l. (λ w. no_value (sym w), λ w. lie (sym w.0))
+  step (Event.Lost j) (Accepted r) q p = lost_step j r p
+  step (Event.Disconnect m) (Accepted r) q p = disconnect_step m r p
+  step (Event.Opened c) (Accepted r) q p = unchanged es n (but e (Event.Opened c) (Accepted r)) refl (opened_up (ByPeer c) refl) (opened_peer (ByPeer c)) p
+  step (Event.Dial m c) (Accepted r) q p = unchanged es n (but e (Event.Dial m c) (Accepted r)) refl (opened_up (ByDial m c) refl) (opened_peer (ByDial m c)) p
   step ev (Accepted r) q p = unchanged es n (but e ev (Accepted r)) refl (λ l. refl) (λ l u. refl) p
 
 -- in a history that the policy makes, the present link of a peer is the one link of it that is up

@@ -1,29 +1,11 @@
 -- How far the handshake of a link is, in a history that the policy makes.
-use Rattle.std.specs.Prelude.{◌≡◌, ℕ, ◌+◌, ◌<◌, ◌==◌, Bool, true, false, cond, ◌&&◌, ◌||◌, not, List, [], ◌∷◌, ◌++◌, Option, Some, None, is_some, length, get_or, bytes_eq}
-use Rattle.std.proofs.Common.{refl, sym, subst, arith}
-use Rattle.std.proofs.lemmas.Bool.{eqb-true}
-use Rattle.std.specs.Option.{option_and_then, option_map_or}
-use Rattle.dist_types.specs.Listing.{same}
-use Rattle.handshake_frames.specs.Frame.{Name, Challenge}
-use Rattle.handshake_frames.specs.declared.frame.StatusWord.{StatusWord}
-use Rattle.handshake_frames.specs.declared.frame.StatusWord.TheVariants as word
-use Rattle.handshake_frames.specs.declared.frame.ReplyFrame.{ReplyFrame}
-use Rattle.handshake_frames.specs.declared.frame.AckFrame.{AckFrame}
-use Rattle.handshake_frames.specs.Reading.{name_frame, challenge_frame, reply_frame, ack_frame, status_of}
-use Rattle.cookie_digest.specs.Digest.{digest_of}
-use Rattle.policy_audit.specs.declared.opening.Opening.{Opening}
-use Rattle.policy_audit.specs.declared.event.Event.{Event}
-use Rattle.policy_audit.specs.declared.event.Event.TheVariants as event
-use Rattle.policy_audit.specs.declared.entry.Verdict.{Verdict}
-use Rattle.policy_audit.specs.declared.entry.Verdict.TheVariants.{Accepted, Refused}
-use Rattle.policy_audit.specs.declared.entry.Entry.{Entry}
-use Rattle.policy_audit.specs.History.{past}
-use Rattle.policy_audit.specs.Admission.{cookie, allowed}
-use Rattle.policy_audit.specs.Sides.{Start, ByPeer, ByDial, Opened, Taken, opened, taken, and_frame, was_up, whole_side, awaited_in, awaits, AwaitMessage}
-use Rattle.policy_audit.specs.Links.{is_open, ends}
-use Rattle.policy_audit.specs.Checks.{first_broken, checks, dial_checks, frame_checks}
-use Rattle.policy_audit.specs.Policy.{IsLegalIn, verdict}
-use Rattle.policy_audit.specs.Admitted.{goes_on}
+use Rattle.policy_audit.proofs.Words.{arith, refl, subst, sym, eqb-true, option_and_then, option_map_or, Bool, List, None, Option, Some, []}
+use Rattle.policy_audit.proofs.Words.{bytes_eq, cond, false, get_or, is_some, length, not, true, ℕ, ◌&&◌, ◌++◌, ◌+◌, ◌<◌, ◌==◌, ◌||◌, ◌∷◌}
+use Rattle.policy_audit.proofs.Words.{◌≡◌, same, Challenge, Name, ack_frame, challenge_frame, name_frame, reply_frame, status_of, AckFrame}
+use Rattle.policy_audit.proofs.Words.{ReplyFrame, StatusWord, digest_of, allowed, cookie, goes_on, checks, dial_checks, first_broken}
+use Rattle.policy_audit.proofs.Words.{frame_checks, past, ends, is_open, IsLegalIn, verdict, AwaitMessage, ByDial, ByPeer, Opened, Start}
+use Rattle.policy_audit.proofs.Words.{Taken, and_frame, awaited_in, awaits, opened, taken, was_up, whole_side, Entry, Verdict, Accepted}
+use Rattle.policy_audit.proofs.Words.{Refused, Event, Opening}
 use Rattle.policy_audit.proofs.Accepted.{lie, accepted, all_hold, unbroken, open_first, Fits, fits}
 
 -- an entry with another event and verdict
@@ -39,7 +21,7 @@ abbrev pub IsReplied : Opening → ℕ → Taken → Taken → Type 0
 IsReplied o c a r = (g : ReplyFrame) × (reply_frame r.body ≡ Some g) × (bytes_eq g.digest (digest_of (option_map_or (cookie (past o r.before)) (option_and_then (λ f. Some f.name) (name_frame a.body)) []) c) ≡ true)
 
 abbrev pub IsTrueWord : Taken → Type 0
-IsTrueWord b = status_of b.body ≡ Some word.True
+IsTrueWord b = status_of b.body ≡ Some StatusWord.True
 
 abbrev pub IsWelcomed : Taken → Type 0
 IsWelcomed a = (w : StatusWord) × (status_of a.body ≡ Some w) × (goes_on w ≡ true)
@@ -125,9 +107,9 @@ unborn o (e ∷ es) legal l below = by_event e.event e.verdict (unborn o es lega
 
     by_event : (ev : Event) (v : Verdict) → opened l es ≡ None → opened l (but e ev v ∷ es) ≡ None
     by_event ev (Refused r) q = q
-    by_event event.Restart (Accepted r) q = refl
-    by_event (event.Opened c) (Accepted r) q = not_opened (record { start = ByPeer c; before = es }) (e.number == l) other_number q
-    by_event (event.Dial n c) (Accepted r) q = not_opened (record { start = ByDial n c; before = es }) (e.number == l) other_number q
+    by_event Event.Restart (Accepted r) q = refl
+    by_event (Event.Opened c) (Accepted r) q = not_opened (record { start = ByPeer c; before = es }) (e.number == l) other_number q
+    by_event (Event.Dial n c) (Accepted r) q = not_opened (record { start = ByDial n c; before = es }) (e.number == l) other_number q
     by_event ev (Accepted r) q = q
 
 -- an open link was opened
@@ -145,13 +127,13 @@ open_opened l (e ∷ es) q = by_event e.event e.verdict (open_opened l es) q
 
     by_event : (ev : Event) (v : Verdict) → (is_open l es ≡ true → is_some (opened l es) ≡ true) → is_open l (but e ev v ∷ es) ≡ true → is_some (opened l (but e ev v ∷ es)) ≡ true
     by_event ev (Refused r) so_far q = so_far (second (not (ends l es (Refused r) ev)) (is_open l es) q)
-    by_event event.Restart (Accepted r) so_far q = lie (sym q)
-    by_event (event.Opened c) (Accepted r) so_far q = opened_now (record { start = ByPeer c; before = es }) (is_open l es) (e.number == l) so_far q
-    by_event (event.Dial n c) (Accepted r) so_far q = opened_now (record { start = ByDial n c; before = es }) (is_open l es) (e.number == l) so_far q
+    by_event Event.Restart (Accepted r) so_far q = lie (sym q)
+    by_event (Event.Opened c) (Accepted r) so_far q = opened_now (record { start = ByPeer c; before = es }) (is_open l es) (e.number == l) so_far q
+    by_event (Event.Dial n c) (Accepted r) so_far q = opened_now (record { start = ByDial n c; before = es }) (is_open l es) (e.number == l) so_far q
     by_event ev (Accepted r) so_far q = so_far (second (not (ends l es (Accepted r) ev)) (is_open l es) q)
 
 -- an accepted frame of link k: k is open, and the frame is of the kind that it awaits
-pub frame_fits : (o : Opening) (es : List Entry) (seat k : ℕ) (body : List ℕ) → first_broken (checks (past o es) seat (event.Frame k body)) ≡ None → (is_open k es ≡ true) × Fits (past o es) (opened k es) (taken k es) body (awaits k es)
+pub frame_fits : (o : Opening) (es : List Entry) (seat k : ℕ) (body : List ℕ) → first_broken (checks (past o es) seat (Event.Frame k body)) ≡ None → (is_open k es ≡ true) × Fits (past o es) (opened k es) (taken k es) body (awaits k es)
 frame_fits o es seat k body q =
     let found = open_first (is_open k es) (frame_checks (past o es) k body (awaits k es)) q in
     (found.0, fits (past o es) k body (awaits k es) found.1)
@@ -171,7 +153,7 @@ far o (e ∷ es) legal l = by_event e.event e.verdict legal.0.verdict (far o es 
     by_opening s start p true q = start (taken l es) (none_yet q p)
     by_opening s start p false q = p
 
-    by_frame : (k : ℕ) (body : List ℕ) → first_broken (checks (past o es) e.seat (event.Frame k body)) ≡ None → FarIn o l es
+    by_frame : (k : ℕ) (body : List ℕ) → first_broken (checks (past o es) e.seat (Event.Frame k body)) ≡ None → FarIn o l es
         → (b : Bool) → (k == l) ≡ b → Far o (opened l es) (and_frame (taken l es) (cond b (Some (record { body = body; before = es })) None))
     by_frame k body q p true same_link =
         let met = subst (λ x. (is_open x es ≡ true) × Fits (past o es) (opened x es) (taken x es) body (awaits x es)) (eqb-true k l same_link) (frame_fits o es e.seat k body q) in
@@ -180,9 +162,9 @@ far o (e ∷ es) legal l = by_event e.event e.verdict legal.0.verdict (far o es 
 
     by_event : (ev : Event) (v : Verdict) → v ≡ verdict (past o es) e.seat ev → FarIn o l es → FarIn o l (but e ev v ∷ es)
     by_event ev (Refused r) q p = p
-    by_event event.Restart (Accepted r) q p = refl
-    by_event (event.Opened c) (Accepted r) q p = by_opening (ByPeer c) (λ ts t. subst (Walk o es (ByPeer c)) (sym t) tt) p (e.number == l) refl
-    by_event (event.Dial n c) (Accepted r) q p =
-        by_opening (ByDial n c) (λ ts t. (unbroken (allowed (past o es) n) (all_hold (dial_checks (past o es) n) (accepted (past o es) e.seat (event.Dial n c) r q).0).1.0, subst (Reach o n c) (sym t) tt)) p (e.number == l) refl
-    by_event (event.Frame k body) (Accepted r) q p = by_frame k body (accepted (past o es) e.seat (event.Frame k body) r q).0 p (k == l) refl
+    by_event Event.Restart (Accepted r) q p = refl
+    by_event (Event.Opened c) (Accepted r) q p = by_opening (ByPeer c) (λ ts t. subst (Walk o es (ByPeer c)) (sym t) tt) p (e.number == l) refl
+    by_event (Event.Dial n c) (Accepted r) q p =
+        by_opening (ByDial n c) (λ ts t. (unbroken (allowed (past o es) n) (all_hold (dial_checks (past o es) n) (accepted (past o es) e.seat (Event.Dial n c) r q).0).1.0, subst (Reach o n c) (sym t) tt)) p (e.number == l) refl
+    by_event (Event.Frame k body) (Accepted r) q p = by_frame k body (accepted (past o es) e.seat (Event.Frame k body) r q).0 p (k == l) refl
     by_event ev (Accepted r) q p = p

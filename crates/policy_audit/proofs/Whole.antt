@@ -1,22 +1,10 @@
 -- A link with a whole side of accepted frames was admitted, and the other way round.
-use Rattle.std.specs.Prelude.{◌≡◌, ◌↔◌, ℕ, Bool, true, false, ◌&&◌, not, nat_le, List, [], ◌∷◌, ◌++◌, Option, Some, None, is_some, length, IsTrue, MatchBool, bytes_eq}
-use Rattle.std.proofs.Common.{refl, ap, ◌∙◌, sym, subst}
-use Rattle.std.proofs.lemmas.Slice.Eq.{bytes_eq-Decides}
-use Rattle.std.specs.Option.{option_map_or, option_and_then}
-use Rattle.dist_types.proofs.Orders.{same_decides}
-use Rattle.dist_types.specs.Flags.{has_bit}
-use Rattle.handshake_frames.specs.Frame.{Name, Challenge}
-use Rattle.handshake_frames.specs.Reading.{name_frame}
-use Rattle.cookie_digest.specs.Digest.{digest_of}
-use Rattle.policy_audit.specs.declared.opening.Opening.{Opening}
-use Rattle.policy_audit.specs.declared.entry.Entry.{Entry}
-use Rattle.policy_audit.specs.History.{History, past}
-use Rattle.policy_audit.specs.Admission.{cookie}
-use Rattle.policy_audit.specs.Sides.{Start, ByPeer, ByDial, Opened, Taken, opened, taken, was_up, present_link, given, given_in, peer_in, peer_of, is_name_up, is_visible, is_whole}
-use Rattle.policy_audit.specs.Links.{is_open, is_up}
-use Rattle.policy_audit.specs.Stages.{name_up}
-use Rattle.policy_audit.specs.Policy.{IsLegal, IsLegalIn}
-use Rattle.policy_audit.specs.Admitted.{IsTrueStatus, IsLetIn, IsReached, IsAdmitted, LetIn, Reached}
+use Rattle.policy_audit.proofs.Words.{ap, refl, subst, sym, ◌∙◌, bytes_eq-Decides, option_and_then, option_map_or, Bool, IsTrue, List}
+use Rattle.policy_audit.proofs.Words.{MatchBool, None, Option, Some, [], bytes_eq, false, is_some, length, nat_le, not, true, ℕ, ◌&&◌, ◌++◌}
+use Rattle.policy_audit.proofs.Words.{◌↔◌, ◌∷◌, ◌≡◌, same_decides, has_bit, Challenge, Name, name_frame, digest_of, cookie, IsAdmitted}
+use Rattle.policy_audit.proofs.Words.{IsLetIn, IsReached, IsTrueStatus, LetIn, Reached, History, past, is_open, is_up, IsLegal, IsLegalIn}
+use Rattle.policy_audit.proofs.Words.{ByDial, ByPeer, Opened, Start, Taken, given, given_in, is_name_up, is_visible, is_whole, opened}
+use Rattle.policy_audit.proofs.Words.{peer_in, peer_of, present_link, taken, was_up, name_up, Entry, Opening}
 use Rattle.policy_audit.proofs.Accepted.{lie, peer_by}
 use Rattle.policy_audit.proofs.Walked.{IsNamed, Follow, Walk, Far, far}
 use Rattle.policy_audit.proofs.Finished.{whole_by, given_by, whole_after, two_of, three_of}

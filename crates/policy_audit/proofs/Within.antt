@@ -1,32 +1,12 @@
 -- Which rows an entry may change: no others change.
-use Rattle.std.specs.Prelude.{◌≡◌, ℕ, suc, ◌+◌, ◌-◌, ◌==◌, Bool, true, false, cond, ◌&&◌, ◌||◌, not, List, [], ◌∷◌, ◌++◌, Option, Some, None, length}
-use Rattle.std.proofs.Common.{refl, ap, ◌∙◌, sym, subst, arith}
-use Rattle.std.proofs.lemmas.Bool.{eqb-true}
-use Rattle.std.specs.Option.{option_map_or, unwrap_or}
-use Rattle.dist_types.specs.Flags.{has_bit}
-use Rattle.dist_types.specs.declared.pid.Pid.{Pid}
-use Rattle.dist_types.specs.Listing.{same, same_pid, mentions, stands_in}
-use Rattle.dist_types.proofs.Orders.{same_decides, same_sym}
-use Rattle.handshake_frames.specs.Frame.{Name}
-use Rattle.link_frames.specs.declared.message.Message.{Message}
-use Rattle.link_frames.specs.declared.message.Message.TheVariants as said
-use Rattle.policy_audit.specs.declared.opening.Opening.{Opening}
-use Rattle.policy_audit.specs.declared.event.Event.{Event}
-use Rattle.policy_audit.specs.declared.event.Event.TheVariants as event
-use Rattle.policy_audit.specs.declared.reply.Reply.{Reply}
-use Rattle.policy_audit.specs.declared.reply.Reply.TheVariants as reply
-use Rattle.policy_audit.specs.declared.entry.Verdict.{Verdict}
-use Rattle.policy_audit.specs.declared.entry.Verdict.TheVariants.{Accepted, Refused}
-use Rattle.policy_audit.specs.declared.entry.Entry.{Entry}
-use Rattle.policy_audit.specs.History.{History, past, events, first_of}
-use Rattle.policy_audit.specs.Own.{starts, is_running, is_local, joined, own}
-use Rattle.policy_audit.specs.Sides.{Start, ByPeer, ByDial, opened, taken, and_frame, given, peer_of, is_peer, present_link, is_visible, awaits, is_whole, is_last}
-use Rattle.policy_audit.specs.Links.{share_peer, gives_up, frame_ends, is_open, is_up}
-use Rattle.policy_audit.specs.Hearing.{Talk, hears, message_taken, talk, talk_of, rows_of, stated_in}
-use Rattle.policy_audit.specs.Listed.{is_from, listed_by, listed}
-use Rattle.policy_audit.specs.Checks.{checks}
-use Rattle.policy_audit.specs.Policy.{IsLegalIn, IsNext, verdict, with_entry, up_answer}
-use Rattle.policy_audit.specs.Effects.{is_replaced, is_about_rows, may_change}
+use Rattle.policy_audit.proofs.Words.{ap, arith, refl, subst, sym, ◌∙◌, eqb-true, option_map_or, unwrap_or, Bool, List, None, Option, Some}
+use Rattle.policy_audit.proofs.Words.{[], cond, false, length, not, suc, true, ℕ, ◌&&◌, ◌++◌, ◌+◌, ◌-◌, ◌==◌, ◌||◌, ◌∷◌, ◌≡◌, same_decides}
+use Rattle.policy_audit.proofs.Words.{same_sym, has_bit, mentions, same, same_pid, stands_in, Pid, Name, Message, checks, is_about_rows}
+use Rattle.policy_audit.proofs.Words.{is_replaced, may_change, Talk, hears, message_taken, rows_of, stated_in, talk, talk_of, History}
+use Rattle.policy_audit.proofs.Words.{events, first_of, past, frame_ends, gives_up, is_open, is_up, share_peer, is_from, listed, listed_by}
+use Rattle.policy_audit.proofs.Words.{is_local, is_running, joined, own, starts, IsLegalIn, IsNext, up_answer, verdict, with_entry, ByDial}
+use Rattle.policy_audit.proofs.Words.{ByPeer, Start, and_frame, awaits, given, is_last, is_peer, is_visible, is_whole, opened, peer_of}
+use Rattle.policy_audit.proofs.Words.{present_link, taken, Entry, Verdict, Accepted, Refused, Event, Opening, Reply}
 use Rattle.policy_audit.proofs.Accepted.{lie, accepted, all_hold, peer_by}
 use Rattle.policy_audit.proofs.Walked.{but, frame_fits}
 use Rattle.policy_audit.proofs.Finished.{whole_by, given_by, stays, kept, given_kept, Completed}
@@ -93,7 +73,7 @@ module _ (o : Opening) (es : List Entry) (legal : IsLegalIn o es) (e : Entry) (n
 
   -- ---- own processes
 
-  unjoined : (t f : List ℕ) (ps : List Pid) (r : Reply) → (same t s && same f g && stands_in same_pid p ps) ≡ false → own (past o (but e (event.Join t f ps) (Accepted r) ∷ es)) s g p ≡ own (past o es) s g p
+  unjoined : (t f : List ℕ) (ps : List Pid) (r : Reply) → (same t s && same f g && stands_in same_pid p ps) ≡ false → own (past o (but e (Event.Join t f ps) (Accepted r) ∷ es)) s g p ≡ own (past o es) s g p
   unjoined t f ps r q = by (same t s) (same f g) (stands_in same_pid p ps) refl q
     where
       by : (a b c : Bool) → stands_in same_pid p ps ≡ c → (a && b && c) ≡ false → cond (is_running (past o es) s) (cond (a && b) (joined s g p (events es) + mentions p ps) (joined s g p (events es))) 0 ≡ own (past o es) s g p
@@ -105,7 +85,7 @@ module _ (o : Opening) (es : List Entry) (legal : IsLegalIn o es) (e : Entry) (n
       by true false c m k = refl
       by false b c m k = refl
 
-  unleft : (t f : List ℕ) (ps : List Pid) (r : Reply) → (same t s && same f g && stands_in same_pid p ps) ≡ false → own (past o (but e (event.Leave t f ps) (Accepted r) ∷ es)) s g p ≡ own (past o es) s g p
+  unleft : (t f : List ℕ) (ps : List Pid) (r : Reply) → (same t s && same f g && stands_in same_pid p ps) ≡ false → own (past o (but e (Event.Leave t f ps) (Accepted r) ∷ es)) s g p ≡ own (past o es) s g p
   unleft t f ps r q = by (same t s) (same f g) (stands_in same_pid p ps) refl q
     where
       by : (a b c : Bool) → stands_in same_pid p ps ≡ c → (a && b && c) ≡ false → cond (is_running (past o es) s) (cond (a && b) (joined s g p (events es) - mentions p ps) (joined s g p (events es))) 0 ≡ own (past o es) s g p
@@ -119,12 +99,12 @@ module _ (o : Opening) (es : List Entry) (legal : IsLegalIn o es) (e : Entry) (n
 
   -- ---- scopes
 
-  other_stops : (t : List ℕ) (r : Reply) → same t s ≡ false → same_rows (but e (event.StopScope t) (Accepted r))
+  other_stops : (t : List ℕ) (r : Reply) → same t s ≡ false → same_rows (but e (Event.StopScope t) (Accepted r))
   other_stops t r q =
-      all_same o es (but e (event.StopScope t) (Accepted r)) s g p refl
+      all_same o es (but e (Event.StopScope t) (Accepted r)) s g p refl
       (ap (λ b. cond (unwrap_or (elim (cond {A = Option Bool} b (Some false) None) as (λ _. Option Bool) [ Some y ↦ Some y | None ↦ first_of (starts s) (events es) ]) false) (joined s g p (events es)) 0) q)
       (ap (λ b. unwrap_or (elim (cond {A = Option Bool} b (Some false) None) as (λ _. Option Bool) [ Some y ↦ Some y | None ↦ first_of (starts s) (events es) ]) false) q)
-      (remote_same o es (but e (event.StopScope t) (Accepted r)) s g p refl (λ l here. link_lists o es (but e (event.StopScope t) (Accepted r)) s g p l refl refl refl
+      (remote_same o es (but e (Event.StopScope t) (Accepted r)) s g p refl (λ l here. link_lists o es (but e (Event.StopScope t) (Accepted r)) s g p l refl refl refl
       (ap (λ b. unwrap_or (elim (cond {A = Option Bool} b (Some false) None) as (λ _. Option Bool) [ Some y ↦ Some y | None ↦ first_of (hears s) (talk l es) ]) false) q)
       (ap (λ b. cond b 0 (stated_in s g p (talk l es))) q)))
 
@@ -136,15 +116,15 @@ module _ (o : Opening) (es : List Entry) (legal : IsLegalIn o es) (e : Entry) (n
       by false h = refl
       by true h = lie (sym (heard_runs o es legal l s h) ∙ q)
 
-  starts_scope : (t : List ℕ) (r : Reply) → is_running (past o es) t ≡ false → same_rows (but e (event.StartScope t) (Accepted r))
+  starts_scope : (t : List ℕ) (r : Reply) → is_running (past o es) t ≡ false → same_rows (but e (Event.StartScope t) (Accepted r))
   starts_scope t r stopped = by (same t s) refl
     where
-      by_other : same t s ≡ false → listed (past o (but e (event.StartScope t) (Accepted r) ∷ es)) s g p ≡ listed (past o es) s g p
+      by_other : same t s ≡ false → listed (past o (but e (Event.StartScope t) (Accepted r) ∷ es)) s g p ≡ listed (past o es) s g p
       by_other q =
-          all_same o es (but e (event.StartScope t) (Accepted r)) s g p refl
+          all_same o es (but e (Event.StartScope t) (Accepted r)) s g p refl
           (ap (λ b. cond (unwrap_or (elim (cond {A = Option Bool} b (Some true) None) as (λ _. Option Bool) [ Some y ↦ Some y | None ↦ first_of (starts s) (events es) ]) false) (cond b 0 (joined s g p (events es))) 0) q)
           (ap (λ b. unwrap_or (elim (cond {A = Option Bool} b (Some true) None) as (λ _. Option Bool) [ Some y ↦ Some y | None ↦ first_of (starts s) (events es) ]) false) q)
-          (remote_same o es (but e (event.StartScope t) (Accepted r)) s g p refl (λ l here. refl))
+          (remote_same o es (but e (Event.StartScope t) (Accepted r)) s g p refl (λ l here. refl))
 
       silent : is_running (past o es) s ≡ false → (l : ℕ) → listed_by (past o es) s g p l ≡ 0
       silent q l = ap (λ sync. lists o.hidden p (given l es) (peer_of l es) (is_up l es) sync (stated_in s g p (talk l es))) (unheard q l) ∙ nothing (is_visible (past o es) l && is_from l es p) (is_up l es)
@@ -158,7 +138,7 @@ module _ (o : Opening) (es : List Entry) (legal : IsLegalIn o es) (e : Entry) (n
       silent_link q None = refl
       silent_link q (Some l) = silent q l
 
-      by_same : same t s ≡ true → listed (past o (but e (event.StartScope t) (Accepted r) ∷ es)) s g p ≡ listed (past o es) s g p
+      by_same : same t s ≡ true → listed (past o (but e (Event.StartScope t) (Accepted r) ∷ es)) s g p ≡ listed (past o es) s g p
       by_same q =
           let here : is_running (past o es) s ≡ false = ap (is_running (past o es)) (sym ((same_decides t s).0 q)) ∙ stopped in
           both (is_local (past o es) p) (unwrap_or (elim (cond {A = Option Bool} (same t s) (Some true) None) as (λ _. Option Bool) [ Some y ↦ Some y | None ↦ first_of (starts s) (events es) ]) false) here
@@ -170,7 +150,7 @@ module _ (o : Opening) (es : List Entry) (legal : IsLegalIn o es) (e : Entry) (n
           both false true k = silent_link k (present_link n es)
           both false false k = refl
 
-      by : (b : Bool) → same t s ≡ b → listed (past o (but e (event.StartScope t) (Accepted r) ∷ es)) s g p ≡ listed (past o es) s g p
+      by : (b : Bool) → same t s ≡ b → listed (past o (but e (Event.StartScope t) (Accepted r) ∷ es)) s g p ≡ listed (past o es) s g p
       by true q = by_same q
       by false q = by_other q
 
@@ -193,28 +173,28 @@ module _ (o : Opening) (es : List Entry) (legal : IsLegalIn o es) (e : Entry) (n
   abbrev stays_present : Entry → Type 0
   stays_present x = is_replaced n es (x ∷ es) ≡ false
 
-  lost_link : (j : ℕ) (r : Reply) → stays_present (but e (event.Lost j) (Accepted r)) → same_rows (but e (event.Lost j) (Accepted r))
-  lost_link j r stay = all_same o es (but e (event.Lost j) (Accepted r)) s g p refl refl refl (by (present_link n es) refl stay)
+  lost_link : (j : ℕ) (r : Reply) → stays_present (but e (Event.Lost j) (Accepted r)) → same_rows (but e (Event.Lost j) (Accepted r))
+  lost_link j r stay = all_same o es (but e (Event.Lost j) (Accepted r)) s g p refl refl refl (by (present_link n es) refl stay)
     where
       by : (y : Option ℕ) → present_link n es ≡ y → option_map_or (λ l. not (option_map_or (λ k. k == l) (cond (option_map_or (λ k. k == j) y false) None y) false)) y false ≡ false
-          → remote o es (but e (event.Lost j) (Accepted r)) s g p (but e (event.Lost j) (Accepted r) ∷ es) (cond (option_map_or (λ k. k == j) y false) None y) ≡ remote o es (but e (event.Lost j) (Accepted r)) s g p es y
+          → remote o es (but e (Event.Lost j) (Accepted r)) s g p (but e (Event.Lost j) (Accepted r) ∷ es) (cond (option_map_or (λ k. k == j) y false) None y) ≡ remote o es (but e (Event.Lost j) (Accepted r)) s g p es y
       by None q k = refl
       by (Some l) q k = goes (l == j) refl k
         where
           goes : (b : Bool) → (l == j) ≡ b → not (option_map_or (λ m. m == l) (cond b None (Some l)) false) ≡ false
-              → remote o es (but e (event.Lost j) (Accepted r)) s g p (but e (event.Lost j) (Accepted r) ∷ es) (cond b None (Some l)) ≡ listed_by (past o es) s g p l
+              → remote o es (but e (Event.Lost j) (Accepted r)) s g p (but e (Event.Lost j) (Accepted r) ∷ es) (cond b None (Some l)) ≡ listed_by (past o es) s g p l
           goes true a k = lie k
-          goes false a k = link_lists o es (but e (event.Lost j) (Accepted r)) s g p l refl refl (ap (λ v. (not v && is_open l es) && is_whole l es) (flip j l ∙ a)) refl refl
+          goes false a k = link_lists o es (but e (Event.Lost j) (Accepted r)) s g p l refl refl (ap (λ v. (not v && is_open l es) && is_whole l es) (flip j l ∙ a)) refl refl
 
-  disconnects : (m : List ℕ) (r : Reply) → stays_present (but e (event.Disconnect m) (Accepted r)) → same_rows (but e (event.Disconnect m) (Accepted r))
-  disconnects m r stay = all_same o es (but e (event.Disconnect m) (Accepted r)) s g p refl refl refl (by (present_link n es) refl (same m n) refl stay)
+  disconnects : (m : List ℕ) (r : Reply) → stays_present (but e (Event.Disconnect m) (Accepted r)) → same_rows (but e (Event.Disconnect m) (Accepted r))
+  disconnects m r stay = all_same o es (but e (Event.Disconnect m) (Accepted r)) s g p refl refl refl (by (present_link n es) refl (same m n) refl stay)
     where
       by : (y : Option ℕ) → present_link n es ≡ y → (b : Bool) → same m n ≡ b → option_map_or (λ l. not (option_map_or (λ k. k == l) (cond b None y) false)) y false ≡ false
-          → remote o es (but e (event.Disconnect m) (Accepted r)) s g p (but e (event.Disconnect m) (Accepted r) ∷ es) (cond b None y) ≡ remote o es (but e (event.Disconnect m) (Accepted r)) s g p es y
+          → remote o es (but e (Event.Disconnect m) (Accepted r)) s g p (but e (Event.Disconnect m) (Accepted r) ∷ es) (cond b None y) ≡ remote o es (but e (Event.Disconnect m) (Accepted r)) s g p es y
       by None q true a k = refl
       by None q false a k = refl
       by (Some l) q true a k = lie k
-      by (Some l) q false a k = link_lists o es (but e (event.Disconnect m) (Accepted r)) s g p l refl refl
+      by (Some l) q false a k = link_lists o es (but e (Event.Disconnect m) (Accepted r)) s g p l refl refl
           (ap (λ v. (not (is_whole l es && v) && is_open l es) && is_whole l es) (ap (λ v. option_map_or (λ w. same w m) v false) (up_of l q).1 ∙ same_sym n m ∙ a)
           ∙ ap (λ v. (not v && is_open l es) && is_whole l es) (and_false (is_whole l es))) refl refl
 
@@ -222,42 +202,42 @@ module _ (o : Opening) (es : List Entry) (legal : IsLegalIn o es) (e : Entry) (n
 
   module _ (k : ℕ) (body : List ℕ) where
     abbrev fr : Reply → Entry
-    fr r = but e (event.Frame k body) (Accepted r)
+    fr r = but e (Event.Frame k body) (Accepted r)
 
     -- a message about another scope
     elsewhere_sync : (x : Option Message) (ts : List Talk) → is_about_rows s x ≡ false → has_sync s (talk_of x ++ ts) ≡ has_sync s ts
     elsewhere_sync None ts q = refl
-    elsewhere_sync (Some (said.Discover t)) ts q = refl
-    elsewhere_sync (Some (said.Join t rows)) ts q = refl
-    elsewhere_sync (Some (said.Leave t rows)) ts q = refl
-    elsewhere_sync (Some (said.Sync t rows)) ts q = ap (λ b. unwrap_or (elim (cond {A = Option Bool} b (Some true) None) as (λ _. Option Bool) [ Some y ↦ Some y | None ↦ first_of (hears s) ts ]) false) q
-    elsewhere_sync (Some (said.Down t)) ts q = ap (λ b. unwrap_or (elim (cond {A = Option Bool} b (Some false) None) as (λ _. Option Bool) [ Some y ↦ Some y | None ↦ first_of (hears s) ts ]) false) q
+    elsewhere_sync (Some (Message.Discover t)) ts q = refl
+    elsewhere_sync (Some (Message.Join t rows)) ts q = refl
+    elsewhere_sync (Some (Message.Leave t rows)) ts q = refl
+    elsewhere_sync (Some (Message.Sync t rows)) ts q = ap (λ b. unwrap_or (elim (cond {A = Option Bool} b (Some true) None) as (λ _. Option Bool) [ Some y ↦ Some y | None ↦ first_of (hears s) ts ]) false) q
+    elsewhere_sync (Some (Message.Down t)) ts q = ap (λ b. unwrap_or (elim (cond {A = Option Bool} b (Some false) None) as (λ _. Option Bool) [ Some y ↦ Some y | None ↦ first_of (hears s) ts ]) false) q
 
     elsewhere_count : (x : Option Message) (ts : List Talk) → is_about_rows s x ≡ false → stated_in s g p (talk_of x ++ ts) ≡ stated_in s g p ts
     elsewhere_count None ts q = refl
-    elsewhere_count (Some (said.Discover t)) ts q = refl
-    elsewhere_count (Some (said.Join t rows)) ts q = ap (λ b. cond b (stated_in s g p ts + rows_of g p rows) (stated_in s g p ts)) q
-    elsewhere_count (Some (said.Leave t rows)) ts q = ap (λ b. cond b (stated_in s g p ts - rows_of g p rows) (stated_in s g p ts)) q
-    elsewhere_count (Some (said.Sync t rows)) ts q = ap (λ b. cond b (rows_of g p rows) (stated_in s g p ts)) q
-    elsewhere_count (Some (said.Down t)) ts q = ap (λ b. cond b 0 (stated_in s g p ts)) q
+    elsewhere_count (Some (Message.Discover t)) ts q = refl
+    elsewhere_count (Some (Message.Join t rows)) ts q = ap (λ b. cond b (stated_in s g p ts + rows_of g p rows) (stated_in s g p ts)) q
+    elsewhere_count (Some (Message.Leave t rows)) ts q = ap (λ b. cond b (stated_in s g p ts - rows_of g p rows) (stated_in s g p ts)) q
+    elsewhere_count (Some (Message.Sync t rows)) ts q = ap (λ b. cond b (rows_of g p rows) (stated_in s g p ts)) q
+    elsewhere_count (Some (Message.Down t)) ts q = ap (λ b. cond b 0 (stated_in s g p ts)) q
 
     -- a frame that is not the last of a side
-    not_last : is_last (awaits k es) ≡ false → (is_whole k es && is_peer n k es && is_about_rows s (message_taken body)) ≡ false → same_rows (fr reply.Done)
-    not_last q within = all_same o es (fr reply.Done) s g p refl refl refl (remote_same o es (fr reply.Done) s g p refl (λ l here. each l here (k == l) refl))
+    not_last : is_last (awaits k es) ≡ false → (is_whole k es && is_peer n k es && is_about_rows s (message_taken body)) ≡ false → same_rows (fr Reply.Done)
+    not_last q within = all_same o es (fr Reply.Done) s g p refl refl refl (remote_same o es (fr Reply.Done) s g p refl (λ l here. each l here (k == l) refl))
       where
-        each : (l : ℕ) → present_link n es ≡ Some l → (b : Bool) → (k == l) ≡ b → listed_by (past o (fr reply.Done ∷ es)) s g p l ≡ listed_by (past o es) s g p l
-        each l here false a = link_lists o es (fr reply.Done) s g p l
-            (others_given es e k l body a (Accepted reply.Done)) (others_peer es e k l body a (Accepted reply.Done))
+        each : (l : ℕ) → present_link n es ≡ Some l → (b : Bool) → (k == l) ≡ b → listed_by (past o (fr Reply.Done ∷ es)) s g p l ≡ listed_by (past o es) s g p l
+        each l here false a = link_lists o es (fr Reply.Done) s g p l
+            (others_given es e k l body a (Accepted Reply.Done)) (others_peer es e k l body a (Accepted Reply.Done))
             (ap (λ b. (not (not b && frame_ends k body l es) && is_open l es) && whole_by (opened l es) (and_frame (taken l es) (cond b (Some (record { body = body; before = es })) None))) a
             ∙ ap (λ v. (not (cond v (is_whole l es && share_peer k l es) (gives_up k body l es)) && is_open l es) && is_whole l es) q
             ∙ unwhole_end (gives_up k body l es) (is_open l es) (is_whole l es) (given_up o es legal n e numbered k body l))
-            (ap (has_sync s) (others_talk es e k l body a (Accepted reply.Done))) (ap (stated_in s g p) (others_talk es e k l body a (Accepted reply.Done)))
+            (ap (has_sync s) (others_talk es e k l body a (Accepted Reply.Done))) (ap (stated_in s g p) (others_talk es e k l body a (Accepted Reply.Done)))
         each l here true a =
             let whole = whole_of l here in
             let its : is_peer n l es ≡ true = ap (λ v. option_map_or (λ w. same w n) v false) (up_of l here).1 ∙ (same_decides n n).1 refl in
             let about : is_about_rows s (message_taken body) ≡ false = sym (ap (λ (v : Bool × Bool). v.0 && v.1 && is_about_rows s (message_taken body)) (λ i. ((ap (λ j. is_whole j es) (eqb-true k l a) ∙ whole) i, (ap (λ j. is_peer n j es) (eqb-true k l a) ∙ its) i))) ∙ within in
-            let talks : talk l (fr reply.Done ∷ es) ≡ talk_of (message_taken body) ++ talk l es = ap (λ (v : Bool × Bool). cond (v.0 && v.1) (talk_of (message_taken body)) [] ++ talk l es) (λ i. (a i, whole i)) in
-            link_lists o es (fr reply.Done) s g p l
+            let talks : talk l (fr Reply.Done ∷ es) ≡ talk_of (message_taken body) ++ talk l es = ap (λ (v : Bool × Bool). cond (v.0 && v.1) (talk_of (message_taken body)) [] ++ talk l es) (λ i. (a i, whole i)) in
+            link_lists o es (fr Reply.Done) s g p l
             (ap (λ b. given_by (opened l es) (and_frame (taken l es) (cond b (Some (record { body = body; before = es })) None))) a ∙ given_kept (record { body = body; before = es }) (opened l es) (taken l es) whole)
             (ap (λ b. peer_by (opened l es) (and_frame (taken l es) (cond b (Some (record { body = body; before = es })) None))) a ∙ kept (record { body = body; before = es }) (opened l es) (taken l es) whole)
             (ap (λ b. (not (not b && frame_ends k body l es) && is_open l es) && whole_by (opened l es) (and_frame (taken l es) (cond b (Some (record { body = body; before = es })) None))) a
@@ -267,7 +247,7 @@ module _ (o : Opening) (es : List Entry) (legal : IsLegalIn o es) (e : Entry) (n
     -- the last frame of a side: nobody is heard on the link yet
     module _ (opens : is_open k es ≡ true) (last : is_last (awaits k es) ≡ true) (c : Completed (record { body = body; before = es }) (opened k es) (taken k es)) where
       abbrev up_reply : Reply
-      up_reply = reply.Up c.peer c.gave.creation (is_visible (past o es) k)
+      up_reply = Reply.Up c.peer c.gave.creation (is_visible (past o es) k)
 
       silent : (b : Bool) → has_sync s (talk k es) ≡ b → has_sync s (talk k (fr up_reply ∷ es)) ≡ false
       silent b q = ap (λ v. has_sync s (cond ((k == k) && v) (talk_of (message_taken body)) [] ++ talk k es)) c.was_whole ∙ ap (λ v. has_sync s (cond v (talk_of (message_taken body)) [] ++ talk k es)) (and_false (k == k)) ∙ q ∙ by b q
@@ -303,7 +283,7 @@ module _ (o : Opening) (es : List Entry) (legal : IsLegalIn o es) (e : Entry) (n
               ∙ ap (λ v. (not v && is_open l es) && is_whole l es) goes)
               (ap (has_sync s) (others_talk es e k l body apart (Accepted up_reply))) (ap (stated_in s g p) (others_talk es e k l body apart (Accepted up_reply)))
 
-    frame_rows : (r : Reply) → is_open k es ≡ true → r ≡ cond (is_last (awaits k es)) (up_answer (past o es) k) reply.Done → may_change es (fr r) s g p ≡ false → same_rows (fr r)
+    frame_rows : (r : Reply) → is_open k es ≡ true → r ≡ cond (is_last (awaits k es)) (up_answer (past o es) k) Reply.Done → may_change es (fr r) s g p ≡ false → same_rows (fr r)
     frame_rows r opens q within = by (is_last (awaits k es)) refl
       where
         by : (b : Bool) → is_last (awaits k es) ≡ b → same_rows (fr r)
@@ -312,7 +292,7 @@ module _ (o : Opening) (es : List Entry) (legal : IsLegalIn o es) (e : Entry) (n
             let is = q ∙ answered o es legal n e numbered k body opens last c in
             subst (λ x. same_rows (fr x)) (sym is) (last_rows opens last c (or_right _ _ (subst (λ x. may_change es (fr x) s g p ≡ false) is within)))
         by false m =
-            let is = q ∙ ap (λ b. cond b (up_answer (past o es) k) reply.Done) m in
+            let is = q ∙ ap (λ b. cond b (up_answer (past o es) k) Reply.Done) m in
             subst (λ x. same_rows (fr x)) (sym is) (not_last m (or_left _ _ within))
 
   -- ---- each event
@@ -322,22 +302,22 @@ module _ (o : Opening) (es : List Entry) (legal : IsLegalIn o es) (e : Entry) (n
 
   pub rows_step : (ev : Event) (v : Verdict) → v ≡ verdict (past o es) e.seat ev → may_change es (but e ev v) s g p ≡ false → same_rows (but e ev v)
   rows_step ev (Refused r) q within = rows_left (past o es) e ev (Refused r) refl s g p
-  rows_step event.Restart (Accepted r) q within = lie within
-  rows_step (event.StartScope t) (Accepted r) q within = starts_scope t r (still (is_running (past o es) t) (all_hold (checks (past o es) e.seat (event.StartScope t)) (accepted (past o es) e.seat (event.StartScope t) r q).0).0)
+  rows_step Event.Restart (Accepted r) q within = lie within
+  rows_step (Event.StartScope t) (Accepted r) q within = starts_scope t r (still (is_running (past o es) t) (all_hold (checks (past o es) e.seat (Event.StartScope t)) (accepted (past o es) e.seat (Event.StartScope t) r q).0).0)
     where
       still : (b : Bool) → not (not b) ≡ false → b ≡ false
       still true k = lie k
       still false k = refl
-  rows_step (event.StopScope t) (Accepted r) q within = other_stops t r (or_left _ _ within)
-  rows_step (event.Exit x) (Accepted r) q within = all_same o es (but e (event.Exit x) (Accepted r)) s g p refl (ap (λ b. cond (is_running (past o es) s) (cond b 0 (joined s g p (events es))) 0) (or_left _ _ within)) refl (remote_same o es (but e (event.Exit x) (Accepted r)) s g p refl (λ l here. refl))
-  rows_step (event.Join t f ps) (Accepted r) q within = all_same o es (but e (event.Join t f ps) (Accepted r)) s g p refl (unjoined t f ps r (or_left _ _ within)) refl (remote_same o es (but e (event.Join t f ps) (Accepted r)) s g p refl (λ l here. refl))
-  rows_step (event.Leave t f ps) (Accepted r) q within = all_same o es (but e (event.Leave t f ps) (Accepted r)) s g p refl (unleft t f ps r (or_left _ _ within)) refl (remote_same o es (but e (event.Leave t f ps) (Accepted r)) s g p refl (λ l here. refl))
-  rows_step (event.Dial m c) (Accepted r) q within = opens_link (but e (event.Dial m c) (Accepted r)) (ByDial m c) refl refl refl refl (opened_up o es legal n e numbered (ByDial m c) refl) (opened_peer o es legal n e numbered (ByDial m c)) (λ l. refl) (λ l. refl)
-  rows_step (event.Opened c) (Accepted r) q within = opens_link (but e (event.Opened c) (Accepted r)) (ByPeer c) refl refl refl refl (opened_up o es legal n e numbered (ByPeer c) refl) (opened_peer o es legal n e numbered (ByPeer c)) (λ l. refl) (λ l. refl)
-  rows_step (event.Lost j) (Accepted r) q within = lost_link j r within
-  rows_step (event.Disconnect m) (Accepted r) q within = disconnects m r within
-  rows_step (event.Frame k body) (Accepted r) q within =
-      let met = accepted (past o es) e.seat (event.Frame k body) r q in
+  rows_step (Event.StopScope t) (Accepted r) q within = other_stops t r (or_left _ _ within)
+  rows_step (Event.Exit x) (Accepted r) q within = all_same o es (but e (Event.Exit x) (Accepted r)) s g p refl (ap (λ b. cond (is_running (past o es) s) (cond b 0 (joined s g p (events es))) 0) (or_left _ _ within)) refl (remote_same o es (but e (Event.Exit x) (Accepted r)) s g p refl (λ l here. refl))
+  rows_step (Event.Join t f ps) (Accepted r) q within = all_same o es (but e (Event.Join t f ps) (Accepted r)) s g p refl (unjoined t f ps r (or_left _ _ within)) refl (remote_same o es (but e (Event.Join t f ps) (Accepted r)) s g p refl (λ l here. refl))
+  rows_step (Event.Leave t f ps) (Accepted r) q within = all_same o es (but e (Event.Leave t f ps) (Accepted r)) s g p refl (unleft t f ps r (or_left _ _ within)) refl (remote_same o es (but e (Event.Leave t f ps) (Accepted r)) s g p refl (λ l here. refl))
+  rows_step (Event.Dial m c) (Accepted r) q within = opens_link (but e (Event.Dial m c) (Accepted r)) (ByDial m c) refl refl refl refl (opened_up o es legal n e numbered (ByDial m c) refl) (opened_peer o es legal n e numbered (ByDial m c)) (λ l. refl) (λ l. refl)
+  rows_step (Event.Opened c) (Accepted r) q within = opens_link (but e (Event.Opened c) (Accepted r)) (ByPeer c) refl refl refl refl (opened_up o es legal n e numbered (ByPeer c) refl) (opened_peer o es legal n e numbered (ByPeer c)) (λ l. refl) (λ l. refl)
+  rows_step (Event.Lost j) (Accepted r) q within = lost_link j r within
+  rows_step (Event.Disconnect m) (Accepted r) q within = disconnects m r within
+  rows_step (Event.Frame k body) (Accepted r) q within =
+      let met = accepted (past o es) e.seat (Event.Frame k body) r q in
       frame_rows k body r (frame_fits o es e.seat k body met.0).0 met.1 within
   rows_step ev (Accepted r) q within = rows_left (past o es) e ev (Accepted r) refl s g p
 

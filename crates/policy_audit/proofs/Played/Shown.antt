@@ -1,14 +1,7 @@
 -- What can be seen of links and scopes behind some of the scripts.
-use Rattle.std.specs.Prelude.{◌≡◌, ℕ, Bool, List, [], ◌∷◌, true, false, Some, codes}
-use Rattle.std.proofs.Common.{refl}
-use Rattle.std.specs.Fmt.{digits}
-use Rattle.md5.specs.Md5.{md5, digest_bytes, hash_after, compress, rounds, block_words}
-use Rattle.handshake_frames.specs.Reading.{name_frame, challenge_frame, reply_frame, ack_frame, status_of}
-use Rattle.link_frames.specs.Reading.{message as read_message}
-use Rattle.policy_audit.specs.History.{History}
-use Rattle.policy_audit.specs.Sides.{AwaitMessage}
-use Rattle.policy_audit.specs.Contents.{contents}
-use Rattle.policy_audit.specs.Scripts.{Shown, play, show}
+use Rattle.policy_audit.proofs.Words.{refl, digits, Bool, List, Some, [], codes, false, true, ℕ, ◌∷◌, ◌≡◌, block_words, compress}
+use Rattle.policy_audit.proofs.Words.{digest_bytes, hash_after, md5, rounds, ack_frame, challenge_frame, name_frame, reply_frame, status_of}
+use Rattle.policy_audit.proofs.Words.{read_message, contents, History, lives, Shown, play, show, AwaitMessage}
 use Rattle.policy_audit.proofs.Lines.{Line, node, calls, pid}
 use Rattle.policy_audit.proofs.Played.Links.{replaced_link}
 use Rattle.policy_audit.proofs.Played.Rows.{discover_and_sync, hidden_link, joins_need_a_sync}

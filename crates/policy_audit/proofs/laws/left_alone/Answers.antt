@@ -1,5 +1,4 @@
-use Rattle.std.proofs.Common.{sym}
-use Rattle.policy_audit.specs.Policy.{with_entry}
+use Rattle.policy_audit.proofs.Words.{sym, with_entry}
 use Rattle.policy_audit.proofs.ChangeLemmas.{no_change}
 use Rattle.policy_audit.proofs.Effects.{entry_rows, entry_link}
 use Rattle.policy_audit.proofs.Within.{rows_within}

@@ -1,7 +1,4 @@
-use Rattle.policy_audit.specs.History.{events}
-use Rattle.policy_audit.specs.Own.{own}
-use Rattle.policy_audit.specs.Listed.{listed}
-use Rattle.policy_audit.specs.Contents.{groups_named, pids_named, local_members, local_groups}
+use Rattle.policy_audit.proofs.Words.{groups_named, local_groups, local_members, pids_named, events, listed, own}
 use Rattle.policy_audit.proofs.Named.{listed_named, own_named, group_named, pid_named}
 use Rattle.policy_audit.proofs.Lists.{members_are, groups_are, rows_are}
 use Rattle.policy_audit.proofs.laws.lists_ascend.Goals as goal
