@@ -33,16 +33,16 @@ rises_set (c ∷ cs) (suc i) x l e r = (
   rises_set cs i x (omega (arith, l)) e r.1,
 )
 
-pub tally-more : (cs : List Counted) (i : ℕ) (c : Counted) → i < length cs → c ≡ get_or cs i c → Adds (c.row ∷ []) cs (set cs i (record { row = c.row; count = c.count + 1 }))
-tally-more cs i c l e test = grind (arith, total_is, sum_by-set)
+pub tally_more : (cs : List Counted) (i : ℕ) (c : Counted) → i < length cs → c ≡ get_or cs i c → Adds (c.row ∷ []) cs (set cs i (record { row = c.row; count = c.count + 1 }))
+tally_more cs i c l e test = grind (arith, total_is, sum_by-set)
 
 -- one more entry
-pub tally-put : (cs : List Counted) (i : ℕ) (x : Counted) → Joins (x ∷ []) cs (insert cs i x)
-tally-put cs i x test = grind (arith, total_is, sum_by-insert)
+pub tally_put : (cs : List Counted) (i : ℕ) (x : Counted) → Joins (x ∷ []) cs (insert cs i x)
+tally_put cs i x test = grind (arith, total_is, sum_by-insert)
 
 -- an entry that is there already
-pub tally-grown : (cs : List Counted) (i : ℕ) (c x : Counted) → i < length cs → c ≡ get_or cs i c → c.row ≡ x.row → Joins (x ∷ []) cs (set cs i (record { row = c.row; count = c.count + x.count }))
-tally-grown cs i c x l e same test = grind (arith, total_is, sum_by-set)
+pub tally_grown : (cs : List Counted) (i : ℕ) (c x : Counted) → i < length cs → c ≡ get_or cs i c → c.row ≡ x.row → Joins (x ∷ []) cs (set cs i (record { row = c.row; count = c.count + x.count }))
+tally_grown cs i c x l e same test = grind (arith, total_is, sum_by-set)
 
 pub inserted : {T E : Type 0} {A : Type 0} (r : Result T E) (new a b : A) → IsOk r → new ≡ cond (is_ok r) a b → new ≡ a
 inserted (Ok x) new a b h e = e
@@ -60,11 +60,11 @@ pub one_fits : (cs : List Counted) (x : Counted) → HasRoomBeside (x ∷ []) cs
 one_fits cs x few = grind (arith, few x.row.pid.node, same_decides x.row.pid.node x.row.pid.node)
 
 pub put_kept : (cs : List Counted) (i : ℕ) (x : Counted) → i ≤ length cs → IsKept cs → 0 < x.count → HasRoomBeside (x ∷ []) cs → IsGap x.row cs i → IsKept (insert cs i x)
-put_kept cs i x l kept some few gap = grind (arith, rises_insert, all_insert, tally-put)
+put_kept cs i x l kept some few gap = grind (arith, rises_insert, all_insert, tally_put)
 
 pub grown_kept : (cs : List Counted) (i : ℕ) (c x : Counted) → i < length cs → c ≡ get_or cs i c → c.row ≡ x.row → IsKept cs → 0 < x.count → HasRoomBeside (x ∷ []) cs
     → IsKept (set cs i (record { row = c.row; count = c.count + x.count }))
-grown_kept cs i c x l e same kept some few = grind (arith, get_or_default, rises_set, all_set, tally-grown)
+grown_kept cs i c x l e same kept some few = grind (arith, get_or_default, rises_set, all_set, tally_grown)
 
 -- the last of the rows to put in counts as one
 pub last_counts : (test : Row → Bool) (rows rest : List Row) (row : Row) → rows ≡ rest ++ row ∷ [] → how_many test rows ≡ how_many test rest + cond (test row) 1 0

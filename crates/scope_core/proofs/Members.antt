@@ -8,8 +8,8 @@ use Rattle.scope_core.proofs.Joined.{mentions_in}
 use Rattle.std.proofs.lemmas.List.Elements.{filter-append}
 
 -- rows of a node, listed no more often than they are counted, are no more than it has
-pub length-part_of_all : (t : Table) (node : List ℕ) (rows : List Row) → ((g : List ℕ) (p : Pid) → occurrences same_row (row_in g p) rows ≤ of_node node p (count_of t g p)) → length rows ≤ node_total t node
-length-part_of_all t node rows few = fewer_rows node t rows (λ r. few r.group r.pid)
+pub length_part_of_all : (t : Table) (node : List ℕ) (rows : List Row) → ((g : List ℕ) (p : Pid) → occurrences same_row (row_in g p) rows ≤ of_node node p (count_of t g p)) → length rows ≤ node_total t node
+length_part_of_all t node rows few = fewer_rows node t rows (λ r. few r.group r.pid)
 
 -- of a list without the processes of other nodes
 mentions_kept : (node : List ℕ) (p : Pid) (ps : List Pid) → mentions p (filter (λ q. same q.node node) ps) ≡ cond (same p.node node) (mentions p ps) 0

@@ -100,5 +100,5 @@ module _ (node : List ℕ) (t : Table) (rows : List Row) where
       ∙ length-spread (λ (c : Counted). c.row) (each (of_node node)) t.rows
 
 -- the own rows, listed, are as many as the own node has
-pub length-local_rows : (t : Table) (rows : List Row) → IsRowListing (local_count t) rows → length rows ≡ local_total t
-length-local_rows t rows l = same_rows t.own t rows (λ r. l.counts r)
+pub length_local_rows : (t : Table) (rows : List Row) → IsRowListing (local_count t) rows → length rows ≡ local_total t
+length_local_rows t rows l = same_rows t.own t rows (λ r. l.counts r)

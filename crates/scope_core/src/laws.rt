@@ -10,6 +10,7 @@ ghost use Rattle.scope_core.specs.Table.{Table, count_of, node_total, local_coun
 ghost use Rattle.scope_core.specs.Added.{row_in, rows_left, rows_joined};
 
 /// How many rows the own processes have follows from the counts.
+#[tactic(auto, using(crate::proofs::Shares::length_local_rows))]
 pub fn total_of_counts()
     ensures { (table : Table) (rows : List Row) → IsRowListing (local_count table) rows → length rows ≡ local_total table }
 {}
@@ -21,6 +22,7 @@ pub fn part_of_own_rows()
 {}
 
 /// Own rows, listed no more often than they are counted, are no more than all own rows.
+#[tactic(auto, using(crate::proofs::Members::length_part_of_all))]
 pub fn part_of_all_own_rows()
     ensures { (table : Table) (rows : List Row)
         → ((group : List ℕ) (p : Pid) → occurrences same_row (row_in group p) rows ≤ local_count table group p) → length rows ≤ local_total table }

@@ -26,6 +26,7 @@ pub fn gone_of(
 }
 
 /// The same for processes in order. Those that are the same stand in a run, and their row is looked up once.
+#[tactic(auto, using(crate::proofs::Mentioned::ascends_behind))]
 fn gone_in_order(
     alloc: Global,
     rows: &[Counted],

@@ -13,6 +13,7 @@ use dist_types::{Group, NodeName, Pid, Row};
 
 /// Whether each row stands in the list at most as often as it is counted. Counts are lowered as far as this goes, and
 /// raised again.
+#[tactic(auto, using(crate::proofs::Lower::still_rises, crate::proofs::Lower::stands_counted, crate::proofs::Lower::same_counts))]
 pub fn are_all_in(rows: &mut Vec<Counted>, gone: &[Row]) -> bool
     requires { IsKept rows.old.items }
     ensures value { result ≡ are_all_in rows.old.items gone.now }
@@ -26,6 +27,7 @@ pub fn are_all_in(rows: &mut Vec<Counted>, gone: &[Row]) -> bool
 }
 
 /// One less for each row.
+#[tactic(auto, using(crate::proofs::Lower::still_rises))]
 pub fn take_rows(rows: &mut Vec<Counted>, gone: &[Row])
     requires kept { IsKept rows.old.items }
     requires counted { IsTrue (are_all_in rows.old.items gone.now) }
@@ -37,6 +39,7 @@ pub fn take_rows(rows: &mut Vec<Counted>, gone: &[Row])
 }
 
 /// One less for each mention of a process, as far as it is in the group. Answers how many the node loses.
+#[tactic(auto, using(crate::proofs::Lessened::taken_counts, crate::proofs::Lessened::taken_total, crate::proofs::Lower::still_rises, crate::proofs::Lower::takes_less))]
 pub fn lower_all(rows: &mut Vec<Counted>, group: &Group, pids: &[Pid], node: &NodeName) -> usize
     requires { IsKept rows.old.items }
     ensures counts { Leaves group.now pids.now rows.old.items rows.new.items }
@@ -64,6 +67,7 @@ pub fn sweep(rows: &mut Vec<Counted>)
 }
 
 /// One less for each row, up to the first that isn't there any more. Answers how many were.
+#[tactic(auto, using(crate::proofs::Lower::takes_more, crate::proofs::Lower::still_rises))]
 fn lower(rows: &mut Vec<Counted>, gone: &[Row]) -> usize
     requires { Rises counted_cmp rows.old.items }
     ensures bound { result ≤ length gone.now }
@@ -95,6 +99,7 @@ fn lower_one(rows: &mut Vec<Counted>, group: &Group, pid: &Pid, next: &mut usize
 }
 
 /// One less at this place. Answers whether there is one.
+#[tactic(auto, using(crate::proofs::Lessened::less_takes, crate::proofs::Lessened::same_at, crate::proofs::Places::found_counts, crate::proofs::Lower::set_rows))]
 fn lower_at(rows: &mut Vec<Counted>, at: usize) -> bool
     requires bound { at < vec_len rows.old }
     requires rises { Rises counted_cmp rows.old.items }
@@ -109,6 +114,7 @@ fn lower_at(rows: &mut Vec<Counted>, at: usize) -> bool
 }
 
 /// One more for each row, of rows that stand there.
+#[tactic(auto, using(crate::proofs::Lower::pass_more, crate::proofs::Lower::still_rises))]
 fn raise(rows: &mut Vec<Counted>, back: &[Row])
     requires rises { Rises counted_cmp rows.old.items }
     requires few { HasRoomFor back.now rows.old.items }
@@ -123,6 +129,7 @@ fn raise(rows: &mut Vec<Counted>, back: &[Row])
 }
 
 /// One more of a row that stands there.
+#[tactic(auto, using(crate::proofs::Added::count_fits, crate::proofs::Added::tally_more, crate::proofs::Lower::set_rows))]
 fn raise_one(rows: &mut Vec<Counted>, row: &Row, next: &mut usize)
     requires rises { Rises counted_cmp rows.old.items }
     requires few { HasRoomFor (row.now ∷ []) rows.old.items }

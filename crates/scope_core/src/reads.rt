@@ -70,6 +70,7 @@ pub fn rows_of(alloc: Global, rows: &[Counted], part: Part<'_>) -> Result<Vec<Ro
 }
 
 /// The groups of the rows of which some belong to the part.
+#[tactic(auto, using(crate::proofs::Groups::heads_yes, crate::proofs::Groups::heads_no))]
 pub fn groups_of(alloc: Global, rows: &[Counted], part: Part<'_>) -> Result<Vec<Group>, OutOfMemory>
     ensures { IfOk result (λ groups. groups.items ≡ heads (times_of part.entry) None rows.now) }
 {
@@ -113,6 +114,7 @@ pub fn is_any_joined(rows: &[Counted], group: &Group, pids: &[Pid]) -> bool
 }
 
 /// Whether the process is in the group.
+#[tactic(auto, using(crate::proofs::Places::joined_is))]
 fn is_joined(rows: &[Counted], group: &Group, pid: &Pid) -> bool
     requires { IsKept rows.now }
     ensures { result ≡ nat_lt 0 (tally (is_row group.now pid.now) rows.now) }
@@ -160,6 +162,7 @@ pub fn place_next(
 }
 
 /// How often a process is in a group, for rows that are looked for in their order.
+#[tactic(auto, using(crate::proofs::Places::found_counts))]
 pub fn count_at(rows: &[Counted], next: &mut usize, group: &Group, pid: &Pid) -> u32
     requires { Rises counted_cmp rows.now }
     ensures { result ≡ tally (is_row group.now pid.now) rows.now }

@@ -1,5 +1,5 @@
 use Rattle.scope_core.proofs.Words.{arith, is_of_node}
-use Rattle.scope_core.proofs.Merging.{last_tally, last_counted}
+use Rattle.scope_core.proofs.Merging.{last_tally}
 use Rattle.scope_core.proofs.edits.add_each.Goals as goal
 
 pub add-requires-clause-few : goal.add-requires-clause-few
@@ -8,15 +8,3 @@ add-requires-clause-few c = λ node.
     let so_far = c.loop-counted.invariant.added (is_of_node node) in
     let last = last_tally (is_of_node node) c.loop-counted.more.items c.pop.new.self.items c.in-Some.counted c.in-Some.ensures.items in
     omega (arith, few, so_far, last)
-
-pub loop-counted-preserved : goal.loop-counted-preserved
-loop-counted-preserved c = record {
-  room = omega (arith, c.in-Some.ensures.cases, c.add.ensures.room, c.add.ensures.capacity);
-  kept = c.add.ensures.kept;
-  more = (last_counted c.loop-counted.more.items c.pop.new.self.items c.in-Some.counted c.in-Some.ensures.items c.loop-counted.invariant.more).0;
-  added = λ test.
-      let so_far = c.loop-counted.invariant.added test in
-      let last = last_tally test c.loop-counted.more.items c.pop.new.self.items c.in-Some.counted c.in-Some.ensures.items in
-      let one = c.add.ensures.added test in
-      omega (arith, so_far, last, one);
-}

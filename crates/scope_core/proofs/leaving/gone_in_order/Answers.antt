@@ -1,9 +1,6 @@
-use Rattle.scope_core.proofs.Words.{arith, ap, sym, subst, ◌∙◌, ◌+◌, ◌++◌, ◌∷◌, min, Pid, pid_cmp, Ascends, mentions, tally, is_row}
-use Rattle.scope_core.proofs.Mentioned.{ascends_behind, ascends_on, counts_on}
+use Rattle.scope_core.proofs.Words.{arith, ap, sym, subst, ◌∙◌, ◌+◌, ◌++◌, min, Pid, pid_cmp, Ascends, mentions, tally, is_row}
+use Rattle.scope_core.proofs.Mentioned.{ascends_on, counts_on}
 use Rattle.scope_core.proofs.leaving.gone_in_order.Goals as goal
-
-pub run_of-again-requires : goal.run_of-again-requires
-run_of-again-requires c = ascends_behind c.loop-pid.gone.items (c.in-Some.pid.now ∷ c.in-Some.others.now) (subst (λ ps. Ascends pid_cmp (c.loop-pid.gone.items ++ ps)) c.in-Some.ensures.cases.0 c.loop-pid.invariant.order)
 
 pub loop-pid-preserved : goal.loop-pid-preserved
 loop-pid-preserved c =

@@ -1,5 +1,5 @@
-use Rattle.scope_core.proofs.Words.{◌≡◌, arith, ap, ◌∙◌, sym, subst, ℕ, ◌+◌, ◌<◌, cond, how_many, is_row, is_of_node}
-use Rattle.scope_core.proofs.Lower.{pass_more, pass_less, itself_passes, still_rises}
+use Rattle.scope_core.proofs.Words.{◌≡◌, arith, ap, sym, subst, ℕ, ◌+◌, ◌<◌, cond, how_many, is_row, is_of_node}
+use Rattle.scope_core.proofs.Lower.{pass_more, pass_less, itself_passes}
 use Rattle.scope_core.proofs.lowered.raise.Goals as goal
 
 pub raise_one-requires-clause-few : goal.raise_one-requires-clause-few
@@ -18,14 +18,3 @@ raise_one-requires-clause-stands c =
     let less = pass_less test (c.loop-row.row-index + 1) c.args.back.now in
     let one : ◌≡◌ {A = ℕ} (cond (test r) 1 0) 1 = ap (λ v. cond v 1 0) (itself_passes r) in
     subst (λ rows. 0 < how_many test rows) (sym c.loop-row.invariant.same) (c.requires.stand r.group r.pid (omega (arith, more, less, one)))
-
-pub loop-row-preserved : goal.loop-row-preserved
-loop-row-preserved c = record {
-  rises = still_rises c.loop-row.rows.items c.raise_one.new.rows.items c.raise_one.ensures.same c.loop-row.invariant.rises;
-  added = λ test.
-      let so_far = c.loop-row.invariant.added test in
-      let one = c.raise_one.ensures.raised test in
-      let more = pass_more test c.args.back.now c.loop-row.row-index c.row-item.result c.loop-row-test.true c.row-item.is in
-      omega (arith, so_far, one, more);
-  same = c.raise_one.ensures.same ∙ c.loop-row.invariant.same;
-}

@@ -1,9 +1,6 @@
 use Rattle.scope_core.proofs.Words.{arith}
-use Rattle.scope_core.proofs.Lower.{all_taken, still_rises}
+use Rattle.scope_core.proofs.Lower.{all_taken}
 use Rattle.scope_core.proofs.lowered.take_rows.Goals as goal
-
-pub sweep-requires-clause-rises : goal.sweep-requires-clause-rises
-sweep-requires-clause-rises c = still_rises c.args.rows.now.items c.lower.new.rows.items c.lower.ensures.same c.requires.kept.rises
 
 pub returns-clause-taken : goal.returns-clause-taken
 returns-clause-taken c = λ test.

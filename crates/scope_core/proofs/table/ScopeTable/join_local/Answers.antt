@@ -1,6 +1,6 @@
-use Rattle.scope_core.proofs.Words.{arith, ap, ◌∙◌, ◌≤◌, ◌+◌, length, length-map, tally, is_row, is_of_node, count_after_join, row_in}
-use Rattle.scope_core.proofs.Joined.{room_for, joined_counts, joined_total, joined_change}
-use Rattle.scope_core.proofs.Peers.{alone_fit, counted_fit, counted_add}
+use Rattle.scope_core.proofs.Words.{arith, ap, ◌∙◌, length, length-map, tally, is_row, count_after_join, row_in}
+use Rattle.scope_core.proofs.Joined.{joined_counts, joined_total, joined_change}
+use Rattle.scope_core.proofs.Peers.{alone_fit, counted_add}
 use Rattle.scope_core.proofs.table.ScopeTable.join_local.Goals as goal
 
 pub counted_of-requires : goal.counted_of-requires
@@ -8,17 +8,6 @@ counted_of-requires c =
     let many = ap length c.in_ok-fresh.ensures in
     let all = length-map c.args.pids.now (row_in c.args.group.now) in
     alone_fit c.in_ok-fresh.fresh.items (omega (arith, many, all, c.if-pids-self.false))
-
-pub put_in-requires-clause-few : goal.put_in-requires-clause-few
-put_in-requires-clause-few c =
-    let own = c.self.inside.own in
-    let ps = c.args.pids.now in
-    let cs = c.self.inside.rows.items in
-    let total = c.self.invariant.total in
-    let few : tally (is_of_node own) cs + length ps ≤ 4096 = omega (arith, total) in
-    rw c.in_ok-spare.ensures.same
-    (counted_fit c.in_ok-fresh.fresh.items c.in_ok-counted.counted.items cs c.in_ok-counted.ensures.added
-    (room_for c.args.group.now own ps c.in_ok-fresh.fresh.items cs c.in_ok-fresh.ensures c.self.invariant.kept (rw (← c.self.view_is) at c.requires) few))
 
 pub returns-clause-ok : goal.returns-clause-ok
 returns-clause-ok c = record {

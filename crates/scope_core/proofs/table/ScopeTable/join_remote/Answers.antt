@@ -1,10 +1,7 @@
 use Rattle.scope_core.proofs.Words.{◌≡◌, arith, all_from, is_of_node}
-use Rattle.scope_core.proofs.Peers.{alone_fit, counted_fit, rows_fit, added_change}
+use Rattle.scope_core.proofs.Peers.{counted_fit, rows_fit, added_change}
 use Rattle.scope_core.proofs.Own.{own_share}
 use Rattle.scope_core.proofs.table.ScopeTable.join_remote.Goals as goal
-
-pub counted_rows-requires : goal.counted_rows-requires
-counted_rows-requires c = alone_fit c.args.rows.now (omega (arith, c.if-rows-total_of.false))
 
 pub put_in-requires-clause-few : goal.put_in-requires-clause-few
 put_in-requires-clause-few c =

@@ -1,22 +1,9 @@
-use Rattle.scope_core.proofs.Words.{◌≡◌, ℕ, cond, refl, rules, arith, ap, ◌∙◌, all_from, times_beyond, count_after_sync, without_node, List, length}
-use Rattle.scope_core.proofs.Words.{vec_len, Pid, same, how_many, is_of_node, is_row, tally}
-use Rattle.scope_core.proofs.Peers.{alone_fit, sync_fit, sync_counts, counted_fit, counted_add}
-use Rattle.scope_core.proofs.Beyond.{picked_rises, synced_change, unchanged}
+use Rattle.scope_core.proofs.Words.{◌≡◌, ℕ, cond, refl, rules, arith, ap, ◌∙◌, all_from, count_after_sync, without_node, List, length, vec_len, Pid}
+use Rattle.scope_core.proofs.Words.{same, how_many, is_of_node, is_row, tally}
+use Rattle.scope_core.proofs.Peers.{sync_fit, sync_counts, counted_fit, counted_add}
+use Rattle.scope_core.proofs.Beyond.{synced_change, unchanged}
 use Rattle.scope_core.proofs.Own.{own_share, own_left, first_counts, first_fault, ok_then, err_then}
 use Rattle.scope_core.proofs.table.ScopeTable.sync.Goals as goal
-
-pub counted_rows-requires : goal.counted_rows-requires
-counted_rows-requires c = alone_fit c.args.rows.now (omega (arith, c.if-rows-gt-MAX_ROWS.false))
-
-pub changes_of-requires-clause-left : goal.changes_of-requires-clause-left
-changes_of-requires-clause-left c =
-    rw (c.deref-6.ensures.value, c.in_ok-left.ensures, c.deref-2.ensures.value, c.deref-3.ensures.value)
-    (picked_rises (times_beyond c.args.peer.now c.in_ok-counted.counted.items) c.self.inside.rows.items c.self.invariant.kept.rises)
-
-pub changes_of-requires-clause-joined : goal.changes_of-requires-clause-joined
-changes_of-requires-clause-joined c =
-    rw (c.deref-7.ensures.value, c.in_ok-joined.ensures, c.deref-4.ensures.value, c.deref-5.ensures.value)
-    (picked_rises (times_beyond c.args.peer.now c.self.inside.rows.items) c.in_ok-counted.counted.items c.in_ok-counted.ensures.kept.rises)
 
 pub replace_node-requires-clause-few : goal.replace_node-requires-clause-few
 replace_node-requires-clause-few c =
