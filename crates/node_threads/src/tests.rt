@@ -349,10 +349,11 @@ fn crowd<R: Threads + Wait + Sync>(
 
 #[test]
 fn sixteen_seats_on_four_threads(rt: HostRuntime) -> Result<(), Fail> {
-    let rounds = 500u32;
+    // Each round is four calls of each seat.
+    let rounds = 2_500u32;
     let (wrong, entries) = crowd(&rt, rt.alloc(), rounds)?;
     assert_eq!(rt; wrong, 0);
-    assert_eq!(rt; entries, 1 + 16 + 16 * 4 * 500);
+    assert_eq!(rt; entries, 1 + 16 + 16 * 10_000);
     Ok(())
 }
 
