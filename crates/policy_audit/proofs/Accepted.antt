@@ -1,12 +1,12 @@
 -- What an accepted event met.
-use Rattle.policy_audit.proofs.Words.{ap, refl, subst, option_and_then, option_map_or, Bool, List, MatchBool, None, Option, Some, []}
-use Rattle.policy_audit.proofs.Words.{bytes_eq, cond, false, is_some, not, true, ℕ, ◌∷◌, ◌≡◌, same, Challenge, Name, ack_frame}
-use Rattle.policy_audit.proofs.Words.{challenge_frame, name_frame, reply_frame, status_of, AckFrame, ReplyFrame, StatusWord, digest_of}
-use Rattle.policy_audit.proofs.Words.{allowed, cookie, goes_on, Check, always, answer_checks, challenge_checks, checks, digest_checks}
-use Rattle.policy_audit.proofs.Words.{first_broken, frame_checks, is_peer_up, name_checks, status_checks, History, digest_for}
-use Rattle.policy_audit.proofs.Words.{own_challenge, answer, is_full, judged, verdict, AwaitAck, AwaitAnswer, AwaitChallenge, AwaitMessage}
-use Rattle.policy_audit.proofs.Words.{AwaitName, AwaitReply, AwaitStatus, Awaited, Opened, Taken, challenge_in, opened, peer_in, peer_of}
-use Rattle.policy_audit.proofs.Words.{taken, Verdict, Accepted, Refused, Event, Reply, Rule}
+use Rattle.policy_audit.proofs.Words.{ap, arith, refl, subst, not-false, option_and_then, option_map_or, Bool, List, MatchBool, None}
+use Rattle.policy_audit.proofs.Words.{Option, Some, [], bytes_eq, cond, false, is_some, not, true, ℕ, ◌∷◌, ◌≡◌, same, Challenge, Name}
+use Rattle.policy_audit.proofs.Words.{ack_frame, challenge_frame, name_frame, reply_frame, status_of, AckFrame, ReplyFrame, StatusWord}
+use Rattle.policy_audit.proofs.Words.{digest_of, allowed, cookie, goes_on, Check, always, answer_checks, challenge_checks, checks}
+use Rattle.policy_audit.proofs.Words.{digest_checks, first_broken, frame_checks, is_peer_up, name_checks, status_checks, History}
+use Rattle.policy_audit.proofs.Words.{digest_for, own_challenge, answer, is_full, judged, verdict, AwaitAck, AwaitAnswer, AwaitChallenge}
+use Rattle.policy_audit.proofs.Words.{AwaitMessage, AwaitName, AwaitReply, AwaitStatus, Awaited, Opened, Taken, challenge_in, opened}
+use Rattle.policy_audit.proofs.Words.{peer_in, peer_of, taken, Accepted, Refused, Event, Reply, Rule}
 
 -- what is not so gives anything
 pub lie : {P : Type 0} → true ≡ false → P
@@ -15,26 +15,13 @@ lie {P} e = subst (λ b. MatchBool b (Unit {0}) P) e tt
 pub no_value : {P A : Type 0} {x : A} → Some x ≡ None → P
 no_value e = lie (ap is_some e)
 
-abbrev is_yes : Verdict → Bool
-is_yes (Accepted r) = true
-is_yes (Refused r) = false
-
-abbrev reply_or : Reply → Verdict → Reply
-reply_or d (Accepted r) = r
-reply_or d (Refused r) = d
-
 module _ (h : History) (seat : ℕ) (e : Event) (r : Reply) where
-  by_rule : (x : Option Rule) → Accepted r ≡ judged h seat e x → (x ≡ None) × (r ≡ answer h seat e)
-  by_rule None q = (refl, ap (reply_or r) q)
-  by_rule (Some x) q = lie (ap is_yes q)
-
-  by_room : (b : Bool) → Accepted r ≡ cond b (Refused Rule.EntriesFull) (judged h seat e (first_broken (checks h seat e))) → (first_broken (checks h seat e) ≡ None) × (r ≡ answer h seat e)
-  by_room false q = by_rule (first_broken (checks h seat e)) q
-  by_room true q = lie (ap is_yes q)
+  by_room : (b : Bool) (x : Option Rule) → Accepted r ≡ cond b (Refused Rule.EntriesFull) (judged h seat e x) → (x ≡ None) × (r ≡ answer h seat e)
+  by_room b x q = grind arith
 
   -- no rule is broken, and the answer is the policy's
   pub accepted : Accepted r ≡ verdict h seat e → (first_broken (checks h seat e) ≡ None) × (r ≡ answer h seat e)
-  accepted q = by_room (is_full h) q
+  accepted q = by_room (is_full h) (first_broken (checks h seat e)) q
 
 -- each of the checks holds
 abbrev pub Hold : List Check → Type 0
@@ -43,19 +30,13 @@ Hold (c ∷ cs) = (c.broken ≡ false) × Hold cs
 
 pub all_hold : (cs : List Check) → first_broken cs ≡ None → Hold cs
 all_hold [] e = tt
-all_hold (c ∷ cs) e = by_first (all_hold cs) c.broken e
-  where
-    by_first : (first_broken cs ≡ None → Hold cs) → (b : Bool) → cond b (Some c.rule) (first_broken cs) ≡ None → (b ≡ false) × Hold cs
-    by_first others true q = no_value q
-    by_first others false q = (refl, others q)
+all_hold (c ∷ cs) e = grind (arith, all_hold cs)
 
 pub unbroken : (b : Bool) → not b ≡ false → b ≡ true
-unbroken true e = refl
-unbroken false e = lie e
+unbroken = not-false
 
 pub open_first : (b : Bool) (cs : List Check) → first_broken (cond b cs (always Rule.NoSuchLink)) ≡ None → (b ≡ true) × (first_broken cs ≡ None)
-open_first true cs e = (refl, e)
-open_first false cs e = no_value e
+open_first b cs e = grind arith
 
 abbrev pub peer_by : Option Opened → List Taken → Option (List ℕ)
 peer_by oe ts = option_and_then (λ o. peer_in o.start ts) oe
@@ -80,31 +61,23 @@ module _ (h : History) (l : ℕ) (body : List ℕ) where
   named (Some f) e = (f, refl, unbroken (allowed h f.name) (all_hold (name_checks h f) e).1.1.1.1.0)
 
   answered : (x : Option StatusWord) → first_broken (option_map_or answer_checks x (always Rule.BadFrame)) ≡ None → x ≡ Some StatusWord.True
-  answered None e = no_value e
-  answered (Some StatusWord.True) e = refl
-  answered (Some w) e = no_value e
+  answered x e = grind arith
 
   welcomed : (up : Bool) (x : Option StatusWord) → first_broken (option_map_or (status_checks up) x (always Rule.BadFrame)) ≡ None → (w : StatusWord) × (x ≡ Some w) × (goes_on w ≡ true)
   welcomed up None e = no_value e
-  welcomed up (Some StatusWord.Ok) e = (StatusWord.Ok, refl, refl)
-  welcomed up (Some StatusWord.OkSimultaneous) e = (StatusWord.OkSimultaneous, refl, refl)
-  welcomed up (Some StatusWord.Alive) e = (StatusWord.Alive, refl, refl)
-  welcomed up (Some w) e = no_value e
+  welcomed up (Some w) e = (w, refl, grind arith)
 
   asked : (x : Option Challenge) → first_broken (option_map_or (challenge_checks h l) x (always Rule.BadFrame)) ≡ None → (f : Challenge) × (x ≡ Some f) × (option_map_or (λ m. same m f.name) (peer_of l h.entries) false ≡ true)
   asked None e = no_value e
   asked (Some f) e = (f, refl, unbroken (option_map_or (λ m. same m f.name) (peer_of l h.entries) false) (all_hold (challenge_checks h l f) e).1.0)
 
-  digested : (digest : List ℕ) → first_broken (digest_checks h l digest) ≡ None → bytes_eq digest (digest_for h l (own_challenge l h.entries)) ≡ true
-  digested digest e = unbroken (bytes_eq digest (digest_for h l (own_challenge l h.entries))) (all_hold (digest_checks h l digest) e).0
-
   replied : (x : Option ReplyFrame) → first_broken (option_map_or (λ f. digest_checks h l f.digest) x (always Rule.BadFrame)) ≡ None → (g : ReplyFrame) × (x ≡ Some g) × (bytes_eq g.digest (digest_for h l (own_challenge l h.entries)) ≡ true)
   replied None e = no_value e
-  replied (Some g) e = (g, refl, digested g.digest e)
+  replied (Some g) e = (g, refl, unbroken (bytes_eq g.digest (digest_for h l (own_challenge l h.entries))) (all_hold (digest_checks h l g.digest) e).0)
 
   acked : (x : Option AckFrame) → first_broken (option_map_or (λ f. digest_checks h l f.digest) x (always Rule.BadFrame)) ≡ None → (g : AckFrame) × (x ≡ Some g) × (bytes_eq g.digest (digest_for h l (own_challenge l h.entries)) ≡ true)
   acked None e = no_value e
-  acked (Some g) e = (g, refl, digested g.digest e)
+  acked (Some g) e = (g, refl, unbroken (bytes_eq g.digest (digest_for h l (own_challenge l h.entries))) (all_hold (digest_checks h l g.digest) e).0)
 
   -- no check of a frame is broken: it is one of the kind
   pub fits : (k : Awaited) → first_broken (frame_checks h l body k) ≡ None → Fits h (opened l h.entries) (taken l h.entries) body k

@@ -1,8 +1,9 @@
 -- What an accepted frame makes of its link: it completes the side, or leaves it whole or unfinished.
-use Rattle.policy_audit.proofs.Words.{ap, arith, refl, sym, ◌∙◌, le-leb, option_and_then, option_map_or, Bool, List, None, Option, Some, []}
-use Rattle.policy_audit.proofs.Words.{false, get_or, is_some, length, nat_le, true, ℕ, ◌++◌, ◌∷◌, ◌≡◌, Challenge, Name, AwaitMessage}
-use Rattle.policy_audit.proofs.Words.{Awaited, ByDial, ByPeer, Opened, Start, Taken, awaited_in, given_in, is_last, is_whole_in, peer_in}
-use Rattle.policy_audit.proofs.Words.{was_up, whole_side, Entry, Opening}
+use Rattle.policy_audit.proofs.Words.{ap, arith, refl, sym, ◌∙◌, get_or-eq_default, eqb-false, eqb-true, le-leb, leb-true, length-append}
+use Rattle.policy_audit.proofs.Words.{both_ways, option_and_then, option_map_or, Bool, List, None, Option, Some, [], false, get_or, is_some}
+use Rattle.policy_audit.proofs.Words.{length, nat_le, suc, true, zero, ℕ, ◌++◌, ◌+◌, ◌==◌, ◌∷◌, ◌≡◌, Challenge, Name, AwaitMessage, Awaited}
+use Rattle.policy_audit.proofs.Words.{ByDial, ByPeer, Opened, Start, Taken, awaited_in, given_in, is_last, is_whole_in, was_up, whole_side}
+use Rattle.policy_audit.proofs.Words.{Entry, Opening}
 use Rattle.policy_audit.proofs.Accepted.{lie, peer_by}
 use Rattle.policy_audit.proofs.Walked.{Follow, Reach, Walk, Far}
 
@@ -22,76 +23,47 @@ two_of x y xs = le-leb 2 (length (x ∷ y ∷ xs)) (omega arith)
 pub three_of : {A : Type 0} (x y z : A) (xs : List A) → nat_le 3 (length (x ∷ y ∷ z ∷ xs)) ≡ true
 three_of x y z xs = le-leb 3 (length (x ∷ y ∷ z ∷ xs)) (omega arith)
 
--- a side is as long as it was, where the name is known
-abbrev pub whole_after : ℕ → Bool → Taken → List Taken → Bool
-whole_after c up a ts = nat_le (length (whole_side (ByPeer c) up)) (length (a ∷ ts))
-
--- a link that is whole awaits a message
-whole_from : (c : ℕ) (a : Taken) (up : Bool) (ts : List Taken) → whole_after c up a ts ≡ true → get_or (whole_side (ByPeer c) up) (length (a ∷ ts)) AwaitMessage ≡ AwaitMessage
-whole_from c a false [] q = lie (sym q)
-whole_from c a false (b ∷ ts) q = refl
-whole_from c a true [] q = lie (sym q)
-whole_from c a true (b ∷ []) q = lie (sym q)
-whole_from c a true (b ∷ r ∷ ts) q = refl
-
-whole_awaits_in : (s : Start) (ts : List Taken) → is_whole_in s ts ≡ true → awaited_in s ts ≡ AwaitMessage
-whole_awaits_in (ByPeer c) [] q = lie (sym q)
-whole_awaits_in (ByPeer c) (a ∷ ts) q = whole_from c a (was_up (a ∷ [])) ts q
-whole_awaits_in (ByDial n c) [] q = lie (sym q)
-whole_awaits_in (ByDial n c) (a ∷ []) q = lie (sym q)
-whole_awaits_in (ByDial n c) (a ∷ b ∷ []) q = lie (sym q)
-whole_awaits_in (ByDial n c) (a ∷ b ∷ r ∷ ts) q = refl
-
-pub whole_awaits : (oe : Option Opened) (ts : List Taken) → whole_by oe ts ≡ true → awaited_by oe ts ≡ AwaitMessage
-whole_awaits None ts q = lie (sym q)
-whole_awaits (Some x) ts q = whole_awaits_in x.start ts q
-
 -- a message: what a link with a whole side awaits
 abbrev pub is_message : Awaited → Bool
 is_message AwaitMessage = true
 is_message a = false
 
+-- the place of the last frame of a side, and those behind it
+last_is : (s : Start) (up : Bool) (n : ℕ) → is_last (get_or (whole_side s up) n AwaitMessage) ≡ (n + 1 == length (whole_side s up))
+last_is s up zero = grind arith
+last_is s up (suc zero) = grind arith
+last_is s up (suc (suc zero)) = grind arith
+last_is s up (suc (suc (suc n))) = grind (arith, eqb-true)
+
+message_is : (s : Start) (up : Bool) (n : ℕ) → is_message (get_or (whole_side s up) n AwaitMessage) ≡ nat_le (length (whole_side s up)) n
+message_is s up zero = grind arith
+message_is s up (suc zero) = grind arith
+message_is s up (suc (suc zero)) = grind arith
+message_is s up (suc (suc (suc n))) = grind (arith, le-leb)
+
+-- a side is as long as it was, where the name is known
+abbrev pub whole_after : ℕ → Bool → Taken → List Taken → Bool
+whole_after c up a ts = nat_le (length (whole_side (ByPeer c) up)) (length (a ∷ ts))
+
+-- a link that is whole awaits a message
+pub whole_awaits : (oe : Option Opened) (ts : List Taken) → whole_by oe ts ≡ true → awaited_by oe ts ≡ AwaitMessage
+whole_awaits None ts q = lie (sym q)
+whole_awaits (Some x) ts q = get_or-eq_default (whole_side x.start (was_up ts)) AwaitMessage (leb-true (length (whole_side x.start (was_up ts))) (length ts) q)
+
 -- a link that awaits a message is whole
-message_from : (c : ℕ) (a : Taken) (up : Bool) (ts : List Taken) → is_message (get_or (whole_side (ByPeer c) up) (length (a ∷ ts)) AwaitMessage) ≡ true → whole_after c up a ts ≡ true
-message_from c a false [] q = lie (sym q)
-message_from c a false (b ∷ ts) q = two_of a b ts
-message_from c a true [] q = lie (sym q)
-message_from c a true (b ∷ []) q = lie (sym q)
-message_from c a true (b ∷ r ∷ ts) q = three_of a b r ts
-
-message_whole_in : (s : Start) (ts : List Taken) → is_message (awaited_in s ts) ≡ true → is_whole_in s ts ≡ true
-message_whole_in (ByPeer c) [] q = lie (sym q)
-message_whole_in (ByPeer c) (a ∷ ts) q = message_from c a (was_up (a ∷ [])) ts q
-message_whole_in (ByDial n c) [] q = lie (sym q)
-message_whole_in (ByDial n c) (a ∷ []) q = lie (sym q)
-message_whole_in (ByDial n c) (a ∷ b ∷ []) q = lie (sym q)
-message_whole_in (ByDial n c) (a ∷ b ∷ r ∷ ts) q = three_of a b r ts
-
 pub message_whole : (oe : Option Opened) (ts : List Taken) → is_some oe ≡ true → is_message (awaited_by oe ts) ≡ true → whole_by oe ts ≡ true
 message_whole None ts s q = lie (sym s)
-message_whole (Some x) ts s q = message_whole_in x.start ts q
+message_whole (Some x) ts s q = sym (message_is x.start (was_up ts) (length ts)) ∙ q
 
 module _ (m : Taken) where
   -- ---- a frame that is not the last of a side leaves it whole, or unfinished
 
-  first : (c : ℕ) (up : Bool) → whole_after c up m [] ≡ false
-  first c true = refl
-  first c false = refl
-
-  follows : (c : ℕ) (a : Taken) (up : Bool) (ts : List Taken) → is_last (get_or (whole_side (ByPeer c) up) (length (a ∷ ts)) AwaitMessage) ≡ false → whole_after c up a (ts ++ m ∷ []) ≡ whole_after c up a ts
-  follows c a false [] q = lie q
-  follows c a true [] q = refl
-  follows c a false (b ∷ ts) q = two_of a b (ts ++ m ∷ []) ∙ sym (two_of a b ts)
-  follows c a true (b ∷ []) q = lie q
-  follows c a true (b ∷ r ∷ ts) q = three_of a b r (ts ++ m ∷ []) ∙ sym (three_of a b r ts)
+  longer : (a n : ℕ) → (n + 1 == a) ≡ false → nat_le a (n + 1) ≡ nat_le a n
+  longer a n q = both_ways (nat_le a (n + 1)) (nat_le a n) (λ p. le-leb a n (omega (arith, leb-true a (n + 1) p, eqb-false (n + 1) a q))) (λ p. le-leb a (n + 1) (omega (arith, leb-true a n p)))
 
   stays_in : (s : Start) (ts : List Taken) → is_last (awaited_in s ts) ≡ false → is_whole_in s (ts ++ m ∷ []) ≡ is_whole_in s ts
-  stays_in (ByPeer c) [] q = first c (was_up (m ∷ []))
-  stays_in (ByPeer c) (a ∷ ts) q = follows c a (was_up (a ∷ [])) ts q
-  stays_in (ByDial n c) [] q = refl
-  stays_in (ByDial n c) (a ∷ []) q = refl
-  stays_in (ByDial n c) (a ∷ b ∷ []) q = lie q
-  stays_in (ByDial n c) (a ∷ b ∷ r ∷ ts) q = three_of a b r (ts ++ m ∷ []) ∙ sym (three_of a b r ts)
+  stays_in s [] q = grind arith
+  stays_in s (a ∷ ts) q = rw length-append (longer (length (whole_side s (was_up (a ∷ [])))) (length (a ∷ ts)) (sym (last_is s (was_up (a ∷ [])) (length (a ∷ ts))) ∙ q))
 
   pub stays : (oe : Option Opened) (ts : List Taken) → is_last (awaited_by oe ts) ≡ false → whole_by oe (ts ++ m ∷ []) ≡ whole_by oe ts
   stays None ts q = refl
@@ -99,26 +71,12 @@ module _ (m : Taken) where
 
   -- ---- a further frame on a link that is whole leaves its peer
 
-  kept_in : (s : Start) (ts : List Taken) → is_whole_in s ts ≡ true → peer_in s (ts ++ m ∷ []) ≡ peer_in s ts
-  kept_in (ByPeer c) [] q = lie (sym q)
-  kept_in (ByPeer c) (a ∷ ts) q = refl
-  kept_in (ByDial n c) ts q = refl
-
   pub kept : (oe : Option Opened) (ts : List Taken) → whole_by oe ts ≡ true → peer_by oe (ts ++ m ∷ []) ≡ peer_by oe ts
-  kept None ts q = refl
-  kept (Some x) ts q = kept_in x.start ts q
+  kept oe ts q = grind arith
 
   -- and what its peer gave
-  given_kept_in : (s : Start) (ts : List Taken) → is_whole_in s ts ≡ true → given_in s (ts ++ m ∷ []) ≡ given_in s ts
-  given_kept_in (ByPeer c) [] q = lie (sym q)
-  given_kept_in (ByPeer c) (a ∷ ts) q = refl
-  given_kept_in (ByDial n c) [] q = lie (sym q)
-  given_kept_in (ByDial n c) (a ∷ []) q = lie (sym q)
-  given_kept_in (ByDial n c) (a ∷ b ∷ ts) q = refl
-
   pub given_kept : (oe : Option Opened) (ts : List Taken) → whole_by oe ts ≡ true → given_by oe (ts ++ m ∷ []) ≡ given_by oe ts
-  given_kept None ts q = refl
-  given_kept (Some x) ts q = given_kept_in x.start ts q
+  given_kept oe ts q = grind arith
 
   -- and it is whole still
   pub whole_kept : (oe : Option Opened) (ts : List Taken) → whole_by oe ts ≡ true → whole_by oe (ts ++ m ∷ []) ≡ true

@@ -1,7 +1,7 @@
 -- Which links are open and kept, and which frames wait for them, after each event that ends links or owes frames.
 use Rattle.policy_audit.proofs.Words.{ap, refl, subst, sym, ◌∙◌, eq-eqb, eqb-true, append-nil, option_map_or, Bool, List, None, Option}
 use Rattle.policy_audit.proofs.Words.{Some, [], cond, false, not, true, ℕ, ◌&&◌, ◌++◌, ◌==◌, ◌||◌, ◌∷◌, ◌≡◌, same_decides, is_empty, same}
-use Rattle.policy_audit.proofs.Words.{Name, name_frame, History, is_accepted, frame_ends, gives_up, is_open, is_unfinished_dial}
+use Rattle.policy_audit.proofs.Words.{Name, name_frame, History, is_accepted, present, frame_ends, gives_up, is_open, is_unfinished_dial}
 use Rattle.policy_audit.proofs.Words.{is_up, named_by, share_peer, OutFrame, frame_owes, is_kept, refusal_owes, waiting, welcome, own}
 use Rattle.policy_audit.proofs.Words.{IsAnswered, IsLegal, with_entry, AwaitMessage, AwaitName, awaits, is_last, is_name_up, is_peer}
 use Rattle.policy_audit.proofs.Words.{is_whole, peer_of, present_link, Entry, Refused, Event, Rule}

@@ -3,7 +3,7 @@ use Rattle.policy_audit.proofs.Words.{ap, arith, refl, sym, ◌∙◌, tied_itse
 use Rattle.policy_audit.proofs.Words.{List, [], cond, false, map, suc, true, ℕ, ◌&&◌, ◌+◌, ◌∷◌, ◌≡◌, Ordering, Equal, Greater, Less}
 use Rattle.policy_audit.proofs.Words.{same_ascending, exact_pids, pids_total, same_decides, same_pid_decides, texts_total, IsDifference}
 use Rattle.policy_audit.proofs.Words.{IsProper, is_empty, Ascends, Rises, mentions, same, same_pid, total, pid_cmp, text_cmp, GroupChange}
-use Rattle.policy_audit.proofs.Words.{Pid, after}
+use Rattle.policy_audit.proofs.Words.{Pid, joined, after}
 use Rattle.policy_audit.proofs.Accepted.{lie}
 
 -- a text that comes before another isn't the same

@@ -1,10 +1,10 @@
 -- The present link of a peer is the one link of it that is up.
 use Rattle.policy_audit.proofs.Words.{ap, arith, refl, subst, sym, ◌∙◌, eq-eqb, eqb-true, option_map_or, unwrap_or, Bool, List, None}
 use Rattle.policy_audit.proofs.Words.{Option, Some, [], cond, false, length, not, true, ℕ, ◌&&◌, ◌+◌, ◌==◌, ◌||◌, ◌↔◌, ◌∷◌, ◌≡◌}
-use Rattle.policy_audit.proofs.Words.{same_decides, same_sym, same, Name, past, frame_ends, gives_up, is_dial_to, is_open, is_up, named_by}
-use Rattle.policy_audit.proofs.Words.{share_peer, IsLegalIn, up_answer, verdict, ByDial, ByPeer, Opened, Start, Taken, and_frame, awaits}
-use Rattle.policy_audit.proofs.Words.{is_last, is_name_up, is_peer, is_visible, is_whole, opened, peer_of, present_link, taken, Entry}
-use Rattle.policy_audit.proofs.Words.{Verdict, Accepted, Refused, Event, Opening, Reply}
+use Rattle.policy_audit.proofs.Words.{same_decides, same_sym, same, Name, past, frame_ends, gives_up, is_open, is_up, share_peer, IsLegalIn}
+use Rattle.policy_audit.proofs.Words.{up_answer, verdict, ByDial, ByPeer, Opened, Start, Taken, and_frame, awaits, is_last, is_peer}
+use Rattle.policy_audit.proofs.Words.{is_visible, is_whole, opened, peer_of, present_link, taken, Entry, Verdict, Accepted, Refused, Event}
+use Rattle.policy_audit.proofs.Words.{Opening, Reply}
 use Rattle.policy_audit.proofs.Accepted.{lie, no_value, accepted, peer_by}
 use Rattle.policy_audit.proofs.Walked.{but, unborn, Far, far, frame_fits}
 use Rattle.policy_audit.proofs.Finished.{whole_by, stays, kept, Completed, completed}
@@ -12,27 +12,19 @@ use Rattle.policy_audit.proofs.Finished.{whole_by, stays, kept, Completed, compl
 -- ---- Booleans
 
 pub and_left : (a b : Bool) → (a && b) ≡ true → a ≡ true
-and_left true b q = refl
-and_left false b q = q
+and_left a b q = grind arith
 
 pub and_right : (a b : Bool) → (a && b) ≡ true → b ≡ true
-and_right true b q = q
-and_right false b q = lie (sym q)
+and_right a b q = grind arith
 
 pub and_both : (a b : Bool) → a ≡ true → b ≡ true → (a && b) ≡ true
 and_both a b p q = ap (λ x. x && b) p ∙ q
 
 pub and_false : (a : Bool) → (a && false) ≡ false
-and_false true = refl
-and_false false = refl
+and_false a = grind arith
 
 pub flip : (a b : ℕ) → (a == b) ≡ (b == a)
-flip a b = by (a == b) refl (b == a) refl
-  where
-    by : (c : Bool) → (a == b) ≡ c → (d : Bool) → (b == a) ≡ d → (a == b) ≡ (b == a)
-    by true p d q = p ∙ sym (eq-eqb b a (sym (eqb-true a b p)))
-    by c p true q = eq-eqb a b (sym (eqb-true b a q)) ∙ sym q
-    by false p false q = p ∙ sym q
+flip a b = grind (arith, eqb-true, eq-eqb)
 
 pub value_of : (x y : List ℕ) → Some x ≡ Some y → x ≡ y
 value_of x y q = ap (λ o. unwrap_or o []) q
@@ -42,19 +34,16 @@ number_of x y q = ap (λ o. unwrap_or o 0) q
 
 -- a link that ends or not, is open or not, is whole or not
 pub not_ended : (e o p : Bool) → ((not e && o) && p) ≡ true → e ≡ false
-not_ended false o p q = refl
-not_ended true o p q = lie (sym q)
+not_ended e o p q = grind arith
 
 pub was_before : (e o p : Bool) → ((not e && o) && p) ≡ true → (o && p) ≡ true
-was_before false o p q = q
-was_before true o p q = lie (sym q)
+was_before e o p q = grind arith
 
 pub goes_on_up : (e o p : Bool) → e ≡ false → (o && p) ≡ true → ((not e && o) && p) ≡ true
-goes_on_up e o p q u = ap (λ x. (not x && o) && p) q ∙ u
+goes_on_up e o p q u = grind arith
 
 pub unwhole_end : (g o p : Bool) → (g && p) ≡ false → ((not g && o) && p) ≡ (o && p)
-unwhole_end false o p q = refl
-unwhole_end true o p q = sym (ap (λ x. o && x) q ∙ and_false o)
+unwhole_end g o p q = grind arith
 
 -- ---- the law
 
@@ -66,42 +55,18 @@ module _ (es : List Entry) (n : List ℕ) where
   -- an entry that leaves the links that are up
   pub unchanged : (x : Entry) → present_link n (x ∷ es) ≡ present_link n es → ((l : ℕ) → is_up l (x ∷ es) ≡ is_up l es)
       → ((l : ℕ) → is_up l es ≡ true → peer_of l (x ∷ es) ≡ peer_of l es) → Agrees es n → Agrees (x ∷ es) n
-  unchanged x a b c p l = (
-    λ q. (let old = (p l).0 (sym a ∙ q) in (b l ∙ old.0, c l old.0 ∙ old.1)),
-    λ w. (let u = sym (b l) ∙ w.0 in a ∙ (p l).1 (u, sym (c l u) ∙ w.1)),
-  )
+  unchanged x a b c p l = (λ q. grind (arith, a, b l, c l, p l), λ w. grind (arith, a, b l, c l, p l))
 
   -- an entry that ends some links, and takes away the present one of n where `gone`
   pub fewer : (x : Entry) (ended : ℕ → Bool) (gone : Bool) → present_link n (x ∷ es) ≡ cond gone None (present_link n es)
       → ((l : ℕ) → is_up l (x ∷ es) ≡ ((not (ended l) && is_open l es) && is_whole l es)) → ((l : ℕ) → peer_of l (x ∷ es) ≡ peer_of l es)
       → ((l : ℕ) → present_link n es ≡ Some l → peer_of l es ≡ Some n → is_whole l es ≡ true → ended l ≡ gone)
       → Agrees es n → Agrees (x ∷ es) n
-  fewer x ended gone a b c both p l = (λ q. forth gone refl (sym a ∙ q), back)
-    where
-      forth : (g : Bool) → gone ≡ g → cond g None (present_link n es) ≡ Some l → (is_up l (x ∷ es) ≡ true) × (peer_of l (x ∷ es) ≡ Some n)
-      forth true e q = no_value (sym q)
-      forth false e q =
-          let old = (p l).0 q in
-          (b l ∙ goes_on_up (ended l) (is_open l es) (is_whole l es) (both l q old.1 (and_right (is_open l es) (is_whole l es) old.0) ∙ e) old.0, c l ∙ old.1)
-
-      back : (is_up l (x ∷ es) ≡ true) × (peer_of l (x ∷ es) ≡ Some n) → present_link n (x ∷ es) ≡ Some l
-      back w =
-          let now : ((not (ended l) && is_open l es) && is_whole l es) ≡ true = sym (b l) ∙ w.0 in
-          let before = was_before (ended l) (is_open l es) (is_whole l es) now in
-          let of = sym (c l) ∙ w.1 in
-          let old = (p l).1 (before, of) in
-          a ∙ ap (λ g. cond g None (present_link n es)) (sym (both l old of (and_right (is_open l es) (is_whole l es) before)) ∙ not_ended (ended l) (is_open l es) (is_whole l es) now) ∙ old
+  fewer x ended gone a b c both p l = (λ q. grind (arith, a, b l, c l, both l, p l), λ w. grind (arith, a, b l, c l, both l, p l))
 
 -- a refused frame ends no link that is up
 pub refused_up : (es : List Entry) (k l : ℕ) → ((not (k == l && not (is_whole l es)) && is_open l es) && is_whole l es) ≡ is_up l es
-refused_up es k l = three (k == l) (is_open l es) (is_whole l es)
-  where
-    three : (a b c : Bool) → ((not (a && not c) && b) && c) ≡ (b && c)
-    three true true true = refl
-    three true true false = refl
-    three true false true = refl
-    three true false false = refl
-    three false b c = refl
+refused_up es k l = grind arith
 
 module _ (o : Opening) (es : List Entry) (legal : IsLegalIn o es) (n : List ℕ) (e : Entry) (numbered : e.number ≡ length es + 1) where
   -- ---- openings
@@ -121,20 +86,10 @@ module _ (o : Opening) (es : List Entry) (legal : IsLegalIn o es) (n : List ℕ)
 
   pub opened_up : (s : Start) → whole_by (Some (record { start = s; before = es })) [] ≡ false → (l : ℕ)
       → (((e.number == l) || is_open l es) && whole_by (with_start l s (e.number == l)) (taken l es)) ≡ is_up l es
-  opened_up s empty l = by (e.number == l) refl
-    where
-      by : (b : Bool) → (e.number == l) ≡ b → ((b || is_open l es) && whole_by (with_start l s b) (taken l es)) ≡ is_up l es
-      by false q = refl
-      by true q =
-          ap (λ ts. whole_by (Some (record { start = s; before = es })) ts) (none_taken l q) ∙ empty
-          ∙ sym (ap (λ x. is_open l es && whole_by x (taken l es)) (none_opened l q) ∙ and_false (is_open l es))
+  opened_up s empty l = grind (arith, none_taken l, none_opened l)
 
   pub opened_peer : (s : Start) (l : ℕ) → is_up l es ≡ true → peer_by (with_start l s (e.number == l)) (taken l es) ≡ peer_of l es
-  opened_peer s l u = by (e.number == l) refl
-    where
-      by : (b : Bool) → (e.number == l) ≡ b → peer_by (with_start l s b) (taken l es) ≡ peer_of l es
-      by false q = refl
-      by true q = lie (sym (and_right (is_open l es) (is_whole l es) u) ∙ ap (λ x. whole_by x (taken l es)) (none_opened l q))
+  opened_peer s l u = grind (arith, none_opened l)
 
   -- ---- frames
 
@@ -153,17 +108,7 @@ module _ (o : Opening) (es : List Entry) (legal : IsLegalIn o es) (n : List ℕ)
 
     -- a dial that is given up was not whole
     pub given_up : (l : ℕ) → (gives_up k body l es && is_whole l es) ≡ false
-    given_up l = by (named_by (awaits k es) body)
-      where
-        three : (a b p : Bool) → ((a && (b && not p)) && p) ≡ false
-        three true true true = refl
-        three true true false = refl
-        three true false p = refl
-        three false b p = refl
-
-        by : (x : Option Name) → (option_map_or (λ f. not (is_name_up f.name es) && (option_map_or (λ y. is_dial_to f.name y.start) (opened l es) false && not (is_whole l es))) x false && is_whole l es) ≡ false
-        by None = refl
-        by (Some f) = three (not (is_name_up f.name es)) (option_map_or (λ y. is_dial_to f.name y.start) (opened l es) false) (is_whole l es)
+    given_up l = grind arith
 
     -- a frame that is not the last of a side
     pub not_last : is_last (awaits k es) ≡ false → Agrees es n → Agrees (fr Reply.Done ∷ es) n

@@ -1,11 +1,11 @@
 -- How far the handshake of a link is, in a history that the policy makes.
 use Rattle.policy_audit.proofs.Words.{arith, refl, subst, sym, eqb-true, option_and_then, option_map_or, Bool, List, None, Option, Some, []}
-use Rattle.policy_audit.proofs.Words.{bytes_eq, cond, false, get_or, is_some, length, not, true, ℕ, ◌&&◌, ◌++◌, ◌+◌, ◌<◌, ◌==◌, ◌||◌, ◌∷◌}
-use Rattle.policy_audit.proofs.Words.{◌≡◌, same, Challenge, Name, ack_frame, challenge_frame, name_frame, reply_frame, status_of, AckFrame}
-use Rattle.policy_audit.proofs.Words.{ReplyFrame, StatusWord, digest_of, allowed, cookie, goes_on, checks, dial_checks, first_broken}
-use Rattle.policy_audit.proofs.Words.{frame_checks, past, ends, is_open, IsLegalIn, verdict, AwaitMessage, ByDial, ByPeer, Opened, Start}
-use Rattle.policy_audit.proofs.Words.{Taken, and_frame, awaited_in, awaits, opened, taken, was_up, whole_side, Entry, Verdict, Accepted}
-use Rattle.policy_audit.proofs.Words.{Refused, Event, Opening}
+use Rattle.policy_audit.proofs.Words.{bytes_eq, cond, false, get_or, is_some, length, true, ℕ, ◌++◌, ◌+◌, ◌<◌, ◌==◌, ◌∷◌, ◌≡◌, same}
+use Rattle.policy_audit.proofs.Words.{Challenge, Name, ack_frame, challenge_frame, name_frame, reply_frame, status_of, AckFrame, ReplyFrame}
+use Rattle.policy_audit.proofs.Words.{StatusWord, digest_of, allowed, cookie, goes_on, checks, dial_checks, first_broken, frame_checks}
+use Rattle.policy_audit.proofs.Words.{past, is_open, IsLegalIn, verdict, AwaitMessage, ByDial, ByPeer, Opened, Start, Taken, and_frame}
+use Rattle.policy_audit.proofs.Words.{awaited_in, awaits, opened, taken, was_up, whole_side, Entry, Verdict, Accepted, Refused, Event}
+use Rattle.policy_audit.proofs.Words.{Opening}
 use Rattle.policy_audit.proofs.Accepted.{lie, accepted, all_hold, unbroken, open_first, Fits, fits}
 
 -- an entry with another event and verdict
@@ -93,44 +93,12 @@ module _ (o : Opening) (es : List Entry) (legal : IsLegalIn o es) (body : List �
 -- a link whose number no entry has yet
 pub unborn : (o : Opening) (es : List Entry) → IsLegalIn o es → (l : ℕ) → length es < l → opened l es ≡ None
 unborn o [] legal l below = refl
-unborn o (e ∷ es) legal l below = by_event e.event e.verdict (unborn o es legal.1 l (omega (arith, below)))
-  where
-    other_number : (e.number == l) ≡ true → ⊥
-    other_number q =
-        let here : e.number ≡ length es + 1 = legal.0.number in
-        let there : e.number ≡ l = eqb-true e.number l q in
-        omega (arith, here, there, below)
-
-    not_opened : (x : Opened) (b : Bool) → ((b ≡ true) → ⊥) → opened l es ≡ None → elim (cond b (Some x) None) as (λ _. Option Opened) [ Some y ↦ Some y | None ↦ opened l es ] ≡ None
-    not_opened x true other q = absurd (other refl)
-    not_opened x false other q = q
-
-    by_event : (ev : Event) (v : Verdict) → opened l es ≡ None → opened l (but e ev v ∷ es) ≡ None
-    by_event ev (Refused r) q = q
-    by_event Event.Restart (Accepted r) q = refl
-    by_event (Event.Opened c) (Accepted r) q = not_opened (record { start = ByPeer c; before = es }) (e.number == l) other_number q
-    by_event (Event.Dial n c) (Accepted r) q = not_opened (record { start = ByDial n c; before = es }) (e.number == l) other_number q
-    by_event ev (Accepted r) q = q
+unborn o (e ∷ es) legal l below = (let here : e.number ≡ length es + 1 = legal.0.number in grind (arith, unborn o es legal.1 l, eqb-true e.number l))
 
 -- an open link was opened
 pub open_opened : (l : ℕ) (es : List Entry) → is_open l es ≡ true → is_some (opened l es) ≡ true
 open_opened l [] q = lie (sym q)
-open_opened l (e ∷ es) q = by_event e.event e.verdict (open_opened l es) q
-  where
-    second : (a b : Bool) → (a && b) ≡ true → b ≡ true
-    second true b q = q
-    second false b q = lie (sym q)
-
-    opened_now : (x : Opened) (opn b : Bool) → (opn ≡ true → is_some (opened l es) ≡ true) → (b || opn) ≡ true → is_some (elim (cond b (Some x) None) as (λ _. Option Opened) [ Some y ↦ Some y | None ↦ opened l es ]) ≡ true
-    opened_now x opn true so_far q = refl
-    opened_now x opn false so_far q = so_far q
-
-    by_event : (ev : Event) (v : Verdict) → (is_open l es ≡ true → is_some (opened l es) ≡ true) → is_open l (but e ev v ∷ es) ≡ true → is_some (opened l (but e ev v ∷ es)) ≡ true
-    by_event ev (Refused r) so_far q = so_far (second (not (ends l es (Refused r) ev)) (is_open l es) q)
-    by_event Event.Restart (Accepted r) so_far q = lie (sym q)
-    by_event (Event.Opened c) (Accepted r) so_far q = opened_now (record { start = ByPeer c; before = es }) (is_open l es) (e.number == l) so_far q
-    by_event (Event.Dial n c) (Accepted r) so_far q = opened_now (record { start = ByDial n c; before = es }) (is_open l es) (e.number == l) so_far q
-    by_event ev (Accepted r) so_far q = so_far (second (not (ends l es (Accepted r) ev)) (is_open l es) q)
+open_opened l (e ∷ es) q = grind (arith, open_opened l es)
 
 -- an accepted frame of link k: k is open, and the frame is of the kind that it awaits
 pub frame_fits : (o : Opening) (es : List Entry) (seat k : ℕ) (body : List ℕ) → first_broken (checks (past o es) seat (Event.Frame k body)) ≡ None → (is_open k es ≡ true) × Fits (past o es) (opened k es) (taken k es) body (awaits k es)

@@ -1,15 +1,17 @@
 -- The words that the proofs of this crate speak in: those of std, of the crates below and of its own specs, passed on from one place.
 pub use Rattle.std.proofs.Common.{ap, arith, refl, subst, sym, ◌∙◌}
-pub use Rattle.std.proofs.lemmas.Bool.{and_from, and_parts, eq-eqb, eqb-false, eqb-true, le-leb, leb-true, lt-ltb, ltb-false, ltb-true}
+pub use Rattle.std.proofs.Math.ListN.{get_or-eq_default}
+pub use Rattle.std.proofs.lemmas.Bool.{and_from, and_parts, eq-eqb, eqb-false, eqb-true, false_from_ne_true, le-leb, le-ltb, leb-true, lt-leb, lt-ltb, ltb-false}
+pub use Rattle.std.proofs.lemmas.Bool.{ltb-true, not-false, not-true, or_parts}
 pub use Rattle.std.proofs.lemmas.Cmp.{tied_itself}
-pub use Rattle.std.proofs.lemmas.List.{append-nil, length-reverse, reverse-append}
+pub use Rattle.std.proofs.lemmas.List.{append-nil, length-append, length-reverse, reverse-append}
 pub use Rattle.std.proofs.lemmas.List.Elements.{filter-append}
 pub use Rattle.std.proofs.lemmas.List.Folds.{list_all-append, list_any-append}
 pub use Rattle.std.proofs.lemmas.Map.Keys.{IsDistinct-head, IsDistinct-tail}
 pub use Rattle.std.proofs.lemmas.Map.Lookups.{exact_bytes}
 pub use Rattle.std.proofs.lemmas.Slice.Eq.{bytes_eq-Decides}
 pub use Rattle.std.specs.Bool.{beq}
-pub use Rattle.std.specs.Cmp.{booleans_Decides}
+pub use Rattle.std.specs.Cmp.{booleans_Decides, both_ways}
 pub use Rattle.std.specs.Cmp.Lexicographic.{pointwise}
 unfoldable pub use Rattle.std.specs.Fmt.{digits}
 pub use Rattle.std.specs.List.{AllByRecursion, IsDistinct, filter, flat_map, list_all, list_any}
