@@ -8,6 +8,7 @@ pub mod UpLinks
 pub mod Staged
 pub mod Whole
 pub mod Named
+pub mod OneDifference
 pub mod Lists
 pub mod ChangeLemmas
 pub mod Effects
@@ -20,7 +21,6 @@ pub mod Onward
 pub mod KeptLinks
 pub mod NewLinks
 pub mod ScopesNow
-pub mod OneDifference
 pub mod ScopeChanges
 pub mod Different
 pub mod Foreign

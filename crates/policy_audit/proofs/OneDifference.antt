@@ -1,18 +1,13 @@
 -- There is one difference between two counts.
-use Rattle.policy_audit.proofs.Words.{ap, arith, refl, sym, ◌∙◌, tied_itself, exact_bytes, AllByRecursion, is_eq, ordering_reverse, Bool}
-use Rattle.policy_audit.proofs.Words.{List, [], cond, false, map, suc, true, ℕ, ◌&&◌, ◌+◌, ◌∷◌, ◌≡◌, Ordering, Equal, Greater, Less}
-use Rattle.policy_audit.proofs.Words.{same_ascending, exact_pids, pids_total, same_decides, same_pid_decides, texts_total, IsDifference}
-use Rattle.policy_audit.proofs.Words.{IsProper, is_empty, Ascends, Rises, mentions, same, same_pid, total, pid_cmp, text_cmp, GroupChange}
-use Rattle.policy_audit.proofs.Words.{Pid, joined, after}
+use Rattle.policy_audit.proofs.Words.{ap, arith, refl, sym, ◌∙◌, tied_itself, exact_bytes, AllByRecursion, ordering_reverse, List, [], cond}
+use Rattle.policy_audit.proofs.Words.{false, map, true, ℕ, ◌&&◌, ◌+◌, ◌∷◌, ◌≡◌, Ordering, Equal, Greater, Less, same_ascending, exact_pids}
+use Rattle.policy_audit.proofs.Words.{pids_total, same_decides, same_pid_decides, texts_total, IsDifference, IsProper, is_empty, Ascends}
+use Rattle.policy_audit.proofs.Words.{Rises, mentions, same, same_pid, total, pid_cmp, text_cmp, GroupChange, Pid, joined, after}
 use Rattle.policy_audit.proofs.Accepted.{lie}
 
 -- a text that comes before another isn't the same
 pub apart : (s t : List ℕ) → text_cmp s t ≡ Less → same t s ≡ false
-apart s t less = by (same t s) refl
-  where
-    by : (b : Bool) → same t s ≡ b → b ≡ false
-    by false q = refl
-    by true q = lie (sym (ap is_eq (tied_itself texts_total s)) ∙ ap is_eq (ap (text_cmp s) (sym ((same_decides t s).0 q)) ∙ less))
+apart s t less = grind (arith, same_decides t s, tied_itself texts_total s)
 
 pub above_all : (s t : List ℕ) (xs : List (List ℕ)) → text_cmp s t ≡ Less → AllByRecursion (λ u. text_cmp t u ≡ Less) xs → AllByRecursion (λ u. text_cmp s u ≡ Less) xs
 above_all s t [] less a = tt
@@ -24,7 +19,7 @@ turned s t g = texts_total.antisymm t s ∙ ap ordering_reverse g
 -- a list in which nobody is mentioned is empty
 nobody : (ps : List Pid) → ((p : Pid) → mentions p ps ≡ 0) → is_empty ps ≡ true
 nobody [] m = refl
-nobody (q ∷ ps) m = absurd (let e : suc (mentions q ps) ≡ 0 = sym (ap (λ b. cond b (suc (mentions q ps)) (mentions q ps)) ((same_pid_decides q q).1 refl)) ∙ m q in omega (arith, e))
+nobody (q ∷ ps) m = absurd (grind (arith, m q, same_pid_decides q q))
 
 -- ---- how often a list of changes names a process, on one of its sides
 

@@ -1,10 +1,10 @@
 -- The present link of a peer is the one link of it that is up.
 use Rattle.policy_audit.proofs.Words.{ap, arith, refl, subst, sym, ◌∙◌, eq-eqb, eqb-true, option_map_or, unwrap_or, Bool, List, None}
 use Rattle.policy_audit.proofs.Words.{Option, Some, [], cond, false, length, not, true, ℕ, ◌&&◌, ◌+◌, ◌==◌, ◌||◌, ◌↔◌, ◌∷◌, ◌≡◌}
-use Rattle.policy_audit.proofs.Words.{same_decides, same_sym, same, Name, past, frame_ends, gives_up, is_open, is_up, share_peer, IsLegalIn}
-use Rattle.policy_audit.proofs.Words.{up_answer, verdict, ByDial, ByPeer, Opened, Start, Taken, and_frame, awaits, is_last, is_peer}
-use Rattle.policy_audit.proofs.Words.{is_visible, is_whole, opened, peer_of, present_link, taken, Entry, Verdict, Accepted, Refused, Event}
-use Rattle.policy_audit.proofs.Words.{Opening, Reply}
+use Rattle.policy_audit.proofs.Words.{same_decides, same_sym, same, past, frame_ends, gives_up, is_open, is_up, IsLegalIn, up_answer}
+use Rattle.policy_audit.proofs.Words.{verdict, ByDial, ByPeer, Opened, Start, Taken, and_frame, awaits, is_last, is_peer, is_visible}
+use Rattle.policy_audit.proofs.Words.{is_whole, opened, peer_of, present_link, taken, Entry, Verdict, Accepted, Refused, Event, Opening}
+use Rattle.policy_audit.proofs.Words.{Reply}
 use Rattle.policy_audit.proofs.Accepted.{lie, no_value, accepted, peer_by}
 use Rattle.policy_audit.proofs.Walked.{but, unborn, Far, far, frame_fits}
 use Rattle.policy_audit.proofs.Finished.{whole_by, stays, kept, Completed, completed}
@@ -112,17 +112,8 @@ module _ (o : Opening) (es : List Entry) (legal : IsLegalIn o es) (n : List ℕ)
 
     -- a frame that is not the last of a side
     pub not_last : is_last (awaits k es) ≡ false → Agrees es n → Agrees (fr Reply.Done ∷ es) n
-    not_last q p = unchanged es n (fr Reply.Done) refl (λ l. ups l (k == l) refl) (λ l u. peers l (k == l) refl u) p
-      where
-        ups : (l : ℕ) (b : Bool) → (k == l) ≡ b → state_if l b ≡ is_up l es
-        ups l true s = ap (λ x. is_open l es && x) (stays moment (opened l es) (taken l es) (subst (λ j. is_last (awaits j es) ≡ false) (eqb-true k l s) q))
-        ups l false s =
-            ap (λ x. (not (cond x (is_whole l es && share_peer k l es) (gives_up k body l es)) && is_open l es) && is_whole l es) q
-            ∙ unwhole_end (gives_up k body l es) (is_open l es) (is_whole l es) (given_up l)
-
-        peers : (l : ℕ) (b : Bool) → (k == l) ≡ b → is_up l es ≡ true → peer_by (opened l es) (frames_if l b) ≡ peer_of l es
-        peers l true s u = kept moment (opened l es) (taken l es) (and_right (is_open l es) (is_whole l es) u)
-        peers l false s u = refl
+    not_last q p = unchanged es n (fr Reply.Done) refl
+        (λ l. grind (arith, stays moment (opened l es) (taken l es), eqb-true k l, given_up l)) (λ l u. grind (arith, kept moment (opened l es) (taken l es))) p
 
     -- the last frame of a side
     module _ (opens : is_open k es ≡ true) (last : is_last (awaits k es) ≡ true) where
@@ -133,56 +124,22 @@ module _ (o : Opening) (es : List Entry) (legal : IsLegalIn o es) (n : List ℕ)
       up_reply c = Reply.Up c.peer c.gave.creation (is_visible (past o es) k)
 
       pub answered : (c : Completed moment (opened k es) (taken k es)) → cond (is_last (awaits k es)) (up_answer (past o es) k) Reply.Done ≡ up_reply c
-      answered c =
-          ap (λ b. cond b (up_answer (past o es) k) Reply.Done) last
-          ∙ ap (λ (x : Option Name). option_map_or (λ f. Reply.Up (unwrap_or (peer_of k es) []) f.creation (is_visible (past o es) k)) x Reply.Done) c.was_given
-          ∙ ap (λ (x : Option (List ℕ)). Reply.Up (unwrap_or x []) c.gave.creation (is_visible (past o es) k)) c.was_of
+      answered c = grind (arith, c.was_given, c.was_of)
 
       module _ (c : Completed moment (opened k es) (taken k es)) where
-        kk : (k == k) ≡ true
-        kk = eq-eqb k k refl
-
         -- another link of this peer ends
         pub ends_by : (l : ℕ) → frame_ends k body l es ≡ (is_whole l es && is_peer c.peer l es)
-        ends_by l = ap (λ b. cond b (is_whole l es && share_peer k l es) (gives_up k body l es)) last ∙ ap (λ x. is_whole l es && option_map_or (λ m. is_peer m l es) x false) c.was_of
-
-        up_k : state_if k (k == k) ≡ true
-        up_k = ap (state_if k) kk ∙ and_both (is_open k es) _ opens c.is_whole
+        ends_by l = grind (arith, c.was_of)
 
         -- a link that was up is another
         pub other : (l : ℕ) → is_up l es ≡ true → (k == l) ≡ false
-        other l u = by (k == l) refl
-          where
-            by : (b : Bool) → (k == l) ≡ b → b ≡ false
-            by false s = refl
-            by true s = lie (sym (and_right (is_open k es) (is_whole k es) (subst (λ j. is_up j es ≡ true) (sym (eqb-true k l s)) u)) ∙ c.was_whole)
-
-        forth : (l : ℕ) (b : Bool) → same c.peer n ≡ b → Agrees es n → cond b (Some k) (present_link n es) ≡ Some l → (state_if l (k == l) ≡ true) × (peer_by (opened l es) (frames_if l (k == l)) ≡ Some n)
-        forth l true s p q =
-            subst (λ j. (state_if j (k == j) ≡ true) × (peer_by (opened j es) (frames_if j (k == j)) ≡ Some n)) (number_of k l q)
-            (up_k, ap (λ b. peer_by (opened k es) (frames_if k b)) kk ∙ c.is_of ∙ ap Some ((same_decides c.peer n).0 s))
-        forth l false s p q =
-            let old = (p l).0 q in
-            let apart = ap (λ x. is_whole l es && option_map_or (λ m. same m c.peer) x false) old.1 ∙ ap (λ b. is_whole l es && b) (same_sym n c.peer ∙ s) ∙ and_false (is_whole l es) in (
-              ap (state_if l) (other l old.0) ∙ goes_on_up (frame_ends k body l es) (is_open l es) (is_whole l es) (ends_by l ∙ apart) old.0,
-              ap (λ b. peer_by (opened l es) (frames_if l b)) (other l old.0) ∙ old.1,
-            )
-
-        back : (l : ℕ) (b : Bool) → (k == l) ≡ b → Agrees es n → state_if l b ≡ true → peer_by (opened l es) (frames_if l b) ≡ Some n → cond (same c.peer n) (Some k) (present_link n es) ≡ Some l
-        back l true s p u w =
-            let same_link = eqb-true k l s in
-            let of_n = subst (λ j. peer_by (opened j es) (frames_if j true) ≡ Some n) (sym same_link) w in
-            let its = (same_decides c.peer n).1 (value_of c.peer n (sym c.is_of ∙ of_n)) in
-            ap (λ b. cond b (Some k) (present_link n es)) its ∙ ap Some same_link
-        back l false s p u w =
-            let ended = frame_ends k body l es in
-            let before = was_before ended (is_open l es) (is_whole l es) u in
-            let whole = and_right (is_open l es) (is_whole l es) before in
-            let apart = sym (ap (λ x. is_whole l es && option_map_or (λ m. same m c.peer) x false) w ∙ ap (λ b. b && same n c.peer) whole) ∙ sym (ends_by l) ∙ not_ended ended (is_open l es) (is_whole l es) u in
-            ap (λ b. cond b (Some k) (present_link n es)) (same_sym c.peer n ∙ apart) ∙ (p l).1 (before, w)
+        other l u = grind (arith, c.was_whole, eqb-true k l)
 
         last_frame : Agrees es n → Agrees (fr (up_reply c) ∷ es) n
-        last_frame p l = (λ q. forth l (same c.peer n) refl p q, λ w. back l (k == l) refl p w.0 w.1)
+        last_frame p l = (
+          λ q. grind (arith, other l, ends_by l, c.is_whole, c.is_of, same_decides c.peer n, same_sym n c.peer, p l, eq-eqb k k),
+          λ w. grind (arith, other l, ends_by l, c.is_of, same_decides c.peer n, same_sym n c.peer, p l, eqb-true k l),
+        )
 
     -- an accepted frame
     frame_step : (r : Reply) → is_open k es ≡ true → r ≡ cond (is_last (awaits k es)) (up_answer (past o es) k) Reply.Done → Agrees es n → Agrees (fr r ∷ es) n

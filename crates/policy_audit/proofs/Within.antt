@@ -1,12 +1,12 @@
 -- Which rows an entry may change: no others change.
-use Rattle.policy_audit.proofs.Words.{ap, arith, refl, subst, sym, ◌∙◌, eqb-true, option_map_or, unwrap_or, Bool, List, None, Option, Some}
-use Rattle.policy_audit.proofs.Words.{[], cond, false, length, not, suc, true, ℕ, ◌&&◌, ◌++◌, ◌+◌, ◌-◌, ◌==◌, ◌||◌, ◌∷◌, ◌≡◌, same_decides}
-use Rattle.policy_audit.proofs.Words.{same_sym, has_bit, mentions, same, same_pid, stands_in, Pid, Name, Message, checks, is_about_rows}
-use Rattle.policy_audit.proofs.Words.{is_replaced, may_change, Talk, hears, message_taken, rows_of, stated_in, talk, talk_of, History}
-use Rattle.policy_audit.proofs.Words.{events, first_of, past, frame_ends, gives_up, is_open, is_up, share_peer, is_from, listed, listed_by}
-use Rattle.policy_audit.proofs.Words.{is_local, is_running, joined, own, starts, IsLegalIn, IsNext, up_answer, verdict, with_entry, ByDial}
-use Rattle.policy_audit.proofs.Words.{ByPeer, Start, and_frame, awaits, given, is_last, is_peer, is_visible, is_whole, opened, peer_of}
-use Rattle.policy_audit.proofs.Words.{present_link, taken, Entry, Verdict, Accepted, Refused, Event, Opening, Reply}
+use Rattle.policy_audit.proofs.Words.{ap, arith, refl, subst, sym, ◌∙◌, eqb-true, not-false, not-true, or_parts, option_map_or, Bool, List}
+use Rattle.policy_audit.proofs.Words.{None, Option, Some, [], cond, false, length, not, true, ℕ, ◌&&◌, ◌++◌, ◌+◌, ◌==◌, ◌||◌, ◌∷◌, ◌≡◌}
+use Rattle.policy_audit.proofs.Words.{same_decides, same_sym, has_bit, mentions, same, same_pid, stands_in, Pid, Name, Message, checks}
+use Rattle.policy_audit.proofs.Words.{is_about_rows, is_replaced, may_change, Talk, message_taken, stated_in, talk, talk_of, History}
+use Rattle.policy_audit.proofs.Words.{events, past, frame_ends, gives_up, is_open, is_up, share_peer, listed, listed_by, is_local}
+use Rattle.policy_audit.proofs.Words.{is_running, joined, own, IsLegalIn, IsNext, up_answer, verdict, with_entry, ByDial, ByPeer, Start}
+use Rattle.policy_audit.proofs.Words.{and_frame, awaits, given, is_last, is_peer, is_visible, is_whole, opened, peer_of, present_link}
+use Rattle.policy_audit.proofs.Words.{taken, Entry, Verdict, Accepted, Refused, Event, Opening, Reply}
 use Rattle.policy_audit.proofs.Accepted.{lie, accepted, all_hold, peer_by}
 use Rattle.policy_audit.proofs.Walked.{but, frame_fits}
 use Rattle.policy_audit.proofs.Finished.{whole_by, given_by, stays, kept, given_kept, Completed}
@@ -16,20 +16,14 @@ use Rattle.policy_audit.proofs.Effects.{rows_left, others_given, others_peer, ot
 use Rattle.policy_audit.proofs.Heard.{has_sync, heard_runs, heard_whole}
 
 or_left : (a b : Bool) → (a || b) ≡ false → a ≡ false
-or_left true b q = q
-or_left false b q = refl
+or_left a b q = (or_parts a b q).0
 
 or_right : (a b : Bool) → (a || b) ≡ false → b ≡ false
-or_right true b q = lie q
-or_right false b q = q
-
-not_false : (b : Bool) → not b ≡ false → b ≡ true
-not_false true q = refl
-not_false false q = lie q
+or_right a b q = (or_parts a b q).1
 
 unmentioned : (p : Pid) (ps : List Pid) → stands_in same_pid p ps ≡ false → mentions p ps ≡ 0
 unmentioned p [] q = refl
-unmentioned p (x ∷ ps) q = elim (same_pid x p) as (λ b. (b || stands_in same_pid p ps) ≡ false → cond b (suc (mentions p ps)) (mentions p ps) ≡ 0) [ true ↦ λ k. lie k | false ↦ λ k. unmentioned p ps k ] q
+unmentioned p (x ∷ ps) q = grind (arith, unmentioned p ps)
 
 -- how often a link lists a process, by what is said of the link
 abbrev pub lists : Bool → Pid → Option Name → Option (List ℕ) → Bool → Bool → ℕ → ℕ
@@ -47,11 +41,7 @@ module _ (o : Opening) (es : List Entry) (x : Entry) (s g : List ℕ) (p : Pid) 
   -- where the present link of p's node stays, and lists the same
   pub remote_same : present_link p.node (x ∷ es) ≡ present_link p.node es → ((l : ℕ) → present_link p.node es ≡ Some l → listed_by (past o (x ∷ es)) s g p l ≡ listed_by (past o es) s g p l)
       → remote (x ∷ es) (present_link p.node (x ∷ es)) ≡ remote es (present_link p.node es)
-  remote_same a each = ap (remote (x ∷ es)) a ∙ by (present_link p.node es) refl
-    where
-      by : (y : Option ℕ) → present_link p.node es ≡ y → remote (x ∷ es) y ≡ remote es y
-      by None q = refl
-      by (Some l) q = each l q
+  remote_same a each = grind (arith, a, each)
 
   pub all_same : is_local (past o (x ∷ es)) p ≡ is_local (past o es) p → own (past o (x ∷ es)) s g p ≡ own (past o es) s g p → is_running (past o (x ∷ es)) s ≡ is_running (past o es) s
       → remote (x ∷ es) (present_link p.node (x ∷ es)) ≡ remote es (present_link p.node es) → listed (past o (x ∷ es)) s g p ≡ listed (past o es) s g p
@@ -74,94 +64,31 @@ module _ (o : Opening) (es : List Entry) (legal : IsLegalIn o es) (e : Entry) (n
   -- ---- own processes
 
   unjoined : (t f : List ℕ) (ps : List Pid) (r : Reply) → (same t s && same f g && stands_in same_pid p ps) ≡ false → own (past o (but e (Event.Join t f ps) (Accepted r) ∷ es)) s g p ≡ own (past o es) s g p
-  unjoined t f ps r q = by (same t s) (same f g) (stands_in same_pid p ps) refl q
-    where
-      by : (a b c : Bool) → stands_in same_pid p ps ≡ c → (a && b && c) ≡ false → cond (is_running (past o es) s) (cond (a && b) (joined s g p (events es) + mentions p ps) (joined s g p (events es))) 0 ≡ own (past o es) s g p
-      by true true true m k = lie k
-      by true true false m k = ap (λ v. cond (is_running (past o es) s) (joined s g p (events es) + v) 0) (unmentioned p ps m) ∙ ap (λ v. cond (is_running (past o es) s) v 0) plus_none
-        where
-          plus_none : joined s g p (events es) + 0 ≡ joined s g p (events es)
-          plus_none = omega arith
-      by true false c m k = refl
-      by false b c m k = refl
+  unjoined t f ps r q = grind (arith, unmentioned p ps)
 
   unleft : (t f : List ℕ) (ps : List Pid) (r : Reply) → (same t s && same f g && stands_in same_pid p ps) ≡ false → own (past o (but e (Event.Leave t f ps) (Accepted r) ∷ es)) s g p ≡ own (past o es) s g p
-  unleft t f ps r q = by (same t s) (same f g) (stands_in same_pid p ps) refl q
-    where
-      by : (a b c : Bool) → stands_in same_pid p ps ≡ c → (a && b && c) ≡ false → cond (is_running (past o es) s) (cond (a && b) (joined s g p (events es) - mentions p ps) (joined s g p (events es))) 0 ≡ own (past o es) s g p
-      by true true true m k = lie k
-      by true true false m k = ap (λ v. cond (is_running (past o es) s) (joined s g p (events es) - v) 0) (unmentioned p ps m) ∙ ap (λ v. cond (is_running (past o es) s) v 0) minus_none
-        where
-          minus_none : joined s g p (events es) - 0 ≡ joined s g p (events es)
-          minus_none = omega arith
-      by true false c m k = refl
-      by false b c m k = refl
+  unleft t f ps r q = grind (arith, unmentioned p ps)
 
   -- ---- scopes
 
   other_stops : (t : List ℕ) (r : Reply) → same t s ≡ false → same_rows (but e (Event.StopScope t) (Accepted r))
-  other_stops t r q =
-      all_same o es (but e (Event.StopScope t) (Accepted r)) s g p refl
-      (ap (λ b. cond (unwrap_or (elim (cond {A = Option Bool} b (Some false) None) as (λ _. Option Bool) [ Some y ↦ Some y | None ↦ first_of (starts s) (events es) ]) false) (joined s g p (events es)) 0) q)
-      (ap (λ b. unwrap_or (elim (cond {A = Option Bool} b (Some false) None) as (λ _. Option Bool) [ Some y ↦ Some y | None ↦ first_of (starts s) (events es) ]) false) q)
-      (remote_same o es (but e (Event.StopScope t) (Accepted r)) s g p refl (λ l here. link_lists o es (but e (Event.StopScope t) (Accepted r)) s g p l refl refl refl
-      (ap (λ b. unwrap_or (elim (cond {A = Option Bool} b (Some false) None) as (λ _. Option Bool) [ Some y ↦ Some y | None ↦ first_of (hears s) (talk l es) ]) false) q)
-      (ap (λ b. cond b 0 (stated_in s g p (talk l es))) q)))
+  other_stops t r q = grind arith
 
   -- in a scope that doesn't run nobody is heard
   unheard : is_running (past o es) s ≡ false → (l : ℕ) → has_sync s (talk l es) ≡ false
-  unheard q l = by (has_sync s (talk l es)) refl
-    where
-      by : (b : Bool) → has_sync s (talk l es) ≡ b → b ≡ false
-      by false h = refl
-      by true h = lie (sym (heard_runs o es legal l s h) ∙ q)
+  unheard q l = grind (arith, heard_runs o es legal l s)
 
   starts_scope : (t : List ℕ) (r : Reply) → is_running (past o es) t ≡ false → same_rows (but e (Event.StartScope t) (Accepted r))
   starts_scope t r stopped = by (same t s) refl
     where
-      by_other : same t s ≡ false → listed (past o (but e (Event.StartScope t) (Accepted r) ∷ es)) s g p ≡ listed (past o es) s g p
-      by_other q =
-          all_same o es (but e (Event.StartScope t) (Accepted r)) s g p refl
-          (ap (λ b. cond (unwrap_or (elim (cond {A = Option Bool} b (Some true) None) as (λ _. Option Bool) [ Some y ↦ Some y | None ↦ first_of (starts s) (events es) ]) false) (cond b 0 (joined s g p (events es))) 0) q)
-          (ap (λ b. unwrap_or (elim (cond {A = Option Bool} b (Some true) None) as (λ _. Option Bool) [ Some y ↦ Some y | None ↦ first_of (starts s) (events es) ]) false) q)
-          (remote_same o es (but e (Event.StartScope t) (Accepted r)) s g p refl (λ l here. refl))
-
-      silent : is_running (past o es) s ≡ false → (l : ℕ) → listed_by (past o es) s g p l ≡ 0
-      silent q l = ap (λ sync. lists o.hidden p (given l es) (peer_of l es) (is_up l es) sync (stated_in s g p (talk l es))) (unheard q l) ∙ nothing (is_visible (past o es) l && is_from l es p) (is_up l es)
-        where
-          nothing : (a b : Bool) → cond a (cond (b && false) (stated_in s g p (talk l es)) 0) 0 ≡ 0
-          nothing true true = refl
-          nothing true false = refl
-          nothing false b = refl
-
-      silent_link : is_running (past o es) s ≡ false → (y : Option ℕ) → option_map_or (listed_by (past o es) s g p) y 0 ≡ 0
-      silent_link q None = refl
-      silent_link q (Some l) = silent q l
-
-      by_same : same t s ≡ true → listed (past o (but e (Event.StartScope t) (Accepted r) ∷ es)) s g p ≡ listed (past o es) s g p
-      by_same q =
-          let here : is_running (past o es) s ≡ false = ap (is_running (past o es)) (sym ((same_decides t s).0 q)) ∙ stopped in
-          both (is_local (past o es) p) (unwrap_or (elim (cond {A = Option Bool} (same t s) (Some true) None) as (λ _. Option Bool) [ Some y ↦ Some y | None ↦ first_of (starts s) (events es) ]) false) here
-          ∙ sym (stopped_lists (past o es) s g p here)
-        where
-          both : (b u : Bool) → is_running (past o es) s ≡ false → cond b (cond u (cond (same t s) 0 (joined s g p (events es))) 0) (cond u (option_map_or (listed_by (past o es) s g p) (present_link n es) 0) 0) ≡ 0
-          both true true k = ap (λ c. cond c 0 (joined s g p (events es))) q
-          both true false k = refl
-          both false true k = silent_link k (present_link n es)
-          both false false k = refl
-
-      by : (b : Bool) → same t s ≡ b → listed (past o (but e (Event.StartScope t) (Accepted r) ∷ es)) s g p ≡ listed (past o es) s g p
-      by true q = by_same q
-      by false q = by_other q
+      by : (b : Bool) → same t s ≡ b → same_rows (but e (Event.StartScope t) (Accepted r))
+      by false q = grind arith
+      by true q = (let here : is_running (past o es) s ≡ false = grind (arith, same_decides t s) in grind (arith, unheard here, stopped_lists (past o es) s g p here))
 
   -- ---- links
 
   other_number : (l : ℕ) → present_link n es ≡ Some l → (e.number == l) ≡ false
-  other_number l q = by (e.number == l) refl
-    where
-      by : (b : Bool) → (e.number == l) ≡ b → b ≡ false
-      by false k = refl
-      by true k = lie (sym (whole_of l q) ∙ ap (λ y. whole_by y (taken l es)) (none_opened o es legal n e numbered l k))
+  other_number l q = grind (arith, whole_of l, none_opened o es legal n e numbered l)
 
   opens_link : (x : Entry) (t : Start) → present_link n (x ∷ es) ≡ present_link n es → own (past o (x ∷ es)) s g p ≡ own (past o es) s g p → is_running (past o (x ∷ es)) s ≡ is_running (past o es) s → is_local (past o (x ∷ es)) p ≡ is_local (past o es) p
       → ((l : ℕ) → is_up l (x ∷ es) ≡ is_up l es) → ((l : ℕ) → is_up l es ≡ true → peer_of l (x ∷ es) ≡ peer_of l es)
@@ -174,29 +101,10 @@ module _ (o : Opening) (es : List Entry) (legal : IsLegalIn o es) (e : Entry) (n
   stays_present x = is_replaced n es (x ∷ es) ≡ false
 
   lost_link : (j : ℕ) (r : Reply) → stays_present (but e (Event.Lost j) (Accepted r)) → same_rows (but e (Event.Lost j) (Accepted r))
-  lost_link j r stay = all_same o es (but e (Event.Lost j) (Accepted r)) s g p refl refl refl (by (present_link n es) refl stay)
-    where
-      by : (y : Option ℕ) → present_link n es ≡ y → option_map_or (λ l. not (option_map_or (λ k. k == l) (cond (option_map_or (λ k. k == j) y false) None y) false)) y false ≡ false
-          → remote o es (but e (Event.Lost j) (Accepted r)) s g p (but e (Event.Lost j) (Accepted r) ∷ es) (cond (option_map_or (λ k. k == j) y false) None y) ≡ remote o es (but e (Event.Lost j) (Accepted r)) s g p es y
-      by None q k = refl
-      by (Some l) q k = goes (l == j) refl k
-        where
-          goes : (b : Bool) → (l == j) ≡ b → not (option_map_or (λ m. m == l) (cond b None (Some l)) false) ≡ false
-              → remote o es (but e (Event.Lost j) (Accepted r)) s g p (but e (Event.Lost j) (Accepted r) ∷ es) (cond b None (Some l)) ≡ listed_by (past o es) s g p l
-          goes true a k = lie k
-          goes false a k = link_lists o es (but e (Event.Lost j) (Accepted r)) s g p l refl refl (ap (λ v. (not v && is_open l es) && is_whole l es) (flip j l ∙ a)) refl refl
+  lost_link j r stay = grind (arith, flip)
 
   disconnects : (m : List ℕ) (r : Reply) → stays_present (but e (Event.Disconnect m) (Accepted r)) → same_rows (but e (Event.Disconnect m) (Accepted r))
-  disconnects m r stay = all_same o es (but e (Event.Disconnect m) (Accepted r)) s g p refl refl refl (by (present_link n es) refl (same m n) refl stay)
-    where
-      by : (y : Option ℕ) → present_link n es ≡ y → (b : Bool) → same m n ≡ b → option_map_or (λ l. not (option_map_or (λ k. k == l) (cond b None y) false)) y false ≡ false
-          → remote o es (but e (Event.Disconnect m) (Accepted r)) s g p (but e (Event.Disconnect m) (Accepted r) ∷ es) (cond b None y) ≡ remote o es (but e (Event.Disconnect m) (Accepted r)) s g p es y
-      by None q true a k = refl
-      by None q false a k = refl
-      by (Some l) q true a k = lie k
-      by (Some l) q false a k = link_lists o es (but e (Event.Disconnect m) (Accepted r)) s g p l refl refl
-          (ap (λ v. (not (is_whole l es && v) && is_open l es) && is_whole l es) (ap (λ v. option_map_or (λ w. same w m) v false) (up_of l q).1 ∙ same_sym n m ∙ a)
-          ∙ ap (λ v. (not v && is_open l es) && is_whole l es) (and_false (is_whole l es))) refl refl
+  disconnects m r stay = grind (arith, up_of, same_sym n m)
 
   -- ---- frames
 
@@ -206,20 +114,10 @@ module _ (o : Opening) (es : List Entry) (legal : IsLegalIn o es) (e : Entry) (n
 
     -- a message about another scope
     elsewhere_sync : (x : Option Message) (ts : List Talk) → is_about_rows s x ≡ false → has_sync s (talk_of x ++ ts) ≡ has_sync s ts
-    elsewhere_sync None ts q = refl
-    elsewhere_sync (Some (Message.Discover t)) ts q = refl
-    elsewhere_sync (Some (Message.Join t rows)) ts q = refl
-    elsewhere_sync (Some (Message.Leave t rows)) ts q = refl
-    elsewhere_sync (Some (Message.Sync t rows)) ts q = ap (λ b. unwrap_or (elim (cond {A = Option Bool} b (Some true) None) as (λ _. Option Bool) [ Some y ↦ Some y | None ↦ first_of (hears s) ts ]) false) q
-    elsewhere_sync (Some (Message.Down t)) ts q = ap (λ b. unwrap_or (elim (cond {A = Option Bool} b (Some false) None) as (λ _. Option Bool) [ Some y ↦ Some y | None ↦ first_of (hears s) ts ]) false) q
+    elsewhere_sync x ts q = grind arith
 
     elsewhere_count : (x : Option Message) (ts : List Talk) → is_about_rows s x ≡ false → stated_in s g p (talk_of x ++ ts) ≡ stated_in s g p ts
-    elsewhere_count None ts q = refl
-    elsewhere_count (Some (Message.Discover t)) ts q = refl
-    elsewhere_count (Some (Message.Join t rows)) ts q = ap (λ b. cond b (stated_in s g p ts + rows_of g p rows) (stated_in s g p ts)) q
-    elsewhere_count (Some (Message.Leave t rows)) ts q = ap (λ b. cond b (stated_in s g p ts - rows_of g p rows) (stated_in s g p ts)) q
-    elsewhere_count (Some (Message.Sync t rows)) ts q = ap (λ b. cond b (rows_of g p rows) (stated_in s g p ts)) q
-    elsewhere_count (Some (Message.Down t)) ts q = ap (λ b. cond b 0 (stated_in s g p ts)) q
+    elsewhere_count x ts q = grind arith
 
     -- a frame that is not the last of a side
     not_last : is_last (awaits k es) ≡ false → (is_whole k es && is_peer n k es && is_about_rows s (message_taken body)) ≡ false → same_rows (fr Reply.Done)
@@ -250,21 +148,10 @@ module _ (o : Opening) (es : List Entry) (legal : IsLegalIn o es) (e : Entry) (n
       up_reply = Reply.Up c.peer c.gave.creation (is_visible (past o es) k)
 
       silent : (b : Bool) → has_sync s (talk k es) ≡ b → has_sync s (talk k (fr up_reply ∷ es)) ≡ false
-      silent b q = ap (λ v. has_sync s (cond ((k == k) && v) (talk_of (message_taken body)) [] ++ talk k es)) c.was_whole ∙ ap (λ v. has_sync s (cond v (talk_of (message_taken body)) [] ++ talk k es)) (and_false (k == k)) ∙ q ∙ by b q
-        where
-          by : (b : Bool) → has_sync s (talk k es) ≡ b → b ≡ false
-          by false q = refl
-          by true q = lie (sym (heard_whole o es legal k s q) ∙ c.was_whole)
+      silent b q = grind (arith, heard_whole o es legal k s, c.was_whole)
 
       pub new_lists : listed_by (past o (fr up_reply ∷ es)) s g p k ≡ 0
-      new_lists =
-          ap (λ v. lists o.hidden p (given k (fr up_reply ∷ es)) (peer_of k (fr up_reply ∷ es)) (is_up k (fr up_reply ∷ es)) v (stated_in s g p (talk k (fr up_reply ∷ es)))) (silent (has_sync s (talk k es)) refl)
-          ∙ nothing (is_visible (past o (fr up_reply ∷ es)) k && is_from k (fr up_reply ∷ es) p) (is_up k (fr up_reply ∷ es))
-        where
-          nothing : (a b : Bool) → cond a (cond (b && false) (stated_in s g p (talk k (fr up_reply ∷ es))) 0) 0 ≡ 0
-          nothing true true = refl
-          nothing true false = refl
-          nothing false b = refl
+      new_lists = grind (arith, silent)
 
       last_rows : is_replaced n es (fr up_reply ∷ es) ≡ false → same_rows (fr up_reply)
       last_rows stay = all_same o es (fr up_reply) s g p refl refl refl (by (present_link n es) refl (same c.peer n) refl stay)
@@ -273,7 +160,7 @@ module _ (o : Opening) (es : List Entry) (legal : IsLegalIn o es) (e : Entry) (n
               → remote o es (fr up_reply) s g p (fr up_reply ∷ es) (cond b (Some k) y) ≡ remote o es (fr up_reply) s g p es y
           by None q true a m = new_lists
           by None q false a m = refl
-          by (Some l) q true a m = lie (sym (not_false (k == l) m) ∙ other o es legal n e numbered k body opens last c l (up_of l q).0)
+          by (Some l) q true a m = lie (sym (not-false (k == l) m) ∙ other o es legal n e numbered k body opens last c l (up_of l q).0)
           by (Some l) q false a m =
               let apart = other o es legal n e numbered k body opens last c l (up_of l q).0 in
               let goes = ends_by o es legal n e numbered k body opens last c l ∙ ap (λ v. is_whole l es && option_map_or (λ w. same w c.peer) v false) (up_of l q).1 ∙ ap (λ v. is_whole l es && v) (same_sym n c.peer ∙ a) ∙ and_false (is_whole l es) in
@@ -303,11 +190,7 @@ module _ (o : Opening) (es : List Entry) (legal : IsLegalIn o es) (e : Entry) (n
   pub rows_step : (ev : Event) (v : Verdict) → v ≡ verdict (past o es) e.seat ev → may_change es (but e ev v) s g p ≡ false → same_rows (but e ev v)
   rows_step ev (Refused r) q within = rows_left (past o es) e ev (Refused r) refl s g p
   rows_step Event.Restart (Accepted r) q within = lie within
-  rows_step (Event.StartScope t) (Accepted r) q within = starts_scope t r (still (is_running (past o es) t) (all_hold (checks (past o es) e.seat (Event.StartScope t)) (accepted (past o es) e.seat (Event.StartScope t) r q).0).0)
-    where
-      still : (b : Bool) → not (not b) ≡ false → b ≡ false
-      still true k = lie k
-      still false k = refl
+  rows_step (Event.StartScope t) (Accepted r) q within = starts_scope t r (not-true (is_running (past o es) t) (not-false (not (is_running (past o es) t)) (all_hold (checks (past o es) e.seat (Event.StartScope t)) (accepted (past o es) e.seat (Event.StartScope t) r q).0).0))
   rows_step (Event.StopScope t) (Accepted r) q within = other_stops t r (or_left _ _ within)
   rows_step (Event.Exit x) (Accepted r) q within = all_same o es (but e (Event.Exit x) (Accepted r)) s g p refl (ap (λ b. cond (is_running (past o es) s) (cond b 0 (joined s g p (events es))) 0) (or_left _ _ within)) refl (remote_same o es (but e (Event.Exit x) (Accepted r)) s g p refl (λ l here. refl))
   rows_step (Event.Join t f ps) (Accepted r) q within = all_same o es (but e (Event.Join t f ps) (Accepted r)) s g p refl (unjoined t f ps r (or_left _ _ within)) refl (remote_same o es (but e (Event.Join t f ps) (Accepted r)) s g p refl (λ l here. refl))
