@@ -10,7 +10,7 @@ use Rattle.policy_audit.proofs.Accepted.{accepted, all_hold, lie, no_value, open
 use Rattle.policy_audit.proofs.Onward.{ack_taken, answer_taken, challenge_taken, message_taken_on, name_taken, reply_taken, status_taken}
 use Rattle.policy_audit.proofs.Walked.{but}
 use Rattle.policy_audit.proofs.UpLinks.{none_taken, value_of, agrees}
-use Rattle.policy_audit.proofs.Effects.{others_peer, by_made}
+use Rattle.policy_audit.proofs.Effects.{entry_link, by_made}
 
 unlike : (b : Bool) → not (not b) ≡ false → b ≡ false
 unlike true q = lie q
@@ -55,7 +55,7 @@ foreign_in o (e ∷ es) legal l n q = by_event e.event e.verdict legal.0.verdict
 
     framed : (k : ℕ) (body : List ℕ) (r : Reply) → Accepted r ≡ verdict (past o es) e.seat (Event.Frame k body) → ((j : ℕ) → peer_of j es ≡ Some n → same n o.name ≡ false)
         → (b : Bool) → (k == l) ≡ b → peer_of l (but e (Event.Frame k body) (Accepted r) ∷ es) ≡ Some n → same n o.name ≡ false
-    framed k body r v so_far false m q = so_far l (sym (others_peer es e k l body m (Accepted r)) ∙ q)
+    framed k body r v so_far false m q = so_far l (sym (entry_link es (but e (Event.Frame k body) (Accepted r)) k l body refl m).peer ∙ q)
     framed k body r v so_far true m q =
         by_kind o es e k body r (record { room = legal.0.room; number = legal.0.number; verdict = v }) n (subst (λ j. peer_of j (but e (Event.Frame k body) (Accepted r) ∷ es) ≡ Some n) (sym (eqb-true k l m)) q) (so_far k) (awaits k es) refl
 

@@ -1,18 +1,17 @@
 -- How often a process is listed after each accepted event.
-use Rattle.policy_audit.proofs.Words.{ap, arith, refl, subst, sym, ◌∙◌, eq-eqb, eqb-true, list_all, option_map_or, unwrap_or, Bool, List}
-use Rattle.policy_audit.proofs.Words.{None, Option, Some, [], cond, false, not, suc, true, ℕ, ◌&&◌, ◌+◌, ◌-◌, ◌==◌, ◌||◌, ◌∷◌, ◌≡◌}
-use Rattle.policy_audit.proofs.Words.{same_decides, same_pid_decides, same_sym, mentions, occurrences, same, same_pid, Pid, checks}
-use Rattle.policy_audit.proofs.Words.{join_checks, leave_checks, is_about_rows, is_replaced, may_change, message_taken, History, creation}
-use Rattle.policy_audit.proofs.Words.{events, first_of, is_accepted, is_open, is_up, listed, listed_by, is_local, is_running, own, starts}
-use Rattle.policy_audit.proofs.Words.{IsAnswered, IsLegal, up_answer, verdict, with_entry, awaits, is_last, is_peer, is_visible, is_whole}
-use Rattle.policy_audit.proofs.Words.{opened, peer_of, present_link, taken, Entry, Accepted, Event, Reply}
+use Rattle.policy_audit.proofs.Words.{ap, arith, refl, subst, sym, ◌∙◌, eq-eqb, eqb-true, list_all, option_map_or, Bool, List, None, Some}
+use Rattle.policy_audit.proofs.Words.{[], cond, false, true, ℕ, ◌&&◌, ◌+◌, ◌-◌, ◌==◌, ◌||◌, ◌∷◌, ◌≡◌, same_decides, same_pid_decides}
+use Rattle.policy_audit.proofs.Words.{same_sym, mentions, occurrences, same, same_pid, Pid, checks, join_checks, leave_checks}
+use Rattle.policy_audit.proofs.Words.{is_about_rows, is_replaced, may_change, message_taken, History, is_accepted, is_open, is_up, listed}
+use Rattle.policy_audit.proofs.Words.{listed_by, is_local, is_running, own, IsAnswered, IsLegal, up_answer, verdict, with_entry, awaits}
+use Rattle.policy_audit.proofs.Words.{is_last, is_peer, is_visible, is_whole, opened, peer_of, present_link, taken, Entry, Accepted, Event}
+use Rattle.policy_audit.proofs.Words.{Reply}
 use Rattle.policy_audit.proofs.Finished.{Completed, is_message, whole_awaits}
 use Rattle.policy_audit.proofs.Accepted.{accepted, all_hold, lie, unbroken}
-use Rattle.policy_audit.proofs.UpLinks.{agrees, and_left, and_right, answered, done_now, value_of}
+use Rattle.policy_audit.proofs.UpLinks.{agrees, answered, done_now, value_of}
 use Rattle.policy_audit.proofs.Walked.{but, frame_fits}
-use Rattle.policy_audit.proofs.Effects.{by_made, own_exited, own_joined, own_left, by_accepted}
+use Rattle.policy_audit.proofs.Effects.{by_made, entry_exited, entry_joined, entry_left, met}
 use Rattle.policy_audit.proofs.Within.{new_lists, rows_step}
-use Rattle.policy_audit.proofs.ChangeLemmas.{stopped_lists}
 
 -- ---- counts
 
@@ -20,47 +19,20 @@ use Rattle.policy_audit.proofs.ChangeLemmas.{stopped_lists}
 pub uncounted : {A : Type 0} (alike : A → A → Bool) → ((y x : A) → alike y x ≡ true → y ≡ x) → (test : A → Bool) (x : A) (xs : List A)
     → list_all test xs ≡ true → test x ≡ false → occurrences alike x xs ≡ 0
 uncounted alike exact test x [] all out = refl
-uncounted alike exact test x (y ∷ ys) all out = by (uncounted alike exact test x ys (and_right (test y) (list_all test ys) all) out) (alike y x) refl
-  where
-    by : occurrences alike x ys ≡ 0 → (b : Bool) → alike y x ≡ b → cond b (suc (occurrences alike x ys)) (occurrences alike x ys) ≡ 0
-    by others false q = others
-    by others true q = lie (sym (and_left (test y) (list_all test ys) all) ∙ ap test (exact y x q) ∙ out)
+uncounted alike exact test x (y ∷ ys) all out = grind (arith, uncounted alike exact test x ys, exact y x)
 
--- what is added to one's own count, where nothing is added for others
-plus_own : (l a b : Bool) (x y m : ℕ) → (l ≡ false → m ≡ 0) → cond l (cond (a && b) (x + m) x) y ≡ cond a (cond l x y + cond b m 0) (cond l x y)
-plus_own true true true x y m z = refl
-plus_own true true false x y m z = omega arith
-plus_own true false b x y m z = refl
-plus_own false true true x y m z = (let none : m ≡ 0 = z refl in omega (arith, none))
-plus_own false true false x y m z = omega arith
-plus_own false false b x y m z = refl
-
--- and what is taken away
+-- what is taken away from one's own count, where nothing is taken from others
 minus_own : (l a b : Bool) (x y m : ℕ) → (l ≡ false → m ≡ 0) → cond l (cond (a && b) (x - m) x) y ≡ cond a (cond l x y - cond b m 0) (cond l x y)
-minus_own true true true x y m z = refl
-minus_own true true false x y m z = omega arith
-minus_own true false b x y m z = refl
-minus_own false true true x y m z = (let none : m ≡ 0 = z refl in omega (arith, none))
-minus_own false true false x y m z = omega arith
-minus_own false false b x y m z = refl
+minus_own l a b x y m z = grind arith
 
 exit_own : (l a : Bool) (x y : ℕ) → (l ≡ false → a ≡ false) → cond l (cond a 0 x) y ≡ cond a 0 (cond l x y)
-exit_own true true x y z = refl
-exit_own true false x y z = refl
-exit_own false true x y z = lie (z refl)
-exit_own false false x y z = refl
+exit_own l a x y z = grind arith
 
 pid_sym : (p q : Pid) → same_pid p q ≡ same_pid q p
-pid_sym p q = by (same_pid p q) refl (same_pid q p) refl
-  where
-    by : (a : Bool) → same_pid p q ≡ a → (b : Bool) → same_pid q p ≡ b → a ≡ b
-    by true m true n = refl
-    by false m false n = refl
-    by true m false n = sym ((same_pid_decides q p).1 (sym ((same_pid_decides p q).0 m))) ∙ n
-    by false m true n = sym m ∙ (same_pid_decides p q).1 (sym ((same_pid_decides q p).0 n))
+pid_sym p q = grind (arith, same_pid_decides)
 
 pub or_none : (a b : Bool) → a ≡ false → b ≡ false → (a || b) ≡ false
-or_none a b p q = ap (λ x. x || b) p ∙ q
+or_none a b p q = grind arith
 
 -- ---- own processes
 
@@ -74,55 +46,42 @@ module _ (h : History) (e : Entry) (made : IsAnswered h e) (yes : is_accepted e.
 
   pub joined_rows : (s g : List ℕ) (ps : List Pid) → e.event ≡ Event.Join s g ps → (t f : List ℕ) (p : Pid)
       → listed (with_entry h e) t f p ≡ cond (same t s) (listed h t f p + cond (same f g) (mentions p ps) 0) (listed h t f p)
-  joined_rows s g ps is t f p = by_made h e (Event.Join s g ps) (λ x. listed (with_entry h x) t f p ≡ cond (same t s) (listed h t f p + cond (same f g) (mentions p ps) 0) (listed h t f p)) made yes is (λ r q. (
-      let holds = all_hold (join_checks h s g ps) (accepted h e.seat (Event.Join s g ps) r q).0 in
-      ap (λ c. cond (is_local h p) c (remote t f p)) (own_joined h e r s g ps (unbroken (is_running h s) holds.0) t f p)
-      ∙ plus_own (is_local h p) (same s t) (same g f) (own h t f p) (remote t f p) (mentions p ps) (unmentioned ps (unbroken (list_all (is_local h) ps) holds.1.0) p)
-      ∙ (λ i. cond (same_sym s t i) (listed h t f p + cond (same_sym g f i) (mentions p ps) 0) (listed h t f p))))
+  joined_rows s g ps is t f p =
+      let holds = all_hold (join_checks h s g ps) (met h e (Event.Join s g ps) made yes is) in
+      grind (arith, entry_joined h e s g ps is yes (unbroken (is_running h s) holds.0) t f p, unmentioned ps (unbroken (list_all (is_local h) ps) holds.1.0) p, same_sym s t, same_sym g f)
 
   pub left_rows : (s g : List ℕ) (ps : List Pid) → e.event ≡ Event.Leave s g ps → (t f : List ℕ) (p : Pid)
       → listed (with_entry h e) t f p ≡ cond (same t s) (listed h t f p - cond (same f g) (mentions p ps) 0) (listed h t f p)
-  left_rows s g ps is t f p = by_made h e (Event.Leave s g ps) (λ x. listed (with_entry h x) t f p ≡ cond (same t s) (listed h t f p - cond (same f g) (mentions p ps) 0) (listed h t f p)) made yes is (λ r q. (
-      let holds = all_hold (leave_checks h s g ps) (accepted h e.seat (Event.Leave s g ps) r q).0 in
-      ap (λ c. cond (is_local h p) c (remote t f p)) (own_left h e r s g ps t f p)
+  left_rows s g ps is t f p =
+      let holds = all_hold (leave_checks h s g ps) (met h e (Event.Leave s g ps) made yes is) in
+      let now : listed (with_entry h e) t f p ≡ cond (is_local h p) (own (with_entry h e) t f p) (remote t f p) = grind arith in
+      now ∙ ap (λ c. cond (is_local h p) c (remote t f p)) (entry_left h e s g ps is yes t f p)
       ∙ minus_own (is_local h p) (same s t) (same g f) (own h t f p) (remote t f p) (mentions p ps) (unmentioned ps (unbroken (list_all (is_local h) ps) holds.1.0) p)
-      ∙ (λ i. cond (same_sym s t i) (listed h t f p - cond (same_sym g f i) (mentions p ps) 0) (listed h t f p))))
+      ∙ (λ i. cond (same_sym s t i) (listed h t f p - cond (same_sym g f i) (mentions p ps) 0) (listed h t f p))
 
   pub exited_rows : (q : Pid) → e.event ≡ Event.Exit q → (t f : List ℕ) (p : Pid) → listed (with_entry h e) t f p ≡ cond (same_pid p q) 0 (listed h t f p)
-  exited_rows q is t f p = by_made h e (Event.Exit q) (λ x. listed (with_entry h x) t f p ≡ cond (same_pid p q) 0 (listed h t f p)) made yes is (λ r v. (
-      let own_one = unbroken (is_local h q) (all_hold (checks h e.seat (Event.Exit q)) (accepted h e.seat (Event.Exit q) r v).0).0 in
-      ap (λ c. cond (is_local h p) c (remote t f p)) (own_exited h e r q t f p)
-      ∙ exit_own (is_local h p) (same_pid q p) (own h t f p) (remote t f p) (another own_one (same_pid q p) refl)
-      ∙ ap (λ b. cond b 0 (listed h t f p)) (pid_sym q p)))
-    where
-      another : is_local h q ≡ true → (b : Bool) → same_pid q p ≡ b → is_local h p ≡ false → b ≡ false
-      another its false s out = refl
-      another its true s out = lie (sym its ∙ ap (is_local h) ((same_pid_decides q p).0 s) ∙ out)
+  exited_rows q is t f p =
+      let own_one = unbroken (is_local h q) (all_hold (checks h e.seat (Event.Exit q)) (met h e (Event.Exit q) made yes is)).0 in
+      let now : listed (with_entry h e) t f p ≡ cond (is_local h p) (own (with_entry h e) t f p) (remote t f p) = grind arith in
+      now ∙ ap (λ c. cond (is_local h p) c (remote t f p)) (entry_exited h e q is yes t f p)
+      ∙ exit_own (is_local h p) (same_pid q p) (own h t f p) (remote t f p) (λ out. grind (arith, same_pid_decides q p)) ∙ ap (λ b. cond b 0 (listed h t f p)) (pid_sym q p)
 
   pub restarted_rows : e.event ≡ Event.Restart → (t f : List ℕ) (p : Pid) → listed (with_entry h e) t f p ≡ 0
-  restarted_rows is t f p = by_accepted e Event.Restart (λ x. listed (with_entry h x) t f p ≡ 0) is yes (λ r. stopped_lists (with_entry h (but e Event.Restart (Accepted r))) t f p refl)
+  restarted_rows is t f p = grind arith
 
 -- ---- scopes and links
 
 -- a present link that is the same isn't replaced
 pub unreplaced : (n : List ℕ) (old new : List Entry) → present_link n new ≡ present_link n old → is_replaced n old new ≡ false
-unreplaced n old new q = ap (λ x. option_map_or (λ l. not (option_map_or (λ k. k == l) x false)) (present_link n old) false) q ∙ by (present_link n old)
-  where
-    by : (x : Option ℕ) → option_map_or (λ l. not (option_map_or (λ k. k == l) x false)) x false ≡ false
-    by None = refl
-    by (Some l) = ap not (eq-eqb l l refl)
+unreplaced n old new q = grind (arith, eq-eqb)
 
 -- a process of another node
 pub not_local : (k : History) (p : Pid) (n : List ℕ) → same p.node n ≡ true → same n k.opening.name ≡ false → is_local k p ≡ false
-not_local k p n of foreign = ap (λ b. b && p.creation == creation k) (ap (λ m. same m k.opening.name) ((same_decides p.node n).0 of) ∙ foreign)
-
-nothing : (b : Bool) → ◌≡◌ {A = ℕ} (cond b 0 0) 0
-nothing true = refl
-nothing false = refl
+not_local k p n of foreign = grind (arith, same_decides p.node n)
 
 -- a process of another node, of which no link is up
 pub unlinked : (k : History) (t f : List ℕ) (p : Pid) → is_local k p ≡ false → present_link p.node k.entries ≡ None → listed k t f p ≡ 0
-unlinked k t f p out none = (λ i. cond (out i) (own k t f p) (cond (is_running k t) (option_map_or (listed_by k t f p) (none i) 0) 0)) ∙ nothing (is_running k t)
+unlinked k t f p out none = grind arith
 
 module _ (h : History) (legal : IsLegal h) (e : Entry) (made : IsAnswered h e) (yes : is_accepted e.verdict ≡ true) where
   abbrev es : List Entry
@@ -136,15 +95,7 @@ module _ (h : History) (legal : IsLegal h) (e : Entry) (made : IsAnswered h e) (
   started_rows s is t f p = left_alone (Event.StartScope s) is t f p (λ r. unreplaced p.node es (but e (Event.StartScope s) (Accepted r) ∷ es) refl)
 
   pub stopped_rows : (s : List ℕ) → e.event ≡ Event.StopScope s → (t f : List ℕ) (p : Pid) → listed (with_entry h e) t f p ≡ cond (same t s) 0 (listed h t f p)
-  stopped_rows s is t f p = by (same t s) refl
-    where
-      stops : same t s ≡ true → is_running (with_entry h e) t ≡ false
-      stops m = by_accepted e (Event.StopScope s) (λ x. is_running (with_entry h x) t ≡ false) is yes
-          (λ r. ap (λ b. unwrap_or (elim (cond {A = Option Bool} b (Some false) None) as (λ _. Option Bool) [ Some y ↦ Some y | None ↦ first_of (starts t) (events es) ]) false) (same_sym s t ∙ m))
-
-      by : (b : Bool) → same t s ≡ b → listed (with_entry h e) t f p ≡ cond b 0 (listed h t f p)
-      by true m = stopped_lists (with_entry h e) t f p (stops m)
-      by false m = left_alone (Event.StopScope s) is t f p (λ r. or_none _ _ (same_sym s t ∙ m) (unreplaced p.node es (but e (Event.StopScope s) (Accepted r) ∷ es) refl))
+  stopped_rows s is t f p = grind (arith, same_sym s t)
 
   pub opened_rows : (c : ℕ) → e.event ≡ Event.Opened c → (t f : List ℕ) (p : Pid) → listed (with_entry h e) t f p ≡ listed h t f p
   opened_rows c is t f p = left_alone (Event.Opened c) is t f p (λ r. unreplaced p.node es (but e (Event.Opened c) (Accepted r) ∷ es) refl)
@@ -154,28 +105,18 @@ module _ (h : History) (legal : IsLegal h) (e : Entry) (made : IsAnswered h e) (
 
   -- a lost link that isn't the present one of p's node
   lost_apart : (l : ℕ) → e.event ≡ Event.Lost l → (t f : List ℕ) (p : Pid) → ((j : ℕ) → present_link p.node es ≡ Some j → (j == l) ≡ false) → listed (with_entry h e) t f p ≡ listed h t f p
-  lost_apart l is t f p apart = left_alone (Event.Lost l) is t f p (λ r. unreplaced p.node es (but e (Event.Lost l) (Accepted r) ∷ es) (by (present_link p.node es) refl))
-    where
-      by : (x : Option ℕ) → present_link p.node es ≡ x → cond (option_map_or (λ k. k == l) x false) None x ≡ x
-      by None q = refl
-      by (Some j) q = ap (λ b. cond b None (Some j)) (apart j q)
+  lost_apart l is t f p apart = left_alone (Event.Lost l) is t f p (λ r. grind (arith, apart, eq-eqb))
 
   -- the present link of p's node is not l, where that is another link
   other_link : (l : ℕ) (p : Pid) → ((is_up l es ≡ true) × (peer_of l es ≡ Some p.node) → ⊥) → (j : ℕ) → present_link p.node es ≡ Some j → (j == l) ≡ false
-  other_link l p not_so j q = by (j == l) refl
-    where
-      by : (b : Bool) → (j == l) ≡ b → b ≡ false
-      by false m = refl
-      by true m = absurd (not_so (subst (λ k. (is_up k es ≡ true) × (peer_of k es ≡ Some p.node)) (eqb-true j l m) ((agrees h.opening es legal p.node j).0 q)))
+  other_link l p not_so j q = grind (arith, agrees h.opening es legal p.node j, eqb-true j l, not_so)
 
   pub lost_rows : (l : ℕ) (n : List ℕ) → e.event ≡ Event.Lost l → is_up l es ≡ true → peer_of l es ≡ Some n → same n h.opening.name ≡ false
       → (t f : List ℕ) (p : Pid) → listed (with_entry h e) t f p ≡ cond (same p.node n) 0 (listed h t f p)
   lost_rows l n is up of foreign t f p = by (same p.node n) refl
     where
       gone : same p.node n ≡ true → present_link p.node (e ∷ es) ≡ None
-      gone m = by_accepted e (Event.Lost l) (λ x. present_link p.node (x ∷ es) ≡ None) is yes (λ r.
-          ap (λ x. cond (option_map_or (λ k. k == l) x false) None x) (ap (λ v. present_link v es) ((same_decides p.node n).0 m) ∙ (agrees h.opening es legal n l).1 (up, of))
-          ∙ ap (λ b. cond b None (Some l)) (eq-eqb l l refl))
+      gone m = grind (arith, same_decides p.node n, agrees h.opening es legal n l, eq-eqb l l)
 
       by : (b : Bool) → same p.node n ≡ b → listed (with_entry h e) t f p ≡ cond b 0 (listed h t f p)
       by true m = unlinked (with_entry h e) t f p (not_local (with_entry h e) p n m foreign) (gone m)
@@ -188,11 +129,11 @@ module _ (h : History) (legal : IsLegal h) (e : Entry) (made : IsAnswered h e) (
   disconnected_rows n is foreign t f p = by (same p.node n) refl
     where
       gone : same p.node n ≡ true → present_link p.node (e ∷ es) ≡ None
-      gone m = by_accepted e (Event.Disconnect n) (λ x. present_link p.node (x ∷ es) ≡ None) is yes (λ r. ap (λ b. cond b None (present_link p.node es)) (same_sym n p.node ∙ m))
+      gone m = grind (arith, same_sym n p.node)
 
       by : (b : Bool) → same p.node n ≡ b → listed (with_entry h e) t f p ≡ cond b 0 (listed h t f p)
       by true m = unlinked (with_entry h e) t f p (not_local (with_entry h e) p n m foreign) (gone m)
-      by false m = left_alone (Event.Disconnect n) is t f p (λ r. unreplaced p.node es (but e (Event.Disconnect n) (Accepted r) ∷ es) (ap (λ b. cond b None (present_link p.node es)) (same_sym n p.node ∙ m)))
+      by false m = left_alone (Event.Disconnect n) is t f p (λ r. grind (arith, same_sym n p.node, eq-eqb))
 
   -- ---- frames
 
@@ -212,11 +153,7 @@ module _ (h : History) (legal : IsLegal h) (e : Entry) (made : IsAnswered h e) (
         (λ q. rows_step h.opening es legal e made.number t f p (Event.Frame l body) (Accepted Reply.Done) q (or_none _ _ within (unreplaced p.node es (fr Reply.Done ∷ es) refl)))
 
     pub unfinished_rows : is_message (awaits l es) ≡ false → is_last (awaits l es) ≡ false → (t f : List ℕ) (p : Pid) → listed (with_entry h e) t f p ≡ listed h t f p
-    unfinished_rows unlike inner t f p = inner_rows inner t f p (ap (λ b. b && is_peer p.node l es && is_about_rows t (message_taken body)) (unwhole (is_whole l es) refl))
-      where
-        unwhole : (b : Bool) → is_whole l es ≡ b → b ≡ false
-        unwhole false w = refl
-        unwhole true w = lie (sym (ap is_message (whole_awaits (opened l es) (taken l es) w)) ∙ unlike)
+    unfinished_rows unlike inner t f p = inner_rows inner t f p (grind (arith, whole_awaits (opened l es) (taken l es)))
 
     -- the last frame of a side: what its peer listed on an older link is gone, and nobody is heard on this one yet
     module _ (n : List ℕ) (last : is_last (awaits l es) ≡ true) (of : peer_of l es ≡ Some n) (foreign : same n h.opening.name ≡ false) (t f : List ℕ) (p : Pid) where
@@ -225,12 +162,10 @@ module _ (h : History) (legal : IsLegal h) (e : Entry) (made : IsAnswered h e) (
         up = Reply.Up c.peer c.gave.creation (is_visible h l)
 
         now_linked : (b : Bool) → same p.node n ≡ b → present_link p.node (fr up ∷ es) ≡ cond b (Some l) (present_link p.node es)
-        now_linked b m = ap (λ v. cond v (Some l) (present_link p.node es)) (same_sym c.peer p.node ∙ ap (same p.node) (value_of c.peer n (sym c.was_of ∙ of)) ∙ m)
+        now_linked b m = grind (arith, same_sym c.peer p.node, c.was_of)
 
         now_silent : same p.node n ≡ true → listed (with_entry h (fr up)) t f p ≡ 0
-        now_silent m =
-            (λ i. cond (not_local (with_entry h (fr up)) p n m foreign i) (own (with_entry h (fr up)) t f p) (cond (is_running h t) (option_map_or (listed_by (with_entry h (fr up)) t f p) (now_linked true m i) 0) 0))
-            ∙ ap (λ c. cond (is_running h t) c 0) (new_lists h.opening es legal e made.number t f p l body opens last c) ∙ nothing (is_running h t)
+        now_silent m = grind (arith, not_local (with_entry h (fr up)) p n m foreign, now_linked true m, new_lists h.opening es legal e made.number t f p l body opens last c)
 
         up_by : Accepted up ≡ verdict h e.seat (Event.Frame l body) → (b : Bool) → same p.node n ≡ b → listed (with_entry h (fr up)) t f p ≡ cond b 0 (listed h t f p)
         up_by q true m = now_silent m

@@ -2,17 +2,16 @@
 use Rattle.policy_audit.proofs.Words.{ap, arith, refl, subst, sym, ◌∙◌, eqb-true, not-false, not-true, or_parts, option_map_or, Bool, List}
 use Rattle.policy_audit.proofs.Words.{None, Option, Some, [], cond, false, length, not, true, ℕ, ◌&&◌, ◌++◌, ◌+◌, ◌==◌, ◌||◌, ◌∷◌, ◌≡◌}
 use Rattle.policy_audit.proofs.Words.{same_decides, same_sym, has_bit, mentions, same, same_pid, stands_in, Pid, Name, Message, checks}
-use Rattle.policy_audit.proofs.Words.{is_about_rows, is_replaced, may_change, Talk, message_taken, stated_in, talk, talk_of, History}
-use Rattle.policy_audit.proofs.Words.{events, past, frame_ends, gives_up, is_open, is_up, share_peer, listed, listed_by, is_local}
-use Rattle.policy_audit.proofs.Words.{is_running, joined, own, IsLegalIn, IsNext, up_answer, verdict, with_entry, ByDial, ByPeer, Start}
-use Rattle.policy_audit.proofs.Words.{and_frame, awaits, given, is_last, is_peer, is_visible, is_whole, opened, peer_of, present_link}
-use Rattle.policy_audit.proofs.Words.{taken, Entry, Verdict, Accepted, Refused, Event, Opening, Reply}
-use Rattle.policy_audit.proofs.Accepted.{lie, accepted, all_hold, peer_by}
+use Rattle.policy_audit.proofs.Words.{is_about_rows, is_replaced, may_change, Talk, message_taken, stated_in, talk, talk_of, History, past}
+use Rattle.policy_audit.proofs.Words.{is_open, is_up, listed, listed_by, is_local, is_running, own, IsLegalIn, IsNext, up_answer, verdict}
+use Rattle.policy_audit.proofs.Words.{with_entry, Taken, awaits, given, is_last, is_peer, is_visible, is_whole, opened, peer_of}
+use Rattle.policy_audit.proofs.Words.{present_link, taken, Entry, Verdict, Accepted, Refused, Event, Opening, Reply}
+use Rattle.policy_audit.proofs.Accepted.{accepted, all_hold}
 use Rattle.policy_audit.proofs.Walked.{but, frame_fits}
-use Rattle.policy_audit.proofs.Finished.{whole_by, given_by, stays, kept, given_kept, Completed}
-use Rattle.policy_audit.proofs.UpLinks.{and_right, and_false, flip, agrees, with_start, opened_up, opened_peer, none_opened, given_up, done_now, answered, ends_by, other, unwhole_end}
+use Rattle.policy_audit.proofs.Finished.{stays, kept, given_kept, Completed}
+use Rattle.policy_audit.proofs.UpLinks.{and_right, flip, agrees, none_opened, given_up, done_now, answered, ends_by, other}
 use Rattle.policy_audit.proofs.ChangeLemmas.{stopped_lists}
-use Rattle.policy_audit.proofs.Effects.{rows_left, others_given, others_peer, others_talk}
+use Rattle.policy_audit.proofs.Effects.{rows_left}
 use Rattle.policy_audit.proofs.Heard.{has_sync, heard_runs, heard_whole}
 
 or_left : (a b : Bool) → (a || b) ≡ false → a ≡ false
@@ -63,16 +62,7 @@ module _ (o : Opening) (es : List Entry) (legal : IsLegalIn o es) (e : Entry) (n
 
   -- ---- own processes
 
-  unjoined : (t f : List ℕ) (ps : List Pid) (r : Reply) → (same t s && same f g && stands_in same_pid p ps) ≡ false → own (past o (but e (Event.Join t f ps) (Accepted r) ∷ es)) s g p ≡ own (past o es) s g p
-  unjoined t f ps r q = grind (arith, unmentioned p ps)
-
-  unleft : (t f : List ℕ) (ps : List Pid) (r : Reply) → (same t s && same f g && stands_in same_pid p ps) ≡ false → own (past o (but e (Event.Leave t f ps) (Accepted r) ∷ es)) s g p ≡ own (past o es) s g p
-  unleft t f ps r q = grind (arith, unmentioned p ps)
-
   -- ---- scopes
-
-  other_stops : (t : List ℕ) (r : Reply) → same t s ≡ false → same_rows (but e (Event.StopScope t) (Accepted r))
-  other_stops t r q = grind arith
 
   -- in a scope that doesn't run nobody is heard
   unheard : is_running (past o es) s ≡ false → (l : ℕ) → has_sync s (talk l es) ≡ false
@@ -90,21 +80,9 @@ module _ (o : Opening) (es : List Entry) (legal : IsLegalIn o es) (e : Entry) (n
   other_number : (l : ℕ) → present_link n es ≡ Some l → (e.number == l) ≡ false
   other_number l q = grind (arith, whole_of l, none_opened o es legal n e numbered l)
 
-  opens_link : (x : Entry) (t : Start) → present_link n (x ∷ es) ≡ present_link n es → own (past o (x ∷ es)) s g p ≡ own (past o es) s g p → is_running (past o (x ∷ es)) s ≡ is_running (past o es) s → is_local (past o (x ∷ es)) p ≡ is_local (past o es) p
-      → ((l : ℕ) → is_up l (x ∷ es) ≡ is_up l es) → ((l : ℕ) → is_up l es ≡ true → peer_of l (x ∷ es) ≡ peer_of l es)
-      → ((l : ℕ) → given l (x ∷ es) ≡ given_by (with_start o es legal n e numbered l t (e.number == l)) (taken l es)) → ((l : ℕ) → talk l (x ∷ es) ≡ talk l es) → same_rows x
-  opens_link x t a b c d up peer gave talks = all_same o es x s g p d b c (remote_same o es x s g p a (λ l q. link_lists o es x s g p l
-      (gave l ∙ ap (λ v. given_by (with_start o es legal n e numbered l t v) (taken l es)) (other_number l q)) (peer l (up_of l q).0) (up l) (ap (has_sync s) (talks l)) (ap (stated_in s g p) (talks l))))
-
   -- the present link of p's node isn't replaced
   abbrev stays_present : Entry → Type 0
   stays_present x = is_replaced n es (x ∷ es) ≡ false
-
-  lost_link : (j : ℕ) (r : Reply) → stays_present (but e (Event.Lost j) (Accepted r)) → same_rows (but e (Event.Lost j) (Accepted r))
-  lost_link j r stay = grind (arith, flip)
-
-  disconnects : (m : List ℕ) (r : Reply) → stays_present (but e (Event.Disconnect m) (Accepted r)) → same_rows (but e (Event.Disconnect m) (Accepted r))
-  disconnects m r stay = grind (arith, up_of, same_sym n m)
 
   -- ---- frames
 
@@ -124,23 +102,11 @@ module _ (o : Opening) (es : List Entry) (legal : IsLegalIn o es) (e : Entry) (n
     not_last q within = all_same o es (fr Reply.Done) s g p refl refl refl (remote_same o es (fr Reply.Done) s g p refl (λ l here. each l here (k == l) refl))
       where
         each : (l : ℕ) → present_link n es ≡ Some l → (b : Bool) → (k == l) ≡ b → listed_by (past o (fr Reply.Done ∷ es)) s g p l ≡ listed_by (past o es) s g p l
-        each l here false a = link_lists o es (fr Reply.Done) s g p l
-            (others_given es e k l body a (Accepted Reply.Done)) (others_peer es e k l body a (Accepted Reply.Done))
-            (ap (λ b. (not (not b && frame_ends k body l es) && is_open l es) && whole_by (opened l es) (and_frame (taken l es) (cond b (Some (record { body = body; before = es })) None))) a
-            ∙ ap (λ v. (not (cond v (is_whole l es && share_peer k l es) (gives_up k body l es)) && is_open l es) && is_whole l es) q
-            ∙ unwhole_end (gives_up k body l es) (is_open l es) (is_whole l es) (given_up o es legal n e numbered k body l))
-            (ap (has_sync s) (others_talk es e k l body a (Accepted Reply.Done))) (ap (stated_in s g p) (others_talk es e k l body a (Accepted Reply.Done)))
+        each l here false a = grind (arith, given_up o es legal n e numbered k body l)
         each l here true a =
-            let whole = whole_of l here in
-            let its : is_peer n l es ≡ true = ap (λ v. option_map_or (λ w. same w n) v false) (up_of l here).1 ∙ (same_decides n n).1 refl in
-            let about : is_about_rows s (message_taken body) ≡ false = sym (ap (λ (v : Bool × Bool). v.0 && v.1 && is_about_rows s (message_taken body)) (λ i. ((ap (λ j. is_whole j es) (eqb-true k l a) ∙ whole) i, (ap (λ j. is_peer n j es) (eqb-true k l a) ∙ its) i))) ∙ within in
-            let talks : talk l (fr Reply.Done ∷ es) ≡ talk_of (message_taken body) ++ talk l es = ap (λ (v : Bool × Bool). cond (v.0 && v.1) (talk_of (message_taken body)) [] ++ talk l es) (λ i. (a i, whole i)) in
-            link_lists o es (fr Reply.Done) s g p l
-            (ap (λ b. given_by (opened l es) (and_frame (taken l es) (cond b (Some (record { body = body; before = es })) None))) a ∙ given_kept (record { body = body; before = es }) (opened l es) (taken l es) whole)
-            (ap (λ b. peer_by (opened l es) (and_frame (taken l es) (cond b (Some (record { body = body; before = es })) None))) a ∙ kept (record { body = body; before = es }) (opened l es) (taken l es) whole)
-            (ap (λ b. (not (not b && frame_ends k body l es) && is_open l es) && whole_by (opened l es) (and_frame (taken l es) (cond b (Some (record { body = body; before = es })) None))) a
-            ∙ ap (λ v. is_open l es && v) (stays (record { body = body; before = es }) (opened l es) (taken l es) (subst (λ j. is_last (awaits j es) ≡ false) (eqb-true k l a) q)))
-            (ap (has_sync s) talks ∙ elsewhere_sync (message_taken body) (talk l es) about) (ap (stated_in s g p) talks ∙ elsewhere_count (message_taken body) (talk l es) about)
+            let moment : Taken = record { body = body; before = es } in
+            let one : k ≡ l = eqb-true k l a in
+            grind (arith, up_of l here, given_kept moment (opened l es) (taken l es), kept moment (opened l es) (taken l es), stays moment (opened l es) (taken l es), elsewhere_sync (message_taken body) (talk l es), elsewhere_count (message_taken body) (talk l es), same_decides n n)
 
     -- the last frame of a side: nobody is heard on the link yet
     module _ (opens : is_open k es ≡ true) (last : is_last (awaits k es) ≡ true) (c : Completed (record { body = body; before = es }) (opened k es) (taken k es)) where
@@ -158,17 +124,8 @@ module _ (o : Opening) (es : List Entry) (legal : IsLegalIn o es) (e : Entry) (n
         where
           by : (y : Option ℕ) → present_link n es ≡ y → (b : Bool) → same c.peer n ≡ b → option_map_or (λ l. not (option_map_or (λ j. j == l) (cond b (Some k) y) false)) y false ≡ false
               → remote o es (fr up_reply) s g p (fr up_reply ∷ es) (cond b (Some k) y) ≡ remote o es (fr up_reply) s g p es y
-          by None q true a m = new_lists
-          by None q false a m = refl
-          by (Some l) q true a m = lie (sym (not-false (k == l) m) ∙ other o es legal n e numbered k body opens last c l (up_of l q).0)
-          by (Some l) q false a m =
-              let apart = other o es legal n e numbered k body opens last c l (up_of l q).0 in
-              let goes = ends_by o es legal n e numbered k body opens last c l ∙ ap (λ v. is_whole l es && option_map_or (λ w. same w c.peer) v false) (up_of l q).1 ∙ ap (λ v. is_whole l es && v) (same_sym n c.peer ∙ a) ∙ and_false (is_whole l es) in
-              link_lists o es (fr up_reply) s g p l
-              (others_given es e k l body apart (Accepted up_reply)) (others_peer es e k l body apart (Accepted up_reply))
-              (ap (λ b. (not (not b && frame_ends k body l es) && is_open l es) && whole_by (opened l es) (and_frame (taken l es) (cond b (Some (record { body = body; before = es })) None))) apart
-              ∙ ap (λ v. (not v && is_open l es) && is_whole l es) goes)
-              (ap (has_sync s) (others_talk es e k l body apart (Accepted up_reply))) (ap (stated_in s g p) (others_talk es e k l body apart (Accepted up_reply)))
+          by None q b a m = grind (arith, new_lists)
+          by (Some l) q b a m = grind (arith, other o es legal n e numbered k body opens last c l, ends_by o es legal n e numbered k body opens last c l, up_of l q, same_sym n c.peer)
 
     frame_rows : (r : Reply) → is_open k es ≡ true → r ≡ cond (is_last (awaits k es)) (up_answer (past o es) k) Reply.Done → may_change es (fr r) s g p ≡ false → same_rows (fr r)
     frame_rows r opens q within = by (is_last (awaits k es)) refl
@@ -184,25 +141,13 @@ module _ (o : Opening) (es : List Entry) (legal : IsLegalIn o es) (e : Entry) (n
 
   -- ---- each event
 
-  none_of_peer : (c : ℕ) → whole_by (Some (record { start = ByPeer c; before = es })) [] ≡ false
-  none_of_peer c = refl
-
   pub rows_step : (ev : Event) (v : Verdict) → v ≡ verdict (past o es) e.seat ev → may_change es (but e ev v) s g p ≡ false → same_rows (but e ev v)
   rows_step ev (Refused r) q within = rows_left (past o es) e ev (Refused r) refl s g p
-  rows_step Event.Restart (Accepted r) q within = lie within
   rows_step (Event.StartScope t) (Accepted r) q within = starts_scope t r (not-true (is_running (past o es) t) (not-false (not (is_running (past o es) t)) (all_hold (checks (past o es) e.seat (Event.StartScope t)) (accepted (past o es) e.seat (Event.StartScope t) r q).0).0))
-  rows_step (Event.StopScope t) (Accepted r) q within = other_stops t r (or_left _ _ within)
-  rows_step (Event.Exit x) (Accepted r) q within = all_same o es (but e (Event.Exit x) (Accepted r)) s g p refl (ap (λ b. cond (is_running (past o es) s) (cond b 0 (joined s g p (events es))) 0) (or_left _ _ within)) refl (remote_same o es (but e (Event.Exit x) (Accepted r)) s g p refl (λ l here. refl))
-  rows_step (Event.Join t f ps) (Accepted r) q within = all_same o es (but e (Event.Join t f ps) (Accepted r)) s g p refl (unjoined t f ps r (or_left _ _ within)) refl (remote_same o es (but e (Event.Join t f ps) (Accepted r)) s g p refl (λ l here. refl))
-  rows_step (Event.Leave t f ps) (Accepted r) q within = all_same o es (but e (Event.Leave t f ps) (Accepted r)) s g p refl (unleft t f ps r (or_left _ _ within)) refl (remote_same o es (but e (Event.Leave t f ps) (Accepted r)) s g p refl (λ l here. refl))
-  rows_step (Event.Dial m c) (Accepted r) q within = opens_link (but e (Event.Dial m c) (Accepted r)) (ByDial m c) refl refl refl refl (opened_up o es legal n e numbered (ByDial m c) refl) (opened_peer o es legal n e numbered (ByDial m c)) (λ l. refl) (λ l. refl)
-  rows_step (Event.Opened c) (Accepted r) q within = opens_link (but e (Event.Opened c) (Accepted r)) (ByPeer c) refl refl refl refl (opened_up o es legal n e numbered (ByPeer c) refl) (opened_peer o es legal n e numbered (ByPeer c)) (λ l. refl) (λ l. refl)
-  rows_step (Event.Lost j) (Accepted r) q within = lost_link j r within
-  rows_step (Event.Disconnect m) (Accepted r) q within = disconnects m r within
   rows_step (Event.Frame k body) (Accepted r) q within =
       let met = accepted (past o es) e.seat (Event.Frame k body) r q in
       frame_rows k body r (frame_fits o es e.seat k body met.0).0 met.1 within
-  rows_step ev (Accepted r) q within = rows_left (past o es) e ev (Accepted r) refl s g p
+  rows_step ev (Accepted r) q within = grind (arith, flip, up_of, same_sym n, unmentioned p, other_number)
 
 -- no row changes but those that the entry may change
 pub rows_within : (h : History) (e : Entry) → IsNext h e → IsLegalIn h.opening h.entries → (s g : List ℕ) (p : Pid) → may_change h.entries e s g p ≡ false → listed (with_entry h e) s g p ≡ listed h s g p
