@@ -1,18 +1,17 @@
--- The changes where some rows leave and others join.
+-- The changes where some rows leave and others join, or take the place of others.
 use Rattle.scope_core.proofs.Words.{◌≡◌, ℕ, ◌+◌, ◌-◌, ◌<◌, Bool, true, false, cond, ◌&&◌, List, [], ◌∷◌, map, None, refl, ◌∙◌, sym, arith}
 use Rattle.scope_core.proofs.Words.{AllByRecursion, or_right, or_left, exact_bytes, Pid, text_cmp, same, mentions, is_among, total, Rises}
 use Rattle.scope_core.proofs.Words.{IsPidListing, IsGroupListing, is_empty, IsProper, texts_total, same_decides, one_of_many, Counted, counted_cmp}
-use Rattle.scope_core.proofs.Words.{heads, share, moving, IsUnion, Tells, GroupChange}
-use Rattle.scope_core.proofs.Shares.{shares_listing}
+use Rattle.scope_core.proofs.Words.{heads, share, moving, IsUnion, Tells, GroupChange, length, ap, Less, Row, how_many, IsDifference, is_row, tally}
+use Rattle.scope_core.proofs.Words.{Adds, times_beyond, picked}
+use Rattle.scope_core.proofs.Shares.{part, part_shared, shares_listing, share_is, IsPart}
 use Rattle.scope_core.proofs.Groups.{groups_shared}
-use Rattle.scope_core.proofs.Moved.{all_mapped}
+use Rattle.scope_core.proofs.Rising.{all_mapped, row_is}
 
--- what is less, and what is more, where a part of a count ends
-pub less : (b : Bool) (n : ℕ) → n - cond b 0 n ≡ cond b n 0
-less b n = grind arith
-
-pub more : (b : Bool) (n : ℕ) → cond b 0 n - n ≡ 0
-more b n = grind arith
+-- the change where the processes that are hit leave all groups
+pub part_told : (hit : Pid → Bool) (cs : List Counted) → Rises counted_cmp cs → (changes : List GroupChange) → Tells (part hit) cs [] changes
+    → IsDifference (λ g p. tally (is_row g p) cs) (λ g p. cond (hit p) 0 (tally (is_row g p) cs)) changes
+part_told hit cs r changes told = told _ _ (λ g p. grind (arith, part_shared hit g p cs r)) (λ g p. grind arith)
 
 -- what holds of each that is among them holds of all
 all_among : (P : List ℕ → Type 0) (gs : List (List ℕ)) → ((g : List ℕ) → is_among g gs ≡ true → P g) → AllByRecursion P gs
@@ -27,10 +26,6 @@ some_moved : (p : Pid) (ps qs : List Pid) → 0 < mentions p ps + mentions p qs 
 some_moved p [] [] l = grind arith
 some_moved p [] (q ∷ qs) l = refl
 some_moved p (q ∷ ps) qs l = refl
-
--- a count that is 0 in all groups but these
-counted_among : (b : Bool) (n : ℕ) → (0 < n → b ≡ true) → cond b n 0 ≡ n
-counted_among b n h = grind arith
 
 module _ (times : Counted → ℕ) (cs ds : List Counted) (r : Rises counted_cmp cs) (s : Rises counted_cmp ds) (gs : List (List ℕ)) (union : IsUnion (heads times None cs) (heads (λ c. c.count) None ds) gs) where
   left_in : (g : List ℕ) → IsPidListing (λ p. share times g p cs) (moving times cs ds g).left
@@ -74,3 +69,50 @@ module _ (times : Counted → ℕ) (cs ds : List Counted) (r : Rises counted_cmp
         (λ k q l. grind (arith, union.either k, joined_groups.only k q l)) g p
         ∙ sym (is_more g p);
   }
+
+module _ (times : Counted → ℕ) where
+  picked_above : (c : Counted) (ds : List Counted) → AllByRecursion (λ d. counted_cmp c d ≡ Less) ds → AllByRecursion (λ d. counted_cmp c d ≡ Less) (picked times ds)
+  picked_above c [] a = tt
+  picked_above c (d ∷ ds) a = grind (arith, picked_above c ds a.1)
+
+  pub picked_rises : (cs : List Counted) → Rises counted_cmp cs → Rises counted_cmp (picked times cs)
+  picked_rises [] r = tt
+  picked_rises (c ∷ cs) r = grind (arith, picked_rises cs r.1, picked_above c cs r.0)
+
+  -- what is picked is counted as often as times says
+  pub picked_tally : (test : Row → Bool) (cs : List Counted) → tally test (picked times cs) ≡ total (λ c. cond (test c.row) (times c) 0) cs
+  picked_tally test [] = refl
+  picked_tally test (c ∷ cs) = grind (arith, picked_tally test cs)
+
+share_alike : (f h : Counted → ℕ) (g : List ℕ) (p : Pid) → ((c : Counted) → is_row g p c.row ≡ true → f c ≡ h c) → (cs : List Counted) → share f g p cs ≡ share h g p cs
+share_alike f h g p e [] = refl
+share_alike f h g p e (c ∷ cs) = grind (arith, share_alike f h g p e cs, f c, h c)
+
+-- how much more of a count there is than among the others
+abbrev more_in : List ℕ → List Counted → List ℕ → Pid → ℕ → ℕ
+more_in n others g p m = cond (same p.node n) (m - tally (is_row g p) others) 0
+
+more_part : (n : List ℕ) (others : List Counted) (g : List ℕ) → IsPart (more_in n others g)
+more_part n others g p = grind arith
+
+-- what is counted of the rows that are more
+pub beyond_counts : (n : List ℕ) (cs others : List Counted) → Rises counted_cmp cs → (g : List ℕ) (p : Pid) → tally (is_row g p) (picked (times_beyond n others) cs) ≡ cond (same p.node n) (tally (is_row g p) cs - tally (is_row g p) others) 0
+beyond_counts n cs others r g p =
+    picked_tally (times_beyond n others) (is_row g p) cs
+    ∙ share_alike (times_beyond n others) (λ c. more_in n others g c.row.pid c.count) g p (λ c t. ap (λ k. more_in n others k c.row.pid c.count) (row_is g p c.row t).0) cs
+    ∙ share_is (more_in n others g) (more_part n others g) g p cs r
+
+-- the change where the rows take the place of those of the node
+pub synced_change : (n : List ℕ) (rows : List Row) (cs counted : List Counted) (changes : List GroupChange) → Rises counted_cmp cs → Rises counted_cmp counted → Adds rows [] counted
+    → Tells (λ c. c.count) (picked (times_beyond n counted) cs) (picked (times_beyond n cs) counted) changes
+    → (after : List ℕ → Pid → ℕ) → ((g : List ℕ) (p : Pid) → after g p ≡ cond (same p.node n) (how_many (is_row g p) rows) (tally (is_row g p) cs))
+    → IsDifference (λ g p. tally (is_row g p) cs) after changes
+synced_change n rows cs counted changes r s counts told after is =
+    told _ after
+    (λ g p. grind (arith, beyond_counts n cs counted r g p, counts (is_row g p), is g p))
+    (λ g p. grind (arith, beyond_counts n counted cs s g p, counts (is_row g p), is g p))
+
+-- where no group changes, nothing does
+pub unchanged : (before after : List ℕ → Pid → ℕ) (changes : List GroupChange) → length changes ≡ 0 → IsDifference before after changes → (g : List ℕ) (p : Pid) → before g p ≡ after g p
+unchanged before after [] e d g p = omega (arith, d.left g p, d.joined g p)
+unchanged before after (c ∷ cs) e d g p = grind arith

@@ -1,11 +1,14 @@
--- The groups of rows that rise.
+-- The groups of rows that rise, and those of two lists.
 use Rattle.scope_core.proofs.Words.{◌≡◌, ℕ, ◌+◌, ◌<◌, Bool, true, false, cond, not, ◌&&◌, ◌||◌, nat_lt, ◌-◌, List, [], ◌∷◌, ◌++◌, length, drop}
 use Rattle.scope_core.proofs.Words.{slice_get, Option, Some, None, refl, ap, ◌∙◌, sym, subst, arith, inl, inr, get_or, append_assoc, Less, is_gt}
 use Rattle.scope_core.proofs.Words.{list_any, AllByRecursion, and_parts, or_cases, drop_more, length_push, exact_bytes, Pid, text_cmp, Counted, same}
 use Rattle.scope_core.proofs.Words.{is_among, Rises, IsGroupListing, is_row, tally, counted_cmp, is_in, heads, differs, last_of, share, texts_total}
-use Rattle.scope_core.proofs.Words.{same_decides, same_pid_decides}
+use Rattle.scope_core.proofs.Words.{same_decides, same_pid_decides, dedup, dedup_from, IsSorted, IsPermutation, lt-ltb, occurrences, Ascends}
+use Rattle.scope_core.proofs.Words.{same_sym, sorted_listing, IsUnion}
 use Rattle.scope_core.proofs.Rising.{all_map, groups_above}
-use Rattle.scope_core.proofs.Shares.{share_is, each, IsPart}
+use Rattle.scope_core.proofs.Shares.{part, part_shared}
+use Rattle.std.specs.List.Retain.{IsFiltered, DiffersFromLast}
+use Rattle.std.proofs.lemmas.List.Filters.{dedup_is}
 
 -- a text that isn't above another, and isn't the same, is below it
 pub below : (g h : List ℕ) → is_gt (text_cmp g h) ≡ false → not (same g h) ≡ true → text_cmp g h ≡ Less
@@ -72,11 +75,51 @@ groups_shared times cs r = record {
   only = λ g p l. grind (arith, heads_only times None g cs (shared_row times g p cs l));
 }
 
-pub groups_listing : (f : Pid → ℕ → ℕ) → IsPart f → (cs : List Counted) → Rises counted_cmp cs → IsGroupListing (λ g p. f p (tally (is_row g p) cs)) (heads (each f) None cs)
-groups_listing f part cs r =
-    let listing = groups_shared (each f) cs r in
+pub groups_listing : (hit : Pid → Bool) (cs : List Counted) → Rises counted_cmp cs → IsGroupListing (λ g p. cond (hit p) (tally (is_row g p) cs) 0) (heads (part hit) None cs)
+groups_listing hit cs r =
+    let listing = groups_shared (part hit) cs r in
     record {
       rises = listing.rises;
-      found = λ g h. let one = listing.found g h in (one.0, subst (λ n. 0 < n) (share_is f part g one.0 cs r) one.1);
-      only = λ g p l. listing.only g p (subst (λ n. 0 < n) (sym (share_is f part g p cs r)) l);
+      found = λ g h. let one = listing.found g h in (one.0, subst (λ n. 0 < n) (part_shared hit g one.0 cs r) one.1);
+      only = λ g p l. listing.only g p (subst (λ n. 0 < n) (sym (part_shared hit g p cs r)) l);
     }
+
+among_counts : (g : List ℕ) (gs : List (List ℕ)) → is_among g gs ≡ nat_lt 0 (occurrences same g gs)
+among_counts g [] = refl
+among_counts g (h ∷ gs) = grind (arith, among_counts g gs, lt-ltb)
+
+among_append : (g : List ℕ) (gs hs : List (List ℕ)) → is_among g (gs ++ hs) ≡ (is_among g gs || is_among g hs)
+among_append g [] hs = refl
+among_append g (k ∷ gs) hs = grind (arith, among_append g gs hs)
+
+above_dedup : (j k : List ℕ) (gs : List (List ℕ)) → text_cmp j k ≡ Less → AllByRecursion (λ g. is_gt (text_cmp k g) ≡ false) gs → Ascends text_cmp gs → AllByRecursion (λ g. text_cmp j g ≡ Less) (dedup_from same k gs)
+above_dedup j k [] l a s = (l, tt)
+above_dedup j k (g ∷ gs) l a s =
+    let on = λ (m : text_cmp k g ≡ Less). above_dedup j g gs (texts_total.trans j k g l m) s.0 s.1 in
+    grind (arith, above_dedup j k gs l a.1 s.1, on, below k g a.0, same_sym k g)
+
+dedup_rises : (k : List ℕ) (gs : List (List ℕ)) → AllByRecursion (λ g. is_gt (text_cmp k g) ≡ false) gs → Ascends text_cmp gs → Rises text_cmp (dedup_from same k gs)
+dedup_rises k [] a s = (tt, tt)
+dedup_rises k (g ∷ gs) a s = grind (arith, dedup_rises k gs a.1 s.1, dedup_rises g gs s.0 s.1, same_sym, below, above_dedup)
+
+dedup_among : (g k : List ℕ) (gs : List (List ℕ)) → is_among g (dedup_from same k gs) ≡ is_among g (k ∷ gs)
+dedup_among g k [] = refl
+dedup_among g k (h ∷ gs) = grind (arith, dedup_among g k gs, dedup_among g h gs, same_decides h k)
+
+pub union_is : (gs hs sorted union : List (List ℕ)) → IsPermutation (gs ++ hs) sorted → IsSorted text_cmp sorted → IsFiltered (DiffersFromLast same) [] sorted union → IsUnion gs hs union
+union_is gs hs sorted union p s f =
+    let listing = sorted_listing text_cmp same texts_total (gs ++ hs) sorted p s in
+    record {
+      rises = subst (Rises text_cmp) (sym (dedup_is same sorted union f)) (rises sorted listing.ascends);
+      either = λ g.
+          ap (is_among g) (dedup_is same sorted union f) ∙ among g sorted ∙ among_counts g sorted
+          ∙ ap (nat_lt 0) (listing.counts g) ∙ sym (among_counts g (gs ++ hs)) ∙ among_append g gs hs;
+    }
+  where
+    rises : (ks : List (List ℕ)) → Ascends text_cmp ks → Rises text_cmp (dedup same ks)
+    rises [] a = tt
+    rises (k ∷ ks) a = dedup_rises k ks a.0 a.1
+
+    among : (g : List ℕ) (ks : List (List ℕ)) → is_among g (dedup same ks) ≡ is_among g ks
+    among g [] = refl
+    among g (k ∷ ks) = dedup_among g k ks

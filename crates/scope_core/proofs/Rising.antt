@@ -1,7 +1,7 @@
--- Rows that rise: what is filtered from them rises, and a row stands in them once.
+-- Rows that rise: what is filtered from them rises and is counted, and a row stands in them once.
 use Rattle.scope_core.proofs.Words.{◌≡◌, ℕ, Bool, true, false, List, [], ◌∷◌, Ordering, Less, is_gt, filter, AllByRecursion, and_parts, tied_itself}
 use Rattle.scope_core.proofs.Words.{Pid, Row, text_cmp, pid_cmp, Counted, Rises, is_row, counted_cmp, is_in, same_decides, same_pid_decides}
-use Rattle.scope_core.proofs.Words.{rows_total, in_one_group, arith}
+use Rattle.scope_core.proofs.Words.{rows_total, in_one_group, arith, refl, how_many, ◌≤◌, cond, not, tally, IsKept, map}
 
 module _ {A : Type 0} (P : A → Type 0) (keep : A → Bool) where
   pub all_filter : (xs : List A) → AllByRecursion P xs → AllByRecursion P (filter keep xs)
@@ -11,6 +11,19 @@ module _ {A : Type 0} (P : A → Type 0) (keep : A → Bool) where
 pub all_map : {A : Type 0} (P Q : A → Type 0) → ((x : A) → P x → Q x) → (xs : List A) → AllByRecursion P xs → AllByRecursion Q xs
 all_map P Q f [] a = tt
 all_map P Q f (x ∷ xs) a = (f x a.0, all_map P Q f xs a.1)
+
+module _ {A B : Type 0} (P : B → Type 0) (f : A → B) where
+  pub all_mapped : (xs : List A) → AllByRecursion (λ x. P (f x)) xs → AllByRecursion P (map f xs)
+  all_mapped [] a = tt
+  all_mapped (x ∷ xs) a = (a.0, all_mapped xs a.1)
+
+  pub all_unmapped : (xs : List A) → AllByRecursion P (map f xs) → AllByRecursion (λ x. P (f x)) xs
+  all_unmapped [] a = tt
+  all_unmapped (x ∷ xs) a = (a.0, all_unmapped xs a.1)
+
+pub none_pass : {A : Type 0} (test : A → Bool) (xs : List A) → AllByRecursion (λ x. test x ≡ false) xs → how_many test xs ≡ 0
+none_pass test [] a = refl
+none_pass test (x ∷ xs) a = grind (arith, none_pass test xs a.1)
 
 pub filter_rises : {A : Type 0} (R : A → A → Ordering) (keep : A → Bool) (xs : List A) → Rises R xs → Rises R (filter keep xs)
 filter_rises R keep [] r = tt
@@ -38,3 +51,26 @@ once g p c (d ∷ ds) h b = grind (arith, once g p c ds h b.1, row_is, tied_itse
 -- the groups of the rows above a row aren't below its group
 pub groups_above : (c : Counted) (ds : List Counted) → AllByRecursion (λ d. counted_cmp c d ≡ Less) ds → AllByRecursion (λ d. is_gt (text_cmp c.row.group d.row.group) ≡ false) ds
 groups_above c ds b = grind (arith, all_map)
+
+module _ (keep : Counted → Bool) where
+  pub tally-filter_le : (test : Row → Bool) (cs : List Counted) → tally test (filter keep cs) ≤ tally test cs
+  tally-filter_le test [] = omega arith
+  tally-filter_le test (c ∷ cs) = grind (arith, tally-filter_le test cs)
+
+  pub filter_kept : (cs : List Counted) → IsKept cs → IsKept (filter keep cs)
+  filter_kept cs k = grind (arith, filter_rises, all_filter, tally-filter_le)
+
+  -- where each that is kept fails the test, none is counted
+  pub tally_none : (test : Row → Bool) → ((c : Counted) → keep c ≡ true → test c.row ≡ false) → (cs : List Counted) → tally test (filter keep cs) ≡ 0
+  tally_none test h [] = refl
+  tally_none test h (c ∷ cs) = grind (arith, tally_none test h cs)
+
+  -- where each that goes fails the test, all are counted
+  pub tally_all : (test : Row → Bool) → ((c : Counted) → keep c ≡ false → test c.row ≡ false) → (cs : List Counted) → tally test (filter keep cs) ≡ tally test cs
+  tally_all test h [] = refl
+  tally_all test h (c ∷ cs) = grind (arith, tally_all test h cs)
+
+-- what is counted once the rows of some processes are gone
+pub gone_counts : (hits : Pid → Bool) (g : List ℕ) (p : Pid) (cs : List Counted) → tally (is_row g p) (filter (λ c. not (hits c.row.pid)) cs) ≡ cond (hits p) 0 (tally (is_row g p) cs)
+gone_counts hits g p [] = grind arith
+gone_counts hits g p (c ∷ cs) = grind (arith, gone_counts hits g p cs, same_pid_decides c.row.pid p)

@@ -12,6 +12,7 @@ pub use Rattle.std.proofs.lemmas.List.{drop_more, get_or-drop, get_or_default, l
 pub use Rattle.std.proofs.lemmas.List.{take_all, take_more}
 pub use Rattle.std.proofs.lemmas.List.Sorted.{IsPartitionPoint-from_clause, searchable_from_sorted, sum_by-IsPermutation}
 pub use Rattle.std.proofs.lemmas.List.Sums.{get_or-le-sum_by, length-filter, sum_by-append, sum_by-insert, sum_by-remove, sum_by-set, sum_by_more_le}
+pub use Rattle.std.proofs.lemmas.List.Elements.{All-map}
 pub use Rattle.std.proofs.lemmas.Map.Lookups.{exact_bytes}
 pub use Rattle.std.specs.List.{AllByRecursion, AllWithin, HoldsAt, ReversedBelow, dedup, dedup_from, filter, flat_map, insert, list_all, list_any}
 pub use Rattle.std.specs.List.{remove, sum_by}
@@ -42,3 +43,5 @@ pub use Rattle.scope_core.specs.Part.{times_of}
 pub use Rattle.scope_core.specs.Table.{AreCounted, IsKept, Table, count_of, counted_cmp, is_of_node, is_row, local_count, local_total, max_rows}
 pub use Rattle.scope_core.specs.Table.{node_total, tally}
 pub use Rattle.scope_core.specs.declared.counted.Counted.{Counted}
+pub use Rattle.scope_core.specs.declared.fault.TableFault.{TableFault}
+pub use Rattle.scope_core.specs.declared.fault.TableFault.TheVariants.{NotJoined, NotListed, OutOfMemory, RowsFull}

@@ -32,7 +32,7 @@ pub fn remove_node(rows: &mut Vec<Counted>, node: &NodeName)
 }
 
 /// Puts rows in place of those of a node's processes.
-#[tactic(auto, using(crate::proofs::Taken::filter_kept))]
+#[tactic(auto, using(crate::proofs::Rising::filter_kept))]
 pub fn replace_node(
     rows: &mut Vec<Counted>,
     node: &NodeName,
@@ -88,7 +88,7 @@ pub fn take_all(rows: &mut Vec<Counted>, group: &Group, pids: &[Pid], node: &Nod
 }
 
 /// What `take_all` does, row by row.
-#[tactic(auto, using(crate::proofs::Lessened::taken_counts, crate::proofs::Lessened::taken_total))]
+#[tactic(auto, using(crate::proofs::RowEdits::taken_counts, crate::proofs::RowEdits::taken_total))]
 fn take_each(rows: &mut Vec<Counted>, group: &Group, pids: &[Pid], node: &NodeName) -> usize
     requires { IsKept rows.old.items }
     ensures counts { Leaves group.now pids.now rows.old.items rows.new.items }
@@ -119,7 +119,7 @@ fn take(rows: &mut Vec<Counted>, group: &Group, pid: &Pid) -> bool
 }
 
 /// One less at this place. The row goes with its last.
-#[tactic(auto, using(crate::proofs::Lessened::less_takes, crate::proofs::Lessened::less_kept, crate::proofs::Lessened::remove_takes, crate::proofs::Lessened::removed_kept, crate::proofs::Lessened::same_at, crate::proofs::Lessened::its_last))]
+#[tactic(auto, using(crate::proofs::RowEdits::less_takes, crate::proofs::RowEdits::less_kept, crate::proofs::RowEdits::remove_takes, crate::proofs::RowEdits::removed_kept, crate::proofs::RowEdits::same_at, crate::proofs::RowEdits::its_last))]
 fn lessen(rows: &mut Vec<Counted>, at: usize)
     requires bound { at < vec_len rows.old }
     requires kept { IsKept rows.old.items }
@@ -148,7 +148,7 @@ pub fn add_all(rows: &mut Vec<Counted>, fresh: Vec<Row>)
 }
 
 /// Puts counted rows in, into the room that there is. The rows behind each are moved.
-#[tactic(auto, using(crate::proofs::Merging::last_tally, crate::proofs::Merging::last_counted))]
+#[tactic(auto, using(crate::proofs::RowEdits::last_tally, crate::proofs::RowEdits::last_counted))]
 fn add_each(rows: &mut Vec<Counted>, more: Vec<Counted>)
     requires room { vec_len rows.old + vec_len more ≤ vec_capacity rows.old }
     requires kept { IsKept rows.old.items }
@@ -164,7 +164,7 @@ fn add_each(rows: &mut Vec<Counted>, more: Vec<Counted>)
 }
 
 /// Puts a counted row in, into the room that there is.
-#[tactic(auto, using(crate::proofs::Added::tally_put, crate::proofs::Added::tally_grown, crate::proofs::Added::inserted, crate::proofs::Added::count_fits, crate::proofs::Added::one_fits, crate::proofs::Added::put_kept, crate::proofs::Added::grown_kept))]
+#[tactic(auto, using(crate::proofs::RowEdits::tally_put, crate::proofs::RowEdits::tally_grown, crate::proofs::RowEdits::inserted, crate::proofs::RowEdits::count_fits, crate::proofs::RowEdits::one_fits, crate::proofs::RowEdits::put_kept, crate::proofs::RowEdits::grown_kept))]
 pub fn add(rows: &mut Vec<Counted>, fresh: Counted)
     requires room { vec_len rows.old < vec_capacity rows.old }
     requires kept { IsKept rows.old.items }

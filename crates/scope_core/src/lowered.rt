@@ -39,7 +39,7 @@ pub fn take_rows(rows: &mut Vec<Counted>, gone: &[Row])
 }
 
 /// One less for each mention of a process, as far as it is in the group. Answers how many the node loses.
-#[tactic(auto, using(crate::proofs::Lessened::taken_counts, crate::proofs::Lessened::taken_total, crate::proofs::Lower::still_rises, crate::proofs::Lower::takes_less))]
+#[tactic(auto, using(crate::proofs::RowEdits::taken_counts, crate::proofs::RowEdits::taken_total, crate::proofs::Lower::still_rises, crate::proofs::Lower::takes_less))]
 pub fn lower_all(rows: &mut Vec<Counted>, group: &Group, pids: &[Pid], node: &NodeName) -> usize
     requires { IsKept rows.old.items }
     ensures counts { Leaves group.now pids.now rows.old.items rows.new.items }
@@ -99,7 +99,7 @@ fn lower_one(rows: &mut Vec<Counted>, group: &Group, pid: &Pid, next: &mut usize
 }
 
 /// One less at this place. Answers whether there is one.
-#[tactic(auto, using(crate::proofs::Lessened::less_takes, crate::proofs::Lessened::same_at, crate::proofs::Places::found_counts, crate::proofs::Lower::set_rows))]
+#[tactic(auto, using(crate::proofs::RowEdits::less_takes, crate::proofs::RowEdits::same_at, crate::proofs::Places::found_counts, crate::proofs::Lower::set_rows))]
 fn lower_at(rows: &mut Vec<Counted>, at: usize) -> bool
     requires bound { at < vec_len rows.old }
     requires rises { Rises counted_cmp rows.old.items }
@@ -129,7 +129,7 @@ fn raise(rows: &mut Vec<Counted>, back: &[Row])
 }
 
 /// One more of a row that stands there.
-#[tactic(auto, using(crate::proofs::Added::count_fits, crate::proofs::Added::tally_more, crate::proofs::Lower::set_rows))]
+#[tactic(auto, using(crate::proofs::RowEdits::count_fits, crate::proofs::RowEdits::tally_more, crate::proofs::Lower::set_rows))]
 fn raise_one(rows: &mut Vec<Counted>, row: &Row, next: &mut usize)
     requires rises { Rises counted_cmp rows.old.items }
     requires few { HasRoomFor (row.now ∷ []) rows.old.items }

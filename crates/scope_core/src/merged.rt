@@ -9,7 +9,7 @@ use crate::counted::Counted;
 use crate::edits::add;
 
 /// Puts rows in among others. All are moved in order into the spare room, so that each goes behind those that are there.
-#[tactic(auto, using(crate::proofs::Merging::reversed_tally, crate::proofs::Merging::reversed_counted, crate::proofs::Merging::none_kept))]
+#[tactic(auto, using(crate::proofs::RowEdits::reversed_tally, crate::proofs::RowEdits::reversed_counted, crate::proofs::RowEdits::none_kept))]
 pub fn merge(rows: &mut Vec<Counted>, more: Vec<Counted>, spare: Vec<Counted>)
     requires room { vec_len rows.old + vec_len more ≤ vec_capacity spare }
     requires empty { spare.items ≡ [] }
@@ -30,7 +30,7 @@ pub fn merge(rows: &mut Vec<Counted>, more: Vec<Counted>, spare: Vec<Counted>)
 }
 
 /// Takes out the lower one of the rows at the ends of both lists.
-#[tactic(auto, using(crate::proofs::Merging::popped_tally, crate::proofs::Merging::popped_counted))]
+#[tactic(auto, using(crate::proofs::RowEdits::popped_tally, crate::proofs::RowEdits::popped_counted))]
 fn take_next(rows: &mut Vec<Counted>, more: &mut Vec<Counted>) -> Option<Counted>
     ensures taken { (test : Row → Bool) → tally test rows.old.items + tally test more.old.items ≡ tally test rows.new.items + tally test more.new.items + tally test (option_to_list result) }
     ensures rows { AreCounted rows.old.items → AreCounted rows.new.items }

@@ -57,7 +57,6 @@ impl ScopeTable {
     }
 
     /// One more for each mention of a process, all of them of the own node.
-    #[tactic(auto, using(crate::proofs::Joined::room_for, crate::proofs::Peers::alone_fit, crate::proofs::Peers::counted_fit))]
     pub fn join_local(
         &mut self,
         group: &Group,
@@ -105,7 +104,7 @@ impl ScopeTable {
     }
 
     /// These are the rows of the peer's processes, in place of those that it had.
-    #[tactic(auto, using(crate::proofs::Peers::alone_fit, crate::proofs::Beyond::picked_rises))]
+    #[tactic(auto, using(crate::proofs::Calls::alone_fit, crate::proofs::Between::picked_rises))]
     pub fn sync(&mut self, peer: &NodeName, rows: &[Row]) -> Result<Vec<GroupChange>, TableFault>
         requires { All (λ r. r.pid.node ≡ peer.now) rows.now }
         ensures ok { OnOk result (Counts self.old self.new (count_after_sync self.old peer.now rows.now)) }
@@ -136,7 +135,7 @@ impl ScopeTable {
     }
 
     /// One more for each row, all of them of the peer's processes.
-    #[tactic(auto, using(crate::proofs::Peers::alone_fit))]
+    #[tactic(auto, using(crate::proofs::Calls::alone_fit))]
     pub fn join_remote(
         &mut self,
         peer: &NodeName,
@@ -184,7 +183,7 @@ impl ScopeTable {
     }
 
     /// The process leaves all groups.
-    #[tactic(auto, using(crate::proofs::Taken::filter_kept))]
+    #[tactic(auto, using(crate::proofs::Rising::filter_kept))]
     pub fn exit(&mut self, pid: &Pid)
         ensures { Counts self.old self.new (count_after_exit self.old pid.now) }
     {
@@ -203,7 +202,7 @@ impl ScopeTable {
     }
 
     /// The processes of another node leave all groups.
-    #[tactic(auto, using(crate::proofs::Taken::filter_kept, crate::proofs::Own::own_left))]
+    #[tactic(auto, using(crate::proofs::Rising::filter_kept, crate::proofs::Calls::own_left))]
     pub fn drop_peer(&mut self, peer: &NodeName)
         ensures { Counts self.old self.new (count_after_drop self.old peer.now) }
     {

@@ -1,5 +1,5 @@
 use Rattle.scope_core.proofs.Words.{None, times_of, heads}
-use Rattle.scope_core.proofs.Unions.{union_is}
+use Rattle.scope_core.proofs.Groups.{union_is}
 use Rattle.scope_core.proofs.changes.groups_moved.Goals as goal
 
 pub returns : goal.returns

@@ -1,4 +1,4 @@
-use Rattle.scope_core.proofs.Joined.{length-part}
+use Rattle.scope_core.proofs.Calls.{length-part}
 use Rattle.scope_core.proofs.laws.part_of_own_rows.Goals as goal
 
 pub returns : goal.returns

@@ -4,7 +4,4 @@ use Rattle.scope_core.proofs.Lower.{stands_none}
 use Rattle.scope_core.proofs.lowered.raise_one.Goals as goal
 
 pub returns-in-Err-clause-raised : goal.returns-in-Err-clause-raised
-returns-in-Err-clause-raised c = absurd (
-    let row = c.args.row.now in
-    let none = stands_none row.group row.pid c.args.rows.now.items (none_is c.args.rows.now.items row.group row.pid c.in-Err.field-0 (rw c.deref.ensures.value at c.in-Err.ensures.end) (rw c.deref.ensures.value at c.in-Err.ensures.gap)) in
-    omega (arith, none, c.requires.stands))
+returns-in-Err-clause-raised c = absurd (grind (arith, stands_none, none_is c.args.rows.now.items c.args.row.now.group c.args.row.now.pid c.in-Err.field-0, c.requires.stands))

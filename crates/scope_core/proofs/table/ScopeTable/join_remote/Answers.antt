@@ -1,18 +1,12 @@
-use Rattle.scope_core.proofs.Words.{◌≡◌, arith, all_from, is_of_node}
-use Rattle.scope_core.proofs.Peers.{counted_fit, rows_fit, added_change}
-use Rattle.scope_core.proofs.Own.{own_share}
+use Rattle.scope_core.proofs.Words.{arith, same_decides, is_of_node}
+use Rattle.scope_core.proofs.Calls.{all_or_none, added_change}
 use Rattle.scope_core.proofs.table.ScopeTable.join_remote.Goals as goal
 
 pub put_in-requires-clause-few : goal.put_in-requires-clause-few
-put_in-requires-clause-few c =
+put_in-requires-clause-few c = λ node.
     let n = c.args.peer.now in
-    let rows = c.args.rows.now in
-    let cs = c.self.inside.rows.items in
-    let has = rw c.deref.ensures.value at c.total_of.ensures in
     let few = c.self.invariant.kept.few n in
-    rw c.in_ok-spare.ensures.same
-    (counted_fit rows c.in_ok-counted.counted.items cs c.in_ok-counted.ensures.added
-    (rows_fit n rows cs (all_from (λ r. r.pid.node ≡ n) rows (λ k d l h. c.requires k d h)) c.self.invariant.kept.few (omega (arith, c.if-rows-total_of.false, has, few))))
+    grind (arith, few, all_or_none n c.args.rows.now c.requires node, c.in_ok-counted.ensures.added (is_of_node node), c.self.invariant.kept.few node, same_decides n node)
 
 pub returns-clause-change : goal.returns-clause-change
 returns-clause-change c =
@@ -22,9 +16,6 @@ returns-clause-change c =
 
 pub invariant_of-self-2 : goal.invariant_of-self-2
 invariant_of-self-2 c =
-    let n = c.args.peer.now in
     let own = c.self.inside.own in
-    let share = own_share n own c.args.rows.now (all_from (λ r. r.pid.node ≡ n) c.args.rows.now (λ k d l h. c.requires k d h)) in
-    let counted = c.in_ok-counted.ensures.added (is_of_node own) in
-    let joined = rw c.in_ok-spare.ensures.same at (c.put_in.ensures.added (is_of_node own)) in
-    record { kept = c.put_in.ensures.kept; total = omega (arith, share, counted, joined, c.share_of.ensures, c.self.invariant.total) }
+    let share = all_or_none c.args.peer.now c.args.rows.now c.requires own in
+    record { kept = c.put_in.ensures.kept; total = grind (arith, share, c.in_ok-counted.ensures.added (is_of_node own), c.put_in.ensures.added (is_of_node own), c.self.invariant.total) }

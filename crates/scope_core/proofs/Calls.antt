@@ -1,0 +1,127 @@
+-- What the calls of a table change, and when there is room: for rows of one node, and for own processes.
+use Rattle.scope_core.proofs.Words.{All, Bool, Err, IfErr, List, Ok, OnOk, Result, [], cond, false, length, map, min, true, ℕ, ◌+◌, ◌∷◌, ◌≡◌, ◌≤◌}
+use Rattle.scope_core.proofs.Words.{arith, refl, not-false, not-true, length-map, All-map, AllByRecursion, list_any, one_difference, same_decides}
+use Rattle.scope_core.proofs.Words.{same_pid_decides, same_sym, all_from, how_many_le, IsDifference, change_unless_empty, IsPidListing, how_many}
+use Rattle.scope_core.proofs.Words.{mentions, same, same_pid, GroupChange, Pid, Row, Adds, HasRoomFor, Joins, row_in, without_node, Counts}
+use Rattle.scope_core.proofs.Words.{IsAddFault, IsSyncFault, count_after_add, count_after_sync, Tells, IsKept, Table, is_of_node, is_row, local_count}
+use Rattle.scope_core.proofs.Words.{local_total, tally, Counted, TableFault, NotJoined, NotListed, OutOfMemory, RowsFull}
+use Rattle.scope_core.proofs.Rising.{row_is, all_map, none_pass, tally_none, tally_all, filter_kept, gone_counts}
+use Rattle.scope_core.proofs.Shares.{fewer_rows}
+
+-- no more rows than one node may have
+pub alone_fit : (rows : List Row) → length rows ≤ 4096 → HasRoomFor rows []
+alone_fit rows l node = grind (arith, how_many_le)
+
+-- ---- rows of one node
+
+module _ (n : List ℕ) where
+  rows_of_one : (node : List ℕ) (rows : List Row) → AllByRecursion (λ r. r.pid.node ≡ n) rows → how_many (is_of_node node) rows ≡ cond (same n node) (length rows) 0
+  rows_of_one node [] a = grind arith
+  rows_of_one node (r ∷ rows) a = grind (arith, rows_of_one node rows a.1)
+
+  rows_of_none : (g : List ℕ) (p : Pid) (rows : List Row) → AllByRecursion (λ r. r.pid.node ≡ n) rows → same p.node n ≡ false → how_many (is_row g p) rows ≡ 0
+  rows_of_none g p [] a e = refl
+  rows_of_none g p (r ∷ rows) a e = grind (arith, rows_of_none g p rows a.1 e, same_pid_decides r.pid p, same_decides p.node n)
+
+  -- how many own rows go with those of a node
+  pub own_left : (own : List ℕ) (cs : List Counted) (m : ℕ) → m ≡ tally (is_of_node own) cs → tally (is_of_node own) (without_node n cs) + cond (same n own) m 0 ≡ m
+  own_left own cs m is = grind (arith, same_decides, not-true, tally_none, not-false, tally_all)
+
+  -- where a node has no rows, none of its rows is counted
+  none_counted : (test : Row → Bool) → ((r : Row) → test r ≡ true → is_of_node n r ≡ true) → (cs : List Counted) → list_any (λ c. is_of_node n c.row) cs ≡ false → tally test cs ≡ 0
+  none_counted test h [] e = refl
+  none_counted test h (c ∷ cs) e = grind (arith, none_counted test h cs, h c.row)
+
+  pub first_fault : (t : Table) (rows : List Row) (fault : TableFault) → list_any (λ c. is_of_node n c.row) t.rows ≡ false → IsAddFault t n rows fault → IsSyncFault rows fault
+  first_fault t rows RowsFull none h = grind (arith, none_counted)
+  first_fault t rows NotJoined none h = h
+  first_fault t rows NotListed none h = h
+  first_fault t rows OutOfMemory none h = omega (arith, h)
+
+module _ (n : List ℕ) (rows : List Row) (own : All (λ r. r.pid.node ≡ n) rows) where
+  all_of_one : AllByRecursion (λ r. r.pid.node ≡ n) rows
+  all_of_one = all_from (λ r. r.pid.node ≡ n) rows (λ k d l h. own k d h)
+
+  -- all of them are of a node that is this one, and none of one that isn't
+  pub all_or_none : (node : List ℕ) → how_many (is_of_node node) rows ≡ cond (same n node) (length rows) 0
+  all_or_none node = rows_of_one n node rows all_of_one
+
+  -- they have room where the node has
+  pub rows_fit : (old : List Counted) → ((node : List ℕ) → tally (is_of_node node) old ≤ 4096) → tally (is_of_node n) old + length rows ≤ 4096 → HasRoomFor rows old
+  rows_fit old few l node = grind (arith, few node, all_or_none node, same_decides n node)
+
+  -- and in place of those of the node
+  pub sync_fit : (cs : List Counted) → IsKept cs → length rows ≤ 4096 → HasRoomFor rows (without_node n cs)
+  sync_fit cs kept l = grind (arith, not-true, tally_none, filter_kept, rows_fit)
+
+  -- what is counted with them in place of those of the node
+  pub sync_counts : (cs counted new : List Counted) → Adds rows [] counted → Joins counted (without_node n cs) new → (g : List ℕ) (p : Pid)
+      → tally (is_row g p) new ≡ cond (same p.node n) (how_many (is_row g p) rows) (tally (is_row g p) cs)
+  sync_counts cs counted new counts joins g p =
+      grind (arith, counts (is_row g p), joins (is_row g p), gone_counts (λ q. same q.node n) g p cs, rows_of_none n g p rows all_of_one)
+
+  -- where the node has no rows, they are put in the place of none
+  pub first_counts : (t new : Table) → list_any (λ c. is_of_node n c.row) t.rows ≡ false → Counts t new (count_after_add t rows) → Counts t new (count_after_sync t n rows)
+  first_counts t new none added = record {
+    own = added.own;
+    counts = λ g p.
+        let old = λ (e : same p.node n ≡ true). none_counted n (is_row g p) (λ r f. grind (arith, row_is g p r f, e)) t.rows none in
+        grind (arith, added.counts g p, old, rows_of_none n g p rows all_of_one);
+  }
+
+-- the change where rows are added
+pub added_change : (rows : List Row) (cs counted new : List Counted) (changes : List GroupChange) → Tells (λ c. c.count) [] counted changes → Adds rows [] counted → Joins counted cs new
+    → IsDifference (λ g p. tally (is_row g p) cs) (λ g p. tally (is_row g p) new) changes
+added_change rows cs counted new changes told counts joins =
+    told _ _ (λ g p. grind (arith, joins (is_row g p))) (λ g p. grind (arith, joins (is_row g p), counts (is_row g p)))
+
+-- the change where rows are taken
+pub taken_change : (rows : List Row) (cs counted new : List Counted) (changes : List GroupChange) → Tells (λ c. c.count) counted [] changes → Adds rows [] counted → Adds rows new cs
+    → IsDifference (λ g p. tally (is_row g p) cs) (λ g p. tally (is_row g p) new) changes
+taken_change rows cs counted new changes told counts taken =
+    told _ _ (λ g p. grind (arith, taken (is_row g p), counts (is_row g p))) (λ g p. grind (arith, taken (is_row g p)))
+
+pub ok_then : {T E A B : Type 0} (r : Result T E) → (A → B) → OnOk r A → OnOk r B
+ok_then (Ok x) f a = f a
+ok_then (Err e) f a = tt
+
+pub err_then : {T E : Type 0} {P Q : E → Type 0} (r : Result T E) → ((e : E) → P e → Q e) → IfErr r P → IfErr r Q
+err_then (Ok x) f a = tt
+err_then (Err e) f a = f e a
+
+-- ---- own processes
+
+-- the rows of a list of processes are the mentions of each
+pub mentions_in : (g h : List ℕ) (p : Pid) (ps : List Pid) → how_many (is_row h p) (map (row_in g) ps) ≡ cond (same h g) (mentions p ps) 0
+mentions_in g h p [] = grind arith
+mentions_in g h p (q ∷ qs) = grind (arith, mentions_in g h p qs, same_sym g h)
+
+-- the change of a join
+pub joined_change : (g : List ℕ) (ps sorted : List Pid) (before after : List ℕ → Pid → ℕ) → IsPidListing (λ p. mentions p ps) sorted → ((h : List ℕ) (p : Pid) → after h p ≡ before h p + cond (same h g) (mentions p ps) 0)
+    → IsDifference before after (change_unless_empty g [] sorted)
+joined_change g ps sorted before after listing is = grind (arith, one_difference, same_sym)
+
+-- the rows of own processes are own rows
+pub own_rows : (own : List ℕ) (ps : List Pid) → All (λ p. p.node ≡ own) ps → (g node : List ℕ) → how_many (is_of_node node) (map (row_in g) ps) ≡ cond (same own node) (length ps) 0
+own_rows own ps all g node = grind (arith, all_or_none own (map (row_in g) ps) (All-map (λ r. r.pid.node ≡ own) (row_in g) ps all) node, length-map ps (row_in g))
+
+-- own processes of one group are no more than all own rows
+pub length-part : (t : Table) (g : List ℕ) (ps : List Pid) → ((p : Pid) → mentions p ps ≤ local_count t g p) → length ps ≤ local_total t
+length-part t g ps few =
+    let rows = fewer_rows t.own t (map (row_in g) ps) (λ r. grind (arith, mentions_in g r.group r.pid ps, few r.pid, same_decides r.group g)) in
+    omega (arith, rows, length-map ps (row_in g))
+
+-- ---- own processes that would leave
+
+-- a process of another node isn't mentioned
+unmentioned : (own : List ℕ) (ps : List Pid) → All (λ q. q.node ≡ own) ps → (p : Pid) → same p.node own ≡ false → mentions p ps ≡ 0
+unmentioned own ps all p other =
+    none_pass (λ q. same_pid q p) ps (all_map (λ q. q.node ≡ own) (λ q. same_pid q p ≡ false) (λ q is. grind (arith, is, same_pid_decides q p, same_decides p.node own)) ps
+    (all_from (λ q. q.node ≡ own) ps (λ k d l h. all k d h)))
+
+module _ (t : Table) (g : List ℕ) (ps gone : List Pid) (all : All (λ q. q.node ≡ t.own) ps) (listing : IsPidListing (λ p. min (mentions p ps) (tally (is_row g p) t.rows)) gone) where
+  pub leaving_listing : IsPidListing (λ p. min (mentions p ps) (local_count t g p)) gone
+  leaving_listing = record { ascends = listing.ascends; counts = λ p. grind (arith, listing.counts p, unmentioned t.own ps all p) }
+
+  pub leaving_few : length gone ≤ local_total t
+  leaving_few = length-part t g gone (λ p. grind (arith, leaving_listing.counts p))
