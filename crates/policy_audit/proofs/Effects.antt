@@ -51,5 +51,5 @@ by_made h e ev P made a q each = by e.event e.verdict made.verdict a q
     by x (Refused r) m a q = lie (sym a)
 
 -- an event that is accepted breaks no rule
-pub met : (h : History) (e : Entry) (ev : Event) → IsAnswered h e → is_accepted e.verdict ≡ true → e.event ≡ ev → first_broken (checks h e.seat ev) ≡ None
-met h e ev made a q = by_made h e ev (λ x. first_broken (checks h e.seat ev) ≡ None) made a q (λ r v. (accepted h e.seat ev r v).0)
+pub breaks_none : (h : History) (e : Entry) (ev : Event) → IsAnswered h e → is_accepted e.verdict ≡ true → e.event ≡ ev → first_broken (checks h e.seat ev) ≡ None
+breaks_none h e ev made a q = by_made h e ev (λ x. first_broken (checks h e.seat ev) ≡ None) made a q (λ r v. (accepted h e.seat ev r v).0)

@@ -1,13 +1,12 @@
 -- What an accepted frame makes of its own link.
-use Rattle.policy_audit.proofs.Words.{ap, refl, subst, sym, ◌∙◌, eq-eqb, option_and_then, option_map_or, Bool, List, None, Option, Some, []}
-use Rattle.policy_audit.proofs.Words.{cond, false, get_or, is_some, length, true, ℕ, ◌++◌, ◌↔◌, ◌∷◌, ◌≡◌, Challenge, Name, challenge_frame}
-use Rattle.policy_audit.proofs.Words.{name_frame, History, is_accepted, ends, is_open, IsAnswered, AwaitAck, AwaitAnswer, AwaitChallenge}
-use Rattle.policy_audit.proofs.Words.{AwaitMessage, AwaitName, AwaitReply, AwaitStatus, Awaited, ByDial, ByPeer, Opened, Start, Taken}
-use Rattle.policy_audit.proofs.Words.{and_frame, awaited_in, awaits, given, is_name_up, is_whole, opened, peer_of, taken, was_up}
-use Rattle.policy_audit.proofs.Words.{whole_side, Entry, Event}
+use Rattle.policy_audit.proofs.Words.{ap, arith, refl, subst, sym, ◌∙◌, eq-eqb, Bool, List, None, Option, Some, [], cond, false, get_or}
+use Rattle.policy_audit.proofs.Words.{is_some, length, true, ℕ, ◌++◌, ◌↔◌, ◌∷◌, ◌≡◌, Challenge, Name, challenge_frame, name_frame, History}
+use Rattle.policy_audit.proofs.Words.{is_accepted, ends, is_open, IsAnswered, AwaitAck, AwaitAnswer, AwaitChallenge, AwaitMessage}
+use Rattle.policy_audit.proofs.Words.{AwaitName, AwaitReply, AwaitStatus, Awaited, ByDial, ByPeer, Opened, Start, Taken, awaited_in, awaits}
+use Rattle.policy_audit.proofs.Words.{given, is_name_up, is_whole, opened, peer_of, taken, was_up, whole_side, Entry, Event}
 use Rattle.policy_audit.proofs.Accepted.{accepted, lie, peer_by}
-use Rattle.policy_audit.proofs.Finished.{awaited_by, given_by, is_message, message_whole, three_of, two_of, whole_after, whole_awaits, whole_by}
-use Rattle.policy_audit.proofs.Effects.{by_accepted, by_made}
+use Rattle.policy_audit.proofs.Finished.{awaited_by, given_by, is_message, message_whole, three_of, two_of, whole_awaits, whole_by}
+use Rattle.policy_audit.proofs.Effects.{by_made}
 use Rattle.policy_audit.proofs.Walked.{frame_fits, open_opened}
 
 -- ---- over plain frames
@@ -39,48 +38,18 @@ module _ (m : Taken) where
   from_peer bo c = Some (record { start = ByPeer c; before = bo })
 
   named : (bo : List Entry) (c : ℕ) → Next (from_peer bo c) [] AwaitName
-  named bo c f q = record {
-    given = q;
-    peer = ap (λ x. option_and_then {T = Name} {U = List ℕ} (λ g. Some g.name) x) q;
-    awaits = ap (λ u. get_or (whole_side (ByPeer c) u) (length (m ∷ [])) AwaitMessage) was ∙ by (is_name_up f.name m.before);
-    whole = first (was_up (m ∷ []));
-  }
-    where
-      was : was_up (m ∷ []) ≡ is_name_up f.name m.before
-      was = ap (λ x. option_map_or {T = Name} {U = Bool} (λ g. is_name_up g.name m.before) x false) q
-
-      by : (u : Bool) → get_or (whole_side (ByPeer c) u) (length (m ∷ [])) AwaitMessage ≡ cond u AwaitAnswer AwaitReply
-      by true = refl
-      by false = refl
-
-      first : (u : Bool) → whole_after c u m [] ≡ false
-      first true = refl
-      first false = refl
+  named bo c f q = grind arith
 
   follows : (bo : List Entry) (c : ℕ) (a : Taken) (up : Bool) → was_up (a ∷ []) ≡ up → (ts : List Taken) → Next (from_peer bo c) (a ∷ ts) (get_or (whole_side (ByPeer c) up) (length (a ∷ ts)) AwaitMessage)
-  follows bo c a false u [] = record { given = refl; peer = refl; awaits = ap (λ v. get_or (whole_side (ByPeer c) v) (length (a ∷ m ∷ [])) AwaitMessage) u; whole = ap (λ v. whole_after c v a (m ∷ [])) u }
-  follows bo c a true u [] = record { given = refl; peer = refl; awaits = ap (λ v. get_or (whole_side (ByPeer c) v) (length (a ∷ m ∷ [])) AwaitMessage) u; whole = ap (λ v. whole_after c v a (m ∷ [])) u }
-  follows bo c a false u (b ∷ ts) = record {
-    given = refl;
-    peer = refl;
-    awaits = ap (λ v. get_or (whole_side (ByPeer c) v) (length (a ∷ b ∷ (ts ++ m ∷ []))) AwaitMessage) u;
-    whole = ap (λ v. whole_after c v a (b ∷ (ts ++ m ∷ []))) u ∙ two_of a b (ts ++ m ∷ []);
-  }
-  follows bo c a true u (b ∷ []) = record { given = refl; peer = refl; awaits = ap (λ v. get_or (whole_side (ByPeer c) v) (length (a ∷ b ∷ m ∷ [])) AwaitMessage) u; whole = ap (λ v. whole_after c v a (b ∷ m ∷ [])) u }
-  follows bo c a true u (b ∷ r ∷ ts) = record {
-    given = refl;
-    peer = refl;
-    awaits = ap (λ v. get_or (whole_side (ByPeer c) v) (length (a ∷ b ∷ r ∷ (ts ++ m ∷ []))) AwaitMessage) u;
-    whole = ap (λ v. whole_after c v a (b ∷ r ∷ (ts ++ m ∷ []))) u ∙ three_of a b r (ts ++ m ∷ []);
-  }
+  follows bo c a true u (b ∷ r ∷ ts) = grind (arith, three_of)
+  follows bo c a false u (b ∷ ts) = grind (arith, two_of)
+  follows bo c a up u ts = grind arith
 
   next_in : (bo : List Entry) (s : Start) (ts : List Taken) → Next (Some (record { start = s; before = bo })) ts (awaited_in s ts)
   next_in bo (ByPeer c) [] = named bo c
   next_in bo (ByPeer c) (a ∷ ts) = follows bo c a (was_up (a ∷ [])) refl ts
-  next_in bo (ByDial n c) [] = record { given = refl; peer = refl; awaits = refl; whole = refl }
-  next_in bo (ByDial n c) (a ∷ []) = λ f q. record { given = ap (λ x. option_and_then {T = Challenge} {U = Name} (λ g. Some (hello_of g)) x) q; peer = refl; awaits = refl; whole = refl }
-  next_in bo (ByDial n c) (a ∷ b ∷ []) = record { given = refl; peer = refl; awaits = refl; whole = refl }
-  next_in bo (ByDial n c) (a ∷ b ∷ r ∷ ts) = record { given = refl; peer = refl; awaits = refl; whole = three_of a b r (ts ++ m ∷ []) }
+  next_in bo (ByDial n c) (a ∷ b ∷ r ∷ ts) = grind (arith, three_of)
+  next_in bo (ByDial n c) ts = grind arith
 
   next : (oe : Option Opened) (ts : List Taken) → is_some oe ≡ true → Next oe ts (awaited_by oe ts)
   next None ts q = lie (sym q)
@@ -109,10 +78,10 @@ module _ (h : History) (e : Entry) (made : IsAnswered h e) (yes : is_accepted e.
 
   -- it is the newest of the link's frames
   same_opening : opened l (e ∷ es) ≡ opened l es
-  same_opening = by_accepted e (Event.Frame l body) (λ x. opened l (x ∷ es) ≡ opened l es) is yes (λ r. refl)
+  same_opening = grind arith
 
   newest : taken l (e ∷ es) ≡ taken l es ++ moment ∷ []
-  newest = by_accepted e (Event.Frame l body) (λ x. taken l (x ∷ es) ≡ taken l es ++ moment ∷ []) is yes (λ r. ap (λ b. and_frame (taken l es) (cond b (Some moment) None)) (eq-eqb l l refl))
+  newest = grind (arith, eq-eqb l l)
 
   onward : (gave : Option Name) (of : Option (List ℕ)) (next : Awaited) (ends : Bool) → Made moment (opened l es) (taken l es) gave of next ends → IsOnward l es e gave of next ends
   onward gave of next ends m = record {
@@ -155,11 +124,7 @@ module _ (l : ℕ) (es : List Entry) (opens : is_open l es ≡ true) where
   whole_is_message = (λ w. whole_awaits (opened l es) (taken l es) w, λ q. message_whole (opened l es) (taken l es) (open_opened l es opens) (ap is_message q))
 
   pub unwhole_awaits : is_whole l es ≡ false → is_message (awaits l es) ≡ false
-  unwhole_awaits w = by (is_message (awaits l es)) refl
-    where
-      by : (b : Bool) → is_message (awaits l es) ≡ b → b ≡ false
-      by false q = refl
-      by true q = lie (sym (message_whole (opened l es) (taken l es) (open_opened l es opens) q) ∙ w)
+  unwhole_awaits w = grind (arith, message_whole (opened l es) (taken l es) (open_opened l es opens))
 
 -- link l was opened by its peer
 pub record IsByPeer (l : ℕ) (es : List Entry) : Type 0 where
@@ -189,21 +154,17 @@ is_diallers AwaitAck = true
 is_diallers a = false
 
 peers : (c : ℕ) (up : Bool) (a : Taken) (ts : List Taken) → is_diallers (get_or (whole_side (ByPeer c) up) (length (a ∷ ts)) AwaitMessage) ≡ false
-peers c false a [] = refl
-peers c false a (b ∷ ts) = refl
-peers c true a [] = refl
-peers c true a (b ∷ []) = refl
 peers c true a (b ∷ r ∷ ts) = refl
+peers c false a (b ∷ ts) = refl
+peers c up a ts = refl
 
 peers_in : (c : ℕ) (ts : List Taken) → is_diallers (awaited_in (ByPeer c) ts) ≡ false
 peers_in c [] = refl
 peers_in c (a ∷ ts) = peers c (was_up (a ∷ [])) a ts
 
 dials_in : (n : List ℕ) (c : ℕ) (ts : List Taken) → is_acceptors (awaited_in (ByDial n c) ts) ≡ false
-dials_in n c [] = refl
-dials_in n c (a ∷ []) = refl
-dials_in n c (a ∷ b ∷ []) = refl
 dials_in n c (a ∷ b ∷ r ∷ ts) = refl
+dials_in n c ts = refl
 
 module _ (l : ℕ) (es : List Entry) (opens : is_open l es ≡ true) where
   pub by_peer : is_acceptors (awaits l es) ≡ true → IsByPeer l es

@@ -10,7 +10,7 @@ use Rattle.policy_audit.proofs.Finished.{Completed, is_message, whole_awaits}
 use Rattle.policy_audit.proofs.Accepted.{accepted, all_hold, lie, unbroken}
 use Rattle.policy_audit.proofs.UpLinks.{agrees, answered, done_now, value_of}
 use Rattle.policy_audit.proofs.Walked.{but, frame_fits}
-use Rattle.policy_audit.proofs.Effects.{by_made, entry_exited, entry_joined, entry_left, met}
+use Rattle.policy_audit.proofs.Effects.{by_made, entry_exited, entry_joined, entry_left, breaks_none}
 use Rattle.policy_audit.proofs.Within.{new_lists, rows_step}
 
 -- ---- counts
@@ -47,13 +47,13 @@ module _ (h : History) (e : Entry) (made : IsAnswered h e) (yes : is_accepted e.
   pub joined_rows : (s g : List ℕ) (ps : List Pid) → e.event ≡ Event.Join s g ps → (t f : List ℕ) (p : Pid)
       → listed (with_entry h e) t f p ≡ cond (same t s) (listed h t f p + cond (same f g) (mentions p ps) 0) (listed h t f p)
   joined_rows s g ps is t f p =
-      let holds = all_hold (join_checks h s g ps) (met h e (Event.Join s g ps) made yes is) in
+      let holds = all_hold (join_checks h s g ps) (breaks_none h e (Event.Join s g ps) made yes is) in
       grind (arith, entry_joined h e s g ps is yes (unbroken (is_running h s) holds.0) t f p, unmentioned ps (unbroken (list_all (is_local h) ps) holds.1.0) p, same_sym s t, same_sym g f)
 
   pub left_rows : (s g : List ℕ) (ps : List Pid) → e.event ≡ Event.Leave s g ps → (t f : List ℕ) (p : Pid)
       → listed (with_entry h e) t f p ≡ cond (same t s) (listed h t f p - cond (same f g) (mentions p ps) 0) (listed h t f p)
   left_rows s g ps is t f p =
-      let holds = all_hold (leave_checks h s g ps) (met h e (Event.Leave s g ps) made yes is) in
+      let holds = all_hold (leave_checks h s g ps) (breaks_none h e (Event.Leave s g ps) made yes is) in
       let now : listed (with_entry h e) t f p ≡ cond (is_local h p) (own (with_entry h e) t f p) (remote t f p) = grind arith in
       now ∙ ap (λ c. cond (is_local h p) c (remote t f p)) (entry_left h e s g ps is yes t f p)
       ∙ minus_own (is_local h p) (same s t) (same g f) (own h t f p) (remote t f p) (mentions p ps) (unmentioned ps (unbroken (list_all (is_local h) ps) holds.1.0) p)
@@ -61,7 +61,7 @@ module _ (h : History) (e : Entry) (made : IsAnswered h e) (yes : is_accepted e.
 
   pub exited_rows : (q : Pid) → e.event ≡ Event.Exit q → (t f : List ℕ) (p : Pid) → listed (with_entry h e) t f p ≡ cond (same_pid p q) 0 (listed h t f p)
   exited_rows q is t f p =
-      let own_one = unbroken (is_local h q) (all_hold (checks h e.seat (Event.Exit q)) (met h e (Event.Exit q) made yes is)).0 in
+      let own_one = unbroken (is_local h q) (all_hold (checks h e.seat (Event.Exit q)) (breaks_none h e (Event.Exit q) made yes is)).0 in
       let now : listed (with_entry h e) t f p ≡ cond (is_local h p) (own (with_entry h e) t f p) (remote t f p) = grind arith in
       now ∙ ap (λ c. cond (is_local h p) c (remote t f p)) (entry_exited h e q is yes t f p)
       ∙ exit_own (is_local h p) (same_pid q p) (own h t f p) (remote t f p) (λ out. grind (arith, same_pid_decides q p)) ∙ ap (λ b. cond b 0 (listed h t f p)) (pid_sym q p)
