@@ -103,6 +103,15 @@ was_started s (e ∷ es) q = grind (arith, was_started s es)
 pub stopped_lists : (h : History) (s g : List ℕ) (p : Pid) → is_running h s ≡ false → listed h s g p ≡ 0
 stopped_lists h s g p q = grind arith
 
+-- where each row of a scope is listed as often as before, there is no difference in it
+pub no_difference : (h k : History) (s : List ℕ) → ((g : List ℕ) (p : Pid) → listed h s g p ≡ listed k s g p) → IsDifference (listed h s) (listed k s) []
+no_difference h k s m = record {
+  groups = tt;
+  proper = tt;
+  left = λ g p. (let q : listed h s g p ≡ listed k s g p = m g p in omega (arith, q));
+  joined = λ g p. (let q : listed h s g p ≡ listed k s g p = m g p in omega (arith, q));
+}
+
 module _ (F : List ℕ → List GroupChange) where
   abbrev all_changes : List (List ℕ) → List Change
   all_changes ss = flat_map (λ s. if_some s (F s)) ss
@@ -146,12 +155,7 @@ change_is h k = record {
 
     by : (s : List ℕ) (b : Bool) → is_among s (ascending text_cmp (flat_map scopes_started (events_of h k))) ≡ b → IsDifference (listed h s) (listed k s) (cond b (scope_change h k s) [])
     by s true e = scope_difference h k s
-    by s false e = (let was = absent h.entries (or_parts' e).0 in let is = absent k.entries (or_parts' e).1 in record {
-      groups = tt;
-      proper = tt;
-      left = λ g p. grind (arith, stopped_lists h s g p was);
-      joined = λ g p. grind (arith, stopped_lists k s g p is);
-    })
+    by s false e = (let was = absent h.entries (or_parts' e).0 in let is = absent k.entries (or_parts' e).1 in no_difference h k s (λ g p. stopped_lists h s g p was ∙ sym (stopped_lists k s g p is)))
       where
         or_parts' : is_among s scopes ≡ false → (is_among s (flat_map scopes_started (events h.entries)) ≡ false) × (is_among s (flat_map scopes_started (events k.entries)) ≡ false)
         or_parts' e = or_parts _ _ (sym (sym e ∙ ascending_stands text_cmp same texts_total exact_bytes same_decides s (flat_map scopes_started (events_of h k)) ∙ ap (is_among s) (flat_map-append scopes_started (events h.entries) (events k.entries)) ∙ list_any-append (λ t. same t s) (flat_map scopes_started (events h.entries)) (flat_map scopes_started (events k.entries))))
@@ -161,16 +165,7 @@ change_is h k = record {
 
 -- where each row is listed as often as before, nothing changed
 pub no_change : (h k : History) → ((s g : List ℕ) (p : Pid) → listed h s g p ≡ listed k s g p) → IsChange h k []
-no_change h k e = record {
-  scopes = tt;
-  some = tt;
-  groups = λ s. record {
-    groups = tt;
-    proper = tt;
-    left = λ g p. (let q : listed h s g p ≡ listed k s g p = e s g p in omega (arith, q));
-    joined = λ g p. (let q : listed h s g p ≡ listed k s g p = e s g p in omega (arith, q));
-  };
-}
+no_change h k e = record { scopes = tt; some = tt; groups = λ s. no_difference h k s (e s) }
 
 -- the policy's entry is the next one
 pub next_is : (h : History) (seat : ℕ) (e : Event) → is_full h ≡ false → IsNext h (entry_of h seat e)

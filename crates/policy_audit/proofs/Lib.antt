@@ -31,6 +31,5 @@ pub mod LinkFrames
 pub mod LinksLeft
 pub mod HeardNow
 pub mod HeardSaid
-pub mod Refusals
 pub mod ScopeFrames
 pub mod Untouched

@@ -1,12 +1,8 @@
 -- What is said of links after entries that open none, and the numbers of the links that are kept after them.
-use Rattle.policy_audit.proofs.Words.{ap, refl, sym, ◌∙◌, eqb-true, filter, Bool, List, None, Some, cond, false, is_some, not, reverse}
-use Rattle.policy_audit.proofs.Words.{true, ℕ, ◌&&◌, ◌++◌, ◌==◌, ◌||◌, ◌∷◌, ◌≡◌, is_empty, same, Name, name_frame, IsSameLink, History}
-use Rattle.policy_audit.proofs.Words.{is_accepted, is_restart, is_open, links, named_by, is_kept, refusal_owes, waiting, IsAnswered}
-use Rattle.policy_audit.proofs.Words.{IsLegal, with_entry, AwaitName, awaits, is_last, is_whole, peer_of, present_link, start_of, Entry}
-use Rattle.policy_audit.proofs.Words.{Verdict, Accepted, Refused, Event, Rule}
-use Rattle.policy_audit.proofs.Accepted.{lie}
-use Rattle.policy_audit.proofs.Walked.{but}
-use Rattle.policy_audit.proofs.UpLinks.{and_false}
+use Rattle.policy_audit.proofs.Words.{arith, refl, eqb-true, filter, Bool, List, None, Some, false, is_some, not, reverse, true, ℕ, ◌&&◌}
+use Rattle.policy_audit.proofs.Words.{◌++◌, ◌==◌, ◌||◌, ◌∷◌, ◌≡◌, is_empty, same, Name, name_frame, IsSameLink, History, is_accepted}
+use Rattle.policy_audit.proofs.Words.{is_restart, is_open, links, named_by, is_kept, refusal_owes, waiting, IsAnswered, IsLegal, with_entry}
+use Rattle.policy_audit.proofs.Words.{AwaitName, awaits, is_last, is_whole, peer_of, present_link, start_of, Entry, Refused, Event, Rule}
 use Rattle.policy_audit.proofs.KeptNumbers.{kept_after, kept_numbers}
 use Rattle.policy_audit.proofs.LinkFrames.{disconnected_links, given_up_by, handshake_links, lost_links, named_links, proved_links, refused_links, replaced_by, taken_links}
 
@@ -22,27 +18,11 @@ concerns_links ev = renews_links ev
 
 -- an entry that opens no link leaves the links, but for a Restart
 pub links_left : (es : List Entry) (e : Entry) → (is_accepted e.verdict && renews_links e.event) ≡ false → links (e ∷ es) ≡ links es
-links_left es e q = by e.event e.verdict q
-  where
-    by : (ev : Event) (v : Verdict) → (is_accepted v && renews_links ev) ≡ false → links (but e ev v ∷ es) ≡ links es
-    by ev (Refused r) q = refl
-    by Event.Restart (Accepted r) q = lie q
-    by (Event.Opened c) (Accepted r) q = lie q
-    by (Event.Dial n c) (Accepted r) q = lie q
-    by ev (Accepted r) q = refl
+links_left es e q = grind arith
 
 -- a refused entry, and one of another event, leave what is said of a link
 pub facts_left : (es : List Entry) (e : Entry) → (is_accepted e.verdict && concerns_links e.event) ≡ false → (l : ℕ) → IsSameLink l es (e ∷ es)
-facts_left es e q l = by e.event e.verdict q
-  where
-    by : (ev : Event) (v : Verdict) → (is_accepted v && concerns_links ev) ≡ false → IsSameLink l es (but e ev v ∷ es)
-    by ev (Refused r) q = record { opened = refl; taken = refl; given = refl; peer = refl; awaits = refl; whole = refl; talk = refl }
-    by Event.Restart (Accepted r) q = lie q
-    by (Event.Opened c) (Accepted r) q = lie q
-    by (Event.Dial n c) (Accepted r) q = lie q
-    by (Event.Frame j body) (Accepted r) q = lie q
-    by (Event.StopScope s) (Accepted r) q = lie q
-    by ev (Accepted r) q = record { opened = refl; taken = refl; given = refl; peer = refl; awaits = refl; whole = refl; talk = refl }
+facts_left es e q l = grind arith
 
 -- ---- the kept links
 
@@ -54,20 +34,12 @@ module _ (h : History) (e : Entry) where
   k = with_entry h e
 
   same_links : (ev : Event) → e.event ≡ ev → renews_links ev ≡ false → links k.entries ≡ links h.entries
-  same_links ev is q = links_left h.entries e (ap (λ x. is_accepted e.verdict && renews_links x) is ∙ ap (λ b. is_accepted e.verdict && b) q ∙ and_false (is_accepted e.verdict))
+  same_links ev is q = links_left h.entries e (grind arith)
 
   -- an own frame that is refused takes away a link for which nothing waits
   pub refused_numbers : (j : ℕ) (body : List ℕ) (r : Rule) → e.event ≡ Event.Frame j body → e.verdict ≡ Refused r → is_open j h.entries ≡ true → is_whole j h.entries ≡ false
       → kept_numbers k ≡ filter (λ l. not (j == l && is_empty (waiting h l ++ refusal_owes r))) (kept_numbers h)
-  refused_numbers j body r is refuses opens unwhole = kept_after h k (λ l. not (j == l && is_empty (waiting h l ++ refusal_owes r))) (same_links (Event.Frame j body) is refl) (λ l. (refused_links h e j body r is refuses unwhole l).kept_is ∙ by l (j == l) refl)
-    where
-      plain : (a : Bool) → a ≡ (a && true)
-      plain true = refl
-      plain false = refl
-
-      by : (l : ℕ) (b : Bool) → (j == l) ≡ b → cond b (not (is_empty (waiting h l ++ refusal_owes r))) (is_kept h l) ≡ (is_kept h l && not (b && is_empty (waiting h l ++ refusal_owes r)))
-      by l true m = sym (ap (λ o. (o || not (is_empty (waiting h l))) && not (is_empty (waiting h l ++ refusal_owes r))) (sym (ap (λ x. is_open x h.entries) (eqb-true j l m)) ∙ opens))
-      by l false m = plain (is_kept h l)
+  refused_numbers j body r is refuses opens unwhole = kept_after h k (λ l. not (j == l && is_empty (waiting h l ++ refusal_owes r))) (same_links (Event.Frame j body) is refl) (λ l. grind (arith, (refused_links h e j body r is refuses unwhole l).kept_is, eqb-true j l))
 
   module _ (yes : is_accepted e.verdict ≡ true) where
     pub lost_numbers : (j : ℕ) → e.event ≡ Event.Lost j → kept_numbers k ≡ filter (λ l. not (j == l)) (kept_numbers h)

@@ -1,46 +1,31 @@
 -- Lists in answers are the listings of their counts.
-use Rattle.policy_audit.proofs.Words.{ap, arith, refl, subst, sym, ◌∙◌, ltb-false, ltb-true, exact_bytes, AllByRecursion, filter, flat_map}
-use Rattle.policy_audit.proofs.Words.{is_gt, ordering_then, Bool, List, [], cond, false, map, nat_lt, not, suc, true, ℕ, ◌&&◌, ◌++◌, ◌+◌}
-use Rattle.policy_audit.proofs.Words.{◌<◌, ◌||◌, ◌∷◌, ◌≡◌, Ordering, Less, all_append, ascending_rises, ascending_stands, listing_counts}
-use Rattle.policy_audit.proofs.Words.{one_of_many, exact_pids, in_one_group, pids_total, same_decides, same_pid_decides, texts_total}
-use Rattle.policy_audit.proofs.Words.{how_many_append, is_empty, Ascends, IsGroupListing, IsListing, IsPidListing, IsRowListing, Rises}
-use Rattle.policy_audit.proofs.Words.{ascending, is_among, listing, mentions, occurrences, same, same_pid, same_row, stands_in, total}
-use Rattle.policy_audit.proofs.Words.{pid_cmp, row_cmp, text_cmp, Pid, Row, row}
-use Rattle.policy_audit.proofs.Named.{stands_occurs, or_true}
+use Rattle.policy_audit.proofs.Words.{ap, arith, refl, subst, sym, ◌∙◌, exact_bytes, AllByRecursion, filter, flat_map, is_gt, ordering_then}
+use Rattle.policy_audit.proofs.Words.{Bool, List, [], cond, false, map, not, true, ℕ, ◌++◌, ◌+◌, ◌<◌, ◌||◌, ◌∷◌, ◌≡◌, Ordering, Less}
+use Rattle.policy_audit.proofs.Words.{all_append, ascending_rises, ascending_stands, listing_counts, one_of_many, exact_pids, in_one_group}
+use Rattle.policy_audit.proofs.Words.{pids_total, same_decides, same_pid_decides, texts_total, how_many_append, is_empty, Ascends}
+use Rattle.policy_audit.proofs.Words.{IsGroupListing, IsListing, IsPidListing, IsRowListing, Rises, ascending, is_among, listing, mentions}
+use Rattle.policy_audit.proofs.Words.{occurrences, same, same_pid, same_row, stands_in, total, pid_cmp, row_cmp, text_cmp, Pid, Row, row}
+use Rattle.policy_audit.proofs.Named.{stands_occurs}
 
 -- ---- what a filter leaves
 
 pub filter_all : {A : Type 0} (P : A → Type 0) (test : A → Bool) (xs : List A) → AllByRecursion P xs → AllByRecursion P (filter test xs)
 filter_all P test [] a = tt
-filter_all P test (x ∷ xs) a = elim (test x) as (λ b. AllByRecursion P (cond b (x ∷ filter test xs) (filter test xs))) [ true ↦ (a.0, filter_all P test xs a.1) | false ↦ filter_all P test xs a.1 ]
+filter_all P test (x ∷ xs) a = grind (arith, a.0, filter_all P test xs a.1)
 
 pub filter_rises : {A : Type 0} (R : A → A → Ordering) (test : A → Bool) (xs : List A) → Rises R xs → Rises R (filter test xs)
 filter_rises R test [] a = tt
-filter_rises R test (x ∷ xs) a = elim (test x) as (λ b. Rises R (cond b (x ∷ filter test xs) (filter test xs))) [ true ↦ (filter_all (λ y. R x y ≡ Less) test xs a.0, filter_rises R test xs a.1) | false ↦ filter_rises R test xs a.1 ]
+filter_rises R test (x ∷ xs) a = grind (arith, filter_all (λ y. R x y ≡ Less) test xs a.0, filter_rises R test xs a.1)
 
 -- what is left passes the test
 pub left_passes : (test : List ℕ → Bool) (g : List ℕ) (xs : List (List ℕ)) → is_among g (filter test xs) ≡ true → test g ≡ true
 left_passes test g [] q = absurd (let f : false ≡ true = q in cc)
-left_passes test g (x ∷ xs) q = by (left_passes test g xs) (test x) refl q
-  where
-    one : (b : Bool) → same x g ≡ b → test x ≡ true → (is_among g (filter test xs) ≡ true → test g ≡ true) → (b || is_among g (filter test xs)) ≡ true → test g ≡ true
-    one true s t others q = sym (ap test ((same_decides x g).0 s)) ∙ t
-    one false s t others q = others q
-
-    by : (is_among g (filter test xs) ≡ true → test g ≡ true) → (b : Bool) → test x ≡ b → is_among g (cond b (x ∷ filter test xs) (filter test xs)) ≡ true → test g ≡ true
-    by others true t q = one (same x g) refl t others q
-    by others false t q = others q
+left_passes test g (x ∷ xs) q = grind (arith, left_passes test g xs, same_decides x g)
 
 -- what passes the test is left
 pub passes_left : (test : List ℕ → Bool) (g : List ℕ) (xs : List (List ℕ)) → is_among g xs ≡ true → test g ≡ true → is_among g (filter test xs) ≡ true
 passes_left test g [] q t = q
-passes_left test g (x ∷ xs) q t = by (λ k. passes_left test g xs k t) (same x g) refl (test x) refl q
-  where
-    by : (is_among g xs ≡ true → is_among g (filter test xs) ≡ true) → (a : Bool) → same x g ≡ a → (b : Bool) → test x ≡ b → (a || is_among g xs) ≡ true → is_among g (cond b (x ∷ filter test xs) (filter test xs)) ≡ true
-    by others true s true e q = ap (λ c. c || is_among g (filter test xs)) s
-    by others true s false e q = absurd (let f : false ≡ true = sym e ∙ ap test ((same_decides x g).0 s) ∙ t in cc)
-    by others false s true e q = or_true (same x g) (is_among g (filter test xs)) (others q)
-    by others false s false e q = others q
+passes_left test g (x ∷ xs) q t = grind (arith, passes_left test g xs, same_decides x g)
 
 -- ---- members and groups
 
@@ -88,13 +73,8 @@ ascends_append R [] ys a b c = b
 ascends_append R (x ∷ xs) ys a b c = (all_append (λ y. is_gt (R x y) ≡ false) xs ys a.0 c.0, ascends_append R xs ys a.1 b c.1)
 
 pub count_in_group : (r : Row) (g : List ℕ) (ps : List Pid) → occurrences same_row r (map (row g) ps) ≡ cond (same g r.group) (mentions r.pid ps) 0
-count_in_group r g ps = by (same g r.group) refl ps
-  where
-    by : (b : Bool) → same g r.group ≡ b → (qs : List Pid) → occurrences same_row r (map (row g) qs) ≡ cond b (mentions r.pid qs) 0
-    by true s [] = refl
-    by false s [] = refl
-    by true s (q ∷ qs) = ap (λ c. cond (c && same_pid q r.pid) (suc (occurrences same_row r (map (row g) qs))) (occurrences same_row r (map (row g) qs))) s ∙ ap (λ n. cond (same_pid q r.pid) (suc n) n) (by true s qs)
-    by false s (q ∷ qs) = ap (λ c. cond (c && same_pid q r.pid) (suc (occurrences same_row r (map (row g) qs))) (occurrences same_row r (map (row g) qs))) s ∙ by false s qs
+count_in_group r g [] = grind arith
+count_in_group r g (p ∷ ps) = grind (arith, count_in_group r g ps)
 
 module _ (count : List ℕ → Pid → ℕ) (members : List ℕ → List Pid) (are : (g : List ℕ) → IsPidListing (count g) (members g)) where
   abbrev rows : List (List ℕ) → List Row
@@ -124,13 +104,5 @@ module _ (count : List ℕ → Pid → ℕ) (members : List ℕ → List Pid) (a
   pub rows_are : (gs : List (List ℕ)) → IsGroupListing count gs → IsRowListing count (rows gs)
   rows_are gs a = record {
     ascends = ascend gs a.rises;
-    counts = λ r. counted r gs ∙ one_of_many text_cmp same texts_total exact_bytes same_decides (λ g. mentions r.pid (members g)) r.group gs a.rises ∙ among r (is_among r.group gs) refl;
+    counts = λ r. counted r gs ∙ one_of_many text_cmp same texts_total exact_bytes same_decides (λ g. mentions r.pid (members g)) r.group gs a.rises ∙ grind (arith, IsListing.counts (are r.group) r.pid, a.only r.group r.pid);
   }
-    where
-      among : (r : Row) (b : Bool) → is_among r.group gs ≡ b → cond (is_among r.group gs) (mentions r.pid (members r.group)) 0 ≡ count r.group r.pid
-      among r true q = ap (λ c. cond c (mentions r.pid (members r.group)) 0) q ∙ IsListing.counts (are r.group) r.pid
-      among r false q = ap (λ c. cond c (mentions r.pid (members r.group)) 0) q ∙ none (nat_lt 0 (count r.group r.pid)) refl
-        where
-          none : (v : Bool) → nat_lt 0 (count r.group r.pid) ≡ v → 0 ≡ count r.group r.pid
-          none true e = absurd (let f : false ≡ true = sym q ∙ a.only r.group r.pid (ltb-true 0 (count r.group r.pid) e) in cc)
-          none false e = omega (arith, ltb-false 0 (count r.group r.pid) e)

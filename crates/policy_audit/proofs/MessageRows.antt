@@ -4,12 +4,11 @@ use Rattle.policy_audit.proofs.Words.{false, not, true, ℕ, ◌&&◌, ◌+◌, 
 use Rattle.policy_audit.proofs.Words.{same, same_row, Pid, Row, Message, always, first_broken, frame_checks, message_checks, runs, row}
 use Rattle.policy_audit.proofs.Words.{Said, Talk, heard, hears, message_taken, rows_of, stated_in, talk, History, is_accepted, is_open}
 use Rattle.policy_audit.proofs.Words.{is_up, is_from, listed, is_running, IsAnswered, IsLegal, with_entry, AwaitMessage, Taken, awaits}
-use Rattle.policy_audit.proofs.Words.{is_last, is_visible, is_whole, opened, peer_of, present_link, taken, Entry, Accepted, Event, Reply}
-use Rattle.policy_audit.proofs.Words.{Rule}
+use Rattle.policy_audit.proofs.Words.{is_last, is_visible, is_whole, opened, peer_of, present_link, taken, Entry, Event, Rule}
 use Rattle.policy_audit.proofs.Effects.{breaks_none}
 use Rattle.policy_audit.proofs.Accepted.{Hold, all_hold, open_first, unbroken}
 use Rattle.policy_audit.proofs.UpLinks.{agrees, and_both, and_right, other}
-use Rattle.policy_audit.proofs.Walked.{but, open_opened}
+use Rattle.policy_audit.proofs.Walked.{open_opened}
 use Rattle.policy_audit.proofs.RowsAfter.{done_frame, inner_rows, not_local, uncounted}
 use Rattle.policy_audit.proofs.Finished.{given_kept, is_message, kept, message_whole, whole_kept}
 use Rattle.policy_audit.proofs.Heard.{has_sync}
@@ -30,9 +29,6 @@ module _ (h : History) (legal : IsLegal h) (e : Entry) (made : IsAnswered h e) (
     (n : List ℕ) (awaited : awaits l h.entries ≡ AwaitMessage) (of : peer_of l h.entries ≡ Some n) (foreign : same n h.opening.name ≡ false) where
   abbrev es : List Entry
   es = h.entries
-
-  abbrev fr : Reply → Entry
-  fr r = but e (Event.Frame l body) (Accepted r)
 
   module _ (m : Message) (says : message_taken body ≡ Some m) where
     inner : is_last (awaits l es) ≡ false

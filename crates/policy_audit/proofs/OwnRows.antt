@@ -1,16 +1,15 @@
 -- The own rows are listed, and nobody else's are; and the rows that an own Join, Leave, Exit and Sync name.
 use Rattle.policy_audit.proofs.Words.{ap, arith, refl, sym, ◌∙◌, filter, list_all, option_map_or, is_gt, Bool, List, None, Option, Some, []}
-use Rattle.policy_audit.proofs.Words.{cond, false, map, min, suc, true, ℕ, ◌&&◌, ◌+◌, ◌-◌, ◌<◌, ◌==◌, ◌∷◌, ◌≡◌, Ordering, listing_counts}
-use Rattle.policy_audit.proofs.Words.{one_listing, exact_pids, exact_rows, pids_total, rows_total, same_decides, same_pid_decides}
-use Rattle.policy_audit.proofs.Words.{same_row_decides, same_sym, Ascends, IsListing, IsPidListing, IsRowListing, listing, mentions}
-use Rattle.policy_audit.proofs.Words.{occurrences, same, same_pid, same_row, stands_in, pid_cmp, row_cmp, Pid, Row, join_checks}
-use Rattle.policy_audit.proofs.Words.{groups_named, local_groups, local_members, local_rows, pids_named, row, History, creation, events}
-use Rattle.policy_audit.proofs.Words.{past, listed, listed_by, is_local, is_running, joined, own, IsLegal, IsLegalIn, verdict, present_link}
-use Rattle.policy_audit.proofs.Words.{Entry, Verdict, Accepted, Refused, Event, Opening}
+use Rattle.policy_audit.proofs.Words.{cond, false, map, suc, true, ℕ, ◌&&◌, ◌+◌, ◌-◌, ◌<◌, ◌==◌, ◌∷◌, ◌≡◌, Ordering, one_listing}
+use Rattle.policy_audit.proofs.Words.{exact_rows, rows_total, same_decides, same_pid_decides, same_row_decides, same_sym, Ascends}
+use Rattle.policy_audit.proofs.Words.{IsListing, IsPidListing, IsRowListing, mentions, occurrences, same, same_pid, same_row, stands_in}
+use Rattle.policy_audit.proofs.Words.{row_cmp, Pid, Row, join_checks, groups_named, local_groups, local_members, local_rows, pids_named}
+use Rattle.policy_audit.proofs.Words.{row, History, creation, events, past, listed, listed_by, is_local, is_running, joined, own, IsLegal}
+use Rattle.policy_audit.proofs.Words.{IsLegalIn, verdict, present_link, Entry, Verdict, Accepted, Refused, Event, Opening}
 use Rattle.policy_audit.proofs.Accepted.{accepted, all_hold, lie, unbroken}
 use Rattle.policy_audit.proofs.Walked.{but}
 use Rattle.policy_audit.proofs.UpLinks.{agrees}
-use Rattle.policy_audit.proofs.Named.{group_named, occurs_stands, own_named, pid_named}
+use Rattle.policy_audit.proofs.Named.{group_named, own_named, pid_named}
 use Rattle.policy_audit.proofs.Lists.{count_in_group, filter_all, groups_are, members_are, rows_are, rows_of_group}
 use Rattle.policy_audit.proofs.RowsAfter.{uncounted}
 use Rattle.policy_audit.proofs.Foreign.{peer_foreign}
@@ -115,21 +114,6 @@ filter_counts test r (x ∷ xs) = by (test x) refl (same_row x r) refl (filter_c
     by false t false s q = q
 
 -- ---- what is told of own rows
-
-pids_listing : (count : Pid → ℕ) (named : List Pid) → ((p : Pid) → 0 < count p → stands_in same_pid p named ≡ true) → IsPidListing count (listing pid_cmp count named)
-pids_listing count named each = listing_counts pid_cmp same_pid pids_total exact_pids same_pid_decides count named each
-
--- the rows of a Join
-pub joined_listing : (g : List ℕ) (ps : List Pid) (rows : List Row) → IsRowListing (λ f q. cond (same f g) (mentions q ps) 0) rows → rows ≡ map (row g) (listing pid_cmp (λ p. mentions p ps) ps)
-joined_listing g ps rows a = one_row_listing (λ f q. cond (same f g) (mentions q ps) 0) rows (map (row g) (listing pid_cmp (λ p. mentions p ps) ps)) a
-    (rows_in_group g (λ p. mentions p ps) (listing pid_cmp (λ p. mentions p ps) ps) (pids_listing (λ p. mentions p ps) ps (λ p some. occurs_stands same_pid p ps some)))
-
--- the rows of a Leave
-pub left_listing : (h : History) (s g : List ℕ) (ps : List Pid) (rows : List Row) → IsRowListing (λ f q. cond (same f g) (min (mentions q ps) (own h s g q)) 0) rows
-    → rows ≡ map (row g) (listing pid_cmp (λ p. min (mentions p ps) (own h s g p)) ps)
-left_listing h s g ps rows a = one_row_listing (λ f q. cond (same f g) (min (mentions q ps) (own h s g q)) 0) rows (map (row g) (listing pid_cmp (λ p. min (mentions p ps) (own h s g p)) ps)) a
-    (rows_in_group g (λ p. min (mentions p ps) (own h s g p)) (listing pid_cmp (λ p. min (mentions p ps) (own h s g p)) ps)
-    (pids_listing (λ p. min (mentions p ps) (own h s g p)) ps (λ p some. occurs_stands same_pid p ps (omega (arith, some)))))
 
 -- all own rows
 pub local_rows_are : (h : History) (s : List ℕ) → IsRowListing (own h s) (local_rows h s)

@@ -1,11 +1,11 @@
 -- The difference of two histories, from the differences in its scopes; and that there is one.
-use Rattle.policy_audit.proofs.Words.{ap, arith, refl, subst, sym, ◌∙◌, lt-ltb, exact_bytes, AllByRecursion, filter, Bool, List, [], cond}
-use Rattle.policy_audit.proofs.Words.{false, length, map, not, true, ℕ, ◌++◌, ◌||◌, ◌∷◌, ◌≡◌, Ordering, Equal, Greater, Less, same_decides}
-use Rattle.policy_audit.proofs.Words.{IsDifference, is_empty, Rises, is_among, same, text_cmp, GroupChange, Pid, IsChange, change}
-use Rattle.policy_audit.proofs.Words.{groups_in, History, listed, IsNext, after, bare_entry, entry_of, verdict, with_entry, Change, Entry}
-use Rattle.policy_audit.proofs.Words.{Verdict}
+use Rattle.policy_audit.proofs.Words.{ap, arith, refl, subst, sym, ◌∙◌, lt-ltb, append-nil, exact_bytes, AllByRecursion, filter, Bool, List}
+use Rattle.policy_audit.proofs.Words.{[], cond, false, length, map, not, true, ℕ, ◌++◌, ◌||◌, ◌∷◌, ◌≡◌, Ordering, Equal, Greater, Less}
+use Rattle.policy_audit.proofs.Words.{same_decides, IsDifference, is_empty, Rises, is_among, same, text_cmp, GroupChange, Pid, IsChange}
+use Rattle.policy_audit.proofs.Words.{change, groups_in, History, listed, IsNext, after, bare_entry, entry_of, verdict, with_entry, Change}
+use Rattle.policy_audit.proofs.Words.{Entry, Verdict}
 use Rattle.policy_audit.proofs.OneDifference.{above_all, apart, one_group_difference, turned}
-use Rattle.policy_audit.proofs.ChangeLemmas.{change_is}
+use Rattle.policy_audit.proofs.ChangeLemmas.{change_is, no_difference}
 use Rattle.policy_audit.proofs.Accepted.{lie}
 
 -- ---- changes by scope
@@ -16,67 +16,36 @@ with_groups cs = filter (λ c. not (is_empty c.groups)) cs
 
 kept_above : (s : List ℕ) (cs : List Change) → AllByRecursion (λ t. text_cmp s t ≡ Less) (map (λ c. c.scope) cs) → AllByRecursion (λ t. text_cmp s t ≡ Less) (map (λ c. c.scope) (with_groups cs))
 kept_above s [] a = tt
-kept_above s (c ∷ cs) a = elim (not (is_empty c.groups)) as (λ b. AllByRecursion (λ t. text_cmp s t ≡ Less) (map (λ d. d.scope) (cond b (c ∷ with_groups cs) (with_groups cs)))) [ true ↦ (a.0, kept_above s cs a.1) | false ↦ kept_above s cs a.1 ]
+kept_above s (c ∷ cs) a = grind (arith, a.0, kept_above s cs a.1)
 
 kept_rises : (cs : List Change) → Rises text_cmp (map (λ c. c.scope) cs) → Rises text_cmp (map (λ c. c.scope) (with_groups cs))
 kept_rises [] r = tt
-kept_rises (c ∷ cs) r = elim (not (is_empty c.groups)) as (λ b. Rises text_cmp (map (λ d. d.scope) (cond b (c ∷ with_groups cs) (with_groups cs)))) [ true ↦ (kept_above c.scope cs r.0, kept_rises cs r.1) | false ↦ kept_rises cs r.1 ]
+kept_rises (c ∷ cs) r = grind (arith, kept_above c.scope cs r.0, kept_rises cs r.1)
 
 kept_some : (cs : List Change) → AllByRecursion (λ c. is_empty c.groups ≡ false) (with_groups cs)
 kept_some [] = tt
-kept_some (c ∷ cs) = by (kept_some cs) (is_empty c.groups) refl
-  where
-    by : AllByRecursion (λ d. is_empty d.groups ≡ false) (with_groups cs) → (b : Bool) → is_empty c.groups ≡ b → AllByRecursion (λ d. is_empty d.groups ≡ false) (cond (not b) (c ∷ with_groups cs) (with_groups cs))
-    by others true q = others
-    by others false q = (q, others)
+kept_some (c ∷ cs) = grind (arith, kept_some cs)
 
 -- a scope that no change is of
 no_groups : (s : List ℕ) (cs : List Change) → is_among s (map (λ c. c.scope) cs) ≡ false → groups_in s cs ≡ []
 no_groups s [] q = refl
-no_groups s (c ∷ cs) q = by (no_groups s cs) (same c.scope s) q
-  where
-    by : (is_among s (map (λ d. d.scope) cs) ≡ false → groups_in s cs ≡ []) → (b : Bool) → (b || is_among s (map (λ d. d.scope) cs)) ≡ false → cond b c.groups [] ++ groups_in s cs ≡ []
-    by others true q = lie q
-    by others false q = others q
+no_groups s (c ∷ cs) q = grind (arith, no_groups s cs)
 
 none_above : (s : List ℕ) (xs : List (List ℕ)) → AllByRecursion (λ t. text_cmp s t ≡ Less) xs → is_among s xs ≡ false
 none_above s [] a = refl
-none_above s (t ∷ ts) a = ap (λ b. b || is_among s ts) (apart s t a.0) ∙ none_above s ts a.1
-
-plain : {A : Type 0} (xs : List A) → xs ++ [] ≡ xs
-plain [] = refl
-plain (x ∷ xs) = ap (λ ys. x ∷ ys) (plain xs)
+none_above s (t ∷ ts) a = grind (arith, apart s t a.0, none_above s ts a.1)
 
 -- the groups of the first scope
 first_groups : (c : Change) (cs : List Change) → Rises text_cmp (map (λ d. d.scope) (c ∷ cs)) → groups_in c.scope (c ∷ cs) ≡ c.groups
-first_groups c cs r =
-    ap (λ b. cond b c.groups [] ++ groups_in c.scope cs) ((same_decides c.scope c.scope).1 refl)
-    ∙ ap (λ gs. c.groups ++ gs) (no_groups c.scope cs (none_above c.scope (map (λ d. d.scope) cs) r.0)) ∙ plain c.groups
+first_groups c cs r = grind (arith, same_decides c.scope c.scope, no_groups c.scope cs (none_above c.scope (map (λ d. d.scope) cs) r.0), append-nil)
 
 kept_groups : (s : List ℕ) (cs : List Change) → groups_in s (with_groups cs) ≡ groups_in s cs
 kept_groups s [] = refl
-kept_groups s (c ∷ cs) = by c.groups (kept_groups s cs)
-  where
-    by : (gs : List GroupChange) → groups_in s (with_groups cs) ≡ groups_in s cs
-        → groups_in s (cond (not (is_empty gs)) (record { scope = c.scope; groups = gs } ∷ with_groups cs) (with_groups cs)) ≡ cond (same c.scope s) gs [] ++ groups_in s cs
-    by [] others = others ∙ nothing (same c.scope s)
-      where
-        nothing : (b : Bool) → groups_in s cs ≡ cond b [] [] ++ groups_in s cs
-        nothing true = refl
-        nothing false = refl
-    by (g ∷ gs) others = ap (λ hs. cond (same c.scope s) (g ∷ gs) [] ++ hs) others
+kept_groups s (c ∷ cs) = grind (arith, kept_groups s cs)
 
 module _ (h k : History) where
   abbrev Differ : List ℕ → List GroupChange → Type 0
   Differ s gs = IsDifference (listed h s) (listed k s) gs
-
-  no_difference : (s : List ℕ) → ((g : List ℕ) (p : Pid) → listed h s g p ≡ listed k s g p) → Differ s []
-  no_difference s m = record {
-    groups = tt;
-    proper = tt;
-    left = λ g p. (let q : listed h s g p ≡ listed k s g p = m g p in omega (arith, q));
-    joined = λ g p. (let q : listed h s g p ≡ listed k s g p = m g p in omega (arith, q));
-  }
 
   found : (s : List ℕ) (cs : List Change) → Rises text_cmp (map (λ c. c.scope) cs) → AllByRecursion (λ c. Differ c.scope c.groups) cs → is_among s (map (λ c. c.scope) cs) ≡ true → Differ s (groups_in s cs)
   found s [] r a q = lie (sym q)
@@ -87,7 +56,7 @@ module _ (h k : History) where
       by others true m q =
           let here : c.scope ≡ s = (same_decides c.scope s).0 m in
           let rest : groups_in s cs ≡ [] = no_groups s cs (none_above s (map (λ d. d.scope) cs) (subst (λ t. AllByRecursion (λ u. text_cmp t u ≡ Less) (map (λ d. d.scope) cs)) here r.0)) in
-          subst (λ gs. Differ s (c.groups ++ gs)) (sym rest) (subst (Differ s) (sym (plain c.groups)) (subst (λ t. Differ t c.groups) here a.0))
+          subst (λ gs. Differ s (c.groups ++ gs)) (sym rest) (subst (Differ s) (sym (append-nil c.groups)) (subst (λ t. Differ t c.groups) here a.0))
 
   -- the differences in all scopes that may have one are the change
   pub changes_are : (cs : List Change) → Rises text_cmp (map (λ c. c.scope) cs) → AllByRecursion (λ c. IsDifference (listed h c.scope) (listed k c.scope) c.groups) cs
@@ -100,7 +69,7 @@ module _ (h k : History) where
     where
       by : (s : List ℕ) (b : Bool) → is_among s (map (λ c. c.scope) cs) ≡ b → Differ s (groups_in s cs)
       by s true q = found s cs r a q
-      by s false q = subst (Differ s) (sym (no_groups s cs q)) (no_difference s (others s q))
+      by s false q = subst (Differ s) (sym (no_groups s cs q)) (no_difference h k s (others s q))
 
 -- ---- there is one change
 

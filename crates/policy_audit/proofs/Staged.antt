@@ -1,14 +1,13 @@
 -- What the accepted events alone say of the links is what the recorded answers say.
-use Rattle.policy_audit.proofs.Words.{ap, refl, sym, ◌∙◌, eqb-true, flat_map, list_any, option_map_or, Bool, List, None, Option, Some, []}
-use Rattle.policy_audit.proofs.Words.{cond, false, is_some, not, true, ℕ, ◌&&◌, ◌++◌, ◌==◌, ◌||◌, ◌∷◌, ◌≡◌, same_decides, same, name_frame}
-use Rattle.policy_audit.proofs.Words.{Moment, first_of, present, ends, is_dial_to, is_open, is_opened_by, is_up, links, named_by}
-use Rattle.policy_audit.proofs.Words.{share_peer, IsLegalIn, Opened, Start, Taken, and_frame, awaits, is_last, is_name_up, is_peer}
+use Rattle.policy_audit.proofs.Words.{ap, arith, refl, sym, ◌∙◌, eqb-true, flat_map, list_any, option_map_or, Bool, List, None, Option}
+use Rattle.policy_audit.proofs.Words.{Some, [], cond, false, is_some, not, true, ℕ, ◌&&◌, ◌==◌, ◌||◌, ◌∷◌, ◌≡◌, same_decides, same}
+use Rattle.policy_audit.proofs.Words.{name_frame, Moment, first_of, present, ends, is_dial_to, is_open, is_opened_by, is_up, links}
+use Rattle.policy_audit.proofs.Words.{named_by, share_peer, IsLegalIn, Opened, Taken, and_frame, awaits, is_last, is_name_up, is_peer}
 use Rattle.policy_audit.proofs.Words.{is_whole, opened, peer_of, present_link, start_of, started_where, taken, was_up, Stage, ends_at}
 use Rattle.policy_audit.proofs.Words.{is_up_at, name_up, name_up_at, stages, was_up_after, Entry, Verdict, Accepted, Refused, Event}
 use Rattle.policy_audit.proofs.Words.{Opening}
 use Rattle.policy_audit.proofs.Accepted.{lie}
 use Rattle.policy_audit.proofs.Walked.{but}
-use Rattle.policy_audit.proofs.Finished.{whole_by}
 use Rattle.policy_audit.proofs.UpLinks.{and_left, and_right, and_both, agrees}
 
 -- the stages as the other words have them
@@ -17,15 +16,7 @@ now es l = record { is_open = is_open l es; was_up = was_up (taken l es) }
 
 none_pass : (test : ℕ → Bool) → ((k : ℕ) → test k ≡ true → ⊥) → (ks : List ℕ) → list_any test ks ≡ false
 none_pass test none [] = refl
-none_pass test none (k ∷ ks) = by (none_pass test none ks) (test k) refl
-  where
-    by : list_any test ks ≡ false → (b : Bool) → test k ≡ b → (b || list_any test ks) ≡ false
-    by others true q = absurd (none k q)
-    by others false q = others
-
-or_true : (a b : Bool) → b ≡ true → (a || b) ≡ true
-or_true true b q = refl
-or_true false b q = q
+none_pass test none (k ∷ ks) = grind (arith, none_pass test none ks, none k)
 
 abbrev opens_at : ℕ → Moment → Option Opened
 opens_at l m = started_where (m.number == l) m.before (start_of m.event)
@@ -36,35 +27,18 @@ number_if m = cond (is_some (start_of m.event)) (m.number ∷ []) []
 -- an opened link is one of the links
 passes : (test : ℕ → Bool) (l : ℕ) → test l ≡ true → (ms : List Moment) → is_some (first_of (opens_at l) ms) ≡ true → list_any test (flat_map number_if ms) ≡ true
 passes test l t [] q = lie (sym q)
-passes test l t (m ∷ ms) q = by (start_of m.event) (passes test l t ms) q
-  where
-    found : (s : Start) → (is_some (first_of (opens_at l) ms) ≡ true → list_any test (flat_map number_if ms) ≡ true) → (b : Bool) → (m.number == l) ≡ b
-        → is_some (elim (cond {A = Option Opened} b (Some (record { start = s; before = m.before })) None) as (λ _. Option Opened) [ Some y ↦ Some y | None ↦ first_of (opens_at l) ms ]) ≡ true
-        → (test m.number || list_any test (flat_map number_if ms)) ≡ true
-    found s others true n q = ap (λ x. x || list_any test (flat_map number_if ms)) (ap test (eqb-true m.number l n) ∙ t)
-    found s others false n q = or_true (test m.number) (list_any test (flat_map number_if ms)) (others q)
-
-    by : (x : Option Start) → (is_some (first_of (opens_at l) ms) ≡ true → list_any test (flat_map number_if ms) ≡ true)
-        → is_some (elim (started_where (m.number == l) m.before x) as (λ _. Option Opened) [ Some y ↦ Some y | None ↦ first_of (opens_at l) ms ]) ≡ true
-        → list_any test (cond (is_some x) (m.number ∷ []) [] ++ flat_map number_if ms) ≡ true
-    by None others q = others q
-    by (Some s) others q = found s others (m.number == l) refl q
+passes test l t (m ∷ ms) q = grind (arith, passes test l t ms, eqb-true m.number l)
 
 -- a link that is whole was opened
 pub whole_opened : (l : ℕ) (es : List Entry) → is_whole l es ≡ true → is_some (opened l es) ≡ true
-whole_opened l es q = by (opened l es) q
-  where
-    by : (x : Option Opened) → whole_by x (taken l es) ≡ true → is_some x ≡ true
-    by None q = lie (sym q)
-    by (Some x) q = refl
+whole_opened l es q = grind arith
 
 -- a link of this name is up exactly where there is a present one
 names_now : (o : Opening) (es : List Entry) → IsLegalIn o es → (n : List ℕ) → name_up_at (now es) n es ≡ is_name_up n es
 names_now o es legal n = by (present_link n es) refl
   where
     up_of : (k : ℕ) → is_peer n k es ≡ true → (x : Option (List ℕ)) → peer_of k es ≡ x → peer_of k es ≡ Some n
-    up_of k q None s = lie (sym q ∙ ap (λ y. option_map_or (λ m. same m n) y false) s)
-    up_of k q (Some m) s = s ∙ ap Some ((same_decides m n).0 (sym (ap (λ y. option_map_or (λ m. same m n) y false) s) ∙ q))
+    up_of k q x s = grind (arith, same_decides)
 
     by : (x : Option ℕ) → present_link n es ≡ x → name_up_at (now es) n es ≡ is_some x
     by None s = none_pass (λ k. is_up k es && is_peer n k es)
@@ -93,8 +67,7 @@ module _ (o : Opening) (es : List Entry) (legal : IsLegalIn o es) (e : Entry) (l
       → (b : Bool) (body : List ℕ) → was_up_after at l es ts (and_frame ts (cond b (Some (record { body = body; before = es })) None)) ≡ was_up (and_frame ts (cond b (Some (record { body = body; before = es })) None))
   grown at [] w a false body = refl
   grown at [] w a true body = ap (λ (named : List ℕ → Bool). option_map_or (λ f. named f.name) (name_frame body) false) a
-  grown at (t ∷ ts) w a false body = w
-  grown at (t ∷ ts) w a true body = w
+  grown at (t ∷ ts) w a b body = grind arith
 
   stayed : (at : ℕ → Stage) (ts : List Taken) → (at l).was_up ≡ was_up ts → was_up_after at l es ts ts ≡ was_up ts
   stayed at [] w = refl

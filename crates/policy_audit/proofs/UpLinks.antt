@@ -2,9 +2,8 @@
 use Rattle.policy_audit.proofs.Words.{ap, arith, refl, subst, sym, ◌∙◌, eq-eqb, eqb-true, option_map_or, unwrap_or, Bool, List, None}
 use Rattle.policy_audit.proofs.Words.{Option, Some, [], cond, false, length, not, true, ℕ, ◌&&◌, ◌+◌, ◌==◌, ◌||◌, ◌↔◌, ◌∷◌, ◌≡◌}
 use Rattle.policy_audit.proofs.Words.{same_decides, same_sym, same, past, frame_ends, gives_up, is_open, is_up, IsLegalIn, up_answer}
-use Rattle.policy_audit.proofs.Words.{verdict, ByDial, ByPeer, Opened, Start, Taken, and_frame, awaits, is_last, is_peer, is_visible}
-use Rattle.policy_audit.proofs.Words.{is_whole, opened, peer_of, present_link, taken, Entry, Verdict, Accepted, Refused, Event, Opening}
-use Rattle.policy_audit.proofs.Words.{Reply}
+use Rattle.policy_audit.proofs.Words.{verdict, ByDial, ByPeer, Opened, Start, Taken, awaits, is_last, is_peer, is_visible, is_whole, opened}
+use Rattle.policy_audit.proofs.Words.{peer_of, present_link, taken, Entry, Verdict, Accepted, Refused, Event, Opening, Reply}
 use Rattle.policy_audit.proofs.Accepted.{lie, no_value, accepted, peer_by}
 use Rattle.policy_audit.proofs.Walked.{but, unborn, Far, far, frame_fits}
 use Rattle.policy_audit.proofs.Finished.{whole_by, stays, kept, Completed, completed}
@@ -33,14 +32,8 @@ pub number_of : (x y : ℕ) → Some x ≡ Some y → x ≡ y
 number_of x y q = ap (λ o. unwrap_or o 0) q
 
 -- a link that ends or not, is open or not, is whole or not
-pub not_ended : (e o p : Bool) → ((not e && o) && p) ≡ true → e ≡ false
-not_ended e o p q = grind arith
-
 pub was_before : (e o p : Bool) → ((not e && o) && p) ≡ true → (o && p) ≡ true
 was_before e o p q = grind arith
-
-pub goes_on_up : (e o p : Bool) → e ≡ false → (o && p) ≡ true → ((not e && o) && p) ≡ true
-goes_on_up e o p q u = grind arith
 
 pub unwhole_end : (g o p : Bool) → (g && p) ≡ false → ((not g && o) && p) ≡ (o && p)
 unwhole_end g o p q = grind arith
@@ -99,12 +92,6 @@ module _ (o : Opening) (es : List Entry) (legal : IsLegalIn o es) (n : List ℕ)
 
     abbrev pub moment : Taken
     moment = record { body = body; before = es }
-
-    abbrev pub frames_if : ℕ → Bool → List Taken
-    frames_if l b = and_frame (taken l es) (cond b (Some moment) None)
-
-    abbrev pub state_if : ℕ → Bool → Bool
-    state_if l b = (not (not b && frame_ends k body l es) && is_open l es) && whole_by (opened l es) (frames_if l b)
 
     -- a dial that is given up was not whole
     pub given_up : (l : ℕ) → (gives_up k body l es && is_whole l es) ≡ false

@@ -24,8 +24,6 @@ module _ (o : Opening) (l : ℕ) (es : List Entry) where
   whole_let : (c : ℕ) (bo : List Entry) (a : Taken) (ts : List Taken) (up : Bool) → opened l es ≡ Some (record { start = ByPeer c; before = bo }) → taken l es ≡ a ∷ ts → (n : IsNamed o a) → was_up (a ∷ []) ≡ up
       → Follow o c a up ts → whole_after c up a ts ≡ true → IsLetIn (past o es) l c
   whole_let c bo a [] false op fr n u p q = lie (sym q)
-  whole_let c bo a [] true op fr n u p q = lie (sym q)
-  whole_let c bo a (b ∷ []) true op fr n u p q = lie (sym q)
   whole_let c bo a (r ∷ ts) false op fr n u p q = record {
     name = a;
     between = [];
@@ -58,11 +56,9 @@ module _ (o : Opening) (l : ℕ) (es : List Entry) where
     is_digest = replied_with c a r n.0 p.1.0.digest n.1 p.1.2;
     is_allowed = n.2;
   }
+  whole_let c bo a ts up op fr n u p q = lie (sym q)
 
   whole_reach : (n : List ℕ) (c : ℕ) (bo : List Entry) (ts : List Taken) → opened l es ≡ Some (record { start = ByDial n c; before = bo }) → taken l es ≡ ts → Walk o bo (ByDial n c) ts → nat_le 3 (length ts) ≡ true → IsReached (past o es) l n c
-  whole_reach n c bo [] op fr p q = lie (sym q)
-  whole_reach n c bo (a ∷ []) op fr p q = lie (sym q)
-  whole_reach n c bo (a ∷ b ∷ []) op fr p q = lie (sym q)
   whole_reach n c bo (a ∷ b ∷ r ∷ ts) op fr p q = record {
     status = a;
     asked = b;
@@ -82,6 +78,7 @@ module _ (o : Opening) (l : ℕ) (es : List Entry) where
     is_digest = (bytes_eq-Decides p.1.2.0.digest (digest_of (cookie (past o r.before) n) c)).0 p.1.2.2;
     is_allowed = p.0;
   }
+  whole_reach n c bo ts op fr p q = lie (sym q)
 
   whole_from : (s : Start) (bo : List Entry) (ts : List Taken) → opened l es ≡ Some (record { start = s; before = bo }) → taken l es ≡ ts → Walk o bo s ts → whole_by (Some (record { start = s; before = bo })) ts ≡ true → IsAdmitted (past o es) l
   whole_from (ByPeer c) bo [] op fr p q = lie (sym q)
@@ -138,16 +135,13 @@ name-up-is-admitted h legal n = (λ up. by (present_link n h.entries) refl (sym 
 -- ---- what the peer of a link that is up gave on it
 
 gave_in : (o : Opening) (bo : List Entry) (s : Start) (ts : List Taken) → Walk o bo s ts → whole_by (Some (record { start = s; before = bo })) ts ≡ true → (f : Name) × (given_in s ts ≡ Some f) × (peer_in s ts ≡ Some f.name)
-gave_in o bo (ByPeer c) [] p q = lie (sym q)
 gave_in o bo (ByPeer c) (a ∷ ts) p q = (p.0.0, p.0.1, ap (λ x. option_and_then {T = Name} {U = List ℕ} (λ f. Some f.name) x) p.0.1)
-gave_in o bo (ByDial n c) [] p q = lie (sym q)
-gave_in o bo (ByDial n c) (a ∷ []) p q = lie (sym q)
-gave_in o bo (ByDial n c) (a ∷ b ∷ []) p q = lie (sym q)
 gave_in o bo (ByDial n c) (a ∷ b ∷ r ∷ ts) p q = (
   record { flags = p.1.1.0.flags; creation = p.1.1.0.creation; name = p.1.1.0.name },
   ap (λ x. option_and_then {T = Challenge} {U = Name} (λ f. Some (record { flags = f.flags; creation = f.creation; name = f.name })) x) p.1.1.1,
   ap Some ((same_decides n p.1.1.0.name).0 p.1.1.2),
 )
+gave_in o bo s ts p q = lie (sym q)
 
 gave_by : (o : Opening) (oe : Option Opened) (ts : List Taken) → Far o oe ts → whole_by oe ts ≡ true → (f : Name) × (given_by oe ts ≡ Some f) × (peer_by oe ts ≡ Some f.name)
 gave_by o None ts p q = lie (sym q)

@@ -4,8 +4,8 @@ use Rattle.policy_audit.proofs.Words.{None, Option, Some, [], cond, false, lengt
 use Rattle.policy_audit.proofs.Words.{same_decides, same_sym, has_bit, mentions, same, same_pid, stands_in, Pid, Name, Message, checks}
 use Rattle.policy_audit.proofs.Words.{is_about_rows, is_replaced, may_change, Talk, message_taken, stated_in, talk, talk_of, History, past}
 use Rattle.policy_audit.proofs.Words.{is_open, is_up, listed, listed_by, is_local, is_running, own, IsLegalIn, IsNext, up_answer, verdict}
-use Rattle.policy_audit.proofs.Words.{with_entry, Taken, awaits, given, is_last, is_peer, is_visible, is_whole, opened, peer_of}
-use Rattle.policy_audit.proofs.Words.{present_link, taken, Entry, Verdict, Accepted, Refused, Event, Opening, Reply}
+use Rattle.policy_audit.proofs.Words.{with_entry, Taken, awaits, is_last, is_peer, is_visible, is_whole, opened, peer_of, present_link}
+use Rattle.policy_audit.proofs.Words.{taken, Entry, Verdict, Accepted, Refused, Event, Opening, Reply}
 use Rattle.policy_audit.proofs.Accepted.{accepted, all_hold}
 use Rattle.policy_audit.proofs.Walked.{but, frame_fits}
 use Rattle.policy_audit.proofs.Finished.{stays, kept, given_kept, Completed}
@@ -29,11 +29,6 @@ abbrev pub lists : Bool → Pid → Option Name → Option (List ℕ) → Bool �
 lists hidden p gave peer up sync count = cond ((not hidden && option_map_or (λ f. has_bit 0 f.flags) gave false) && (option_map_or (λ m. same m p.node) peer false && option_map_or (λ f. f.creation == p.creation) gave false)) (cond (up && sync) count 0) 0
 
 module _ (o : Opening) (es : List Entry) (x : Entry) (s g : List ℕ) (p : Pid) where
-  -- a link of which the same is said lists the same
-  pub link_lists : (l : ℕ) → given l (x ∷ es) ≡ given l es → peer_of l (x ∷ es) ≡ peer_of l es → is_up l (x ∷ es) ≡ is_up l es → has_sync s (talk l (x ∷ es)) ≡ has_sync s (talk l es)
-      → stated_in s g p (talk l (x ∷ es)) ≡ stated_in s g p (talk l es) → listed_by (past o (x ∷ es)) s g p l ≡ listed_by (past o es) s g p l
-  link_lists l a b c d e = λ i. lists o.hidden p (a i) (b i) (c i) (d i) (e i)
-
   abbrev remote : List Entry → Option ℕ → ℕ
   remote now link = option_map_or (listed_by (past o now) s g p) link 0
 
