@@ -1,15 +1,28 @@
--- What a decoder may answer, by what the body spells.
-use Rattle.std.proofs.Common.{◌≡◌, ℕ, ◌<◌, List, [], ◌∷◌, ◌++◌, length, get_or, drop, Option, Some, None, Result, Ok, Err, refl, sym, ap, ◌∙◌, append-nil, arith}
+-- What a decoder may answer, by what the body spells and what readers of fields found.
+use Rattle.link_frames.proofs.Words.{◌≡◌, Option, Some, None, Ok, Err, IfSome, IsSomeAnd, ok_or, ℕ, ◌<◌, List, [], ◌∷◌, ◌++◌, length, get_or, drop}
+use Rattle.link_frames.proofs.Words.{Result, refl, sym, ap, ◌∙◌, append-nil, arith, Row, Message, text_bytes, rows_bytes, message_bytes, AreRows}
+use Rattle.link_frames.proofs.Words.{SpellsMessage, behind_text, message}
 use Rattle.std.specs.Result.{IfOk, MatchResult}
 use Rattle.dist_types.specs.Text.{IsText}
-use Rattle.dist_types.specs.declared.row.Row.{Row}
 use Rattle.link_frames.specs.declared.fault.MessageFault.{MessageFault}
 use Rattle.link_frames.specs.declared.fault.MessageFault.TheVariants as faults
-use Rattle.link_frames.specs.declared.message.Message.{Message}
 use Rattle.link_frames.specs.declared.message.Message.TheVariants as messages
-use Rattle.link_frames.specs.Spelling.{text_bytes, rows_bytes, message_bytes, AreRows, SpellsMessage}
-use Rattle.link_frames.specs.Reading.{behind_text, message}
 use Rattle.link_frames.proofs.ReadingLemmas.{behind_text-text_bytes, message-spelled, SpellsMessage-read}
+
+-- a field that is found is not refused
+pub found_not_refused : {T E : Type 0} (o : Option T) (P : T → Type 0) (e f : E) → IsSomeAnd o P → ok_or o e ≡ Err f → ⊥
+found_not_refused (Some x) P e f found refused = cc refused
+found_not_refused None P e f found refused = found
+
+-- and what holds of it holds of what is read
+pub found_so : {T E : Type 0} (o : Option T) (P : T → Type 0) (e : E) (x : T) → IsSomeAnd o P → ok_or o e ≡ Ok x → P x
+found_so (Some y) P e x found read = let same : y ≡ x = cc read in rw (← same) found
+found_so None P e x found read = absurd found
+
+-- so does what holds of every field that is found
+pub read_so : {T E : Type 0} (o : Option T) (P : T → Type 0) (e : E) (x : T) → IfSome o P → ok_or o e ≡ Ok x → P x
+read_so (Some y) P e x found read = let same : y ≡ x = cc read in rw (← same) found
+read_so None P e x found read = absurd (cc read)
 
 -- each message begins with its kind and its scope
 pub spelled_scope : (body : List ℕ) (m : Message) → SpellsMessage body m → (scope : List ℕ) × IsText scope × ((later : List ℕ) × (drop 1 body ≡ text_bytes scope ++ later))

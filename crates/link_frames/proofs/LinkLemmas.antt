@@ -1,18 +1,12 @@
 -- Ticks and bodies of a stream, and its rest, however it is cut.
-use Rattle.std.proofs.Common.{◌≡◌, ◌≢◌, ℕ, zero, suc, ◌+◌, ◌-◌, ◌<◌, ◌≤◌, ◌^◌, List, [], ◌∷◌, ◌++◌, length, take, drop, filter, replicate, All, Option, Some, None, refl, sym, ap, ◌∙◌, subst, arith, inl, inr, append_assoc, append-nil, length-append}
-use Rattle.std.specs.Int.{w32, to_be_bytes, from_be_bytes}
-use Rattle.std.specs.List.{flat_map}
-use Rattle.std.specs.Option.{option_to_list}
+use Rattle.link_frames.proofs.Words.{◌≡◌, ◌≢◌, ℕ, zero, suc, ◌+◌, ◌-◌, ◌<◌, ◌≤◌, ◌^◌, List, [], ◌∷◌, ◌++◌, length, take, drop, filter, replicate, All}
+use Rattle.link_frames.proofs.Words.{Option, Some, None, refl, sym, ap, ◌∙◌, subst, arith, inl, inr, append_assoc, append-nil, length-append, w32}
+use Rattle.link_frames.proofs.Words.{to_be_bytes, from_be_bytes, flat_map, option_to_list, cases_lt, flat_map-append, from_be_bytes-to_be_bytes_4}
+use Rattle.link_frames.proofs.Words.{take_at, drop_at, take-append-drop, length-take, length-drop, filter-append, All-append, All-nil, All-cons}
+use Rattle.link_frames.proofs.Words.{All-replicate, All-head, All-tail, counted, FitsLength, IsPartial, Splits, Call, stream_of, bodies_of, max_body}
+use Rattle.link_frames.proofs.Words.{ticks, BeginsTooLong, IsRest, EndsBody, IsFed, EndsNone, ComesTooLong, is_body, SplitsLink, AreFed}
 use Rattle.std.proofs.Math.Seq.{take-append-add, take-length}
-use Rattle.std.proofs.lemmas.Bool.{cases_lt}
-use Rattle.std.proofs.lemmas.Grind.{flat_map-append}
-use Rattle.std.proofs.lemmas.Nat.{from_be_bytes-to_be_bytes_4}
-use Rattle.std.proofs.lemmas.List.{take_at, drop_at, take-append-drop, length-take, length-drop}
-use Rattle.std.proofs.lemmas.List.Elements.{filter-append, All-append, All-nil, All-cons, All-replicate, All-head, All-tail}
-use Rattle.handshake_frames.specs.Spelling.{counted}
-use Rattle.handshake_frames.specs.Stream.{FitsLength, IsPartial, Splits, Call, stream_of, bodies_of}
 use Rattle.handshake_frames.proofs.StreamLemmas.{Reads, length-counted, ends_behind, IsPartial-empty, one_reading}
-use Rattle.link_frames.specs.Stream.{max_body, ticks, BeginsTooLong, IsRest, EndsBody, IsFed, EndsNone, ComesTooLong, is_body, SplitsLink, AreFed}
 
 pub reads_32 : Reads w32
 reads_32 = record { wide = omega arith; back = from_be_bytes-to_be_bytes_4 }
@@ -189,18 +183,6 @@ behind_tick rest piece left n short begins split =
     let long : length (rest ++ take k piece) ≡ 4 = omega (arith, short, length-append rest (take k piece), length-take k piece, ap length begins, length-append rest piece) in
     let later : drop 4 (rest ++ piece) ≡ ticks n ++ left = ap (drop 4) whole ∙ drop_at (rest ++ take k piece) (drop k piece) 4 long ∙ split in
     begins ∙ ap (λ (xs : List ℕ). 0 ∷ 0 ∷ 0 ∷ 0 ∷ xs) later
-
--- nor is a length whole
-pub ends_in_length : (rest piece : List ℕ) → length rest + length piece < 4 → EndsNone rest piece (length piece) (rest ++ piece)
-ends_in_length rest piece short = record {
-  whole = refl;
-  skipped = 0;
-  kept = refl;
-  left = record {
-    partial = λ body later is same. omega (arith, short, length-append rest piece, ap length same);
-    short = λ long. omega (arith, short, length-append rest piece, ap length long.begins);
-  };
-}
 
 -- ---- a stream
 

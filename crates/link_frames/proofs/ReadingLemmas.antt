@@ -1,23 +1,17 @@
--- The reader gives a message exactly where the body spells it.
-use Rattle.std.proofs.Common.{◌≡◌, ◌↔◌, ℕ, zero, suc, ◌<◌, ◌≤◌, ◌^◌, ◌&&◌, Bool, true, false, cond, nat_lt, nat_le, IsTrue, List, [], ◌∷◌, ◌++◌, length, take, drop, Option, Some, None, All, refl, sym, ap, ◌∙◌, rules, arith, append_assoc}
-use Rattle.std.specs.Int.{w16, w32, w64, to_be_bytes, from_be_bytes}
-use Rattle.std.specs.List.{flat_map, list_all}
+-- The reader gives a message exactly where the body spells it, and how long a spelling is.
+use Rattle.link_frames.proofs.Words.{◌≡◌, ◌↔◌, ℕ, zero, suc, ◌<◌, ◌≤◌, ◌^◌, ◌&&◌, Bool, true, nat_lt, nat_le, IsTrue, List, [], ◌∷◌, ◌++◌, length}
+use Rattle.link_frames.proofs.Words.{take, drop, Some, All, refl, sym, ap, ◌∙◌, rules, arith, append_assoc, w16, w32, w64, to_be_bytes, from_be_bytes}
+use Rattle.link_frames.proofs.Words.{flat_map, list_all, and_parts, and_from, Decides-and, Decides-by_and, from_be_bytes-to_be_bytes_2}
+use Rattle.link_frames.proofs.Words.{from_be_bytes-to_be_bytes_4, from_be_bytes-to_be_bytes_8, take_at, take_all, drop_at, append_cancel_left}
+use Rattle.link_frames.proofs.Words.{All-head, All-tail, Row, counted, Message, text_bytes, row_bytes, rows_bytes, message_bytes, IsRow, AreRows}
+use Rattle.link_frames.proofs.Words.{IsMessage, SpellsMessage, text_in, behind_text, behind_name, row_in, rows_in, counted_rows_in, is_row, are_rows}
+use Rattle.link_frames.proofs.Words.{is_message, messages_in, message, ◌*◌, length-append, max_body}
 use Rattle.std.specs.Str.{bytes_eq}
-use Rattle.std.proofs.lemmas.Bool.{and_parts, and_from}
-use Rattle.std.proofs.lemmas.Bool.Decides.{Decides-and, Decides-by_and}
 use Rattle.std.proofs.lemmas.Slice.Eq.{bytes_eq-Decides}
-use Rattle.std.proofs.lemmas.Nat.{from_be_bytes-to_be_bytes_2, from_be_bytes-to_be_bytes_4, from_be_bytes-to_be_bytes_8}
-use Rattle.std.proofs.lemmas.List.{take_at, take_all, drop_at, append_cancel_left}
-use Rattle.std.proofs.lemmas.List.Elements.{All-head, All-tail}
-use Rattle.dist_types.specs.declared.row.Row.{Row}
 use Rattle.dist_types.proofs.LimitLemmas.{texts_compute, names_compute}
-use Rattle.handshake_frames.specs.Spelling.{counted}
 use Rattle.handshake_frames.specs.Reading.{counted_in}
 use Rattle.handshake_frames.proofs.ReadingLemmas.{found_passes, counted_in-counted}
-use Rattle.link_frames.specs.declared.message.Message.{Message}
 use Rattle.link_frames.specs.declared.message.Message.TheVariants as messages
-use Rattle.link_frames.specs.Spelling.{text_bytes, row_bytes, rows_bytes, message_bytes, IsRow, AreRows, IsMessage, SpellsMessage}
-use Rattle.link_frames.specs.Reading.{text_in, behind_text, behind_name, row_in, rows_in, counted_rows_in, is_row, are_rows, is_message, messages_in, message}
 
 -- ---- the limits as tests
 
@@ -130,9 +124,6 @@ spells body m = bytes_eq (message_bytes m) body && is_message m
 spells_true : (m : Message) → IsMessage m → spells (message_bytes m) m ≡ true
 spells_true m is = and_from _ _ ((bytes_eq-Decides (message_bytes m) (message_bytes m)).1 refl) ((message_computes m).1 is)
 
-found_at : (test : Message → Bool) (y x : Message) (later : Option Message) → y ≡ x → test x ≡ true → cond (test y) (Some y) later ≡ Some x
-found_at test y x later same passes = ap (λ z. cond (test z) (Some z) later) same ∙ ap (λ b. cond b (Some x) later) passes
-
 text_alone : (text : List ℕ) → text_in (text_bytes text) ≡ text
 text_alone text = take_all (length text) text (omega arith)
 
@@ -141,19 +132,11 @@ listing_rows scope rows are = ap counted_rows_in (behind_text-text_bytes scope (
 
 spelled_so : (m : Message) → IsMessage m → message (message_bytes m) ≡ Some m
 unfolding message
-spelled_so (messages.Discover scope) is =
-    found_at (spells (message_bytes (messages.Discover scope))) (messages.Discover (text_in (text_bytes scope))) _ None (ap messages.Discover (text_alone scope)) (spells_true (messages.Discover scope) is)
-spelled_so (messages.Sync scope rows) is =
-    let parts = text_bytes scope ++ rows_bytes rows in
-    found_at (spells (message_bytes (messages.Sync scope rows))) (messages.Sync (text_in parts) (counted_rows_in (behind_text parts))) _ None (λ i. messages.Sync (text_in-text_bytes scope (rows_bytes rows) i) (listing_rows scope rows is.1 i)) (spells_true (messages.Sync scope rows) is)
-spelled_so (messages.Join scope rows) is =
-    let parts = text_bytes scope ++ rows_bytes rows in
-    found_at (spells (message_bytes (messages.Join scope rows))) (messages.Join (text_in parts) (counted_rows_in (behind_text parts))) _ None (λ i. messages.Join (text_in-text_bytes scope (rows_bytes rows) i) (listing_rows scope rows is.1 i)) (spells_true (messages.Join scope rows) is)
-spelled_so (messages.Leave scope rows) is =
-    let parts = text_bytes scope ++ rows_bytes rows in
-    found_at (spells (message_bytes (messages.Leave scope rows))) (messages.Leave (text_in parts) (counted_rows_in (behind_text parts))) _ None (λ i. messages.Leave (text_in-text_bytes scope (rows_bytes rows) i) (listing_rows scope rows is.1 i)) (spells_true (messages.Leave scope rows) is)
-spelled_so (messages.Down scope) is =
-    found_at (spells (message_bytes (messages.Down scope))) (messages.Down (text_in (text_bytes scope))) _ None (ap messages.Down (text_alone scope)) (spells_true (messages.Down scope) is)
+spelled_so (messages.Discover scope) is = rw (text_alone scope, spells_true (messages.Discover scope) is)
+spelled_so (messages.Sync scope rows) is = rw (text_in-text_bytes scope (rows_bytes rows), listing_rows scope rows is.1, spells_true (messages.Sync scope rows) is)
+spelled_so (messages.Join scope rows) is = rw (text_in-text_bytes scope (rows_bytes rows), listing_rows scope rows is.1, spells_true (messages.Join scope rows) is)
+spelled_so (messages.Leave scope rows) is = rw (text_in-text_bytes scope (rows_bytes rows), listing_rows scope rows is.1, spells_true (messages.Leave scope rows) is)
+spelled_so (messages.Down scope) is = rw (text_alone scope, spells_true (messages.Down scope) is)
 
 pub message-spelled : (body : List ℕ) (m : Message) → SpellsMessage body m → message body ≡ Some m
 message-spelled body m spelled = ap message spelled.bytes ∙ spelled_so m spelled.within
@@ -167,3 +150,21 @@ SpellsMessage-read body m read =
 -- a body spells at most one message
 pub one_message : (body : List ℕ) (m n : Message) → SpellsMessage body m → SpellsMessage body n → m ≡ n
 one_message body m n a b = cc (message-spelled body m a, message-spelled body n b)
+
+-- a row has 15 bytes of numbers and lengths, and two texts
+row_within : (r : Row) → IsRow r → length (row_bytes r) ≤ 525
+row_within r is = grind (arith, length-append, is.group.not_long, is.node.text.not_long)
+
+sum_within : (rows : List Row) → All IsRow rows → length (flat_map row_bytes rows) ≤ length rows * 525
+sum_within [] each = omega arith
+sum_within (r ∷ rows) each = grind (arith, length-append, row_within r (All-head IsRow r rows each), sum_within rows (All-tail IsRow r rows each))
+
+rows_within : (rows : List Row) → AreRows rows → length (rows_bytes rows) ≤ 2150404
+rows_within rows are = grind (arith, sum_within rows are.each, are.count)
+
+pub message_within : (m : Message) → IsMessage m → length (message_bytes m) ≤ max_body
+message_within (messages.Discover s) is = grind (arith, is.not_long)
+message_within (messages.Sync s rows) is = grind (arith, length-append, is.0.not_long, rows_within rows is.1)
+message_within (messages.Join s rows) is = grind (arith, length-append, is.0.not_long, rows_within rows is.1)
+message_within (messages.Leave s rows) is = grind (arith, length-append, is.0.not_long, rows_within rows is.1)
+message_within (messages.Down s) is = grind (arith, is.not_long)

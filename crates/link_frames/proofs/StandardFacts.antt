@@ -1,7 +1,6 @@
 -- Worked bodies are read as what they say, and bodies that spell no message as none.
-use Rattle.std.proofs.Common.{◌≡◌, List, ℕ, [], ◌∷◌, ◌++◌, Some, None, refl, codes}
+use Rattle.link_frames.proofs.Words.{◌≡◌, List, ℕ, [], ◌∷◌, ◌++◌, Some, None, refl, codes, message}
 use Rattle.link_frames.specs.declared.message.Message.TheVariants as messages
-use Rattle.link_frames.specs.Reading.{message}
 
 -- the scope `pg`, behind its length
 scope : List ℕ

@@ -40,6 +40,7 @@ pub fn decode(alloc: Global, body: &[u8]) -> Result<Message, MessageFault>
 }
 
 /// The message of that kind and scope, whose further bytes are these.
+#[tactic(auto, using(crate::proofs::DecodingLemmas::sync_rows, crate::proofs::DecodingLemmas::join_rows, crate::proofs::DecodingLemmas::leave_rows))]
 fn message_of(alloc: Global, kind: u8, scope: Scope, rest: &[u8]) -> Result<Message, MessageFault>
     requires { IsText scope }
     ensures found { IfOk result (SpellsMessage (kind ∷ text_bytes scope ++ rest.now)) }

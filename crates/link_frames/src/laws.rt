@@ -35,6 +35,7 @@ pub fn readers()
 {}
 
 /// The bodies of a stream, and the rest of it, are the same however it is cut into pieces.
+#[tactic(auto, using(crate::proofs::LinkLemmas::goes_on, crate::proofs::LinkLemmas::read_from_empty))]
 pub fn any_cut()
     // One call of a reader carries the reading of a stream on.
     ensures step { (stream : List ℕ) (bodies : List (List ℕ)) (rest piece : List ℕ) (used : ℕ) (body : Option (List ℕ)) (new : List ℕ) →

@@ -105,6 +105,7 @@ impl LinkReader {
     }
 
     /// Goes on with a body of that length, of which some bytes are held. The length is judged before anything grows.
+    #[tactic(auto, using(crate::proofs::LinkLemmas::begins_too_long))]
     fn feed_on(&mut self, piece: &[u8], len: u32) -> Result<Fed, FeedFault>
         requires going { self.old.too_long ≡ false }
         requires some { 0 < len }

@@ -1,4 +1,4 @@
-use Rattle.std.proofs.Common.{◌≡◌, Err, sym, ap, ◌∙◌, drop, rules}
+use Rattle.link_frames.proofs.Words.{◌≡◌, Err, sym, ap, ◌∙◌, drop, rules}
 use Rattle.link_frames.specs.declared.fault.MessageFault.TheVariants as faults
 use Rattle.link_frames.proofs.DecodingLemmas.{spelled_scope, answers_as_read}
 use Rattle.link_frames.proofs.decoding.decode.Goals as goal

@@ -1,7 +1,5 @@
-use Rattle.std.proofs.Common.{length, sym, ◌∙◌, arith}
-use Rattle.std.specs.List.{flat_map}
-use Rattle.link_frames.specs.Spelling.{row_bytes}
-use Rattle.link_frames.proofs.FoundFields.{found_not_refused}
+use Rattle.link_frames.proofs.Words.{length, sym, ◌∙◌, arith, flat_map, row_bytes}
+use Rattle.link_frames.proofs.DecodingLemmas.{found_not_refused}
 use Rattle.link_frames.proofs.decoding.rows_at.Goals as goal
 
 pub returns-in_err-count-clause-only : goal.returns-in_err-count-clause-only

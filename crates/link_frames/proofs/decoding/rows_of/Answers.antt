@@ -1,11 +1,7 @@
-use Rattle.std.proofs.Common.{◌≡◌, ℕ, ◌∷◌, ◌++◌, ◌+◌, ◌==◌, true, false, List, [], length, drop, sym, ap, ◌∙◌, arith, rules, append_assoc, append-nil}
-use Rattle.std.specs.List.{flat_map}
-use Rattle.std.proofs.lemmas.Bool.Decides.{Decides-eqb}
-use Rattle.std.proofs.lemmas.List.{drop_all, nil_from_length, length_push, flat_map_more}
-use Rattle.std.proofs.lemmas.List.Elements.{All-same, All-push}
-use Rattle.dist_types.specs.declared.row.Row.{Row}
+use Rattle.link_frames.proofs.Words.{◌≡◌, ℕ, ◌∷◌, ◌++◌, ◌+◌, ◌==◌, true, false, List, [], length, drop, sym, ap, ◌∙◌, arith, rules, append_assoc}
+use Rattle.link_frames.proofs.Words.{append-nil, flat_map, Decides-eqb, drop_all, nil_from_length, length_push, flat_map_more, All-same, All-push}
+use Rattle.link_frames.proofs.Words.{Row, row_bytes, IsRow}
 use Rattle.link_frames.specs.declared.fault.MessageFault.TheVariants as faults
-use Rattle.link_frames.specs.Spelling.{row_bytes, IsRow}
 use Rattle.link_frames.proofs.ReadingLemmas.{rows_left, next_row, same_rows}
 use Rattle.link_frames.proofs.decoding.rows_of.Goals as goal
 

@@ -1,6 +1,4 @@
-use Rattle.std.proofs.Common.{◌≡◌, ◌++◌, length, All}
-use Rattle.std.specs.List.{flat_map}
-use Rattle.link_frames.specs.Spelling.{row_bytes, IsRow}
+use Rattle.link_frames.proofs.Words.{◌≡◌, ◌++◌, length, All, flat_map, row_bytes, IsRow}
 use Rattle.link_frames.proofs.decoding.rows_of.Given as goal
 
 abbrev pub invariant-loop : goal.invariant-loop

@@ -1,11 +1,5 @@
-use Rattle.std.proofs.Common.{◌≡◌, ℕ, ◌+◌, List, [], ◌∷◌, ◌++◌, take, length, ap, sym, ◌∙◌, append_assoc, append-nil, rules}
-use Rattle.std.specs.Int.{w32, to_be_bytes}
-use Rattle.std.specs.List.{flat_map}
-use Rattle.std.proofs.lemmas.Grind.{flat_map-append}
-use Rattle.std.proofs.lemmas.List.{take_more}
-use Rattle.std.proofs.lemmas.List.Elements.{All-same, All-push}
-use Rattle.dist_types.specs.declared.row.Row.{Row}
-use Rattle.link_frames.specs.Spelling.{row_bytes, IsRow}
+use Rattle.link_frames.proofs.Words.{◌≡◌, ℕ, ◌+◌, List, [], ◌∷◌, ◌++◌, take, length, ap, sym, ◌∙◌, append_assoc, append-nil, rules, w32, to_be_bytes}
+use Rattle.link_frames.proofs.Words.{flat_map, flat_map-append, take_more, All-same, All-push, Row, row_bytes, IsRow}
 use Rattle.link_frames.proofs.encoding.put_rows.Goals as goal
 
 -- one row more behind the rows that were put

@@ -1,7 +1,4 @@
-use Rattle.std.proofs.Common.{◌≡◌, ◌++◌, length, take, All}
-use Rattle.std.specs.Int.{w32, to_be_bytes}
-use Rattle.std.specs.List.{flat_map}
-use Rattle.link_frames.specs.Spelling.{row_bytes, IsRow}
+use Rattle.link_frames.proofs.Words.{◌≡◌, ◌++◌, length, take, All, w32, to_be_bytes, flat_map, row_bytes, IsRow}
 use Rattle.link_frames.proofs.encoding.put_rows.Given as goal
 
 abbrev pub invariant-loop-row : goal.invariant-loop-row

@@ -1,8 +1,5 @@
-use Rattle.std.proofs.Common.{◌++◌, sym, ap, ◌∙◌}
-use Rattle.std.specs.Int.{w16}
-use Rattle.handshake_frames.specs.Spelling.{counted}
-use Rattle.link_frames.specs.Spelling.{text_bytes}
-use Rattle.link_frames.proofs.FoundFields.{found_not_refused, found_so, read_so}
+use Rattle.link_frames.proofs.Words.{◌++◌, sym, ap, ◌∙◌, w16, counted, text_bytes}
+use Rattle.link_frames.proofs.DecodingLemmas.{found_not_refused, found_so, read_so}
 use Rattle.link_frames.proofs.ReadingLemmas.{row_parts}
 use Rattle.link_frames.proofs.fields.row_at.Goals as goal
 

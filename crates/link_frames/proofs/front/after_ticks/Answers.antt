@@ -1,6 +1,4 @@
-use Rattle.std.proofs.Common.{suc, ◌++◌, ap, ◌∙◌, arith}
-use Rattle.std.specs.Int.{w32, to_be_bytes}
-use Rattle.link_frames.specs.Stream.{ticks}
+use Rattle.link_frames.proofs.Words.{suc, ◌++◌, ap, ◌∙◌, arith, w32, to_be_bytes, ticks}
 use Rattle.link_frames.proofs.LinkLemmas.{ticks_more}
 use Rattle.link_frames.proofs.front.after_ticks.Goals as goal
 

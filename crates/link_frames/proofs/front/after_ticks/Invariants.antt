@@ -1,5 +1,4 @@
-use Rattle.std.proofs.Common.{◌≡◌, ℕ, ◌++◌, length}
-use Rattle.link_frames.specs.Stream.{ticks}
+use Rattle.link_frames.proofs.Words.{◌≡◌, ℕ, ◌++◌, length, ticks}
 use Rattle.link_frames.proofs.front.after_ticks.Given as goal
 
 abbrev pub invariant-loop-behind : goal.invariant-loop-behind

@@ -1,14 +1,6 @@
-use Rattle.std.proofs.Common.{sym, subst}
-use Rattle.handshake_frames.specs.Stream.{bodies_of}
-use Rattle.link_frames.specs.Stream.{SplitsLink}
-use Rattle.link_frames.proofs.LinkLemmas.{goes_on, read_from_empty, one_link_reading}
+use Rattle.link_frames.proofs.Words.{sym, subst, bodies_of, SplitsLink}
+use Rattle.link_frames.proofs.LinkLemmas.{read_from_empty, one_link_reading}
 use Rattle.link_frames.proofs.laws.any_cut.Goals as goal
-
-pub returns-clause-step : goal.returns-clause-step
-returns-clause-step c = goes_on
-
-pub returns-clause-run : goal.returns-clause-run
-returns-clause-run c = read_from_empty
 
 pub returns-clause-only : goal.returns-clause-only
 returns-clause-only c = one_link_reading

@@ -1,6 +1,4 @@
-use Rattle.std.proofs.Common.{inl, inr, subst}
-use Rattle.handshake_frames.specs.Stream.{stream_of, bodies_of}
-use Rattle.link_frames.specs.Stream.{SplitsLink}
+use Rattle.link_frames.proofs.Words.{inl, inr, subst, stream_of, bodies_of, SplitsLink}
 use Rattle.link_frames.proofs.LinkLemmas.{fed_not_too_long, read_from_empty, too_long_for_all}
 use Rattle.link_frames.proofs.laws.too_long.Goals as goal
 

@@ -1,6 +1,4 @@
-use Rattle.std.proofs.Common.{◌≡◌, ◌-◌, length, [], arith, rules, refl, Some}
-use Rattle.std.proofs.lemmas.List.{drop_at}
-use Rattle.link_frames.specs.Stream.{EndsBody, ComesTooLong}
+use Rattle.link_frames.proofs.Words.{◌≡◌, ◌-◌, length, [], arith, rules, refl, Some, drop_at, EndsBody, ComesTooLong}
 use Rattle.link_frames.proofs.LinkLemmas.{gives_body, fed_not_too_long, not_too_long}
 use Rattle.link_frames.proofs.reader.LinkReader.cut.Goals.{In-Some}
 use Rattle.link_frames.proofs.reader.LinkReader.cut.Goals as goal

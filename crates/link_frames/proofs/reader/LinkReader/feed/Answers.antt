@@ -1,5 +1,5 @@
-use Rattle.std.proofs.Common.{subst, sym, ◌∙◌, ◌-◌, drop, ◌≡◌, ◌+◌, ◌<◌, ◌++◌, ◌≤◌, length, suc, ap, arith, length-append}
-use Rattle.std.proofs.lemmas.List.{take_all, length-drop}
+use Rattle.link_frames.proofs.Words.{subst, sym, ◌∙◌, ◌-◌, drop, ◌≡◌, ◌+◌, ◌<◌, ◌++◌, ◌≤◌, length, suc, ap, arith, length-append, take_all}
+use Rattle.link_frames.proofs.Words.{length-drop}
 use Rattle.link_frames.proofs.LinkLemmas.{BeginsWith, held_short, behind_tick}
 use Rattle.link_frames.proofs.reader.LinkReader.feed.Goals.{In-Some-eq0}
 use Rattle.link_frames.proofs.reader.LinkReader.feed.Goals as goal

@@ -1,12 +1,7 @@
-use Rattle.std.proofs.Common.{◌≡◌, ◌++◌, ◌+◌, ◌-◌, ◌≤◌, take, drop, length, true, arith, rules, ap, inr, sym, ◌∙◌}
-use Rattle.std.proofs.lemmas.List.{take_at, take_all, length-take, length-drop}
-use Rattle.link_frames.specs.Stream.{ComesTooLong}
-use Rattle.link_frames.proofs.LinkLemmas.{begins_too_long, begins_not_too_long, held_short, ends_whole, ends_later}
+use Rattle.link_frames.proofs.Words.{◌≡◌, ◌++◌, ◌+◌, ◌-◌, ◌≤◌, take, drop, length, arith, rules, ap, sym, ◌∙◌, take_at, take_all, length-take}
+use Rattle.link_frames.proofs.Words.{length-drop, ComesTooLong}
+use Rattle.link_frames.proofs.LinkLemmas.{begins_not_too_long, held_short, ends_whole, ends_later}
 use Rattle.link_frames.proofs.reader.LinkReader.feed_on.Goals as goal
-
-pub returns-then-len-gt-MAX_BODY-clause-refused : goal.returns-then-len-gt-MAX_BODY-clause-refused
-returns-then-len-gt-MAX_BODY-clause-refused c =
-    (inr (begins_too_long _ _ c.args.len (omega (arith, c.if-len-gt-MAX_BODY.true)) c.ranges.len.fits c.requires.begins), ap (λ s. record { rest = s.rest; too_long = true }) c.self.view_is)
 
 pub overflow_sub-whole : goal.overflow_sub-whole
 overflow_sub-whole c =
