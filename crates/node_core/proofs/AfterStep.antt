@@ -1,10 +1,6 @@
 -- What a step leaves of a history.
-use Rattle.node_core.proofs.Words.{Bool, Err, Ok, ap, cond, false, refl, subst, sym, true, ℕ, ◌∙◌, ◌≡◌, Result, History, IsLegal, is_full}
-use Rattle.node_core.proofs.Words.{with_entry, Event, Reply}
-use Rattle.policy_audit.specs.Policy.{after, entry_of}
-use Rattle.policy_audit.proofs.ChangeLemmas.{next_is}
-use Rattle.node_core.specs.declared.fault.CoreFault.{CoreFault}
-use Rattle.node_core.specs.declared.fault.CoreFault.TheVariants as faults
+use Rattle.node_core.proofs.Words.{Bool, Err, Ok, ap, cond, false, refl, subst, sym, true, ℕ, ◌∙◌, ◌≡◌, Result, History, IsLegal, is_full, with_entry}
+use Rattle.node_core.proofs.Words.{Event, Reply, after, entry_of, next_is, CoreFault}
 use Rattle.node_core.specs.Step.{IsStepped}
 
 module _ (h : History) (seat : ℕ) (e : Event) where
@@ -25,11 +21,11 @@ module _ (h : History) (seat : ℕ) (e : Event) where
 pub stepped_legal : (old new : History) (seat : ℕ) (e : Event) (result : Result Reply CoreFault) → IsLegal old → IsStepped old seat e new result → IsLegal new
 unfolding IsStepped
 stepped_legal old new seat e (Ok reply) legal t = subst IsLegal (sym t.1) (after_legal old seat e legal)
-stepped_legal old new seat e (Err (faults.Refused rule)) legal t = subst IsLegal (sym t.1) (after_legal old seat e legal)
-stepped_legal old new seat e (Err faults.OutOfMemory) legal t = subst IsLegal (sym t.1) legal
+stepped_legal old new seat e (Err (CoreFault.Refused rule)) legal t = subst IsLegal (sym t.1) (after_legal old seat e legal)
+stepped_legal old new seat e (Err CoreFault.OutOfMemory) legal t = subst IsLegal (sym t.1) legal
 
 pub stepped_opening : (old new : History) (seat : ℕ) (e : Event) (result : Result Reply CoreFault) → IsStepped old seat e new result → new.opening ≡ old.opening
 unfolding IsStepped
 stepped_opening old new seat e (Ok reply) t = ap (λ h. h.opening) t.1 ∙ after_opening old seat e
-stepped_opening old new seat e (Err (faults.Refused rule)) t = ap (λ h. h.opening) t.1 ∙ after_opening old seat e
-stepped_opening old new seat e (Err faults.OutOfMemory) t = ap (λ h. h.opening) t.1
+stepped_opening old new seat e (Err (CoreFault.Refused rule)) t = ap (λ h. h.opening) t.1 ∙ after_opening old seat e
+stepped_opening old new seat e (Err CoreFault.OutOfMemory) t = ap (λ h. h.opening) t.1

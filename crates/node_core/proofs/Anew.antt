@@ -1,12 +1,8 @@
 -- A node that begins anew.
-use Rattle.node_core.proofs.Words.{Bool, List, None, Option, Some, ap, arith, cond, false, not, refl, sym, true, ℕ, [], ◌+◌, ◌==◌, ◌∙◌, ◌≡◌}
-use Rattle.node_core.proofs.Words.{eq-eqb, eqb-true, same, Pid, no_count, stopped_lists, checks, first_broken, History, creation, listed}
-use Rattle.node_core.proofs.Words.{IsNext, is_full, with_entry, Change, Accepted, Follows, Parts, ArePartings}
-use Rattle.group_monitors.proofs.Followed.{follows_cleared}
-use Rattle.policy_audit.specs.declared.event.Event.TheVariants as event
-use Rattle.policy_audit.specs.declared.reply.Reply.TheVariants as reply
-use Rattle.policy_audit.specs.declared.rule.Rule.TheVariants as rule
-use Rattle.policy_audit.proofs.LivesNow.{own_pid, lives_restarted}
+use Rattle.node_core.proofs.Words.{Bool, List, None, Option, Some, ap, arith, cond, false, not, refl, sym, true, ℕ, [], ◌+◌, ◌==◌, ◌∙◌, ◌≡◌, eq-eqb}
+use Rattle.node_core.proofs.Words.{eqb-true, same, Pid, no_count, stopped_lists, checks, first_broken, History, creation, listed, IsNext, is_full}
+use Rattle.node_core.proofs.Words.{with_entry, Change, Accepted, Follows, Parts, ArePartings, follows_cleared, own_pid, Event, Reply, Rule}
+use Rattle.policy_audit.proofs.LivesNow.{lives_restarted}
 use Rattle.node_core.proofs.Entered.{made, accepted_now, next_now, sound_now}
 use Rattle.node_core.proofs.PartingChange.{partings_change}
 
@@ -16,13 +12,13 @@ nothing false = refl
 
 module _ (h : History) (seat : ℕ) where
   abbrev anew : List Change → History
-  anew cs = with_entry h (made h seat event.Restart (Accepted reply.Done) cs)
+  anew cs = with_entry h (made h seat Event.Restart (Accepted Reply.Done) cs)
 
-  pub creation_spent : creation h ≡ 4294967295 → first_broken (checks h seat event.Restart) ≡ Some rule.CreationSpent
-  creation_spent q = ap (λ b. cond (not (not b)) (Some rule.CreationSpent) None) (eq-eqb (creation h) 4294967295 q)
+  pub creation_spent : creation h ≡ 4294967295 → first_broken (checks h seat Event.Restart) ≡ Some Rule.CreationSpent
+  creation_spent q = ap (λ b. cond (not (not b)) (Some Rule.CreationSpent) None) (eq-eqb (creation h) 4294967295 q)
 
-  pub creation_left : (n : ℕ) → n ≡ creation h → (n ≡ 4294967295 → ⊥) → first_broken (checks h seat event.Restart) ≡ None
-  creation_left n is q = ap (λ b. cond (not (not b)) (Some rule.CreationSpent) None) (by (creation h == 4294967295) refl)
+  pub creation_left : (n : ℕ) → n ≡ creation h → (n ≡ 4294967295 → ⊥) → first_broken (checks h seat Event.Restart) ≡ None
+  creation_left n is q = ap (λ b. cond (not (not b)) (Some Rule.CreationSpent) None) (by (creation h == 4294967295) refl)
     where
       by : (b : Bool) → (creation h == 4294967295) ≡ b → b ≡ false
       by false e = refl
@@ -32,14 +28,14 @@ module _ (h : History) (seat : ℕ) where
   creation_more cs = omega arith
 
   module _ (parts : Parts) (t : Follows h parts) (cs : List Change) (gone : ArePartings (λ t. no_count) parts.scopes cs) where
-    pub anew_next : is_full h ≡ false → first_broken (checks h seat event.Restart) ≡ None → IsNext h (made h seat event.Restart (Accepted reply.Done) cs)
-    anew_next space holds = next_now h seat event.Restart space (Accepted reply.Done) cs (accepted_now h seat event.Restart space reply.Done holds refl)
+    pub anew_next : is_full h ≡ false → first_broken (checks h seat Event.Restart) ≡ None → IsNext h (made h seat Event.Restart (Accepted Reply.Done) cs)
+    anew_next space holds = next_now h seat Event.Restart space (Accepted Reply.Done) cs (accepted_now h seat Event.Restart space Reply.Done holds refl)
         (partings_change h (anew cs) (λ x. no_count) (λ r f g p. sym (nobody r.scope g p)) parts.scopes t.scopes (λ s stopped g p. nobody s g p) cs gone)
       where
         nobody : (s g : List ℕ) (p : Pid) → listed (anew cs) s g p ≡ 0
         nobody s g p = stopped_lists (anew cs) s g p refl
 
-    pub anew_follows : IsNext h (made h seat event.Restart (Accepted reply.Done) cs) → (own cookie : List ℕ) (number : ℕ) → own ≡ h.opening.name → cookie ≡ h.opening.cookie → number ≡ parts.admission.creation + 1
+    pub anew_follows : IsNext h (made h seat Event.Restart (Accepted Reply.Done) cs) → (own cookie : List ℕ) (number : ℕ) → own ≡ h.opening.name → cookie ≡ h.opening.cookie → number ≡ parts.admission.creation + 1
         → Follows (anew cs) (record { limit = parts.limit; admission = record { own = own; cookie = cookie; hidden = h.opening.hidden; creation = number; peers = []; allowed = [] }; processes = record { spawned = 0; live = [] }; scopes = []; links = []; monitors = [] })
     anew_follows next own cookie number named kept more = record {
       sound = sound_now h parts.limit _ t.sound next;
@@ -52,7 +48,7 @@ module _ (h : History) (seat : ℕ) where
         peers = λ n. refl;
         allowed = λ n. refl;
       };
-      processes = record { spawned = refl; live = λ n. sym (lives_restarted h (made h seat event.Restart (Accepted reply.Done) cs) (record { room = next.room; number = next.number; verdict = next.verdict }) refl refl (own_pid (anew cs) n)); count = refl };
+      processes = record { spawned = refl; live = λ n. sym (lives_restarted h (made h seat Event.Restart (Accepted Reply.Done) cs) (record { room = next.room; number = next.number; verdict = next.verdict }) refl refl (own_pid (anew cs) n)); count = refl };
       scopes = record { running = refl; each = tt };
       links = record { numbers = refl; each = tt };
       monitors = follows_cleared h _ refl refl;

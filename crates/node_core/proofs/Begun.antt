@@ -1,9 +1,6 @@
 -- A node that has seen nothing.
-use Rattle.node_core.proofs.Words.{Bool, List, None, Option, ap, arith, cond, false, nat_le, refl, suc, sym, true, zero, ℕ, [], ◌&&◌, ◌+◌}
-use Rattle.node_core.proofs.Words.{◌<◌, ◌==◌, ◌∙◌, ◌≡◌, ◌≤◌, leb-true, same, AdmissionRules, and_false, past, Follows}
-use Rattle.std.proofs.Common.{◌^◌}
-use Rattle.group_monitors.proofs.Followed.{follows_start}
-use Rattle.policy_audit.specs.declared.opening.Opening.{Opening}
+use Rattle.node_core.proofs.Words.{Bool, List, None, Option, ap, arith, cond, false, nat_le, refl, suc, sym, true, zero, ℕ, [], ◌&&◌, ◌+◌, ◌<◌, ◌==◌}
+use Rattle.node_core.proofs.Words.{◌∙◌, ◌≡◌, ◌≤◌, leb-true, same, AdmissionRules, and_false, past, Follows, ◌^◌, follows_start, Opening}
 
 -- the rules of admission at the start
 abbrev pub first_rules : Opening → AdmissionRules

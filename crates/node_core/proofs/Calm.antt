@@ -1,19 +1,11 @@
 -- Entries that leave alone all that a node keeps.
-use Rattle.node_core.proofs.Words.{Bool, List, ap, cond, false, length, not, refl, subst, sym, true, ℕ, [], ◌&&◌, ◌++◌, ◌+◌, ◌==◌, ◌||◌}
-use Rattle.node_core.proofs.Words.{◌∙◌, ◌∷◌, ◌≡◌, filter, unwrap_or, eqb-true, append-nil, is_empty, lie, no_change, and_left, and_right}
-use Rattle.node_core.proofs.Words.{IsChange, History, first_of, is_accepted, is_open, links, refusal_owes, waiting, running_scopes, IsNext}
-use Rattle.node_core.proofs.Words.{with_entry, is_whole, Entry, Accepted, Refused, Event, Reply, Rule, follows_other, AdmissionFollows}
-use Rattle.node_core.proofs.Words.{admission_words, refuses_calmly, Follows, Parts, LinksFollow, facts, link_words, ProcessesFollow}
-use Rattle.node_core.proofs.Words.{process_words, ScopesFollow, scope_words}
-use Rattle.std.proofs.Common.{reverse}
-use Rattle.policy_audit.specs.declared.event.Event.TheVariants as event
+use Rattle.node_core.proofs.Words.{Bool, List, ap, cond, false, length, not, refl, subst, sym, true, ℕ, [], ◌&&◌, ◌++◌, ◌+◌, ◌==◌, ◌||◌, ◌∙◌, ◌∷◌}
+use Rattle.node_core.proofs.Words.{◌≡◌, filter, unwrap_or, eqb-true, append-nil, is_empty, lie, no_change, and_left, and_right, IsChange, History}
+use Rattle.node_core.proofs.Words.{first_of, is_accepted, is_open, links, refusal_owes, waiting, running_scopes, IsNext, with_entry, is_whole, Entry}
+use Rattle.node_core.proofs.Words.{Accepted, Refused, Event, Reply, Rule, follows_other, AdmissionFollows, admission_words, refuses_calmly, Follows}
+use Rattle.node_core.proofs.Words.{Parts, LinksFollow, facts, link_words, ProcessesFollow, process_words, ScopesFollow, scope_words, reverse, ends}
+use Rattle.node_core.proofs.Words.{hears, tells, talk, owed, is_quiet, entry_rows, is_query}
 use Rattle.group_monitors.specs.Follows.{concerns_monitors}
-use Rattle.policy_audit.specs.Links.{ends}
-use Rattle.policy_audit.specs.Hearing.{hears, tells, talk}
-use Rattle.policy_audit.specs.Owed.{owed}
-use Rattle.policy_audit.specs.Effects.{is_quiet}
-use Rattle.policy_audit.proofs.Effects.{entry_rows}
-use Rattle.node_core.specs.Calm.{is_query}
 use Rattle.node_core.proofs.Entered.{made, sound_now}
 
 -- all that the policy's words say of what a node keeps is the same after k as after h
@@ -57,7 +49,7 @@ empty_is [] q = refl
 empty_is (x ∷ xs) q = lie (sym q)
 
 opens_still : (h : History) (l : ℕ) (r : Rule) (ev : Event) → refuses_calmly h ev r ≡ true → (not (ends l h.entries (Refused r) ev) && is_open l h.entries) ≡ is_open l h.entries
-opens_still h l r (event.Frame j body) calm = by (j == l) refl
+opens_still h l r (Event.Frame j body) calm = by (j == l) refl
   where
     by : (b : Bool) → (j == l) ≡ b → (not (j == l && not (is_whole l h.entries)) && is_open l h.entries) ≡ is_open l h.entries
     by false q = ap (λ b. not (b && not (is_whole l h.entries)) && is_open l h.entries) q
@@ -67,7 +59,7 @@ opens_still h l r (event.Frame j body) calm = by (j == l) refl
 opens_still h l r ev calm = refl
 
 waits_still : (h : History) (l : ℕ) (r : Rule) (ev : Event) → refuses_calmly h ev r ≡ true → (waiting h l ++ owed h l (length h.entries + 1) ev (Refused r)) ≡ waiting h l
-waits_still h l r (event.Frame j body) calm = nothing_behind (waiting h l) (cond (j == l) (refusal_owes r) []) (by (j == l))
+waits_still h l r (Event.Frame j body) calm = nothing_behind (waiting h l) (cond (j == l) (refusal_owes r) []) (by (j == l))
   where
     by : (b : Bool) → cond b (refusal_owes r) [] ≡ []
     by true = empty_is (refusal_owes r) (and_right (not (is_open j h.entries) || is_whole j h.entries) _ calm)
@@ -112,25 +104,25 @@ answered h seat ev r = with_entry h (made h seat ev (Accepted r) [])
 
 module _ (h : History) (seat : ℕ) (r : Reply) where
   pub query_same : (ev : Event) → is_query ev ≡ true → IsSame h (answered h seat ev r)
-  query_same (event.Members s g) q = record { admission = refl; processes = refl; scopes = refl; links = same_links h (answered h seat (event.Members s g) r) refl (λ l. refl) (λ l. append-nil (waiting h l)) }
-  query_same (event.LocalMembers s g) q = record { admission = refl; processes = refl; scopes = refl; links = same_links h (answered h seat (event.LocalMembers s g) r) refl (λ l. refl) (λ l. append-nil (waiting h l)) }
-  query_same (event.Groups s) q = record { admission = refl; processes = refl; scopes = refl; links = same_links h (answered h seat (event.Groups s) r) refl (λ l. refl) (λ l. append-nil (waiting h l)) }
-  query_same (event.LocalGroups s) q = record { admission = refl; processes = refl; scopes = refl; links = same_links h (answered h seat (event.LocalGroups s) r) refl (λ l. refl) (λ l. append-nil (waiting h l)) }
+  query_same (Event.Members s g) q = record { admission = refl; processes = refl; scopes = refl; links = same_links h (answered h seat (Event.Members s g) r) refl (λ l. refl) (λ l. append-nil (waiting h l)) }
+  query_same (Event.LocalMembers s g) q = record { admission = refl; processes = refl; scopes = refl; links = same_links h (answered h seat (Event.LocalMembers s g) r) refl (λ l. refl) (λ l. append-nil (waiting h l)) }
+  query_same (Event.Groups s) q = record { admission = refl; processes = refl; scopes = refl; links = same_links h (answered h seat (Event.Groups s) r) refl (λ l. refl) (λ l. append-nil (waiting h l)) }
+  query_same (Event.LocalGroups s) q = record { admission = refl; processes = refl; scopes = refl; links = same_links h (answered h seat (Event.LocalGroups s) r) refl (λ l. refl) (λ l. append-nil (waiting h l)) }
   query_same ev q = lie (sym q)
 
   pub quiet_change : (ev : Event) → is_quiet ev ≡ true → IsChange h (answered h seat ev r) []
   quiet_change ev q = no_change h _ (λ s g p. sym (entry_rows h (made h seat ev (Accepted r) []) q s g p))
 
   pub query_change : (ev : Event) → is_query ev ≡ true → IsChange h (answered h seat ev r) []
-  query_change (event.Members s g) q = quiet_change (event.Members s g) refl
-  query_change (event.LocalMembers s g) q = quiet_change (event.LocalMembers s g) refl
-  query_change (event.Groups s) q = quiet_change (event.Groups s) refl
-  query_change (event.LocalGroups s) q = quiet_change (event.LocalGroups s) refl
+  query_change (Event.Members s g) q = quiet_change (Event.Members s g) refl
+  query_change (Event.LocalMembers s g) q = quiet_change (Event.LocalMembers s g) refl
+  query_change (Event.Groups s) q = quiet_change (Event.Groups s) refl
+  query_change (Event.LocalGroups s) q = quiet_change (Event.LocalGroups s) refl
   query_change ev q = lie (sym q)
 
   pub query_watches : (ev : Event) → is_query ev ≡ true → concerns_monitors ev ≡ false
-  query_watches (event.Members s g) q = refl
-  query_watches (event.LocalMembers s g) q = refl
-  query_watches (event.Groups s) q = refl
-  query_watches (event.LocalGroups s) q = refl
+  query_watches (Event.Members s g) q = refl
+  query_watches (Event.LocalMembers s g) q = refl
+  query_watches (Event.Groups s) q = refl
+  query_watches (Event.LocalGroups s) q = refl
   query_watches ev q = lie (sym q)

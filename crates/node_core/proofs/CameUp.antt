@@ -1,15 +1,11 @@
 -- The kept links after one has come up: the older link of its peer is gone.
-use Rattle.node_core.proofs.Words.{Bool, List, None, Option, Some, ap, cond, false, find, is_some, nat_eq, not, refl, sym, true, ℕ, []}
-use Rattle.node_core.proofs.Words.{◌&&◌, ◌++◌, ◌==◌, ◌∙◌, ◌≡◌, option_map, option_map_or, unwrap_or, eq-eqb, eqb-true, same_decides, same}
-use Rattle.node_core.proofs.Words.{Linked, lie, no_value, and_both, and_false, and_left, and_right, History, is_accepted, is_open, is_up}
-use Rattle.node_core.proofs.Words.{discovers, frame_owes, waiting, IsAnswered, IsLegal, with_entry, awaits, is_peer, is_whole, peer_of}
-use Rattle.node_core.proofs.Words.{present_link, Entry, older_of, IsLinkOf, LinksFollow, kept_numbers, link_words, KeptLink, narrow_frames}
-use Rattle.node_core.proofs.Words.{up_peer}
-use Rattle.policy_audit.specs.declared.event.Event.TheVariants as event
+use Rattle.node_core.proofs.Words.{Bool, List, None, Option, Some, ap, cond, false, find, is_some, nat_eq, not, refl, sym, true, ℕ, [], ◌&&◌, ◌++◌}
+use Rattle.node_core.proofs.Words.{◌==◌, ◌∙◌, ◌≡◌, option_map, option_map_or, unwrap_or, eq-eqb, eqb-true, same_decides, same, Linked, lie, no_value}
+use Rattle.node_core.proofs.Words.{and_both, and_false, and_left, and_right, History, is_accepted, is_open, is_up, discovers, frame_owes, waiting}
+use Rattle.node_core.proofs.Words.{IsAnswered, IsLegal, with_entry, awaits, is_peer, is_whole, peer_of, present_link, Entry, older_of, IsLinkOf}
+use Rattle.node_core.proofs.Words.{LinksFollow, kept_numbers, link_words, KeptLink, narrow_frames, up_peer, agrees, number_of, Event, LinkState}
 use Rattle.policy_audit.proofs.LinkFrames.{proved_links, replaced_by}
 use Rattle.policy_audit.proofs.LinksLeft.{proved_numbers}
-use Rattle.policy_audit.proofs.UpLinks.{agrees, number_of}
-use Rattle.node_core.specs.declared.link_state.LinkState.TheVariants as state
 use Rattle.node_core.proofs.Found.{found_in, none_found}
 use Rattle.node_core.proofs.FrameFacts.{other_facts, own_awaits, same_stay, still_introduced}
 use Rattle.node_core.proofs.MovedOn.{AreMoves, stays_but}
@@ -100,7 +96,7 @@ module _ (h : History) (legal : IsLegal h) (n : List ℕ) where
         by (Some m) = refl
 
 module _ (h : History) (legal : IsLegal h) (j : ℕ) (body : List ℕ) (up : Linked) (frames : List (List ℕ)) (c : ComesUp h j body up frames)
-    (e : Entry) (answered : IsAnswered h e) (yes : is_accepted e.verdict ≡ true) (is : e.event ≡ event.Frame j body) where
+    (e : Entry) (answered : IsAnswered h e) (yes : is_accepted e.verdict ≡ true) (is : e.event ≡ Event.Frame j body) where
   abbrev k : History
   k = with_entry h e
 
@@ -125,7 +121,7 @@ module _ (h : History) (legal : IsLegal h) (j : ℕ) (body : List ℕ) (up : Lin
   own_open : is_open j k.entries ≡ is_open j h.entries
   own_open = (proved_links h e answered yes j body is up.peer c.last c.known.peer.peer j).open_is ∙ plain (is_open j h.entries) (replaced_by j up.peer h.entries j) own_stays
 
-  pub came_up_moves : AreMoves h k j (state.Up up) (narrow_frames frames ++ discovers h j) (stays_but (present_link up.peer h.entries))
+  pub came_up_moves : AreMoves h k j (LinkState.Up up) (narrow_frames frames ++ discovers h j) (stays_but (present_link up.peer h.entries))
   came_up_moves = record {
     state =
         let on = c.on e answered yes is in

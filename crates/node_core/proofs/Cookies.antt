@@ -1,19 +1,11 @@
 -- Cookies and allowed names after the events that set them.
-use Rattle.node_core.proofs.Words.{Bool, List, None, Option, Some, ap, arith, cond, false, length, nat_le, not, refl, subst, sym, true, ℕ}
-use Rattle.node_core.proofs.Words.{[], ◌++◌, ◌<◌, ◌||◌, ◌∙◌, ◌∷◌, ◌≡◌, ◌≤◌, unwrap_or, le-leb, leb-true, same_decides, same_sym, same}
-use Rattle.node_core.proofs.Words.{AdmissionRules, lie, allow_list, History, creation, events, first_of, Reply, AdmissionFollows}
-use Rattle.node_core.proofs.Words.{admission_words, IsCalmFault}
+use Rattle.node_core.proofs.Words.{Bool, List, None, Option, Some, ap, arith, cond, false, length, nat_le, not, refl, subst, sym, true, ℕ, [], ◌++◌}
+use Rattle.node_core.proofs.Words.{◌<◌, ◌||◌, ◌∙◌, ◌∷◌, ◌≡◌, ◌≤◌, unwrap_or, le-leb, leb-true, same_decides, same_sym, same, AdmissionRules, lie}
+use Rattle.node_core.proofs.Words.{allow_list, History, creation, events, first_of, Reply, AdmissionFollows, admission_words, IsCalmFault, bytes_eq}
+use Rattle.node_core.proofs.Words.{insert_entry, max_peers, max_allowed, cookie_of, with_cookie_for, with_allowed, cookie, own_cookie, own_cookie_set}
+use Rattle.node_core.proofs.Words.{cookie_set_for, cookie_peers, different, CoreFault, AdmissionWords, IsCookieRefusal, Event, Rule}
 use Rattle.std.specs.Map.{lookup}
-use Rattle.std.specs.Str.{bytes_eq}
-use Rattle.indexmap.specs.IndexMap.{insert_entry}
-use Rattle.admission_rules.specs.Admission.{max_peers, max_allowed, cookie_of, with_cookie_for, with_allowed}
 use Rattle.admission_rules.proofs.Peers.{lookup_put, lookup_kept}
-use Rattle.policy_audit.specs.declared.event.Event.TheVariants as event
-use Rattle.policy_audit.specs.declared.rule.Rule.TheVariants as rule
-use Rattle.policy_audit.specs.Admission.{cookie, own_cookie, own_cookie_set, cookie_set_for, cookie_peers, different}
-use Rattle.node_core.specs.declared.fault.CoreFault.{CoreFault}
-use Rattle.node_core.specs.declared.fault.CoreFault.TheVariants as faults
-use Rattle.node_core.specs.AdmissionFacts.{AdmissionWords, IsCookieRefusal}
 use Rattle.node_core.proofs.Calm.{answered}
 use Rattle.node_core.proofs.Once.{entry_once, all_once, names_of, how_many_names, length_names}
 
@@ -75,12 +67,12 @@ module _ (h : History) (rules : AdmissionRules) (t : AdmissionFollows (admission
       by false within = le-leb _ 1024 (let is = peers_counted n c in omega (arith, is, within))
 
   -- what is refused is the first rule that is broken
-  pub cookie_calm : (seat : ℕ) (n c : List ℕ) (f : CoreFault) → IsCookieRefusal rules (with_cookie_for rules n c) f → IsCalmFault h seat (event.SetCookieFor n c) f
-  cookie_calm seat n c (faults.Refused r) q = (ap (λ b. cond (not b) (Some rule.CookiesFull) None) (peers_full n c q.1 q.2) ∙ ap Some (sym q.0), refl)
-  cookie_calm seat n c faults.OutOfMemory q = tt
+  pub cookie_calm : (seat : ℕ) (n c : List ℕ) (f : CoreFault) → IsCookieRefusal rules (with_cookie_for rules n c) f → IsCalmFault h seat (Event.SetCookieFor n c) f
+  cookie_calm seat n c (CoreFault.Refused r) q = (ap (λ b. cond (not b) (Some Rule.CookiesFull) None) (peers_full n c q.1 q.2) ∙ ap Some (sym q.0), refl)
+  cookie_calm seat n c CoreFault.OutOfMemory q = tt
 
   module _ (seat : ℕ) (r : Reply) where
-    pub cookie_follows : (c : List ℕ) → AdmissionFollows (admission_words (answered h seat (event.SetCookie c) r)) (record rules { cookie = c })
+    pub cookie_follows : (c : List ℕ) → AdmissionFollows (admission_words (answered h seat (Event.SetCookie c) r)) (record rules { cookie = c })
     cookie_follows c = record {
       own = t.own;
       hidden = t.hidden;
@@ -91,7 +83,7 @@ module _ (h : History) (rules : AdmissionRules) (t : AdmissionFollows (admission
       allowed = t.allowed;
     }
 
-    pub names_follow : (ns : List (List ℕ)) → AdmissionFollows (admission_words (answered h seat (event.Allow ns) r)) (with_allowed rules ns)
+    pub names_follow : (ns : List (List ℕ)) → AdmissionFollows (admission_words (answered h seat (Event.Allow ns) r)) (with_allowed rules ns)
     names_follow ns = record {
       own = t.own;
       hidden = t.hidden;
@@ -109,7 +101,7 @@ module _ (h : History) (rules : AdmissionRules) (t : AdmissionFollows (admission
       hidden = h.opening.hidden;
       creation = creation h;
       own_cookie = unwrap_or (elim (cond b (Some c) None) [ Some y ↦ Some y | None ↦ first_of (own_cookie_set h.opening.name) (events h.entries) ]) h.opening.cookie;
-      cookie_set = λ m. first_of (cookie_set_for m) (event.SetCookieFor n c ∷ events h.entries);
+      cookie_set = λ m. first_of (cookie_set_for m) (Event.SetCookieFor n c ∷ events h.entries);
       peers = cond b [] (n ∷ []) ++ cookie_peers h;
       allowed = allow_list h;
     }
@@ -118,7 +110,7 @@ module _ (h : History) (rules : AdmissionRules) (t : AdmissionFollows (admission
     abbrev newer : Bool → List ℕ → Option (List ℕ) → Option (List ℕ)
     newer b c o = elim (cond b (Some c) None) [ Some y ↦ Some y | None ↦ o ]
 
-    pub cookie_for_follows : (n c : List ℕ) → AdmissionFollows (admission_words (answered h seat (event.SetCookieFor n c) r)) (with_cookie_for rules n c)
+    pub cookie_for_follows : (n c : List ℕ) → AdmissionFollows (admission_words (answered h seat (Event.SetCookieFor n c) r)) (with_cookie_for rules n c)
     cookie_for_follows n c = subst (λ o. AdmissionFollows (words_with n c (same n h.opening.name)) (cond (same n o) (record rules { cookie = c }) (record rules { peers = insert_entry bytes_eq rules.peers n c }))) (sym t.own) (by (same n h.opening.name) refl)
       where
         own_name : List ℕ

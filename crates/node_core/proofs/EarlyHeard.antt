@@ -1,43 +1,31 @@
 -- The node after an accepted frame that isn't the last of a handshake.
-use Rattle.node_core.proofs.Words.{Bool, List, None, Option, Some, ap, cond, false, not, refl, subst, sym, true, ℕ, [], ◌∙◌, ◌≡◌}
-use Rattle.node_core.proofs.Words.{option_map, same_decides, has_bit, same, Pid, Challenge, Name, challenge_frame, name_frame, reply_frame}
-use Rattle.node_core.proofs.Words.{status_of, StatusWord, AdmissionRules, found, is_dialled, Pending, StateRule, lie, no_value, no_change}
-use Rattle.node_core.proofs.Words.{always, checks, first_broken, frame_checks, History, is_dialling, is_open, listed, running_scopes}
-use Rattle.node_core.proofs.Words.{IsAnswered, IsLegal, IsNext, is_full, up_answer, verdict, with_entry, awaits, is_last, is_name_up, Entry}
-use Rattle.node_core.proofs.Words.{Accepted, Rule, AdmissionFollows, admission_words, heard_named, is_handshake, rule_of, IsState}
-use Rattle.node_core.proofs.Words.{LinksFollow, facts, link_words, KeptLink, dial_beside, dialled_peer, narrow_frames, scope_words}
-use Rattle.dist_types.specs.Text.{is_node_name}
-use Rattle.handshake_frames.specs.Reading.{ack_frame}
-use Rattle.link_states.specs.Checks as state_checked
-use Rattle.link_states.specs.Frames.{status_owed, reply_owed}
+use Rattle.node_core.proofs.Words.{Bool, List, None, Option, Some, ap, cond, false, not, refl, subst, sym, true, ℕ, [], ◌∙◌, ◌≡◌, option_map}
+use Rattle.node_core.proofs.Words.{same_decides, has_bit, same, Pid, Challenge, Name, challenge_frame, name_frame, reply_frame, status_of, StatusWord}
+use Rattle.node_core.proofs.Words.{AdmissionRules, found, is_dialled, Pending, StateRule, lie, no_value, no_change, always, checks, first_broken}
+use Rattle.node_core.proofs.Words.{frame_checks, History, is_dialling, is_open, listed, running_scopes, IsAnswered, IsLegal, IsNext, is_full}
+use Rattle.node_core.proofs.Words.{up_answer, verdict, with_entry, awaits, is_last, is_name_up, Entry, Accepted, Rule, AdmissionFollows}
+use Rattle.node_core.proofs.Words.{admission_words, heard_named, is_handshake, rule_of, IsState, LinksFollow, facts, link_words, KeptLink}
+use Rattle.node_core.proofs.Words.{dial_beside, dialled_peer, narrow_frames, scope_words, is_node_name, ack_frame, status_owed, reply_owed, Dialled}
+use Rattle.node_core.proofs.Words.{Awaited, Heard, LinkState, state_checks, accepted_as, Event, Reply}
 use Rattle.link_states.specs.Named.{named_by}
-use Rattle.link_states.specs.States.{Dialled}
 use Rattle.link_states.specs.Pending.{is_up}
-use Rattle.policy_audit.specs.declared.event.Event.TheVariants as event
-use Rattle.policy_audit.specs.declared.reply.Reply.TheVariants as reply
-use Rattle.policy_audit.specs.declared.rule.Rule.TheVariants as rule
-use Rattle.policy_audit.specs.Sides.{Awaited}
 use Rattle.policy_audit.proofs.Finished.{is_message}
 use Rattle.policy_audit.proofs.HeardNow.{framed_heard}
 use Rattle.policy_audit.proofs.RowsAfter.{unfinished_rows}
-use Rattle.node_core.specs.declared.hearing.Heard.{Heard}
-use Rattle.node_core.specs.declared.hearing.Heard.TheVariants as heard
-use Rattle.node_core.specs.declared.link_state.LinkState.{LinkState}
-use Rattle.node_core.specs.declared.link_state.LinkState.TheVariants as state
-use Rattle.node_core.specs.Hearing.{state_checks, accepted_as}
 use Rattle.node_core.proofs.EarlyMoves.{answer_moves, status_moves, challenge_moves}
 use Rattle.node_core.proofs.Entered.{made, accepted_now, answered_now}
 use Rattle.node_core.proofs.Found.{some_is}
 use Rattle.node_core.proofs.FrameRules.{name_rules, answer_rules, reply_rules, status_rules, challenge_rules, ack_rules}
 use Rattle.node_core.proofs.MovedOn.{AreMoves, stays_but}
 use Rattle.node_core.proofs.NameMoves.{Goes, name_goes}
+use Rattle.link_states.specs.Checks as state_checked
 
 -- a state in which a frame that isn't the last is awaited
 abbrev pub is_early : LinkState → Bool
-is_early (state.Name c) = true
-is_early (state.Answer s) = true
-is_early (state.Status dial) = true
-is_early (state.Challenge dial) = true
+is_early (LinkState.Name c) = true
+is_early (LinkState.Answer s) = true
+is_early (LinkState.Status dial) = true
+is_early (LinkState.Challenge dial) = true
 is_early s = false
 
 -- a check that isn't broken, and the others
@@ -64,71 +52,71 @@ module _ (h : History) (rules : AdmissionRules) (t : AdmissionFollows (admission
   abbrev their_checks : LinkState → Option Rule
   their_checks s = option_map rule_of (state_checked.first_broken (state_checks rules pending s body))
 
-  checks_of : (open_now : is_open j h.entries ≡ true) (a : Awaited) → awaits j h.entries ≡ a → first_broken (checks h seat (event.Frame j body)) ≡ first_broken (frame_checks h j body a)
-  checks_of opens a awaited = λ i. first_broken (cond (opens i) (frame_checks h j body (awaited i)) (always rule.NoSuchLink))
+  checks_of : (open_now : is_open j h.entries ≡ true) (a : Awaited) → awaits j h.entries ≡ a → first_broken (checks h seat (Event.Frame j body)) ≡ first_broken (frame_checks h j body a)
+  checks_of opens a awaited = λ i. first_broken (cond (opens i) (frame_checks h j body (awaited i)) (always Rule.NoSuchLink))
 
   -- the rules of the last frame
-  pub last_rules : (s : LinkState) → is_handshake s ≡ true → is_early s ≡ false → IsState (facts h j) s → first_broken (checks h seat (event.Frame j body)) ≡ their_checks s
-  last_rules (state.Reply s) q late a = checks_of a.0.open_now _ a.0.awaited ∙ reply_rules h rules t j s.peer a.1.peer.peer s.challenge a.1.challenge (reply_frame body)
-  last_rules (state.Ack s) q late a = checks_of a.0.open_now _ a.0.awaited ∙ ack_rules h rules t j s.peer a.1.peer.peer s.challenge a.1.challenge (ack_frame body)
-  last_rules (state.Up up) q late a = lie (sym q)
-  last_rules state.Ended q late a = lie (sym q)
+  pub last_rules : (s : LinkState) → is_handshake s ≡ true → is_early s ≡ false → IsState (facts h j) s → first_broken (checks h seat (Event.Frame j body)) ≡ their_checks s
+  last_rules (LinkState.Reply s) q late a = checks_of a.0.open_now _ a.0.awaited ∙ reply_rules h rules t j s.peer a.1.peer.peer s.challenge a.1.challenge (reply_frame body)
+  last_rules (LinkState.Ack s) q late a = checks_of a.0.open_now _ a.0.awaited ∙ ack_rules h rules t j s.peer a.1.peer.peer s.challenge a.1.challenge (ack_frame body)
+  last_rules (LinkState.Up up) q late a = lie (sym q)
+  last_rules LinkState.Ended q late a = lie (sym q)
   last_rules s q late a = lie late
 
   module _ (ups : (n : List ℕ) → is_up pending n ≡ is_name_up n h.entries) (dials : (n : List ℕ) → is_dialled pending n ≡ is_dialling n h.entries) where
-    pub early_rules : (s : LinkState) → is_early s ≡ true → IsState (facts h j) s → first_broken (checks h seat (event.Frame j body)) ≡ their_checks s
-    early_rules (state.Name c) q a = checks_of a.0.open_now _ a.0.awaited ∙ name_rules h rules t pending ups dials (name_frame body)
-    early_rules (state.Answer s) q a = checks_of a.0.open_now _ a.0.awaited ∙ answer_rules h rules t (status_of body)
-    early_rules (state.Status dial) q a = checks_of a.0.open_now _ a.0.awaited ∙ status_rules h rules t j dial.peer a.1.peer.peer pending ups (status_of body)
-    early_rules (state.Challenge dial) q a = checks_of a.0.open_now _ a.0.awaited ∙ challenge_rules h rules t j dial.peer a.1.peer.peer (challenge_frame body)
+    pub early_rules : (s : LinkState) → is_early s ≡ true → IsState (facts h j) s → first_broken (checks h seat (Event.Frame j body)) ≡ their_checks s
+    early_rules (LinkState.Name c) q a = checks_of a.0.open_now _ a.0.awaited ∙ name_rules h rules t pending ups dials (name_frame body)
+    early_rules (LinkState.Answer s) q a = checks_of a.0.open_now _ a.0.awaited ∙ answer_rules h rules t (status_of body)
+    early_rules (LinkState.Status dial) q a = checks_of a.0.open_now _ a.0.awaited ∙ status_rules h rules t j dial.peer a.1.peer.peer pending ups (status_of body)
+    early_rules (LinkState.Challenge dial) q a = checks_of a.0.open_now _ a.0.awaited ∙ challenge_rules h rules t j dial.peer a.1.peer.peer (challenge_frame body)
     early_rules s q a = lie (sym q)
 
     -- what was awaited
     pub early_awaits : (s : LinkState) → is_early s ≡ true → IsState (facts h j) s → is_last (awaits j h.entries) ≡ false
-    early_awaits (state.Name c) q a = ap is_last a.0.awaited
-    early_awaits (state.Answer s) q a = ap is_last a.0.awaited
-    early_awaits (state.Status dial) q a = ap is_last a.0.awaited
-    early_awaits (state.Challenge dial) q a = ap is_last a.0.awaited
+    early_awaits (LinkState.Name c) q a = ap is_last a.0.awaited
+    early_awaits (LinkState.Answer s) q a = ap is_last a.0.awaited
+    early_awaits (LinkState.Status dial) q a = ap is_last a.0.awaited
+    early_awaits (LinkState.Challenge dial) q a = ap is_last a.0.awaited
     early_awaits s q a = lie (sym q)
 
     pub early_unlike : (s : LinkState) → is_early s ≡ true → IsState (facts h j) s → is_message (awaits j h.entries) ≡ false
-    early_unlike (state.Name c) q a = ap is_message a.0.awaited
-    early_unlike (state.Answer s) q a = ap is_message a.0.awaited
-    early_unlike (state.Status dial) q a = ap is_message a.0.awaited
-    early_unlike (state.Challenge dial) q a = ap is_message a.0.awaited
+    early_unlike (LinkState.Name c) q a = ap is_message a.0.awaited
+    early_unlike (LinkState.Answer s) q a = ap is_message a.0.awaited
+    early_unlike (LinkState.Status dial) q a = ap is_message a.0.awaited
+    early_unlike (LinkState.Challenge dial) q a = ap is_message a.0.awaited
     early_unlike s q a = lie (sym q)
 
     -- the entry
     abbrev pub e : Entry
-    e = made h seat (event.Frame j body) (Accepted reply.Done) []
+    e = made h seat (Event.Frame j body) (Accepted Reply.Done) []
 
     abbrev pub k : History
     k = with_entry h e
 
     module _ (answered : IsAnswered h e) (kept : List KeptLink) (follow : LinksFollow (link_words h) kept) (legal : IsLegal h) (old : List KeptLink) where
       -- a Name is not the own one
-      named : (c : ℕ) (a : IsState (facts h j) (state.Name c)) (beside : (now : LinkState) → dial_beside now old ≡ dial_beside now kept) (x : Option Name) → name_frame body ≡ x
+      named : (c : ℕ) (a : IsState (facts h j) (LinkState.Name c)) (beside : (now : LinkState) → dial_beside now old ≡ dial_beside now kept) (x : Option Name) → name_frame body ≡ x
           → state_checked.first_broken (state_checked.name_checks rules pending x) ≡ None → (r : Heard) → option_map (λ f. heard_named (named_by rules pending c f)) x ≡ Some r → Goes h k j old r
       named c a beside None said holds r q = no_value (sym q)
       named c a beside (Some f) said holds r q = subst (Goes h k j old) (some_is q) (over (heard_named (named_by rules pending c f))
           (name_goes h legal rules t e answered refl j body refl c a f said other kept follow pending (ups f.name) (dials f.name)))
         where
           over : (r : Heard) → Goes h k j kept r → Goes h k j old r
-          over (heard.On now frames gives_up) moves = subst (λ o. AreMoves h k j now (narrow_frames frames) (stays_but (cond gives_up o None))) (sym (beside now)) moves
-          over (heard.Up up frames) moves = tt
-          over (heard.Ended r frames) moves = tt
-          over (heard.OutOfMemory s) moves = tt
+          over (Heard.On now frames gives_up) moves = subst (λ o. AreMoves h k j now (narrow_frames frames) (stays_but (cond gives_up o None))) (sym (beside now)) moves
+          over (Heard.Up up frames) moves = tt
+          over (Heard.Ended r frames) moves = tt
+          over (Heard.OutOfMemory s) moves = tt
 
           other : same f.name h.opening.name ≡ false
           other = ap (same f.name) (sym t.own) ∙ not_own rules pending f holds
 
-      said_status : (dial : Dialled) (a : IsState (facts h j) (state.Status dial)) (x : Option StatusWord) → status_of body ≡ x
-          → (r : Heard) → option_map (λ w. heard.On (state.Challenge dial) (status_owed w) false) x ≡ Some r → Goes h k j old r
+      said_status : (dial : Dialled) (a : IsState (facts h j) (LinkState.Status dial)) (x : Option StatusWord) → status_of body ≡ x
+          → (r : Heard) → option_map (λ w. Heard.On (LinkState.Challenge dial) (status_owed w) false) x ≡ Some r → Goes h k j old r
       said_status dial a None said r q = no_value (sym q)
       said_status dial a (Some w) said r q = subst (Goes h k j old) (some_is q) (status_moves h rules t e answered refl j body refl dial w said a)
 
-      asked : (dial : Dialled) (a : IsState (facts h j) (state.Challenge dial)) (x : Option Challenge) → challenge_frame body ≡ x → state_checked.first_broken (state_checked.challenge_checks dial.peer x) ≡ None
-          → (r : Heard) → option_map (λ f. heard.On (state.Ack (found rules dial f)) (reply_owed rules dial.peer dial.challenge f.challenge) false) x ≡ Some r → Goes h k j old r
+      asked : (dial : Dialled) (a : IsState (facts h j) (LinkState.Challenge dial)) (x : Option Challenge) → challenge_frame body ≡ x → state_checked.first_broken (state_checked.challenge_checks dial.peer x) ≡ None
+          → (r : Heard) → option_map (λ f. Heard.On (LinkState.Ack (found rules dial f)) (reply_owed rules dial.peer dial.challenge f.challenge) false) x ≡ Some r → Goes h k j old r
       asked dial a None said holds r q = no_value (sym q)
       asked dial a (Some f) said holds r q =
           let flags = passes _ _ _ holds in
@@ -137,10 +125,10 @@ module _ (h : History) (rules : AdmissionRules) (t : AdmissionFollows (admission
 
       pub early_goes : (s : LinkState) → is_early s ≡ true → (a : IsState (facts h j) s) → state_checked.first_broken (state_checks rules pending s body) ≡ None
           → (dialled_peer s ≡ None → (now : LinkState) → dial_beside now old ≡ dial_beside now kept) → (r : Heard) → accepted_as rules pending s body ≡ Some r → Goes h k j old r
-      early_goes (state.Name c) early a holds beside r q = named c a (beside refl) (name_frame body) refl holds r q
-      early_goes (state.Answer s) early a holds beside r q = subst (Goes h k j old) (some_is q) (answer_moves h rules t e answered refl j body refl s a)
-      early_goes (state.Status dial) early a holds beside r q = said_status dial a (status_of body) refl r q
-      early_goes (state.Challenge dial) early a holds beside r q = asked dial a (challenge_frame body) refl holds r q
+      early_goes (LinkState.Name c) early a holds beside r q = named c a (beside refl) (name_frame body) refl holds r q
+      early_goes (LinkState.Answer s) early a holds beside r q = subst (Goes h k j old) (some_is q) (answer_moves h rules t e answered refl j body refl s a)
+      early_goes (LinkState.Status dial) early a holds beside r q = said_status dial a (status_of body) refl r q
+      early_goes (LinkState.Challenge dial) early a holds beside r q = asked dial a (challenge_frame body) refl holds r q
       early_goes s early a holds beside r q = lie (sym early)
 
     module _ (answered : IsAnswered h e) (legal : IsLegal h) (inner : is_last (awaits j h.entries) ≡ false) (unlike : is_message (awaits j h.entries) ≡ false) where
@@ -160,8 +148,8 @@ module _ (h : History) (rules : AdmissionRules) (t : AdmissionFollows (admission
       }
 
     module _ (space : is_full h ≡ false) (s : LinkState) (early : is_early s ≡ true) (a : IsState (facts h j) s) (holds : state_checked.first_broken (state_checks rules pending s body) ≡ None) where
-      accepts : Accepted reply.Done ≡ verdict h seat (event.Frame j body)
-      accepts = accepted_now h seat (event.Frame j body) space reply.Done (no_rule _ _ (early_rules s early a) holds) (ap (λ b. cond b (up_answer h j) reply.Done) (early_awaits s early a))
+      accepts : Accepted Reply.Done ≡ verdict h seat (Event.Frame j body)
+      accepts = accepted_now h seat (Event.Frame j body) space Reply.Done (no_rule _ _ (early_rules s early a) holds) (ap (λ b. cond b (up_answer h j) Reply.Done) (early_awaits s early a))
 
       pub early_answered : IsAnswered h e
-      early_answered = answered_now h seat (event.Frame j body) space (Accepted reply.Done) [] accepts
+      early_answered = answered_now h seat (Event.Frame j body) space (Accepted Reply.Done) [] accepts

@@ -1,19 +1,15 @@
 -- A link whose state was taken out while a frame is heard.
-use Rattle.node_core.proofs.Words.{List, None, Option, Some, ap, false, find, get_or, length, refl, set, subst, sym, ℕ, [], ◌<◌, ◌∙◌, ◌≡◌}
-use Rattle.node_core.proofs.Words.{◌≤◌, option_map, option_map_or, get_or-set_same, get_or_default, set-set, same, OutFrame, moved_on}
-use Rattle.node_core.proofs.Words.{older_of, without_link, KeptLink, dial_beside, dialled_peer, up_peer, with_room}
-use Rattle.std.proofs.lemmas.List.{length-set}
+use Rattle.node_core.proofs.Words.{List, None, Option, Some, ap, false, find, get_or, length, refl, set, subst, sym, ℕ, [], ◌<◌, ◌∙◌, ◌≡◌, ◌≤◌}
+use Rattle.node_core.proofs.Words.{option_map, option_map_or, get_or-set_same, get_or_default, set-set, same, OutFrame, moved_on, older_of}
+use Rattle.node_core.proofs.Words.{without_link, KeptLink, dial_beside, dialled_peer, up_peer, with_room, length-set, LinkState, HaveMoved, IsReady}
 use Rattle.std.proofs.lemmas.List.Recursion.{found_set_other}
-use Rattle.node_core.specs.declared.link_state.LinkState.{LinkState}
-use Rattle.node_core.specs.declared.link_state.LinkState.TheVariants as states
-use Rattle.node_core.specs.Handshakes.{HaveMoved, IsReady}
 
 -- the link without its state, with this room
 abbrev pub emptied : ℕ → KeptLink → KeptLink
-emptied room link = record { number = link.number; state = states.Ended; frames = link.frames; prepared = link.prepared; room = room }
+emptied room link = record { number = link.number; state = LinkState.Ended; frames = link.frames; prepared = link.prepared; room = room }
 
 abbrev no_link : KeptLink
-no_link = record { number = 0; state = states.Ended; frames = []; prepared = []; room = 0 }
+no_link = record { number = 0; state = LinkState.Ended; frames = []; prepared = []; room = 0 }
 
 -- the links, the one at a place without its state
 pub record IsEmptied (kept : List KeptLink) (p : ℕ) (room : ℕ) (old : List KeptLink) : Type 0 where
@@ -21,12 +17,12 @@ pub record IsEmptied (kept : List KeptLink) (p : ℕ) (room : ℕ) (old : List K
 
 module _ (kept : List KeptLink) (p : ℕ) (here : p < length kept) where
   -- room is made, and then the state is taken out
-  pub taken_out : (v d : KeptLink) → v ≡ get_or kept p d → (w : KeptLink) → w ≡ with_room v w.room → (next e : KeptLink) → next ≡ get_or (set kept p w) p e → (last : KeptLink) → last ≡ record next { state = states.Ended }
+  pub taken_out : (v d : KeptLink) → v ≡ get_or kept p d → (w : KeptLink) → w ≡ with_room v w.room → (next e : KeptLink) → next ≡ get_or (set kept p w) p e → (last : KeptLink) → last ≡ record next { state = LinkState.Ended }
       → IsEmptied kept p w.room (set (set kept p w) p last)
   taken_out v d is w roomy next e there last now = record {
     links = λ f.
         set-set kept p w last
-        ∙ ap (set kept p) (now ∙ ap (λ (x : KeptLink). record x { state = states.Ended }) (there ∙ get_or-set_same kept p w e here ∙ roomy ∙ ap (λ (x : KeptLink). with_room x w.room) (is ∙ get_or_default kept p d f here)));
+        ∙ ap (set kept p) (now ∙ ap (λ (x : KeptLink). record x { state = LinkState.Ended }) (there ∙ get_or-set_same kept p w e here ∙ roomy ∙ ap (λ (x : KeptLink). with_room x w.room) (is ∙ get_or_default kept p d f here)));
   }
 
   module _ (room : ℕ) (old : List KeptLink) (t : IsEmptied kept p room old) where
@@ -51,7 +47,7 @@ module _ (kept : List KeptLink) (p : ℕ) (here : p < length kept) where
 
     -- other links are found as before
     pub beside_same : (d : KeptLink) → dialled_peer (get_or kept p d).state ≡ None → (state : LinkState) → dial_beside state old ≡ dial_beside state kept
-    beside_same d none (states.Reply s) =
+    beside_same d none (LinkState.Reply s) =
         let test = λ (x : KeptLink). option_map_or (λ n. same n s.peer) (dialled_peer x.state) false in
         ap (option_map (λ (x : KeptLink). x.number)) (ap (find test) (t.links d)
         ∙ found_set_other (find test) test Some None refl (λ x xs. refl) kept p (emptied room (get_or kept p d)) d (ap (λ o. option_map_or (λ n. same n s.peer) o false) none) refl)

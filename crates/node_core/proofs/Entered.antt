@@ -1,15 +1,8 @@
 -- A history with one entry more: what the policy says of it, and what a step that made it answers.
-use Rattle.node_core.proofs.Words.{Bool, Err, List, None, Ok, Option, Some, ap, arith, cond, false, length, map, nat_lt, not, refl, subst}
-use Rattle.node_core.proofs.Words.{suc, sym, true, ℕ, [], ◌<◌, ◌∙◌, ◌∷◌, ◌≡◌, ◌≤◌, ltb-true, IsChange, checks, first_broken, History}
-use Rattle.node_core.proofs.Words.{events, is_accepted, past, IsAnswered, IsNext, answer, is_full, next_number, verdict, with_entry, Change}
-use Rattle.node_core.proofs.Words.{Entry, Verdict, Accepted, Refused, Event, Reply, Rule}
-use Rattle.dist_types.specs.Listing.{how_many}
-use Rattle.policy_audit.specs.declared.rule.Rule.TheVariants as rule
-use Rattle.policy_audit.specs.History.{Moment, present, is_restart}
-use Rattle.policy_audit.specs.Own.{is_spawn}
-use Rattle.policy_audit.specs.Policy.{judged}
-use Rattle.node_core.specs.declared.fault.CoreFault.TheVariants as faults
-use Rattle.node_core.specs.Core.{IsSound}
+use Rattle.node_core.proofs.Words.{Bool, Err, List, None, Ok, Option, Some, ap, arith, cond, false, length, map, nat_lt, not, refl, subst, suc, sym}
+use Rattle.node_core.proofs.Words.{true, ℕ, [], ◌<◌, ◌∙◌, ◌∷◌, ◌≡◌, ◌≤◌, ltb-true, IsChange, checks, first_broken, History, events, is_accepted, past}
+use Rattle.node_core.proofs.Words.{IsAnswered, IsNext, answer, is_full, next_number, verdict, with_entry, Change, Entry, Verdict, Accepted, Refused}
+use Rattle.node_core.proofs.Words.{Event, Reply, Rule, how_many, Moment, present, is_restart, is_spawn, judged, IsSound, CoreFault, Follows, Parts}
 use Rattle.node_core.specs.Step.{Steps}
 
 -- the entry of an event with this verdict and this change
@@ -18,7 +11,7 @@ made h seat ev v cs = record { number = next_number h; seat = seat; event = ev; 
 
 module _ (h : History) (seat : ℕ) (ev : Event) (space : is_full h ≡ false) where
   judge : (o : Option Rule) → first_broken (checks h seat ev) ≡ o → verdict h seat ev ≡ judged h seat ev o
-  judge o found = ap (λ b. cond b (Refused rule.EntriesFull) (judged h seat ev (first_broken (checks h seat ev)))) space ∙ ap (judged h seat ev) found
+  judge o found = ap (λ b. cond b (Refused Rule.EntriesFull) (judged h seat ev (first_broken (checks h seat ev)))) space ∙ ap (judged h seat ev) found
 
   pub accepted_now : (r : Reply) → first_broken (checks h seat ev) ≡ None → answer h seat ev ≡ r → Accepted r ≡ verdict h seat ev
   accepted_now r none is = ap Accepted (sym is) ∙ sym (judge None none)
@@ -62,6 +55,10 @@ sound_now h limit e sound next = record {
   few_spawned = let more = spawned_more e h.entries in let so_far = sound.few_spawned in omega (arith, more, so_far);
 }
 
+-- what follows the history that was opened follows the one that was given
+pub seen : {h now : History} {parts : Parts} → h ≡ now → Follows h parts → Follows now parts
+seen {h} {now} {parts} is = subst (λ k. Follows k parts) is
+
 -- ---- answers of steps
 
 module _ {h now : History} (is : h ≡ now) (seat : ℕ) (ev : Event) {entries : List Entry} where
@@ -69,6 +66,6 @@ module _ {h now : History} (is : h ≡ now) (seat : ℕ) (ev : Event) {entries :
   unfolding Steps
   steps_on r cs next pushed = subst (λ old. Steps old seat ev (past h.opening entries) (Ok r)) is (made h seat ev (Accepted r) cs, refl, refl, refl, next, ap (past h.opening) pushed)
 
-  pub steps_refused : (r : Rule) (cs : List Change) → IsNext h (made h seat ev (Refused r) cs) → entries ≡ made h seat ev (Refused r) cs ∷ h.entries → Steps now seat ev (past h.opening entries) (Err (faults.Refused r))
+  pub steps_refused : (r : Rule) (cs : List Change) → IsNext h (made h seat ev (Refused r) cs) → entries ≡ made h seat ev (Refused r) cs ∷ h.entries → Steps now seat ev (past h.opening entries) (Err (CoreFault.Refused r))
   unfolding Steps
-  steps_refused r cs next pushed = subst (λ old. Steps old seat ev (past h.opening entries) (Err (faults.Refused r))) is (made h seat ev (Refused r) cs, refl, refl, refl, next, ap (past h.opening) pushed)
+  steps_refused r cs next pushed = subst (λ old. Steps old seat ev (past h.opening entries) (Err (CoreFault.Refused r))) is (made h seat ev (Refused r) cs, refl, refl, refl, next, ap (past h.opening) pushed)

@@ -1,22 +1,14 @@
 -- A process that ends.
-use Rattle.node_core.proofs.Words.{Bool, List, None, Option, Some, ap, arith, cond, false, length, nat_eq, not, refl, sym, true, ℕ, []}
-use Rattle.node_core.proofs.Words.{◌++◌, ◌+◌, ◌==◌, ◌∙◌, ◌∷◌, ◌≡◌, AllByRecursion, AllZip, filter, flat_map, same_decides, same, same_pid}
-use Rattle.node_core.proofs.Words.{Pid, count_after_exit, Table, stopped_lists, told_numbers, and_left, IsChange, checks, first_broken}
-use Rattle.node_core.proofs.Words.{local_rows, heard, told, History, creation, listed, OutFrame, waiting, wide, is_local, lives, IsAnswered}
-use Rattle.node_core.proofs.Words.{IsNext, is_full, with_entry, Change, Entry, Accepted, Rule, follows_other, Follows, Parts, all_frames}
-use Rattle.node_core.proofs.Words.{exit_frames, link_words, KeptLink, IsParting, rows_left, Spawned, IsRunningOf, is_number, scope_words}
-use Rattle.link_frames.specs.declared.message.Message.TheVariants as said
-use Rattle.policy_audit.specs.declared.event.Event.TheVariants as event
-use Rattle.policy_audit.specs.declared.reply.Reply.TheVariants as reply
-use Rattle.policy_audit.specs.declared.rule.Rule.TheVariants as rule
-use Rattle.policy_audit.specs.Owed.{if_told}
-use Rattle.policy_audit.proofs.LivesNow.{exits_more, lives_exited, lives_of, spawned_exited}
+use Rattle.node_core.proofs.Words.{Bool, List, None, Option, Some, ap, arith, cond, false, length, nat_eq, not, refl, sym, true, ℕ, [], ◌++◌, ◌+◌}
+use Rattle.node_core.proofs.Words.{◌==◌, ◌∙◌, ◌∷◌, ◌≡◌, AllByRecursion, AllZip, filter, flat_map, same_decides, same, same_pid, Pid, count_after_exit}
+use Rattle.node_core.proofs.Words.{Table, stopped_lists, told_numbers, and_left, IsChange, checks, first_broken, local_rows, heard, told, History}
+use Rattle.node_core.proofs.Words.{creation, listed, OutFrame, waiting, wide, is_local, lives, IsAnswered, IsNext, is_full, with_entry, Change, Entry}
+use Rattle.node_core.proofs.Words.{Accepted, Rule, follows_other, Follows, Parts, all_frames, exit_frames, link_words, KeptLink, IsParting, rows_left}
+use Rattle.node_core.proofs.Words.{Spawned, IsRunningOf, is_number, scope_words, if_told, lives_of, exited_links, Running, AreExitsTold, count_but}
+use Rattle.node_core.proofs.Words.{HasParted, Message, Event, Reply}
+use Rattle.policy_audit.proofs.LivesNow.{exits_more, lives_exited, spawned_exited}
 use Rattle.policy_audit.proofs.RowsAfter.{exited_rows}
-use Rattle.policy_audit.proofs.ScopeFrames.{exited_links}
 use Rattle.node_core.specs.declared.changes.Part.{Part}
-use Rattle.node_core.specs.declared.running.Running.{Running}
-use Rattle.node_core.specs.Exiting.{AreExitsTold}
-use Rattle.node_core.specs.Parting.{count_but, HasParted}
 use Rattle.node_core.proofs.Entered.{made, accepted_now, answered_now, next_now, sound_now}
 use Rattle.node_core.proofs.Moved.{told_frames}
 use Rattle.node_core.proofs.PartingChange.{partings_change}
@@ -29,19 +21,19 @@ use Rattle.node_core.proofs.Zipped.{zipped_map, zipped_weaker, zipped_each}
 
 module _ (h : History) (seat : ℕ) (p : Pid) where
   abbrev exit_broken : Bool → Bool → Option Rule
-  exit_broken local alive = cond (not local) (Some rule.NotLocal) (cond (not alive) (Some rule.NoProcess) None)
+  exit_broken local alive = cond (not local) (Some Rule.NotLocal) (cond (not alive) (Some Rule.NoProcess) None)
 
-  pub exit_foreign : is_local h p ≡ false → first_broken (checks h seat (event.Exit p)) ≡ Some rule.NotLocal
+  pub exit_foreign : is_local h p ≡ false → first_broken (checks h seat (Event.Exit p)) ≡ Some Rule.NotLocal
   exit_foreign q = ap (λ b. exit_broken b (lives h p)) q
 
 module _ (h : History) (seat : ℕ) (parts : Parts) (t : Follows h parts) (p : Pid) (local : is_local h p ≡ true) where
   alive : (b : Bool) → is_number p.number parts.processes.live ≡ b → lives h p ≡ b
   alive b q = lives_of h p local ∙ sym (t.processes.live p.number) ∙ q
 
-  pub exit_dead : is_number p.number parts.processes.live ≡ false → first_broken (checks h seat (event.Exit p)) ≡ Some rule.NoProcess
+  pub exit_dead : is_number p.number parts.processes.live ≡ false → first_broken (checks h seat (Event.Exit p)) ≡ Some Rule.NoProcess
   exit_dead q = λ i. exit_broken h seat p (local i) (alive false q i)
 
-  pub exit_holds : is_number p.number parts.processes.live ≡ true → first_broken (checks h seat (event.Exit p)) ≡ None
+  pub exit_holds : is_number p.number parts.processes.live ≡ true → first_broken (checks h seat (Event.Exit p)) ≡ None
   exit_holds q = λ i. exit_broken h seat p (local i) (alive true q i)
 
   own_node : p.node ≡ h.opening.name
@@ -58,7 +50,7 @@ module _ (h : History) (seat : ℕ) (parts : Parts) (t : Follows h parts) (p : P
   -- ---- what is told
 
   abbrev policy_frames : ℕ → List (List ℕ) → List OutFrame
-  policy_frames l ss = flat_map (λ s. if_told h l s (said.Leave s) (filter (λ w. same_pid w.pid p) (local_rows h s))) ss
+  policy_frames l ss = flat_map (λ s. if_told h l s (Message.Leave s) (filter (λ w. same_pid w.pid p) (local_rows h s))) ss
 
   frames_are : (l : ℕ) (rs : List Running) (cs : List Change) → AllByRecursion (IsRunningOf (scope_words h)) rs → AllZip (IsParting (λ u. count_after_exit u p)) rs cs → policy_frames l (names rs) ≡ all_frames rs cs l
   frames_are l [] [] a z = refl
@@ -66,14 +58,14 @@ module _ (h : History) (seat : ℕ) (parts : Parts) (t : Follows h parts) (p : P
   frames_are l (r ∷ rs) [] a z = absurd z
   frames_are l (r ∷ rs) (c ∷ cs) a z = λ i. one i ++ frames_are l rs cs a.1 z.1 i
     where
-      one : if_told h l r.scope (said.Leave r.scope) (filter (λ w. same_pid w.pid p) (local_rows h r.scope)) ≡ exit_frames r c.groups l
+      one : if_told h l r.scope (Message.Leave r.scope) (filter (λ w. same_pid w.pid p) (local_rows h r.scope)) ≡ exit_frames r c.groups l
       one =
-          ap (λ rows. if_told h l r.scope (said.Leave r.scope) rows) (sym (left_are h r a.0 t.sound.legal p (a.0.own ∙ sym own_node) c.groups z.0.groups))
-          ∙ told_frames (rows_left c.groups) r.told.items (wide (said.Leave r.scope (rows_left c.groups))) l (told l r.scope h.entries) (a.0.told l)
+          ap (λ rows. if_told h l r.scope (Message.Leave r.scope) rows) (sym (left_are h r a.0 t.sound.legal p (a.0.own ∙ sym own_node) c.groups z.0.groups))
+          ∙ told_frames (rows_left c.groups) r.told.items (wide (Message.Leave r.scope (rows_left c.groups))) l (told l r.scope h.entries) (a.0.told l)
 
   module _ (links : List KeptLink) (cs : List Change) (told_so : AreExitsTold p parts.scopes parts.links links cs) where
     abbrev exit_entry : Entry
-    exit_entry = made h seat (event.Exit p) (Accepted reply.Done) cs
+    exit_entry = made h seat (Event.Exit p) (Accepted Reply.Done) cs
 
     abbrev pub exited : History
     exited = with_entry h exit_entry
@@ -94,8 +86,8 @@ module _ (h : History) (seat : ℕ) (parts : Parts) (t : Follows h parts) (p : P
 
     pub exit_next : is_full h ≡ false → is_number p.number parts.processes.live ≡ true → IsNext h exit_entry
     exit_next space living =
-        let verdict = accepted_now h seat (event.Exit p) space reply.Done (exit_holds living) refl in
-        next_now h seat (event.Exit p) space (Accepted reply.Done) cs verdict (exit_change (answered_now h seat (event.Exit p) space (Accepted reply.Done) cs verdict))
+        let verdict = accepted_now h seat (Event.Exit p) space Reply.Done (exit_holds living) refl in
+        next_now h seat (Event.Exit p) space (Accepted Reply.Done) cs verdict (exit_change (answered_now h seat (Event.Exit p) space (Accepted Reply.Done) cs verdict))
 
     module _ (next : IsNext h exit_entry) where
       it : IsAnswered h exit_entry

@@ -1,13 +1,9 @@
 -- Links for which the Leaves of a process that ends are prepared.
-use Rattle.node_core.proofs.Words.{Bool, List, ap, arith, cond, false, length, map, not, refl, subst, sym, true, ℕ, [], ◌++◌, ◌==◌, ◌∙◌}
-use Rattle.node_core.proofs.Words.{◌∷◌, ◌≡◌, AllZip, eq-eqb, eqb-true, append-nil, IsDifference, is_empty, GroupChange, Pid}
-use Rattle.node_core.proofs.Words.{count_after_exit, count_of, lie, OutFrame, Change, all_frames, exit_frames, KeptLink, committed}
-use Rattle.node_core.proofs.Words.{prepared_for, unroomed, with_frames, with_prepared, IsParting, is_number, Alike, AreIdle, AreTold}
-use Rattle.node_core.proofs.Words.{if_among}
-use Rattle.std.proofs.Common.{append_assoc}
-use Rattle.policy_audit.proofs.KeptNumbers.{filter_append}
-use Rattle.node_core.specs.declared.running.Running.{Running}
-use Rattle.node_core.specs.Exiting.{bare, ArePrepared, AreExits}
+use Rattle.node_core.proofs.Words.{Bool, List, ap, arith, cond, false, length, map, not, refl, subst, sym, true, ℕ, [], ◌++◌, ◌==◌, ◌∙◌, ◌∷◌, ◌≡◌}
+use Rattle.node_core.proofs.Words.{AllZip, eq-eqb, eqb-true, append-nil, IsDifference, is_empty, GroupChange, Pid, count_after_exit, count_of, lie}
+use Rattle.node_core.proofs.Words.{OutFrame, Change, all_frames, exit_frames, KeptLink, committed, prepared_for, unroomed, with_frames, with_prepared}
+use Rattle.node_core.proofs.Words.{IsParting, is_number, Alike, AreIdle, AreTold, if_among, append_assoc, filter_append, Running, bare, ArePrepared}
+use Rattle.node_core.proofs.Words.{AreExits}
 use Rattle.node_core.proofs.Told.{forgotten, zip_map}
 use Rattle.node_core.proofs.Zipped.{zipped_map, zipped_on, zipped_weaker}
 

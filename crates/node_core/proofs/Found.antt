@@ -1,9 +1,7 @@
 -- Elements that pass a test, and their places.
-use Rattle.node_core.proofs.Words.{Bool, List, None, Some, ap, arith, cond, false, find, is_some, length, map, nat_lt, not, position, refl}
-use Rattle.node_core.proofs.Words.{subst, suc, sym, true, ℕ, [], ◌+◌, ◌<◌, ◌||◌, ◌∙◌, ◌∷◌, ◌≡◌, AllByRecursion, list_any, lt-ltb, ltb-true}
-use Rattle.node_core.proofs.Words.{position-Some, no_value}
-use Rattle.std.proofs.lemmas.Bool.{ltb-false}
-use Rattle.std.specs.List.{position_or_len}
+use Rattle.node_core.proofs.Words.{Bool, List, None, Some, ap, arith, cond, false, find, is_some, length, map, nat_lt, not, position, refl, subst}
+use Rattle.node_core.proofs.Words.{suc, sym, true, ℕ, [], ◌+◌, ◌<◌, ◌||◌, ◌∙◌, ◌∷◌, ◌≡◌, AllByRecursion, list_any, lt-ltb, ltb-true, position-Some}
+use Rattle.node_core.proofs.Words.{no_value, ltb-false, position_or_len}
 
 -- the value in an option
 pub some_is : {A : Type 0} {x y : A} → Some x ≡ Some y → x ≡ y

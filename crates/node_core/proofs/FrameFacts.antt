@@ -1,16 +1,10 @@
 -- What an accepted frame makes of what is said of its own link and of the others.
 use Rattle.node_core.proofs.Words.{Bool, List, None, Option, ap, cond, false, refl, sym, true, ℕ, [], ◌++◌, ◌==◌, ◌∙◌, ◌∷◌, ◌≡◌, filter}
-use Rattle.node_core.proofs.Words.{option_map_or, eq-eqb, Name, History, is_accepted, is_open, named_by, OutFrame, frame_owes}
-use Rattle.node_core.proofs.Words.{own_challenge, waiting, IsAnswered, with_entry, awaits, challenge_in, is_last, peer_of, Entry}
-use Rattle.node_core.proofs.Words.{IsIntroduced, IsState, facts, kept_numbers}
-use Rattle.policy_audit.specs.declared.event.Event.TheVariants as event
-use Rattle.policy_audit.specs.Sides.{given, Awaited}
-use Rattle.policy_audit.proofs.Effects.{entry_link}
-use Rattle.policy_audit.proofs.Onward.{IsOnward, frame_open}
+use Rattle.node_core.proofs.Words.{option_map_or, eq-eqb, Name, History, is_accepted, is_open, named_by, OutFrame, frame_owes, own_challenge, waiting}
+use Rattle.node_core.proofs.Words.{IsAnswered, with_entry, awaits, challenge_in, is_last, peer_of, Entry, IsIntroduced, IsState, facts, kept_numbers}
+use Rattle.node_core.proofs.Words.{given, Awaited, entry_link, IsOnward, framed_numbers, LinkState, Awaits, IsPeer, Event}
+use Rattle.policy_audit.proofs.Onward.{frame_open}
 use Rattle.policy_audit.proofs.LinkFrames.{handshake_links}
-use Rattle.policy_audit.proofs.LinksLeft.{framed_numbers}
-use Rattle.node_core.specs.declared.link_state.LinkState.{LinkState}
-use Rattle.node_core.specs.LinkFacts.{Awaits, IsPeer}
 use Rattle.node_core.proofs.KeptOn.{facts_same}
 use Rattle.node_core.proofs.MovedOn.{AreMoves, stays_but}
 
@@ -22,7 +16,7 @@ every_one (x ∷ xs) = ap (λ ys. x ∷ ys) (every_one xs)
 pub same_stay : (test more : ℕ → Bool) (xs : List ℕ) → ((l : ℕ) → test l ≡ more l) → filter test xs ≡ filter more xs
 same_stay test more xs q = λ i. filter (λ l. q l i) xs
 
-module _ (h : History) (e : Entry) (answered : IsAnswered h e) (yes : is_accepted e.verdict ≡ true) (j : ℕ) (body : List ℕ) (is : e.event ≡ event.Frame j body) where
+module _ (h : History) (e : Entry) (answered : IsAnswered h e) (yes : is_accepted e.verdict ≡ true) (j : ℕ) (body : List ℕ) (is : e.event ≡ Event.Frame j body) where
   abbrev k : History
   k = with_entry h e
 

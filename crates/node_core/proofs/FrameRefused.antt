@@ -1,18 +1,13 @@
 -- The node after a refused frame of the handshake.
-use Rattle.node_core.proofs.Words.{Bool, List, None, Option, Some, ap, cond, false, get_or, length, not, refl, set, subst, sym, true, ℕ, []}
-use Rattle.node_core.proofs.Words.{◌&&◌, ◌++◌, ◌<◌, ◌==◌, ◌∙◌, ◌≡◌, eq-eqb, eqb-true, is_empty, StateRule, no_change, and_false, flip}
-use Rattle.node_core.proofs.Words.{checks, first_broken, History, is_open, OutFrame, refusal_owes, waiting, running_scopes, IsNext, is_full}
-use Rattle.node_core.proofs.Words.{with_entry, is_whole, Entry, Refused, Rule, follows_other, Follows, Parts, HaveEnded, moved_on}
-use Rattle.node_core.proofs.Words.{without_link, rule_of, LinksFollow, facts, kept_numbers, link_words, KeptLink, narrow_frames}
-use Rattle.node_core.proofs.Words.{ScopesFollow, scope_words}
-use Rattle.link_states.specs.declared.state_rule.StateRule.TheVariants as broken
-use Rattle.link_states.specs.Frames.{refusal_frames}
-use Rattle.policy_audit.specs.declared.event.Event.TheVariants as event
-use Rattle.policy_audit.proofs.Effects.{entry_rows}
+use Rattle.node_core.proofs.Words.{Bool, List, None, Option, Some, ap, cond, false, get_or, length, not, refl, set, subst, sym, true, ℕ, [], ◌&&◌}
+use Rattle.node_core.proofs.Words.{◌++◌, ◌<◌, ◌==◌, ◌∙◌, ◌≡◌, eq-eqb, eqb-true, is_empty, StateRule, no_change, and_false, flip, checks, first_broken}
+use Rattle.node_core.proofs.Words.{History, is_open, OutFrame, refusal_owes, waiting, running_scopes, IsNext, is_full, with_entry, is_whole, Entry}
+use Rattle.node_core.proofs.Words.{Refused, Rule, follows_other, Follows, Parts, HaveEnded, moved_on, without_link, rule_of, LinksFollow, facts}
+use Rattle.node_core.proofs.Words.{kept_numbers, link_words, KeptLink, narrow_frames, ScopesFollow, scope_words, refusal_frames, entry_rows, Event}
+use Rattle.node_core.proofs.Words.{LinkState}
 use Rattle.policy_audit.proofs.HeardNow.{refused_heard}
 use Rattle.policy_audit.proofs.LinkFrames.{refused_links}
 use Rattle.policy_audit.proofs.LinksLeft.{refused_numbers}
-use Rattle.node_core.specs.declared.link_state.LinkState.TheVariants as state
 use Rattle.node_core.proofs.Emptied.{IsEmptied, moved_from}
 use Rattle.node_core.proofs.Entered.{made, next_now, refused_now, sound_now}
 use Rattle.node_core.proofs.FrameFacts.{same_stay}
@@ -21,20 +16,20 @@ use Rattle.node_core.proofs.MovedOn.{AreMoves, stays_but, moved_follow}
 
 -- what a rule of the handshake is owed
 pub owes_alike : (b : StateRule) → refusal_owes (rule_of b) ≡ narrow_frames (refusal_frames b)
-owes_alike broken.NotAllowed = refl
-owes_alike broken.Simultaneous = refl
-owes_alike broken.LinkUp = refl
+owes_alike StateRule.NotAllowed = refl
+owes_alike StateRule.Simultaneous = refl
+owes_alike StateRule.LinkUp = refl
 owes_alike b = refl
 
 module _ (h : History) (seat j : ℕ) (body : List ℕ) (r : Rule) where
   abbrev pub e : Entry
-  e = made h seat (event.Frame j body) (Refused r) []
+  e = made h seat (Event.Frame j body) (Refused r) []
 
   abbrev pub k : History
   k = with_entry h e
 
-  pub refused_next : is_full h ≡ false → first_broken (checks h seat (event.Frame j body)) ≡ Some r → IsNext h e
-  refused_next space found = next_now h seat (event.Frame j body) space (Refused r) [] (refused_now h seat (event.Frame j body) space r found) (no_change h k (λ s g p. sym (entry_rows h e refl s g p)))
+  pub refused_next : is_full h ≡ false → first_broken (checks h seat (Event.Frame j body)) ≡ Some r → IsNext h e
+  refused_next space found = next_now h seat (Event.Frame j body) space (Refused r) [] (refused_now h seat (Event.Frame j body) space r found) (no_change h k (λ s g p. sym (entry_rows h e refl s g p)))
 
   module _ (opens : is_open j h.entries ≡ true) (unwhole : is_whole j h.entries ≡ false) (more : List OutFrame) (owed : refusal_owes r ≡ more) where
     -- the link goes where nothing waits for it
@@ -50,7 +45,7 @@ module _ (h : History) (seat j : ℕ) (body : List ℕ) (r : Rule) where
         each true = ap not (sym (flip l j ∙ m))
         each false = refl
 
-    refused_moves : AreMoves h k j state.Ended more (stays_but gone)
+    refused_moves : AreMoves h k j LinkState.Ended more (stays_but gone)
     refused_moves = record {
       state = (refused_links h e j body r refl refl unwhole j).open_is ∙ ap (λ b. is_open j h.entries && not b) (eq-eqb j j refl) ∙ and_false (is_open j h.entries);
       frames = (refused_links h e j body r refl refl unwhole j).waiting_is ∙ (λ i. cond (eq-eqb j j refl i) (waiting h j ++ owed i) (waiting h j));
@@ -74,8 +69,8 @@ module _ (h : History) (seat j : ℕ) (body : List ℕ) (r : Rule) where
     }
 
     module _ (parts : Parts) (t : Follows h parts) (p : ℕ) (d : KeptLink) (less : p < length parts.links) (is : (get_or parts.links p d).number ≡ j) where
-      refused_follow : (room : ℕ) → LinksFollow (link_words k) (without_link gone (set parts.links p (moved_on state.Ended more room (get_or parts.links p d))))
-      refused_follow room = moved_follow h k t.sound.legal j state.Ended more gone refused_moves parts.links t.links p d less is room
+      refused_follow : (room : ℕ) → LinksFollow (link_words k) (without_link gone (set parts.links p (moved_on LinkState.Ended more room (get_or parts.links p d))))
+      refused_follow room = moved_follow h k t.sound.legal j LinkState.Ended more gone refused_moves parts.links t.links p d less is room
 
       pub refused_follows : IsNext h e → (out_room : ℕ) (old new : List KeptLink) → IsEmptied parts.links p out_room old → (frames : List (List ℕ)) → narrow_frames frames ≡ more → HaveEnded p frames old new → Follows k (record parts { links = new })
       refused_follows next out_room old new out frames these ends = record {
@@ -87,7 +82,7 @@ module _ (h : History) (seat j : ℕ) (body : List ℕ) (r : Rule) where
             let was = each_at _ parts.links p d t.links.each less in
             subst (LinksFollow (link_words k)) (sym (
             moved_from parts.links p less out_room old out (λ x. x.state) (narrow_frames frames) _ new ends d
-            ∙ (λ i. without_link (cond (is_empty ((was.frames ∙ ap (waiting h) is) i ++ these i)) (Some (is i)) None) (set parts.links p (moved_on state.Ended (these i) ends.room (get_or parts.links p d))))))
+            ∙ (λ i. without_link (cond (is_empty ((was.frames ∙ ap (waiting h) is) i ++ these i)) (Some (is i)) None) (set parts.links p (moved_on LinkState.Ended (these i) ends.room (get_or parts.links p d))))))
             (refused_follow ends.room);
         monitors = follows_other h e parts.monitors next.number t.monitors refl;
       }

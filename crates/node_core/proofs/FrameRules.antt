@@ -1,25 +1,18 @@
 -- The rules for a frame of the handshake, as a state knows them, are those of the policy.
-use Rattle.node_core.proofs.Words.{Bool, List, None, Option, Some, ap, cond, false, length, not, refl, sym, true, ℕ, [], ◌&&◌, ◌==◌, ◌||◌}
-use Rattle.node_core.proofs.Words.{◌∙◌, ◌∷◌, ◌≡◌, option_map, option_map_or, same_decides, same_sym, is_empty, has_bit, is_among, same}
-use Rattle.node_core.proofs.Words.{text_cmp, Challenge, Name, ReplyFrame, StatusWord, AdmissionRules, is_dialled, Pending, StateRule, lie}
-use Rattle.node_core.proofs.Words.{allow_list, always, first_broken, History, is_dialling, digest_for, own_challenge, is_name_up, is_peer}
-use Rattle.node_core.proofs.Words.{peer_of, Rule, AdmissionFollows, admission_words, rule_of}
+use Rattle.node_core.proofs.Words.{Bool, List, None, Option, Some, ap, cond, false, length, not, refl, sym, true, ℕ, [], ◌&&◌, ◌==◌, ◌||◌, ◌∙◌, ◌∷◌}
+use Rattle.node_core.proofs.Words.{◌≡◌, option_map, option_map_or, same_decides, same_sym, is_empty, has_bit, is_among, same, text_cmp, Challenge}
+use Rattle.node_core.proofs.Words.{Name, ReplyFrame, StatusWord, AdmissionRules, is_dialled, Pending, StateRule, lie, allow_list, always}
+use Rattle.node_core.proofs.Words.{first_broken, History, is_dialling, digest_for, own_challenge, is_name_up, is_peer, peer_of, Rule}
+use Rattle.node_core.proofs.Words.{AdmissionFollows, admission_words, rule_of, is_gt, is_node_name, cookie_of, allowed, cookie, name_checks}
+use Rattle.node_core.proofs.Words.{answer_checks, status_checks, challenge_checks, digest_checks, is_peer_up, is_simultaneous}
 use Rattle.std.proofs.Common.{bytes_eq}
-use Rattle.std.specs.Ordering.{is_gt}
-use Rattle.dist_types.specs.Text.{is_node_name}
-use Rattle.handshake_frames.specs.declared.frame.StatusWord.TheVariants as word
 use Rattle.handshake_frames.specs.declared.frame.AckFrame.{AckFrame}
 use Rattle.cookie_digest.specs.Digest.{digest_of}
-use Rattle.admission_rules.specs.Admission.{cookie_of}
-use Rattle.link_states.specs.declared.state_rule.StateRule.TheVariants as broken
-use Rattle.link_states.specs.Checks as state
 use Rattle.link_states.specs.Pending.{is_up}
-use Rattle.policy_audit.specs.declared.rule.Rule.TheVariants as rule
-use Rattle.policy_audit.specs.Admission.{allowed, cookie}
-use Rattle.policy_audit.specs.Checks.{name_checks, answer_checks, status_checks, challenge_checks, digest_checks, is_peer_up, is_simultaneous}
 use Rattle.node_core.proofs.Cookies.{cookie_is}
 use Rattle.node_core.proofs.Moves.{none_is_empty}
 use Rattle.node_core.proofs.Once.{same_names}
+use Rattle.link_states.specs.Checks as state
 
 -- one check before others
 pub further : (b c : Bool) (r : StateRule) (x : Option Rule) (y : Option StateRule) → b ≡ c → x ≡ option_map rule_of y → cond (not b) (Some (rule_of r)) x ≡ option_map rule_of (cond (not c) (Some r) y)
@@ -47,49 +40,49 @@ module _ (h : History) (rules : AdmissionRules) (t : AdmissionFollows (admission
 
   module _ (l : ℕ) (peer : List ℕ) (of : peer_of l h.entries ≡ Some peer) where
     digests : (challenge : ℕ) (digest : List ℕ) → challenge ≡ own_challenge l h.entries
-        → first_broken (digest_checks h l digest) ≡ option_map rule_of (state.first_broken (state.unless (state.is_answer rules peer challenge digest) broken.BadDigest ∷ []))
+        → first_broken (digest_checks h l digest) ≡ option_map rule_of (state.first_broken (state.unless (state.is_answer rules peer challenge digest) StateRule.BadDigest ∷ []))
     digests challenge digest own =
-        further (bytes_eq digest (digest_for h l (own_challenge l h.entries))) (state.is_answer rules peer challenge digest) broken.BadDigest None None
+        further (bytes_eq digest (digest_for h l (own_challenge l h.entries))) (state.is_answer rules peer challenge digest) StateRule.BadDigest None None
         (ap (λ c. bytes_eq digest (digest_for h l c)) (sym own) ∙ ap (bytes_eq digest) (digest_is l peer challenge of)) refl
 
     pub reply_rules : (challenge : ℕ) → challenge ≡ own_challenge l h.entries → (x : Option ReplyFrame)
-        → first_broken (option_map_or (λ f. digest_checks h l f.digest) x (always rule.BadFrame)) ≡ option_map rule_of (state.first_broken (state.reply_checks rules peer challenge x))
+        → first_broken (option_map_or (λ f. digest_checks h l f.digest) x (always Rule.BadFrame)) ≡ option_map rule_of (state.first_broken (state.reply_checks rules peer challenge x))
     reply_rules challenge own None = refl
     reply_rules challenge own (Some f) = digests challenge f.digest own
 
     pub ack_rules : (challenge : ℕ) → challenge ≡ own_challenge l h.entries → (x : Option AckFrame)
-        → first_broken (option_map_or (λ f. digest_checks h l f.digest) x (always rule.BadFrame)) ≡ option_map rule_of (state.first_broken (state.ack_checks rules peer challenge x))
+        → first_broken (option_map_or (λ f. digest_checks h l f.digest) x (always Rule.BadFrame)) ≡ option_map rule_of (state.first_broken (state.ack_checks rules peer challenge x))
     ack_rules challenge own None = refl
     ack_rules challenge own (Some f) = digests challenge f.digest own
 
-    pub challenge_rules : (x : Option Challenge) → first_broken (option_map_or (challenge_checks h l) x (always rule.BadFrame)) ≡ option_map rule_of (state.first_broken (state.challenge_checks peer x))
+    pub challenge_rules : (x : Option Challenge) → first_broken (option_map_or (challenge_checks h l) x (always Rule.BadFrame)) ≡ option_map rule_of (state.first_broken (state.challenge_checks peer x))
     challenge_rules None = refl
     challenge_rules (Some f) =
-        further (has_bit 24 f.flags) (has_bit 24 f.flags) broken.NoHandshake23 _ _ refl
-        (further (is_peer f.name l h.entries) (bytes_eq f.name peer) broken.WrongName None None (ap (λ x. option_map_or (λ m. same m f.name) x false) of ∙ same_sym peer f.name) refl)
+        further (has_bit 24 f.flags) (has_bit 24 f.flags) StateRule.NoHandshake23 _ _ refl
+        (further (is_peer f.name l h.entries) (bytes_eq f.name peer) StateRule.WrongName None None (ap (λ x. option_map_or (λ m. same m f.name) x false) of ∙ same_sym peer f.name) refl)
 
     pub status_rules : (pending : Pending) → ((n : List ℕ) → is_up pending n ≡ is_name_up n h.entries) → (x : Option StatusWord)
-        → first_broken (option_map_or (status_checks (is_peer_up h l)) x (always rule.BadFrame)) ≡ option_map rule_of (state.first_broken (state.status_checks pending peer x))
+        → first_broken (option_map_or (status_checks (is_peer_up h l)) x (always Rule.BadFrame)) ≡ option_map rule_of (state.first_broken (state.status_checks pending peer x))
     status_rules pending ups None = refl
-    status_rules pending ups (Some word.Ok) = refl
-    status_rules pending ups (Some word.OkSimultaneous) = refl
-    status_rules pending ups (Some word.Alive) =
-        further (not (is_peer_up h l)) (not (is_up pending peer)) broken.LinkUp None None (ap (λ x. not (option_map_or (λ n. is_name_up n h.entries) x false)) of ∙ ap not (sym (ups peer))) refl
+    status_rules pending ups (Some StatusWord.Ok) = refl
+    status_rules pending ups (Some StatusWord.OkSimultaneous) = refl
+    status_rules pending ups (Some StatusWord.Alive) =
+        further (not (is_peer_up h l)) (not (is_up pending peer)) StateRule.LinkUp None None (ap (λ x. not (option_map_or (λ n. is_name_up n h.entries) x false)) of ∙ ap not (sym (ups peer))) refl
     status_rules pending ups (Some w) = refl
 
-  pub answer_rules : (x : Option StatusWord) → first_broken (option_map_or answer_checks x (always rule.BadFrame)) ≡ option_map rule_of (state.first_broken (state.answer_checks x))
+  pub answer_rules : (x : Option StatusWord) → first_broken (option_map_or answer_checks x (always Rule.BadFrame)) ≡ option_map rule_of (state.first_broken (state.answer_checks x))
   answer_rules None = refl
-  answer_rules (Some word.True) = refl
+  answer_rules (Some StatusWord.True) = refl
   answer_rules (Some w) = refl
 
   pub name_rules : (pending : Pending) → ((n : List ℕ) → is_up pending n ≡ is_name_up n h.entries) → ((n : List ℕ) → is_dialled pending n ≡ is_dialling n h.entries) → (x : Option Name)
-      → first_broken (option_map_or (name_checks h) x (always rule.BadFrame)) ≡ option_map rule_of (state.first_broken (state.name_checks rules pending x))
+      → first_broken (option_map_or (name_checks h) x (always Rule.BadFrame)) ≡ option_map rule_of (state.first_broken (state.name_checks rules pending x))
   name_rules pending ups dials None = refl
   name_rules pending ups dials (Some f) =
-      further (has_bit 24 f.flags) (has_bit 24 f.flags) broken.NoHandshake23 _ _ refl
-      (further (not (has_bit 33 f.flags)) (not (has_bit 33 f.flags)) broken.DynamicName _ _ refl
-      (further (is_node_name f.name) (is_node_name f.name) broken.BadName _ _ refl
-      (further (not (same f.name h.opening.name)) (not (bytes_eq f.name rules.own)) broken.OwnName _ _ (ap (λ o. not (same f.name o)) (sym t.own))
-      (further (allowed h f.name) (state.allows rules f.name) broken.NotAllowed _ _ (allowed_is f.name)
-      (further (not (is_simultaneous h f.name)) (not (state.outranks rules pending f.name)) broken.Simultaneous None None
+      further (has_bit 24 f.flags) (has_bit 24 f.flags) StateRule.NoHandshake23 _ _ refl
+      (further (not (has_bit 33 f.flags)) (not (has_bit 33 f.flags)) StateRule.DynamicName _ _ refl
+      (further (is_node_name f.name) (is_node_name f.name) StateRule.BadName _ _ refl
+      (further (not (same f.name h.opening.name)) (not (bytes_eq f.name rules.own)) StateRule.OwnName _ _ (ap (λ o. not (same f.name o)) (sym t.own))
+      (further (allowed h f.name) (state.allows rules f.name) StateRule.NotAllowed _ _ (allowed_is f.name)
+      (further (not (is_simultaneous h f.name)) (not (state.outranks rules pending f.name)) StateRule.Simultaneous None None
       (λ i. not (not (sym (ups f.name) i) && sym (dials f.name) i && is_gt (text_cmp (sym t.own i) f.name))) refl)))))

@@ -1,14 +1,10 @@
 -- What is left after a link is gone: the other links, the scopes without it, and what the scopes have lost.
-use Rattle.node_core.proofs.Words.{Bool, List, None, Option, Some, ap, cond, false, nat_eq, not, refl, subst, sym, true, ℕ, [], ◌&&◌, ◌==◌}
-use Rattle.node_core.proofs.Words.{◌∙◌, ◌≡◌, filter, unwrap_or, and-true, eqb-true, same, Pid, count_after_drop, lie, no_change}
-use Rattle.node_core.proofs.Words.{stopped_lists, and_false, flip, IsChange, heard, told, History, first_of, is_open, is_up, listed}
-use Rattle.node_core.proofs.Words.{waiting, running_scopes, Change, AreCut, AreLost, IsLinkOf, IsState, LinksFollow, facts, link_words}
-use Rattle.node_core.proofs.Words.{KeptLink, ArePartings, ScopesFollow, scope_words}
-use Rattle.policy_audit.specs.Hearing.{hears, talk, tells}
-use Rattle.policy_audit.specs.Effects.{IsSameLink}
-use Rattle.policy_audit.proofs.HeardNow.{IsHeardNow}
+use Rattle.node_core.proofs.Words.{Bool, List, None, Option, Some, ap, cond, false, nat_eq, not, refl, subst, sym, true, ℕ, [], ◌&&◌, ◌==◌, ◌∙◌, ◌≡◌}
+use Rattle.node_core.proofs.Words.{filter, unwrap_or, and-true, eqb-true, same, Pid, count_after_drop, lie, no_change, stopped_lists, and_false, flip}
+use Rattle.node_core.proofs.Words.{IsChange, heard, told, History, first_of, is_open, is_up, listed, waiting, running_scopes, Change, AreCut, AreLost}
+use Rattle.node_core.proofs.Words.{IsLinkOf, IsState, LinksFollow, facts, link_words, KeptLink, ArePartings, ScopesFollow, scope_words, hears, talk}
+use Rattle.node_core.proofs.Words.{tells, IsSameLink, IsHeardNow, Running}
 use Rattle.policy_audit.proofs.KeptNumbers.{kept_numbers}
-use Rattle.node_core.specs.declared.running.Running.{Running}
 use Rattle.node_core.proofs.Places.{stay_follow}
 use Rattle.node_core.proofs.KeptOn.{facts_same}
 use Rattle.node_core.proofs.PartingChange.{partings_change}

@@ -1,9 +1,6 @@
 -- The rows of processes in a group, in order.
-use Rattle.node_core.proofs.Words.{List, ap, cond, length, map, refl, suc, ℕ, [], ◌∙◌, ◌∷◌, ◌≡◌, same_sym, IsListing, IsRowListing}
-use Rattle.node_core.proofs.Words.{mentions, occurrences, same, same_row, row_cmp, Pid, Row, row}
-use Rattle.dist_types.proofs.Orders.{same_row_decides}
-use Rattle.dist_types.proofs.Listings.{same_length}
-use Rattle.policy_audit.proofs.Lists.{count_in_group}
+use Rattle.node_core.proofs.Words.{List, ap, cond, length, map, refl, suc, ℕ, [], ◌∙◌, ◌∷◌, ◌≡◌, same_sym, IsListing, IsRowListing, mentions}
+use Rattle.node_core.proofs.Words.{occurrences, same, same_row, row_cmp, Pid, Row, row, same_row_decides, same_length, count_in_group}
 
 module _ (g : List ℕ) (pids : List Pid) (rows sorted : List Row) (is : rows ≡ map (row g) pids) (listing : IsListing row_cmp same_row (λ r. occurrences same_row r rows) sorted) where
   pub rows_listing : IsRowListing (λ f p. cond (same f g) (mentions p pids) 0) sorted

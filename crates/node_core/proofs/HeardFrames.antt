@@ -1,63 +1,52 @@
 -- A frame of the handshake, as the node hears it: the state of its link, and what is heard of it.
-use Rattle.node_core.proofs.Words.{Bool, List, None, Option, Some, ap, arith, cond, false, get_or, length, nat_eq, not, position, refl}
-use Rattle.node_core.proofs.Words.{subst, sym, true, ℕ, [], ◌+◌, ◌<◌, ◌==◌, ◌||◌, ◌∙◌, ◌∷◌, ◌≡◌, ◌≤◌, list_any, option_map, is_empty}
-use Rattle.node_core.proofs.Words.{Challenge, Name, challenge_frame, name_frame, reply_frame, status_of, ReplyFrame, StatusWord}
-use Rattle.node_core.proofs.Words.{AdmissionRules, found, is_dialled, Pending, StateRule, lie, no_value, kept_among, History, is_open}
-use Rattle.node_core.proofs.Words.{is_kept, waiting, awaits, is_last, is_whole, Follows, Parts, heard_named, is_handshake, IsLinkOf}
-use Rattle.node_core.proofs.Words.{IsState, facts, link_words, KeptLink}
-use Rattle.std.proofs.Common.{if◌then◌else◌}
+use Rattle.node_core.proofs.Words.{Bool, List, None, Option, Some, ap, arith, cond, false, get_or, length, nat_eq, not, position, refl, subst, sym}
+use Rattle.node_core.proofs.Words.{true, ℕ, [], ◌+◌, ◌<◌, ◌==◌, ◌||◌, ◌∙◌, ◌∷◌, ◌≡◌, ◌≤◌, list_any, option_map, is_empty, Challenge, Name}
+use Rattle.node_core.proofs.Words.{challenge_frame, name_frame, reply_frame, status_of, ReplyFrame, StatusWord, AdmissionRules, found, is_dialled}
+use Rattle.node_core.proofs.Words.{Pending, StateRule, lie, no_value, kept_among, History, is_open, is_kept, waiting, awaits, is_last, is_whole}
+use Rattle.node_core.proofs.Words.{Follows, Parts, heard_named, is_handshake, IsLinkOf, IsState, facts, link_words, KeptLink, if◌then◌else◌}
+use Rattle.node_core.proofs.Words.{position_from, refusal_frames, status_owed, reply_owed, ack_owed, introduced, linked, Heard, LinkState}
+use Rattle.node_core.proofs.Words.{accepted_as, Named}
 use Rattle.std.proofs.lemmas.Iterator.Adapters.{position_from-zero}
-use Rattle.std.specs.List.{position_from}
-use Rattle.handshake_frames.specs.declared.frame.StatusWord.TheVariants as word
-use Rattle.link_states.specs.declared.await_name.Named.TheVariants as named
-use Rattle.link_states.specs.declared.state_rule.StateRule.TheVariants as broken
-use Rattle.link_states.specs.Frames.{refusal_frames, status_owed, reply_owed, ack_owed, greeting_owed}
-use Rattle.link_states.specs.Named as says
-use Rattle.link_states.specs.Peer.{introduced}
+use Rattle.link_states.specs.Frames.{greeting_owed}
 use Rattle.link_states.specs.Pending.{is_up}
-use Rattle.link_states.specs.States.{linked}
-use Rattle.node_core.specs.declared.hearing.Heard.{Heard}
-use Rattle.node_core.specs.declared.hearing.Heard.TheVariants as heard
-use Rattle.node_core.specs.declared.link_state.LinkState.{LinkState}
-use Rattle.node_core.specs.declared.link_state.LinkState.TheVariants as state
-use Rattle.node_core.specs.Hearing.{accepted_as}
 use Rattle.node_core.proofs.EarlyHeard.{is_early}
 use Rattle.node_core.proofs.Found.{any_map, some_is}
 use Rattle.node_core.proofs.KeptOn.{each_at, place_is}
+use Rattle.link_states.specs.Named as says
 
 -- ---- the state of the link
 
 module _ (h : History) (j : ℕ) (opens : is_open j h.entries ≡ true) where
   pub early_state : is_whole j h.entries ≡ false → is_last (awaits j h.entries) ≡ false → (s : LinkState) → IsState (facts h j) s → (is_early s ≡ true) × (is_handshake s ≡ true)
-  early_state unwhole inner (state.Name c) a = (refl, refl)
-  early_state unwhole inner (state.Answer s) a = (refl, refl)
-  early_state unwhole inner (state.Status dial) a = (refl, refl)
-  early_state unwhole inner (state.Challenge dial) a = (refl, refl)
-  early_state unwhole inner (state.Reply s) a = lie (sym (ap is_last a.0.awaited) ∙ inner)
-  early_state unwhole inner (state.Ack s) a = lie (sym (ap is_last a.0.awaited) ∙ inner)
-  early_state unwhole inner (state.Up up) a = lie (sym a.0.whole ∙ unwhole)
-  early_state unwhole inner state.Ended a = lie (sym opens ∙ a)
+  early_state unwhole inner (LinkState.Name c) a = (refl, refl)
+  early_state unwhole inner (LinkState.Answer s) a = (refl, refl)
+  early_state unwhole inner (LinkState.Status dial) a = (refl, refl)
+  early_state unwhole inner (LinkState.Challenge dial) a = (refl, refl)
+  early_state unwhole inner (LinkState.Reply s) a = lie (sym (ap is_last a.0.awaited) ∙ inner)
+  early_state unwhole inner (LinkState.Ack s) a = lie (sym (ap is_last a.0.awaited) ∙ inner)
+  early_state unwhole inner (LinkState.Up up) a = lie (sym a.0.whole ∙ unwhole)
+  early_state unwhole inner LinkState.Ended a = lie (sym opens ∙ a)
 
   pub last_state : is_last (awaits j h.entries) ≡ true → (s : LinkState) → IsState (facts h j) s → (is_early s ≡ false) × (is_handshake s ≡ true)
-  last_state last (state.Reply s) a = (refl, refl)
-  last_state last (state.Ack s) a = (refl, refl)
-  last_state last (state.Name c) a = lie (sym last ∙ ap is_last a.0.awaited)
-  last_state last (state.Answer s) a = lie (sym last ∙ ap is_last a.0.awaited)
-  last_state last (state.Status dial) a = lie (sym last ∙ ap is_last a.0.awaited)
-  last_state last (state.Challenge dial) a = lie (sym last ∙ ap is_last a.0.awaited)
-  last_state last (state.Up up) a = lie (sym last ∙ ap is_last a.0.awaited)
-  last_state last state.Ended a = lie (sym opens ∙ a)
+  last_state last (LinkState.Reply s) a = (refl, refl)
+  last_state last (LinkState.Ack s) a = (refl, refl)
+  last_state last (LinkState.Name c) a = lie (sym last ∙ ap is_last a.0.awaited)
+  last_state last (LinkState.Answer s) a = lie (sym last ∙ ap is_last a.0.awaited)
+  last_state last (LinkState.Status dial) a = lie (sym last ∙ ap is_last a.0.awaited)
+  last_state last (LinkState.Challenge dial) a = lie (sym last ∙ ap is_last a.0.awaited)
+  last_state last (LinkState.Up up) a = lie (sym last ∙ ap is_last a.0.awaited)
+  last_state last LinkState.Ended a = lie (sym opens ∙ a)
 
 -- a state of the handshake is of a link that isn't whole
 pub unwhole_state : (h : History) (j : ℕ) (s : LinkState) → is_handshake s ≡ true → IsState (facts h j) s → is_whole j h.entries ≡ false
-unwhole_state h j (state.Name c) q a = a.0.whole
-unwhole_state h j (state.Answer s) q a = a.0.whole
-unwhole_state h j (state.Reply s) q a = a.0.whole
-unwhole_state h j (state.Status s) q a = a.0.whole
-unwhole_state h j (state.Challenge s) q a = a.0.whole
-unwhole_state h j (state.Ack s) q a = a.0.whole
-unwhole_state h j (state.Up up) q a = lie (sym q)
-unwhole_state h j state.Ended q a = lie (sym q)
+unwhole_state h j (LinkState.Name c) q a = a.0.whole
+unwhole_state h j (LinkState.Answer s) q a = a.0.whole
+unwhole_state h j (LinkState.Reply s) q a = a.0.whole
+unwhole_state h j (LinkState.Status s) q a = a.0.whole
+unwhole_state h j (LinkState.Challenge s) q a = a.0.whole
+unwhole_state h j (LinkState.Ack s) q a = a.0.whole
+unwhole_state h j (LinkState.Up up) q a = lie (sym q)
+unwhole_state h j LinkState.Ended q a = lie (sym q)
 
 -- the link at the place of a number
 module _ (h : History) (parts : Parts) (t : Follows h parts) (j p : ℕ) (at : position (λ x. nat_eq x.number j) parts.links ≡ Some p) (d : KeptLink) where
@@ -74,62 +63,62 @@ module _ (h : History) (parts : Parts) (t : Follows h parts) (j p : ℕ) (at : p
 
 -- at most two
 abbrev pub IsFew : Heard → Type 0
-IsFew (heard.On s frames gives_up) = length frames ≤ 2
-IsFew (heard.Up up frames) = length frames ≤ 2
+IsFew (Heard.On s frames gives_up) = length frames ≤ 2
+IsFew (Heard.Up up frames) = length frames ≤ 2
 IsFew r = Unit {0}
 
 pub few_refused : (b : StateRule) → length (refusal_frames b) ≤ 2
-few_refused broken.NotAllowed = omega arith
-few_refused broken.Simultaneous = omega arith
-few_refused broken.LinkUp = omega arith
+few_refused StateRule.NotAllowed = omega arith
+few_refused StateRule.Simultaneous = omega arith
+few_refused StateRule.LinkUp = omega arith
 few_refused b = omega arith
 
 module _ (rules : AdmissionRules) (pending : Pending) (body : List ℕ) where
-  few_named : (c : ℕ) (f : Name) (up dialled : Bool) → IsFew (heard_named (if up then named.Alive (introduced rules c f) (greeting_owed rules c (says.welcome up dialled)) else named.Reply (introduced rules c f) (greeting_owed rules c (says.welcome up dialled)) dialled))
+  few_named : (c : ℕ) (f : Name) (up dialled : Bool) → IsFew (heard_named (if up then Named.Alive (introduced rules c f) (greeting_owed rules c (says.welcome up dialled)) else Named.Reply (introduced rules c f) (greeting_owed rules c (says.welcome up dialled)) dialled))
   few_named c f true dialled = omega arith
   few_named c f false true = omega arith
   few_named c f false false = omega arith
 
   few_truth : (w : StatusWord) → length (status_owed w) ≤ 2
-  few_truth word.Alive = omega arith
+  few_truth StatusWord.Alive = omega arith
   few_truth w = omega arith
 
   pub few_frames : (s : LinkState) (r : Heard) → accepted_as rules pending s body ≡ Some r → IsFew r
-  few_frames (state.Name c) r q = by (name_frame body) q
+  few_frames (LinkState.Name c) r q = by (name_frame body) q
     where
       by : (x : Option Name) → option_map (λ f. heard_named (says.named_by rules pending c f)) x ≡ Some r → IsFew r
       by None q = no_value (sym q)
       by (Some f) q = subst IsFew (some_is q) (few_named c f (is_up pending f.name) (is_dialled pending f.name))
-  few_frames (state.Answer s) r q = subst IsFew (some_is q) (omega arith)
-  few_frames (state.Reply s) r q = by (reply_frame body) q
+  few_frames (LinkState.Answer s) r q = subst IsFew (some_is q) (omega arith)
+  few_frames (LinkState.Reply s) r q = by (reply_frame body) q
     where
-      by : (x : Option ReplyFrame) → option_map (λ f. heard.Up (linked s) (ack_owed rules s.peer f.challenge)) x ≡ Some r → IsFew r
+      by : (x : Option ReplyFrame) → option_map (λ f. Heard.Up (linked s) (ack_owed rules s.peer f.challenge)) x ≡ Some r → IsFew r
       by None q = no_value (sym q)
       by (Some f) q = subst IsFew (some_is q) (omega arith)
-  few_frames (state.Status dial) r q = by (status_of body) q
+  few_frames (LinkState.Status dial) r q = by (status_of body) q
     where
-      by : (x : Option StatusWord) → option_map (λ w. heard.On (state.Challenge dial) (status_owed w) false) x ≡ Some r → IsFew r
+      by : (x : Option StatusWord) → option_map (λ w. Heard.On (LinkState.Challenge dial) (status_owed w) false) x ≡ Some r → IsFew r
       by None q = no_value (sym q)
       by (Some w) q = subst IsFew (some_is q) (few_truth w)
-  few_frames (state.Challenge dial) r q = by (challenge_frame body) q
+  few_frames (LinkState.Challenge dial) r q = by (challenge_frame body) q
     where
-      by : (x : Option Challenge) → option_map (λ f. heard.On (state.Ack (found rules dial f)) (reply_owed rules dial.peer dial.challenge f.challenge) false) x ≡ Some r → IsFew r
+      by : (x : Option Challenge) → option_map (λ f. Heard.On (LinkState.Ack (found rules dial f)) (reply_owed rules dial.peer dial.challenge f.challenge) false) x ≡ Some r → IsFew r
       by None q = no_value (sym q)
       by (Some f) q = subst IsFew (some_is q) (omega arith)
-  few_frames (state.Ack s) r q = subst IsFew (some_is q) (omega arith)
+  few_frames (LinkState.Ack s) r q = subst IsFew (some_is q) (omega arith)
   few_frames s r q = no_value (sym q)
 
   -- ---- what isn't heard
 
   abbrev goes_on : Heard → Bool
-  goes_on (heard.On s frames gives_up) = true
+  goes_on (Heard.On s frames gives_up) = true
   goes_on r = false
 
   abbrev comes_up : Heard → Bool
-  comes_up (heard.Up up frames) = true
+  comes_up (Heard.Up up frames) = true
   comes_up r = false
 
-  on_named : (c : ℕ) (f : Name) (up dialled : Bool) → goes_on (heard_named (if up then named.Alive (introduced rules c f) (greeting_owed rules c (says.welcome up dialled)) else named.Reply (introduced rules c f) (greeting_owed rules c (says.welcome up dialled)) dialled)) ≡ true
+  on_named : (c : ℕ) (f : Name) (up dialled : Bool) → goes_on (heard_named (if up then Named.Alive (introduced rules c f) (greeting_owed rules c (says.welcome up dialled)) else Named.Reply (introduced rules c f) (greeting_owed rules c (says.welcome up dialled)) dialled)) ≡ true
   on_named c f true dialled = refl
   on_named c f false dialled = refl
 
@@ -143,18 +132,18 @@ module _ (rules : AdmissionRules) (pending : Pending) (body : List ℕ) where
 
   -- a frame that isn't the last leads on
   pub early_goes_on : (s : LinkState) → is_early s ≡ true → (r : Heard) → accepted_as rules pending s body ≡ Some r → goes_on r ≡ true
-  early_goes_on (state.Name c) early r q = on_some (λ f. heard_named (says.named_by rules pending c f)) (λ f. on_named c f (is_up pending f.name) (is_dialled pending f.name)) (name_frame body) r q
-  early_goes_on (state.Answer s) early r q = ap goes_on (sym (some_is q))
-  early_goes_on (state.Status dial) early r q = on_some (λ w. heard.On (state.Challenge dial) (status_owed w) false) (λ w. refl) (status_of body) r q
-  early_goes_on (state.Challenge dial) early r q = on_some (λ f. heard.On (state.Ack (found rules dial f)) (reply_owed rules dial.peer dial.challenge f.challenge) false) (λ f. refl) (challenge_frame body) r q
+  early_goes_on (LinkState.Name c) early r q = on_some (λ f. heard_named (says.named_by rules pending c f)) (λ f. on_named c f (is_up pending f.name) (is_dialled pending f.name)) (name_frame body) r q
+  early_goes_on (LinkState.Answer s) early r q = ap goes_on (sym (some_is q))
+  early_goes_on (LinkState.Status dial) early r q = on_some (λ w. Heard.On (LinkState.Challenge dial) (status_owed w) false) (λ w. refl) (status_of body) r q
+  early_goes_on (LinkState.Challenge dial) early r q = on_some (λ f. Heard.On (LinkState.Ack (found rules dial f)) (reply_owed rules dial.peer dial.challenge f.challenge) false) (λ f. refl) (challenge_frame body) r q
   early_goes_on s early r q = lie (sym early)
 
   -- the last one makes the link up
   pub last_comes_up : (s : LinkState) → is_early s ≡ false → (r : Heard) → accepted_as rules pending s body ≡ Some r → comes_up r ≡ true
-  last_comes_up (state.Reply s) late r q = up_some (λ f. heard.Up (linked s) (ack_owed rules s.peer f.challenge)) (λ f. refl) (reply_frame body) r q
-  last_comes_up (state.Ack s) late r q = ap comes_up (sym (some_is q))
-  last_comes_up (state.Up up) late r q = no_value (sym q)
-  last_comes_up state.Ended late r q = no_value (sym q)
+  last_comes_up (LinkState.Reply s) late r q = up_some (λ f. Heard.Up (linked s) (ack_owed rules s.peer f.challenge)) (λ f. refl) (reply_frame body) r q
+  last_comes_up (LinkState.Ack s) late r q = ap comes_up (sym (some_is q))
+  last_comes_up (LinkState.Up up) late r q = no_value (sym q)
+  last_comes_up LinkState.Ended late r q = no_value (sym q)
   last_comes_up s late r q = lie late
 
 -- ---- where no link has the number

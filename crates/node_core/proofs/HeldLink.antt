@@ -1,10 +1,7 @@
 -- A link with room for frames, whose state is held apart while a frame is heard.
-use Rattle.node_core.proofs.Words.{List, Some, ap, get_or, length, nat_eq, position, refl, set, subst, sym, ℕ, ◌<◌, ◌∙◌, ◌≡◌, ◌≤◌}
-use Rattle.node_core.proofs.Words.{get_or-set_same, set-set, kept_climbs, History, Follows, Parts, IsLinkOf, IsState, facts, link_words}
-use Rattle.node_core.proofs.Words.{KeptLink, with_room}
-use Rattle.node_core.specs.declared.link_state.LinkState.{LinkState}
-use Rattle.node_core.specs.declared.link_state.LinkState.TheVariants as states
-use Rattle.node_core.specs.Handshakes.{IsReady}
+use Rattle.node_core.proofs.Words.{List, Some, ap, get_or, length, nat_eq, position, refl, set, subst, sym, ℕ, ◌<◌, ◌∙◌, ◌≡◌, ◌≤◌, get_or-set_same}
+use Rattle.node_core.proofs.Words.{set-set, kept_climbs, History, Follows, Parts, IsLinkOf, IsState, facts, link_words, KeptLink, with_room}
+use Rattle.node_core.proofs.Words.{LinkState, IsReady}
 use Rattle.node_core.proofs.Emptied.{IsEmptied, taken_out, ready}
 use Rattle.node_core.proofs.HeardFrames.{is_there, link_there, state_there}
 use Rattle.node_core.proofs.KeptOn.{each_at, one_follows}
@@ -14,10 +11,10 @@ pub record IsHeld (kept : List KeptLink) (p : ℕ) (v w next last : KeptLink) (s
   pub first : v ≡ get_or kept p v
   pub roomy : w ≡ with_room v w.room
   pub then : next ≡ get_or (set kept p w) p next
-  pub emptied : last ≡ record next { state = states.Ended }
+  pub emptied : last ≡ record next { state = LinkState.Ended }
   pub state : s ≡ next.state
 
-pub held_now : (kept : List KeptLink) (p : ℕ) (v w next last : KeptLink) (s : LinkState) → v ≡ get_or kept p v → w ≡ with_room v w.room → next ≡ get_or (set kept p w) p next → last ≡ record next { state = states.Ended } → s ≡ next.state → IsHeld kept p v w next last s
+pub held_now : (kept : List KeptLink) (p : ℕ) (v w next last : KeptLink) (s : LinkState) → v ≡ get_or kept p v → w ≡ with_room v w.room → next ≡ get_or (set kept p w) p next → last ≡ record next { state = LinkState.Ended } → s ≡ next.state → IsHeld kept p v w next last s
 held_now kept p v w next last s a b c d e = record { first = a; roomy = b; then = c; emptied = d; state = e }
 
 -- more room alone changes nothing

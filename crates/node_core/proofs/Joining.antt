@@ -1,24 +1,13 @@
 -- Own processes that join groups.
-use Rattle.node_core.proofs.Words.{All, Bool, List, None, Option, Some, ap, arith, cond, false, get_or, length, map, nat_le, not, position}
-use Rattle.node_core.proofs.Words.{refl, set, suc, sym, true, zero, ℕ, [], ◌&&◌, ◌++◌, ◌+◌, ◌<◌, ◌==◌, ◌∙◌, ◌∷◌, ◌≡◌, ◌≤◌, list_all, le-leb}
-use Rattle.node_core.proofs.Words.{leb-true, same_decides, listing, mentions, same, pid_cmp, Pid, Message, local_total, all_hold, lie}
-use Rattle.node_core.proofs.Words.{no_value, unbroken, told_numbers, and_left, and_right, checks, first_broken, local_rows, row, History}
-use Rattle.node_core.proofs.Words.{creation, listed, waiting, wide, is_local, is_running, lives, IsAnswered, IsNext, is_full, with_entry}
-use Rattle.node_core.proofs.Words.{Change, Entry, Accepted, Rule, follows_other, IsCalmFault, Follows, Parts, link_words, KeptLink, IsMoved}
-use Rattle.node_core.proofs.Words.{ProcessesFollow, process_words, Spawned, IsRunningOf, is_number, scope_words, if_among, said_to}
-use Rattle.link_frames.specs.declared.message.Message.TheVariants as said
-use Rattle.scope_core.specs.Table.{max_rows}
-use Rattle.scope_core.specs.Calls.{count_after_join}
-use Rattle.policy_audit.specs.declared.event.Event.TheVariants as event
-use Rattle.policy_audit.specs.declared.reply.Reply.TheVariants as reply
-use Rattle.policy_audit.specs.declared.rule.Rule.TheVariants as rule
-use Rattle.policy_audit.proofs.LivesNow.{lives_of}
+use Rattle.node_core.proofs.Words.{All, Bool, List, None, Option, Some, ap, arith, cond, false, get_or, length, map, nat_le, not, position, refl, set}
+use Rattle.node_core.proofs.Words.{suc, sym, true, zero, ℕ, [], ◌&&◌, ◌++◌, ◌+◌, ◌<◌, ◌==◌, ◌∙◌, ◌∷◌, ◌≡◌, ◌≤◌, list_all, le-leb, leb-true}
+use Rattle.node_core.proofs.Words.{same_decides, listing, mentions, same, pid_cmp, Pid, Message, local_total, all_hold, lie, no_value, unbroken}
+use Rattle.node_core.proofs.Words.{told_numbers, and_left, and_right, checks, first_broken, local_rows, row, History, creation, listed, waiting, wide}
+use Rattle.node_core.proofs.Words.{is_local, is_running, lives, IsAnswered, IsNext, is_full, with_entry, Change, Entry, Accepted, Rule, follows_other}
+use Rattle.node_core.proofs.Words.{IsCalmFault, Follows, Parts, link_words, KeptLink, IsMoved, ProcessesFollow, process_words, Spawned, IsRunningOf}
+use Rattle.node_core.proofs.Words.{is_number, scope_words, if_among, said_to, max_rows, count_after_join, lives_of, joined_links, Running, CoreFault}
+use Rattle.node_core.proofs.Words.{IsJoinRefusal, own_checks, Event, Reply}
 use Rattle.policy_audit.proofs.RowsAfter.{joined_rows}
-use Rattle.policy_audit.proofs.ScopeFrames.{joined_links}
-use Rattle.node_core.specs.declared.running.Running.{Running}
-use Rattle.node_core.specs.declared.fault.CoreFault.{CoreFault}
-use Rattle.node_core.specs.declared.fault.CoreFault.TheVariants as faults
-use Rattle.node_core.specs.Moving.{IsJoinRefusal, own_checks}
 use Rattle.node_core.proofs.Entered.{made, accepted_now, answered_now, next_now, sound_now}
 use Rattle.node_core.proofs.OwnTotal.{rows_total}
 use Rattle.node_core.proofs.Placed.{follows_there, runs_there, scope_is}
@@ -55,18 +44,18 @@ more_yet n m q = by (nat_le (n + m) 4096) refl
 
 module _ (h : History) (seat : ℕ) (s g : List ℕ) (ps : List Pid) where
   abbrev join_broken : Bool → Bool → Bool → Bool → Option Rule
-  join_broken runs local alive fit = cond (not runs) (Some rule.NoScope) (cond (not local) (Some rule.NotLocal) (cond (not alive) (Some rule.NoProcess) (cond (not fit) (Some rule.RowsFull) None)))
+  join_broken runs local alive fit = cond (not runs) (Some Rule.NoScope) (cond (not local) (Some Rule.NotLocal) (cond (not alive) (Some Rule.NoProcess) (cond (not fit) (Some Rule.RowsFull) None)))
 
-  pub join_nowhere : is_running h s ≡ false → first_broken (checks h seat (event.Join s g ps)) ≡ Some rule.NoScope
+  pub join_nowhere : is_running h s ≡ false → first_broken (checks h seat (Event.Join s g ps)) ≡ Some Rule.NoScope
   join_nowhere q = ap (λ b. join_broken b (list_all (is_local h) ps) (list_all (lives h) ps) (nat_le (length (local_rows h s) + length ps) 4096)) q
 
   -- the first rule that processes break by themselves
-  pub join_own : is_running h s ≡ true → (r : Rule) → first_broken (own_checks h ps) ≡ Some r → first_broken (checks h seat (event.Join s g ps)) ≡ Some r
+  pub join_own : is_running h s ≡ true → (r : Rule) → first_broken (own_checks h ps) ≡ Some r → first_broken (checks h seat (Event.Join s g ps)) ≡ Some r
   join_own runs r q =
       ap (λ b. join_broken b (list_all (is_local h) ps) (list_all (lives h) ps) (nat_le (length (local_rows h s) + length ps) 4096)) runs
       ∙ by (list_all (is_local h) ps) (list_all (lives h) ps) (nat_le (length ps) 4096) refl q
     where
-      by : (local alive short : Bool) → nat_le (length ps) 4096 ≡ short → cond (not local) (Some rule.NotLocal) (cond (not alive) (Some rule.NoProcess) (cond (not short) (Some rule.RowsFull) None)) ≡ Some r
+      by : (local alive short : Bool) → nat_le (length ps) 4096 ≡ short → cond (not local) (Some Rule.NotLocal) (cond (not alive) (Some Rule.NoProcess) (cond (not short) (Some Rule.RowsFull) None)) ≡ Some r
           → join_broken true local alive (nat_le (length (local_rows h s) + length ps) 4096) ≡ Some r
       by false alive short e q = q
       by true false short e q = q
@@ -80,10 +69,10 @@ module _ (h : History) (seat : ℕ) (s g : List ℕ) (ps : List Pid) where
     all_alive : list_all (lives h) ps ≡ true
     all_alive = unbroken (list_all (lives h) ps) (all_hold (own_checks h ps) q).1.0
 
-    join_full : 4096 < length (local_rows h s) + length ps → first_broken (checks h seat (event.Join s g ps)) ≡ Some rule.RowsFull
+    join_full : 4096 < length (local_rows h s) + length ps → first_broken (checks h seat (Event.Join s g ps)) ≡ Some Rule.RowsFull
     join_full many = λ i. join_broken (runs i) (all_local i) (all_alive i) (too_many (length (local_rows h s) + length ps) 4096 many i)
 
-    pub join_holds : length (local_rows h s) + length ps ≤ 4096 → first_broken (checks h seat (event.Join s g ps)) ≡ None
+    pub join_holds : length (local_rows h s) + length ps ≤ 4096 → first_broken (checks h seat (Event.Join s g ps)) ≡ None
     join_holds few = λ i. join_broken (runs i) (all_local i) (all_alive i) (le-leb (length (local_rows h s) + length ps) 4096 few i)
 
 pub joins_few : (h : History) (ps : List Pid) → first_broken (own_checks h ps) ≡ None → length ps ≤ 4096
@@ -111,16 +100,16 @@ module _ (h : History) (seat : ℕ) (parts : Parts) (t : Follows h parts) (s g :
   joins_own q = own_nodes h a.table.own there.own ps (all_local h seat s g ps runs q)
 
   -- what the table refuses is the first rule that is broken
-  pub join_calm : first_broken (own_checks h ps) ≡ None → (f : CoreFault) → IsJoinRefusal a.table ps f → IsCalmFault h seat (event.Join s g ps) f
-  join_calm q (faults.Refused r) over = (join_full h seat s g ps runs q (more_rows _ _ _ own_total over.1) ∙ ap Some (sym over.0), refl)
-  join_calm q faults.OutOfMemory over = tt
+  pub join_calm : first_broken (own_checks h ps) ≡ None → (f : CoreFault) → IsJoinRefusal a.table ps f → IsCalmFault h seat (Event.Join s g ps) f
+  join_calm q (CoreFault.Refused r) over = (join_full h seat s g ps runs q (more_rows _ _ _ own_total over.1) ∙ ap Some (sym over.0), refl)
+  join_calm q CoreFault.OutOfMemory over = tt
 
   abbrev said_joined : Message
-  said_joined = said.Join a.scope (map (row g) (listing pid_cmp (λ q. mentions q ps) ps))
+  said_joined = Message.Join a.scope (map (row g) (listing pid_cmp (λ q. mentions q ps) ps))
 
   module _ (b : Running) (links : List KeptLink) (cs : List Change) (moved : IsMoved said_joined (count_after_join a.table g ps) a b parts.links links cs) where
     abbrev joined_entry : Entry
-    joined_entry = made h seat (event.Join s g ps) (Accepted reply.Done) cs
+    joined_entry = made h seat (Event.Join s g ps) (Accepted Reply.Done) cs
 
     abbrev pub joined_now : History
     joined_now = with_entry h joined_entry
@@ -138,9 +127,9 @@ module _ (h : History) (seat : ℕ) (parts : Parts) (t : Follows h parts) (s g :
     pub join_next : is_full h ≡ false → first_broken (own_checks h ps) ≡ None → local_total a.table + length ps ≤ max_rows → IsNext h joined_entry
     join_next space q few =
         let holds = join_holds h seat s g ps runs q (let is = own_total in omega (arith, is, few)) in
-        let verdict = accepted_now h seat (event.Join s g ps) space reply.Done holds refl in
-        let its = answered_now h seat (event.Join s g ps) space (Accepted reply.Done) cs verdict in
-        next_now h seat (event.Join s g ps) space (Accepted reply.Done) cs verdict
+        let verdict = accepted_now h seat (Event.Join s g ps) space Reply.Done holds refl in
+        let its = answered_now h seat (Event.Join s g ps) space (Accepted Reply.Done) cs verdict in
+        next_now h seat (Event.Join s g ps) space (Accepted Reply.Done) cs verdict
         (moved_change h seat parts t s p here a b at said_joined (count_after_join a.table g ps) links cs moved joined_now (rows_now its) (others_now its))
 
     pub join_follows : IsNext h joined_entry → Follows joined_now (record parts { scopes = set parts.scopes p b; links = links })
@@ -153,7 +142,7 @@ module _ (h : History) (seat : ℕ) (parts : Parts) (t : Follows h parts) (s g :
           scopes = moved_scopes h seat parts t s p here a b at said_joined (count_after_join a.table g ps) links cs moved joined_now (rows_now its) (others_now its) refl refl (λ l u. refl) (λ l u. refl);
           links = told_follow (link_words h) (link_words joined_now) (if_among (said_to a.told.items said_joined) (wide said_joined)) (λ l. refl)
               (told_numbers h joined_entry its refl refl (λ l. (joined_links h joined_entry its refl s g ps refl l).kept_is)) parts.links links
-              (λ l near. ap (λ f. waiting h l ++ f) (moved_frames h seat parts t s p here a b at said_joined (count_after_join a.table g ps) links cs moved said.Join (map (row g) (listing pid_cmp (λ q. mentions q ps) ps)) l))
+              (λ l near. ap (λ f. waiting h l ++ f) (moved_frames h seat parts t s p here a b at said_joined (count_after_join a.table g ps) links cs moved Message.Join (map (row g) (listing pid_cmp (λ q. mentions q ps) ps)) l))
               moved.links t.links;
           monitors = follows_other h joined_entry parts.monitors next.number t.monitors refl;
         }

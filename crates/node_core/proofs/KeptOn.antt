@@ -1,10 +1,8 @@
 -- The kept links after an entry: which of them stay, and how one of them or each is changed.
-use Rattle.node_core.proofs.Words.{Bool, List, Some, ap, arith, cond, false, get_or, length, map, nat_eq, nat_lt, position, refl, set}
-use Rattle.node_core.proofs.Words.{subst, suc, sym, true, zero, ℕ, [], ◌<◌, ◌∙◌, ◌∷◌, ◌≡◌, AllByRecursion, filter, list_all, option_map_or}
-use Rattle.node_core.proofs.Words.{eqb-true, ltb-true, position-Some, and_left, and_right, History, is_open, challenge_in, IsLinkOf}
-use Rattle.node_core.proofs.Words.{LinkWords, LinksFollow, facts, KeptLink}
-use Rattle.policy_audit.specs.Effects.{IsSameLink}
-use Rattle.policy_audit.proofs.KeptNumbers.{Climbs}
+use Rattle.node_core.proofs.Words.{Bool, List, Some, ap, arith, cond, false, get_or, length, map, nat_eq, nat_lt, position, refl, set, subst, suc}
+use Rattle.node_core.proofs.Words.{sym, true, zero, ℕ, [], ◌<◌, ◌∙◌, ◌∷◌, ◌≡◌, AllByRecursion, filter, list_all, option_map_or, eqb-true, ltb-true}
+use Rattle.node_core.proofs.Words.{position-Some, and_left, and_right, History, is_open, challenge_in, IsLinkOf, LinkWords, LinksFollow, facts}
+use Rattle.node_core.proofs.Words.{KeptLink, IsSameLink, Climbs}
 
 -- what is said of a link is the same, where its words are
 pub facts_same : (h k : History) → k.opening ≡ h.opening → (l : ℕ) → IsSameLink l h.entries k.entries → is_open l k.entries ≡ is_open l h.entries → facts k l ≡ facts h l

@@ -1,23 +1,12 @@
 -- Own processes that leave groups.
-use Rattle.node_core.proofs.Words.{All, Bool, List, None, Option, Some, ap, cond, false, get_or, map, nat_lt, not, position, refl, set}
-use Rattle.node_core.proofs.Words.{subst, sym, true, ℕ, [], ◌++◌, ◌-◌, ◌==◌, ◌||◌, ◌∙◌, ◌∷◌, ◌≡◌, list_all, list_any, same_decides, listing}
-use Rattle.node_core.proofs.Words.{mentions, same, pid_cmp, Pid, Message, count_of, local_count, told_numbers, and_left, and_right, checks}
-use Rattle.node_core.proofs.Words.{first_broken, row, History, creation, listed, waiting, wide, is_local, is_running, IsAnswered, IsNext}
-use Rattle.node_core.proofs.Words.{is_full, with_entry, Change, Entry, Accepted, Rule, follows_other, IsCalmFault, Follows, Parts}
-use Rattle.node_core.proofs.Words.{link_words, KeptLink, IsMoved, IsRunningOf, scope_words, if_among, said_to}
-use Rattle.std.proofs.Common.{min}
-use Rattle.link_frames.specs.declared.message.Message.TheVariants as said
-use Rattle.scope_core.specs.Calls.{count_after_leave, is_any_joined}
-use Rattle.policy_audit.specs.declared.event.Event.TheVariants as event
-use Rattle.policy_audit.specs.declared.reply.Reply.TheVariants as reply
-use Rattle.policy_audit.specs.declared.rule.Rule.TheVariants as rule
-use Rattle.policy_audit.specs.Own.{own}
+use Rattle.node_core.proofs.Words.{All, Bool, List, None, Option, Some, ap, cond, false, get_or, map, nat_lt, not, position, refl, set, subst, sym}
+use Rattle.node_core.proofs.Words.{true, ℕ, [], ◌++◌, ◌-◌, ◌==◌, ◌||◌, ◌∙◌, ◌∷◌, ◌≡◌, list_all, list_any, same_decides, listing, mentions, same}
+use Rattle.node_core.proofs.Words.{pid_cmp, Pid, Message, count_of, local_count, told_numbers, and_left, and_right, checks, first_broken, row}
+use Rattle.node_core.proofs.Words.{History, creation, listed, waiting, wide, is_local, is_running, IsAnswered, IsNext, is_full, with_entry, Change}
+use Rattle.node_core.proofs.Words.{Entry, Accepted, Rule, follows_other, IsCalmFault, Follows, Parts, link_words, KeptLink, IsMoved, IsRunningOf}
+use Rattle.node_core.proofs.Words.{scope_words, if_among, said_to, min, count_after_leave, is_any_joined, own, left_links, Running, CoreFault}
+use Rattle.node_core.proofs.Words.{IsLeaveRefusal, Event, Reply}
 use Rattle.policy_audit.proofs.RowsAfter.{left_rows}
-use Rattle.policy_audit.proofs.ScopeFrames.{left_links}
-use Rattle.node_core.specs.declared.running.Running.{Running}
-use Rattle.node_core.specs.declared.fault.CoreFault.{CoreFault}
-use Rattle.node_core.specs.declared.fault.CoreFault.TheVariants as faults
-use Rattle.node_core.specs.Moving.{IsLeaveRefusal}
 use Rattle.node_core.proofs.Entered.{made, accepted_now, answered_now, next_now, sound_now}
 use Rattle.node_core.proofs.Placed.{follows_there, runs_there, scope_is}
 use Rattle.node_core.proofs.Scopes.{own_counts}
@@ -29,12 +18,12 @@ use Rattle.node_core.proofs.Moved.{moved_change, moved_frames, moved_scopes}
 
 module _ (h : History) (seat : ℕ) (parts : Parts) (t : Follows h parts) (s g : List ℕ) (ps : List Pid) where
   abbrev leave_broken : Bool → Bool → Bool → Option Rule
-  leave_broken runs local some = cond (not runs) (Some rule.NoScope) (cond (not local) (Some rule.NotLocal) (cond (not some) (Some rule.NotJoined) None))
+  leave_broken runs local some = cond (not runs) (Some Rule.NoScope) (cond (not local) (Some Rule.NotLocal) (cond (not some) (Some Rule.NotJoined) None))
 
-  pub leave_nowhere : is_running h s ≡ false → first_broken (checks h seat (event.Leave s g ps)) ≡ Some rule.NoScope
+  pub leave_nowhere : is_running h s ≡ false → first_broken (checks h seat (Event.Leave s g ps)) ≡ Some Rule.NoScope
   leave_nowhere q = ap (λ b. leave_broken b (list_all (is_local h) ps) (list_any (λ x. nat_lt 0 (own h s g x)) ps)) q
 
-  pub leave_foreign : is_running h s ≡ true → list_all (is_local h) ps ≡ false → first_broken (checks h seat (event.Leave s g ps)) ≡ Some rule.NotLocal
+  pub leave_foreign : is_running h s ≡ true → list_all (is_local h) ps ≡ false → first_broken (checks h seat (Event.Leave s g ps)) ≡ Some Rule.NotLocal
   leave_foreign runs q = λ i. leave_broken (runs i) (q i) (list_any (λ x. nat_lt 0 (own h s g x)) ps)
 
   module _ (p : ℕ) (here : position (λ r. same r.scope s) parts.scopes ≡ Some p) (a : Running) (at : a ≡ get_or parts.scopes p a) where
@@ -64,23 +53,23 @@ module _ (h : History) (seat : ℕ) (parts : Parts) (t : Follows h parts) (s g :
       pub leaves_own : All (λ q. q.node ≡ a.table.own) ps
       leaves_own = own_nodes h a.table.own there.own ps local
 
-      leave_none : is_any_joined a.table g ps ≡ false → first_broken (checks h seat (event.Leave s g ps)) ≡ Some rule.NotJoined
+      leave_none : is_any_joined a.table g ps ≡ false → first_broken (checks h seat (Event.Leave s g ps)) ≡ Some Rule.NotJoined
       leave_none q = λ i. leave_broken (runs i) (local i) ((any_joined ps local ∙ q) i)
 
       -- what the table refuses is the first rule that is broken
-      pub leave_calm : (f : CoreFault) → IsLeaveRefusal a.table g ps f → IsCalmFault h seat (event.Leave s g ps) f
-      leave_calm (faults.Refused r) none = (leave_none none.1 ∙ ap Some (sym none.0), refl)
-      leave_calm faults.OutOfMemory none = tt
+      pub leave_calm : (f : CoreFault) → IsLeaveRefusal a.table g ps f → IsCalmFault h seat (Event.Leave s g ps) f
+      leave_calm (CoreFault.Refused r) none = (leave_none none.1 ∙ ap Some (sym none.0), refl)
+      leave_calm CoreFault.OutOfMemory none = tt
 
-      leave_holds : is_any_joined a.table g ps ≡ true → first_broken (checks h seat (event.Leave s g ps)) ≡ None
+      leave_holds : is_any_joined a.table g ps ≡ true → first_broken (checks h seat (Event.Leave s g ps)) ≡ None
       leave_holds q = λ i. leave_broken (runs i) (local i) ((any_joined ps local ∙ q) i)
 
     abbrev said_left : (List ℕ → Pid → ℕ) → Message
-    said_left c = said.Leave a.scope (map (row g) (listing pid_cmp (λ q. min (mentions q ps) (c g q)) ps))
+    said_left c = Message.Leave a.scope (map (row g) (listing pid_cmp (λ q. min (mentions q ps) (c g q)) ps))
 
     module _ (b : Running) (links : List KeptLink) (cs : List Change) (told_so : IsMoved (said_left (local_count a.table)) (count_after_leave a.table g ps) a b parts.links links cs) where
       abbrev left_entry : Entry
-      left_entry = made h seat (event.Leave s g ps) (Accepted reply.Done) cs
+      left_entry = made h seat (Event.Leave s g ps) (Accepted Reply.Done) cs
 
       abbrev pub left_now : History
       left_now = with_entry h left_entry
@@ -100,9 +89,9 @@ module _ (h : History) (seat : ℕ) (parts : Parts) (t : Follows h parts) (s g :
 
       pub leave_next : is_full h ≡ false → list_all (is_local h) ps ≡ true → is_any_joined a.table g ps ≡ true → IsNext h left_entry
       leave_next space local some =
-          let verdict = accepted_now h seat (event.Leave s g ps) space reply.Done (leave_holds local some) refl in
-          let its = answered_now h seat (event.Leave s g ps) space (Accepted reply.Done) cs verdict in
-          next_now h seat (event.Leave s g ps) space (Accepted reply.Done) cs verdict
+          let verdict = accepted_now h seat (Event.Leave s g ps) space Reply.Done (leave_holds local some) refl in
+          let its = answered_now h seat (Event.Leave s g ps) space (Accepted Reply.Done) cs verdict in
+          next_now h seat (Event.Leave s g ps) space (Accepted Reply.Done) cs verdict
           (moved_change h seat parts t s p here a b at (said_left (own h s)) (count_after_leave a.table g ps) links cs moved left_now (rows_now its) (others_now its))
 
       pub leave_follows : IsNext h left_entry → Follows left_now (record parts { scopes = set parts.scopes p b; links = links })
@@ -115,7 +104,7 @@ module _ (h : History) (seat : ℕ) (parts : Parts) (t : Follows h parts) (s g :
             scopes = moved_scopes h seat parts t s p here a b at (said_left (own h s)) (count_after_leave a.table g ps) links cs moved left_now (rows_now its) (others_now its) refl refl (λ l u. refl) (λ l u. refl);
             links = told_follow (link_words h) (link_words left_now) (if_among (said_to a.told.items (said_left (own h s))) (wide (said_left (own h s)))) (λ l. refl)
                 (told_numbers h left_entry its refl refl (λ l. (left_links h left_entry its refl s g ps refl l).kept_is)) parts.links links
-                (λ l near. ap (λ f. waiting h l ++ f) (moved_frames h seat parts t s p here a b at (said_left (own h s)) (count_after_leave a.table g ps) links cs moved said.Leave (map (row g) (listing pid_cmp (λ q. min (mentions q ps) (own h s g q)) ps)) l))
+                (λ l near. ap (λ f. waiting h l ++ f) (moved_frames h seat parts t s p here a b at (said_left (own h s)) (count_after_leave a.table g ps) links cs moved Message.Leave (map (row g) (listing pid_cmp (λ q. min (mentions q ps) (own h s g q)) ps)) l))
                 moved.links t.links;
             monitors = follows_other h left_entry parts.monitors next.number t.monitors refl;
           }

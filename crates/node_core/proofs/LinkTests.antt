@@ -1,21 +1,12 @@
 -- Which peers are up and which are dialled, by the states of the kept links.
-use Rattle.node_core.proofs.Words.{Bool, List, None, Option, Some, ap, arith, cond, false, length, nat_lt, not, refl, sym, true, ℕ, []}
-use Rattle.node_core.proofs.Words.{◌&&◌, ◌==◌, ◌||◌, ◌∙◌, ◌∷◌, ◌≡◌, AllByRecursion, list_any, option_map_or, eqb-true, same_decides}
-use Rattle.node_core.proofs.Words.{is_empty, is_among, same, AdmissionRules, lie, and_false, allow_list, dial_checks, first_broken, History}
-use Rattle.node_core.proofs.Words.{is_dialling, is_open, is_unfinished_dial, is_up, IsLegal, awaits, is_name_up, is_peer, is_whole, peer_of}
-use Rattle.node_core.proofs.Words.{AdmissionFollows, admission_words, IsLinkOf, IsState, LinksFollow, facts, link_words, KeptLink}
-use Rattle.node_core.proofs.Words.{dialled_peer, up_peer}
+use Rattle.node_core.proofs.Words.{Bool, List, None, Option, Some, ap, arith, cond, false, length, nat_lt, not, refl, sym, true, ℕ, [], ◌&&◌, ◌==◌}
+use Rattle.node_core.proofs.Words.{◌||◌, ◌∙◌, ◌∷◌, ◌≡◌, AllByRecursion, list_any, option_map_or, eqb-true, same_decides, is_empty, is_among, same}
+use Rattle.node_core.proofs.Words.{AdmissionRules, lie, and_false, allow_list, dial_checks, first_broken, History, is_dialling, is_open}
+use Rattle.node_core.proofs.Words.{is_unfinished_dial, is_up, IsLegal, awaits, is_name_up, is_peer, is_whole, peer_of, AdmissionFollows}
+use Rattle.node_core.proofs.Words.{admission_words, IsLinkOf, IsState, LinksFollow, facts, link_words, KeptLink, dialled_peer, up_peer, allowed}
+use Rattle.node_core.proofs.Words.{opened, is_dial_to, kept_links, name_up_kept, dialling_kept, LinkState, Awaits, Rule}
 use Rattle.link_states.specs.Checks.{allows}
-use Rattle.policy_audit.specs.Admission.{allowed}
-use Rattle.policy_audit.specs.Sides.{opened}
-use Rattle.policy_audit.specs.Links.{is_dial_to}
-use Rattle.policy_audit.specs.declared.rule.Rule.TheVariants as rule
-use Rattle.policy_audit.specs.Checks.{kept_links}
-use Rattle.policy_audit.proofs.KeptNumbers.{name_up_kept, dialling_kept}
 use Rattle.policy_audit.proofs.Onward.{is_acceptors, is_diallers, by_peer, by_dial}
-use Rattle.node_core.specs.declared.link_state.LinkState.{LinkState}
-use Rattle.node_core.specs.declared.link_state.LinkState.TheVariants as state
-use Rattle.node_core.specs.LinkFacts.{Awaits}
 use Rattle.node_core.proofs.Found.{any_map}
 use Rattle.node_core.proofs.Once.{same_names}
 
@@ -30,14 +21,14 @@ module _ (h : History) (n : List ℕ) where
 
   -- a link is up with n exactly where its state says so
   pub up_by : (l : ℕ) (s : LinkState) → IsState (facts h l) s → option_map_or (λ m. same m n) (up_peer s) false ≡ (is_up l h.entries && is_peer n l h.entries)
-  up_by l (state.Name c) t = down l t.0.whole
-  up_by l (state.Answer s) t = down l t.0.whole
-  up_by l (state.Reply s) t = down l t.0.whole
-  up_by l (state.Status s) t = down l t.0.whole
-  up_by l (state.Challenge s) t = down l t.0.whole
-  up_by l (state.Ack s) t = down l t.0.whole
-  up_by l (state.Up s) t = sym (λ i. (t.0.open_now i && t.0.whole i) && option_map_or (λ m. same m n) (t.1.peer.peer i) false)
-  up_by l state.Ended t = sym (ap (λ b. (b && is_whole l h.entries) && is_peer n l h.entries) t)
+  up_by l (LinkState.Name c) t = down l t.0.whole
+  up_by l (LinkState.Answer s) t = down l t.0.whole
+  up_by l (LinkState.Reply s) t = down l t.0.whole
+  up_by l (LinkState.Status s) t = down l t.0.whole
+  up_by l (LinkState.Challenge s) t = down l t.0.whole
+  up_by l (LinkState.Ack s) t = down l t.0.whole
+  up_by l (LinkState.Up s) t = sym (λ i. (t.0.open_now i && t.0.whole i) && option_map_or (λ m. same m n) (t.1.peer.peer i) false)
+  up_by l LinkState.Ended t = sym (ap (λ b. (b && is_whole l h.entries) && is_peer n l h.entries) t)
 
   undialled : (l : ℕ) → Awaits (facts h l) (awaits l h.entries) false → is_acceptors (awaits l h.entries) ≡ true → false ≡ (is_open l h.entries && is_unfinished_dial n l h.entries)
   undialled l t a = sym ((λ i. t.open_now i && (option_map_or (λ o. is_dial_to n o.start) ((by_peer l h.entries t.open_now a).opened i) false && not (is_whole l h.entries))))
@@ -54,15 +45,15 @@ module _ (h : History) (n : List ℕ) where
 
   -- a link is an own dial to n exactly where its state says so
   pub dialled_by : (l : ℕ) (s : LinkState) → IsState (facts h l) s → option_map_or (λ m. same m n) (dialled_peer s) false ≡ (is_open l h.entries && is_unfinished_dial n l h.entries)
-  dialled_by l (state.Name c) t = undialled l (record { open_now = t.0.open_now; whole = t.0.whole; awaited = refl }) (ap is_acceptors t.0.awaited)
-  dialled_by l (state.Answer s) t = undialled l (record { open_now = t.0.open_now; whole = t.0.whole; awaited = refl }) (ap is_acceptors t.0.awaited)
-  dialled_by l (state.Reply s) t = undialled l (record { open_now = t.0.open_now; whole = t.0.whole; awaited = refl }) (ap is_acceptors t.0.awaited)
-  dialled_by l (state.Status s) t = dialled l s.peer t.0.open_now t.0.whole (ap is_diallers t.0.awaited) t.1.peer.peer
-  dialled_by l (state.Challenge s) t = dialled l s.peer t.0.open_now t.0.whole (ap is_diallers t.0.awaited) t.1.peer.peer
-  dialled_by l (state.Ack s) t = dialled l s.peer t.0.open_now t.0.whole (ap is_diallers t.0.awaited) t.1.peer.peer
-  dialled_by l (state.Up s) t = sym (ap (λ b. is_open l h.entries && (option_map_or (λ o. is_dial_to n o.start) (opened l h.entries) false && not b)) t.0.whole
+  dialled_by l (LinkState.Name c) t = undialled l (record { open_now = t.0.open_now; whole = t.0.whole; awaited = refl }) (ap is_acceptors t.0.awaited)
+  dialled_by l (LinkState.Answer s) t = undialled l (record { open_now = t.0.open_now; whole = t.0.whole; awaited = refl }) (ap is_acceptors t.0.awaited)
+  dialled_by l (LinkState.Reply s) t = undialled l (record { open_now = t.0.open_now; whole = t.0.whole; awaited = refl }) (ap is_acceptors t.0.awaited)
+  dialled_by l (LinkState.Status s) t = dialled l s.peer t.0.open_now t.0.whole (ap is_diallers t.0.awaited) t.1.peer.peer
+  dialled_by l (LinkState.Challenge s) t = dialled l s.peer t.0.open_now t.0.whole (ap is_diallers t.0.awaited) t.1.peer.peer
+  dialled_by l (LinkState.Ack s) t = dialled l s.peer t.0.open_now t.0.whole (ap is_diallers t.0.awaited) t.1.peer.peer
+  dialled_by l (LinkState.Up s) t = sym (ap (λ b. is_open l h.entries && (option_map_or (λ o. is_dial_to n o.start) (opened l h.entries) false && not b)) t.0.whole
       ∙ ap (λ b. is_open l h.entries && b) (and_false (option_map_or (λ o. is_dial_to n o.start) (opened l h.entries) false)) ∙ and_false (is_open l h.entries))
-  dialled_by l state.Ended t = sym (ap (λ b. b && is_unfinished_dial n l h.entries) t)
+  dialled_by l LinkState.Ended t = sym (ap (λ b. b && is_unfinished_dial n l h.entries) t)
 
   module _ (legal : IsLegal h) (kept : List KeptLink) (t : LinksFollow (link_words h) kept) where
     -- a peer is up where a kept link is up with it
@@ -100,10 +91,10 @@ module _ (h : History) (rules : AdmissionRules) (t : AdmissionFollows (admission
 
 -- the first rule that a dial breaks, by what is tested
 pub dial_by : (h : History) (n : List ℕ) (own granted up dials room : Bool) → same n h.opening.name ≡ own → allowed h n ≡ granted → is_name_up n h.entries ≡ up → is_dialling n h.entries ≡ dials → nat_lt (kept_links h) 64 ≡ room
-    → first_broken (dial_checks h n) ≡ cond own (Some rule.OwnName) (cond (not granted) (Some rule.NotAllowed) (cond up (Some rule.LinkUp) (cond dials (Some rule.LinkPending) (cond (not room) (Some rule.LinksFull) None))))
+    → first_broken (dial_checks h n) ≡ cond own (Some Rule.OwnName) (cond (not granted) (Some Rule.NotAllowed) (cond up (Some Rule.LinkUp) (cond dials (Some Rule.LinkPending) (cond (not room) (Some Rule.LinksFull) None))))
 dial_by h n own granted up dials room a b c d e =
-    (λ i. cond (not (not (a i))) (Some rule.OwnName) (cond (not (b i)) (Some rule.NotAllowed) (cond (not (not (c i))) (Some rule.LinkUp) (cond (not (not (d i))) (Some rule.LinkPending) (cond (not (e i)) (Some rule.LinksFull) None)))))
-    ∙ (λ i. cond (twice own i) (Some rule.OwnName) (cond (not granted) (Some rule.NotAllowed) (cond (twice up i) (Some rule.LinkUp) (cond (twice dials i) (Some rule.LinkPending) (cond (not room) (Some rule.LinksFull) None)))))
+    (λ i. cond (not (not (a i))) (Some Rule.OwnName) (cond (not (b i)) (Some Rule.NotAllowed) (cond (not (not (c i))) (Some Rule.LinkUp) (cond (not (not (d i))) (Some Rule.LinkPending) (cond (not (e i)) (Some Rule.LinksFull) None)))))
+    ∙ (λ i. cond (twice own i) (Some Rule.OwnName) (cond (not granted) (Some Rule.NotAllowed) (cond (twice up i) (Some Rule.LinkUp) (cond (twice dials i) (Some Rule.LinkPending) (cond (not room) (Some Rule.LinksFull) None)))))
   where
     twice : (x : Bool) → not (not x) ≡ x
     twice true = refl

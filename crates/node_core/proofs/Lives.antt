@@ -1,12 +1,8 @@
 -- The processes of a node after those that were spawned.
-use Rattle.node_core.proofs.Words.{Bool, List, ap, arith, cond, false, length, nat_eq, nat_le, nat_lt, refl, sym, true, ℕ, [], ◌+◌, ◌<◌}
-use Rattle.node_core.proofs.Words.{◌∙◌, ◌≡◌, le-leb, leb-true, lt-ltb, ltb-true, lie, and_left, and_right, History, creation, lives}
-use Rattle.node_core.proofs.Words.{IsLegal, IsNext, answer, Accepted, Reply, ProcessesFollow, process_words, Spawned, is_number}
-use Rattle.std.proofs.lemmas.Bool.{ltb-false}
-use Rattle.policy_audit.specs.declared.event.Event.TheVariants as event
-use Rattle.policy_audit.specs.Own.{spawned, living}
-use Rattle.policy_audit.specs.declared.reply.Reply.TheVariants as reply
-use Rattle.policy_audit.proofs.LivesNow.{own_pid, lives_spawned}
+use Rattle.node_core.proofs.Words.{Bool, List, ap, arith, cond, false, length, nat_eq, nat_le, nat_lt, refl, sym, true, ℕ, [], ◌+◌, ◌<◌, ◌∙◌, ◌≡◌}
+use Rattle.node_core.proofs.Words.{le-leb, leb-true, lt-ltb, ltb-true, lie, and_left, and_right, History, creation, lives, IsLegal, IsNext, answer}
+use Rattle.node_core.proofs.Words.{Accepted, Reply, ProcessesFollow, process_words, Spawned, is_number, ltb-false, spawned, living, own_pid, Event}
+use Rattle.policy_audit.proofs.LivesNow.{lives_spawned}
 use Rattle.node_core.proofs.Entered.{made}
 use Rattle.node_core.proofs.Calm.{answered}
 
@@ -34,18 +30,18 @@ module _ (h : History) (p : Spawned) (t : ProcessesFollow (process_words h) p) w
       let is = t.spawned in
       omega (arith, within, is))
 
-  pub spawned_follow : (seat : ℕ) (r : Reply) (q : Spawned) → IsLegal h → IsNext h (made h seat event.Spawn (Accepted r) []) → q.spawned ≡ p.spawned + 1
+  pub spawned_follow : (seat : ℕ) (r : Reply) (q : Spawned) → IsLegal h → IsNext h (made h seat Event.Spawn (Accepted r) []) → q.spawned ≡ p.spawned + 1
       → ((n : ℕ) → is_number n q.live ≡ cond (nat_eq (p.spawned + 1) n) true (is_number n p.live)) → length q.live ≡ length p.live + 1
-      → ProcessesFollow (process_words (answered h seat event.Spawn r)) q
+      → ProcessesFollow (process_words (answered h seat Event.Spawn r)) q
   spawned_follow seat r q legal next more live count = record {
     spawned = let is = t.spawned in omega (arith, more, is);
     live = λ n.
         live n ∙ ap (λ k. cond (nat_eq (k + 1) n) true (is_number n p.live)) t.spawned
         ∙ ap (λ b. cond (nat_eq (spawned h + 1) n) true b) (t.live n)
-        ∙ sym (lives_spawned h (made h seat event.Spawn (Accepted r) []) (record { room = next.room; number = next.number; verdict = next.verdict }) refl legal refl n);
+        ∙ sym (lives_spawned h (made h seat Event.Spawn (Accepted r) []) (record { room = next.room; number = next.number; verdict = next.verdict }) refl legal refl n);
     count = let was = t.count in omega (arith, count, was);
   }
 
 -- the next process, as the policy names it
-pub spawn_answer : (h : History) (seat : ℕ) (name : List ℕ) (made_by number : ℕ) → name ≡ h.opening.name → made_by ≡ creation h → number ≡ spawned h → answer h seat event.Spawn ≡ reply.Pid (record { node = name; creation = made_by; number = number + 1 })
-spawn_answer h seat name made_by number a b c = sym (λ i. reply.Pid (record { node = a i; creation = b i; number = c i + 1 }))
+pub spawn_answer : (h : History) (seat : ℕ) (name : List ℕ) (made_by number : ℕ) → name ≡ h.opening.name → made_by ≡ creation h → number ≡ spawned h → answer h seat Event.Spawn ≡ Reply.Pid (record { node = name; creation = made_by; number = number + 1 })
+spawn_answer h seat name made_by number a b c = sym (λ i. Reply.Pid (record { node = a i; creation = b i; number = c i + 1 }))

@@ -1,20 +1,13 @@
 -- Links that are lost or given up.
-use Rattle.node_core.proofs.Words.{List, None, Option, Some, ap, cond, false, get_or, is_some, length, nat_eq, not, position, refl, subst}
-use Rattle.node_core.proofs.Words.{sym, true, ℕ, ◌&&◌, ◌<◌, ◌∙◌, ◌≡◌, filter, option_map_or, position-Some, same_decides, same, lie}
-use Rattle.node_core.proofs.Words.{no_value, and_both, and_false, History, is_open, is_up, IsAnswered, IsNext, is_full, with_entry}
-use Rattle.node_core.proofs.Words.{is_name_up, is_whole, peer_of, present_link, Change, Entry, Accepted, follows_other, Follows, Parts}
-use Rattle.node_core.proofs.Words.{AreCut, AreLost, IsLinkOf, IsState, LinksFollow, facts, link_words, KeptLink, up_peer}
-use Rattle.policy_audit.specs.declared.event.Event.TheVariants as event
-use Rattle.policy_audit.specs.declared.reply.Reply.TheVariants as reply
-use Rattle.policy_audit.specs.declared.rule.Rule.TheVariants as rule
-use Rattle.policy_audit.proofs.UpLinks.{agrees}
+use Rattle.node_core.proofs.Words.{List, None, Option, Some, ap, cond, false, get_or, is_some, length, nat_eq, not, position, refl, subst, sym, true}
+use Rattle.node_core.proofs.Words.{ℕ, ◌&&◌, ◌<◌, ◌∙◌, ◌≡◌, filter, option_map_or, position-Some, same_decides, same, lie, no_value, and_both}
+use Rattle.node_core.proofs.Words.{and_false, History, is_open, is_up, IsAnswered, IsNext, is_full, with_entry, is_name_up, is_whole, peer_of}
+use Rattle.node_core.proofs.Words.{present_link, Change, Entry, Accepted, follows_other, Follows, Parts, AreCut, AreLost, IsLinkOf, IsState}
+use Rattle.node_core.proofs.Words.{LinksFollow, facts, link_words, KeptLink, up_peer, agrees, LinkState, Running, Event, Reply, Rule}
 use Rattle.policy_audit.proofs.LinkFrames.{lost_links, disconnected_links}
 use Rattle.policy_audit.proofs.LinksLeft.{facts_left, lost_numbers, disconnected_numbers}
 use Rattle.policy_audit.proofs.HeardNow.{lost_heard, disconnected_heard}
 use Rattle.policy_audit.proofs.RowsAfter.{lost_rows, lost_other, disconnected_rows}
-use Rattle.node_core.specs.declared.link_state.LinkState.{LinkState}
-use Rattle.node_core.specs.declared.link_state.LinkState.TheVariants as state
-use Rattle.node_core.specs.declared.running.Running.{Running}
 use Rattle.node_core.proofs.Entered.{made, accepted_now, answered_now, next_now, sound_now}
 use Rattle.node_core.proofs.Gone.{IsGone, RowsGone, gone_links, gone_change, gone_scopes}
 use Rattle.node_core.proofs.Found.{some_is, place_found}
@@ -28,14 +21,14 @@ unfinished : (h : History) (l : ℕ) → is_whole l h.entries ≡ false → is_u
 unfinished h l q = ap (λ b. is_open l h.entries && b) q ∙ and_false (is_open l h.entries)
 
 pub down_by : (h : History) (l : ℕ) (s : LinkState) → IsState (facts h l) s → up_peer s ≡ None → is_up l h.entries ≡ false
-down_by h l (state.Name c) t q = unfinished h l t.0.whole
-down_by h l (state.Answer s) t q = unfinished h l t.0.whole
-down_by h l (state.Reply s) t q = unfinished h l t.0.whole
-down_by h l (state.Status s) t q = unfinished h l t.0.whole
-down_by h l (state.Challenge s) t q = unfinished h l t.0.whole
-down_by h l (state.Ack s) t q = unfinished h l t.0.whole
-down_by h l (state.Up s) t q = no_value q
-down_by h l state.Ended t q = ap (λ b. b && is_whole l h.entries) t
+down_by h l (LinkState.Name c) t q = unfinished h l t.0.whole
+down_by h l (LinkState.Answer s) t q = unfinished h l t.0.whole
+down_by h l (LinkState.Reply s) t q = unfinished h l t.0.whole
+down_by h l (LinkState.Status s) t q = unfinished h l t.0.whole
+down_by h l (LinkState.Challenge s) t q = unfinished h l t.0.whole
+down_by h l (LinkState.Ack s) t q = unfinished h l t.0.whole
+down_by h l (LinkState.Up s) t q = no_value q
+down_by h l LinkState.Ended t q = ap (λ b. b && is_whole l h.entries) t
 
 -- the link is up with n, which is another node
 pub record IsUpWith (h : History) (l : ℕ) (n : List ℕ) : Type 0 where
@@ -44,20 +37,20 @@ pub record IsUpWith (h : History) (l : ℕ) (n : List ℕ) : Type 0 where
   pub other : same n h.opening.name ≡ false
 
 pub up_with : (h : History) (l : ℕ) (s : LinkState) (n : List ℕ) → IsState (facts h l) s → up_peer s ≡ Some n → IsUpWith h l n
-up_with h l (state.Name c) n t q = no_value (sym q)
-up_with h l (state.Answer s) n t q = no_value (sym q)
-up_with h l (state.Reply s) n t q = no_value (sym q)
-up_with h l (state.Status s) n t q = no_value (sym q)
-up_with h l (state.Challenge s) n t q = no_value (sym q)
-up_with h l (state.Ack s) n t q = no_value (sym q)
-up_with h l (state.Up s) n t q = subst (IsUpWith h l) (some_is q) (record { up = and_both (is_open l h.entries) (is_whole l h.entries) t.0.open_now t.0.whole; peer = t.1.peer.peer; other = t.1.peer.other })
-up_with h l state.Ended n t q = no_value (sym q)
+up_with h l (LinkState.Name c) n t q = no_value (sym q)
+up_with h l (LinkState.Answer s) n t q = no_value (sym q)
+up_with h l (LinkState.Reply s) n t q = no_value (sym q)
+up_with h l (LinkState.Status s) n t q = no_value (sym q)
+up_with h l (LinkState.Challenge s) n t q = no_value (sym q)
+up_with h l (LinkState.Ack s) n t q = no_value (sym q)
+up_with h l (LinkState.Up s) n t q = subst (IsUpWith h l) (some_is q) (record { up = and_both (is_open l h.entries) (is_whole l h.entries) t.0.open_now t.0.whole; peer = t.1.peer.peer; other = t.1.peer.other })
+up_with h l LinkState.Ended n t q = no_value (sym q)
 
 -- ---- a link that is lost
 
 module _ (h : History) (seat j : ℕ) (cs : List Change) (parts : Parts) (t : Follows h parts) (p : ℕ) (d : KeptLink) (found : position (λ x. nat_eq x.number j) parts.links ≡ Some p) where
   abbrev loss : Entry
-  loss = made h seat (event.Lost j) (Accepted reply.Done) cs
+  loss = made h seat (Event.Lost j) (Accepted Reply.Done) cs
 
   abbrev link : KeptLink
   link = get_or parts.links p d
@@ -85,9 +78,9 @@ module _ (h : History) (seat j : ℕ) (cs : List Change) (parts : Parts) (t : Fo
 
   pub lost_next : is_full h ≡ false → AreLost (up_peer link.state) parts.scopes cs → IsNext h loss
   lost_next space lost =
-      let now = accepted_now h seat (event.Lost j) space reply.Done (ap (λ b. cond (not b) (Some rule.NoSuchLink) None) (is_kept_at h t.sound.legal parts.links t.links j p found)) refl in
-      next_now h seat (event.Lost j) space (Accepted reply.Done) cs now
-      (gone_change h (with_entry h loss) j lost_gone (up_peer link.state) (lost_listed (answered_now h seat (event.Lost j) space (Accepted reply.Done) cs now) (up_peer link.state) refl) parts.scopes cs lost t.scopes)
+      let now = accepted_now h seat (Event.Lost j) space Reply.Done (ap (λ b. cond (not b) (Some Rule.NoSuchLink) None) (is_kept_at h t.sound.legal parts.links t.links j p found)) refl in
+      next_now h seat (Event.Lost j) space (Accepted Reply.Done) cs now
+      (gone_change h (with_entry h loss) j lost_gone (up_peer link.state) (lost_listed (answered_now h seat (Event.Lost j) space (Accepted Reply.Done) cs now) (up_peer link.state) refl) parts.scopes cs lost t.scopes)
 
   pub lost_follows : IsNext h loss → (scopes : List Running) → AreCut link.number (up_peer link.state) parts.scopes scopes
       → Follows (with_entry h loss) (record parts { scopes = scopes; links = filter (λ x. not (nat_eq x.number j)) parts.links })
@@ -111,7 +104,7 @@ module _ (h : History) (seat : ℕ) (n : List ℕ) (cs : List Change) (parts : P
 
   module _ (p : ℕ) (d : KeptLink) (found : position (λ x. option_map_or (λ m. same m n) (up_peer x.state) false) parts.links ≡ Some p) where
     abbrev parting : Entry
-    parting = made h seat (event.Disconnect n) (Accepted reply.Done) cs
+    parting = made h seat (Event.Disconnect n) (Accepted Reply.Done) cs
 
     abbrev last : KeptLink
     last = get_or parts.links p d
@@ -151,9 +144,9 @@ module _ (h : History) (seat : ℕ) (n : List ℕ) (cs : List Change) (parts : P
 
     pub parting_next : is_full h ≡ false → AreLost (up_peer last.state) parts.scopes cs → IsNext h parting
     parting_next space lost =
-        let now = accepted_now h seat (event.Disconnect n) space reply.Done (ap (λ x. cond (not (is_some x)) (Some rule.NoLinkTo) None) present) refl in
-        next_now h seat (event.Disconnect n) space (Accepted reply.Done) cs now
-        (gone_change h (with_entry h parting) last.number parting_gone (up_peer last.state) (parting_listed (answered_now h seat (event.Disconnect n) space (Accepted reply.Done) cs now)) parts.scopes cs lost t.scopes)
+        let now = accepted_now h seat (Event.Disconnect n) space Reply.Done (ap (λ x. cond (not (is_some x)) (Some Rule.NoLinkTo) None) present) refl in
+        next_now h seat (Event.Disconnect n) space (Accepted Reply.Done) cs now
+        (gone_change h (with_entry h parting) last.number parting_gone (up_peer last.state) (parting_listed (answered_now h seat (Event.Disconnect n) space (Accepted Reply.Done) cs now)) parts.scopes cs lost t.scopes)
 
     pub parting_follows : IsNext h parting → (scopes : List Running) (number : ℕ) → number ≡ last.number → AreCut last.number (up_peer last.state) parts.scopes scopes
         → Follows (with_entry h parting) (record parts { scopes = scopes; links = filter (λ x. not (nat_eq x.number number)) parts.links })

@@ -1,21 +1,14 @@
 -- What a node keeps after a message that is accepted.
-use Rattle.node_core.proofs.Words.{Bool, List, None, Some, ap, cond, false, get_or, length, nat_eq, position, refl, set, subst, sym, true}
-use Rattle.node_core.proofs.Words.{ℕ, [], ◌++◌, ◌<◌, ◌==◌, ◌∙◌, ◌≡◌, option_map_or, eq-eqb, eqb-true, append-nil, same, Pid, Message}
-use Rattle.node_core.proofs.Words.{kept_climbs, running_rises, and_left, and_right, flip, IsChange, always, checks, first_broken}
-use Rattle.node_core.proofs.Words.{frame_checks, message_checks, heard, message_taken, told, History, is_open, is_up, links, named_by}
-use Rattle.node_core.proofs.Words.{listed, frame_owes, waiting, IsAnswered, IsLegal, IsNext, is_full, up_answer, verdict, with_entry}
-use Rattle.node_core.proofs.Words.{AwaitMessage, awaits, challenge_in, is_last, is_whole, Change, Entry, Accepted, follows_other, Follows}
-use Rattle.node_core.proofs.Words.{Parts, IsState, LinksFollow, facts, kept_numbers, link_words, KeptLink, IsRunningOf, ScopesFollow}
-use Rattle.node_core.proofs.Words.{scope_words}
-use Rattle.policy_audit.specs.declared.event.Event.TheVariants as event
-use Rattle.policy_audit.specs.declared.reply.Reply.TheVariants as reply
-use Rattle.policy_audit.specs.declared.rule.Rule.TheVariants as rule
-use Rattle.policy_audit.specs.Owed.{message_owes}
-use Rattle.policy_audit.proofs.Effects.{entry_link}
+use Rattle.node_core.proofs.Words.{Bool, List, None, Some, ap, cond, false, get_or, length, nat_eq, position, refl, set, subst, sym, true, ℕ, []}
+use Rattle.node_core.proofs.Words.{◌++◌, ◌<◌, ◌==◌, ◌∙◌, ◌≡◌, option_map_or, eq-eqb, eqb-true, append-nil, same, Pid, Message, kept_climbs}
+use Rattle.node_core.proofs.Words.{running_rises, and_left, and_right, flip, IsChange, always, checks, first_broken, frame_checks, message_checks}
+use Rattle.node_core.proofs.Words.{heard, message_taken, told, History, is_open, is_up, links, named_by, listed, frame_owes, waiting, IsAnswered}
+use Rattle.node_core.proofs.Words.{IsLegal, IsNext, is_full, up_answer, verdict, with_entry, AwaitMessage, awaits, challenge_in, is_last, is_whole}
+use Rattle.node_core.proofs.Words.{Change, Entry, Accepted, follows_other, Follows, Parts, IsState, LinksFollow, facts, kept_numbers, link_words}
+use Rattle.node_core.proofs.Words.{KeptLink, IsRunningOf, ScopesFollow, scope_words, message_owes, entry_link, framed_numbers, Running, Event, Reply}
+use Rattle.node_core.proofs.Words.{Rule}
 use Rattle.policy_audit.proofs.Onward.{message_taken_on}
 use Rattle.policy_audit.proofs.LinkFrames.{message_links}
-use Rattle.policy_audit.proofs.LinksLeft.{framed_numbers}
-use Rattle.node_core.specs.declared.running.Running.{Running}
 use Rattle.node_core.proofs.Entered.{made, accepted_now, answered_now, next_now, sound_now}
 use Rattle.node_core.proofs.Calm.{same_links}
 use Rattle.node_core.proofs.KeptOn.{facts_same, one_follows, place_is}
@@ -24,29 +17,29 @@ use Rattle.node_core.proofs.MessagePlaces.{IsUpHere}
 
 -- the rules for a message on a link that awaits one
 pub message_rules : (h : History) (seat l : ℕ) (body : List ℕ) → is_up l h.entries ≡ true → awaits l h.entries ≡ AwaitMessage
-    → first_broken (checks h seat (event.Frame l body)) ≡ first_broken (option_map_or (message_checks h l) (message_taken body) (always rule.BadFrame))
+    → first_broken (checks h seat (Event.Frame l body)) ≡ first_broken (option_map_or (message_checks h l) (message_taken body) (always Rule.BadFrame))
 message_rules h seat l body up awaited =
-    ap (λ b. first_broken (cond b (frame_checks h l body (awaits l h.entries)) (always rule.NoSuchLink))) (and_left (is_open l h.entries) (is_whole l h.entries) up)
+    ap (λ b. first_broken (cond b (frame_checks h l body (awaits l h.entries)) (always Rule.NoSuchLink))) (and_left (is_open l h.entries) (is_whole l h.entries) up)
     ∙ ap (λ a. first_broken (frame_checks h l body a)) awaited
 
 module _ (h : History) (seat l : ℕ) (body : List ℕ) (m : Message) (space : is_full h ≡ false) (up : is_up l h.entries ≡ true) (awaited : awaits l h.entries ≡ AwaitMessage)
     (says : message_taken body ≡ Some m) (holds : first_broken (message_checks h l m) ≡ None) (cs : List Change) where
   abbrev pub entry : Entry
-  entry = made h seat (event.Frame l body) (Accepted reply.Done) cs
+  entry = made h seat (Event.Frame l body) (Accepted Reply.Done) cs
 
   abbrev pub now : History
   now = with_entry h entry
 
-  its_verdict : Accepted reply.Done ≡ verdict h seat (event.Frame l body)
-  its_verdict = accepted_now h seat (event.Frame l body) space reply.Done
-      (message_rules h seat l body up awaited ∙ ap (λ o. first_broken (option_map_or (message_checks h l) o (always rule.BadFrame))) says ∙ holds)
-      (ap (λ a. cond (is_last a) (up_answer h l) reply.Done) awaited)
+  its_verdict : Accepted Reply.Done ≡ verdict h seat (Event.Frame l body)
+  its_verdict = accepted_now h seat (Event.Frame l body) space Reply.Done
+      (message_rules h seat l body up awaited ∙ ap (λ o. first_broken (option_map_or (message_checks h l) o (always Rule.BadFrame))) says ∙ holds)
+      (ap (λ a. cond (is_last a) (up_answer h l) Reply.Done) awaited)
 
   pub its_answered : IsAnswered h entry
-  its_answered = answered_now h seat (event.Frame l body) space (Accepted reply.Done) cs its_verdict
+  its_answered = answered_now h seat (Event.Frame l body) space (Accepted Reply.Done) cs its_verdict
 
   pub its_next : IsChange h now cs → IsNext h entry
-  its_next change = next_now h seat (event.Frame l body) space (Accepted reply.Done) cs its_verdict change
+  its_next change = next_now h seat (Event.Frame l body) space (Accepted Reply.Done) cs its_verdict change
 
   -- ---- links
 

@@ -1,13 +1,10 @@
 -- Where the link and the scope of a message are kept.
-use Rattle.node_core.proofs.Words.{List, None, Some, ap, cond, false, get_or, length, nat_eq, not, position, refl, subst, sym, true, ℕ, ◌<◌}
-use Rattle.node_core.proofs.Words.{◌||◌, ◌∙◌, ◌≡◌, get_or_default, position-Some, same_decides, is_empty, same, Linked, lie, and_left}
-use Rattle.node_core.proofs.Words.{and_right, History, is_open, is_up, is_kept, waiting, is_running, IsLegal, AwaitMessage, awaits}
-use Rattle.node_core.proofs.Words.{is_whole, IsIntroduced, IsLinkOf, IsState, LinkFacts, LinksFollow, facts, link_words, KeptLink}
-use Rattle.node_core.proofs.Words.{IsRunningOf, ScopesFollow, scope_words}
-use Rattle.node_core.specs.declared.running.Running.{Running}
-use Rattle.node_core.specs.declared.link_state.LinkState.{LinkState}
-use Rattle.node_core.specs.declared.link_state.LinkState.TheVariants as state
-use Rattle.node_core.proofs.Found.{no_place, some_place, place_within}
+use Rattle.node_core.proofs.Words.{Follows, Parts, List, None, Some, ap, cond, false, get_or, length, nat_eq, not, position, refl, subst, sym, true, ℕ, ◌<◌, ◌||◌}
+use Rattle.node_core.proofs.Words.{◌∙◌, ◌≡◌, get_or_default, position-Some, same_decides, is_empty, same, Linked, lie, and_left, and_right, History}
+use Rattle.node_core.proofs.Words.{is_open, is_up, is_kept, waiting, is_running, AwaitMessage, awaits, is_whole, IsIntroduced, IsLinkOf}
+use Rattle.node_core.proofs.Words.{IsState, LinkFacts, facts, link_words, KeptLink, IsRunningOf, scope_words, Running}
+use Rattle.node_core.proofs.Words.{LinkState}
+use Rattle.node_core.proofs.Found.{no_place, some_place}
 use Rattle.node_core.proofs.Scopes.{runs_is}
 use Rattle.node_core.proofs.KeptOn.{each_at}
 use Rattle.node_core.proofs.Places.{not_kept, is_kept_at, link_at}
@@ -17,33 +14,25 @@ use Rattle.node_core.proofs.Places.{not_kept, is_kept_at, link_at}
 -- the kept link l is up
 pub record IsUpHere (h : History) (l : ℕ) (x : KeptLink) : Type 0 where
   pub far : Linked
-  pub is : x.state ≡ state.Up far
+  pub is : x.state ≡ LinkState.Up far
   pub number : x.number ≡ l
   pub link : IsLinkOf (link_words h) x
   pub awaited : awaits l h.entries ≡ AwaitMessage
   pub introduced : IsIntroduced (facts h l) far.peer far.creation far.visible far.proof
 
 -- an open link whose side is whole is up
-up_state : (f : LinkFacts) (s : LinkState) → IsState f s → f.open_now ≡ true → f.whole ≡ true → (u : Linked) × (s ≡ state.Up u) × (f.awaited ≡ AwaitMessage) × IsIntroduced f u.peer u.creation u.visible u.proof
-up_state f (state.Name c) t o w = lie (sym w ∙ t.0.whole)
-up_state f (state.Answer s) t o w = lie (sym w ∙ t.0.whole)
-up_state f (state.Reply s) t o w = lie (sym w ∙ t.0.whole)
-up_state f (state.Status s) t o w = lie (sym w ∙ t.0.whole)
-up_state f (state.Challenge s) t o w = lie (sym w ∙ t.0.whole)
-up_state f (state.Ack s) t o w = lie (sym w ∙ t.0.whole)
-up_state f (state.Up u) t o w = (u, refl, t.0.awaited, t.1)
-up_state f state.Ended t o w = lie (sym o ∙ t)
+up_state : (f : LinkFacts) (s : LinkState) → IsState f s → f.open_now ≡ true → f.whole ≡ true → (u : Linked) × (s ≡ LinkState.Up u) × (f.awaited ≡ AwaitMessage) × IsIntroduced f u.peer u.creation u.visible u.proof
+up_state f (LinkState.Up u) t o w = (u, refl, t.0.awaited, t.1)
+up_state f LinkState.Ended t o w = lie (sym o ∙ t)
+up_state f s t o w = lie (sym w ∙ t.0.whole)
 
-module _ (h : History) (kept : List KeptLink) (legal : IsLegal h) (t : LinksFollow (link_words h) kept) (l : ℕ) (up : is_up l h.entries ≡ true) where
-  up_kept : is_kept h l ≡ true
-  up_kept = ap (λ b. b || not (is_empty (waiting h l))) (and_left (is_open l h.entries) (is_whole l h.entries) up)
+module _ {h : History} {parts : Parts} (t : Follows h parts) (l : ℕ) (up : is_up l h.entries ≡ true) where
+  pub up_placed : position (λ x. nat_eq x.number l) parts.links ≡ None → ⊥
+  up_placed q = lie {P = ⊥} (sym (ap (λ b. b || not (is_empty (waiting h l))) (and_left (is_open l h.entries) (is_whole l h.entries) up)) ∙ not_kept h t.sound.legal parts.links t.links l q)
 
-  pub up_placed : position (λ x. nat_eq x.number l) kept ≡ None → ⊥
-  up_placed q = lie {P = ⊥} (sym up_kept ∙ not_kept h legal kept t l q)
-
-  pub up_here : (p : ℕ) (x : KeptLink) → position (λ y. nat_eq y.number l) kept ≡ Some p → x ≡ get_or kept p x → IsUpHere h l x
-  up_here p x q is =
-      let at = link_at h legal kept t l p x q in
+  pub up_here : {p : ℕ} {x : KeptLink} → position (λ y. nat_eq y.number l) parts.links ≡ Some p → x ≡ get_or parts.links p x → IsUpHere h l x
+  up_here {p} {x} q is =
+      let at = link_at h t.sound.legal parts.links t.links l p x q in
       let here : IsLinkOf (link_words h) x = subst (IsLinkOf (link_words h)) (sym is) at.0 in
       let number : x.number ≡ l = ap (λ y. y.number) is ∙ at.1 in
       let found = up_state (facts h l) x.state (subst (λ n. IsState (facts h n) x.state) number here.state) (and_left (is_open l h.entries) (is_whole l h.entries) up) (and_right (is_open l h.entries) (is_whole l h.entries) up) in
@@ -58,47 +47,39 @@ pub record IsScopeHere (h : History) (rs : List Running) (s : List ℕ) (p : ℕ
   pub named : r.scope ≡ s
   pub running : IsRunningOf (scope_words h) r
 
-module _ (h : History) (rs : List Running) (t : ScopesFollow (scope_words h) rs) (s : List ℕ) where
-  pub stopped_here : position (λ r. same r.scope s) rs ≡ None → is_running h s ≡ false
-  stopped_here q = sym (runs_is h rs s t) ∙ no_place (λ r. same r.scope s) rs q
+module _ {h : History} {parts : Parts} (t : Follows h parts) (s : List ℕ) where
+  pub stopped_here : position (λ r. same r.scope s) parts.scopes ≡ None → is_running h s ≡ false
+  stopped_here q = sym (runs_is h parts.scopes s t.scopes) ∙ no_place (λ r. same r.scope s) parts.scopes q
 
-  pub running_placed : is_running h s ≡ true → position (λ r. same r.scope s) rs ≡ None → ⊥
+  pub running_placed : is_running h s ≡ true → position (λ r. same r.scope s) parts.scopes ≡ None → ⊥
   running_placed runs q = lie {P = ⊥} (sym runs ∙ stopped_here q)
 
-  pub runs_here : (p : ℕ) → position (λ r. same r.scope s) rs ≡ Some p → is_running h s ≡ true
-  runs_here p q = sym (runs_is h rs s t) ∙ some_place (λ r. same r.scope s) rs p q
+  pub runs_here : (p : ℕ) → position (λ r. same r.scope s) parts.scopes ≡ Some p → is_running h s ≡ true
+  runs_here p q = sym (runs_is h parts.scopes s t.scopes) ∙ some_place (λ r. same r.scope s) parts.scopes p q
 
-  pub scope_here : (p : ℕ) (r : Running) → position (λ x. same x.scope s) rs ≡ Some p → r ≡ get_or rs p r → IsScopeHere h rs s p r
-  scope_here p r q is =
-      let place = position-Some (λ x. same x.scope s) rs p r q in
+  pub scope_here : {p : ℕ} {r : Running} → position (λ x. same x.scope s) parts.scopes ≡ Some p → r ≡ get_or parts.scopes p r → IsScopeHere h parts.scopes s p r
+  scope_here {p} {r} q is =
+      let place = position-Some (λ x. same x.scope s) parts.scopes p r q in
       record {
         within = place.0;
         is = is;
-        named = ap (λ x. x.scope) is ∙ (same_decides (get_or rs p r).scope s).0 place.1;
-        running = subst (IsRunningOf (scope_words h)) (sym is) (each_at (IsRunningOf (scope_words h)) rs p r t.each place.0);
+        named = ap (λ x. x.scope) is ∙ (same_decides (get_or parts.scopes p r).scope s).0 place.1;
+        running = subst (IsRunningOf (scope_words h)) (sym is) (each_at (IsRunningOf (scope_words h)) parts.scopes p r t.scopes.each place.0);
       }
 
 -- another reading of the same place
 pub same_there : (h : History) (rs : List Running) (s : List ℕ) (p : ℕ) (r q : Running) → IsScopeHere h rs s p r → q ≡ get_or rs p q → q ≡ r
 same_there h rs s p r q there is = is ∙ get_or_default rs p q r there.within ∙ sym there.is
 
--- places are within their lists
-pub link_within : (kept : List KeptLink) (l p : ℕ) → position (λ x. nat_eq x.number l) kept ≡ Some p → p < length kept
-link_within kept l p q = place_within (λ x. nat_eq x.number l) kept p q
-
-pub scope_within : (rs : List Running) (s : List ℕ) (p : ℕ) → position (λ r. same r.scope s) rs ≡ Some p → p < length rs
-scope_within rs s p q = place_within (λ r. same r.scope s) rs p q
-
 -- ---- what waits for a kept link
 
-module _ (h : History) (kept : List KeptLink) (legal : IsLegal h) (t : LinksFollow (link_words h) kept) (l : ℕ) where
-  pub waits_none : position (λ x. nat_eq x.number l) kept ≡ None → None ≡ cond (is_kept h l) (Some (length (waiting h l))) None
-  waits_none q = sym (ap (λ b. cond b (Some (length (waiting h l))) None) (not_kept h legal kept t l q))
+module _ {h : History} {parts : Parts} (t : Follows h parts) (l : ℕ) where
+  pub waits_none : position (λ x. nat_eq x.number l) parts.links ≡ None → None ≡ cond (is_kept h l) (Some (length (waiting h l))) None
+  waits_none q = sym (ap (λ b. cond b (Some (length (waiting h l))) None) (not_kept h t.sound.legal parts.links t.links l q))
 
-  pub waits_some : (p : ℕ) (x : KeptLink) → position (λ y. nat_eq y.number l) kept ≡ Some p → x ≡ get_or kept p x → Some (length x.frames) ≡ cond (is_kept h l) (Some (length (waiting h l))) None
-  waits_some p x q is =
-      let at = link_at h legal kept t l p x q in
+  pub waits_some : {p : ℕ} {x : KeptLink} → position (λ y. nat_eq y.number l) parts.links ≡ Some p → x ≡ get_or parts.links p x → Some (length x.frames) ≡ cond (is_kept h l) (Some (length (waiting h l))) None
+  waits_some {p} {x} q is =
+      let at = link_at h t.sound.legal parts.links t.links l p x q in
       let here : IsLinkOf (link_words h) x = subst (IsLinkOf (link_words h)) (sym is) at.0 in
-      let number : x.number ≡ l = ap (λ y. y.number) is ∙ at.1 in
-      ap (λ fs. Some (length fs)) (here.frames ∙ ap (waiting h) number)
-      ∙ sym (ap (λ b. cond b (Some (length (waiting h l))) None) (is_kept_at h legal kept t l p q))
+      ap (λ fs. Some (length fs)) (here.frames ∙ ap (waiting h) (ap (λ y. y.number) is ∙ at.1))
+      ∙ sym (ap (λ b. cond b (Some (length (waiting h l))) None) (is_kept_at h t.sound.legal parts.links t.links l p q))

@@ -1,32 +1,18 @@
 -- The rules that a message breaks, by what a node keeps of its link and of its scope.
-use Rattle.node_core.proofs.Words.{All, Bool, List, None, Some, ap, arith, cond, false, length, nat_le, not, refl, subst, sym, true, ℕ, []}
-use Rattle.node_core.proofs.Words.{◌&&◌, ◌++◌, ◌+◌, ◌<◌, ◌==◌, ◌||◌, ◌∙◌, ◌∷◌, ◌≡◌, ◌≤◌, AllByRecursion, filter, flat_map, list_all}
-use Rattle.node_core.proofs.Words.{option_map_or, le-leb, leb-true, same_decides, same_sym, is_empty, has_bit, IsPidListing, same, Pid, Row}
-use Rattle.node_core.proofs.Words.{Name, Message, all_hold, no_value, unbroken, and_left, and_right, flip, always, checks, first_broken}
-use Rattle.node_core.proofs.Words.{message_checks, heard, message_taken, History, is_open, is_up, listed, refusal_owes, is_running}
-use Rattle.node_core.proofs.Words.{AwaitMessage, awaits, is_whole, peer_of, Rule, IsCalmFault, refuses_calmly, facts, KeptLink, up_peer}
-use Rattle.node_core.proofs.Words.{IsRunningOf, is_number, scope_words}
+use Rattle.node_core.proofs.Words.{All, Bool, List, None, Some, ap, arith, cond, false, length, nat_le, not, refl, subst, sym, true, ℕ, [], ◌&&◌}
+use Rattle.node_core.proofs.Words.{◌++◌, ◌+◌, ◌<◌, ◌==◌, ◌||◌, ◌∙◌, ◌∷◌, ◌≡◌, ◌≤◌, AllByRecursion, filter, flat_map, list_all, option_map_or, le-leb}
+use Rattle.node_core.proofs.Words.{leb-true, same_decides, same_sym, is_empty, has_bit, IsPidListing, same, Pid, Row, Name, Message, all_hold}
+use Rattle.node_core.proofs.Words.{no_value, unbroken, and_left, and_right, flip, always, checks, first_broken, message_checks, heard, message_taken}
+use Rattle.node_core.proofs.Words.{History, is_open, is_up, listed, refusal_owes, is_running, AwaitMessage, awaits, is_whole, peer_of, Rule}
+use Rattle.node_core.proofs.Words.{IsCalmFault, refuses_calmly, facts, KeptLink, up_peer, IsRunningOf, is_number, scope_words, IsGroupListing}
+use Rattle.node_core.proofs.Words.{node_total, max_rows, are_counted, rows_of, is_from, members, groups, Check, are_from, hears_in, runs, unless}
+use Rattle.node_core.proofs.Words.{peer_rows, are_listed, CoreFault, Running, is_shown, are_of_peer, IsGiven, scope_in, early_checks, IsAddRefusal}
+use Rattle.node_core.proofs.Words.{IsTakeRefusal, Event}
 use Rattle.std.proofs.lemmas.List.Elements.{All-from_recursion}
-use Rattle.dist_types.specs.Listing.{IsGroupListing}
-use Rattle.scope_core.specs.Table.{node_total, max_rows}
-use Rattle.scope_core.specs.Calls.{are_counted}
 use Rattle.scope_core.proofs.Members.{length-members}
-use Rattle.link_frames.specs.declared.message.Message.TheVariants as said
-use Rattle.policy_audit.specs.declared.event.Event.TheVariants as event
-use Rattle.policy_audit.specs.declared.rule.Rule.TheVariants as rule
 use Rattle.policy_audit.specs.Sides.{is_visible}
-use Rattle.policy_audit.specs.Hearing.{rows_of}
-use Rattle.policy_audit.specs.Listed.{is_from}
-use Rattle.policy_audit.specs.Contents.{members, groups}
-use Rattle.policy_audit.specs.Checks.{Check, are_from, hears_in, runs, unless, peer_rows, are_listed}
 use Rattle.policy_audit.proofs.Onward.{whole_is_message}
-use Rattle.node_core.specs.declared.fault.CoreFault.{CoreFault}
-use Rattle.node_core.specs.declared.fault.CoreFault.TheVariants as faults
-use Rattle.node_core.specs.declared.running.Running.{Running}
-use Rattle.node_core.specs.Links.{is_shown, are_of_peer}
-use Rattle.node_core.specs.LinkFacts.{IsGiven}
-use Rattle.node_core.specs.Messages.{scope_in, refusal}
-use Rattle.node_core.specs.MessageRules.{early_checks, IsAddRefusal, IsTakeRefusal}
+use Rattle.node_core.specs.Messages.{refusal}
 use Rattle.node_core.proofs.Found.{some_is}
 use Rattle.node_core.proofs.Scopes.{counts_listed, members_listing, groups_listing}
 use Rattle.node_core.proofs.MessagePlaces.{IsUpHere}
@@ -36,16 +22,16 @@ use Rattle.node_core.proofs.MessageKept.{message_rules}
 
 -- the rules that the table tells
 abbrev pub late_checks : History → ℕ → Message → List Check
-late_checks h l (said.Join s rows) = unless (nat_le (peer_rows h l s + length rows) 4096) rule.RowsFull ∷ []
-late_checks h l (said.Leave s rows) = are_listed h s rows ∷ []
+late_checks h l (Message.Join s rows) = unless (nat_le (peer_rows h l s + length rows) 4096) Rule.RowsFull ∷ []
+late_checks h l (Message.Leave s rows) = are_listed h s rows ∷ []
 late_checks h l m = []
 
 split : (h : History) (l : ℕ) (m : Message) → message_checks h l m ≡ early_checks h l m ++ late_checks h l m
-split h l (said.Discover s) = refl
-split h l (said.Sync s rows) = refl
-split h l (said.Join s rows) = refl
-split h l (said.Leave s rows) = refl
-split h l (said.Down s) = refl
+split h l (Message.Discover s) = refl
+split h l (Message.Sync s rows) = refl
+split h l (Message.Join s rows) = refl
+split h l (Message.Leave s rows) = refl
+split h l (Message.Down s) = refl
 
 broken_first : (cs ds : List Check) (r : Rule) → first_broken cs ≡ Some r → first_broken (cs ++ ds) ≡ Some r
 broken_first [] ds r q = no_value (sym q)
@@ -71,52 +57,52 @@ early_held h l m q = ap first_broken (split h l m) ∙ broken_later (early_check
 
 -- a frame that is a message breaks what the message does
 pub says_broken : (h : History) (seat l : ℕ) (body : List ℕ) (m : Message) (r : Rule) → is_up l h.entries ≡ true → awaits l h.entries ≡ AwaitMessage → message_taken body ≡ Some m → first_broken (message_checks h l m) ≡ Some r
-    → first_broken (checks h seat (event.Frame l body)) ≡ Some r
-says_broken h seat l body m r up awaited says q = message_rules h seat l body up awaited ∙ ap (λ o. first_broken (option_map_or (message_checks h l) o (always rule.BadFrame))) says ∙ q
+    → first_broken (checks h seat (Event.Frame l body)) ≡ Some r
+says_broken h seat l body m r up awaited says q = message_rules h seat l body up awaited ∙ ap (λ o. first_broken (option_map_or (message_checks h l) o (always Rule.BadFrame))) says ∙ q
 
 -- a frame that is none
-pub none_broken : (h : History) (seat l : ℕ) (body : List ℕ) → is_up l h.entries ≡ true → awaits l h.entries ≡ AwaitMessage → message_taken body ≡ None → first_broken (checks h seat (event.Frame l body)) ≡ Some rule.BadFrame
-none_broken h seat l body up awaited says = message_rules h seat l body up awaited ∙ ap (λ o. first_broken (option_map_or (message_checks h l) o (always rule.BadFrame))) says
+pub none_broken : (h : History) (seat l : ℕ) (body : List ℕ) → is_up l h.entries ≡ true → awaits l h.entries ≡ AwaitMessage → message_taken body ≡ None → first_broken (checks h seat (Event.Frame l body)) ≡ Some Rule.BadFrame
+none_broken h seat l body up awaited says = message_rules h seat l body up awaited ∙ ap (λ o. first_broken (option_map_or (message_checks h l) o (always Rule.BadFrame))) says
 
 -- the link is not visible
-pub hidden_first : (h : History) (l : ℕ) (m : Message) → is_visible h l ≡ false → first_broken (early_checks h l m) ≡ Some rule.HiddenLink
-hidden_first h l (said.Discover s) q = ap (λ b. first_broken (unless b rule.HiddenLink ∷ runs h s ∷ [])) q
-hidden_first h l (said.Sync s rows) q = ap (λ b. first_broken (unless b rule.HiddenLink ∷ runs h s ∷ are_from h l rows ∷ [])) q
-hidden_first h l (said.Join s rows) q = ap (λ b. first_broken (unless b rule.HiddenLink ∷ runs h s ∷ hears_in h l s ∷ are_from h l rows ∷ [])) q
-hidden_first h l (said.Leave s rows) q = ap (λ b. first_broken (unless b rule.HiddenLink ∷ runs h s ∷ hears_in h l s ∷ are_from h l rows ∷ [])) q
-hidden_first h l (said.Down s) q = ap (λ b. first_broken (unless b rule.HiddenLink ∷ runs h s ∷ [])) q
+pub hidden_first : (h : History) (l : ℕ) (m : Message) → is_visible h l ≡ false → first_broken (early_checks h l m) ≡ Some Rule.HiddenLink
+hidden_first h l (Message.Discover s) q = ap (λ b. first_broken (unless b Rule.HiddenLink ∷ runs h s ∷ [])) q
+hidden_first h l (Message.Sync s rows) q = ap (λ b. first_broken (unless b Rule.HiddenLink ∷ runs h s ∷ are_from h l rows ∷ [])) q
+hidden_first h l (Message.Join s rows) q = ap (λ b. first_broken (unless b Rule.HiddenLink ∷ runs h s ∷ hears_in h l s ∷ are_from h l rows ∷ [])) q
+hidden_first h l (Message.Leave s rows) q = ap (λ b. first_broken (unless b Rule.HiddenLink ∷ runs h s ∷ hears_in h l s ∷ are_from h l rows ∷ [])) q
+hidden_first h l (Message.Down s) q = ap (λ b. first_broken (unless b Rule.HiddenLink ∷ runs h s ∷ [])) q
 
 -- or the scope doesn't run
-pub stopped_first : (h : History) (l : ℕ) (m : Message) → is_visible h l ≡ true → is_running h (scope_in m) ≡ false → first_broken (early_checks h l m) ≡ Some rule.NoScope
-stopped_first h l (said.Discover s) v q = λ i. first_broken (unless (v i) rule.HiddenLink ∷ unless (q i) rule.NoScope ∷ [])
-stopped_first h l (said.Sync s rows) v q = λ i. first_broken (unless (v i) rule.HiddenLink ∷ unless (q i) rule.NoScope ∷ are_from h l rows ∷ [])
-stopped_first h l (said.Join s rows) v q = λ i. first_broken (unless (v i) rule.HiddenLink ∷ unless (q i) rule.NoScope ∷ hears_in h l s ∷ are_from h l rows ∷ [])
-stopped_first h l (said.Leave s rows) v q = λ i. first_broken (unless (v i) rule.HiddenLink ∷ unless (q i) rule.NoScope ∷ hears_in h l s ∷ are_from h l rows ∷ [])
-stopped_first h l (said.Down s) v q = λ i. first_broken (unless (v i) rule.HiddenLink ∷ unless (q i) rule.NoScope ∷ [])
+pub stopped_first : (h : History) (l : ℕ) (m : Message) → is_visible h l ≡ true → is_running h (scope_in m) ≡ false → first_broken (early_checks h l m) ≡ Some Rule.NoScope
+stopped_first h l (Message.Discover s) v q = λ i. first_broken (unless (v i) Rule.HiddenLink ∷ unless (q i) Rule.NoScope ∷ [])
+stopped_first h l (Message.Sync s rows) v q = λ i. first_broken (unless (v i) Rule.HiddenLink ∷ unless (q i) Rule.NoScope ∷ are_from h l rows ∷ [])
+stopped_first h l (Message.Join s rows) v q = λ i. first_broken (unless (v i) Rule.HiddenLink ∷ unless (q i) Rule.NoScope ∷ hears_in h l s ∷ are_from h l rows ∷ [])
+stopped_first h l (Message.Leave s rows) v q = λ i. first_broken (unless (v i) Rule.HiddenLink ∷ unless (q i) Rule.NoScope ∷ hears_in h l s ∷ are_from h l rows ∷ [])
+stopped_first h l (Message.Down s) v q = λ i. first_broken (unless (v i) Rule.HiddenLink ∷ unless (q i) Rule.NoScope ∷ [])
 
 -- where none of them is broken, the scope runs
 pub scope_runs : (h : History) (l : ℕ) (m : Message) → first_broken (early_checks h l m) ≡ None → is_running h (scope_in m) ≡ true
-scope_runs h l (said.Discover s) q = unbroken (is_running h s) (all_hold (early_checks h l (said.Discover s)) q).1.0
-scope_runs h l (said.Sync s rows) q = unbroken (is_running h s) (all_hold (early_checks h l (said.Sync s rows)) q).1.0
-scope_runs h l (said.Join s rows) q = unbroken (is_running h s) (all_hold (early_checks h l (said.Join s rows)) q).1.0
-scope_runs h l (said.Leave s rows) q = unbroken (is_running h s) (all_hold (early_checks h l (said.Leave s rows)) q).1.0
-scope_runs h l (said.Down s) q = unbroken (is_running h s) (all_hold (early_checks h l (said.Down s)) q).1.0
+scope_runs h l (Message.Discover s) q = unbroken (is_running h s) (all_hold (early_checks h l (Message.Discover s)) q).1.0
+scope_runs h l (Message.Sync s rows) q = unbroken (is_running h s) (all_hold (early_checks h l (Message.Sync s rows)) q).1.0
+scope_runs h l (Message.Join s rows) q = unbroken (is_running h s) (all_hold (early_checks h l (Message.Join s rows)) q).1.0
+scope_runs h l (Message.Leave s rows) q = unbroken (is_running h s) (all_hold (early_checks h l (Message.Leave s rows)) q).1.0
+scope_runs h l (Message.Down s) q = unbroken (is_running h s) (all_hold (early_checks h l (Message.Down s)) q).1.0
 
 -- and each row is of its link's peer
-pub rows_from : (h : History) (l : ℕ) (s : List ℕ) (rows : List Row) → first_broken (early_checks h l (said.Sync s rows)) ≡ None → list_all (λ r. is_from l h.entries r.pid) rows ≡ true
-rows_from h l s rows q = unbroken (list_all (λ r. is_from l h.entries r.pid) rows) (all_hold (early_checks h l (said.Sync s rows)) q).1.1.0
+pub rows_from : (h : History) (l : ℕ) (s : List ℕ) (rows : List Row) → first_broken (early_checks h l (Message.Sync s rows)) ≡ None → list_all (λ r. is_from l h.entries r.pid) rows ≡ true
+rows_from h l s rows q = unbroken (list_all (λ r. is_from l h.entries r.pid) rows) (all_hold (early_checks h l (Message.Sync s rows)) q).1.1.0
 
-pub joined_from : (h : History) (l : ℕ) (s : List ℕ) (rows : List Row) → first_broken (early_checks h l (said.Join s rows)) ≡ None → list_all (λ r. is_from l h.entries r.pid) rows ≡ true
-joined_from h l s rows q = unbroken (list_all (λ r. is_from l h.entries r.pid) rows) (all_hold (early_checks h l (said.Join s rows)) q).1.1.1.0
+pub joined_from : (h : History) (l : ℕ) (s : List ℕ) (rows : List Row) → first_broken (early_checks h l (Message.Join s rows)) ≡ None → list_all (λ r. is_from l h.entries r.pid) rows ≡ true
+joined_from h l s rows q = unbroken (list_all (λ r. is_from l h.entries r.pid) rows) (all_hold (early_checks h l (Message.Join s rows)) q).1.1.1.0
 
-pub left_from : (h : History) (l : ℕ) (s : List ℕ) (rows : List Row) → first_broken (early_checks h l (said.Leave s rows)) ≡ None → list_all (λ r. is_from l h.entries r.pid) rows ≡ true
-left_from h l s rows q = unbroken (list_all (λ r. is_from l h.entries r.pid) rows) (all_hold (early_checks h l (said.Leave s rows)) q).1.1.1.0
+pub left_from : (h : History) (l : ℕ) (s : List ℕ) (rows : List Row) → first_broken (early_checks h l (Message.Leave s rows)) ≡ None → list_all (λ r. is_from l h.entries r.pid) rows ≡ true
+left_from h l s rows q = unbroken (list_all (λ r. is_from l h.entries r.pid) rows) (all_hold (early_checks h l (Message.Leave s rows)) q).1.1.1.0
 
 turned : {A : Type 0} (b : Bool) (x y : A) → cond (not b) x y ≡ cond b y x
 turned true x y = refl
 turned false x y = refl
 
-module _ (h : History) (l : ℕ) (x : KeptLink) (here : IsUpHere h l x) where
+module _ {h : History} {l : ℕ} {x : KeptLink} (here : IsUpHere h l x) where
   -- whether the link is visible
   pub visible_is : is_shown x.state ≡ is_visible h l
   visible_is = ap is_shown here.is ∙ gave.1.visible_is ∙ ap (λ b. not h.opening.hidden && b) (sym (ap (λ o. option_map_or {T = Name} {U = Bool} (λ f. has_bit 0 f.flags) o false) gave.1.said))
@@ -152,41 +138,41 @@ module _ (h : History) (l : ℕ) (x : KeptLink) (here : IsUpHere h l x) where
 
   -- the first rule that is broken, but for those that the table tells
   pub refusal_is : (hs : List ℕ) (m : Message) → is_visible h l ≡ true → is_running h (scope_in m) ≡ true → is_number l hs ≡ heard l (scope_in m) h.entries → first_broken (early_checks h l m) ≡ refusal x hs m
-  refusal_is hs (said.Discover s) v q hears = λ i. first_broken (unless (v i) rule.HiddenLink ∷ unless (q i) rule.NoScope ∷ [])
-  refusal_is hs (said.Sync s rows) v q hears =
-      (λ i. first_broken (unless (v i) rule.HiddenLink ∷ unless (q i) rule.NoScope ∷ unless (sym (of_peer_is rows) i) rule.ForeignPid ∷ []))
-      ∙ turned (are_of_peer x.state rows) (Some rule.ForeignPid) None
-  refusal_is hs (said.Join s rows) v q hears =
-      (λ i. first_broken (unless (v i) rule.HiddenLink ∷ unless (q i) rule.NoScope ∷ unless (sym hears i) rule.NotHeard ∷ unless (sym (of_peer_is rows) i) rule.ForeignPid ∷ []))
-      ∙ turned (is_number l hs) (Some rule.NotHeard) (cond (not (are_of_peer x.state rows)) (Some rule.ForeignPid) None)
-      ∙ (λ i. cond (is_number (sym here.number i) hs) (turned (are_of_peer x.state rows) (Some rule.ForeignPid) None i) (Some rule.NotHeard))
-  refusal_is hs (said.Leave s rows) v q hears =
-      (λ i. first_broken (unless (v i) rule.HiddenLink ∷ unless (q i) rule.NoScope ∷ unless (sym hears i) rule.NotHeard ∷ unless (sym (of_peer_is rows) i) rule.ForeignPid ∷ []))
-      ∙ turned (is_number l hs) (Some rule.NotHeard) (cond (not (are_of_peer x.state rows)) (Some rule.ForeignPid) None)
-      ∙ (λ i. cond (is_number (sym here.number i) hs) (turned (are_of_peer x.state rows) (Some rule.ForeignPid) None i) (Some rule.NotHeard))
-  refusal_is hs (said.Down s) v q hears = λ i. first_broken (unless (v i) rule.HiddenLink ∷ unless (q i) rule.NoScope ∷ [])
+  refusal_is hs (Message.Discover s) v q hears = λ i. first_broken (unless (v i) Rule.HiddenLink ∷ unless (q i) Rule.NoScope ∷ [])
+  refusal_is hs (Message.Sync s rows) v q hears =
+      (λ i. first_broken (unless (v i) Rule.HiddenLink ∷ unless (q i) Rule.NoScope ∷ unless (sym (of_peer_is rows) i) Rule.ForeignPid ∷ []))
+      ∙ turned (are_of_peer x.state rows) (Some Rule.ForeignPid) None
+  refusal_is hs (Message.Join s rows) v q hears =
+      (λ i. first_broken (unless (v i) Rule.HiddenLink ∷ unless (q i) Rule.NoScope ∷ unless (sym hears i) Rule.NotHeard ∷ unless (sym (of_peer_is rows) i) Rule.ForeignPid ∷ []))
+      ∙ turned (is_number l hs) (Some Rule.NotHeard) (cond (not (are_of_peer x.state rows)) (Some Rule.ForeignPid) None)
+      ∙ (λ i. cond (is_number (sym here.number i) hs) (turned (are_of_peer x.state rows) (Some Rule.ForeignPid) None i) (Some Rule.NotHeard))
+  refusal_is hs (Message.Leave s rows) v q hears =
+      (λ i. first_broken (unless (v i) Rule.HiddenLink ∷ unless (q i) Rule.NoScope ∷ unless (sym hears i) Rule.NotHeard ∷ unless (sym (of_peer_is rows) i) Rule.ForeignPid ∷ []))
+      ∙ turned (is_number l hs) (Some Rule.NotHeard) (cond (not (are_of_peer x.state rows)) (Some Rule.ForeignPid) None)
+      ∙ (λ i. cond (is_number (sym here.number i) hs) (turned (are_of_peer x.state rows) (Some Rule.ForeignPid) None i) (Some Rule.NotHeard))
+  refusal_is hs (Message.Down s) v q hears = λ i. first_broken (unless (v i) Rule.HiddenLink ∷ unless (q i) Rule.NoScope ∷ [])
 
 -- ---- refusals end no link
 
 module _ (h : History) (l : ℕ) (body : List ℕ) (up : is_up l h.entries ≡ true) where
-  pub calm : (r : Rule) → refusal_owes r ≡ [] → refuses_calmly h (event.Frame l body) r ≡ true
+  pub calm : (r : Rule) → refusal_owes r ≡ [] → refuses_calmly h (Event.Frame l body) r ≡ true
   calm r nothing = λ i. (not (and_left (is_open l h.entries) (is_whole l h.entries) up i) || and_right (is_open l h.entries) (is_whole l h.entries) up i) && is_empty (nothing i)
 
-foreign_silent : (b : Bool) (r : Rule) → cond b None (Some rule.ForeignPid) ≡ Some r → refusal_owes r ≡ []
+foreign_silent : (b : Bool) (r : Rule) → cond b None (Some Rule.ForeignPid) ≡ Some r → refusal_owes r ≡ []
 foreign_silent true r q = no_value (sym q)
 foreign_silent false r q = ap refusal_owes (sym (some_is q))
 
-unheard_silent : (a b : Bool) (r : Rule) → cond a (cond b None (Some rule.ForeignPid)) (Some rule.NotHeard) ≡ Some r → refusal_owes r ≡ []
+unheard_silent : (a b : Bool) (r : Rule) → cond a (cond b None (Some Rule.ForeignPid)) (Some Rule.NotHeard) ≡ Some r → refusal_owes r ≡ []
 unheard_silent true b r q = foreign_silent b r q
 unheard_silent false b r q = ap refusal_owes (sym (some_is q))
 
 -- what a message breaks early is owed nothing
 pub refusal_silent : (x : KeptLink) (hs : List ℕ) (m : Message) (r : Rule) → refusal x hs m ≡ Some r → refusal_owes r ≡ []
-refusal_silent x hs (said.Discover s) r q = no_value (sym q)
-refusal_silent x hs (said.Sync s rows) r q = foreign_silent (are_of_peer x.state rows) r q
-refusal_silent x hs (said.Join s rows) r q = unheard_silent (is_number x.number hs) (are_of_peer x.state rows) r q
-refusal_silent x hs (said.Leave s rows) r q = unheard_silent (is_number x.number hs) (are_of_peer x.state rows) r q
-refusal_silent x hs (said.Down s) r q = no_value (sym q)
+refusal_silent x hs (Message.Discover s) r q = no_value (sym q)
+refusal_silent x hs (Message.Sync s rows) r q = foreign_silent (are_of_peer x.state rows) r q
+refusal_silent x hs (Message.Join s rows) r q = unheard_silent (is_number x.number hs) (are_of_peer x.state rows) r q
+refusal_silent x hs (Message.Leave s rows) r q = unheard_silent (is_number x.number hs) (are_of_peer x.state rows) r q
+refusal_silent x hs (Message.Down s) r q = no_value (sym q)
 
 -- ---- what the table tells
 
@@ -200,40 +186,40 @@ module _ (h : History) (l : ℕ) (s : List ℕ) (r : Running) (named : r.scope �
   counted_is rows = λ i. list_all (λ w. nat_le (rows_of w.group w.pid rows) (counts_listed h s r named t i w.group w.pid)) rows
 
   -- a Join that makes too many rows
-  join_full : (rows : List Row) (n : List ℕ) → peer_of l h.entries ≡ Some n → max_rows < node_total r.table n + length rows → first_broken (early_checks h l (said.Join s rows)) ≡ None → first_broken (message_checks h l (said.Join s rows)) ≡ Some rule.RowsFull
-  join_full rows n of many q = early_held h l (said.Join s rows) q ∙ ap (λ b. cond (not b) (Some rule.RowsFull) None) (above (nat_le (peer_rows h l s + length rows) 4096) refl)
+  join_full : (rows : List Row) (n : List ℕ) → peer_of l h.entries ≡ Some n → max_rows < node_total r.table n + length rows → first_broken (early_checks h l (Message.Join s rows)) ≡ None → first_broken (message_checks h l (Message.Join s rows)) ≡ Some Rule.RowsFull
+  join_full rows n of many q = early_held h l (Message.Join s rows) q ∙ ap (λ b. cond (not b) (Some Rule.RowsFull) None) (above (nat_le (peer_rows h l s + length rows) 4096) refl)
     where
       above : (b : Bool) → nat_le (peer_rows h l s + length rows) 4096 ≡ b → b ≡ false
       above false e = refl
       above true e = absurd (let most = leb-true (peer_rows h l s + length rows) 4096 e in let is = total_is n of in omega (arith, most, is, many))
 
-  pub join_fits : (rows : List Row) (n : List ℕ) → peer_of l h.entries ≡ Some n → node_total r.table n + length rows ≤ max_rows → first_broken (early_checks h l (said.Join s rows)) ≡ None → first_broken (message_checks h l (said.Join s rows)) ≡ None
-  join_fits rows n of few q = early_held h l (said.Join s rows) q ∙ ap (λ b. cond (not b) (Some rule.RowsFull) None) (le-leb (peer_rows h l s + length rows) 4096 (let is = total_is n of in omega (arith, is, few)))
+  pub join_fits : (rows : List Row) (n : List ℕ) → peer_of l h.entries ≡ Some n → node_total r.table n + length rows ≤ max_rows → first_broken (early_checks h l (Message.Join s rows)) ≡ None → first_broken (message_checks h l (Message.Join s rows)) ≡ None
+  join_fits rows n of few q = early_held h l (Message.Join s rows) q ∙ ap (λ b. cond (not b) (Some Rule.RowsFull) None) (le-leb (peer_rows h l s + length rows) 4096 (let is = total_is n of in omega (arith, is, few)))
 
   -- a Leave of rows that aren't listed
-  leave_unlisted : (rows : List Row) → are_counted r.table rows ≡ false → first_broken (early_checks h l (said.Leave s rows)) ≡ None → first_broken (message_checks h l (said.Leave s rows)) ≡ Some rule.NotListed
-  leave_unlisted rows out q = early_held h l (said.Leave s rows) q ∙ ap (λ b. cond (not b) (Some rule.NotListed) None) (sym (counted_is rows) ∙ out)
+  leave_unlisted : (rows : List Row) → are_counted r.table rows ≡ false → first_broken (early_checks h l (Message.Leave s rows)) ≡ None → first_broken (message_checks h l (Message.Leave s rows)) ≡ Some Rule.NotListed
+  leave_unlisted rows out q = early_held h l (Message.Leave s rows) q ∙ ap (λ b. cond (not b) (Some Rule.NotListed) None) (sym (counted_is rows) ∙ out)
 
-  pub leave_listed : (rows : List Row) → are_counted r.table rows ≡ true → first_broken (early_checks h l (said.Leave s rows)) ≡ None → first_broken (message_checks h l (said.Leave s rows)) ≡ None
-  leave_listed rows all q = early_held h l (said.Leave s rows) q ∙ ap (λ b. cond (not b) (Some rule.NotListed) None) (sym (counted_is rows) ∙ all)
+  pub leave_listed : (rows : List Row) → are_counted r.table rows ≡ true → first_broken (early_checks h l (Message.Leave s rows)) ≡ None → first_broken (message_checks h l (Message.Leave s rows)) ≡ None
+  leave_listed rows all q = early_held h l (Message.Leave s rows) q ∙ ap (λ b. cond (not b) (Some Rule.NotListed) None) (sym (counted_is rows) ∙ all)
 
 -- what the table refuses is the first rule that is broken, and ends no link
 module _ (h : History) (seat l : ℕ) (body : List ℕ) (up : is_up l h.entries ≡ true) (awaited : awaits l h.entries ≡ AwaitMessage) (s : List ℕ) (r : Running) (named : r.scope ≡ s) (t : IsRunningOf (scope_words h) r) (rows : List Row) where
-  pub add_calm : (n : List ℕ) → peer_of l h.entries ≡ Some n → message_taken body ≡ Some (said.Join s rows) → first_broken (early_checks h l (said.Join s rows)) ≡ None → (f : CoreFault) → IsAddRefusal r.table n rows f → IsCalmFault h seat (event.Frame l body) f
-  add_calm n of says early (faults.Refused x) q = (says_broken h seat l body (said.Join s rows) x up awaited says (join_full h l s r named t rows n of q.1 early ∙ ap Some (sym q.0)), calm h l body up x (ap refusal_owes q.0))
-  add_calm n of says early faults.OutOfMemory q = tt
+  pub add_calm : (n : List ℕ) → peer_of l h.entries ≡ Some n → message_taken body ≡ Some (Message.Join s rows) → first_broken (early_checks h l (Message.Join s rows)) ≡ None → (f : CoreFault) → IsAddRefusal r.table n rows f → IsCalmFault h seat (Event.Frame l body) f
+  add_calm n of says early (CoreFault.Refused x) q = (says_broken h seat l body (Message.Join s rows) x up awaited says (join_full h l s r named t rows n of q.1 early ∙ ap Some (sym q.0)), calm h l body up x (ap refusal_owes q.0))
+  add_calm n of says early CoreFault.OutOfMemory q = tt
 
-  pub take_calm : message_taken body ≡ Some (said.Leave s rows) → first_broken (early_checks h l (said.Leave s rows)) ≡ None → (f : CoreFault) → IsTakeRefusal r.table rows f → IsCalmFault h seat (event.Frame l body) f
-  take_calm says early (faults.Refused x) q = (says_broken h seat l body (said.Leave s rows) x up awaited says (leave_unlisted h l s r named t rows q.1 early ∙ ap Some (sym q.0)), calm h l body up x (ap refusal_owes q.0))
-  take_calm says early faults.OutOfMemory q = tt
+  pub take_calm : message_taken body ≡ Some (Message.Leave s rows) → first_broken (early_checks h l (Message.Leave s rows)) ≡ None → (f : CoreFault) → IsTakeRefusal r.table rows f → IsCalmFault h seat (Event.Frame l body) f
+  take_calm says early (CoreFault.Refused x) q = (says_broken h seat l body (Message.Leave s rows) x up awaited says (leave_unlisted h l s r named t rows q.1 early ∙ ap Some (sym q.0)), calm h l body up x (ap refusal_owes q.0))
+  take_calm says early CoreFault.OutOfMemory q = tt
 
 -- ---- the peer of a link that is up
 
-pub peer_is : (h : History) (l : ℕ) (x : KeptLink) (here : IsUpHere h l x) (n : List ℕ) → Some n ≡ up_peer x.state → n ≡ here.far.peer
-peer_is h l x here n q = some_is (q ∙ ap up_peer here.is)
+pub peer_is : {h : History} {l : ℕ} {x : KeptLink} (here : IsUpHere h l x) {n : List ℕ} → Some n ≡ up_peer x.state → n ≡ here.far.peer
+peer_is here q = some_is (q ∙ ap up_peer here.is)
 
-pub has_peer : (h : History) (l : ℕ) (x : KeptLink) → IsUpHere h l x → None ≡ up_peer x.state → ⊥
-has_peer h l x here q = no_value {P = ⊥} (sym (q ∙ ap up_peer here.is))
+pub has_peer : {h : History} {l : ℕ} {x : KeptLink} → IsUpHere h l x → None ≡ up_peer x.state → ⊥
+has_peer here q = no_value {P = ⊥} (sym (q ∙ ap up_peer here.is))
 
 -- a link that is up awaits messages
 pub up_awaits : (h : History) (l : ℕ) → is_up l h.entries ≡ true → awaits l h.entries ≡ AwaitMessage

@@ -1,11 +1,8 @@
 -- One scope whose own rows have changed, and the links that are told of it.
-use Rattle.node_core.proofs.Words.{Bool, List, Some, ap, cond, false, get_or, not, position, refl, set, subst, sym, true, ℕ, [], ◌||◌, ◌∙◌}
-use Rattle.node_core.proofs.Words.{◌∷◌, ◌≡◌, IsDifference, is_empty, same, Pid, Row, Message, count_of, IsChange, if_some, heard, told}
-use Rattle.node_core.proofs.Words.{History, listed, OutFrame, wide, running_scopes, Change, Follows, Parts, KeptLink, IsMoved, IsRunningOf}
-use Rattle.node_core.proofs.Words.{ScopesFollow, is_number, scope_words, Alike, if_among, running_rises}
-use Rattle.std.proofs.lemmas.List.{set-get_or}
-use Rattle.policy_audit.specs.Owed.{if_told}
-use Rattle.node_core.specs.declared.running.Running.{Running}
+use Rattle.node_core.proofs.Words.{Bool, List, Some, ap, cond, false, get_or, not, position, refl, set, subst, sym, true, ℕ, [], ◌||◌, ◌∙◌, ◌∷◌, ◌≡◌}
+use Rattle.node_core.proofs.Words.{IsDifference, is_empty, same, Pid, Row, Message, count_of, IsChange, if_some, heard, told, History, listed}
+use Rattle.node_core.proofs.Words.{OutFrame, wide, running_scopes, Change, Follows, Parts, KeptLink, IsMoved, IsRunningOf, ScopesFollow, is_number}
+use Rattle.node_core.proofs.Words.{scope_words, Alike, if_among, running_rises, set-get_or, if_told, Running}
 use Rattle.node_core.proofs.Scopes.{counts_listed}
 use Rattle.node_core.proofs.Placed.{follows_there, scope_is, within}
 use Rattle.node_core.proofs.OneScope.{one_scope_follows, scope_change}

@@ -1,9 +1,8 @@
 -- The kept links after an entry by which one moves on, and perhaps another goes.
-use Rattle.node_core.proofs.Words.{Bool, List, None, Option, Some, ap, cond, false, get_or, length, map, nat_eq, not, refl, set, subst, sym}
-use Rattle.node_core.proofs.Words.{true, ℕ, [], ◌++◌, ◌<◌, ◌==◌, ◌||◌, ◌∙◌, ◌∷◌, ◌≡◌, filter, eq-eqb, kept_climbs, flip, History, OutFrame}
-use Rattle.node_core.proofs.Words.{waiting, IsLegal, moved_on, without_link, IsLinkOf, IsState, LinkWords, LinksFollow, facts, kept_numbers}
-use Rattle.node_core.proofs.Words.{link_words, KeptLink}
-use Rattle.node_core.specs.declared.link_state.LinkState.{LinkState}
+use Rattle.node_core.proofs.Words.{Bool, List, None, Option, Some, ap, cond, false, get_or, length, map, nat_eq, not, refl, set, subst, sym, true, ℕ}
+use Rattle.node_core.proofs.Words.{[], ◌++◌, ◌<◌, ◌==◌, ◌||◌, ◌∙◌, ◌∷◌, ◌≡◌, filter, eq-eqb, kept_climbs, flip, History, OutFrame, waiting, IsLegal}
+use Rattle.node_core.proofs.Words.{moved_on, without_link, IsLinkOf, IsState, LinkWords, LinksFollow, facts, kept_numbers, link_words, KeptLink}
+use Rattle.node_core.proofs.Words.{LinkState}
 use Rattle.node_core.proofs.KeptOn.{all_follow, one_follows, each_at}
 
 -- a link stays unless it has this number

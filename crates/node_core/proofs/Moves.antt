@@ -1,9 +1,7 @@
 -- One link at a place that moves on.
-use Rattle.node_core.proofs.Words.{Bool, List, None, Option, Some, ap, arith, cond, false, get_or, length, refl, set, sym, true, ℕ, []}
-use Rattle.node_core.proofs.Words.{◌++◌, ◌<◌, ◌==◌, ◌∙◌, ◌∷◌, ◌≡◌, eqb-true, get_or-set_same, get_or_default, set-set, is_empty, OutFrame}
-use Rattle.node_core.proofs.Words.{moved_on, without_link, KeptLink, with_frames, with_room}
-use Rattle.node_core.specs.declared.link_state.LinkState.{LinkState}
-use Rattle.node_core.specs.Handshakes.{HaveMoved}
+use Rattle.node_core.proofs.Words.{Bool, List, None, Option, Some, ap, arith, cond, false, get_or, length, refl, set, sym, true, ℕ, [], ◌++◌, ◌<◌}
+use Rattle.node_core.proofs.Words.{◌==◌, ◌∙◌, ◌∷◌, ◌≡◌, eqb-true, get_or-set_same, get_or_default, set-set, is_empty, OutFrame, moved_on}
+use Rattle.node_core.proofs.Words.{without_link, KeptLink, with_frames, with_room, LinkState, HaveMoved}
 
 -- no element is as many as none
 pub none_is_empty : {A : Type 0} (xs : List A) (b : Bool) → b ≡ (length xs == 0) → is_empty xs ≡ b

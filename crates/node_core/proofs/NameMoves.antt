@@ -1,39 +1,27 @@
 -- What an accepted Name makes of its link, and of the own dial to that peer.
-use Rattle.node_core.proofs.Words.{Bool, List, None, Option, Some, ap, cond, false, nat_eq, not, refl, subst, sym, true, ℕ, [], ◌&&◌, ◌++◌}
-use Rattle.node_core.proofs.Words.{◌==◌, ◌∙◌, ◌∷◌, ◌≡◌, option_map, option_map_or, eq-eqb, eqb-true, same, Name, name_frame, AdmissionRules}
-use Rattle.node_core.proofs.Words.{is_dialled, Pending, lie, and_left, and_right, History, is_accepted, is_dialling, is_open}
-use Rattle.node_core.proofs.Words.{is_unfinished_dial, OutFrame, waiting, IsAnswered, IsLegal, with_entry, is_name_up, Entry}
-use Rattle.node_core.proofs.Words.{AdmissionFollows, admission_words, heard_named, IsIntroduced, IsLinkOf, IsState, LinksFollow, facts}
-use Rattle.node_core.proofs.Words.{kept_numbers, link_words, KeptLink, dial_beside, dialled_peer, narrow_frames}
-use Rattle.std.proofs.Common.{if◌then◌else◌}
-use Rattle.handshake_frames.specs.declared.frame.StatusWord.TheVariants as word
-use Rattle.link_states.specs.declared.await_name.Named.{Named}
-use Rattle.link_states.specs.declared.await_name.Named.TheVariants as named
-use Rattle.link_states.specs.Frames as owes
-use Rattle.link_states.specs.Named as says
-use Rattle.link_states.specs.Peer.{introduced, is_visible}
+use Rattle.node_core.proofs.Words.{Bool, List, None, Option, Some, ap, cond, false, nat_eq, not, refl, subst, sym, true, ℕ, [], ◌&&◌, ◌++◌, ◌==◌, ◌∙◌}
+use Rattle.node_core.proofs.Words.{◌∷◌, ◌≡◌, option_map, option_map_or, eq-eqb, eqb-true, same, Name, name_frame, AdmissionRules, is_dialled, Pending}
+use Rattle.node_core.proofs.Words.{lie, and_left, and_right, History, is_accepted, is_dialling, is_open, is_unfinished_dial, OutFrame, waiting}
+use Rattle.node_core.proofs.Words.{IsAnswered, IsLegal, with_entry, is_name_up, Entry, AdmissionFollows, admission_words, heard_named, IsIntroduced}
+use Rattle.node_core.proofs.Words.{IsLinkOf, IsState, LinksFollow, facts, kept_numbers, link_words, KeptLink, dial_beside, dialled_peer}
+use Rattle.node_core.proofs.Words.{narrow_frames, if◌then◌else◌, Named, introduced, is_visible, AwaitAnswer, AwaitReply, own_challenge_frame}
+use Rattle.node_core.proofs.Words.{status_frame, welcome, Heard, LinkState, dial_to, StatusWord, Event}
 use Rattle.link_states.specs.Pending.{is_up}
-use Rattle.policy_audit.specs.declared.event.Event.TheVariants as event
-use Rattle.policy_audit.specs.Sides.{AwaitAnswer, AwaitReply}
-use Rattle.policy_audit.specs.Owed.{own_challenge_frame, status_frame, welcome}
 use Rattle.policy_audit.proofs.LinkFrames.{named_links, given_up_by}
 use Rattle.policy_audit.proofs.LinksLeft.{named_numbers}
 use Rattle.policy_audit.proofs.Onward.{name_taken}
-use Rattle.node_core.specs.declared.hearing.Heard.{Heard}
-use Rattle.node_core.specs.declared.hearing.Heard.TheVariants as heard
-use Rattle.node_core.specs.declared.link_state.LinkState.{LinkState}
-use Rattle.node_core.specs.declared.link_state.LinkState.TheVariants as state
-use Rattle.node_core.specs.Links.{dial_to}
 use Rattle.node_core.proofs.EarlyMoves.{own_challenge_is, visible_is}
 use Rattle.node_core.proofs.FrameFacts.{other_facts, own_awaits, same_challenge, same_stay}
 use Rattle.node_core.proofs.Found.{found_in, none_found}
 use Rattle.node_core.proofs.MovedOn.{AreMoves, stays_but}
 use Rattle.node_core.proofs.OneDial.{dials, one_dial, is_known_dial}
 use Rattle.node_core.proofs.LinkTests.{dialling_is, dialled_by}
+use Rattle.link_states.specs.Frames as owes
+use Rattle.link_states.specs.Named as says
 
 -- the link moves on as heard
 abbrev pub Goes : History → History → ℕ → List KeptLink → Heard → Type 0
-Goes h k j kept (heard.On now frames gives_up) = AreMoves h k j now (narrow_frames frames) (stays_but (cond gives_up (dial_beside now kept) None))
+Goes h k j kept (Heard.On now frames gives_up) = AreMoves h k j now (narrow_frames frames) (stays_but (cond gives_up (dial_beside now kept) None))
 Goes h k j kept r = Unit {0}
 
 -- where a link isn't given up, it is as open as before
@@ -62,7 +50,7 @@ find_dial h legal kept t n q = by (dial_to n kept) refl
         (x.number, ap (option_map (λ (y : KeptLink). y.number)) e, sym (dialled_by h n x.number x.state here.1.state) ∙ here.0)
 
 module _ (h : History) (legal : IsLegal h) (rules : AdmissionRules) (t : AdmissionFollows (admission_words h) rules) (e : Entry) (answered : IsAnswered h e) (yes : is_accepted e.verdict ≡ true)
-    (j : ℕ) (body : List ℕ) (is : e.event ≡ event.Frame j body) (c : ℕ) (a : IsState (facts h j) (state.Name c)) (f : Name) (said : name_frame body ≡ Some f) (other : same f.name h.opening.name ≡ false) where
+    (j : ℕ) (body : List ℕ) (is : e.event ≡ Event.Frame j body) (c : ℕ) (a : IsState (facts h j) (LinkState.Name c)) (f : Name) (said : name_frame body ≡ Some f) (other : same f.name h.opening.name ≡ false) where
   abbrev k : History
   k = with_entry h e
 
@@ -111,7 +99,7 @@ module _ (h : History) (legal : IsLegal h) (rules : AdmissionRules) (t : Admissi
   where_dialled down d here l = by (nat_eq l d) refl
     where
       its_own : dials f.name h.entries j ≡ false
-      its_own = sym (dialled_by h f.name j (state.Name c) a)
+      its_own = sym (dialled_by h f.name j (LinkState.Name c) a)
 
       by : (b : Bool) → nat_eq l d ≡ b → (is_open l h.entries && given_up_by j f h.entries l) ≡ not (not b)
       by true q =
@@ -121,19 +109,19 @@ module _ (h : History) (legal : IsLegal h) (rules : AdmissionRules) (t : Admissi
       by false q = not_so (is_open l h.entries && given_up_by j f h.entries l) (λ m. lie (sym (eq-eqb l d (one_dial h legal f.name l d (given_up_dial l m) here)) ∙ q))
 
   abbrev welcome_frames : Bool → Bool → List OutFrame
-  welcome_frames up dialled = cond up (status_frame word.Alive ∷ []) (cond dialled (status_frame word.OkSimultaneous ∷ own_challenge_frame h j ∷ []) (status_frame word.Ok ∷ own_challenge_frame h j ∷ []))
+  welcome_frames up dialled = cond up (status_frame StatusWord.Alive ∷ []) (cond dialled (status_frame StatusWord.OkSimultaneous ∷ own_challenge_frame h j ∷ []) (status_frame StatusWord.Ok ∷ own_challenge_frame h j ∷ []))
 
   -- the frames of a welcome
   welcome_is : (up dialled : Bool) → welcome_frames up dialled ≡ narrow_frames (owes.greeting_owed rules c (says.welcome up dialled))
   welcome_is true dialled = refl
-  welcome_is false true = ap (λ x. status_frame word.OkSimultaneous ∷ x ∷ []) (own_challenge_is h rules t j c a.1)
-  welcome_is false false = ap (λ x. status_frame word.Ok ∷ x ∷ []) (own_challenge_is h rules t j c a.1)
+  welcome_is false true = ap (λ x. status_frame StatusWord.OkSimultaneous ∷ x ∷ []) (own_challenge_is h rules t j c a.1)
+  welcome_is false false = ap (λ x. status_frame StatusWord.Ok ∷ x ∷ []) (own_challenge_is h rules t j c a.1)
 
   -- what the state makes of the Name
   abbrev named_of : Bool → Bool → Named
   named_of up dialled =
       let frames = owes.greeting_owed rules c (says.welcome up dialled) in
-      if up then named.Alive (introduced rules c f) frames else named.Reply (introduced rules c f) frames dialled
+      if up then Named.Alive (introduced rules c f) frames else Named.Reply (introduced rules c f) frames dialled
 
   module _ (kept : List KeptLink) (follow : LinksFollow (link_words h) kept) where
     goes_by : (up dialled : Bool) → is_name_up f.name h.entries ≡ up → is_dialling f.name h.entries ≡ dialled → Goes h k j kept (heard_named (named_of up dialled))
@@ -141,21 +129,21 @@ module _ (h : History) (legal : IsLegal h) (rules : AdmissionRules) (t : Admissi
         let on = name_taken h e answered yes j body is f a.0.awaited said in
         let opens = kept_open j not_itself in
         let awaited = own_awaits h e answered yes j body is on opens in
-        name_moves (state.Answer (introduced rules c f)) (narrow_frames (owes.greeting_owed rules c word.Alive)) None
+        name_moves (LinkState.Answer (introduced rules c f)) (narrow_frames (owes.greeting_owed rules c StatusWord.Alive)) None
         (record { open_now = awaited.open_now; whole = awaited.whole; awaited = awaited.awaited ∙ ap (λ b. cond b AwaitAnswer AwaitReply) u }, introduced_now)
         (ap (λ b. welcome_frames b (is_dialling f.name h.entries)) u) (where_up u)
     goes_by false false u d =
         let on = name_taken h e answered yes j body is f a.0.awaited said in
         let awaited = own_awaits h e answered yes j body is on (kept_open j not_itself) in
-        name_moves (state.Reply (introduced rules c f)) (narrow_frames (owes.greeting_owed rules c (says.welcome false false))) None
+        name_moves (LinkState.Reply (introduced rules c f)) (narrow_frames (owes.greeting_owed rules c (says.welcome false false))) None
         (record { open_now = awaited.open_now; whole = awaited.whole; awaited = awaited.awaited ∙ ap (λ b. cond b AwaitAnswer AwaitReply) u }, introduced_now)
         ((λ i. welcome_frames (u i) (d i)) ∙ welcome_is false false) (where_undialled d)
     goes_by false true u d =
         let on = name_taken h e answered yes j body is f a.0.awaited said in
         let awaited = own_awaits h e answered yes j body is on (kept_open j not_itself) in
         let dial = find_dial h legal kept follow f.name d in
-        subst (λ gone. AreMoves h k j (state.Reply (introduced rules c f)) (narrow_frames (owes.greeting_owed rules c (says.welcome false true))) (stays_but gone)) (sym dial.1)
-        (name_moves (state.Reply (introduced rules c f)) (narrow_frames (owes.greeting_owed rules c (says.welcome false true))) (Some dial.0)
+        subst (λ gone. AreMoves h k j (LinkState.Reply (introduced rules c f)) (narrow_frames (owes.greeting_owed rules c (says.welcome false true))) (stays_but gone)) (sym dial.1)
+        (name_moves (LinkState.Reply (introduced rules c f)) (narrow_frames (owes.greeting_owed rules c (says.welcome false true))) (Some dial.0)
         (record { open_now = awaited.open_now; whole = awaited.whole; awaited = awaited.awaited ∙ ap (λ b. cond b AwaitAnswer AwaitReply) u }, introduced_now)
         ((λ i. welcome_frames (u i) (d i)) ∙ welcome_is false true) (where_dialled u dial.0 dial.2))
 

@@ -1,13 +1,10 @@
 -- Names that are kept once each.
-use Rattle.node_core.proofs.Words.{Bool, List, ap, arith, cond, false, length, map, refl, suc, sym, true, ℕ, [], ◌++◌, ◌+◌, ◌||◌, ◌∙◌, ◌∷◌}
-use Rattle.node_core.proofs.Words.{◌≡◌, ◌≤◌, list_any, same_decides, same_sym, is_among, occurrences, same}
-use Rattle.std.specs.Str.{bytes_eq}
-use Rattle.indexmap.specs.IndexMap.{insert_entry}
+use Rattle.node_core.proofs.Words.{Bool, List, ap, arith, cond, false, length, map, refl, suc, sym, true, ℕ, [], ◌++◌, ◌+◌, ◌||◌, ◌∙◌, ◌∷◌, ◌≡◌, ◌≤◌}
+use Rattle.node_core.proofs.Words.{list_any, same_decides, same_sym, is_among, occurrences, same, bytes_eq, insert_entry, different, occurs_stands}
+use Rattle.node_core.proofs.Words.{AreOnce}
 use Rattle.indexmap.specs.IndexSet.{insert_all}
-use Rattle.policy_audit.specs.Admission.{different}
-use Rattle.policy_audit.proofs.Named.{occurs_stands, stands_occurs}
+use Rattle.policy_audit.proofs.Named.{stands_occurs}
 use Rattle.policy_audit.proofs.Different.{different_is}
-use Rattle.node_core.specs.AdmissionFacts.{AreOnce}
 
 -- the test may take its names in either order
 flip : (q : List ℕ) (xs : List (List ℕ)) → list_any (bytes_eq q) xs ≡ is_among q xs

@@ -1,19 +1,12 @@
 -- One own dial to a peer is unfinished at a time.
-use Rattle.node_core.proofs.Words.{Bool, List, None, Option, Some, ap, cond, false, not, refl, sym, true, ℕ, [], ◌&&◌, ◌++◌, ◌==◌, ◌||◌}
-use Rattle.node_core.proofs.Words.{◌∙◌, ◌∷◌, ◌≡◌, option_map_or, eqb-true, same_decides, same, all_hold, lie, unbroken, and_left, and_right}
-use Rattle.node_core.proofs.Words.{dial_checks, first_broken, History, past, is_dialling, is_open, is_unfinished_dial, links, IsLegal}
-use Rattle.node_core.proofs.Words.{verdict, is_whole, Entry, Verdict, Accepted, Refused, Event, Reply}
-use Rattle.policy_audit.specs.declared.opening.Opening.{Opening}
-use Rattle.policy_audit.specs.declared.event.Event.TheVariants as event
-use Rattle.policy_audit.specs.Sides.{Start, ByPeer, ByDial, Opened, Taken, and_frame, opened, taken}
-use Rattle.policy_audit.specs.Links.{ends, is_dial_to}
-use Rattle.policy_audit.specs.Policy.{IsLegalIn}
-use Rattle.policy_audit.proofs.Accepted.{accepted}
+use Rattle.node_core.proofs.Words.{Bool, List, None, Option, Some, ap, cond, false, not, refl, sym, true, ℕ, [], ◌&&◌, ◌++◌, ◌==◌, ◌||◌, ◌∙◌, ◌∷◌}
+use Rattle.node_core.proofs.Words.{◌≡◌, option_map_or, eqb-true, same_decides, same, all_hold, lie, unbroken, and_left, and_right, dial_checks}
+use Rattle.node_core.proofs.Words.{first_broken, History, past, is_dialling, is_open, is_unfinished_dial, links, IsLegal, verdict, is_whole, Entry}
+use Rattle.node_core.proofs.Words.{Verdict, Accepted, Refused, Event, Reply, Opening, Start, ByPeer, ByDial, Opened, Taken, and_frame, opened, taken}
+use Rattle.node_core.proofs.Words.{ends, is_dial_to, IsLegalIn, accepted, some_of, was_before}
 use Rattle.policy_audit.proofs.Walked.{but, open_opened}
 use Rattle.policy_audit.proofs.Finished.{whole_by, whole_kept}
 use Rattle.policy_audit.proofs.KeptLinks.{opened_linked}
-use Rattle.policy_audit.proofs.KeptNumbers.{some_of}
-use Rattle.policy_audit.proofs.UpLinks.{was_before}
 
 -- the link is an own dial to n that is unfinished
 abbrev pub dials : List ℕ → List Entry → ℕ → Bool
@@ -29,7 +22,7 @@ module _ (n : List ℕ) (es : List Entry) (e : Entry) (l : ℕ) where
 
   -- the entry opens no dial of this number
   abbrev pub is_new : Event → Verdict → Bool
-  is_new (event.Dial m c) (Accepted r) = e.number == l
+  is_new (Event.Dial m c) (Accepted r) = e.number == l
   is_new ev v = false
 
   received : (c : ℕ) (b : Bool) → shown (b || is_open l es) (opened_by (ByPeer c) b) (taken l es) ≡ true → dials n es l ≡ true
@@ -60,10 +53,10 @@ module _ (n : List ℕ) (es : List Entry) (e : Entry) (l : ℕ) where
 
   pub older_dial : (ev : Event) (v : Verdict) → is_new ev v ≡ false → dials n (but e ev v ∷ es) l ≡ true → dials n es l ≡ true
   older_dial ev (Refused r) old q = was_before (ends l es (Refused r) ev) (is_open l es) _ q
-  older_dial event.Restart (Accepted r) old q = lie (sym q)
-  older_dial (event.Opened c) (Accepted r) old q = received c (e.number == l) q
-  older_dial (event.Dial m c) (Accepted r) old q = dialled m c (e.number == l) old q
-  older_dial (event.Frame k body) (Accepted r) old q = framed (ends l es (Accepted r) (event.Frame k body)) body (k == l) q
+  older_dial Event.Restart (Accepted r) old q = lie (sym q)
+  older_dial (Event.Opened c) (Accepted r) old q = received c (e.number == l) q
+  older_dial (Event.Dial m c) (Accepted r) old q = dialled m c (e.number == l) old q
+  older_dial (Event.Frame k body) (Accepted r) old q = framed (ends l es (Accepted r) (Event.Frame k body)) body (k == l) q
   older_dial ev (Accepted r) old q = was_before (ends l es (Accepted r) ev) (is_open l es) _ q
 
   -- a new dial is to its peer
@@ -79,15 +72,15 @@ module _ (o : Opening) (n : List ℕ) where
         let one = some_of (dials n es) k (links es) here (sym (opened_linked k es) ∙ open_opened k es (and_left (is_open k es) (is_unfinished_dial n k es) here)) in
         lie (sym (unbroken (not (is_dialling m es)) (all_hold (dial_checks (past o es) m) holds).1.1.1.0) ∙ ap (λ x. not (is_dialling x es)) is ∙ ap not one)
 
-    dialled_both : (m : List ℕ) (c : ℕ) (r : Reply) → first_broken (dial_checks (past o es) m) ≡ None → dials n (but e (event.Dial m c) (Accepted r) ∷ es) l ≡ true → dials n (but e (event.Dial m c) (Accepted r) ∷ es) j ≡ true
+    dialled_both : (m : List ℕ) (c : ℕ) (r : Reply) → first_broken (dial_checks (past o es) m) ≡ None → dials n (but e (Event.Dial m c) (Accepted r) ∷ es) l ≡ true → dials n (but e (Event.Dial m c) (Accepted r) ∷ es) j ≡ true
         → (a : Bool) → (e.number == l) ≡ a → (b : Bool) → (e.number == j) ≡ b → l ≡ j
     dialled_both m c r holds p q true x true y = sym (eqb-true e.number l x) ∙ eqb-true e.number j y
-    dialled_both m c r holds p q false x false y = so_far (older_dial n es e l (event.Dial m c) (Accepted r) x p) (older_dial n es e j (event.Dial m c) (Accepted r) y q)
-    dialled_both m c r holds p q true x false y = absurd (no_second m holds (its_peer n es e l m c (e.number == l) x p) j (older_dial n es e j (event.Dial m c) (Accepted r) y q))
-    dialled_both m c r holds p q false x true y = absurd (no_second m holds (its_peer n es e j m c (e.number == j) y q) l (older_dial n es e l (event.Dial m c) (Accepted r) x p))
+    dialled_both m c r holds p q false x false y = so_far (older_dial n es e l (Event.Dial m c) (Accepted r) x p) (older_dial n es e j (Event.Dial m c) (Accepted r) y q)
+    dialled_both m c r holds p q true x false y = absurd (no_second m holds (its_peer n es e l m c (e.number == l) x p) j (older_dial n es e j (Event.Dial m c) (Accepted r) y q))
+    dialled_both m c r holds p q false x true y = absurd (no_second m holds (its_peer n es e j m c (e.number == j) y q) l (older_dial n es e l (Event.Dial m c) (Accepted r) x p))
 
     by_event : (ev : Event) (v : Verdict) → v ≡ verdict (past o es) e.seat ev → dials n (but e ev v ∷ es) l ≡ true → dials n (but e ev v ∷ es) j ≡ true → l ≡ j
-    by_event (event.Dial m c) (Accepted r) is p q = dialled_both m c r (accepted (past o es) e.seat (event.Dial m c) r is).0 p q (e.number == l) refl (e.number == j) refl
+    by_event (Event.Dial m c) (Accepted r) is p q = dialled_both m c r (accepted (past o es) e.seat (Event.Dial m c) r is).0 p q (e.number == l) refl (e.number == j) refl
     by_event ev v is p q = so_far (older_dial n es e l ev v refl p) (older_dial n es e j ev v refl q)
 
   one_in : (es : List Entry) → IsLegalIn o es → (l j : ℕ) → dials n es l ≡ true → dials n es j ≡ true → l ≡ j

@@ -1,10 +1,7 @@
 -- One of the running scopes changes.
-use Rattle.node_core.proofs.Words.{Bool, List, ap, arith, false, get_or, length, map, not, refl, set, subst, suc, sym, true, zero, ℕ, []}
-use Rattle.node_core.proofs.Words.{◌<◌, ◌||◌, ◌∙◌, ◌∷◌, ◌≡◌, AllByRecursion, filter, Less, same_sym, IsDifference, is_empty, Rises, same}
-use Rattle.node_core.proofs.Words.{text_cmp, GroupChange, Pid, IsChange, if_some, History, listed, IsRunningOf, ScopeWords, ScopesFollow}
-use Rattle.policy_audit.proofs.OneDifference.{apart}
-use Rattle.policy_audit.proofs.ScopeChanges.{changes_are}
-use Rattle.node_core.specs.declared.running.Running.{Running}
+use Rattle.node_core.proofs.Words.{Bool, List, ap, arith, false, get_or, length, map, not, refl, set, subst, suc, sym, true, zero, ℕ, [], ◌<◌, ◌||◌}
+use Rattle.node_core.proofs.Words.{◌∙◌, ◌∷◌, ◌≡◌, AllByRecursion, filter, Less, same_sym, IsDifference, is_empty, Rises, same, text_cmp, GroupChange}
+use Rattle.node_core.proofs.Words.{Pid, IsChange, if_some, History, listed, IsRunningOf, ScopeWords, ScopesFollow, apart, changes_are, Running}
 
 module _ (w v : ScopeWords) (s : List ℕ) (y : Running) (here : IsRunningOf v y) (named : y.scope ≡ s) (on : (r : Running) → same r.scope s ≡ false → IsRunningOf w r → IsRunningOf v r) where
   -- those above it stay

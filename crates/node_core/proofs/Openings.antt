@@ -1,29 +1,20 @@
 -- Links that open: the new link follows its opening, and all others are as before.
-use Rattle.node_core.proofs.Words.{Bool, List, None, Some, ap, arith, cond, false, length, map, nat_le, nat_lt, not, refl, subst, sym, true}
-use Rattle.node_core.proofs.Words.{ℕ, [], ◌++◌, ◌+◌, ◌<◌, ◌==◌, ◌||◌, ◌∙◌, ◌∷◌, ◌≡◌, ◌≤◌, AllByRecursion, list_all, option_map_or, eq-eqb}
-use Rattle.node_core.proofs.Words.{eqb-true, leb-true, lt-ltb, ltb-true, same, AdmissionRules, all_hold, lie, unbroken, no_change, and_left}
-use Rattle.node_core.proofs.Words.{and_right, dial_checks, first_broken, History, is_accepted, is_open, is_kept, narrow, running_scopes}
-use Rattle.node_core.proofs.Words.{IsAnswered, IsLegal, IsNext, is_full, next_number, with_entry, challenge_in, Entry, Accepted}
-use Rattle.node_core.proofs.Words.{follows_other, AdmissionFollows, admission_words, Follows, Parts, IsLinkOf, IsState, LinksFollow, facts}
-use Rattle.node_core.proofs.Words.{link_words, KeptLink, ScopesFollow, scope_words}
-use Rattle.std.proofs.lemmas.List.{length-map, map-append}
-use Rattle.dist_types.specs.Flags.{own_flags}
+use Rattle.node_core.proofs.Words.{Bool, List, None, Some, ap, arith, cond, false, length, map, nat_le, nat_lt, not, refl, subst, sym, true, ℕ, []}
+use Rattle.node_core.proofs.Words.{◌++◌, ◌+◌, ◌<◌, ◌==◌, ◌||◌, ◌∙◌, ◌∷◌, ◌≡◌, ◌≤◌, AllByRecursion, list_all, option_map_or, eq-eqb, eqb-true}
+use Rattle.node_core.proofs.Words.{leb-true, lt-ltb, ltb-true, same, AdmissionRules, all_hold, lie, unbroken, no_change, and_left, and_right}
+use Rattle.node_core.proofs.Words.{dial_checks, first_broken, History, is_accepted, is_open, is_kept, narrow, running_scopes, IsAnswered, IsLegal}
+use Rattle.node_core.proofs.Words.{IsNext, is_full, next_number, with_entry, challenge_in, Entry, Accepted, follows_other, AdmissionFollows}
+use Rattle.node_core.proofs.Words.{admission_words, Follows, Parts, IsLinkOf, IsState, LinksFollow, facts, link_words, KeptLink, ScopesFollow}
+use Rattle.node_core.proofs.Words.{scope_words, length-map, map-append, own_flags, Start, ByPeer, ByDial, start_of, own_name_frame, kept_links}
+use Rattle.node_core.proofs.Words.{kept_count, kept_opening, opening_waiting, all_left, all_reverse, opened_waiting, dialled_waiting, dialled_link}
+use Rattle.node_core.proofs.Words.{Event, Reply, Rule, LinkState}
 use Rattle.handshake_frames.specs.Spelling.{name_bytes}
 use Rattle.link_states.specs.Frames.{own_name}
-use Rattle.policy_audit.specs.declared.event.Event.TheVariants as event
-use Rattle.policy_audit.specs.declared.reply.Reply.TheVariants as reply
-use Rattle.policy_audit.specs.declared.rule.Rule.TheVariants as rule
-use Rattle.policy_audit.specs.Sides.{Start, ByPeer, ByDial, start_of}
-use Rattle.policy_audit.specs.Owed.{own_name_frame}
-use Rattle.policy_audit.specs.Checks.{kept_links}
 use Rattle.policy_audit.proofs.KeptLinks.{links_below}
-use Rattle.policy_audit.proofs.KeptNumbers.{kept_numbers, kept_count, kept_opening, opening_waiting, all_left, all_reverse}
+use Rattle.policy_audit.proofs.KeptNumbers.{kept_numbers}
 use Rattle.policy_audit.proofs.NewLinks.{IsNewLink, opened_apart, opened_new, opened_open}
-use Rattle.policy_audit.proofs.ScopeFrames.{opened_waiting, dialled_waiting}
 use Rattle.policy_audit.proofs.HeardNow.{opening_heard}
 use Rattle.policy_audit.proofs.RowsAfter.{opened_rows, dialled_rows}
-use Rattle.node_core.specs.declared.link_state.LinkState.TheVariants as state
-use Rattle.node_core.specs.Links.{dialled_link}
 use Rattle.node_core.proofs.KeptOn.{facts_same}
 use Rattle.node_core.proofs.Entered.{made, accepted_now, answered_now, next_now, sound_now}
 
@@ -97,13 +88,13 @@ module _ (h : History) (legal : IsLegal h) (e : Entry) (is_made : IsAnswered h e
 
 module _ (h : History) (legal : IsLegal h) (seat c n : ℕ) (numbered : n ≡ next_number h) where
   abbrev opening : Entry
-  opening = made h seat (event.Opened c) (Accepted (reply.Link n)) []
+  opening = made h seat (Event.Opened c) (Accepted (Reply.Link n)) []
 
   pub opened_next : is_full h ≡ false → nat_lt (kept_links h) 64 ≡ true → IsNext h opening
   opened_next space fits =
-      let now = accepted_now h seat (event.Opened c) space (reply.Link n) (ap (λ b. cond (not b) (Some rule.LinksFull) None) fits) (ap reply.Link (sym numbered)) in
-      next_now h seat (event.Opened c) space (Accepted (reply.Link n)) [] now
-      (no_change h (with_entry h opening) (λ s g p. sym (opened_rows h legal opening (answered_now h seat (event.Opened c) space (Accepted (reply.Link n)) [] now) refl c refl s g p)))
+      let now = accepted_now h seat (Event.Opened c) space (Reply.Link n) (ap (λ b. cond (not b) (Some Rule.LinksFull) None) fits) (ap Reply.Link (sym numbered)) in
+      next_now h seat (Event.Opened c) space (Accepted (Reply.Link n)) [] now
+      (no_change h (with_entry h opening) (λ s g p. sym (opened_rows h legal opening (answered_now h seat (Event.Opened c) space (Accepted (Reply.Link n)) [] now) refl c refl s g p)))
 
   module _ (next : IsNext h opening) where
     answer_is : IsAnswered h opening
@@ -119,14 +110,14 @@ module _ (h : History) (legal : IsLegal h) (seat c n : ℕ) (numbered : n ≡ ne
     }
 
     pub opened_follows : (parts : Parts) (challenge room : ℕ) → Follows h parts → challenge ≡ c
-        → Follows (with_entry h opening) (record parts { links = parts.links ++ record { number = n; state = state.Name challenge; frames = []; prepared = []; room = room } ∷ [] })
+        → Follows (with_entry h opening) (record parts { links = parts.links ++ record { number = n; state = LinkState.Name challenge; frames = []; prepared = []; room = room } ∷ [] })
     opened_follows parts challenge room t same_challenge = record {
       sound = sound_now h parts.limit _ t.sound next;
       admission = t.admission;
       processes = t.processes;
       scopes = subst (λ w. ScopesFollow w parts.scopes) (sym opened_scopes) t.scopes;
-      links = new_follows h legal opening answer_is refl (ByPeer c) refl parts.links (record { number = n; state = state.Name challenge; frames = []; prepared = []; room = room }) t.links numbered
-          (subst (λ j. IsLinkOf (link_words (with_entry h opening)) (record { number = j; state = state.Name challenge; frames = []; prepared = []; room = room })) (sym numbered) (record {
+      links = new_follows h legal opening answer_is refl (ByPeer c) refl parts.links (record { number = n; state = LinkState.Name challenge; frames = []; prepared = []; room = room }) t.links numbered
+          (subst (λ j. IsLinkOf (link_words (with_entry h opening)) (record { number = j; state = LinkState.Name challenge; frames = []; prepared = []; room = room })) (sym numbered) (record {
             state = (
               record { open_now = opens_now h legal opening answer_is refl (ByPeer c) refl; whole = (its h legal opening answer_is refl (ByPeer c) refl).whole; awaited = (its h legal opening answer_is refl (ByPeer c) refl).awaits },
               same_challenge ∙ sym (ap (λ o. option_map_or (λ x. challenge_in x.start) o 0) (its h legal opening answer_is refl (ByPeer c) refl).opened),
@@ -145,13 +136,13 @@ own_name_is h rules t = λ i. narrow (name_bytes (record { flags = own_flags (t.
 
 module _ (h : History) (legal : IsLegal h) (seat : ℕ) (peer : List ℕ) (c n : ℕ) (numbered : n ≡ next_number h) (holds : first_broken (dial_checks h peer) ≡ None) where
   abbrev dial : Entry
-  dial = made h seat (event.Dial peer c) (Accepted (reply.Link n)) []
+  dial = made h seat (Event.Dial peer c) (Accepted (Reply.Link n)) []
 
   pub dialled_next : is_full h ≡ false → IsNext h dial
   dialled_next space =
-      let now = accepted_now h seat (event.Dial peer c) space (reply.Link n) holds (ap reply.Link (sym numbered)) in
-      next_now h seat (event.Dial peer c) space (Accepted (reply.Link n)) [] now
-      (no_change h (with_entry h dial) (λ s g p. sym (dialled_rows h legal dial (answered_now h seat (event.Dial peer c) space (Accepted (reply.Link n)) [] now) refl peer c refl s g p)))
+      let now = accepted_now h seat (Event.Dial peer c) space (Reply.Link n) holds (ap Reply.Link (sym numbered)) in
+      next_now h seat (Event.Dial peer c) space (Accepted (Reply.Link n)) [] now
+      (no_change h (with_entry h dial) (λ s g p. sym (dialled_rows h legal dial (answered_now h seat (Event.Dial peer c) space (Accepted (Reply.Link n)) [] now) refl peer c refl s g p)))
 
   module _ (next : IsNext h dial) where
     dial_is : IsAnswered h dial

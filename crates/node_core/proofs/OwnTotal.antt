@@ -1,14 +1,10 @@
 -- How many rows the own processes have in a scope.
 use Rattle.node_core.proofs.Words.{Bool, List, ap, arith, cond, false, length, refl, sym, true, ℕ, [], ◌+◌, ◌∙◌, ◌∷◌, ◌≡◌, ◌≤◌, IsListing}
 use Rattle.node_core.proofs.Words.{occurrences, same_row, Row, Table, local_count, local_total, local_rows, History, IsLegal, IsRunningOf}
-use Rattle.node_core.proofs.Words.{scope_words}
-use Rattle.dist_types.specs.Listing.{spread, total}
-use Rattle.dist_types.proofs.Listings.{fewer_length, same_length, length-spread, spread_counts}
-use Rattle.dist_types.proofs.Orders.{same_row_decides}
+use Rattle.node_core.proofs.Words.{scope_words, spread, total, same_length, same_row_decides, is_of_node, Running}
+use Rattle.dist_types.proofs.Listings.{fewer_length, length-spread, spread_counts}
 use Rattle.scope_core.specs.declared.counted.Counted.{Counted}
-use Rattle.scope_core.specs.Table.{is_of_node}
 use Rattle.policy_audit.proofs.OwnRows.{local_rows_are}
-use Rattle.node_core.specs.declared.running.Running.{Running}
 use Rattle.node_core.proofs.Scopes.{own_counts}
 
 -- the own rows of a table, each as often as it is counted

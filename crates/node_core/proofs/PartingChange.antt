@@ -1,9 +1,7 @@
 -- What leaves the scopes together is the change of a history.
-use Rattle.node_core.proofs.Words.{List, ap, false, map, refl, subst, sym, ℕ, ◌∙◌, ◌≡◌, IsDifference, Rises, is_among, text_cmp, Pid, Table}
-use Rattle.node_core.proofs.Words.{count_of, stopped_lists, running_among, running_rises, IsChange, History, listed, is_running}
-use Rattle.node_core.proofs.Words.{running_scopes, Change, ArePartings, IsParting, IsRunningOf, ScopesFollow, scope_words}
-use Rattle.policy_audit.proofs.ScopeChanges.{changes_are}
-use Rattle.node_core.specs.declared.running.Running.{Running}
+use Rattle.node_core.proofs.Words.{List, ap, false, map, refl, subst, sym, ℕ, ◌∙◌, ◌≡◌, IsDifference, Rises, is_among, text_cmp, Pid, Table, count_of}
+use Rattle.node_core.proofs.Words.{stopped_lists, running_among, running_rises, IsChange, History, listed, is_running, running_scopes, Change}
+use Rattle.node_core.proofs.Words.{ArePartings, IsParting, IsRunningOf, ScopesFollow, scope_words, changes_are, Running}
 use Rattle.node_core.proofs.Scopes.{counts_listed}
 use Rattle.node_core.proofs.Zipped.{zipped_map, zipped_weaker, zipped_each}
 

@@ -1,9 +1,7 @@
 -- What leaves the scopes, one scope after the other.
-use Rattle.node_core.proofs.Words.{List, ap, arith, cond, false, length, not, refl, subst, sym, true, ℕ, [], ◌++◌, ◌==◌, ◌∙◌, ◌∷◌, ◌≡◌}
-use Rattle.node_core.proofs.Words.{eq-eqb, eqb-true, append-nil, IsDifference, is_empty, GroupChange, Pid, Table, count_of, lie, Change}
-use Rattle.node_core.proofs.Words.{ArePartings, IsParting}
-use Rattle.policy_audit.proofs.KeptNumbers.{filter_append}
-use Rattle.node_core.specs.declared.running.Running.{Running}
+use Rattle.node_core.proofs.Words.{List, ap, arith, cond, false, length, not, refl, subst, sym, true, ℕ, [], ◌++◌, ◌==◌, ◌∙◌, ◌∷◌, ◌≡◌, eq-eqb}
+use Rattle.node_core.proofs.Words.{eqb-true, append-nil, IsDifference, is_empty, GroupChange, Pid, Table, count_of, lie, Change, ArePartings}
+use Rattle.node_core.proofs.Words.{IsParting, filter_append, Running}
 use Rattle.node_core.proofs.Zipped.{zipped_on}
 
 module _ (left : Table → List ℕ → Pid → ℕ) where

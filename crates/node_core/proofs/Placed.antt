@@ -1,11 +1,8 @@
 -- The place of a running scope.
-use Rattle.node_core.proofs.Words.{Bool, List, None, Some, ap, arith, cond, false, get_or, length, nat_lt, not, position, refl, set, subst}
-use Rattle.node_core.proofs.Words.{suc, sym, true, zero, ℕ, [], ◌+◌, ◌<◌, ◌||◌, ◌∙◌, ◌∷◌, ◌≡◌, AllByRecursion, list_any, Less, lt-ltb}
-use Rattle.node_core.proofs.Words.{ltb-true, position-Some, same_decides, same_sym, Rises, same, text_cmp, lie, no_value, running_rises}
-use Rattle.node_core.proofs.Words.{History, is_running, IsRunningOf, ScopeWords, ScopesFollow, scope_words}
-use Rattle.std.specs.List.{position_or_len}
-use Rattle.policy_audit.proofs.OneDifference.{apart}
-use Rattle.node_core.specs.declared.running.Running.{Running}
+use Rattle.node_core.proofs.Words.{Bool, List, None, Some, ap, arith, cond, false, get_or, length, nat_lt, not, position, refl, set, subst, suc, sym}
+use Rattle.node_core.proofs.Words.{true, zero, ℕ, [], ◌+◌, ◌<◌, ◌||◌, ◌∙◌, ◌∷◌, ◌≡◌, AllByRecursion, list_any, Less, lt-ltb, ltb-true, position-Some}
+use Rattle.node_core.proofs.Words.{same_decides, same_sym, Rises, same, text_cmp, lie, no_value, running_rises, History, is_running, IsRunningOf}
+use Rattle.node_core.proofs.Words.{ScopeWords, ScopesFollow, scope_words, position_or_len, apart, Running}
 use Rattle.node_core.proofs.KeptOn.{each_at}
 use Rattle.node_core.proofs.Scopes.{runs_is}
 use Rattle.node_core.proofs.Starting.{names}

@@ -1,8 +1,7 @@
 -- The place of a kept link, and links that are taken away.
-use Rattle.node_core.proofs.Words.{Bool, List, None, Some, ap, arith, cond, false, get_or, is_some, length, nat_eq, position, refl, set}
-use Rattle.node_core.proofs.Words.{subst, suc, sym, true, zero, ℕ, [], ◌<◌, ◌∙◌, ◌∷◌, ◌≡◌, filter, list_any, kept_among, History, is_kept}
-use Rattle.node_core.proofs.Words.{IsLegal, IsLinkOf, LinkWords, LinksFollow, link_words, KeptLink}
-use Rattle.std.proofs.lemmas.List.{map-id}
+use Rattle.node_core.proofs.Words.{Bool, List, None, Some, ap, arith, cond, false, get_or, is_some, length, nat_eq, position, refl, set, subst, suc}
+use Rattle.node_core.proofs.Words.{sym, true, zero, ℕ, [], ◌<◌, ◌∙◌, ◌∷◌, ◌≡◌, filter, list_any, kept_among, History, is_kept, IsLegal, IsLinkOf}
+use Rattle.node_core.proofs.Words.{LinkWords, LinksFollow, link_words, KeptLink, map-id}
 use Rattle.node_core.proofs.Found.{any_map, place_found}
 use Rattle.node_core.proofs.KeptOn.{all_follow, each_at, place_is}
 

@@ -1,8 +1,7 @@
 -- Frames that are prepared for links, one link after the other.
-use Rattle.node_core.proofs.Words.{Bool, Err, List, Ok, OnErr, ap, arith, cond, false, get_or, length, map, nat_eq, refl, set, suc, sym}
-use Rattle.node_core.proofs.Words.{true, zero, ℕ, [], ◌++◌, ◌<◌, ◌∙◌, ◌∷◌, ◌≡◌, list_any, Result, lie, flip, OutFrame, KeptLink}
-use Rattle.node_core.proofs.Words.{prepared_for, unroomed, with_prepared, with_room}
-use Rattle.std.proofs.Common.{OnOk}
+use Rattle.node_core.proofs.Words.{Bool, Err, List, Ok, OnErr, ap, arith, cond, false, get_or, length, map, nat_eq, refl, set, suc, sym, true, zero}
+use Rattle.node_core.proofs.Words.{ℕ, [], ◌++◌, ◌<◌, ◌∙◌, ◌∷◌, ◌≡◌, list_any, Result, lie, flip, OutFrame, KeptLink, prepared_for, unroomed}
+use Rattle.node_core.proofs.Words.{with_prepared, with_room, OnOk}
 use Rattle.std.specs.Result.{is_err}
 use Rattle.node_core.proofs.Zipped.{SoFar}
 

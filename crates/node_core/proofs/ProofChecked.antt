@@ -1,45 +1,35 @@
 -- What the last frame of a handshake leads to, by the policy's words.
-use Rattle.node_core.proofs.Words.{Bool, List, None, Option, Some, ap, cond, false, not, refl, subst, sym, true, ℕ, [], ◌&&◌, ◌++◌, ◌∙◌}
-use Rattle.node_core.proofs.Words.{◌∷◌, ◌≡◌, option_map, option_map_or, unwrap_or, has_bit, Name, reply_frame, ReplyFrame, AdmissionRules}
-use Rattle.node_core.proofs.Words.{Linked, Pending, lie, no_value, always, checks, first_broken, frame_checks, History, is_accepted}
-use Rattle.node_core.proofs.Words.{is_open, OutFrame, digest_for, discovers, frame_owes, narrow, refusal_owes, IsAnswered, answer}
-use Rattle.node_core.proofs.Words.{up_answer, AwaitMessage, awaits, is_last, is_whole, peer_of, Entry, Rule, AdmissionFollows}
-use Rattle.node_core.proofs.Words.{admission_words, Hears, rule_of, IsIntroduced, IsState, facts, known_peer, narrow_frames, up_peer}
-use Rattle.handshake_frames.specs.Reading.{ack_frame}
+use Rattle.node_core.proofs.Words.{Bool, List, None, Option, Some, ap, cond, false, not, refl, subst, sym, true, ℕ, [], ◌&&◌, ◌++◌, ◌∙◌, ◌∷◌, ◌≡◌}
+use Rattle.node_core.proofs.Words.{option_map, option_map_or, unwrap_or, has_bit, Name, reply_frame, ReplyFrame, AdmissionRules, Linked, Pending, lie}
+use Rattle.node_core.proofs.Words.{no_value, always, checks, first_broken, frame_checks, History, is_accepted, is_open, OutFrame, digest_for}
+use Rattle.node_core.proofs.Words.{discovers, frame_owes, narrow, refusal_owes, IsAnswered, answer, up_answer, AwaitMessage, awaits, is_last}
+use Rattle.node_core.proofs.Words.{is_whole, peer_of, Entry, Rule, AdmissionFollows, admission_words, Hears, rule_of, IsIntroduced, IsState, facts}
+use Rattle.node_core.proofs.Words.{known_peer, narrow_frames, up_peer, ack_frame, ack_owed, linked, given, IsOnward, Heard, LinkState, Event, Reply}
 use Rattle.handshake_frames.specs.Spelling.{ack_bytes}
-use Rattle.link_states.specs.Frames.{ack_owed}
-use Rattle.link_states.specs.States.{linked}
-use Rattle.policy_audit.specs.declared.event.Event.TheVariants as event
-use Rattle.policy_audit.specs.declared.reply.Reply.TheVariants as reply
-use Rattle.policy_audit.specs.declared.rule.Rule.TheVariants as rule
-use Rattle.policy_audit.specs.Sides.{given, is_visible}
-use Rattle.policy_audit.proofs.Onward.{IsOnward, reply_taken, ack_taken}
-use Rattle.node_core.specs.declared.hearing.Heard.{Heard}
-use Rattle.node_core.specs.declared.hearing.Heard.TheVariants as heard
-use Rattle.node_core.specs.declared.link_state.LinkState.{LinkState}
-use Rattle.node_core.specs.declared.link_state.LinkState.TheVariants as state
+use Rattle.policy_audit.specs.Sides.{is_visible}
+use Rattle.policy_audit.proofs.Onward.{reply_taken, ack_taken}
 use Rattle.node_core.proofs.Found.{some_is}
 use Rattle.node_core.proofs.FrameRefused.{owes_alike}
 use Rattle.node_core.proofs.FrameRules.{ack_rules, digest_is, reply_rules}
 
 -- the state awaits the last frame of its side
 abbrev pub is_last_state : LinkState → Bool
-is_last_state (state.Reply s) = true
-is_last_state (state.Ack s) = true
+is_last_state (LinkState.Reply s) = true
+is_last_state (LinkState.Ack s) = true
 is_last_state s = false
 
 pub not_up_yet : (s : LinkState) → is_last_state s ≡ true → up_peer s ≡ None
-not_up_yet (state.Reply s) q = refl
-not_up_yet (state.Ack s) q = refl
+not_up_yet (LinkState.Reply s) q = refl
+not_up_yet (LinkState.Ack s) q = refl
 not_up_yet s q = lie (sym q)
 
 -- the link that came up, and its frames
 abbrev linked_in : Linked → Heard → Linked
-linked_in other (heard.Up up frames) = up
+linked_in other (Heard.Up up frames) = up
 linked_in other h = other
 
 abbrev frames_in : Heard → List (List ℕ)
-frames_in (heard.Up up frames) = frames
+frames_in (Heard.Up up frames) = frames
 frames_in h = []
 
 -- the link comes up with its last frame
@@ -50,29 +40,29 @@ pub record ComesUp (h : History) (j : ℕ) (body : List ℕ) (up : Linked) (fram
   pub known : IsIntroduced (facts h j) up.peer up.creation up.visible up.proof
   pub holds : first_broken (frame_checks h j body (awaits j h.entries)) ≡ None
   pub owes : frame_owes h j body (awaits j h.entries) ≡ narrow_frames frames ++ discovers h j
-  pub on : (e : Entry) → IsAnswered h e → is_accepted e.verdict ≡ true → e.event ≡ event.Frame j body → IsOnward j h.entries e (given j h.entries) (peer_of j h.entries) AwaitMessage true
+  pub on : (e : Entry) → IsAnswered h e → is_accepted e.verdict ≡ true → e.event ≡ Event.Frame j body → IsOnward j h.entries e (given j h.entries) (peer_of j h.entries) AwaitMessage true
 
 module _ (h : History) (j : ℕ) where
   pub awaits_last : (s : LinkState) → IsState (facts h j) s → is_open j h.entries ≡ true → is_last (awaits j h.entries) ≡ true → is_last_state s ≡ true
-  awaits_last (state.Reply s) a opens last = refl
-  awaits_last (state.Ack s) a opens last = refl
-  awaits_last (state.Name c) a opens last = sym (ap is_last a.0.awaited) ∙ last
-  awaits_last (state.Answer s) a opens last = sym (ap is_last a.0.awaited) ∙ last
-  awaits_last (state.Status s) a opens last = sym (ap is_last a.0.awaited) ∙ last
-  awaits_last (state.Challenge s) a opens last = sym (ap is_last a.0.awaited) ∙ last
-  awaits_last (state.Up s) a opens last = sym (ap is_last a.0.awaited) ∙ last
-  awaits_last state.Ended a opens last = lie (sym opens ∙ a)
+  awaits_last (LinkState.Reply s) a opens last = refl
+  awaits_last (LinkState.Ack s) a opens last = refl
+  awaits_last (LinkState.Name c) a opens last = sym (ap is_last a.0.awaited) ∙ last
+  awaits_last (LinkState.Answer s) a opens last = sym (ap is_last a.0.awaited) ∙ last
+  awaits_last (LinkState.Status s) a opens last = sym (ap is_last a.0.awaited) ∙ last
+  awaits_last (LinkState.Challenge s) a opens last = sym (ap is_last a.0.awaited) ∙ last
+  awaits_last (LinkState.Up s) a opens last = sym (ap is_last a.0.awaited) ∙ last
+  awaits_last LinkState.Ended a opens last = lie (sym opens ∙ a)
 
   module _ (rules : AdmissionRules) (t : AdmissionFollows (admission_words h) rules) (body : List ℕ) (pending : Pending) where
     -- ---- it breaks a rule
 
-    pub ended_by : (s : LinkState) → is_last_state s ≡ true → IsState (facts h j) s → (r : Rule) (frames : List (List ℕ)) → Hears rules pending s body (heard.Ended r frames)
+    pub ended_by : (s : LinkState) → is_last_state s ≡ true → IsState (facts h j) s → (r : Rule) (frames : List (List ℕ)) → Hears rules pending s body (Heard.Ended r frames)
         → (first_broken (frame_checks h j body (awaits j h.entries)) ≡ Some r) × (refusal_owes r ≡ narrow_frames frames)
-    ended_by (state.Reply s) q a r frames hears = (
+    ended_by (LinkState.Reply s) q a r frames hears = (
       ap (λ x. first_broken (frame_checks h j body x)) a.0.awaited ∙ reply_rules h rules t j s.peer a.1.peer.peer s.challenge a.1.challenge (reply_frame body) ∙ ap (option_map rule_of) hears.2 ∙ ap Some (sym hears.1),
       ap refusal_owes hears.1 ∙ owes_alike hears.0 ∙ ap narrow_frames (sym hears.3),
     )
-    ended_by (state.Ack s) q a r frames hears = (
+    ended_by (LinkState.Ack s) q a r frames hears = (
       ap (λ x. first_broken (frame_checks h j body x)) a.0.awaited ∙ ack_rules h rules t j s.peer a.1.peer.peer s.challenge a.1.challenge (ack_frame body) ∙ ap (option_map rule_of) hears.2 ∙ ap Some (sym hears.1),
       ap refusal_owes hears.1 ∙ owes_alike hears.0 ∙ ap narrow_frames (sym hears.3),
     )
@@ -80,17 +70,17 @@ module _ (h : History) (j : ℕ) where
 
     -- ---- it breaks none
 
-    pub comes : (s : LinkState) → is_last_state s ≡ true → IsState (facts h j) s → (up : Linked) (frames : List (List ℕ)) → Hears rules pending s body (heard.Up up frames)
+    pub comes : (s : LinkState) → is_last_state s ≡ true → IsState (facts h j) s → (up : Linked) (frames : List (List ℕ)) → Hears rules pending s body (Heard.Up up frames)
         → ComesUp h j body up frames × (known_peer s ≡ Some up.peer)
-    comes (state.Reply s) q a up frames hears = by (reply_frame body) refl hears.1
+    comes (LinkState.Reply s) q a up frames hears = by (reply_frame body) refl hears.1
       where
         owes_by : (x : Option ReplyFrame) (f : ReplyFrame) → x ≡ Some f
             → option_map_or (λ g. narrow (ack_bytes (record { digest = digest_for h j g.challenge })) ∷ discovers h j) x [] ≡ narrow_frames (ack_owed rules s.peer f.challenge) ++ discovers h j
         owes_by x f w = ap (λ y. option_map_or {T = ReplyFrame} {U = List OutFrame} (λ g. narrow (ack_bytes (record { digest = digest_for h j g.challenge })) ∷ discovers h j) y []) w
             ∙ (λ i. narrow (ack_bytes (record { digest = digest_is h rules t j s.peer f.challenge a.1.peer.peer i })) ∷ discovers h j)
 
-        by : (x : Option ReplyFrame) → reply_frame body ≡ x → option_map (λ f. heard.Up (linked s) (ack_owed rules s.peer f.challenge)) x ≡ Some (heard.Up up frames)
-            → ComesUp h j body up frames × (known_peer (state.Reply s) ≡ Some up.peer)
+        by : (x : Option ReplyFrame) → reply_frame body ≡ x → option_map (λ f. Heard.Up (linked s) (ack_owed rules s.peer f.challenge)) x ≡ Some (Heard.Up up frames)
+            → ComesUp h j body up frames × (known_peer (LinkState.Reply s) ≡ Some up.peer)
         by None w u = no_value (sym u)
         by (Some f) w u =
             let is : linked s ≡ up = ap (linked_in (linked s)) (some_is u) in
@@ -106,7 +96,7 @@ module _ (h : History) (j : ℕ) where
               },
               ap (λ (v : Linked). Some v.peer) is,
             )
-    comes (state.Ack s) q a up frames hears =
+    comes (LinkState.Ack s) q a up frames hears =
         let is : linked s ≡ up = ap (linked_in (linked s)) (some_is hears.1) in
         let sent : [] ≡ frames = ap frames_in (some_is hears.1) in (
           record {
@@ -130,14 +120,14 @@ module _ (h : History) (j : ℕ) (body : List ℕ) (up : Linked) (frames : List 
       ap (λ x. not h.opening.hidden && option_map_or {T = Name} (λ f. has_bit 0 f.flags) x false) c.known.said.1.said
       ∙ sym c.known.said.1.visible_is
 
-  pub answered_up : (seat : ℕ) → answer h seat (event.Frame j body) ≡ reply.Up up.peer up.creation up.visible
+  pub answered_up : (seat : ℕ) → answer h seat (Event.Frame j body) ≡ Reply.Up up.peer up.creation up.visible
   answered_up seat =
-      ap (λ b. cond b (up_answer h j) reply.Done) c.last
-      ∙ ap (λ x. option_map_or {T = Name} (λ f. reply.Up (unwrap_or (peer_of j h.entries) []) f.creation (is_visible h j)) x reply.Done) c.known.said.1.said
-      ∙ (λ i. reply.Up (unwrap_or (c.known.peer.peer i) []) (sym c.known.said.1.creation_is i) (visible_now i))
+      ap (λ b. cond b (up_answer h j) Reply.Done) c.last
+      ∙ ap (λ x. option_map_or {T = Name} (λ f. Reply.Up (unwrap_or (peer_of j h.entries) []) f.creation (is_visible h j)) x Reply.Done) c.known.said.1.said
+      ∙ (λ i. Reply.Up (unwrap_or (c.known.peer.peer i) []) (sym c.known.said.1.creation_is i) (visible_now i))
 
-  pub meets : (seat : ℕ) → first_broken (checks h seat (event.Frame j body)) ≡ None
-  meets seat = ap (λ b. first_broken (cond b (frame_checks h j body (awaits j h.entries)) (always rule.NoSuchLink))) c.opens ∙ c.holds
+  pub meets : (seat : ℕ) → first_broken (checks h seat (Event.Frame j body)) ≡ None
+  meets seat = ap (λ b. first_broken (cond b (frame_checks h j body (awaits j h.entries)) (always Rule.NoSuchLink))) c.opens ∙ c.holds
 
-pub fails : (h : History) (seat j : ℕ) (body : List ℕ) (r : Rule) → is_open j h.entries ≡ true → first_broken (frame_checks h j body (awaits j h.entries)) ≡ Some r → first_broken (checks h seat (event.Frame j body)) ≡ Some r
-fails h seat j body r opens found = ap (λ b. first_broken (cond b (frame_checks h j body (awaits j h.entries)) (always rule.NoSuchLink))) opens ∙ found
+pub fails : (h : History) (seat j : ℕ) (body : List ℕ) (r : Rule) → is_open j h.entries ≡ true → first_broken (frame_checks h j body (awaits j h.entries)) ≡ Some r → first_broken (checks h seat (Event.Frame j body)) ≡ Some r
+fails h seat j body r opens found = ap (λ b. first_broken (cond b (frame_checks h j body (awaits j h.entries)) (always Rule.NoSuchLink))) opens ∙ found

@@ -1,18 +1,14 @@
 -- The rows that leave with a process.
-use Rattle.node_core.proofs.Words.{Bool, List, ap, arith, cond, false, length, map, refl, sym, true, ℕ, [], ◌++◌, ◌+◌, ◌-◌, ◌∙◌, ◌∷◌, ◌≡◌}
-use Rattle.node_core.proofs.Words.{◌≤◌, AllByRecursion, filter, Less, same_decides, same_pid_decides, IsDifference, Rises, occurrences}
-use Rattle.node_core.proofs.Words.{same, same_pid, same_row, pid_cmp, row_cmp, text_cmp, GroupChange, Pid, Row, count_after_exit, Table}
-use Rattle.node_core.proofs.Words.{count_of, local_count, local_total, local_rows, row, History, IsLegal, rows_left, IsRunningOf}
-use Rattle.node_core.proofs.Words.{scope_words}
-use Rattle.std.specs.declared.cmp.Ordering.{Ordering}
-use Rattle.std.specs.Ordering.{is_gt, ordering_then}
-use Rattle.dist_types.specs.Difference.{IsProper, times_left}
-use Rattle.dist_types.specs.Listing.{Ascends}
+use Rattle.node_core.proofs.Words.{Bool, List, ap, arith, cond, false, length, map, refl, sym, true, ℕ, [], ◌++◌, ◌+◌, ◌-◌, ◌∙◌, ◌∷◌, ◌≡◌, ◌≤◌}
+use Rattle.node_core.proofs.Words.{AllByRecursion, filter, Less, same_decides, same_pid_decides, IsDifference, Rises, occurrences, same, same_pid}
+use Rattle.node_core.proofs.Words.{same_row, pid_cmp, row_cmp, text_cmp, GroupChange, Pid, Row, count_after_exit, Table, count_of, local_count}
+use Rattle.node_core.proofs.Words.{local_total, local_rows, row, History, IsLegal, rows_left, IsRunningOf, scope_words, Ordering, is_gt, IsProper}
+use Rattle.node_core.proofs.Words.{times_left, Ascends, count_in_group, Running}
+use Rattle.std.specs.Ordering.{ordering_then}
 use Rattle.dist_types.proofs.Listings.{all_append}
 use Rattle.dist_types.proofs.Totals.{how_many_append}
-use Rattle.policy_audit.proofs.Lists.{count_in_group, rows_of_group}
+use Rattle.policy_audit.proofs.Lists.{rows_of_group}
 use Rattle.policy_audit.proofs.OwnRows.{exit_listing}
-use Rattle.node_core.specs.declared.running.Running.{Running}
 use Rattle.node_core.proofs.OwnTotal.{few_rows}
 use Rattle.node_core.proofs.Scopes.{own_counts}
 

@@ -1,23 +1,15 @@
 -- Messages of own rows, and the links that are told them.
-use Rattle.node_core.proofs.Words.{Bool, List, OnErr, ap, arith, cond, false, length, map, not, refl, subst, sym, true, ℕ, [], ◌++◌, ◌<◌}
-use Rattle.node_core.proofs.Words.{◌∙◌, ◌∷◌, ◌≡◌, AllZip, same_pid_decides, is_empty, IsListing, IsPidListing, IsRowListing, listing}
-use Rattle.node_core.proofs.Words.{mentions, same, same_pid, pid_cmp, Pid, Row, Message, Table, lie, row, OutFrame, wide, KeptLink}
-use Rattle.node_core.proofs.Words.{prepared_for, unroomed, with_prepared, is_number, Alike, AreIdle, said_to}
-use Rattle.std.proofs.Common.{min, Result}
-use Rattle.dist_types.specs.Listing.{stands_in}
-use Rattle.dist_types.proofs.Orders.{exact_pids, pids_total}
+use Rattle.node_core.proofs.Words.{Bool, List, OnErr, ap, arith, cond, false, length, map, not, refl, subst, sym, true, ℕ, [], ◌++◌, ◌<◌, ◌∙◌, ◌∷◌}
+use Rattle.node_core.proofs.Words.{◌≡◌, AllZip, same_pid_decides, is_empty, IsListing, IsPidListing, IsRowListing, listing, mentions, same, same_pid}
+use Rattle.node_core.proofs.Words.{pid_cmp, Pid, Row, Message, Table, lie, row, OutFrame, wide, KeptLink, prepared_for, unroomed, with_prepared}
+use Rattle.node_core.proofs.Words.{is_number, Alike, AreIdle, said_to, min, stands_in, exact_pids, pids_total, IsJoinFault, IsLeaveFault, IsAddFault}
+use Rattle.node_core.proofs.Words.{IsTakeFault, occurs_stands, Running, IsBrief, is_said, IsAddRefusal, IsTakeRefusal, fault_of, IsJoinRefusal}
+use Rattle.node_core.proofs.Words.{IsLeaveRefusal}
+use Rattle.std.proofs.Common.{Result}
 use Rattle.dist_types.proofs.Listings.{listing_counts}
-use Rattle.link_frames.specs.declared.message.Message.TheVariants as said
 use Rattle.link_frames.specs.Spelling.{HasSpelling}
 use Rattle.scope_core.specs.declared.fault.TableFault.{TableFault}
-use Rattle.scope_core.specs.declared.fault.TableFault.TheVariants as fault
-use Rattle.scope_core.specs.Calls.{IsJoinFault, IsLeaveFault, IsAddFault, IsTakeFault}
-use Rattle.policy_audit.proofs.Named.{occurs_stands}
 use Rattle.policy_audit.proofs.OwnRows.{one_row_listing, rows_in_group}
-use Rattle.node_core.specs.declared.running.Running.{Running}
-use Rattle.node_core.specs.Telling.{IsBrief, is_said}
-use Rattle.node_core.specs.MessageRules.{IsAddRefusal, IsTakeRefusal}
-use Rattle.node_core.specs.Moving.{fault_of, IsJoinRefusal, IsLeaveRefusal}
 use Rattle.node_core.proofs.Told.{at_errors, zip_map}
 
 some_left : {A : Type 0} (xs : List A) → not (is_empty xs) ≡ true → 0 < length xs
@@ -26,11 +18,11 @@ some_left (x ∷ xs) q = omega arith
 
 -- a message that is said can be spelled
 pub spelled : (m : Message) → IsBrief m → is_said m ≡ true → HasSpelling m
-spelled (said.Discover s) b q = tt
-spelled (said.Sync s rows) b q = b
-spelled (said.Join s rows) b q = (some_left rows q, b)
-spelled (said.Leave s rows) b q = (some_left rows q, b)
-spelled (said.Down s) b q = tt
+spelled (Message.Discover s) b q = tt
+spelled (Message.Sync s rows) b q = b
+spelled (Message.Join s rows) b q = (some_left rows q, b)
+spelled (Message.Leave s rows) b q = (some_left rows q, b)
+spelled (Message.Down s) b q = tt
 
 module _ (numbers : List ℕ) (m : Message) (old : List KeptLink) where
   abbrev prepared_as : Bool → List KeptLink
@@ -62,28 +54,28 @@ left_rows_are g ps gone count rows left a =
 -- ---- faults
 
 pub join_fault : (t : Table) (ps : List Pid) (f : TableFault) → IsJoinFault t ps f → IsJoinRefusal t ps (fault_of f)
-join_fault t ps fault.RowsFull q = (refl, q)
-join_fault t ps fault.NotJoined q = absurd q
-join_fault t ps fault.NotListed q = absurd q
-join_fault t ps fault.OutOfMemory q = tt
+join_fault t ps TableFault.RowsFull q = (refl, q)
+join_fault t ps TableFault.NotJoined q = absurd q
+join_fault t ps TableFault.NotListed q = absurd q
+join_fault t ps TableFault.OutOfMemory q = tt
 
 pub leave_fault : (t : Table) (g : List ℕ) (ps : List Pid) (f : TableFault) → IsLeaveFault t g ps f → IsLeaveRefusal t g ps (fault_of f)
-leave_fault t g ps fault.RowsFull q = absurd q
-leave_fault t g ps fault.NotJoined q = (refl, q)
-leave_fault t g ps fault.NotListed q = absurd q
-leave_fault t g ps fault.OutOfMemory q = tt
+leave_fault t g ps TableFault.RowsFull q = absurd q
+leave_fault t g ps TableFault.NotJoined q = (refl, q)
+leave_fault t g ps TableFault.NotListed q = absurd q
+leave_fault t g ps TableFault.OutOfMemory q = tt
 
 pub add_fault : (t : Table) (n : List ℕ) (rows : List Row) (f : TableFault) → IsAddFault t n rows f → IsAddRefusal t n rows (fault_of f)
-add_fault t n rows fault.RowsFull q = (refl, q)
-add_fault t n rows fault.NotJoined q = absurd q
-add_fault t n rows fault.NotListed q = absurd q
-add_fault t n rows fault.OutOfMemory q = tt
+add_fault t n rows TableFault.RowsFull q = (refl, q)
+add_fault t n rows TableFault.NotJoined q = absurd q
+add_fault t n rows TableFault.NotListed q = absurd q
+add_fault t n rows TableFault.OutOfMemory q = tt
 
 pub take_fault : (t : Table) (rows : List Row) (f : TableFault) → IsTakeFault t rows f → IsTakeRefusal t rows (fault_of f)
-take_fault t rows fault.RowsFull q = absurd q
-take_fault t rows fault.NotJoined q = absurd q
-take_fault t rows fault.NotListed q = (refl, q)
-take_fault t rows fault.OutOfMemory q = tt
+take_fault t rows TableFault.RowsFull q = absurd q
+take_fault t rows TableFault.NotJoined q = absurd q
+take_fault t rows TableFault.NotListed q = (refl, q)
+take_fault t rows TableFault.OutOfMemory q = tt
 
 -- what is prepared and then dropped leaves all as it was
 pub dropped_again : (numbers : List ℕ) (frame : OutFrame) (old mid new : List KeptLink) → AreIdle old → map unroomed mid ≡ map (λ x. unroomed (prepared_for numbers frame x)) old

@@ -1,22 +1,17 @@
 -- The scopes that run, as a node keeps them.
-use Rattle.node_core.proofs.Words.{List, None, Option, Some, ap, cond, false, find, map, refl, subst, sym, true, ℕ, [], ◌∙◌, ◌∷◌, ◌≡◌}
-use Rattle.node_core.proofs.Words.{AllByRecursion, list_any, option_map, same_decides, same_pid_decides, IsPidListing, is_among, same}
-use Rattle.node_core.proofs.Words.{same_pid, pid_cmp, Pid, count_of, local_count, running_among, History, events, listed, is_running}
-use Rattle.node_core.proofs.Words.{IsLegal, IsRunningOf, ScopesFollow, scope_words}
-use Rattle.std.proofs.Common.{IfSome, IfNone}
+use Rattle.node_core.proofs.Words.{List, None, Option, Some, ap, cond, false, find, map, refl, subst, sym, true, ℕ, [], ◌∙◌, ◌∷◌, ◌≡◌, AllByRecursion}
+use Rattle.node_core.proofs.Words.{list_any, option_map, same_decides, same_pid_decides, IsPidListing, is_among, same, same_pid, pid_cmp, Pid}
+use Rattle.node_core.proofs.Words.{count_of, local_count, running_among, History, events, listed, is_running, IsLegal, IsRunningOf, ScopesFollow}
+use Rattle.node_core.proofs.Words.{scope_words, IfSome, IfNone, Running, IsGroupListing, pids_total, exact_pids, groups_named, pids_named, members}
+use Rattle.node_core.proofs.Words.{groups, contents, local_members, local_groups, own}
 use Rattle.policy_audit.specs.declared.reply.GroupPids.{GroupPids}
 use Rattle.std.specs.Borrow.{Bor}
-use Rattle.node_core.specs.declared.running.Running.{Running}
-use Rattle.dist_types.specs.Listing.{IsGroupListing}
-use Rattle.dist_types.proofs.Orders.{pids_total, exact_pids}
 use Rattle.dist_types.proofs.Listings.{one_listing}
 use Rattle.dist_types.proofs.GroupListings.{one_group_listing}
-use Rattle.policy_audit.specs.Contents.{groups_named, pids_named, members, groups, contents, local_members, local_groups}
 use Rattle.policy_audit.proofs.Named.{listed_named, own_named, group_named, pid_named}
 use Rattle.policy_audit.proofs.OwnRows.{own_is_listed}
-use Rattle.policy_audit.specs.Own.{own}
-use Rattle.policy_audit.proofs.Lists as lists
 use Rattle.node_core.proofs.Found.{found_in, none_found, some_found, any_map}
+use Rattle.policy_audit.proofs.Lists as lists
 
 module _ (h : History) (rs : List Running) (s : List ℕ) (t : ScopesFollow (scope_words h) rs) where
   -- whether s runs is whether one of the kept scopes is s

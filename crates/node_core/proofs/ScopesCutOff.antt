@@ -1,9 +1,6 @@
 -- The scopes after a link of a peer is gone, or another of its links has come up.
-use Rattle.node_core.proofs.Words.{Bool, List, ap, cond, false, nat_eq, not, refl, sym, true, ℕ, [], ◌&&◌, ◌==◌, ◌||◌, ◌∙◌, ◌∷◌, ◌≡◌}
-use Rattle.node_core.proofs.Words.{AllZip, eq-eqb, eqb-true, same, Pid, and_false, flip, IsCutOff, IsRunningOf, ScopeWords, ScopesFollow}
-use Rattle.node_core.proofs.Words.{is_number}
-use Rattle.node_core.specs.declared.running.Running.{Running}
-use Rattle.node_core.specs.Parting.{without}
+use Rattle.node_core.proofs.Words.{Bool, List, ap, cond, false, nat_eq, not, refl, sym, true, ℕ, [], ◌&&◌, ◌==◌, ◌||◌, ◌∙◌, ◌∷◌, ◌≡◌, AllZip, eq-eqb}
+use Rattle.node_core.proofs.Words.{eqb-true, same, Pid, and_false, flip, IsCutOff, IsRunningOf, ScopeWords, ScopesFollow, is_number, Running, without}
 use Rattle.node_core.proofs.Zipped.{zipped_map, zipped_weaker, zipped_each}
 
 -- whether a number is left of these

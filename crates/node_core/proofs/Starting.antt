@@ -1,29 +1,16 @@
 -- A scope that starts.
-use Rattle.node_core.proofs.Words.{Bool, List, None, Option, Some, ap, arith, cond, false, get_or, length, map, nat_lt, not, refl, suc, sym}
-use Rattle.node_core.proofs.Words.{true, zero, ℕ, [], ◌++◌, ◌<◌, ◌||◌, ◌∙◌, ◌∷◌, ◌≡◌, ◌≤◌, AllByRecursion, Less, lt-ltb, ltb-true}
-use Rattle.node_core.proofs.Words.{same_decides, Rises, is_among, same, text_cmp, Pid, count_of, lie, no_change, stopped_lists}
-use Rattle.node_core.proofs.Words.{told_numbers, running_among, checks, first_broken, heard, told, History, listed, waiting, wide}
-use Rattle.node_core.proofs.Words.{is_running, running_scopes, IsAnswered, IsNext, is_full, with_entry, Entry, Accepted, Rule}
-use Rattle.node_core.proofs.Words.{follows_other, Follows, Parts, link_words, KeptLink, IsRunningOf, ScopesFollow, is_number, scope_words}
-use Rattle.node_core.proofs.Words.{AreTold, if_among, shown_numbers}
+use Rattle.node_core.proofs.Words.{Bool, List, None, Option, Some, ap, arith, cond, false, get_or, length, map, nat_lt, not, refl, suc, sym, true}
+use Rattle.node_core.proofs.Words.{zero, ℕ, [], ◌++◌, ◌<◌, ◌||◌, ◌∙◌, ◌∷◌, ◌≡◌, ◌≤◌, AllByRecursion, Less, lt-ltb, ltb-true, same_decides, Rises}
+use Rattle.node_core.proofs.Words.{is_among, same, text_cmp, Pid, count_of, lie, no_change, stopped_lists, told_numbers, running_among, checks}
+use Rattle.node_core.proofs.Words.{first_broken, heard, told, History, listed, waiting, wide, is_running, running_scopes, IsAnswered, IsNext, is_full}
+use Rattle.node_core.proofs.Words.{with_entry, Entry, Accepted, Rule, follows_other, Follows, Parts, link_words, KeptLink, IsRunningOf, ScopesFollow}
+use Rattle.node_core.proofs.Words.{is_number, scope_words, AreTold, if_among, shown_numbers, Ordering, Equal, Greater, insert, placed, texts_total}
+use Rattle.node_core.proofs.Words.{started_links, running_started, Running, put_scope, Message, Event, Reply}
 use Rattle.std.proofs.lemmas.Map.Lookups.{exact_bytes}
-use Rattle.std.specs.declared.cmp.Ordering.{Ordering}
-use Rattle.std.specs.declared.cmp.Ordering.TheVariants.{Equal, Greater}
 use Rattle.std.specs.Ordering.{is_lt, ordering_reverse, match_ordering}
-use Rattle.std.specs.List.{insert}
 use Rattle.std.specs.List.Sorted.{IsPartitionedBy, IsPartitionPoint}
-use Rattle.dist_types.specs.Listing.{placed}
-use Rattle.dist_types.proofs.Orders.{texts_total}
-use Rattle.link_frames.specs.declared.message.Message.TheVariants as said
-use Rattle.policy_audit.specs.declared.event.Event.TheVariants as event
-use Rattle.policy_audit.specs.declared.reply.Reply.TheVariants as reply
-use Rattle.policy_audit.specs.declared.rule.Rule.TheVariants as rule
 use Rattle.policy_audit.proofs.KeptLinks.{told_runs, heard_runs'}
 use Rattle.policy_audit.proofs.RowsAfter.{started_rows}
-use Rattle.policy_audit.proofs.ScopeFrames.{started_links}
-use Rattle.policy_audit.proofs.ScopesNow.{running_started}
-use Rattle.node_core.specs.declared.running.Running.{Running}
-use Rattle.node_core.specs.Telling.{put_scope}
 use Rattle.node_core.proofs.Entered.{made, accepted_now, answered_now, next_now, sound_now}
 use Rattle.node_core.proofs.Told.{told_follow, shown_number}
 
@@ -100,20 +87,20 @@ running_length h rs t = ap length (sym t.running) ∙ long rs
 
 module _ (h : History) (seat : ℕ) (s : List ℕ) where
   abbrev e : Entry
-  e = made h seat (event.StartScope s) (Accepted reply.Done) []
+  e = made h seat (Event.StartScope s) (Accepted Reply.Done) []
 
   abbrev pub started : History
   started = with_entry h e
 
   -- the first rule that is broken, where the scope runs or not and there is room for one or not
   abbrev checked : Bool → Bool → Option Rule
-  checked runs room = cond (not (not runs)) (Some rule.ScopeRunning) (cond (not room) (Some rule.ScopesFull) None)
+  checked runs room = cond (not (not runs)) (Some Rule.ScopeRunning) (cond (not room) (Some Rule.ScopesFull) None)
 
-  pub scope_running : is_running h s ≡ true → first_broken (checks h seat (event.StartScope s)) ≡ Some rule.ScopeRunning
+  pub scope_running : is_running h s ≡ true → first_broken (checks h seat (Event.StartScope s)) ≡ Some Rule.ScopeRunning
   scope_running q = ap (λ b. checked b (nat_lt (length (running_scopes h)) 64)) q
 
   module _ (parts : Parts) (t : Follows h parts) (stopped : is_running h s ≡ false) where
-    pub scopes_full : 64 ≤ length parts.scopes → first_broken (checks h seat (event.StartScope s)) ≡ Some rule.ScopesFull
+    pub scopes_full : 64 ≤ length parts.scopes → first_broken (checks h seat (Event.StartScope s)) ≡ Some Rule.ScopesFull
     scopes_full many = λ i. checked (stopped i) (crowded i)
       where
         crowded : nat_lt (length (running_scopes h)) 64 ≡ false
@@ -123,12 +110,12 @@ module _ (h : History) (seat : ℕ) (s : List ℕ) where
             by false q = refl
             by true q = absurd (let few = ltb-true (length (running_scopes h)) 64 q in let is = running_length h parts.scopes t.scopes in omega (arith, few, is, many))
 
-    pub scopes_fit : length parts.scopes < 64 → first_broken (checks h seat (event.StartScope s)) ≡ None
+    pub scopes_fit : length parts.scopes < 64 → first_broken (checks h seat (Event.StartScope s)) ≡ None
     scopes_fit few = λ i. checked (stopped i) (lt-ltb (length (running_scopes h)) 64 (let is = running_length h parts.scopes t.scopes in omega (arith, is, few)) i)
 
     pub start_next : is_full h ≡ false → length parts.scopes < 64 → IsNext h e
-    start_next space few = next_now h seat (event.StartScope s) space (Accepted reply.Done) [] (accepted_now h seat (event.StartScope s) space reply.Done (scopes_fit few) refl)
-        (no_change h started (λ u g p. sym (started_rows h t.sound.legal e (answered_now h seat (event.StartScope s) space (Accepted reply.Done) [] (accepted_now h seat (event.StartScope s) space reply.Done (scopes_fit few) refl)) refl s refl u g p)))
+    start_next space few = next_now h seat (Event.StartScope s) space (Accepted Reply.Done) [] (accepted_now h seat (Event.StartScope s) space Reply.Done (scopes_fit few) refl)
+        (no_change h started (λ u g p. sym (started_rows h t.sound.legal e (answered_now h seat (Event.StartScope s) space (Accepted Reply.Done) [] (accepted_now h seat (Event.StartScope s) space Reply.Done (scopes_fit few) refl)) refl s refl u g p)))
 
     module _ (next : IsNext h e) where
       its : IsAnswered h e
@@ -159,7 +146,7 @@ module _ (h : History) (seat : ℕ) (s : List ℕ) where
       }
 
       pub start_follows : (r : Running) → r.scope ≡ s → r.table.own ≡ h.opening.name → ((g : List ℕ) (p : Pid) → count_of r.table g p ≡ 0) → r.heard.items ≡ [] → r.told.items ≡ []
-          → (links : List KeptLink) → AreTold (if_among (shown_numbers parts.links) (wide (said.Discover s))) parts.links links
+          → (links : List KeptLink) → AreTold (if_among (shown_numbers parts.links) (wide (Message.Discover s))) parts.links links
           → Follows started (record parts { scopes = put_scope r parts.scopes; links = links })
       start_follows r named own none unheard untold links tells = record {
         sound = sound_now h parts.limit e t.sound next;
@@ -171,9 +158,9 @@ module _ (h : History) (seat : ℕ) (s : List ℕ) where
               ∙ (λ i. placed text_cmp (named i) (t.scopes.running i)) ∙ sym (running_started h e refl s refl);
           each = put_each (IsRunningOf (scope_words started)) r parts.scopes (new_one r named own none unheard untold) (all_still parts.scopes t.scopes.each);
         };
-        links = told_follow (link_words h) (link_words started) (if_among (shown_numbers parts.links) (wide (said.Discover s))) (λ l. refl)
+        links = told_follow (link_words h) (link_words started) (if_among (shown_numbers parts.links) (wide (Message.Discover s))) (λ l. refl)
             (told_numbers h e its refl refl (λ l. (started_links h e its refl s refl l).kept_is)) parts.links links
-            (λ l here. ap (λ b. waiting h l ++ cond b (wide (said.Discover s) ∷ []) []) (sym (shown_number (link_words h) parts.links t.links l here)))
+            (λ l here. ap (λ b. waiting h l ++ cond b (wide (Message.Discover s) ∷ []) []) (sym (shown_number (link_words h) parts.links t.links l here)))
             tells t.links;
         monitors = follows_other h e parts.monitors next.number t.monitors refl;
       }

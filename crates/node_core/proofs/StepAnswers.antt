@@ -1,11 +1,7 @@
 -- What a step answers, from what it enters.
-use Rattle.node_core.proofs.Words.{Err, Ok, ap, cond, false, subst, sym, true, ℕ, ◌∙◌, ◌≡◌, Result, checks, first_broken, History, IsNext}
-use Rattle.node_core.proofs.Words.{is_full, verdict, with_entry, Entry, Verdict, Accepted, Refused, Event, Reply}
-use Rattle.policy_audit.specs.declared.rule.Rule.TheVariants as rule
-use Rattle.policy_audit.specs.Policy.{judged, after, entry_of}
+use Rattle.node_core.proofs.Words.{Err, Ok, ap, cond, false, subst, sym, true, ℕ, ◌∙◌, ◌≡◌, Result, checks, first_broken, History, IsNext, is_full}
+use Rattle.node_core.proofs.Words.{verdict, with_entry, Entry, Verdict, Accepted, Refused, Event, Reply, judged, after, entry_of, CoreFault, Rule}
 use Rattle.policy_audit.proofs.ScopeChanges.{next_is_after}
-use Rattle.node_core.specs.declared.fault.CoreFault.{CoreFault}
-use Rattle.node_core.specs.declared.fault.CoreFault.TheVariants as faults
 use Rattle.node_core.specs.Step.{Enters, Steps, IsStepped}
 
 -- the entry has the policy's verdict, and makes its history
@@ -21,14 +17,14 @@ entered old new seat e v x = by x.0 x.1 x.2 x.3 x.4 x.5
 pub steps_is : (old new : History) (seat : ℕ) (e : Event) (result : Result Reply CoreFault) → is_full old ≡ false → Steps old seat e new result → IsStepped old seat e new result
 unfolding Steps IsStepped
 steps_is old new seat e (Ok reply) space x = entered old new seat e (Accepted reply) x
-steps_is old new seat e (Err (faults.Refused r)) space x = entered old new seat e (Refused r) x
-steps_is old new seat e (Err faults.OutOfMemory) space x = (space, x)
+steps_is old new seat e (Err (CoreFault.Refused r)) space x = entered old new seat e (Refused r) x
+steps_is old new seat e (Err CoreFault.OutOfMemory) space x = (space, x)
 
 -- where the audit is full nothing is entered
-pub full_step : (old : History) (seat : ℕ) (e : Event) → is_full old ≡ true → IsStepped old seat e old (Err (faults.Refused rule.EntriesFull))
+pub full_step : (old : History) (seat : ℕ) (e : Event) → is_full old ≡ true → IsStepped old seat e old (Err (CoreFault.Refused Rule.EntriesFull))
 unfolding IsStepped
 full_step old seat e full = (
-  ap (λ b. cond b (Refused rule.EntriesFull) (judged old seat e (first_broken (checks old seat e)))) full,
+  ap (λ b. cond b (Refused Rule.EntriesFull) (judged old seat e (first_broken (checks old seat e)))) full,
   sym (ap (λ b. cond b old (with_entry old (entry_of old seat e))) full),
 )
 

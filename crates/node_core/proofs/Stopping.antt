@@ -1,20 +1,12 @@
 -- A scope that stops.
 use Rattle.node_core.proofs.Words.{Bool, List, None, Some, ap, cond, false, not, refl, subst, sym, true, ℕ, [], ◌&&◌, ◌++◌, ◌∙◌, ◌∷◌, ◌≡◌}
-use Rattle.node_core.proofs.Words.{AllByRecursion, filter, and-true, same_decides, same_sym, IsDifference, same, GroupChange, no_count}
-use Rattle.node_core.proofs.Words.{told_numbers, if_some, checks, first_broken, heard, told, History, listed, waiting, wide, is_running}
-use Rattle.node_core.proofs.Words.{IsAnswered, IsNext, is_full, with_entry, Entry, Accepted, Follows, Parts, link_words, KeptLink}
-use Rattle.node_core.proofs.Words.{IsRunningOf, scope_words, AreTold, if_among, shown_numbers}
-use Rattle.link_frames.specs.declared.message.Message.TheVariants as said
+use Rattle.node_core.proofs.Words.{AllByRecursion, filter, and-true, same_decides, same_sym, IsDifference, same, GroupChange, no_count, told_numbers}
+use Rattle.node_core.proofs.Words.{if_some, checks, first_broken, heard, told, History, listed, waiting, wide, is_running, IsAnswered, IsNext}
+use Rattle.node_core.proofs.Words.{is_full, with_entry, Entry, Accepted, Follows, Parts, link_words, KeptLink, IsRunningOf, scope_words, AreTold}
+use Rattle.node_core.proofs.Words.{if_among, shown_numbers, follows_dropped, stopped_links, running_stopped, Running, Message, Event, Reply, Rule}
 use Rattle.group_monitors.specs.Monitors.{without_scope}
-use Rattle.group_monitors.proofs.Followed.{follows_dropped}
-use Rattle.policy_audit.specs.declared.event.Event.TheVariants as event
-use Rattle.policy_audit.specs.declared.reply.Reply.TheVariants as reply
-use Rattle.policy_audit.specs.declared.rule.Rule.TheVariants as rule
 use Rattle.policy_audit.proofs.HeardNow.{stopped_heard}
 use Rattle.policy_audit.proofs.RowsAfter.{stopped_rows}
-use Rattle.policy_audit.proofs.ScopeFrames.{stopped_links}
-use Rattle.policy_audit.proofs.ScopesNow.{running_stopped}
-use Rattle.node_core.specs.declared.running.Running.{Running}
 use Rattle.node_core.proofs.Entered.{made, accepted_now, answered_now, next_now, sound_now}
 use Rattle.node_core.proofs.OneScope.{scope_change}
 use Rattle.node_core.proofs.Starting.{names}
@@ -37,20 +29,20 @@ names_left s (r ∷ rs) = by (not (same r.scope s)) (names_left s rs)
 
 module _ (h : History) (seat : ℕ) (s : List ℕ) (gs : List GroupChange) where
   abbrev e : Entry
-  e = made h seat (event.StopScope s) (Accepted reply.Done) (if_some s gs)
+  e = made h seat (Event.StopScope s) (Accepted Reply.Done) (if_some s gs)
 
   abbrev pub stopped : History
   stopped = with_entry h e
 
   module _ (parts : Parts) (t : Follows h parts) (runs : is_running h s ≡ true) (groups : IsDifference (listed h s) no_count gs) where
-    holds : first_broken (checks h seat (event.StopScope s)) ≡ None
-    holds = ap (λ b. cond (not b) (Some rule.NoScope) None) runs
+    holds : first_broken (checks h seat (Event.StopScope s)) ≡ None
+    holds = ap (λ b. cond (not b) (Some Rule.NoScope) None) runs
 
     pub stop_next : is_full h ≡ false → IsNext h e
     stop_next space =
-        let verdict = accepted_now h seat (event.StopScope s) space reply.Done holds refl in
-        let made_so = answered_now h seat (event.StopScope s) space (Accepted reply.Done) (if_some s gs) verdict in
-        next_now h seat (event.StopScope s) space (Accepted reply.Done) (if_some s gs) verdict
+        let verdict = accepted_now h seat (Event.StopScope s) space Reply.Done holds refl in
+        let made_so = answered_now h seat (Event.StopScope s) space (Accepted Reply.Done) (if_some s gs) verdict in
+        next_now h seat (Event.StopScope s) space (Accepted Reply.Done) (if_some s gs) verdict
         (scope_change h stopped s gs
         (subst (λ f. IsDifference (listed h s) f gs) (λ i g p. sym (stopped_rows h t.sound.legal e made_so refl s refl s g p ∙ ap (λ b. cond b 0 (listed h s g p)) ((same_decides s s).1 refl)) i) groups)
         (λ u g p other. sym (stopped_rows h t.sound.legal e made_so refl s refl u g p ∙ ap (λ b. cond b 0 (listed h u g p)) other)))
@@ -75,7 +67,7 @@ module _ (h : History) (seat : ℕ) (s : List ℕ) (gs : List GroupChange) where
           by true q others = others
           by false q others = (still r q a.0, others)
 
-      pub stop_follows : (links : List KeptLink) → AreTold (if_among (shown_numbers parts.links) (wide (said.Down s))) parts.links links
+      pub stop_follows : (links : List KeptLink) → AreTold (if_among (shown_numbers parts.links) (wide (Message.Down s))) parts.links links
           → Follows stopped (record parts { scopes = all_but s parts.scopes; links = links; monitors = without_scope s parts.monitors })
       stop_follows links tells = record {
         sound = sound_now h parts.limit e t.sound next;
@@ -85,9 +77,9 @@ module _ (h : History) (seat : ℕ) (s : List ℕ) (gs : List GroupChange) where
           running = names_left s parts.scopes ∙ ap (filter (λ u. not (same u s))) t.scopes.running ∙ sym (running_stopped h e refl s refl);
           each = all_still parts.scopes t.scopes.each;
         };
-        links = told_follow (link_words h) (link_words stopped) (if_among (shown_numbers parts.links) (wide (said.Down s))) (λ l. refl)
+        links = told_follow (link_words h) (link_words stopped) (if_among (shown_numbers parts.links) (wide (Message.Down s))) (λ l. refl)
             (told_numbers h e its refl refl (λ l. (stopped_links h e its refl s refl l).kept_is)) parts.links links
-            (λ l here. ap (λ b. waiting h l ++ cond b (wide (said.Down s) ∷ []) []) (sym (shown_number (link_words h) parts.links t.links l here)))
+            (λ l here. ap (λ b. waiting h l ++ cond b (wide (Message.Down s) ∷ []) []) (sym (shown_number (link_words h) parts.links t.links l here)))
             tells t.links;
         monitors = follows_dropped h e parts.monitors next.number t.monitors refl s refl;
       }

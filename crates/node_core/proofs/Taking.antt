@@ -1,17 +1,10 @@
 -- The frames that wait for a link are handed over.
-use Rattle.node_core.proofs.Words.{Bool, List, None, Some, ap, cond, false, get_or, length, nat_eq, not, position, refl, set, subst, sym}
-use Rattle.node_core.proofs.Words.{true, ℕ, [], ◌&&◌, ◌<◌, ◌==◌, ◌∙◌, ◌≡◌, filter, eq-eqb, eqb-true, lie, kept_climbs, flip, History}
-use Rattle.node_core.proofs.Words.{is_open, OutFrame, waiting, IsNext, is_full, with_entry, Entry, Accepted, follows_other, Follows, Parts}
-use Rattle.node_core.proofs.Words.{IsLinkOf, IsState, LinksFollow, facts, link_words, KeptLink}
-use Rattle.policy_audit.specs.declared.event.Event.TheVariants as event
-use Rattle.policy_audit.specs.declared.reply.Reply.TheVariants as reply
-use Rattle.policy_audit.specs.declared.rule.Rule.TheVariants as rule
+use Rattle.node_core.proofs.Words.{Bool, List, None, Some, ap, cond, false, get_or, length, nat_eq, not, position, refl, set, subst, sym, true, ℕ, []}
+use Rattle.node_core.proofs.Words.{◌&&◌, ◌<◌, ◌==◌, ◌∙◌, ◌≡◌, filter, eq-eqb, eqb-true, lie, kept_climbs, flip, History, is_open, OutFrame, waiting}
+use Rattle.node_core.proofs.Words.{IsNext, is_full, with_entry, Entry, Accepted, follows_other, Follows, Parts, IsLinkOf, IsState, LinksFollow, facts}
+use Rattle.node_core.proofs.Words.{link_words, KeptLink, LinkState, is_ended, without_ended, Event, Reply, Rule}
 use Rattle.policy_audit.proofs.LinkFrames.{taken_links}
 use Rattle.policy_audit.proofs.LinksLeft.{taken_numbers}
-use Rattle.node_core.specs.declared.link_state.LinkState.{LinkState}
-use Rattle.node_core.specs.declared.link_state.LinkState.TheVariants as state
-use Rattle.node_core.specs.Links.{is_ended}
-use Rattle.node_core.specs.Gone.{without_ended}
 use Rattle.node_core.proofs.Entered.{made, sound_now}
 use Rattle.node_core.proofs.Quiet.{quiet_next}
 use Rattle.node_core.proofs.KeptOn.{one_follows}
@@ -19,14 +12,14 @@ use Rattle.node_core.proofs.Places.{stay_follow, filter_set, filter_all, is_kept
 
 -- a link is open unless its state is the end
 pub open_by : (h : History) (l : ℕ) (s : LinkState) → IsState (facts h l) s → is_open l h.entries ≡ not (is_ended s)
-open_by h l (state.Name c) t = t.0.open_now
-open_by h l (state.Answer s) t = t.0.open_now
-open_by h l (state.Reply s) t = t.0.open_now
-open_by h l (state.Status s) t = t.0.open_now
-open_by h l (state.Challenge s) t = t.0.open_now
-open_by h l (state.Ack s) t = t.0.open_now
-open_by h l (state.Up s) t = t.0.open_now
-open_by h l state.Ended t = t
+open_by h l (LinkState.Name c) t = t.0.open_now
+open_by h l (LinkState.Answer s) t = t.0.open_now
+open_by h l (LinkState.Reply s) t = t.0.open_now
+open_by h l (LinkState.Status s) t = t.0.open_now
+open_by h l (LinkState.Challenge s) t = t.0.open_now
+open_by h l (LinkState.Ack s) t = t.0.open_now
+open_by h l (LinkState.Up s) t = t.0.open_now
+open_by h l LinkState.Ended t = t
 
 -- a link for which nothing waits any more
 abbrev pub emptied : KeptLink → ℕ → KeptLink
@@ -34,7 +27,7 @@ emptied x room = record { number = x.number; state = x.state; frames = []; prepa
 
 module _ (h : History) (seat j : ℕ) (frames : List OutFrame) (parts : Parts) (t : Follows h parts) (p : ℕ) (d : KeptLink) (found : position (λ x. nat_eq x.number j) parts.links ≡ Some p) where
   abbrev take : Entry
-  take = made h seat (event.Take j) (Accepted (reply.Out frames)) []
+  take = made h seat (Event.Take j) (Accepted (Reply.Out frames)) []
 
   abbrev link : KeptLink
   link = get_or parts.links p d
@@ -47,7 +40,7 @@ module _ (h : History) (seat j : ℕ) (frames : List OutFrame) (parts : Parts) (
   taken_frames = it.0.frames ∙ ap (waiting h) it.1
 
   pub taken_next : is_full h ≡ false → frames ≡ link.frames → IsNext h take
-  taken_next space is = quiet_next h seat (reply.Out frames) (event.Take j) space (ap (λ b. cond (not b) (Some rule.NoSuchLink) None) (is_kept_at h t.sound.legal parts.links t.links j p found)) (ap reply.Out (sym (is ∙ taken_frames))) refl
+  taken_next space is = quiet_next h seat (Reply.Out frames) (Event.Take j) space (ap (λ b. cond (not b) (Some Rule.NoSuchLink) None) (is_kept_at h t.sound.legal parts.links t.links j p found)) (ap Reply.Out (sym (is ∙ taken_frames))) refl
 
   opens : (ended : Bool) → is_ended link.state ≡ ended → is_open j h.entries ≡ not ended
   opens ended is = sym (ap (λ l. is_open l h.entries) it.1) ∙ open_by h link.number link.state it.0.state ∙ ap not is

@@ -1,13 +1,10 @@
 -- Links for which further frames wait.
-use Rattle.node_core.proofs.Words.{Bool, Err, List, None, Ok, OnErr, Option, Some, ap, cond, false, is_some, map, nat_eq, not, refl, subst}
-use Rattle.node_core.proofs.Words.{sym, true, ℕ, [], ◌&&◌, ◌++◌, ◌||◌, ◌∙◌, ◌∷◌, ◌≡◌, AllByRecursion, AllZip, filter, option_map_or, eq-eqb}
-use Rattle.node_core.proofs.Words.{eqb-true, has_bit, lie, and_false, History, OutFrame, Follows, Parts, IsLinkOf, IsState, LinkFacts}
-use Rattle.node_core.proofs.Words.{LinkWords, LinksFollow, link_words, KeptLink, committed, prepared_for, unroomed, with_frames}
-use Rattle.node_core.proofs.Words.{with_prepared, is_number, Alike, AreIdle, AreTold, if_among, shown_numbers}
-use Rattle.std.proofs.Common.{Result, IfSome, IfNone}
-use Rattle.node_core.specs.declared.link_state.LinkState.{LinkState}
-use Rattle.node_core.specs.declared.link_state.LinkState.TheVariants as state
-use Rattle.node_core.specs.Links.{is_shown}
+use Rattle.node_core.proofs.Words.{Bool, Err, List, None, Ok, OnErr, Option, Some, ap, cond, false, is_some, map, nat_eq, not, refl, subst, sym, true}
+use Rattle.node_core.proofs.Words.{ℕ, [], ◌&&◌, ◌++◌, ◌||◌, ◌∙◌, ◌∷◌, ◌≡◌, AllByRecursion, AllZip, filter, option_map_or, eq-eqb, eqb-true, has_bit}
+use Rattle.node_core.proofs.Words.{lie, and_false, History, OutFrame, Follows, Parts, IsLinkOf, IsState, LinkFacts, LinkWords, LinksFollow}
+use Rattle.node_core.proofs.Words.{link_words, KeptLink, committed, prepared_for, unroomed, with_frames, with_prepared, is_number, Alike, AreIdle}
+use Rattle.node_core.proofs.Words.{AreTold, if_among, shown_numbers, IfSome, IfNone, LinkState, is_shown}
+use Rattle.std.proofs.Common.{Result}
 use Rattle.node_core.proofs.Zipped.{zipped_map}
 
 -- ---- over plain values
@@ -110,16 +107,16 @@ unshown f q = sym (
     ∙ ap (λ b. b && (not f.hidden && option_map_or (λ n. has_bit 0 n.flags) f.said false)) (and_false f.open_now))
 
 pub shown_is : (f : LinkFacts) (s : LinkState) → IsState f s → is_shown s ≡ shown_by f
-shown_is f (state.Name c) t = unshown f t.0.whole
-shown_is f (state.Answer s) t = unshown f t.0.whole
-shown_is f (state.Reply s) t = unshown f t.0.whole
-shown_is f (state.Status s) t = unshown f t.0.whole
-shown_is f (state.Challenge s) t = unshown f t.0.whole
-shown_is f (state.Ack s) t = unshown f t.0.whole
-shown_is f (state.Up s) t =
+shown_is f (LinkState.Name c) t = unshown f t.0.whole
+shown_is f (LinkState.Answer s) t = unshown f t.0.whole
+shown_is f (LinkState.Reply s) t = unshown f t.0.whole
+shown_is f (LinkState.Status s) t = unshown f t.0.whole
+shown_is f (LinkState.Challenge s) t = unshown f t.0.whole
+shown_is f (LinkState.Ack s) t = unshown f t.0.whole
+shown_is f (LinkState.Up s) t =
     let given = t.1.said.1 in
     given.visible_is ∙ sym (λ i. (t.0.open_now i && t.0.whole i) && (not f.hidden && option_map_or (λ n. has_bit 0 n.flags) (given.said i) false))
-shown_is f state.Ended t = sym (ap (λ b. (b && f.whole) && (not f.hidden && option_map_or (λ n. has_bit 0 n.flags) f.said false)) t)
+shown_is f LinkState.Ended t = sym (ap (λ b. (b && f.whole) && (not f.hidden && option_map_or (λ n. has_bit 0 n.flags) f.said false)) t)
 
 -- the number of a kept link is one of those shown where the words say so
 shown_among : (w : LinkWords) (xs : List KeptLink) → AllByRecursion (IsLinkOf w) xs → (l : ℕ) → is_number l (shown_numbers xs) ≡ (is_number l (map (λ x. x.number) xs) && shown_by (w.facts l))

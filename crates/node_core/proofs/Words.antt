@@ -1,59 +1,80 @@
 -- The words that the proofs of this crate speak in: those of std, of the crates below and of its own specs, passed on from one place.
-pub use Rattle.std.proofs.Common.{All, Bool, Err, List, None, Ok, OnErr, Option, Some, ap, arith, cond, drop, false, find, get_or, is_some}
-pub use Rattle.std.proofs.Common.{length, map, nat_eq, nat_le, nat_lt, not, position, refl, rules, set, subst, suc, sym, take, tests, true}
-pub use Rattle.std.proofs.Common.{vec_len, zero, ℕ, [], ◌&&◌, ◌++◌, ◌+◌, ◌-◌, ◌<◌, ◌==◌, ◌||◌, ◌∙◌, ◌∷◌, ◌≡◌, ◌≤◌}
-pub use Rattle.std.specs.List.{AllByRecursion, AllZip, filter, flat_map, list_all, list_any}
+pub use Rattle.std.proofs.Common.{All, Bool, Err, List, None, Ok, OnErr, Option, Some, ap, arith, cond, drop, false, find, get_or, is_some, length}
+pub use Rattle.std.proofs.Common.{map, nat_eq, nat_le, nat_lt, not, position, refl, rules, set, subst, suc, sym, take, tests, true, vec_len, zero, ℕ}
+pub use Rattle.std.proofs.Common.{[], ◌&&◌, ◌++◌, ◌+◌, ◌-◌, ◌<◌, ◌==◌, ◌||◌, ◌∙◌, ◌∷◌, ◌≡◌, ◌≤◌, IfNone, IfSome, IsSome, OnOk, append_assoc}
+pub use Rattle.std.proofs.Common.{if◌then◌else◌, inl, inr, min, reverse, ◌^◌, ◌⊎◌}
+pub use Rattle.std.specs.List.{AllByRecursion, AllZip, filter, flat_map, list_all, list_any, insert, position_from, position_or_len}
 pub use Rattle.std.specs.Option.{option_map, option_map_or, option_to_list, unwrap_or}
-pub use Rattle.std.specs.declared.cmp.Ordering.TheVariants.{Less}
+pub use Rattle.std.specs.declared.cmp.Ordering.TheVariants.{Less, Equal, Greater}
 pub use Rattle.std.specs.declared.result.Result.{Result}
 pub use Rattle.std.proofs.Math.Bool.{and-true}
-pub use Rattle.std.proofs.lemmas.Bool.{eq-eqb, eqb-true, le-leb, leb-true, lt-ltb, ltb-true}
+pub use Rattle.std.proofs.lemmas.Bool.{eq-eqb, eqb-true, le-leb, leb-true, lt-ltb, ltb-true, ltb-false}
 pub use Rattle.std.proofs.lemmas.Fn.{filter_same}
 pub use Rattle.std.proofs.lemmas.Iterator.{YieldsList-from_slice}
-pub use Rattle.std.proofs.lemmas.Iterator.Search.{all_from_yields_List, find_from_yields_List, position_from_yields_List}
-pub use Rattle.std.proofs.lemmas.List.{append-nil, get_or-set_same, get_or_default, set-set, take_all}
+pub use Rattle.std.proofs.lemmas.Iterator.Search.{all_from_yields_List}
+pub use Rattle.std.proofs.lemmas.List.{append-nil, get_or-set_same, get_or_default, set-set, take_all, length-map, length-set, map-append, map-id}
+pub use Rattle.std.proofs.lemmas.List.{set-get_or, take_more}
 pub use Rattle.std.proofs.lemmas.List.Quantifiers.{position-Some}
-pub use Rattle.dist_types.proofs.Orders.{same_decides, same_pid_decides, same_sym}
-pub use Rattle.dist_types.specs.Difference.{IsDifference, is_empty}
-pub use Rattle.dist_types.specs.Flags.{has_bit}
-pub use Rattle.dist_types.specs.Listing.{IsListing, IsPidListing, IsRowListing, Rises, is_among, listing, mentions, occurrences, same}
-pub use Rattle.dist_types.specs.Listing.{same_pid, same_row}
+pub use Rattle.std.specs.declared.cmp.Ordering.{Ordering}
+pub use Rattle.std.specs.Str.{bytes_eq}
+pub use Rattle.std.specs.Vec.Iter.{into_iter_items}
+pub use Rattle.std.specs.Ordering.{is_gt}
+pub use Rattle.std.specs.Prelude.{vec_capacity}
+pub use Rattle.dist_types.proofs.Orders.{same_decides, same_pid_decides, same_sym, exact_pids, pids_total, rows_total, same_row_decides, texts_total}
+pub use Rattle.dist_types.specs.Difference.{IsDifference, is_empty, IsProper, times_left}
+pub use Rattle.dist_types.specs.Flags.{has_bit, own_flags}
+pub use Rattle.dist_types.specs.Listing.{IsListing, IsPidListing, IsRowListing, Rises, is_among, listing, mentions, occurrences, same, same_pid}
+pub use Rattle.dist_types.specs.Listing.{same_row, Ascends, IsGroupListing, how_many, placed, spread, stands_in, total}
 pub use Rattle.dist_types.specs.Order.{pid_cmp, row_cmp, text_cmp}
 pub use Rattle.dist_types.specs.declared.change.GroupChange.{GroupChange}
 pub use Rattle.dist_types.specs.declared.pid.Pid.{Pid}
 pub use Rattle.dist_types.specs.declared.row.Row.{Row}
+pub use Rattle.dist_types.specs.Text.{is_node_name}
+pub use Rattle.dist_types.proofs.Listings.{same_length}
 pub use Rattle.handshake_frames.specs.Frame.{Challenge, Name}
-pub use Rattle.handshake_frames.specs.Reading.{challenge_frame, name_frame, reply_frame, status_of}
+pub use Rattle.handshake_frames.specs.Reading.{challenge_frame, name_frame, reply_frame, status_of, ack_frame}
 pub use Rattle.handshake_frames.specs.declared.frame.ReplyFrame.{ReplyFrame}
 pub use Rattle.handshake_frames.specs.declared.frame.StatusWord.{StatusWord}
-pub use Rattle.admission_rules.specs.Admission.{AdmissionRules}
-pub use Rattle.link_states.specs.Peer.{found}
+pub use Rattle.admission_rules.specs.Admission.{AdmissionRules, cookie_of, max_allowed, max_peers, with_allowed, with_cookie_for}
+pub use Rattle.indexmap.specs.IndexMap.{insert_entry}
+pub use Rattle.link_states.specs.Peer.{found, introduced, is_visible}
 pub use Rattle.link_states.specs.Pending.{is_dialled}
-pub use Rattle.link_states.specs.States.{Linked}
+pub use Rattle.link_states.specs.States.{Linked, Dialled, Introduced, linked}
 pub use Rattle.link_states.specs.declared.pending.Pending.{Pending}
 pub use Rattle.link_states.specs.declared.state_rule.StateRule.{StateRule}
+pub use Rattle.link_states.specs.declared.await_name.Named.{Named}
+pub use Rattle.link_states.specs.Frames.{ack_owed, refusal_frames, reply_owed, status_owed}
 pub use Rattle.link_frames.specs.declared.message.Message.{Message}
-pub use Rattle.scope_core.specs.Calls.{count_after_drop, count_after_exit, no_count}
-pub use Rattle.scope_core.specs.Table.{Table, count_of, local_count, local_total}
-pub use Rattle.policy_audit.proofs.Accepted.{all_hold, lie, no_value, unbroken}
-pub use Rattle.policy_audit.proofs.ChangeLemmas.{no_change, stopped_lists}
-pub use Rattle.policy_audit.proofs.KeptNumbers.{kept_among, kept_climbs}
-pub use Rattle.policy_audit.proofs.ScopeFrames.{told_numbers}
-pub use Rattle.policy_audit.proofs.ScopesNow.{running_among, running_rises}
-pub use Rattle.policy_audit.proofs.UpLinks.{and_both, and_false, and_left, and_right, flip}
-pub use Rattle.policy_audit.specs.Admission.{allow_list}
+pub use Rattle.scope_core.specs.Calls.{count_after_drop, count_after_exit, no_count, IsAddFault, IsJoinFault, IsLeaveFault, IsTakeFault, are_counted}
+pub use Rattle.scope_core.specs.Calls.{count_after_add, count_after_join, count_after_leave, count_after_sync, count_after_take, is_any_joined}
+pub use Rattle.scope_core.specs.Table.{Table, count_of, local_count, local_total, is_of_node, max_rows, node_total}
+pub use Rattle.policy_audit.proofs.Accepted.{all_hold, lie, no_value, unbroken, accepted}
+pub use Rattle.policy_audit.proofs.ChangeLemmas.{no_change, stopped_lists, next_is}
+pub use Rattle.policy_audit.proofs.KeptNumbers.{kept_among, kept_climbs, Climbs, all_left, all_reverse, dialling_kept, filter_append, kept_count}
+pub use Rattle.policy_audit.proofs.KeptNumbers.{kept_once, kept_opening, name_up_kept, one_up, opening_waiting, some_of}
+pub use Rattle.policy_audit.proofs.ScopeFrames.{told_numbers, dialled_waiting, exited_links, joined_links, left_links, opened_waiting, started_links}
+pub use Rattle.policy_audit.proofs.ScopeFrames.{stopped_links}
+pub use Rattle.policy_audit.proofs.ScopesNow.{running_among, running_rises, running_started, running_stopped}
+pub use Rattle.policy_audit.proofs.UpLinks.{and_both, and_false, and_left, and_right, flip, agrees, number_of, was_before}
+pub use Rattle.policy_audit.specs.Admission.{allow_list, allowed, cookie, cookie_peers, cookie_set_for, different, own_cookie, own_cookie_set}
 pub use Rattle.policy_audit.specs.Changes.{IsChange, if_some}
-pub use Rattle.policy_audit.specs.Checks.{always, checks, dial_checks, first_broken, frame_checks, message_checks}
-pub use Rattle.policy_audit.specs.Contents.{local_rows, row}
-pub use Rattle.policy_audit.specs.Hearing.{heard, message_taken, told}
-pub use Rattle.policy_audit.specs.History.{History, creation, events, first_of, is_accepted, past}
-pub use Rattle.policy_audit.specs.Links.{is_dialling, is_open, is_unfinished_dial, is_up, links, named_by}
-pub use Rattle.policy_audit.specs.Listed.{listed}
+pub use Rattle.policy_audit.specs.Checks.{always, checks, dial_checks, first_broken, frame_checks, message_checks, Check, answer_checks, are_from}
+pub use Rattle.policy_audit.specs.Checks.{are_listed, challenge_checks, digest_checks, hears_in, is_peer_up, is_simultaneous, kept_links, name_checks}
+pub use Rattle.policy_audit.specs.Checks.{peer_rows, runs, status_checks, unless}
+pub use Rattle.policy_audit.specs.Contents.{local_rows, row, contents, groups, groups_named, local_groups, local_members, members, pids_named}
+pub use Rattle.policy_audit.specs.Hearing.{heard, message_taken, told, hears, rows_of, talk, tells}
+pub use Rattle.policy_audit.specs.History.{History, creation, events, first_of, is_accepted, past, Moment, is_restart, present}
+pub use Rattle.policy_audit.specs.Links.{is_dialling, is_open, is_unfinished_dial, is_up, links, named_by, ends, is_dial_to}
+pub use Rattle.policy_audit.specs.Listed.{listed, is_from}
 pub use Rattle.policy_audit.specs.OutFrame.{OutFrame}
-pub use Rattle.policy_audit.specs.Owed.{digest_for, discovers, frame_owes, is_kept, narrow, own_challenge, refusal_owes, waiting, wide}
-pub use Rattle.policy_audit.specs.Own.{is_local, is_running, lives, running_scopes}
-pub use Rattle.policy_audit.specs.Policy.{IsAnswered, IsLegal, IsNext, answer, is_full, next_number, up_answer, verdict, with_entry}
+pub use Rattle.policy_audit.specs.Owed.{digest_for, discovers, frame_owes, is_kept, narrow, own_challenge, refusal_owes, waiting, wide, if_told}
+pub use Rattle.policy_audit.specs.Owed.{message_owes, owed, own_challenge_frame, own_name_frame, status_frame, true_to, welcome}
+pub use Rattle.policy_audit.specs.Own.{is_local, is_running, lives, running_scopes, is_spawn, living, own, spawned}
+pub use Rattle.policy_audit.specs.Policy.{IsAnswered, IsLegal, IsNext, answer, is_full, next_number, up_answer, verdict, with_entry, IsLegalIn, after}
+pub use Rattle.policy_audit.specs.Policy.{entry_of, judged}
 pub use Rattle.policy_audit.specs.Sides.{AwaitMessage, awaits, challenge_in, is_last, is_name_up, is_peer, is_whole, peer_of, present_link}
+pub use Rattle.policy_audit.specs.Sides.{AwaitAnswer, AwaitChallenge, AwaitReply, AwaitStatus, Awaited, ByDial, ByPeer, Opened, Start, Taken}
+pub use Rattle.policy_audit.specs.Sides.{and_frame, given, opened, start_of, taken}
 pub use Rattle.policy_audit.specs.declared.change.Change.{Change}
 pub use Rattle.policy_audit.specs.declared.entry.Entry.{Entry}
 pub use Rattle.policy_audit.specs.declared.entry.Verdict.{Verdict}
@@ -61,21 +82,41 @@ pub use Rattle.policy_audit.specs.declared.entry.Verdict.TheVariants.{Accepted, 
 pub use Rattle.policy_audit.specs.declared.event.Event.{Event}
 pub use Rattle.policy_audit.specs.declared.reply.Reply.{Reply}
 pub use Rattle.policy_audit.specs.declared.rule.Rule.{Rule}
-pub use Rattle.group_monitors.proofs.Followed.{follows_other}
-pub use Rattle.node_core.specs.AdmissionFacts.{AdmissionFollows, admission_words}
-pub use Rattle.node_core.specs.Calm.{IsCalmFault, refuses_calmly}
-pub use Rattle.node_core.specs.Core.{Follows, Parts}
-pub use Rattle.node_core.specs.Exiting.{all_frames, exit_frames}
-pub use Rattle.node_core.specs.Gone.{AreCut, AreLost}
-pub use Rattle.node_core.specs.Handshakes.{HaveEnded, moved_on, older_of, without_link}
-pub use Rattle.node_core.specs.Hearing.{Hears, heard_named, is_handshake, rule_of}
-pub use Rattle.node_core.specs.LinkFacts.{IsIntroduced, IsLinkOf, IsState, LinkFacts, LinkWords, LinksFollow, facts, kept_numbers}
-pub use Rattle.node_core.specs.LinkFacts.{link_words}
-pub use Rattle.node_core.specs.Links.{KeptLink, committed, dial_beside, dialled_peer, known_peer, narrow_frames, prepared_for, unroomed}
-pub use Rattle.node_core.specs.Links.{up_peer, with_frames, with_prepared, with_room}
-pub use Rattle.node_core.specs.Moving.{IsMoved}
-pub use Rattle.node_core.specs.Parting.{ArePartings, IsCutOff, IsParting, rows_left}
+pub use Rattle.policy_audit.proofs.HeardNow.{IsHeardNow}
+pub use Rattle.policy_audit.proofs.Onward.{IsOnward}
+pub use Rattle.policy_audit.specs.Effects.{IsSameLink, is_quiet}
+pub use Rattle.policy_audit.specs.declared.opening.Opening.{Opening}
+pub use Rattle.policy_audit.proofs.OneDifference.{apart}
+pub use Rattle.policy_audit.proofs.ScopeChanges.{changes_are}
+pub use Rattle.policy_audit.proofs.Lists.{count_in_group}
+pub use Rattle.policy_audit.proofs.Effects.{entry_link, entry_rows}
+pub use Rattle.policy_audit.proofs.LinksLeft.{framed_numbers}
+pub use Rattle.policy_audit.proofs.LivesNow.{lives_of, own_pid}
+pub use Rattle.policy_audit.proofs.Named.{occurs_stands}
+pub use Rattle.group_monitors.proofs.Followed.{follows_other, follows_cleared, follows_dropped, follows_free, follows_group, follows_moved}
+pub use Rattle.group_monitors.proofs.Followed.{follows_removed, follows_scope, follows_start}
+pub use Rattle.group_monitors.specs.Monitors.{IsFree, with_place}
+pub use Rattle.node_core.specs.AdmissionFacts.{AdmissionFollows, admission_words, AdmissionWords, AreOnce, IsCookieRefusal}
+pub use Rattle.node_core.specs.Calm.{IsCalmFault, refuses_calmly, is_query}
+pub use Rattle.node_core.specs.Core.{Follows, Parts, IsSound}
+pub use Rattle.node_core.specs.Exiting.{all_frames, exit_frames, AreExits, AreExitsTold, ArePrepared, bare}
+pub use Rattle.node_core.specs.Gone.{AreCut, AreLost, without_ended}
+pub use Rattle.node_core.specs.Handshakes.{HaveEnded, moved_on, older_of, without_link, HaveComeUp, HaveGoneOn, HaveMoved, IsReady}
+pub use Rattle.node_core.specs.Hearing.{Hears, heard_named, is_handshake, rule_of, accepted_as, nobody, state_checks}
+pub use Rattle.node_core.specs.LinkFacts.{IsIntroduced, IsLinkOf, IsState, LinkFacts, LinkWords, LinksFollow, facts, kept_numbers, link_words, Awaits}
+pub use Rattle.node_core.specs.LinkFacts.{IsGiven, IsPeer}
+pub use Rattle.node_core.specs.Links.{KeptLink, committed, dial_beside, dialled_peer, known_peer, narrow_frames, prepared_for, unroomed, up_peer}
+pub use Rattle.node_core.specs.Links.{with_frames, with_prepared, with_room, are_of_peer, dial_to, dialled_link, is_ended, is_shown}
+pub use Rattle.node_core.specs.Moving.{IsMoved, IsJoinRefusal, IsLeaveRefusal, fault_of, join_of, leave_of, own_checks}
+pub use Rattle.node_core.specs.Parting.{ArePartings, IsCutOff, IsParting, rows_left, HasParted, count_but, without}
 pub use Rattle.node_core.specs.ProcessFacts.{ProcessesFollow, process_words}
 pub use Rattle.node_core.specs.Processes.{Spawned}
-pub use Rattle.node_core.specs.ScopeFacts.{IsRunningOf, ScopeWords, ScopesFollow, is_number, scope_words}
-pub use Rattle.node_core.specs.Telling.{Alike, AreIdle, AreTold, if_among, said_to, shown_numbers}
+pub use Rattle.node_core.specs.ScopeFacts.{IsRunningOf, ScopeWords, ScopesFollow, is_number, scope_words, with_number}
+pub use Rattle.node_core.specs.Telling.{Alike, AreIdle, AreTold, if_among, said_to, shown_numbers, IsBrief, is_said, put_scope}
+pub use Rattle.node_core.specs.MessageRules.{AnswersDiscover, HasBecome, IsAddRefusal, IsTakeRefusal, early_checks}
+pub use Rattle.node_core.specs.declared.fault.CoreFault.{CoreFault}
+pub use Rattle.node_core.specs.declared.hearing.Heard.{Heard}
+pub use Rattle.node_core.specs.declared.link_state.LinkState.{LinkState}
+pub use Rattle.node_core.specs.declared.running.Running.{Running}
+pub use Rattle.node_core.specs.Reading.{frame_awaited}
+pub use Rattle.node_core.specs.Messages.{scope_in}

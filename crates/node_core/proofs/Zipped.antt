@@ -1,7 +1,6 @@
 -- A list whose elements are changed one after the other, each to one that it is related to.
-use Rattle.node_core.proofs.Words.{List, ap, arith, drop, get_or, length, map, refl, set, subst, suc, take, zero, ℕ, [], ◌++◌, ◌+◌, ◌<◌}
-use Rattle.node_core.proofs.Words.{◌∷◌, ◌≡◌, ◌≤◌, AllByRecursion, AllZip}
-use Rattle.std.proofs.lemmas.List.{set-get_or}
+use Rattle.node_core.proofs.Words.{List, ap, arith, drop, get_or, length, map, refl, set, subst, suc, take, zero, ℕ, [], ◌++◌, ◌+◌, ◌<◌, ◌∷◌, ◌≡◌}
+use Rattle.node_core.proofs.Words.{◌≤◌, AllByRecursion, AllZip, set-get_or}
 
 -- the first i elements are related to what they were, and the others are what they were
 pub record SoFar {A : Type 0} (R : A → A → Type 0) (i : ℕ) (old items : List A) : Type 0 where

@@ -1,6 +1,5 @@
-use Rattle.std.proofs.Common.{◌≡◌}
+use Rattle.node_core.proofs.Words.{◌≡◌, frame_awaited}
 use Rattle.std.specs.Prelude.{take, map}
-use Rattle.node_core.specs.Reading.{frame_awaited}
 use Rattle.node_core.proofs.awaiting.awaiting_of.Given as goal
 
 -- the links so far

@@ -1,9 +1,7 @@
-use Rattle.node_core.proofs.Words.{arith, length, take, vec_len, ◌<◌, ◌≡◌}
-use Rattle.std.proofs.lemmas.List.{take_more}
-use Rattle.node_core.specs.Parting.{count_but}
+use Rattle.node_core.proofs.Words.{arith, length, take, vec_len, ◌<◌, ◌≡◌, take_more, count_but}
 use Rattle.node_core.proofs.Partings.{parted_some, parted_none, none_there, some_there}
-use Rattle.node_core.proofs.changes.changes_of.Goals as goal
 use Rattle.node_core.proofs.changes.changes_of.Goals.{then-not-is_empty+in_ok-try_clone+in_ok-push, else-not-is_empty}
+use Rattle.node_core.proofs.changes.changes_of.Goals as goal
 
 pub loop-running-preserved : goal.loop-running-preserved
 loop-running-preserved c =

@@ -1,5 +1,4 @@
-use Rattle.node_core.proofs.Words.{arith, refl}
-use Rattle.node_core.specs.Parting.{HasParted}
+use Rattle.node_core.proofs.Words.{arith, refl, HasParted}
 use Rattle.node_core.proofs.Zipped.{zipped}
 use Rattle.node_core.proofs.changes.leave_all.Goals as goal
 

@@ -1,7 +1,5 @@
-use Rattle.std.proofs.Common.{◌≡◌, ◌++◌}
+use Rattle.node_core.proofs.Words.{◌≡◌, ◌++◌, row, rows_left}
 use Rattle.std.specs.Prelude.{take, map}
-use Rattle.policy_audit.specs.Contents.{row}
-use Rattle.node_core.specs.Parting.{rows_left}
 use Rattle.node_core.proofs.changes.rows_left.Given as goal
 
 -- the rows of the groups so far

@@ -1,6 +1,5 @@
-use Rattle.std.proofs.Common.{◌≡◌}
+use Rattle.node_core.proofs.Words.{◌≡◌, row}
 use Rattle.std.specs.Prelude.{take, map}
-use Rattle.policy_audit.specs.Contents.{row}
 use Rattle.node_core.proofs.changes.rows_of.Given as goal
 
 -- the rows so far

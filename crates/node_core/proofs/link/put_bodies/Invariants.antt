@@ -1,7 +1,5 @@
-use Rattle.std.proofs.Common.{◌≡◌, ◌++◌, ◌+◌, ◌≤◌, length}
-use Rattle.std.specs.Prelude.{vec_len, vec_capacity}
-use Rattle.std.specs.Vec.Iter.{into_iter_items}
-use Rattle.node_core.specs.Links.{narrow_frames}
+use Rattle.node_core.proofs.Words.{◌≡◌, ◌++◌, ◌+◌, ◌≤◌, length, vec_capacity, into_iter_items, narrow_frames}
+use Rattle.std.specs.Prelude.{vec_len}
 use Rattle.node_core.proofs.link.put_bodies.Given as goal
 
 -- the bodies so far wait as frames, and there is room for the others

@@ -1,6 +1,5 @@
-use Rattle.std.proofs.Common.{◌≡◌, ◌++◌}
+use Rattle.node_core.proofs.Words.{◌≡◌, ◌++◌, committed}
 use Rattle.std.specs.Prelude.{take, drop, map}
-use Rattle.node_core.specs.Links.{committed}
 use Rattle.node_core.proofs.links.commit.Given as goal
 
 -- those so far are committed

@@ -1,8 +1,5 @@
-use Rattle.std.proofs.Common.{◌≡◌}
+use Rattle.node_core.proofs.Words.{◌≡◌, flat_map, option_to_list, dialled_peer}
 use Rattle.std.specs.Prelude.{take}
-use Rattle.std.specs.List.{flat_map}
-use Rattle.std.specs.Option.{option_to_list}
-use Rattle.node_core.specs.Links.{dialled_peer}
 use Rattle.node_core.proofs.links.dialled_peers.Given as goal
 
 -- the names so far

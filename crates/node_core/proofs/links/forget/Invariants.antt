@@ -1,5 +1,4 @@
-use Rattle.std.proofs.Common.{◌≡◌, []}
-use Rattle.node_core.specs.Links.{with_prepared, unroomed}
+use Rattle.node_core.proofs.Words.{◌≡◌, [], with_prepared, unroomed}
 use Rattle.node_core.proofs.Zipped.{SoFar}
 use Rattle.node_core.proofs.links.forget.Given as goal
 

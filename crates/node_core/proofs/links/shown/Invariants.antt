@@ -1,7 +1,5 @@
-use Rattle.std.proofs.Common.{◌≡◌}
+use Rattle.node_core.proofs.Words.{◌≡◌, filter, is_shown}
 use Rattle.std.specs.Prelude.{take, map}
-use Rattle.std.specs.List.{filter}
-use Rattle.node_core.specs.Links.{is_shown}
 use Rattle.node_core.proofs.links.shown.Given as goal
 
 -- the numbers so far

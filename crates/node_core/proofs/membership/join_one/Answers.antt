@@ -1,5 +1,4 @@
-use Rattle.node_core.proofs.Words.{ap, refl, wide, said_to}
-use Rattle.node_core.specs.Moving.{join_of}
+use Rattle.node_core.proofs.Words.{ap, refl, wide, said_to, join_of}
 use Rattle.node_core.proofs.Said.{join_fault, dropped_again}
 use Rattle.node_core.proofs.Told.{prepared_told}
 use Rattle.node_core.proofs.membership.join_one.Goals as goal

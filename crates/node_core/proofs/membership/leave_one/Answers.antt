@@ -1,5 +1,4 @@
-use Rattle.node_core.proofs.Words.{ap, refl, wide, said_to}
-use Rattle.node_core.specs.Moving.{leave_of}
+use Rattle.node_core.proofs.Words.{ap, refl, wide, said_to, leave_of}
 use Rattle.node_core.proofs.Said.{leave_fault, dropped_again}
 use Rattle.node_core.proofs.Told.{prepared_told}
 use Rattle.node_core.proofs.membership.leave_one.Goals as goal

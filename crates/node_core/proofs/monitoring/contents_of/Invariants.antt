@@ -1,9 +1,5 @@
-use Rattle.std.proofs.Common.{◌++◌}
+use Rattle.node_core.proofs.Words.{◌++◌, AllByRecursion, into_iter_items, IsPidListing, IsGroupListing, count_of}
 use Rattle.std.specs.Prelude.{map}
-use Rattle.std.specs.List.{AllByRecursion}
-use Rattle.std.specs.Vec.Iter.{into_iter_items}
-use Rattle.dist_types.specs.Listing.{IsPidListing, IsGroupListing}
-use Rattle.scope_core.specs.Table.{count_of}
 use Rattle.node_core.proofs.monitoring.contents_of.Given as goal
 
 -- the groups so far and those to come are all, and those so far have their members

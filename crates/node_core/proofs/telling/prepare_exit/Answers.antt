@@ -1,11 +1,9 @@
-use Rattle.node_core.proofs.Words.{ap, arith, cond, false, not, refl, subst, sym, take, true, vec_len, [], ◌++◌, ◌∙◌, ◌∷◌, ◌≡◌, take_all}
-use Rattle.node_core.proofs.Words.{is_empty, all_frames, exit_frames}
-use Rattle.std.proofs.lemmas.List.{take_more}
-use Rattle.node_core.specs.Exiting.{AreExits}
+use Rattle.node_core.proofs.Words.{ap, arith, cond, false, not, refl, subst, sym, take, true, vec_len, [], ◌++◌, ◌∙◌, ◌∷◌, ◌≡◌, take_all, is_empty}
+use Rattle.node_core.proofs.Words.{all_frames, exit_frames, take_more, AreExits}
 use Rattle.node_core.proofs.Exits.{exits_on, prepared_bare, one_more, none_more, none_is}
 use Rattle.node_core.proofs.Told.{at_errors}
-use Rattle.node_core.proofs.telling.prepare_exit.Goals as goal
 use Rattle.node_core.proofs.telling.prepare_exit.Goals.{then-not-is_empty+in_ok-try_clone+in_ok-push, else-not-is_empty}
+use Rattle.node_core.proofs.telling.prepare_exit.Goals as goal
 
 pub returns-in_err-groups-clause-same : goal.returns-in_err-groups-clause-same
 returns-in_err-groups-clause-same c = at_errors _ (c.in_err-groups.ensures.same ∙ prepared_bare (all_frames (take c.loop-running.running-index c.args.scopes.now) c.loop-running.invariant.all) c.args.links.now.items c.loop-running.links.items c.loop-running.invariant.links)

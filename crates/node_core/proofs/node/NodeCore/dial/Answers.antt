@@ -1,6 +1,4 @@
-use Rattle.node_core.proofs.Words.{sym, [], ◌∙◌, past}
-use Rattle.policy_audit.specs.declared.event.Event.TheVariants as event
-use Rattle.policy_audit.specs.declared.reply.Reply.TheVariants as reply
+use Rattle.node_core.proofs.Words.{sym, [], ◌∙◌, past, Event, Reply}
 use Rattle.node_core.proofs.Entered.{steps_on}
 use Rattle.node_core.proofs.Openings.{dialled_next, dialled_follows}
 use Rattle.node_core.proofs.LinkTests.{not_some}
@@ -24,4 +22,4 @@ returns c =
     let space = rw (← c.self.view_is) at c.requires in
     let number = rw (← c.self.view_is) at c.next_number-number.ensures in
     let next = dialled_next (past c.self.inside.opening c.self.inside.audit.entries) c.self.invariant.sound.legal c.args.seat c.args.peer c.args.challenge c.next_number-number.result number broken space in
-    steps_on c.self.view_is c.args.seat (event.Dial c.args.peer c.args.challenge) (reply.Link c.next_number-number.result) [] next pushed
+    steps_on c.self.view_is c.args.seat (Event.Dial c.args.peer c.args.challenge) (Reply.Link c.next_number-number.result) [] next pushed

@@ -1,8 +1,5 @@
-use Rattle.node_core.proofs.Words.{None, Some, ap, cond, false, length, not, subst, sym, [], ◌<◌, ◌∙◌, option_map_or, position-Some, same}
-use Rattle.node_core.proofs.Words.{past, AreCut, AreLost, up_peer}
-use Rattle.policy_audit.specs.declared.event.Event.TheVariants as event
-use Rattle.policy_audit.specs.declared.reply.Reply.TheVariants as reply
-use Rattle.policy_audit.specs.declared.rule.Rule.TheVariants as rule
+use Rattle.node_core.proofs.Words.{None, Some, ap, cond, false, length, not, subst, sym, [], ◌<◌, ◌∙◌, option_map_or, position-Some, same, past}
+use Rattle.node_core.proofs.Words.{AreCut, AreLost, up_peer, Event, Reply, Rule}
 use Rattle.node_core.proofs.Entered.{steps_on}
 use Rattle.node_core.proofs.Preparing.{same_at}
 use Rattle.node_core.proofs.Losing.{not_up, parting_next, parting_follows}
@@ -11,7 +8,7 @@ use Rattle.node_core.proofs.node.NodeCore.disconnect.Goals as goal
 pub refuse-requires-clause-broken : goal.refuse-requires-clause-broken
 refuse-requires-clause-broken c =
     let none = rw c.deref.ensures.value at (sym c.place_of_up.ensures ∙ c.in_default.is) in
-    rw (← c.self.view_is) (ap (λ b. cond (not b) (Some rule.NoLinkTo) None) (not_up (past c.self.inside.opening c.self.inside.audit.entries) c.args.seat c.args.peer [] _ c.self.invariant none))
+    rw (← c.self.view_is) (ap (λ b. cond (not b) (Some Rule.NoLinkTo) None) (not_up (past c.self.inside.opening c.self.inside.audit.entries) c.args.seat c.args.peer [] _ c.self.invariant none))
 
 pub invariant_of-self-2 : goal.invariant_of-self-2
 invariant_of-self-2 c =
@@ -35,4 +32,4 @@ returns c =
     let lost = subst (λ x. AreLost (up_peer x.state) c.self.inside.scopes.items c.in_ok-changes.changes.items) (c.index-2.ensures ∙ same_at c.self.inside.links.items c.in-Some.place c.index-2.result.now c.index.result.now within) (rw c.deref-2.ensures.value at c.in_ok-changes.ensures) in
     let space = rw (← c.self.view_is) at c.requires in
     let next = parting_next (past c.self.inside.opening c.self.inside.audit.entries) c.args.seat c.args.peer c.in_ok-changes.changes.items _ c.self.invariant c.in-Some.place c.index.result.now found space lost in
-    steps_on c.self.view_is c.args.seat (event.Disconnect c.args.peer) reply.Done c.in_ok-changes.changes.items next pushed
+    steps_on c.self.view_is c.args.seat (Event.Disconnect c.args.peer) Reply.Done c.in_ok-changes.changes.items next pushed

@@ -1,8 +1,5 @@
-use Rattle.node_core.proofs.Words.{List, ap, arith, length, nat_eq, position, subst, sym, ℕ, [], ◌∙◌, ◌≤◌, flat_map, option_to_list, lie}
-use Rattle.node_core.proofs.Words.{past, Hears, KeptLink, dialled_peer, up_peer}
-use Rattle.policy_audit.specs.declared.event.Event.TheVariants as event
-use Rattle.policy_audit.specs.declared.reply.Reply.TheVariants as reply
-use Rattle.node_core.specs.declared.hearing.Heard.TheVariants as heard
+use Rattle.node_core.proofs.Words.{List, ap, arith, length, nat_eq, position, subst, sym, ℕ, [], ◌∙◌, ◌≤◌, flat_map, option_to_list, lie, past, Hears}
+use Rattle.node_core.proofs.Words.{KeptLink, dialled_peer, up_peer, Event, Reply, Heard}
 use Rattle.node_core.proofs.EarlyFrame.{handshakes, early_never_up, early_few, early_few_ended, early_went_on, early_broke}
 use Rattle.node_core.proofs.Entered.{steps_on, steps_refused}
 use Rattle.node_core.proofs.HeardFrames.{closed_without, is_there}
@@ -46,7 +43,7 @@ go_on-requires c =
     let held = held_now c.self.inside.links.items c.in-Some.place c.index_mut.result.now c.make_room.new.self c.index_mut-2.result.now c.replace-state.new.self c.replace-state.result c.index_mut.ensures.value c.make_room.ensures.same c.index_mut-2.ensures.value c.replace-state.ensures.new c.replace-state.ensures.old in
     let ups = c.in_ok-pending.ensures.up ∙ ap (flat_map (λ (x : KeptLink). option_to_list (up_peer x.state))) c.deref-2.ensures.value in
     let dials = c.in_ok-pending.ensures.dials ∙ ap (flat_map (λ (x : KeptLink). option_to_list (dialled_peer x.state))) c.deref-2.ensures.value in
-    let hears = subst (λ (b : List ℕ). Hears c.self.inside.admission c.in_ok-pending.pending c.replace-state.result b (heard.On c.in-On.state c.in-On.frames c.in-On.gives_up)) c.as_slice-bytes.ensures c.in-On.ensures in
+    let hears = subst (λ (b : List ℕ). Hears c.self.inside.admission c.in_ok-pending.pending c.replace-state.result b (Heard.On c.in-On.state c.in-On.frames c.in-On.gives_up)) c.as_slice-bytes.ensures c.in-On.ensures in
     let few : length c.in-On.frames ≤ 2 = early_few (past c.self.inside.opening c.self.inside.audit.entries) _ c.self.invariant c.args.seat c.args.number c.in-Some.place c.args.body space opens unwhole inner at c.index_mut.result.now c.make_room.new.self c.index_mut-2.result.now c.replace-state.new.self c.replace-state.result held c.in_ok-pending.pending ups dials c.in-On.state c.in-On.frames c.in-On.gives_up hears in
     let fits : 2 ≤ c.make_room.new.self.room = c.in_ok-make_room.ensures.ok in
     held_ready (past c.self.inside.opening c.self.inside.audit.entries) _ c.self.invariant c.args.number c.in-Some.place at c.index_mut.result.now c.make_room.new.self c.index_mut-2.result.now c.replace-state.new.self c.replace-state.result held (length c.in-On.frames) (omega (arith, few, fits))
@@ -61,7 +58,7 @@ invariant_of-self-in-On c =
     let held = held_now c.self.inside.links.items c.in-Some.place c.index_mut.result.now c.make_room.new.self c.index_mut-2.result.now c.replace-state.new.self c.replace-state.result c.index_mut.ensures.value c.make_room.ensures.same c.index_mut-2.ensures.value c.replace-state.ensures.new c.replace-state.ensures.old in
     let ups = c.in_ok-pending.ensures.up ∙ ap (flat_map (λ (x : KeptLink). option_to_list (up_peer x.state))) c.deref-2.ensures.value in
     let dials = c.in_ok-pending.ensures.dials ∙ ap (flat_map (λ (x : KeptLink). option_to_list (dialled_peer x.state))) c.deref-2.ensures.value in
-    let hears = subst (λ (b : List ℕ). Hears c.self.inside.admission c.in_ok-pending.pending c.replace-state.result b (heard.On c.in-On.state c.in-On.frames c.in-On.gives_up)) c.as_slice-bytes.ensures c.in-On.ensures in
+    let hears = subst (λ (b : List ℕ). Hears c.self.inside.admission c.in_ok-pending.pending c.replace-state.result b (Heard.On c.in-On.state c.in-On.frames c.in-On.gives_up)) c.as_slice-bytes.ensures c.in-On.ensures in
     let went = early_went_on (past c.self.inside.opening c.self.inside.audit.entries) _ c.self.invariant c.args.seat c.args.number c.in-Some.place c.args.body space opens unwhole inner at c.index_mut.result.now c.make_room.new.self c.index_mut-2.result.now c.replace-state.new.self c.replace-state.result held c.in_ok-pending.pending ups dials c.in-On.state c.in-On.frames c.in-On.gives_up hears c.go_on.new.links.items c.go_on.ensures in
     rw (c.accept.ensures.entries, c.accept.ensures.limit, c.in_ok-make_room-2.ensures.ok.1, c.new-nothing.ensures.items) went.1
 
@@ -75,7 +72,7 @@ end-requires c =
     let held = held_now c.self.inside.links.items c.in-Some.place c.index_mut.result.now c.make_room.new.self c.index_mut-2.result.now c.replace-state.new.self c.replace-state.result c.index_mut.ensures.value c.make_room.ensures.same c.index_mut-2.ensures.value c.replace-state.ensures.new c.replace-state.ensures.old in
     let ups = c.in_ok-pending.ensures.up ∙ ap (flat_map (λ (x : KeptLink). option_to_list (up_peer x.state))) c.deref-2.ensures.value in
     let dials = c.in_ok-pending.ensures.dials ∙ ap (flat_map (λ (x : KeptLink). option_to_list (dialled_peer x.state))) c.deref-2.ensures.value in
-    let hears = subst (λ (b : List ℕ). Hears c.self.inside.admission c.in_ok-pending.pending c.replace-state.result b (heard.Ended c.in-Ended.rule c.in-Ended.frames)) c.as_slice-bytes.ensures c.in-Ended.ensures in
+    let hears = subst (λ (b : List ℕ). Hears c.self.inside.admission c.in_ok-pending.pending c.replace-state.result b (Heard.Ended c.in-Ended.rule c.in-Ended.frames)) c.as_slice-bytes.ensures c.in-Ended.ensures in
     let few : length c.in-Ended.frames ≤ 2 = early_few_ended (past c.self.inside.opening c.self.inside.audit.entries) _ c.self.invariant c.args.seat c.args.number c.in-Some.place c.args.body space opens unwhole inner at c.index_mut.result.now c.make_room.new.self c.index_mut-2.result.now c.replace-state.new.self c.replace-state.result held c.in_ok-pending.pending ups dials c.in-Ended.rule c.in-Ended.frames hears in
     let fits : 2 ≤ c.make_room.new.self.room = c.in_ok-make_room.ensures.ok in
     held_ready (past c.self.inside.opening c.self.inside.audit.entries) _ c.self.invariant c.args.number c.in-Some.place at c.index_mut.result.now c.make_room.new.self c.index_mut-2.result.now c.replace-state.new.self c.replace-state.result held (length c.in-Ended.frames) (omega (arith, few, fits))
@@ -90,7 +87,7 @@ invariant_of-self-in-Ended c =
     let held = held_now c.self.inside.links.items c.in-Some.place c.index_mut.result.now c.make_room.new.self c.index_mut-2.result.now c.replace-state.new.self c.replace-state.result c.index_mut.ensures.value c.make_room.ensures.same c.index_mut-2.ensures.value c.replace-state.ensures.new c.replace-state.ensures.old in
     let ups = c.in_ok-pending.ensures.up ∙ ap (flat_map (λ (x : KeptLink). option_to_list (up_peer x.state))) c.deref-2.ensures.value in
     let dials = c.in_ok-pending.ensures.dials ∙ ap (flat_map (λ (x : KeptLink). option_to_list (dialled_peer x.state))) c.deref-2.ensures.value in
-    let hears = subst (λ (b : List ℕ). Hears c.self.inside.admission c.in_ok-pending.pending c.replace-state.result b (heard.Ended c.in-Ended.rule c.in-Ended.frames)) c.as_slice-bytes.ensures c.in-Ended.ensures in
+    let hears = subst (λ (b : List ℕ). Hears c.self.inside.admission c.in_ok-pending.pending c.replace-state.result b (Heard.Ended c.in-Ended.rule c.in-Ended.frames)) c.as_slice-bytes.ensures c.in-Ended.ensures in
     let broke = early_broke (past c.self.inside.opening c.self.inside.audit.entries) _ c.self.invariant c.args.seat c.args.number c.in-Some.place c.args.body space opens unwhole inner at c.index_mut.result.now c.make_room.new.self c.index_mut-2.result.now c.replace-state.new.self c.replace-state.result held c.in_ok-pending.pending ups dials c.in-Ended.rule c.in-Ended.frames hears c.end.new.links.items c.end.ensures in
     rw (c.reject.ensures.entries, c.reject.ensures.limit, c.in_ok-make_room-2.ensures.ok.1) broke.1
 
@@ -111,7 +108,7 @@ unreachable-requires-in-Up c =
     let held = held_now c.self.inside.links.items c.in-Some.place c.index_mut.result.now c.make_room.new.self c.index_mut-2.result.now c.replace-state.new.self c.replace-state.result c.index_mut.ensures.value c.make_room.ensures.same c.index_mut-2.ensures.value c.replace-state.ensures.new c.replace-state.ensures.old in
     let ups = c.in_ok-pending.ensures.up ∙ ap (flat_map (λ (x : KeptLink). option_to_list (up_peer x.state))) c.deref-2.ensures.value in
     let dials = c.in_ok-pending.ensures.dials ∙ ap (flat_map (λ (x : KeptLink). option_to_list (dialled_peer x.state))) c.deref-2.ensures.value in
-    let hears = subst (λ (b : List ℕ). Hears c.self.inside.admission c.in_ok-pending.pending c.replace-state.result b (heard.Up c.in-Up.up c.in-Up.frames)) c.as_slice-bytes.ensures c.in-Up.ensures in
+    let hears = subst (λ (b : List ℕ). Hears c.self.inside.admission c.in_ok-pending.pending c.replace-state.result b (Heard.Up c.in-Up.up c.in-Up.frames)) c.as_slice-bytes.ensures c.in-Up.ensures in
     early_never_up (past c.self.inside.opening c.self.inside.audit.entries) _ c.self.invariant c.args.seat c.args.number c.in-Some.place c.args.body space opens unwhole inner at c.index_mut.result.now c.make_room.new.self c.index_mut-2.result.now c.replace-state.new.self c.replace-state.result held c.in_ok-pending.pending ups dials c.in-Up.up c.in-Up.frames hears
 
 pub returns-in-On : goal.returns-in-On
@@ -124,10 +121,10 @@ returns-in-On c =
     let held = held_now c.self.inside.links.items c.in-Some.place c.index_mut.result.now c.make_room.new.self c.index_mut-2.result.now c.replace-state.new.self c.replace-state.result c.index_mut.ensures.value c.make_room.ensures.same c.index_mut-2.ensures.value c.replace-state.ensures.new c.replace-state.ensures.old in
     let ups = c.in_ok-pending.ensures.up ∙ ap (flat_map (λ (x : KeptLink). option_to_list (up_peer x.state))) c.deref-2.ensures.value in
     let dials = c.in_ok-pending.ensures.dials ∙ ap (flat_map (λ (x : KeptLink). option_to_list (dialled_peer x.state))) c.deref-2.ensures.value in
-    let hears = subst (λ (b : List ℕ). Hears c.self.inside.admission c.in_ok-pending.pending c.replace-state.result b (heard.On c.in-On.state c.in-On.frames c.in-On.gives_up)) c.as_slice-bytes.ensures c.in-On.ensures in
+    let hears = subst (λ (b : List ℕ). Hears c.self.inside.admission c.in_ok-pending.pending c.replace-state.result b (Heard.On c.in-On.state c.in-On.frames c.in-On.gives_up)) c.as_slice-bytes.ensures c.in-On.ensures in
     let went = early_went_on (past c.self.inside.opening c.self.inside.audit.entries) _ c.self.invariant c.args.seat c.args.number c.in-Some.place c.args.body space opens unwhole inner at c.index_mut.result.now c.make_room.new.self c.index_mut-2.result.now c.replace-state.new.self c.replace-state.result held c.in_ok-pending.pending ups dials c.in-On.state c.in-On.frames c.in-On.gives_up hears c.go_on.new.links.items c.go_on.ensures in
     let pushed = rw (c.in_ok-make_room-2.ensures.ok.1, c.new-nothing.ensures.items) at c.accept.ensures.entries in
-    steps_on c.self.view_is c.args.seat (event.Frame c.args.number c.args.body) reply.Done [] went.0 pushed
+    steps_on c.self.view_is c.args.seat (Event.Frame c.args.number c.args.body) Reply.Done [] went.0 pushed
 
 pub returns-in-Ended : goal.returns-in-Ended
 returns-in-Ended c =
@@ -139,7 +136,7 @@ returns-in-Ended c =
     let held = held_now c.self.inside.links.items c.in-Some.place c.index_mut.result.now c.make_room.new.self c.index_mut-2.result.now c.replace-state.new.self c.replace-state.result c.index_mut.ensures.value c.make_room.ensures.same c.index_mut-2.ensures.value c.replace-state.ensures.new c.replace-state.ensures.old in
     let ups = c.in_ok-pending.ensures.up ∙ ap (flat_map (λ (x : KeptLink). option_to_list (up_peer x.state))) c.deref-2.ensures.value in
     let dials = c.in_ok-pending.ensures.dials ∙ ap (flat_map (λ (x : KeptLink). option_to_list (dialled_peer x.state))) c.deref-2.ensures.value in
-    let hears = subst (λ (b : List ℕ). Hears c.self.inside.admission c.in_ok-pending.pending c.replace-state.result b (heard.Ended c.in-Ended.rule c.in-Ended.frames)) c.as_slice-bytes.ensures c.in-Ended.ensures in
+    let hears = subst (λ (b : List ℕ). Hears c.self.inside.admission c.in_ok-pending.pending c.replace-state.result b (Heard.Ended c.in-Ended.rule c.in-Ended.frames)) c.as_slice-bytes.ensures c.in-Ended.ensures in
     let broke = early_broke (past c.self.inside.opening c.self.inside.audit.entries) _ c.self.invariant c.args.seat c.args.number c.in-Some.place c.args.body space opens unwhole inner at c.index_mut.result.now c.make_room.new.self c.index_mut-2.result.now c.replace-state.new.self c.replace-state.result held c.in_ok-pending.pending ups dials c.in-Ended.rule c.in-Ended.frames hears c.end.new.links.items c.end.ensures in
     let pushed = rw (c.in_ok-make_room-2.ensures.ok.1) at c.reject.ensures.entries in
-    steps_refused c.self.view_is c.args.seat (event.Frame c.args.number c.args.body) c.in-Ended.rule [] broke.0 pushed
+    steps_refused c.self.view_is c.args.seat (Event.Frame c.args.number c.args.body) c.in-Ended.rule [] broke.0 pushed

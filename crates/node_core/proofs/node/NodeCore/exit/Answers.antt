@@ -1,6 +1,4 @@
-use Rattle.node_core.proofs.Words.{refl, sym, ◌∙◌, past, link_words}
-use Rattle.policy_audit.specs.declared.event.Event.TheVariants as event
-use Rattle.policy_audit.specs.declared.reply.Reply.TheVariants as reply
+use Rattle.node_core.proofs.Words.{refl, sym, ◌∙◌, past, link_words, Event, Reply}
 use Rattle.node_core.proofs.Entered.{steps_on}
 use Rattle.node_core.proofs.Told.{alike_again, follow_idle}
 use Rattle.node_core.proofs.Exited.{exit_own, exit_next, exit_follows}
@@ -24,7 +22,7 @@ returns c =
     let living = sym c.is_live.ensures ∙ c.if-not-is_live.false in
     let next = exit_next (past c.self.inside.opening c.self.inside.audit.entries) c.args.seat _ c.self.invariant c.args.pid (rw (← c.self.view_is) at (sym c.is_local.ensures ∙ c.if-not-is_local.false)) c.tell_exit.new.links.items c.in_ok-changes.changes.items told space living in
     let pushed = rw c.in_ok-make_room.ensures.ok.1 at c.accept.ensures.entries in
-    steps_on c.self.view_is c.args.seat (event.Exit c.args.pid) reply.Done c.in_ok-changes.changes.items next pushed
+    steps_on c.self.view_is c.args.seat (Event.Exit c.args.pid) Reply.Done c.in_ok-changes.changes.items next pushed
 
 pub invariant_of-self-2 : goal.invariant_of-self-2
 invariant_of-self-2 c =

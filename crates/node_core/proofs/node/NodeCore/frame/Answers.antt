@@ -1,5 +1,4 @@
-use Rattle.node_core.proofs.Words.{sym, ◌∙◌, past, facts}
-use Rattle.node_core.specs.declared.link_state.LinkState.TheVariants as states
+use Rattle.node_core.proofs.Words.{sym, ◌∙◌, past, facts, LinkState}
 use Rattle.node_core.proofs.FrameArms.{early_by, last_by, closed_rule, closed_calm, none_open, state_at, up_by}
 use Rattle.node_core.proofs.node.NodeCore.frame.Goals as goal
 
@@ -16,19 +15,19 @@ refuse-requires-clause-calm c =
 pub refuse-requires-in-Ended-clause-broken : goal.refuse-requires-in-Ended-clause-broken
 refuse-requires-in-Ended-clause-broken c =
     let found = rw c.deref.ensures.value at (sym c.place_of.ensures ∙ c.in-Some.is) in
-    let state = state_at (past c.self.inside.opening c.self.inside.audit.entries) c.self.invariant.sound.legal c.self.inside.links.items c.self.invariant.links c.args.number c.in-Some.place c.index.result.now found c.index.ensures states.Ended (sym c.in-Ended.is ∙ c.state.ensures) in
+    let state = state_at (past c.self.inside.opening c.self.inside.audit.entries) c.self.invariant.sound.legal c.self.inside.links.items c.self.invariant.links c.args.number c.in-Some.place c.index.result.now found c.index.ensures LinkState.Ended (sym c.in-Ended.is ∙ c.state.ensures) in
     rw (← c.self.view_is) (closed_rule (past c.self.inside.opening c.self.inside.audit.entries) c.args.seat c.args.number c.args.body state)
 
 pub refuse-requires-in-Ended-clause-calm : goal.refuse-requires-in-Ended-clause-calm
 refuse-requires-in-Ended-clause-calm c =
     let found = rw c.deref.ensures.value at (sym c.place_of.ensures ∙ c.in-Some.is) in
-    let state = state_at (past c.self.inside.opening c.self.inside.audit.entries) c.self.invariant.sound.legal c.self.inside.links.items c.self.invariant.links c.args.number c.in-Some.place c.index.result.now found c.index.ensures states.Ended (sym c.in-Ended.is ∙ c.state.ensures) in
+    let state = state_at (past c.self.inside.opening c.self.inside.audit.entries) c.self.invariant.sound.legal c.self.inside.links.items c.self.invariant.links c.args.number c.in-Some.place c.index.result.now found c.index.ensures LinkState.Ended (sym c.in-Ended.is ∙ c.state.ensures) in
     rw (← c.self.view_is) (closed_calm (past c.self.inside.opening c.self.inside.audit.entries) c.args.number c.args.body state)
 
 pub message-requires-clause-up : goal.message-requires-clause-up
 message-requires-clause-up c =
     let found = rw c.deref.ensures.value at (sym c.place_of.ensures ∙ c.in-Some.is) in
-    let state = state_at (past c.self.inside.opening c.self.inside.audit.entries) c.self.invariant.sound.legal c.self.inside.links.items c.self.invariant.links c.args.number c.in-Some.place c.index.result.now found c.index.ensures (states.Up c.in-Up.field-0) (sym c.in-Up.is ∙ c.state.ensures) in
+    let state = state_at (past c.self.inside.opening c.self.inside.audit.entries) c.self.invariant.sound.legal c.self.inside.links.items c.self.invariant.links c.args.number c.in-Some.place c.index.result.now found c.index.ensures (LinkState.Up c.in-Up.field-0) (sym c.in-Up.is ∙ c.state.ensures) in
     rw (← c.self.view_is) (up_by (past c.self.inside.opening c.self.inside.audit.entries) c.self.invariant.sound.legal c.self.inside.links.items c.self.invariant.links c.args.number c.in-Up.field-0 state)
 
 pub early_frame-requires-clause-opens : goal.early_frame-requires-clause-opens

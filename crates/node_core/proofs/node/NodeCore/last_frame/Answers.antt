@@ -1,11 +1,5 @@
-use Rattle.node_core.proofs.Words.{List, ap, arith, length, nat_eq, position, refl, subst, sym, ℕ, [], ◌+◌, ◌∙◌, ◌≡◌, ◌≤◌, lie, past, Hears}
-use Rattle.node_core.proofs.Words.{KeptLink, known_peer}
-use Rattle.std.proofs.lemmas.List.{length-map}
-use Rattle.policy_audit.specs.declared.event.Event.TheVariants as event
-use Rattle.policy_audit.specs.declared.reply.Reply.TheVariants as reply
-use Rattle.node_core.specs.declared.hearing.Heard.TheVariants as heard
-use Rattle.node_core.specs.declared.link_state.LinkState.TheVariants as states
-use Rattle.node_core.specs.Hearing.{nobody}
+use Rattle.node_core.proofs.Words.{List, ap, arith, length, nat_eq, position, refl, subst, sym, ℕ, [], ◌+◌, ◌∙◌, ◌≡◌, ◌≤◌, lie, past, Hears, KeptLink}
+use Rattle.node_core.proofs.Words.{known_peer, length-map, nobody, Event, Reply, Heard, LinkState}
 use Rattle.node_core.proofs.Entered.{steps_on, steps_refused}
 use Rattle.node_core.proofs.HeardFrames.{closed_without, is_there}
 use Rattle.node_core.proofs.HeldLink.{held_now, held_ready, held_restored, held_seen, room_follows}
@@ -41,8 +35,8 @@ arrival_of-requires c =
     let opens = rw (← c.self.view_is) at c.requires.opens in
     let final = rw (← c.self.view_is) at c.requires.last in
     let at = ap (position (λ (x : KeptLink). nat_eq x.number c.args.number)) (sym c.deref.ensures.value) ∙ sym c.place_of.ensures ∙ c.in-Some.is in
-    let held = held_now c.self.inside.links.items c.in-Some.place c.index_mut.result.now c.make_room.new.self c.index.result.now (record c.index.result.now { state = states.Ended }) c.index.result.now.state c.index_mut.ensures.value c.make_room.ensures.same c.index.ensures refl refl in
-    has_peer (past c.self.inside.opening c.self.inside.audit.entries) _ c.self.invariant c.args.seat c.args.number c.in-Some.place c.args.body space opens final at c.index_mut.result.now c.make_room.new.self c.index.result.now (record c.index.result.now { state = states.Ended }) c.index.result.now.state held
+    let held = held_now c.self.inside.links.items c.in-Some.place c.index_mut.result.now c.make_room.new.self c.index.result.now (record c.index.result.now { state = LinkState.Ended }) c.index.result.now.state c.index_mut.ensures.value c.make_room.ensures.same c.index.ensures refl refl in
+    has_peer (past c.self.inside.opening c.self.inside.audit.entries) _ c.self.invariant c.args.seat c.args.number c.in-Some.place c.args.body space opens final at c.index_mut.result.now c.make_room.new.self c.index.result.now (record c.index.result.now { state = LinkState.Ended }) c.index.result.now.state held
 
 pub hear_last-requires : goal.hear_last-requires
 hear_last-requires c =
@@ -60,7 +54,7 @@ settle-requires c =
     let final = rw (← c.self.view_is) at c.requires.last in
     let at = ap (position (λ (x : KeptLink). nat_eq x.number c.args.number)) (sym c.deref.ensures.value) ∙ sym c.place_of.ensures ∙ c.in-Some.is in
     let held = held_now c.self.inside.links.items c.in-Some.place c.index_mut.result.now c.make_room.new.self c.index_mut-2.result.now c.replace-state.new.self c.replace-state.result c.index_mut.ensures.value c.make_room.ensures.same c.index_mut-2.ensures.value c.replace-state.ensures.new c.replace-state.ensures.old in
-    let hears = subst (λ (b : List ℕ). Hears c.self.inside.admission nobody c.replace-state.result b (heard.Up c.in-Up.up c.in-Up.frames)) c.as_slice.ensures c.in-Up.ensures in
+    let hears = subst (λ (b : List ℕ). Hears c.self.inside.admission nobody c.replace-state.result b (Heard.Up c.in-Up.up c.in-Up.frames)) c.as_slice.ensures c.in-Up.ensures in
     let few : length c.in-Up.frames ≤ 2 = last_few (past c.self.inside.opening c.self.inside.audit.entries) _ c.self.invariant c.args.seat c.args.number c.in-Some.place c.args.body space opens final at c.index_mut.result.now c.make_room.new.self c.index_mut-2.result.now c.replace-state.new.self c.replace-state.result held nobody c.in-Up.up c.in-Up.frames hears in
     let fits : 2 + c.len.result ≤ c.make_room.new.self.room = c.in_ok-make_room.ensures.ok in
     let count : c.len.result ≡ length c.self.inside.scopes.items = omega (arith, c.len.ensures, c.self.inside.scopes.ok) in
@@ -74,7 +68,7 @@ invariant_of-self-in-Up c =
     let final = rw (← c.self.view_is) at c.requires.last in
     let at = ap (position (λ (x : KeptLink). nat_eq x.number c.args.number)) (sym c.deref.ensures.value) ∙ sym c.place_of.ensures ∙ c.in-Some.is in
     let held = held_now c.self.inside.links.items c.in-Some.place c.index_mut.result.now c.make_room.new.self c.index_mut-2.result.now c.replace-state.new.self c.replace-state.result c.index_mut.ensures.value c.make_room.ensures.same c.index_mut-2.ensures.value c.replace-state.ensures.new c.replace-state.ensures.old in
-    let hears = subst (λ (b : List ℕ). Hears c.self.inside.admission nobody c.replace-state.result b (heard.Up c.in-Up.up c.in-Up.frames)) c.as_slice.ensures c.in-Up.ensures in
+    let hears = subst (λ (b : List ℕ). Hears c.self.inside.admission nobody c.replace-state.result b (Heard.Up c.in-Up.up c.in-Up.frames)) c.as_slice.ensures c.in-Up.ensures in
     let known = ap known_peer (sym (held_seen (past c.self.inside.opening c.self.inside.audit.entries) _ c.self.invariant c.args.number c.in-Some.place at c.index_mut.result.now c.make_room.new.self c.index_mut-2.result.now c.replace-state.new.self c.replace-state.result held c.index.result.now c.index.ensures)) ∙ c.in_ok-arrival.ensures.known in
     let next = last_next (past c.self.inside.opening c.self.inside.audit.entries) _ c.self.invariant c.args.seat c.args.number c.in-Some.place c.args.body space opens final at c.index_mut.result.now c.make_room.new.self c.index_mut-2.result.now c.replace-state.new.self c.replace-state.result held nobody c.in-Up.up c.in-Up.frames hears c.in_ok-arrival.arrival.kept known c.up_reply-entered.result c.up_reply-entered.ensures c.in_ok-arrival.arrival.changes.items c.deref-2.result.now (rw c.in_ok-arrival.ensures.known at c.in_ok-arrival.ensures.changes) c.deref-2.ensures.value in
     rw (c.accept.ensures.entries, c.accept.ensures.limit, c.in_ok-make_room-2.ensures.ok.1)
@@ -87,7 +81,7 @@ end-requires c =
     let final = rw (← c.self.view_is) at c.requires.last in
     let at = ap (position (λ (x : KeptLink). nat_eq x.number c.args.number)) (sym c.deref.ensures.value) ∙ sym c.place_of.ensures ∙ c.in-Some.is in
     let held = held_now c.self.inside.links.items c.in-Some.place c.index_mut.result.now c.make_room.new.self c.index_mut-2.result.now c.replace-state.new.self c.replace-state.result c.index_mut.ensures.value c.make_room.ensures.same c.index_mut-2.ensures.value c.replace-state.ensures.new c.replace-state.ensures.old in
-    let hears = subst (λ (b : List ℕ). Hears c.self.inside.admission nobody c.replace-state.result b (heard.Ended c.in-Ended.rule c.in-Ended.frames)) c.as_slice.ensures c.in-Ended.ensures in
+    let hears = subst (λ (b : List ℕ). Hears c.self.inside.admission nobody c.replace-state.result b (Heard.Ended c.in-Ended.rule c.in-Ended.frames)) c.as_slice.ensures c.in-Ended.ensures in
     let few : length c.in-Ended.frames ≤ 2 = last_few_ended (past c.self.inside.opening c.self.inside.audit.entries) _ c.self.invariant c.args.seat c.args.number c.in-Some.place c.args.body space opens final at c.index_mut.result.now c.make_room.new.self c.index_mut-2.result.now c.replace-state.new.self c.replace-state.result held nobody c.in-Ended.rule c.in-Ended.frames hears in
     let fits : 2 + c.len.result ≤ c.make_room.new.self.room = c.in_ok-make_room.ensures.ok in
     held_ready (past c.self.inside.opening c.self.inside.audit.entries) _ c.self.invariant c.args.number c.in-Some.place at c.index_mut.result.now c.make_room.new.self c.index_mut-2.result.now c.replace-state.new.self c.replace-state.result held (length c.in-Ended.frames) (omega (arith, few, fits))
@@ -99,7 +93,7 @@ invariant_of-self-in-Ended c =
     let final = rw (← c.self.view_is) at c.requires.last in
     let at = ap (position (λ (x : KeptLink). nat_eq x.number c.args.number)) (sym c.deref.ensures.value) ∙ sym c.place_of.ensures ∙ c.in-Some.is in
     let held = held_now c.self.inside.links.items c.in-Some.place c.index_mut.result.now c.make_room.new.self c.index_mut-2.result.now c.replace-state.new.self c.replace-state.result c.index_mut.ensures.value c.make_room.ensures.same c.index_mut-2.ensures.value c.replace-state.ensures.new c.replace-state.ensures.old in
-    let hears = subst (λ (b : List ℕ). Hears c.self.inside.admission nobody c.replace-state.result b (heard.Ended c.in-Ended.rule c.in-Ended.frames)) c.as_slice.ensures c.in-Ended.ensures in
+    let hears = subst (λ (b : List ℕ). Hears c.self.inside.admission nobody c.replace-state.result b (Heard.Ended c.in-Ended.rule c.in-Ended.frames)) c.as_slice.ensures c.in-Ended.ensures in
     rw (c.reject.ensures.entries, c.reject.ensures.limit, c.in_ok-make_room-2.ensures.ok.1)
     (last_ended (past c.self.inside.opening c.self.inside.audit.entries) _ c.self.invariant c.args.seat c.args.number c.in-Some.place c.args.body space opens final at c.index_mut.result.now c.make_room.new.self c.index_mut-2.result.now c.replace-state.new.self c.replace-state.result held nobody c.in-Ended.rule c.in-Ended.frames hears c.end.new.links.items c.end.ensures)
 
@@ -117,7 +111,7 @@ unreachable-requires-in-On c =
     let final = rw (← c.self.view_is) at c.requires.last in
     let at = ap (position (λ (x : KeptLink). nat_eq x.number c.args.number)) (sym c.deref.ensures.value) ∙ sym c.place_of.ensures ∙ c.in-Some.is in
     let held = held_now c.self.inside.links.items c.in-Some.place c.index_mut.result.now c.make_room.new.self c.index_mut-2.result.now c.replace-state.new.self c.replace-state.result c.index_mut.ensures.value c.make_room.ensures.same c.index_mut-2.ensures.value c.replace-state.ensures.new c.replace-state.ensures.old in
-    let hears = subst (λ (b : List ℕ). Hears c.self.inside.admission nobody c.replace-state.result b (heard.On c.in-On.state c.in-On.frames c.in-On.gives_up)) c.as_slice.ensures c.in-On.ensures in
+    let hears = subst (λ (b : List ℕ). Hears c.self.inside.admission nobody c.replace-state.result b (Heard.On c.in-On.state c.in-On.frames c.in-On.gives_up)) c.as_slice.ensures c.in-On.ensures in
     last_never_on (past c.self.inside.opening c.self.inside.audit.entries) _ c.self.invariant c.args.seat c.args.number c.in-Some.place c.args.body space opens final at c.index_mut.result.now c.make_room.new.self c.index_mut-2.result.now c.replace-state.new.self c.replace-state.result held nobody c.in-On.state c.in-On.frames c.in-On.gives_up hears
 
 pub returns-in-Up : goal.returns-in-Up
@@ -127,12 +121,12 @@ returns-in-Up c =
     let final = rw (← c.self.view_is) at c.requires.last in
     let at = ap (position (λ (x : KeptLink). nat_eq x.number c.args.number)) (sym c.deref.ensures.value) ∙ sym c.place_of.ensures ∙ c.in-Some.is in
     let held = held_now c.self.inside.links.items c.in-Some.place c.index_mut.result.now c.make_room.new.self c.index_mut-2.result.now c.replace-state.new.self c.replace-state.result c.index_mut.ensures.value c.make_room.ensures.same c.index_mut-2.ensures.value c.replace-state.ensures.new c.replace-state.ensures.old in
-    let hears = subst (λ (b : List ℕ). Hears c.self.inside.admission nobody c.replace-state.result b (heard.Up c.in-Up.up c.in-Up.frames)) c.as_slice.ensures c.in-Up.ensures in
+    let hears = subst (λ (b : List ℕ). Hears c.self.inside.admission nobody c.replace-state.result b (Heard.Up c.in-Up.up c.in-Up.frames)) c.as_slice.ensures c.in-Up.ensures in
     let known = ap known_peer (sym (held_seen (past c.self.inside.opening c.self.inside.audit.entries) _ c.self.invariant c.args.number c.in-Some.place at c.index_mut.result.now c.make_room.new.self c.index_mut-2.result.now c.replace-state.new.self c.replace-state.result held c.index.result.now c.index.ensures)) ∙ c.in_ok-arrival.ensures.known in
     let next = last_next (past c.self.inside.opening c.self.inside.audit.entries) _ c.self.invariant c.args.seat c.args.number c.in-Some.place c.args.body space opens final at c.index_mut.result.now c.make_room.new.self c.index_mut-2.result.now c.replace-state.new.self c.replace-state.result held nobody c.in-Up.up c.in-Up.frames hears c.in_ok-arrival.arrival.kept known c.up_reply-entered.result c.up_reply-entered.ensures c.in_ok-arrival.arrival.changes.items c.deref-2.result.now (rw c.in_ok-arrival.ensures.known at c.in_ok-arrival.ensures.changes) c.deref-2.ensures.value in
     let pushed = rw c.in_ok-make_room-2.ensures.ok.1 at c.accept.ensures.entries in
-    let same = c.up_reply-reply.ensures ∙ ap (λ n. reply.Up n c.in-Up.up.creation c.in-Up.up.visible) (c.in_ok-arrival.ensures.copy) ∙ sym c.up_reply-entered.ensures in
-    rw same (steps_on c.self.view_is c.args.seat (event.Frame c.args.number c.args.body) c.up_reply-entered.result c.in_ok-arrival.arrival.changes.items next pushed)
+    let same = c.up_reply-reply.ensures ∙ ap (λ n. Reply.Up n c.in-Up.up.creation c.in-Up.up.visible) (c.in_ok-arrival.ensures.copy) ∙ sym c.up_reply-entered.ensures in
+    rw same (steps_on c.self.view_is c.args.seat (Event.Frame c.args.number c.args.body) c.up_reply-entered.result c.in_ok-arrival.arrival.changes.items next pushed)
 
 pub returns-in-Ended : goal.returns-in-Ended
 returns-in-Ended c =
@@ -141,7 +135,7 @@ returns-in-Ended c =
     let final = rw (← c.self.view_is) at c.requires.last in
     let at = ap (position (λ (x : KeptLink). nat_eq x.number c.args.number)) (sym c.deref.ensures.value) ∙ sym c.place_of.ensures ∙ c.in-Some.is in
     let held = held_now c.self.inside.links.items c.in-Some.place c.index_mut.result.now c.make_room.new.self c.index_mut-2.result.now c.replace-state.new.self c.replace-state.result c.index_mut.ensures.value c.make_room.ensures.same c.index_mut-2.ensures.value c.replace-state.ensures.new c.replace-state.ensures.old in
-    let hears = subst (λ (b : List ℕ). Hears c.self.inside.admission nobody c.replace-state.result b (heard.Ended c.in-Ended.rule c.in-Ended.frames)) c.as_slice.ensures c.in-Ended.ensures in
+    let hears = subst (λ (b : List ℕ). Hears c.self.inside.admission nobody c.replace-state.result b (Heard.Ended c.in-Ended.rule c.in-Ended.frames)) c.as_slice.ensures c.in-Ended.ensures in
     let next = last_broke (past c.self.inside.opening c.self.inside.audit.entries) _ c.self.invariant c.args.seat c.args.number c.in-Some.place c.args.body space opens final at c.index_mut.result.now c.make_room.new.self c.index_mut-2.result.now c.replace-state.new.self c.replace-state.result held nobody c.in-Ended.rule c.in-Ended.frames hears in
     let pushed = rw c.in_ok-make_room-2.ensures.ok.1 at c.reject.ensures.entries in
-    steps_refused c.self.view_is c.args.seat (event.Frame c.args.number c.args.body) c.in-Ended.rule [] next pushed
+    steps_refused c.self.view_is c.args.seat (Event.Frame c.args.number c.args.body) c.in-Ended.rule [] next pushed

@@ -1,6 +1,4 @@
-use Rattle.node_core.proofs.Words.{sym, ◌∙◌, past, link_words}
-use Rattle.policy_audit.specs.declared.event.Event.TheVariants as event
-use Rattle.policy_audit.specs.declared.reply.Reply.TheVariants as reply
+use Rattle.node_core.proofs.Words.{sym, ◌∙◌, past, link_words, Event, Reply}
 use Rattle.node_core.proofs.Entered.{steps_on}
 use Rattle.node_core.proofs.Moved.{unmoved}
 use Rattle.node_core.proofs.Placed.{runs_at, unplaced}
@@ -39,7 +37,7 @@ returns-in-Ok c =
     let some = rw c.as_slice-2.ensures at c.in-Ok.ensures.some in
     let next = leave_next (past c.self.inside.opening c.self.inside.audit.entries) c.args.seat _ c.self.invariant c.args.scope c.args.group c.args.pids c.in-Some.place (sym (rw c.deref.ensures.value at c.in-Some.ensures)) c.index_mut.result.now c.index_mut.ensures.value c.leave_one-changes.new.running c.leave_one-changes.new.links.items c.in-Ok.changes.items left space (rw (← c.self.view_is) at (sym (rw c.as_slice.ensures at c.are_local.ensures) ∙ c.if-not-are_local.false)) some in
     let pushed = rw c.in-Ok.ensures.room at c.accept.ensures.entries in
-    steps_on c.self.view_is c.args.seat (event.Leave c.args.scope c.args.group c.args.pids) reply.Done c.in-Ok.changes.items next pushed
+    steps_on c.self.view_is c.args.seat (Event.Leave c.args.scope c.args.group c.args.pids) Reply.Done c.in-Ok.changes.items next pushed
 
 pub invariant_of-self : goal.invariant_of-self
 invariant_of-self c =

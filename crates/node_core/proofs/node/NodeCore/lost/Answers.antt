@@ -1,7 +1,4 @@
-use Rattle.node_core.proofs.Words.{None, Some, ap, cond, length, not, subst, sym, ◌<◌, ◌∙◌, past, AreCut, AreLost, up_peer}
-use Rattle.policy_audit.specs.declared.event.Event.TheVariants as event
-use Rattle.policy_audit.specs.declared.reply.Reply.TheVariants as reply
-use Rattle.policy_audit.specs.declared.rule.Rule.TheVariants as rule
+use Rattle.node_core.proofs.Words.{None, Some, ap, cond, length, not, subst, sym, ◌<◌, ◌∙◌, past, AreCut, AreLost, up_peer, Event, Reply, Rule}
 use Rattle.node_core.proofs.Entered.{steps_on}
 use Rattle.node_core.proofs.Places.{not_kept, link_at}
 use Rattle.node_core.proofs.Preparing.{same_at}
@@ -11,7 +8,7 @@ use Rattle.node_core.proofs.node.NodeCore.lost.Goals as goal
 pub refuse-requires-clause-broken : goal.refuse-requires-clause-broken
 refuse-requires-clause-broken c =
     let none = rw c.deref.ensures.value at (sym c.place_of.ensures ∙ c.in_default.is) in
-    rw (← c.self.view_is) (ap (λ b. cond (not b) (Some rule.NoSuchLink) None) (not_kept (past c.self.inside.opening c.self.inside.audit.entries) c.self.invariant.sound.legal c.self.inside.links.items c.self.invariant.links c.args.number none))
+    rw (← c.self.view_is) (ap (λ b. cond (not b) (Some Rule.NoSuchLink) None) (not_kept (past c.self.inside.opening c.self.inside.audit.entries) c.self.invariant.sound.legal c.self.inside.links.items c.self.invariant.links c.args.number none))
 
 pub invariant_of-self-2 : goal.invariant_of-self-2
 invariant_of-self-2 c =
@@ -32,4 +29,4 @@ returns c =
     let lost = subst (λ x. AreLost (up_peer x.state) c.self.inside.scopes.items c.in_ok-changes.changes.items) c.index.ensures (rw c.deref-2.ensures.value at c.in_ok-changes.ensures) in
     let space = rw (← c.self.view_is) at c.requires in
     let next = lost_next (past c.self.inside.opening c.self.inside.audit.entries) c.args.seat c.args.number c.in_ok-changes.changes.items _ c.self.invariant c.in-Some.place c.index.result.now found space lost in
-    steps_on c.self.view_is c.args.seat (event.Lost c.args.number) reply.Done c.in_ok-changes.changes.items next pushed
+    steps_on c.self.view_is c.args.seat (Event.Lost c.args.number) Reply.Done c.in_ok-changes.changes.items next pushed

@@ -1,7 +1,4 @@
-use Rattle.node_core.proofs.Words.{None, Some, ap, arith, cond, length, not, [], ◌<◌, ◌∙◌, ◌≤◌, past}
-use Rattle.policy_audit.specs.declared.event.Event.TheVariants as event
-use Rattle.policy_audit.specs.declared.reply.Reply.TheVariants as reply
-use Rattle.policy_audit.specs.declared.rule.Rule.TheVariants as rule
+use Rattle.node_core.proofs.Words.{None, Some, ap, arith, cond, length, not, [], ◌<◌, ◌∙◌, ◌≤◌, past, Event, Reply, Rule}
 use Rattle.node_core.proofs.Entered.{steps_on}
 use Rattle.node_core.proofs.Openings.{links_full, links_fit, opened_next, opened_follows}
 use Rattle.node_core.proofs.node.NodeCore.opened.Goals as goal
@@ -9,7 +6,7 @@ use Rattle.node_core.proofs.node.NodeCore.opened.Goals as goal
 pub refuse-requires-clause-broken : goal.refuse-requires-clause-broken
 refuse-requires-clause-broken c =
     let full : 64 ≤ length c.self.inside.links.items = omega arith in
-    rw (← c.self.view_is) (ap (λ b. cond (not b) (Some rule.LinksFull) None) (links_full (past c.self.inside.opening c.self.inside.audit.entries) c.self.inside.links.items c.self.invariant.links full))
+    rw (← c.self.view_is) (ap (λ b. cond (not b) (Some Rule.LinksFull) None) (links_full (past c.self.inside.opening c.self.inside.audit.entries) c.self.inside.links.items c.self.invariant.links full))
 
 pub invariant_of-self-2 : goal.invariant_of-self-2
 invariant_of-self-2 c =
@@ -29,4 +26,4 @@ returns c =
     let number = rw (← c.self.view_is) at c.next_number-number.ensures in
     let fits = links_fit (past c.self.inside.opening c.self.inside.audit.entries) c.self.inside.links.items c.self.invariant.links few in
     let next = opened_next (past c.self.inside.opening c.self.inside.audit.entries) c.self.invariant.sound.legal c.args.seat c.args.challenge c.next_number-number.result number space fits in
-    steps_on c.self.view_is c.args.seat (event.Opened c.args.challenge) (reply.Link c.next_number-number.result) [] next pushed
+    steps_on c.self.view_is c.args.seat (Event.Opened c.args.challenge) (Reply.Link c.next_number-number.result) [] next pushed

@@ -1,6 +1,4 @@
-use Rattle.node_core.proofs.Words.{ap, refl, ℕ, ◌+◌, ◌∙◌, past}
-use Rattle.policy_audit.specs.declared.event.Event.TheVariants as event
-use Rattle.policy_audit.specs.declared.reply.Reply.TheVariants as reply
+use Rattle.node_core.proofs.Words.{ap, refl, ℕ, ◌+◌, ◌∙◌, past, Event, Reply}
 use Rattle.node_core.proofs.Entered.{steps_on}
 use Rattle.node_core.proofs.Anew.{creation_left, anew_next, anew_follows}
 use Rattle.node_core.proofs.node.NodeCore.restart.Goals as goal
@@ -14,7 +12,7 @@ returns c =
     let space = rw (← c.self.view_is) at c.requires in
     let gone = rw c.deref.ensures.value at c.in_ok-changes.ensures in
     let next = anew_next (past c.self.inside.opening c.self.inside.audit.entries) c.args.seat _ c.self.invariant c.in_ok-changes.changes.items gone space (creation_left (past c.self.inside.opening c.self.inside.audit.entries) c.args.seat c.creation.result (c.creation.ensures ∙ c.self.invariant.admission.creation) c.if-creation.false) in
-    steps_on c.self.view_is c.args.seat event.Restart reply.Done c.in_ok-changes.changes.items next pushed
+    steps_on c.self.view_is c.args.seat Event.Restart Reply.Done c.in_ok-changes.changes.items next pushed
 
 pub invariant_of-self-2 : goal.invariant_of-self-2
 invariant_of-self-2 c =

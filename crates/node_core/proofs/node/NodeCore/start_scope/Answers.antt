@@ -1,6 +1,4 @@
-use Rattle.node_core.proofs.Words.{arith, length, subst, sym, [], ◌<◌, ◌∙◌, Rises, text_cmp, running_rises, past}
-use Rattle.policy_audit.specs.declared.event.Event.TheVariants as event
-use Rattle.policy_audit.specs.declared.reply.Reply.TheVariants as reply
+use Rattle.node_core.proofs.Words.{arith, length, subst, sym, [], ◌<◌, ◌∙◌, Rises, text_cmp, running_rises, past, Event, Reply}
 use Rattle.node_core.proofs.Entered.{steps_on}
 use Rattle.node_core.proofs.Told.{at_none, alike_again}
 use Rattle.node_core.proofs.Starting.{start_next, start_follows}
@@ -21,7 +19,7 @@ returns c =
     let few : length c.self.inside.scopes.items < 64 = omega (arith, c.len.ensures, c.if-len-ge-MAX_SCOPES.false, c.self.inside.scopes.ok) in
     let next = start_next (past c.self.inside.opening c.self.inside.audit.entries) c.args.seat c.args.scope _ c.self.invariant stopped space few in
     let pushed = rw (c.in_ok-make_room.ensures.ok.1, c.new-nothing.ensures.items) at c.accept.ensures.entries in
-    steps_on c.self.view_is c.args.seat (event.StartScope c.args.scope) reply.Done [] next pushed
+    steps_on c.self.view_is c.args.seat (Event.StartScope c.args.scope) Reply.Done [] next pushed
 
 pub invariant_of-self-2 : goal.invariant_of-self-2
 invariant_of-self-2 c =

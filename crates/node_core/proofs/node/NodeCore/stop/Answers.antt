@@ -1,6 +1,4 @@
-use Rattle.node_core.proofs.Words.{if_some, past}
-use Rattle.policy_audit.specs.declared.event.Event.TheVariants as event
-use Rattle.policy_audit.specs.declared.reply.Reply.TheVariants as reply
+use Rattle.node_core.proofs.Words.{if_some, past, Event, Reply}
 use Rattle.node_core.proofs.Entered.{steps_on}
 use Rattle.node_core.proofs.Told.{alike_again}
 use Rattle.node_core.proofs.Stopping.{stop_next, stop_follows}
@@ -18,7 +16,7 @@ returns c =
     let groups = rw (← c.self.view_is) at c.requires.groups in
     let next = stop_next (past c.self.inside.opening c.self.inside.audit.entries) c.args.seat c.args.scope c.args.groups.items _ c.self.invariant runs groups space in
     let pushed = rw (c.in_ok-changes.ensures.room, c.in_ok-changes.ensures.change) at c.accept.ensures.entries in
-    steps_on c.self.view_is c.args.seat (event.StopScope c.args.scope) reply.Done (if_some c.args.scope c.args.groups.items) next pushed
+    steps_on c.self.view_is c.args.seat (Event.StopScope c.args.scope) Reply.Done (if_some c.args.scope c.args.groups.items) next pushed
 
 pub invariant_of-self-2 : goal.invariant_of-self-2
 invariant_of-self-2 c =

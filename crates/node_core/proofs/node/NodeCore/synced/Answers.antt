@@ -1,76 +1,47 @@
-use Rattle.node_core.proofs.Words.{set, if_some, past}
-use Rattle.policy_audit.specs.declared.event.Event.TheVariants as event
-use Rattle.policy_audit.specs.declared.reply.Reply.TheVariants as reply
-use Rattle.link_frames.specs.declared.message.Message.TheVariants as said
-use Rattle.node_core.proofs.Entered.{steps_on}
-use Rattle.node_core.proofs.MessagePlaces.{up_placed, up_here, running_placed, scope_here}
+use Rattle.node_core.proofs.Words.{Message}
+use Rattle.node_core.proofs.Entered.{seen, steps_on}
+use Rattle.node_core.proofs.MessagePlaces.{IsUpHere, up_placed, up_here, running_placed}
 use Rattle.node_core.proofs.MessageRefused.{scope_runs, rows_from, all_of_peer, peer_is, has_peer}
-use Rattle.node_core.proofs.MessageScopes.{synced_next, synced_follows}
+use Rattle.node_core.proofs.MessageScopes.{synced}
 use Rattle.node_core.proofs.MessageRoom.{same_scope, follows_with}
 use Rattle.node_core.proofs.node.NodeCore.synced.Goals as goal
+use Rattle.node_core.proofs.node.NodeCore.synced.Goals.{After-index}
 
 pub places-place-requires-clause-kept : goal.places-place-requires-clause-kept
-places-place-requires-clause-kept c =
-    let up = rw (← c.self.view_is) at c.requires.up in
-    rw c.deref.ensures.value (up_placed (past c.self.inside.opening c.self.inside.audit.entries) c.self.inside.links.items c.self.invariant.sound.legal c.self.invariant.links c.args.number up)
+places-place-requires-clause-kept c = rw c.deref.ensures.value (up_placed (seen c.self.view_is c.self.invariant) c.args.number c.requires.up)
 
 pub places-place-requires-clause-runs : goal.places-place-requires-clause-runs
 places-place-requires-clause-runs c =
-    let holds = rw (← c.self.view_is) at c.requires.holds in
-    rw c.deref-2.ensures.value (running_placed (past c.self.inside.opening c.self.inside.audit.entries) c.self.inside.scopes.items c.self.invariant.scopes c.args.scope (scope_runs (past c.self.inside.opening c.self.inside.audit.entries) c.args.number (said.Sync c.args.scope c.args.rows) holds))
+    rw c.deref-2.ensures.value (running_placed (seen c.self.view_is c.self.invariant) c.args.scope (scope_runs c.args.self.now c.args.number (Message.Sync c.args.scope c.args.rows) c.requires.holds))
+
+-- the link is up at its place
+up_at : (c : After-index) → IsUpHere c.args.self.now c.args.number c.index.result.now
+up_at c = up_here (seen c.self.view_is c.self.invariant) c.args.number c.requires.up (rw c.deref.ensures.value at c.places-place.ensures.link) c.index.ensures
 
 pub unreachable-requires : goal.unreachable-requires
-unreachable-requires c =
-    let up = rw (← c.self.view_is) at c.requires.up in
-    let placed = rw c.deref.ensures.value at c.places-place.ensures.link in
-    let here = up_here (past c.self.inside.opening c.self.inside.audit.entries) c.self.inside.links.items c.self.invariant.sound.legal c.self.invariant.links c.args.number up c.places-place.result.0 c.index.result.now placed c.index.ensures in
-    has_peer (past c.self.inside.opening c.self.inside.audit.entries) c.args.number c.index.result.now here c.in_default.ensures
+unreachable-requires c = has_peer (up_at (goal.at.unreachable-requires c).After-index) c.in_default.ensures
 
 pub invariant_of-self : goal.invariant_of-self
 invariant_of-self c = rw c.in_err-room.ensures.same c.self.invariant
 
 pub hear_rows-requires-clause-of_peer : goal.hear_rows-requires-clause-of_peer
 hear_rows-requires-clause-of_peer c =
-    let up = rw (← c.self.view_is) at c.requires.up in
-    let holds = rw (← c.self.view_is) at c.requires.holds in
-    let placed = rw c.deref.ensures.value at c.places-place.ensures.link in
-    let here = up_here (past c.self.inside.opening c.self.inside.audit.entries) c.self.inside.links.items c.self.invariant.sound.legal c.self.invariant.links c.args.number up c.places-place.result.0 c.index.result.now placed c.index.ensures in
-    let peer = peer_is (past c.self.inside.opening c.self.inside.audit.entries) c.args.number c.index.result.now here c.in-Some.peer.now c.in-Some.ensures in
-    rw peer (all_of_peer (past c.self.inside.opening c.self.inside.audit.entries) c.args.number c.index.result.now here c.args.rows (rows_from (past c.self.inside.opening c.self.inside.audit.entries) c.args.number c.args.scope c.args.rows holds))
+    let here = up_at (goal.at.hear_rows-requires-clause-of_peer c).After-index in
+    rw (peer_is here c.in-Some.ensures) (all_of_peer here c.args.rows (rows_from c.args.self.now c.args.number c.args.scope c.args.rows c.requires.holds))
 
 pub invariant_of-self-in_err-groups : goal.invariant_of-self-in_err-groups
-invariant_of-self-in_err-groups c =
-    let placed_scope = rw c.deref-2.ensures.value at c.places-place.ensures.scope in
-    let there = scope_here (past c.self.inside.opening c.self.inside.audit.entries) c.self.inside.scopes.items c.self.invariant.scopes c.args.scope c.places-place.result.1 c.index_mut.result.now placed_scope c.index_mut.ensures.value in
-    rw c.in_ok-room.ensures.room
-    (follows_with (past c.self.inside.opening c.self.inside.audit.entries) _ c.self.invariant (set c.self.inside.scopes.items c.places-place.result.1 c.hear_rows.new.running) c.self.inside.links.items
-    (same_scope (past c.self.inside.opening c.self.inside.audit.entries) c.self.inside.scopes.items c.self.invariant.scopes c.args.scope c.places-place.result.1 c.index_mut.result.now c.hear_rows.new.running there (c.in_err-groups.ensures.same)) c.self.invariant.links)
+invariant_of-self-in_err-groups c = rw c.in_ok-room.ensures.room (follows_with c.self.invariant
+    (same_scope c.self.invariant c.args.scope (rw c.deref-2.ensures.value at c.places-place.ensures.scope) c.index_mut.ensures.value c.in_err-groups.ensures.same) c.self.invariant.links)
 
 pub invariant_of-self-2 : goal.invariant_of-self-2
-invariant_of-self-2 c =
-    let up = rw (← c.self.view_is) at c.requires.up in
-    let space = rw (← c.self.view_is) at c.requires.space in
-    let holds = rw (← c.self.view_is) at c.requires.holds in
-    let placed = rw c.deref.ensures.value at c.places-place.ensures.link in
-    let here = up_here (past c.self.inside.opening c.self.inside.audit.entries) c.self.inside.links.items c.self.invariant.sound.legal c.self.invariant.links c.args.number up c.places-place.result.0 c.index.result.now placed c.index.ensures in
-    let placed_scope = rw c.deref-2.ensures.value at c.places-place.ensures.scope in
-    let there = scope_here (past c.self.inside.opening c.self.inside.audit.entries) c.self.inside.scopes.items c.self.invariant.scopes c.args.scope c.places-place.result.1 c.index_mut.result.now placed_scope c.index_mut.ensures.value in
-    let peer = peer_is (past c.self.inside.opening c.self.inside.audit.entries) c.args.number c.index.result.now here c.in-Some.peer.now c.in-Some.ensures in
-    let becomes = rw peer at c.in_ok-groups.ensures.ok in
-    rw (c.accept.ensures.entries, c.accept.ensures.limit, c.in_ok-room.ensures.room, c.filled.ensures, c.in_ok-room.ensures.scope)
-    (synced_follows (past c.self.inside.opening c.self.inside.audit.entries) _ c.self.invariant c.args.seat c.args.number c.args.body space up c.index.result.now here c.args.scope c.places-place.result.1 c.index_mut.result.now c.hear_rows.new.running there c.args.rows c.requires.says holds c.in_ok-groups.groups.items becomes c.in_ok-groups.ensures.change)
+invariant_of-self-2 c = rw (c.accept.ensures.entries, c.accept.ensures.limit, c.in_ok-room.ensures.room, c.filled.ensures, c.in_ok-room.ensures.scope) (
+    synced c.self.invariant c.args.seat c.args.number c.args.body (rw (← c.self.view_is) at c.requires.space) (rw (← c.self.view_is) at c.requires.up)
+    (rw c.deref.ensures.value at c.places-place.ensures.link) c.index.ensures c.args.scope c.hear_rows.new.running (rw c.deref-2.ensures.value at c.places-place.ensures.scope) c.index_mut.ensures.value c.in-Some.ensures
+    c.args.rows c.requires.says (rw (← c.self.view_is) at c.requires.holds) c.in_ok-groups.groups.items c.in_ok-groups.ensures.ok c.in_ok-groups.ensures.change).1
 
 pub returns : goal.returns
-returns c =
-    let pushed = rw (c.in_ok-room.ensures.room, c.filled.ensures, c.in_ok-room.ensures.scope) at c.accept.ensures.entries in
-    let up = rw (← c.self.view_is) at c.requires.up in
-    let space = rw (← c.self.view_is) at c.requires.space in
-    let holds = rw (← c.self.view_is) at c.requires.holds in
-    let placed = rw c.deref.ensures.value at c.places-place.ensures.link in
-    let here = up_here (past c.self.inside.opening c.self.inside.audit.entries) c.self.inside.links.items c.self.invariant.sound.legal c.self.invariant.links c.args.number up c.places-place.result.0 c.index.result.now placed c.index.ensures in
-    let placed_scope = rw c.deref-2.ensures.value at c.places-place.ensures.scope in
-    let there = scope_here (past c.self.inside.opening c.self.inside.audit.entries) c.self.inside.scopes.items c.self.invariant.scopes c.args.scope c.places-place.result.1 c.index_mut.result.now placed_scope c.index_mut.ensures.value in
-    let peer = peer_is (past c.self.inside.opening c.self.inside.audit.entries) c.args.number c.index.result.now here c.in-Some.peer.now c.in-Some.ensures in
-    let becomes = rw peer at c.in_ok-groups.ensures.ok in
-    let next = synced_next (past c.self.inside.opening c.self.inside.audit.entries) _ c.self.invariant c.args.seat c.args.number c.args.body space up c.index.result.now here c.args.scope c.places-place.result.1 c.index_mut.result.now c.hear_rows.new.running there c.args.rows c.requires.says holds c.in_ok-groups.groups.items becomes c.in_ok-groups.ensures.change in
-    steps_on c.self.view_is c.args.seat (event.Frame c.args.number c.args.body) reply.Done (if_some c.args.scope c.in_ok-groups.groups.items) next pushed
+returns c = steps_on c.self.view_is _ _ _ _ (
+    synced c.self.invariant c.args.seat c.args.number c.args.body (rw (← c.self.view_is) at c.requires.space) (rw (← c.self.view_is) at c.requires.up)
+    (rw c.deref.ensures.value at c.places-place.ensures.link) c.index.ensures c.args.scope c.hear_rows.new.running (rw c.deref-2.ensures.value at c.places-place.ensures.scope) c.index_mut.ensures.value c.in-Some.ensures
+    c.args.rows c.requires.says (rw (← c.self.view_is) at c.requires.holds) c.in_ok-groups.groups.items c.in_ok-groups.ensures.ok c.in_ok-groups.ensures.change).0
+    (rw (c.in_ok-room.ensures.room, c.filled.ensures, c.in_ok-room.ensures.scope) at c.accept.ensures.entries)

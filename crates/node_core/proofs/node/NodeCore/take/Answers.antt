@@ -1,7 +1,4 @@
-use Rattle.node_core.proofs.Words.{None, Some, ap, cond, length, not, sym, [], ◌<◌, ◌∙◌, get_or-set_same, past}
-use Rattle.policy_audit.specs.declared.event.Event.TheVariants as event
-use Rattle.policy_audit.specs.declared.reply.Reply.TheVariants as reply
-use Rattle.policy_audit.specs.declared.rule.Rule.TheVariants as rule
+use Rattle.node_core.proofs.Words.{None, Some, ap, cond, length, not, sym, [], ◌<◌, ◌∙◌, get_or-set_same, past, Event, Reply, Rule}
 use Rattle.node_core.proofs.Entered.{steps_on}
 use Rattle.node_core.proofs.Places.{not_kept, link_at}
 use Rattle.node_core.proofs.Preparing.{same_at}
@@ -11,7 +8,7 @@ use Rattle.node_core.proofs.node.NodeCore.take.Goals as goal
 pub refuse-requires-clause-broken : goal.refuse-requires-clause-broken
 refuse-requires-clause-broken c =
     let none = rw c.deref.ensures.value at (sym c.place_of.ensures ∙ c.in_default.is) in
-    rw (← c.self.view_is) (ap (λ b. cond (not b) (Some rule.NoSuchLink) None) (not_kept (past c.self.inside.opening c.self.inside.audit.entries) c.self.invariant.sound.legal c.self.inside.links.items c.self.invariant.links c.args.number none))
+    rw (← c.self.view_is) (ap (λ b. cond (not b) (Some Rule.NoSuchLink) None) (not_kept (past c.self.inside.opening c.self.inside.audit.entries) c.self.invariant.sound.legal c.self.inside.links.items c.self.invariant.links c.args.number none))
 
 pub invariant_of-self-2 : goal.invariant_of-self-2
 invariant_of-self-2 c =
@@ -36,4 +33,4 @@ returns c =
     let handed = c.hand_over-frames.ensures.frames ∙ ap (λ x. x.frames) c.index_mut.ensures.value ∙ sym frames in
     let space = rw (← c.self.view_is) at c.requires in
     let next = taken_next (past c.self.inside.opening c.self.inside.audit.entries) c.args.seat c.args.number c.in_ok-kept.kept _ c.self.invariant c.in-Some.place c.index_mut.result.now found space frames in
-    rw handed (steps_on c.self.view_is c.args.seat (event.Take c.args.number) (reply.Out c.in_ok-kept.kept) [] next pushed)
+    rw handed (steps_on c.self.view_is c.args.seat (Event.Take c.args.number) (Reply.Out c.in_ok-kept.kept) [] next pushed)

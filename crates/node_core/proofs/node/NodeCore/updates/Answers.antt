@@ -1,8 +1,6 @@
-use Rattle.node_core.proofs.Words.{ap, arith, length, refl, [], ◌∷◌, past, Accepted}
-use Rattle.group_monitors.specs.Monitors.{monitor_of, with_place, updates_behind}
+use Rattle.node_core.proofs.Words.{ap, arith, length, refl, [], ◌∷◌, past, Accepted, with_place, Event, Reply}
+use Rattle.group_monitors.specs.Monitors.{monitor_of, updates_behind}
 use Rattle.group_monitors.proofs.FromPolicy.{follows_seen, follows_seen_later, follows_told}
-use Rattle.policy_audit.specs.declared.event.Event.TheVariants as event
-use Rattle.policy_audit.specs.declared.reply.Reply.TheVariants as reply
 use Rattle.node_core.proofs.Entered.{made, steps_on}
 use Rattle.node_core.proofs.Quiet.{quiet_next}
 use Rattle.node_core.proofs.Watching.{advanced, fetched, told_one}
@@ -14,22 +12,22 @@ updates-requires c = follows_seen (past c.self.inside.opening c.self.inside.audi
 pub advance-requires : goal.advance-requires
 advance-requires c =
     rw (c.accept.ensures.entries, c.in_ok-make_room.ensures.ok.1)
-    (follows_seen_later (past c.self.inside.opening c.self.inside.audit.entries) c.self.inside.monitors c.self.invariant.monitors c.args.seat c.args.number (made (past c.self.inside.opening c.self.inside.audit.entries) c.args.seat (event.Updates c.args.number) (Accepted (reply.Updates c.in-Ok.updates)) [] ∷ c.self.inside.audit.entries) (omega arith))
+    (follows_seen_later (past c.self.inside.opening c.self.inside.audit.entries) c.self.inside.monitors c.self.invariant.monitors c.args.seat c.args.number (made (past c.self.inside.opening c.self.inside.audit.entries) c.args.seat (Event.Updates c.args.number) (Accepted (Reply.Updates c.in-Ok.updates)) [] ∷ c.self.inside.audit.entries) (omega arith))
 
 pub invariant_of-self-2 : goal.invariant_of-self-2
 invariant_of-self-2 c =
     let space = rw (← c.self.view_is) at c.requires in
     let told = follows_told (past c.self.inside.opening c.self.inside.audit.entries) c.self.inside.monitors c.self.invariant.monitors c.args.seat c.args.number c.in-Ok.updates c.in-Ok.ensures.ok in
-    let next = quiet_next (past c.self.inside.opening c.self.inside.audit.entries) c.args.seat (reply.Updates c.in-Ok.updates) (event.Updates c.args.number) space told.0 (ap reply.Updates told.1) refl in
+    let next = quiet_next (past c.self.inside.opening c.self.inside.audit.entries) c.args.seat (Reply.Updates c.in-Ok.updates) (Event.Updates c.args.number) space told.0 (ap Reply.Updates told.1) refl in
     let some = told_one (updates_behind c.self.inside.audit.entries) (monitor_of c.self.inside.monitors c.args.seat c.args.number) c.in-Ok.updates c.in-Ok.ensures.ok in
     let moved = advanced c.advance.result (monitor_of c.self.inside.monitors c.args.seat c.args.number) (with_place c.args.seat c.args.number (length c.accept.new.audit.entries) c.self.inside.monitors) c.advance.new.self some c.advance.ensures.ok c.advance.ensures.refused in
     rw (moved, c.accept.ensures.entries, c.accept.ensures.limit, c.in_ok-make_room.ensures.ok.1, c.new.ensures.items, c.in_ok-told.ensures)
-    (fetched (past c.self.inside.opening c.self.inside.audit.entries) c.args.seat (reply.Updates c.in-Ok.updates) _ c.self.invariant c.args.number next)
+    (fetched (past c.self.inside.opening c.self.inside.audit.entries) c.args.seat (Reply.Updates c.in-Ok.updates) _ c.self.invariant c.args.number next)
 
 pub returns : goal.returns
 returns c =
     let pushed = rw (c.in_ok-make_room.ensures.ok.1, c.new.ensures.items, c.in_ok-told.ensures) at c.accept.ensures.entries in
     let space = rw (← c.self.view_is) at c.requires in
     let told = follows_told (past c.self.inside.opening c.self.inside.audit.entries) c.self.inside.monitors c.self.invariant.monitors c.args.seat c.args.number c.in-Ok.updates c.in-Ok.ensures.ok in
-    let next = quiet_next (past c.self.inside.opening c.self.inside.audit.entries) c.args.seat (reply.Updates c.in-Ok.updates) (event.Updates c.args.number) space told.0 (ap reply.Updates told.1) refl in
-    steps_on c.self.view_is c.args.seat (event.Updates c.args.number) (reply.Updates c.in-Ok.updates) [] next pushed
+    let next = quiet_next (past c.self.inside.opening c.self.inside.audit.entries) c.args.seat (Reply.Updates c.in-Ok.updates) (Event.Updates c.args.number) space told.0 (ap Reply.Updates told.1) refl in
+    steps_on c.self.view_is c.args.seat (Event.Updates c.args.number) (Reply.Updates c.in-Ok.updates) [] next pushed

@@ -1,10 +1,5 @@
-use Rattle.node_core.proofs.Words.{None, Some, ap, cond, not, refl, subst, sym, past}
-use Rattle.policy_audit.specs.declared.event.Event.TheVariants as event
-use Rattle.policy_audit.specs.declared.reply.Reply.TheVariants as reply
-use Rattle.policy_audit.specs.declared.rule.Rule.TheVariants as rule
+use Rattle.node_core.proofs.Words.{None, Some, ap, cond, not, refl, subst, sym, past, IsFree, follows_free, Event, Reply, Rule}
 use Rattle.node_core.proofs.Quiet.{quiet_next}
-use Rattle.group_monitors.specs.Monitors.{IsFree}
-use Rattle.group_monitors.proofs.Followed.{follows_free}
 use Rattle.node_core.proofs.Watching.{group_watched}
 use Rattle.node_core.proofs.node.NodeCore.watch_group.Goals as goal
 
@@ -19,6 +14,6 @@ invariant_of-self-2 c =
     let runs = rw (← c.self.view_is) at c.requires.runs in
     let number = rw (← c.self.view_is) at c.next_number-number.ensures in
     let all = rw (← c.self.view_is) at c.requires.members in
-    let next = quiet_next (past c.self.inside.opening c.self.inside.audit.entries) c.args.seat (reply.Ref c.next_number-number.result c.args.pids) (event.Monitor c.args.scope c.args.group) space (ap (λ b. cond (not b) (Some rule.NoScope) None) runs) (sym (λ i. reply.Ref (number i) (all i))) refl in
+    let next = quiet_next (past c.self.inside.opening c.self.inside.audit.entries) c.args.seat (Reply.Ref c.next_number-number.result c.args.pids) (Event.Monitor c.args.scope c.args.group) space (ap (λ b. cond (not b) (Some Rule.NoScope) None) runs) (sym (λ i. Reply.Ref (number i) (all i))) refl in
     rw (c.accept.ensures.entries, c.accept.ensures.limit, c.in_ok-make_room.ensures.ok.1, c.new.ensures.items, c.in_ok-told.ensures, c.in_ok-add_group.ensures.ok)
-    (group_watched (past c.self.inside.opening c.self.inside.audit.entries) c.args.seat (reply.Ref c.next_number-number.result c.args.pids) _ c.self.invariant c.args.scope c.args.group c.next_number-number.result number next)
+    (group_watched (past c.self.inside.opening c.self.inside.audit.entries) c.args.seat (Reply.Ref c.next_number-number.result c.args.pids) _ c.self.invariant c.args.scope c.args.group c.next_number-number.result number next)
