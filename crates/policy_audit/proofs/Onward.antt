@@ -84,13 +84,7 @@ module _ (h : History) (e : Entry) (made : IsAnswered h e) (yes : is_accepted e.
   newest = grind (arith, eq-eqb l l)
 
   onward : (gave : Option Name) (of : Option (List ℕ)) (next : Awaited) (ends : Bool) → Made moment (opened l es) (taken l es) gave of next ends → IsOnward l es e gave of next ends
-  onward gave of next ends m = record {
-    opened = same_opening;
-    given = (λ i. given_by (same_opening i) (newest i)) ∙ m.given;
-    peer = (λ i. peer_by (same_opening i) (newest i)) ∙ m.peer;
-    awaits = (λ i. awaited_by (same_opening i) (newest i)) ∙ m.awaits;
-    whole = (λ i. whole_by (same_opening i) (newest i)) ∙ m.whole;
-  }
+  onward gave of next ends m = grind (arith, same_opening, newest, m)
 
   it_makes : (a : Awaited) → awaits l es ≡ a → Next moment (opened l es) (taken l es) a
   it_makes a q = subst (Next moment (opened l es) (taken l es)) q (next moment (opened l es) (taken l es) (open_opened l es frame_open))

@@ -1,11 +1,10 @@
 -- The own rows are listed, and nobody else's are; and the rows that an own Join, Leave, Exit and Sync name.
-use Rattle.policy_audit.proofs.Words.{ap, arith, refl, sym, ◌∙◌, filter, list_all, option_map_or, is_gt, Bool, List, None, Option, Some, []}
-use Rattle.policy_audit.proofs.Words.{cond, false, map, suc, true, ℕ, ◌&&◌, ◌+◌, ◌-◌, ◌<◌, ◌==◌, ◌∷◌, ◌≡◌, Ordering, one_listing}
-use Rattle.policy_audit.proofs.Words.{exact_rows, rows_total, same_decides, same_pid_decides, same_row_decides, same_sym, Ascends}
-use Rattle.policy_audit.proofs.Words.{IsListing, IsPidListing, IsRowListing, mentions, occurrences, same, same_pid, same_row, stands_in}
-use Rattle.policy_audit.proofs.Words.{row_cmp, Pid, Row, join_checks, groups_named, local_groups, local_members, local_rows, pids_named}
-use Rattle.policy_audit.proofs.Words.{row, History, creation, events, past, listed, listed_by, is_local, is_running, joined, own, IsLegal}
-use Rattle.policy_audit.proofs.Words.{IsLegalIn, verdict, present_link, Entry, Verdict, Accepted, Refused, Event, Opening}
+use Rattle.policy_audit.proofs.Words.{ap, arith, refl, sym, ◌∙◌, filter, list_all, is_gt, Bool, List, None, Option, Some, [], cond, false}
+use Rattle.policy_audit.proofs.Words.{map, true, ℕ, ◌<◌, ◌∷◌, ◌≡◌, Ordering, one_listing, exact_rows, rows_total, same_decides}
+use Rattle.policy_audit.proofs.Words.{same_pid_decides, same_row_decides, same_sym, Ascends, IsListing, IsPidListing, IsRowListing}
+use Rattle.policy_audit.proofs.Words.{occurrences, same, same_pid, same_row, stands_in, row_cmp, Pid, Row, join_checks, groups_named}
+use Rattle.policy_audit.proofs.Words.{local_groups, local_members, local_rows, pids_named, row, History, events, past, listed, is_local}
+use Rattle.policy_audit.proofs.Words.{joined, own, IsLegal, IsLegalIn, verdict, present_link, Entry, Verdict, Accepted, Event, Opening}
 use Rattle.policy_audit.proofs.Accepted.{accepted, all_hold, lie, unbroken}
 use Rattle.policy_audit.proofs.Walked.{but}
 use Rattle.policy_audit.proofs.UpLinks.{agrees}
@@ -13,11 +12,6 @@ use Rattle.policy_audit.proofs.Named.{group_named, own_named, pid_named}
 use Rattle.policy_audit.proofs.Lists.{count_in_group, filter_all, groups_are, members_are, rows_are, rows_of_group}
 use Rattle.policy_audit.proofs.RowsAfter.{uncounted}
 use Rattle.policy_audit.proofs.Foreign.{peer_foreign}
-
--- none, either way
-nothing : (b : Bool) → cond {A = ℕ} b 0 0 ≡ 0
-nothing true = refl
-nothing false = refl
 
 -- ---- the own rows
 
@@ -34,50 +28,18 @@ unjoined : (o : Opening) (es : List Entry) → IsLegalIn o es → (s g : List �
 unjoined o [] legal s g p foreign = refl
 unjoined o (e ∷ es) legal s g p foreign = by_event e.event e.verdict legal.0.verdict (unjoined o es legal.1 s g p) foreign
   where
-    none_more : (a : Bool) (n m : ℕ) → n ≡ 0 → m ≡ 0 → cond a (n + m) n ≡ 0
-    none_more true n m p q = omega (arith, p, q)
-    none_more false n m p q = p
-
-    none_less : (a : Bool) (n m : ℕ) → n ≡ 0 → cond a (n - m) n ≡ 0
-    none_less true n m p = omega (arith, p)
-    none_less false n m p = p
-
-    none_cleared : (a : Bool) (n : ℕ) → n ≡ 0 → cond a 0 n ≡ 0
-    none_cleared true n p = refl
-    none_cleared false n p = p
-
     by_event : (ev : Event) (v : Verdict) → v ≡ verdict (past o es) e.seat ev → (is_local (past o es) p ≡ false → joined s g p (events es) ≡ 0)
         → is_local (past o (but e ev v ∷ es)) p ≡ false → joined s g p (events (but e ev v ∷ es)) ≡ 0
-    by_event ev (Refused r) q so_far f = so_far f
-    by_event Event.Restart (Accepted r) q so_far f = refl
     by_event (Event.Join t u ps) (Accepted r) q so_far f =
         let all = unbroken (list_all (is_local (past o es)) ps) (all_hold (join_checks (past o es) t u ps) (accepted (past o es) e.seat (Event.Join t u ps) r q).0).1.0 in
-        none_more (same t s && same u g) (joined s g p (events es)) (mentions p ps) (so_far f) (uncounted same_pid (λ y x. (same_pid_decides y x).0) (is_local (past o es)) p ps all f)
-    by_event (Event.Leave t u ps) (Accepted r) q so_far f = none_less (same t s && same u g) (joined s g p (events es)) (mentions p ps) (so_far f)
-    by_event (Event.Exit x) (Accepted r) q so_far f = none_cleared (same_pid x p) (joined s g p (events es)) (so_far f)
-    by_event (Event.StartScope t) (Accepted r) q so_far f = none_cleared (same t s) (joined s g p (events es)) (so_far f)
-    by_event ev (Accepted r) q so_far f = so_far f
+        grind (arith, uncounted same_pid (λ y x. (same_pid_decides y x).0) (is_local (past o es)) p ps all)
+    by_event ev v q so_far f = grind arith
 
 pub foreign_own : (h : History) → IsLegal h → (s g : List ℕ) (p : Pid) → is_local h p ≡ false → own h s g p ≡ 0
-foreign_own h legal s g p foreign = ap (λ (n : ℕ). cond (is_running h s) n 0) (unjoined h.opening h.entries legal s g p foreign) ∙ nothing (is_running h s)
+foreign_own h legal s g p foreign = grind (arith, unjoined h.opening h.entries legal s g p foreign)
 
 pub own_is_listed : (h : History) → IsLegal h → (s g : List ℕ) (p : Pid) → own h s g p ≡ cond (same p.node h.opening.name) (listed h s g p) 0
-own_is_listed h legal s g p = by (same p.node h.opening.name) refl (p.creation == creation h) refl
-  where
-    local : (a : Bool) → same p.node h.opening.name ≡ a → (b : Bool) → (p.creation == creation h) ≡ b → is_local h p ≡ (a && b)
-    local a q b r = λ i. q i && r i
-
-    remote : (y : Option ℕ) → y ≡ None → (u : Bool) → cond u (option_map_or (listed_by h s g p) y 0) 0 ≡ 0
-    remote y q u = ap (λ x. cond u (option_map_or (listed_by h s g p) x 0) 0) q ∙ nothing u
-
-    by : (a : Bool) → same p.node h.opening.name ≡ a → (b : Bool) → (p.creation == creation h) ≡ b → own h s g p ≡ cond a (listed h s g p) 0
-    by false q b r = foreign_own h legal s g p (local false q b r)
-    by true q true r = sym (ap (λ c. cond c (own h s g p) (cond (is_running h s) (option_map_or (listed_by h s g p) (present_link p.node h.entries) 0) 0)) (local true q true r))
-    by true q false r =
-        let foreign = local true q false r in
-        foreign_own h legal s g p foreign
-        ∙ sym (ap (λ c. cond c (own h s g p) (cond (is_running h s) (option_map_or (listed_by h s g p) (present_link p.node h.entries) 0) 0)) foreign
-        ∙ remote (present_link p.node h.entries) (ap (λ n. present_link n h.entries) ((same_decides p.node h.opening.name).0 q) ∙ no_own_link h legal) (is_running h s))
+own_is_listed h legal s g p = grind (arith, foreign_own h legal s g p, same_decides p.node h.opening.name, no_own_link h legal)
 
 -- ---- lists of rows
 
@@ -94,24 +56,12 @@ rows_in_group g count ps a = record {
 
 filter_ascends : {A : Type 0} (R : A → A → Ordering) (test : A → Bool) (xs : List A) → Ascends R xs → Ascends R (filter test xs)
 filter_ascends R test [] a = tt
-filter_ascends R test (x ∷ xs) a = elim (test x) as (λ b. Ascends R (cond b (x ∷ filter test xs) (filter test xs))) [ true ↦ (filter_all (λ y. is_gt (R x y) ≡ false) test xs a.0, filter_ascends R test xs a.1) | false ↦ filter_ascends R test xs a.1 ]
+filter_ascends R test (x ∷ xs) a = grind (arith, filter_all (λ y. is_gt (R x y) ≡ false) test xs a.0, filter_ascends R test xs a.1)
 
 -- how often a row stands in what a test leaves
 filter_counts : (test : Row → Bool) (r : Row) (xs : List Row) → occurrences same_row r (filter test xs) ≡ cond (test r) (occurrences same_row r xs) 0
-filter_counts test r [] = sym (nothing (test r))
-filter_counts test r (x ∷ xs) = by (test x) refl (same_row x r) refl (filter_counts test r xs)
-  where
-    by : (a : Bool) → test x ≡ a → (b : Bool) → same_row x r ≡ b → occurrences same_row r (filter test xs) ≡ cond (test r) (occurrences same_row r xs) 0
-        → occurrences same_row r (cond a (x ∷ filter test xs) (filter test xs)) ≡ cond (test r) (cond b (suc (occurrences same_row r xs)) (occurrences same_row r xs)) 0
-    by true t true s q =
-        let its : test r ≡ true = ap test (sym ((same_row_decides x r).0 s)) ∙ t in
-        ap (λ b. cond b (suc (occurrences same_row r (filter test xs))) (occurrences same_row r (filter test xs))) s
-        ∙ ap suc (q ∙ ap (λ b. cond b (occurrences same_row r xs) 0) its) ∙ sym (ap (λ b. cond b (suc (occurrences same_row r xs)) 0) its)
-    by true t false s q = ap (λ b. cond b (suc (occurrences same_row r (filter test xs))) (occurrences same_row r (filter test xs))) s ∙ q
-    by false t true s q =
-        let its : test r ≡ false = ap test (sym ((same_row_decides x r).0 s)) ∙ t in
-        q ∙ ap (λ b. cond b (occurrences same_row r xs) 0) its ∙ sym (ap (λ b. cond b (suc (occurrences same_row r xs)) 0) its)
-    by false t false s q = q
+filter_counts test r [] = grind arith
+filter_counts test r (x ∷ xs) = grind (arith, filter_counts test r xs, same_row_decides x r)
 
 -- ---- what is told of own rows
 

@@ -4,8 +4,7 @@ use Rattle.policy_audit.proofs.Words.{bytes_eq, cond, false, get_or, is_some, le
 use Rattle.policy_audit.proofs.Words.{Challenge, Name, ack_frame, challenge_frame, name_frame, reply_frame, status_of, AckFrame, ReplyFrame}
 use Rattle.policy_audit.proofs.Words.{StatusWord, digest_of, allowed, cookie, goes_on, checks, dial_checks, first_broken, frame_checks}
 use Rattle.policy_audit.proofs.Words.{past, is_open, IsLegalIn, verdict, AwaitMessage, ByDial, ByPeer, Opened, Start, Taken, and_frame}
-use Rattle.policy_audit.proofs.Words.{awaited_in, awaits, opened, taken, was_up, whole_side, Entry, Verdict, Accepted, Refused, Event}
-use Rattle.policy_audit.proofs.Words.{Opening}
+use Rattle.policy_audit.proofs.Words.{awaited_in, awaits, opened, taken, was_up, whole_side, Entry, Verdict, Accepted, Event, Opening}
 use Rattle.policy_audit.proofs.Accepted.{lie, accepted, all_hold, unbroken, open_first, Fits, fits}
 
 -- an entry with another event and verdict
@@ -110,17 +109,6 @@ pub far : (o : Opening) (es : List Entry) → IsLegalIn o es → (l : ℕ) → F
 far o [] legal l = refl
 far o (e ∷ es) legal l = by_event e.event e.verdict legal.0.verdict (far o es legal.1 l)
   where
-    none_yet : (e.number == l) ≡ true → FarIn o l es → taken l es ≡ []
-    none_yet q p =
-        let here : e.number ≡ length es + 1 = legal.0.number in
-        let there : e.number ≡ l = eqb-true e.number l q in
-        subst (λ x. Far o x (taken l es)) (unborn o es legal.1 l (omega (arith, here, there))) p
-
-    by_opening : (s : Start) → ((ts : List Taken) → ts ≡ [] → Walk o es s ts) → FarIn o l es
-        → (b : Bool) → (e.number == l) ≡ b → Far o (elim (cond {A = Option Opened} b (Some (record { start = s; before = es })) None) as (λ _. Option Opened) [ Some y ↦ Some y | None ↦ opened l es ]) (taken l es)
-    by_opening s start p true q = start (taken l es) (none_yet q p)
-    by_opening s start p false q = p
-
     by_frame : (k : ℕ) (body : List ℕ) → first_broken (checks (past o es) e.seat (Event.Frame k body)) ≡ None → FarIn o l es
         → (b : Bool) → (k == l) ≡ b → Far o (opened l es) (and_frame (taken l es) (cond b (Some (record { body = body; before = es })) None))
     by_frame k body q p true same_link =
@@ -129,10 +117,9 @@ far o (e ∷ es) legal l = by_event e.event e.verdict legal.0.verdict (far o es 
     by_frame k body q p false same_link = p
 
     by_event : (ev : Event) (v : Verdict) → v ≡ verdict (past o es) e.seat ev → FarIn o l es → FarIn o l (but e ev v ∷ es)
-    by_event ev (Refused r) q p = p
-    by_event Event.Restart (Accepted r) q p = refl
-    by_event (Event.Opened c) (Accepted r) q p = by_opening (ByPeer c) (λ ts t. subst (Walk o es (ByPeer c)) (sym t) tt) p (e.number == l) refl
     by_event (Event.Dial n c) (Accepted r) q p =
-        by_opening (ByDial n c) (λ ts t. (unbroken (allowed (past o es) n) (all_hold (dial_checks (past o es) n) (accepted (past o es) e.seat (Event.Dial n c) r q).0).1.0, subst (Reach o n c) (sym t) tt)) p (e.number == l) refl
+        let may = unbroken (allowed (past o es) n) (all_hold (dial_checks (past o es) n) (accepted (past o es) e.seat (Event.Dial n c) r q).0).1.0 in
+        let here : e.number ≡ length es + 1 = legal.0.number in
+        grind (arith, p, may, unborn o es legal.1 l, eqb-true e.number l)
     by_event (Event.Frame k body) (Accepted r) q p = by_frame k body (accepted (past o es) e.seat (Event.Frame k body) r q).0 p (k == l) refl
-    by_event ev (Accepted r) q p = p
+    by_event ev v q p = (let here : e.number ≡ length es + 1 = legal.0.number in grind (arith, p, unborn o es legal.1 l, eqb-true e.number l))
