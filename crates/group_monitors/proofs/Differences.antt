@@ -1,26 +1,13 @@
--- What the changes of entries tell of a group is the difference of its listings.
-use Rattle.std.proofs.Common.{◌≡◌, ◌∙◌, sym, ap, refl, subst, ℕ, ◌+◌, ◌-◌, ◌≤◌, inl, inr, Bool, true, false, cond, ◌++◌, List, [], ◌∷◌, Option, Some, None, length, arith, reverse, drop, append-nil}
-use Rattle.std.specs.List.{flat_map}
-use Rattle.std.specs.Option.{option_and_then}
-use Rattle.std.proofs.lemmas.Bool.Decides.{nat_tests}
-use Rattle.std.proofs.lemmas.Grind.{flat_map-append}
-use Rattle.std.proofs.lemmas.List.{reverse-append, length-reverse}
-use Rattle.std.proofs.Math.Seq.{drop-append_seam}
-use Rattle.dist_types.specs.declared.pid.Pid.{Pid}
-use Rattle.dist_types.specs.declared.change.GroupChange.{GroupChange}
-use Rattle.dist_types.specs.Listing.{same, mentions}
-use Rattle.dist_types.specs.Difference.{times_left, times_joined, IsDifference}
-use Rattle.policy_audit.specs.declared.reply.Update.{Update}
-use Rattle.policy_audit.specs.declared.entry.Entry.{Entry}
-use Rattle.policy_audit.specs.declared.opening.Opening.{Opening}
-use Rattle.policy_audit.specs.History.{History, past}
-use Rattle.policy_audit.specs.Listed.{listed}
-use Rattle.policy_audit.specs.Log.{later_than}
-use Rattle.policy_audit.specs.Monitors.{group_updates, is_watched, updates_of}
-use Rattle.policy_audit.specs.Policy.{IsLegal, IsLegalIn}
-use Rattle.group_monitors.specs.declared.monitor.Monitor.{Monitor}
-use Rattle.group_monitors.specs.Monitors.{target, updates_behind}
-use Rattle.group_monitors.specs.Counts.{counted, Watches, Extends}
+-- What the changes of entries tell of a group is the difference of its listings, and what the contents of a scope count.
+use Rattle.group_monitors.proofs.Words.{◌≡◌, ◌∙◌, sym, ap, refl, subst, ℕ, ◌+◌, ◌-◌, ◌≤◌, inl, inr, Bool, true, false, cond, ◌++◌, List, [], ◌∷◌}
+use Rattle.group_monitors.proofs.Words.{Option, Some, length, arith, reverse, drop, append-nil, flat_map, option_and_then, nat_tests, flat_map-append}
+use Rattle.group_monitors.proofs.Words.{reverse-append, length-reverse, drop-append_seam, Pid, GroupChange, mentions, times_left, times_joined}
+use Rattle.group_monitors.proofs.Words.{IsDifference, Update, Entry, Opening, History, past, listed, later_than, group_updates, is_watched}
+use Rattle.group_monitors.proofs.Words.{updates_of, IsLegal, IsLegalIn, Monitor, target, updates_behind, counted, Watches, Extends, ◌<◌, map}
+use Rattle.group_monitors.proofs.Words.{true≢false, total, is_among, IsPidListing, IsGroupListing, texts_total, same_decides, one_of_many, members}
+use Rattle.group_monitors.proofs.Words.{groups, contents, times_in, same}
+use Rattle.std.proofs.lemmas.Map.Lookups.{exact_bytes}
+use Rattle.dist_types.specs.Order.{text_cmp}
 
 -- updates in turn, and then others
 pub counted_append : (g : List ℕ) (p : Pid) (us vs : List Update) (n : ℕ) → counted g p (us ++ vs) n ≡ option_and_then (counted g p vs) (counted g p us n)
@@ -99,3 +86,19 @@ told h k legal more m at g watches p =
     ap (λ l. counted g p (flat_map (λ e. updates_of (target m) e.change) l) (listed k m.scope g p)) behind
     ∙ further_told g p m.group (watched_told g m watches) k.opening m.scope es k.entries (subst IsLegal is legal)
     ∙ ap (λ x. Some (listed x m.scope g p)) (sym is)
+
+-- in the groups' contents as in the groups
+of_groups : (g : List ℕ) (p : Pid) (pids : List ℕ → List Pid) (gs : List (List ℕ))
+    → times_in g p (map (λ f. record { group = f; pids = pids f }) gs) ≡ total (λ f. cond (same f g) (mentions p (pids f)) 0) gs
+of_groups g p pids [] = refl
+of_groups g p pids (f ∷ gs) = ap (λ n. cond (same f g) (mentions p (pids f)) 0 + n) (of_groups g p pids gs)
+
+pub contents_count : (h : History) (s g : List ℕ) (p : Pid) → IsPidListing (listed h s g) (members h s g) → IsGroupListing (listed h s) (groups h s)
+    → times_in g p (contents h s) ≡ listed h s g p
+contents_count h s g p pids gs =
+    of_groups g p (members h s) (groups h s) ∙ one_of_many text_cmp same texts_total exact_bytes same_decides (λ f. mentions p (members h s f)) g (groups h s) gs.rises
+    ∙ by (is_among g (groups h s)) refl
+  where
+    by : (b : Bool) → is_among g (groups h s) ≡ b → cond b (mentions p (members h s g)) 0 ≡ listed h s g p
+    by true is = pids.counts p
+    by false is = let none = λ (some : 0 < listed h s g p). true≢false (sym (gs.only g p some) ∙ is) in omega (arith, none)

@@ -1,22 +1,9 @@
 -- The entries behind the last fetch are those that the policy looks back over.
-use Rattle.std.proofs.Common.{◌≡◌, ◌∙◌, sym, ap, refl, ℕ, ◌+◌, ◌-◌, ◌<◌, ◌≤◌, Bool, true, false, cond, ◌++◌, List, [], ◌∷◌, Some, length, arith, IsTrue, reverse, drop, slice_get, length-append, append-nil, inl, inr}
-use Rattle.std.specs.List.{AllByRecursion, flat_map}
-use Rattle.std.specs.Option.{option_map_or}
-use Rattle.std.proofs.lemmas.Bool.{cases_lt}
-use Rattle.std.proofs.lemmas.Bool.Decides.{nat_tests}
-use Rattle.std.proofs.lemmas.Grind.{flat_map-append}
-use Rattle.std.proofs.lemmas.List.{drop-append-le, drop_all, reverse-append, length-reverse, get_or_append_left}
-use Rattle.std.proofs.Math.Seq.{get_or-append_seam}
-use Rattle.std.proofs.lemmas.Option.{slice_get_within, slice_get-get_or}
-use Rattle.dist_types.proofs.Listings.{all_append}
-use Rattle.policy_audit.specs.declared.entry.Entry.{Entry}
-use Rattle.policy_audit.specs.History.{History}
-use Rattle.policy_audit.specs.declared.reply.Update.{Update}
-use Rattle.policy_audit.specs.Log.{entry_at, later_than}
-use Rattle.policy_audit.specs.Monitors.{Target, updates_of, is_fetch, updates_since, updates, monitor}
-use Rattle.group_monitors.specs.declared.monitor.Monitor.{Monitor}
-use Rattle.group_monitors.specs.Monitors.{target, updates_behind}
-use Rattle.group_monitors.specs.Fetches.{IsLastFetch}
+use Rattle.group_monitors.proofs.Words.{◌≡◌, ◌∙◌, sym, ap, refl, ℕ, ◌+◌, ◌-◌, ◌<◌, ◌≤◌, false, ◌++◌, List, [], ◌∷◌, Some, length, arith, IsTrue}
+use Rattle.group_monitors.proofs.Words.{reverse, drop, length-append, append-nil, inl, inr, AllByRecursion, flat_map, option_map_or, cases_lt}
+use Rattle.group_monitors.proofs.Words.{nat_tests, flat_map-append, drop-append-le, drop_all, reverse-append, length-reverse, get_or_append_left}
+use Rattle.group_monitors.proofs.Words.{get_or-append_seam, slice_get_within, slice_get-get_or, all_append, Entry, History, entry_at, later_than}
+use Rattle.group_monitors.proofs.Words.{Target, updates_of, is_fetch, updates_since, updates, monitor, Monitor, target, updates_behind, IsLastFetch}
 
 -- one more entry is the last one behind a place within the others
 one_later : (place : ℕ) (e : Entry) (es : List Entry) → place ≤ length es → later_than place (e ∷ es) ≡ later_than place es ++ e ∷ []

@@ -1,31 +1,14 @@
 -- What a seat has fetched of its monitor, with what it is still to fetch, is what all entries behind the monitor's own tell.
-use Rattle.std.proofs.Common.{◌≡◌, ◌∙◌, sym, ap, refl, ℕ, ◌+◌, Bool, true, false, cond, ◌&&◌, ◌==◌, ◌++◌, List, [], ◌∷◌, Option, Some, None, length, arith, IsTrue, reverse, append-nil, append_assoc, inl, inr, ◌⊎◌, length-append}
-use Rattle.std.specs.List.{flat_map}
-use Rattle.std.specs.Option.{option_map, option_map_or}
-use Rattle.std.proofs.lemmas.Option.{none-some}
-use Rattle.std.proofs.lemmas.Grind.{flat_map-append}
-use Rattle.std.proofs.lemmas.List.{reverse-append}
-use Rattle.dist_types.specs.declared.pid.Pid.{Pid}
-use Rattle.dist_types.specs.declared.change.GroupChange.{GroupChange}
-use Rattle.dist_types.specs.Listing.{mentions}
-use Rattle.dist_types.specs.Difference.{is_empty, IsDifference}
-use Rattle.dist_types.proofs.Orders.{same_decides, same_pid_decides}
-use Rattle.policy_audit.specs.declared.opening.Opening.{Opening}
-use Rattle.policy_audit.specs.declared.event.Event.{Event}
+use Rattle.group_monitors.proofs.Words.{◌≡◌, ◌∙◌, sym, ap, refl, ℕ, ◌+◌, true, false, cond, ◌==◌, ◌++◌, List, [], ◌∷◌, Some, None, length, arith}
+use Rattle.group_monitors.proofs.Words.{IsTrue, reverse, append-nil, append_assoc, inl, inr, ◌⊎◌, length-append, flat_map, option_map, option_map_or}
+use Rattle.group_monitors.proofs.Words.{none-some, Pid, GroupChange, mentions, is_empty, IsDifference, same_decides, same_pid_decides, Opening, Event}
+use Rattle.group_monitors.proofs.Words.{Entry, History, past, present, is_accepted, listed, entry_at, later_than, Target, watched, monitor_in}
+use Rattle.group_monitors.proofs.Words.{monitor, updates_of, updates_since, updates, is_watched, group_updates, with_entry, answer, IsNext, IsLegal}
+use Rattle.group_monitors.proofs.Words.{IsLegalIn, updates_in, fetched_by, fetched, counted}
 use Rattle.policy_audit.specs.declared.event.Event.TheVariants as event
 use Rattle.policy_audit.specs.declared.reply.Reply.{Reply}
-use Rattle.policy_audit.specs.declared.reply.Reply.TheVariants as reply
-use Rattle.policy_audit.specs.declared.reply.Update.{Update}
 use Rattle.policy_audit.specs.declared.entry.Verdict.TheVariants.{Accepted}
-use Rattle.policy_audit.specs.declared.entry.Entry.{Entry}
-use Rattle.policy_audit.specs.History.{History, Moment, past, present, is_accepted, is_restart}
 use Rattle.policy_audit.specs.Effects.{leaves_rows}
-use Rattle.policy_audit.specs.Listed.{listed}
-use Rattle.policy_audit.specs.Log.{entry_at, later_than}
-use Rattle.policy_audit.specs.Monitors.{Target, watched, monitor_after, monitor_in, monitor, updates_of, is_fetch, updates_since, updates, is_watched, group_updates}
-use Rattle.policy_audit.specs.Policy.{with_entry, answer, IsNext, IsLegal, IsLegalIn}
-use Rattle.group_monitors.specs.Fetches.{updates_in, fetched_by, fetched}
-use Rattle.group_monitors.specs.Counts.{counted}
 use Rattle.group_monitors.proofs.Differences.{told, told_last, further}
 use Rattle.group_monitors.proofs.Fetched.{entry_stays, entry_new}
 

@@ -1,27 +1,14 @@
 -- Each entry leaves the monitors as the policy says.
-use Rattle.std.proofs.Common.{◌≡◌, ◌∙◌, sym, ap, refl, subst, ℕ, suc, ◌+◌, ◌≤◌, Bool, true, false, cond, nat_eq, ◌&&◌, ◌==◌, ◌||◌, ◌++◌, List, [], ◌∷◌, Option, Some, None, length, arith, IsTrue, ◌⊎◌, inl, inr}
-use Rattle.std.specs.List.{IsDistinct}
-use Rattle.std.specs.Option.{option_map, option_and_then}
-use Rattle.std.proofs.lemmas.Bool.{false_from_ne_true}
-use Rattle.std.proofs.lemmas.Bool.Decides.{Decides-eqb, nat_tests}
-use Rattle.std.proofs.lemmas.Option.{none-some, same_Some}
+use Rattle.group_monitors.proofs.Words.{◌≡◌, ◌∙◌, sym, ap, refl, ℕ, suc, ◌+◌, ◌≤◌, Bool, true, false, cond, nat_eq, ◌&&◌, ◌==◌, ◌++◌, List, [], ◌∷◌}
+use Rattle.group_monitors.proofs.Words.{Option, Some, None, length, arith, IsTrue, ◌⊎◌, inl, inr, option_map, Decides-eqb, nat_tests, none-some}
+use Rattle.group_monitors.proofs.Words.{all_append, Opening, Event, Entry, History, Moment, past, is_accepted, is_restart, Target, monitor_after}
+use Rattle.group_monitors.proofs.Words.{monitor, is_fetch, next_number, with_entry, Monitor, target, monitor_of, IsFree, IsNumbered, without}
+use Rattle.group_monitors.proofs.Words.{without_scope, with_place, IsLastFetch, FollowsPolicy, concerns_monitors}
 use Rattle.std.proofs.lemmas.Map.Made.{IsDistinct-keys_filter}
-use Rattle.dist_types.specs.Listing.{same}
-use Rattle.dist_types.proofs.Listings.{all_append}
-use Rattle.policy_audit.specs.declared.opening.Opening.{Opening}
-use Rattle.policy_audit.specs.declared.event.Event.{Event}
 use Rattle.policy_audit.specs.declared.event.Event.TheVariants as event
-use Rattle.policy_audit.specs.declared.entry.Entry.{Entry}
-use Rattle.policy_audit.specs.History.{History, Moment, past, present, is_accepted, is_restart}
-use Rattle.policy_audit.specs.Monitors.{Target, monitor_after, monitor_in, monitor, is_fetch}
-use Rattle.policy_audit.specs.Policy.{next_number, with_entry}
-use Rattle.group_monitors.specs.declared.monitor.Monitor.{Monitor}
-use Rattle.group_monitors.specs.Monitors.{target, monitor_of, at_place, IsFree, IsNumbered, without, without_scope, with_place}
-use Rattle.group_monitors.specs.Fetches.{IsLastFetch}
-use Rattle.group_monitors.specs.Follows.{FollowsPolicy, concerns_monitors}
-use Rattle.group_monitors.proofs.Found.{none_found, free_not_found, found_added, found_removed, found_moved, found_dropped}
+use Rattle.group_monitors.proofs.Found.{none_found, free_not_found, found_added, found_removed, found_moved, found_dropped, AtMost, none_numbered}
+use Rattle.group_monitors.proofs.Found.{all_passing, one_more, at_most, greater_free, numbered_last, numbers_stay, moved_at_most}
 use Rattle.group_monitors.proofs.Fetched.{stays_last, becomes_last}
-use Rattle.group_monitors.proofs.Numbers.{AtMost, none_numbered, all_passing, one_more, at_most, greater_free, numbered_last, numbers_stay, moved_at_most}
 
 -- an Updates of the seat's monitor k
 abbrev is_update : ℕ → ℕ → ℕ → Event → Bool

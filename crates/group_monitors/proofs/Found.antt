@@ -1,16 +1,11 @@
--- Which monitor a seat has under a number: by a look-up of the number, and once monitors are added, taken away and moved.
-use Rattle.std.proofs.Common.{◌≡◌, ◌≢◌, refl, ℕ, cond, nat_eq, ◌&&◌, ◌==◌, ◌++◌, List, [], ◌∷◌, Some, None, arith}
-use Rattle.std.specs.Map.{keys_of, lookup, set_value, remove_entry}
-use Rattle.std.specs.List.{IsDistinct}
+-- Which monitor a seat has under a number, by a look-up and once monitors are added, taken away and moved; and the numbers themselves.
+use Rattle.group_monitors.proofs.Words.{◌≡◌, ◌≢◌, refl, ℕ, cond, nat_eq, ◌&&◌, ◌==◌, ◌++◌, List, [], ◌∷◌, Some, None, arith, keys_of, lookup}
+use Rattle.group_monitors.proofs.Words.{set_value, remove_entry, IsDistinct, option_map, option_and_then, IsDistinct-tail, nat_tests, same, Monitor}
+use Rattle.group_monitors.proofs.Words.{monitor_of, IsFree, IsNumbered, without, without_scope, with_place, at_place, suc, ◌<◌, ◌≤◌, Bool, false}
+use Rattle.group_monitors.proofs.Words.{AllByRecursion, filter, IsDistinct-head, IsDistinct-cons, past}
 use Rattle.std.specs.Cmp.{nat_eq_equiv}
-use Rattle.std.specs.Option.{option_map, option_and_then}
 use Rattle.std.proofs.lemmas.Map.{NonePasses, none_passes_from_lookup}
 use Rattle.std.proofs.lemmas.Map.Entries.{none_past_head}
-use Rattle.std.proofs.lemmas.Map.Keys.{IsDistinct-tail}
-use Rattle.std.proofs.lemmas.Bool.Decides.{nat_tests}
-use Rattle.dist_types.specs.Listing.{same}
-use Rattle.group_monitors.specs.declared.monitor.Monitor.{Monitor}
-use Rattle.group_monitors.specs.Monitors.{monitor_of, IsFree, IsNumbered, without, without_scope, with_place, at_place}
 
 -- no seat has a number that no monitor has
 nobodys : (seat n : ℕ) (ms : List (ℕ × Monitor)) → NonePasses (nat_eq n) ms → monitor_of ms seat n ≡ None
@@ -81,3 +76,54 @@ pub found_dropped : (ms : List (ℕ × Monitor)) (s : List ℕ) → IsNumbered m
 found_dropped [] s numbered seat k = refl
 found_dropped (m ∷ ms) s numbered seat k =
     grind (arith, found_dropped ms s (IsDistinct-tail nat_eq m.0 (keys_of ms) numbered) seat k, nobodys seat k ms, none_past_head nat_eq_equiv k m ms numbered)
+
+-- no two of none are the same
+pub none_numbered : IsNumbered []
+unfolding IsDistinct
+none_numbered = tt
+
+-- the numbers are at most j
+abbrev pub AtMost : ℕ → List (ℕ × Monitor) → Type 0
+AtMost j ms = AllByRecursion (λ m. m.0 ≤ j) ms
+
+-- what holds of each holds of those that pass a test
+pub all_passing : {A : Type 0} (P : A → Type 0) (p : A → Bool) (xs : List A) → AllByRecursion P xs → AllByRecursion P (filter p xs)
+all_passing P p [] all = tt
+all_passing P p (x ∷ xs) all = grind (arith, all, all_passing P p xs)
+
+-- at most j is at most one more
+pub one_more : (j : ℕ) (ms : List (ℕ × Monitor)) → AtMost j ms → AtMost (suc j) ms
+one_more j [] past = tt
+one_more j (m ∷ ms) past = (let le = past.0 in omega (arith, le), one_more j ms past.1)
+
+-- a seat's monitor has such a number
+pub at_most : (j : ℕ) (ms : List (ℕ × Monitor)) (seat k : ℕ) (m : Monitor) → AtMost j ms → monitor_of ms seat k ≡ Some m → k ≤ j
+at_most j [] seat k m past at = absurd (cc)
+at_most j (x ∷ ms) seat k m past at = grind (arith, nat_tests, past.0, at_most j ms seat k m past.1)
+
+-- a greater number is free
+pub greater_free : (j n : ℕ) (ms : List (ℕ × Monitor)) → j < n → AtMost j ms → IsFree n ms
+greater_free j n [] lt past = refl
+greater_free j n (m ∷ ms) lt past = grind (arith, nat_tests, past.0, greater_free j n ms lt past.1)
+
+-- with a greater number behind them no two are the same
+pub numbered_last : (j n : ℕ) (x : Monitor) (ms : List (ℕ × Monitor)) → j < n → AtMost j ms → IsNumbered ms → IsNumbered (ms ++ (n, x) ∷ [])
+numbered_last j n x [] lt past numbered = IsDistinct-cons nat_eq n [] tt numbered
+numbered_last j n x (m ∷ ms) lt past numbered =
+    IsDistinct-cons nat_eq m.0 (keys_of (ms ++ (n, x) ∷ []))
+    (apart ms (IsDistinct-head nat_eq m.0 (keys_of ms) numbered))
+    (numbered_last j n x ms lt past.1 (IsDistinct-tail nat_eq m.0 (keys_of ms) numbered))
+  where
+    apart : (ms : List (ℕ × Monitor)) → AllByRecursion (λ k. nat_eq m.0 k ≡ false) (keys_of ms) → AllByRecursion (λ k. nat_eq m.0 k ≡ false) (keys_of (ms ++ (n, x) ∷ []))
+    apart [] all = (grind (arith, nat_tests, past.0), tt)
+    apart (y ∷ ms) all = (all.0, apart ms all.1)
+
+-- a move leaves all numbers
+pub numbers_stay : (own n place : ℕ) (ms : List (ℕ × Monitor)) → keys_of (with_place own n place ms) ≡ keys_of ms
+numbers_stay own n place [] = refl
+numbers_stay own n place (m ∷ ms) = grind (arith, numbers_stay own n place ms)
+
+-- so they are at most j again
+pub moved_at_most : (j own n place : ℕ) (ms : List (ℕ × Monitor)) → AtMost j ms → AtMost j (with_place own n place ms)
+moved_at_most j own n place [] past = tt
+moved_at_most j own n place (m ∷ ms) past = grind (arith, past, moved_at_most j own n place ms)

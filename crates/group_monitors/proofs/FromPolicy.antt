@@ -1,16 +1,9 @@
 -- What monitors that follow the policy say of its answers.
-use Rattle.std.proofs.Common.{◌≡◌, ◌∙◌, sym, ap, refl, ℕ, List, Some, None, length, ◌≤◌, arith}
-use Rattle.std.specs.Option.{IsSome, option_map}
+use Rattle.group_monitors.proofs.Words.{◌≡◌, ◌∙◌, sym, ap, refl, ℕ, List, Some, None, length, ◌≤◌, arith, IsSome, option_map, Entry, Update, History}
+use Rattle.group_monitors.proofs.Words.{monitor, updates, Monitor, target, monitor_of, HasSeen, updates_behind, FollowsPolicy}
 use Rattle.policy_audit.specs.declared.event.Event.TheVariants as event
 use Rattle.policy_audit.specs.declared.rule.Rule.TheVariants as rule
-use Rattle.policy_audit.specs.declared.entry.Entry.{Entry}
-use Rattle.policy_audit.specs.declared.reply.Update.{Update}
-use Rattle.policy_audit.specs.History.{History}
-use Rattle.policy_audit.specs.Monitors.{monitor, updates}
 use Rattle.policy_audit.specs.Checks.{first_broken, checks}
-use Rattle.group_monitors.specs.declared.monitor.Monitor.{Monitor}
-use Rattle.group_monitors.specs.Monitors.{target, monitor_of, HasSeen, updates_behind}
-use Rattle.group_monitors.specs.Follows.{FollowsPolicy}
 use Rattle.group_monitors.proofs.Fetched.{answered, seen_all}
 
 module _ (h : History) (ms : List (ℕ × Monitor)) (f : FollowsPolicy h ms) (seat k : ℕ) where

@@ -1,8 +1,7 @@
-pub mod Found
+pub mod Words
 pub mod Fetched
 pub mod FetchedAll
-pub mod Numbers
+pub mod Found
 pub mod Followed
 pub mod FromPolicy
 pub mod Differences
-pub mod FirstContents

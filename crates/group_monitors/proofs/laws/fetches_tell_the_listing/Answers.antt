@@ -1,12 +1,7 @@
-use Rattle.std.proofs.Common.{◌∙◌, ◌++◌, ap, inl, inr, refl, Some, None}
-use Rattle.policy_audit.specs.History.{past}
-use Rattle.policy_audit.specs.Contents.{members, contents}
+use Rattle.group_monitors.proofs.Words.{◌∙◌, ◌++◌, ap, inl, inr, refl, Some, None, past, members, contents, Target, updates, fetched, counted}
 use Rattle.policy_audit.specs.declared.event.Event.TheVariants as event
 use Rattle.policy_audit.specs.declared.reply.Reply.TheVariants as reply
-use Rattle.policy_audit.specs.Monitors.{Target, updates}
-use Rattle.group_monitors.specs.Fetches.{fetched}
-use Rattle.group_monitors.specs.Counts.{counted}
-use Rattle.group_monitors.proofs.FirstContents.{contents_count}
+use Rattle.group_monitors.proofs.Differences.{contents_count}
 use Rattle.group_monitors.proofs.FetchedAll.{its, whole, counts, first_told, of_group, of_scope}
 use Rattle.group_monitors.proofs.laws.fetches_tell_the_listing.Goals as goal
 

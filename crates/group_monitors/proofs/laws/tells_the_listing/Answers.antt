@@ -1,8 +1,5 @@
-use Rattle.std.proofs.Common.{◌∙◌, sym, ap, inl, inr, Some}
-use Rattle.group_monitors.specs.Monitors.{updates_behind}
-use Rattle.group_monitors.specs.Counts.{counted}
-use Rattle.group_monitors.proofs.Differences.{told, counted_append}
-use Rattle.group_monitors.proofs.FirstContents.{contents_count}
+use Rattle.group_monitors.proofs.Words.{◌∙◌, sym, ap, inl, inr, Some, updates_behind, counted}
+use Rattle.group_monitors.proofs.Differences.{told, counted_append, contents_count}
 use Rattle.group_monitors.proofs.laws.tells_the_listing.Goals as goal
 
 pub returns-clause-listed : goal.returns-clause-listed

@@ -1,7 +1,4 @@
-use Rattle.std.proofs.Common.{◌≡◌, ◌++◌}
-use Rattle.std.specs.Prelude.{take}
-use Rattle.policy_audit.specs.Monitors.{updates_of}
-use Rattle.group_monitors.specs.Monitors.{target}
+use Rattle.group_monitors.proofs.Words.{◌≡◌, ◌++◌, take, updates_of, target}
 use Rattle.group_monitors.proofs.told.tell_changes.Given as goal
 
 -- the updates so far

@@ -1,7 +1,4 @@
-use Rattle.std.proofs.Common.{◌≡◌, ◌++◌, [], cond}
-use Rattle.std.specs.Prelude.{take}
-use Rattle.std.specs.List.{flat_map}
-use Rattle.policy_audit.specs.Monitors.{is_watched, group_updates}
+use Rattle.group_monitors.proofs.Words.{◌≡◌, ◌++◌, [], cond, take, flat_map, is_watched, group_updates}
 use Rattle.group_monitors.proofs.told.tell_groups.Given as goal
 
 -- the updates so far

@@ -1,8 +1,4 @@
-use Rattle.std.proofs.Common.{◌≡◌}
-use Rattle.std.specs.Prelude.{take}
-use Rattle.std.specs.List.{flat_map}
-use Rattle.policy_audit.specs.Monitors.{updates_of}
-use Rattle.group_monitors.specs.Monitors.{target}
+use Rattle.group_monitors.proofs.Words.{◌≡◌, take, flat_map, updates_of, target}
 use Rattle.group_monitors.proofs.told.told_by.Given as goal
 
 -- the updates so far

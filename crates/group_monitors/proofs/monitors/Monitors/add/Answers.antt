@@ -1,5 +1,4 @@
-use Rattle.std.proofs.Common.{◌∙◌, nat_eq}
-use Rattle.indexmap.proofs.CallerLemmas.{insert_entry-new}
+use Rattle.group_monitors.proofs.Words.{◌∙◌, nat_eq, insert_entry-new}
 use Rattle.group_monitors.proofs.Found.{free_not_found}
 use Rattle.group_monitors.proofs.monitors.Monitors.add.Goals as goal
 

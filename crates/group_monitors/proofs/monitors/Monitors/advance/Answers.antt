@@ -1,7 +1,5 @@
-use Rattle.std.proofs.Common.{◌≡◌, ◌∙◌, sym, ap, nat_eq, Some}
-use Rattle.std.specs.Prelude.{is_some}
+use Rattle.group_monitors.proofs.Words.{◌≡◌, ◌∙◌, sym, ap, nat_eq, Some, is_some, monitor_of}
 use Rattle.std.proofs.lemmas.Map.Steps.{set_value_same}
-use Rattle.group_monitors.specs.Monitors.{monitor_of}
 use Rattle.group_monitors.proofs.Found.{own_found, other_found, none_found, moved}
 use Rattle.group_monitors.proofs.monitors.Monitors.advance.Goals as goal
 

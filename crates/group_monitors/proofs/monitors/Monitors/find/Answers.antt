@@ -1,4 +1,4 @@
-use Rattle.std.proofs.Common.{sym}
+use Rattle.group_monitors.proofs.Words.{sym}
 use Rattle.group_monitors.proofs.Found.{own_found, other_found, none_found}
 use Rattle.group_monitors.proofs.monitors.Monitors.find.Goals as goal
 use Rattle.group_monitors.proofs.monitors.Monitors.find.Goals.{in_default-via-in-Some+else-monitor-seat, in_default-via-in_default}

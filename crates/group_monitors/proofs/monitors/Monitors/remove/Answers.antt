@@ -1,6 +1,4 @@
-use Rattle.std.proofs.Common.{◌≡◌, ◌∙◌, ap, Some}
-use Rattle.std.specs.Prelude.{is_some}
-use Rattle.group_monitors.specs.Monitors.{monitor_of}
+use Rattle.group_monitors.proofs.Words.{◌≡◌, ◌∙◌, ap, Some, is_some, monitor_of}
 use Rattle.group_monitors.proofs.Found.{taken_away}
 use Rattle.group_monitors.proofs.monitors.Monitors.remove.Goals as goal
 
