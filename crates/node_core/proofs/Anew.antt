@@ -2,9 +2,10 @@
 use Rattle.node_core.proofs.Words.{Bool, List, None, Option, Some, ap, arith, cond, false, not, refl, sym, true, ℕ, [], ◌+◌, ◌==◌, ◌∙◌, ◌≡◌, eq-eqb}
 use Rattle.node_core.proofs.Words.{eqb-true, same, Pid, no_count, stopped_lists, checks, first_broken, History, creation, listed, IsNext, is_full}
 use Rattle.node_core.proofs.Words.{with_entry, Change, Accepted, Follows, Parts, ArePartings, follows_cleared, own_pid, Event, Reply, Rule}
+use Rattle.node_core.proofs.Words.{own_cookie}
 use Rattle.policy_audit.proofs.LivesNow.{lives_restarted}
 use Rattle.node_core.proofs.Entered.{made, accepted_now, next_now, sound_now}
-use Rattle.node_core.proofs.PartingChange.{partings_change}
+use Rattle.node_core.proofs.Partings.{partings_change}
 
 nothing : (b : Bool) → None ≡ cond {A = Option (List ℕ)} b None None
 nothing true = refl

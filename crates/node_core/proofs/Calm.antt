@@ -2,11 +2,12 @@
 use Rattle.node_core.proofs.Words.{Bool, List, ap, cond, false, length, not, refl, subst, sym, true, ℕ, [], ◌&&◌, ◌++◌, ◌+◌, ◌==◌, ◌||◌, ◌∙◌, ◌∷◌}
 use Rattle.node_core.proofs.Words.{◌≡◌, filter, unwrap_or, eqb-true, append-nil, is_empty, lie, no_change, and_left, and_right, IsChange, History}
 use Rattle.node_core.proofs.Words.{first_of, is_accepted, is_open, links, refusal_owes, waiting, running_scopes, IsNext, with_entry, is_whole, Entry}
-use Rattle.node_core.proofs.Words.{Accepted, Refused, Event, Reply, Rule, follows_other, AdmissionFollows, admission_words, refuses_calmly, Follows}
-use Rattle.node_core.proofs.Words.{Parts, LinksFollow, facts, link_words, ProcessesFollow, process_words, ScopesFollow, scope_words, reverse, ends}
-use Rattle.node_core.proofs.Words.{hears, tells, talk, owed, is_quiet, entry_rows, is_query}
+use Rattle.node_core.proofs.Words.{Accepted, Refused, Event, Reply, Rule, AdmissionFollows, admission_words, refuses_calmly, Follows, Parts}
+use Rattle.node_core.proofs.Words.{LinksFollow, facts, link_words, ProcessesFollow, process_words, ScopesFollow, scope_words, reverse, ends, hears}
+use Rattle.node_core.proofs.Words.{tells, talk, owed, is_quiet, entry_rows, is_query, None, AdmissionRules, checks, first_broken, answer, is_full}
+use Rattle.node_core.proofs.Words.{Spawned}
 use Rattle.group_monitors.specs.Follows.{concerns_monitors}
-use Rattle.node_core.proofs.Entered.{made, sound_now}
+use Rattle.node_core.proofs.Entered.{step_follows, made, accepted_now, next_now}
 
 -- all that the policy's words say of what a node keeps is the same after k as after h
 pub record IsSame (h k : History) : Type 0 where
@@ -16,14 +17,9 @@ pub record IsSame (h k : History) : Type 0 where
   pub links : link_words k ≡ link_words h
 
 pub follows_same : (h : History) (e : Entry) (parts : Parts) → IsSame h (with_entry h e) → (is_accepted e.verdict && concerns_monitors e.event) ≡ false → IsNext h e → Follows h parts → Follows (with_entry h e) parts
-follows_same h e parts same calm next t = record {
-  sound = sound_now h parts.limit e t.sound next;
-  admission = subst (λ w. AdmissionFollows w parts.admission) (sym same.admission) t.admission;
-  processes = subst (λ w. ProcessesFollow w parts.processes) (sym same.processes) t.processes;
-  scopes = subst (λ w. ScopesFollow w parts.scopes) (sym same.scopes) t.scopes;
-  links = subst (λ w. LinksFollow w parts.links) (sym same.links) t.links;
-  monitors = follows_other h e parts.monitors next.number t.monitors calm;
-}
+follows_same h e parts same calm next t = step_follows t next calm (subst (λ w. AdmissionFollows w parts.admission) (sym same.admission) t.admission)
+    (subst (λ w. ProcessesFollow w parts.processes) (sym same.processes) t.processes)
+    (subst (λ w. ScopesFollow w parts.scopes) (sym same.scopes) t.scopes) (subst (λ w. LinksFollow w parts.links) (sym same.links) t.links)
 
 pub nothing_behind : {A : Type 0} (xs ys : List A) → ys ≡ [] → xs ++ ys ≡ xs
 nothing_behind xs ys q = ap (λ zs. xs ++ zs) q ∙ append-nil xs
@@ -126,3 +122,26 @@ module _ (h : History) (seat : ℕ) (r : Reply) where
   query_watches (Event.Groups s) q = refl
   query_watches (Event.LocalGroups s) q = refl
   query_watches ev q = lie (sym q)
+
+-- ---- events that change no row and no link
+
+-- an accepted event that changes no row is the next entry
+pub quiet_next : (h : History) (seat : ℕ) (r : Reply) (ev : Event) → is_full h ≡ false → first_broken (checks h seat ev) ≡ None → answer h seat ev ≡ r → is_quiet ev ≡ true → IsNext h (made h seat ev (Accepted r) [])
+quiet_next h seat r ev space holds is quiet = next_now h seat ev space (Accepted r) [] (accepted_now h seat ev space r holds is) (quiet_change h seat r ev quiet)
+
+module _ (h : History) (seat : ℕ) (r : Reply) (parts : Parts) (t : Follows h parts) where
+  pub set_cookie_follows : (c : List ℕ) (rules : AdmissionRules) → IsNext h (made h seat (Event.SetCookie c) (Accepted r) []) → AdmissionFollows (admission_words (answered h seat (Event.SetCookie c) r)) rules → Follows (answered h seat (Event.SetCookie c) r) (record parts { admission = rules })
+  set_cookie_follows c rules next follows = step_follows t next refl follows t.processes t.scopes
+      (subst (λ w. LinksFollow w parts.links) (sym (same_links h (answered h seat (Event.SetCookie c) r) refl (λ l. refl) (λ l. append-nil (waiting h l)))) t.links)
+
+  pub set_cookie_for_follows : (n c : List ℕ) (rules : AdmissionRules) → IsNext h (made h seat (Event.SetCookieFor n c) (Accepted r) []) → AdmissionFollows (admission_words (answered h seat (Event.SetCookieFor n c) r)) rules → Follows (answered h seat (Event.SetCookieFor n c) r) (record parts { admission = rules })
+  set_cookie_for_follows n c rules next follows = step_follows t next refl follows t.processes t.scopes
+      (subst (λ w. LinksFollow w parts.links) (sym (same_links h (answered h seat (Event.SetCookieFor n c) r) refl (λ l. refl) (λ l. append-nil (waiting h l)))) t.links)
+
+  pub allow_follows : (ns : List (List ℕ)) (rules : AdmissionRules) → IsNext h (made h seat (Event.Allow ns) (Accepted r) []) → AdmissionFollows (admission_words (answered h seat (Event.Allow ns) r)) rules → Follows (answered h seat (Event.Allow ns) r) (record parts { admission = rules })
+  allow_follows ns rules next follows = step_follows t next refl follows t.processes t.scopes
+      (subst (λ w. LinksFollow w parts.links) (sym (same_links h (answered h seat (Event.Allow ns) r) refl (λ l. refl) (λ l. append-nil (waiting h l)))) t.links)
+
+  pub spawn_follows : (processes : Spawned) → IsNext h (made h seat Event.Spawn (Accepted r) []) → ProcessesFollow (process_words (answered h seat Event.Spawn r)) processes → Follows (answered h seat Event.Spawn r) (record parts { processes = processes })
+  spawn_follows processes next follows = step_follows t next refl t.admission follows t.scopes
+      (subst (λ w. LinksFollow w parts.links) (sym (same_links h (answered h seat Event.Spawn r) refl (λ l. refl) (λ l. append-nil (waiting h l)))) t.links)

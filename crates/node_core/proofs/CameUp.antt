@@ -4,6 +4,7 @@ use Rattle.node_core.proofs.Words.{◌==◌, ◌∙◌, ◌≡◌, option_map, o
 use Rattle.node_core.proofs.Words.{and_both, and_false, and_left, and_right, History, is_accepted, is_open, is_up, discovers, frame_owes, waiting}
 use Rattle.node_core.proofs.Words.{IsAnswered, IsLegal, with_entry, awaits, is_peer, is_whole, peer_of, present_link, Entry, older_of, IsLinkOf}
 use Rattle.node_core.proofs.Words.{LinksFollow, kept_numbers, link_words, KeptLink, narrow_frames, up_peer, agrees, number_of, Event, LinkState}
+use Rattle.node_core.proofs.Words.{arith}
 use Rattle.policy_audit.proofs.LinkFrames.{proved_links, replaced_by}
 use Rattle.policy_audit.proofs.LinksLeft.{proved_numbers}
 use Rattle.node_core.proofs.Found.{found_in, none_found}
@@ -101,16 +102,10 @@ module _ (h : History) (legal : IsLegal h) (j : ℕ) (body : List ℕ) (up : Lin
   k = with_entry h e
 
   stays : (l : ℕ) → stays_but (present_link up.peer h.entries) l ≡ true → (is_open l h.entries && replaced_by j up.peer h.entries l) ≡ false
-  stays l q = by (is_open l h.entries && replaced_by j up.peer h.entries l) refl
-    where
-      by : (b : Bool) → (is_open l h.entries && replaced_by j up.peer h.entries l) ≡ b → b ≡ false
-      by false w = refl
-      by true w = lie (sym q ∙ sym (replaced_is h legal up.peer j c.unwhole l) ∙ ap not w)
+  stays l q = grind (arith, replaced_is h legal up.peer j c.unwhole l)
 
   plain : (a b : Bool) → (a && b) ≡ false → (a && not b) ≡ a
-  plain false b w = refl
-  plain true false w = refl
-  plain true true w = lie w
+  plain a b w = grind arith
 
   open_still : (l : ℕ) → stays_but (present_link up.peer h.entries) l ≡ true → is_open l k.entries ≡ is_open l h.entries
   open_still l q = (proved_links h e answered yes j body is up.peer c.last c.known.peer.peer l).open_is ∙ plain (is_open l h.entries) (replaced_by j up.peer h.entries l) (stays l q)

@@ -1,20 +1,13 @@
 -- Cookies and allowed names after the events that set them.
-use Rattle.node_core.proofs.Words.{Bool, List, None, Option, Some, ap, arith, cond, false, length, nat_le, not, refl, subst, sym, true, ℕ, [], ◌++◌}
-use Rattle.node_core.proofs.Words.{◌<◌, ◌||◌, ◌∙◌, ◌∷◌, ◌≡◌, ◌≤◌, unwrap_or, le-leb, leb-true, same_decides, same_sym, same, AdmissionRules, lie}
-use Rattle.node_core.proofs.Words.{allow_list, History, creation, events, first_of, Reply, AdmissionFollows, admission_words, IsCalmFault, bytes_eq}
-use Rattle.node_core.proofs.Words.{insert_entry, max_peers, max_allowed, cookie_of, with_cookie_for, with_allowed, cookie, own_cookie, own_cookie_set}
-use Rattle.node_core.proofs.Words.{cookie_set_for, cookie_peers, different, CoreFault, AdmissionWords, IsCookieRefusal, Event, Rule}
+use Rattle.node_core.proofs.Words.{length-map, lt-leb, Bool, List, None, Option, Some, ap, arith, cond, false, length, nat_le, not, refl, subst, sym}
+use Rattle.node_core.proofs.Words.{true, ℕ, [], ◌++◌, ◌<◌, ◌||◌, ◌∙◌, ◌∷◌, ◌≡◌, ◌≤◌, unwrap_or, le-leb, same_decides, same_sym, same, AdmissionRules}
+use Rattle.node_core.proofs.Words.{lie, allow_list, History, creation, events, first_of, Reply, AdmissionFollows, admission_words, IsCalmFault}
+use Rattle.node_core.proofs.Words.{bytes_eq, insert_entry, max_peers, max_allowed, cookie_of, with_cookie_for, with_allowed, cookie, own_cookie}
+use Rattle.node_core.proofs.Words.{own_cookie_set, cookie_set_for, cookie_peers, different, CoreFault, AdmissionWords, IsCookieRefusal, Event, Rule}
 use Rattle.std.specs.Map.{lookup}
 use Rattle.admission_rules.proofs.Peers.{lookup_put, lookup_kept}
 use Rattle.node_core.proofs.Calm.{answered}
-use Rattle.node_core.proofs.Once.{entry_once, all_once, names_of, how_many_names, length_names}
-
-over_limit : (n m : ℕ) → m < n → nat_le n m ≡ false
-over_limit n m over = by (nat_le n m) refl
-  where
-    by : (b : Bool) → nat_le n m ≡ b → b ≡ false
-    by true e = (let within = leb-true n m e in absurd (omega (arith, over, within)))
-    by false e = refl
+use Rattle.node_core.proofs.Once.{entry_once, all_once, names_of, how_many_names}
 
 module _ (h : History) (rules : AdmissionRules) (t : AdmissionFollows (admission_words h) rules) where
   -- the cookie for a name is the policy's
@@ -26,8 +19,7 @@ module _ (h : History) (rules : AdmissionRules) (t : AdmissionFollows (admission
       ∙ apart (same n h.opening.name) (first_of (cookie_set_for n) (events h.entries))
     where
       apart : (b : Bool) (o : Option (List ℕ)) → cond b (own_cookie h) (unwrap_or (cond b None o) (own_cookie h)) ≡ cond b (own_cookie h) (unwrap_or o (own_cookie h))
-      apart true o = refl
-      apart false o = refl
+      apart b o = grind arith
 
   -- ---- the limits
 
@@ -35,13 +27,13 @@ module _ (h : History) (rules : AdmissionRules) (t : AdmissionFollows (admission
   names_counted ns = how_many_names (with_allowed rules ns).allowed (ns ++ allow_list h) (all_once ns rules.allowed (allow_list h) t.allowed)
 
   pub names_full : (ns : List (List ℕ)) → max_allowed < length (with_allowed rules ns).allowed → nat_le (different (ns ++ allow_list h)) 1024 ≡ false
-  names_full ns over = over_limit _ 1024 (let is = names_counted ns in omega (arith, is, over))
+  names_full ns over = lt-leb _ 1024 (let is = names_counted ns in omega (arith, is, over))
 
   pub names_fit : (ns : List (List ℕ)) → length (with_allowed rules ns).allowed ≤ max_allowed → nat_le (different (ns ++ allow_list h)) 1024 ≡ true
   names_fit ns few = le-leb _ 1024 (let is = names_counted ns in omega (arith, is, few))
 
   peers_counted : (n c : List ℕ) → length (insert_entry bytes_eq rules.peers n c) ≡ different (n ∷ cookie_peers h)
-  peers_counted n c = sym (length_names (insert_entry bytes_eq rules.peers n c)) ∙ how_many_names (names_of (insert_entry bytes_eq rules.peers n c)) (n ∷ cookie_peers h) (entry_once n c rules.peers (cookie_peers h) t.peers)
+  peers_counted n c = sym (length-map (insert_entry bytes_eq rules.peers n c) (λ p. p.0)) ∙ how_many_names (names_of (insert_entry bytes_eq rules.peers n c)) (n ∷ cookie_peers h) (entry_once n c rules.peers (cookie_peers h) t.peers)
 
   put_for : (n c : List ℕ) → Bool → AdmissionRules
   put_for n c b = cond b (record rules { cookie = c }) (record rules { peers = insert_entry bytes_eq rules.peers n c })
@@ -56,7 +48,7 @@ module _ (h : History) (rules : AdmissionRules) (t : AdmissionFollows (admission
     where
       by : (b : Bool) → max_peers < length (put_for n c b).peers → (b || nat_le (different (n ∷ cookie_peers h)) 1024) ≡ false
       by true more = absurd (omega (arith, few, more))
-      by false more = over_limit _ 1024 (let is = peers_counted n c in omega (arith, is, more))
+      by false more = lt-leb _ 1024 (let is = peers_counted n c in omega (arith, is, more))
 
   pub peers_fit : (n c : List ℕ) → length (with_cookie_for rules n c).peers ≤ max_peers → (same n h.opening.name || nat_le (different (n ∷ cookie_peers h)) 1024) ≡ true
   unfolding put_for
@@ -73,15 +65,7 @@ module _ (h : History) (rules : AdmissionRules) (t : AdmissionFollows (admission
 
   module _ (seat : ℕ) (r : Reply) where
     pub cookie_follows : (c : List ℕ) → AdmissionFollows (admission_words (answered h seat (Event.SetCookie c) r)) (record rules { cookie = c })
-    cookie_follows c = record {
-      own = t.own;
-      hidden = t.hidden;
-      creation = t.creation;
-      own_cookie = refl;
-      cookie = t.cookie;
-      peers = t.peers;
-      allowed = t.allowed;
-    }
+    cookie_follows c = record { own = t.own; hidden = t.hidden; creation = t.creation; own_cookie = refl; cookie = t.cookie; peers = t.peers; allowed = t.allowed }
 
     pub names_follow : (ns : List (List ℕ)) → AdmissionFollows (admission_words (answered h seat (Event.Allow ns) r)) (with_allowed rules ns)
     names_follow ns = record {

@@ -1,71 +1,71 @@
 -- What an early frame of the handshake makes of a node: it goes on, or its link ends.
-use Rattle.node_core.proofs.Words.{Bool, List, None, Some, ap, cond, false, length, nat_eq, position, refl, set, subst, sym, true, ℕ, [], ◌∙◌, ◌≡◌}
-use Rattle.node_core.proofs.Words.{◌≤◌, flat_map, option_map, option_to_list, Linked, Pending, lie, checks, first_broken, History, is_open}
-use Rattle.node_core.proofs.Words.{refusal_owes, IsNext, is_full, with_entry, awaits, is_last, is_whole, Accepted, Refused, Rule, follows_other}
-use Rattle.node_core.proofs.Words.{Follows, Parts, HaveEnded, Hears, is_handshake, rule_of, IsState, LinksFollow, facts, KeptLink, dial_beside}
-use Rattle.node_core.proofs.Words.{dialled_peer, narrow_frames, up_peer, ScopesFollow, LinkState, HaveGoneOn, state_checks, Event, Reply, Heard}
+use Rattle.node_core.proofs.Words.{is_name_up, is_dialling, is_dialled, Bool, List, None, Some, ap, cond, false, length, refl, set, subst, sym, true}
+use Rattle.node_core.proofs.Words.{ℕ, [], ◌∙◌, ◌≡◌, ◌≤◌, flat_map, option_map, option_to_list, Linked, Pending, lie, History, refusal_owes, IsNext}
+use Rattle.node_core.proofs.Words.{with_entry, awaits, is_last, is_whole, Accepted, Refused, Rule, Follows, Parts, HaveEnded, Hears, is_handshake}
+use Rattle.node_core.proofs.Words.{rule_of, LinksFollow, KeptLink, dial_beside, dialled_peer, narrow_frames, up_peer, ScopesFollow, LinkState}
+use Rattle.node_core.proofs.Words.{HaveGoneOn, Event, Reply, Heard}
 use Rattle.node_core.proofs.EarlyHeard.{is_early, early_rules, early_unlike, early_answered, early_goes, early_next, early_scopes}
 use Rattle.node_core.proofs.Emptied.{beside_same, moved_from}
-use Rattle.node_core.proofs.Entered.{made, sound_now}
+use Rattle.node_core.proofs.Entered.{step_follows, made}
 use Rattle.node_core.proofs.FrameRefused.{owes_alike, refused_next, refused_follows}
 use Rattle.node_core.proofs.HeardFrames.{early_state, is_there, few_frames, few_refused, early_goes_on}
 use Rattle.node_core.proofs.HeldLink.{IsHeld, held_is, held_state, held_out}
 use Rattle.node_core.proofs.MovedOn.{moved_follow}
-use Rattle.node_core.proofs.Pendings.{ups_are, dials_are}
-use Rattle.link_states.specs.Checks as state_checked
+use Rattle.node_core.proofs.LinkTests.{ups_are, dials_are}
+use Rattle.link_states.specs.Pending.{is_up as is_pending_up}
 
-module _ (h : History) (parts : Parts) (t : Follows h parts) (seat j p : ℕ) (body : List ℕ) (space : is_full h ≡ false) (opens : is_open j h.entries ≡ true) (unwhole : is_whole j h.entries ≡ false)
-    (inner : is_last (awaits j h.entries) ≡ false) (at : position (λ x. nat_eq x.number j) parts.links ≡ Some p) (v w next last : KeptLink) (s : LinkState) (held : IsHeld parts.links p v w next last s) where
-  its_state : IsState (facts h j) s
-  its_state = held_state h parts t j p at v w next last s held
-
+module _ {h : History} {parts : Parts} (t : Follows h parts) (seat : ℕ) (body : List ℕ) {j p : ℕ} {v w next last : KeptLink} {s : LinkState} (held : IsHeld h parts.links j p v w next last s)
+    (unwhole : is_whole j h.entries ≡ false) (inner : is_last (awaits j h.entries) ≡ false) where
   early : is_early s ≡ true
-  early = (early_state h j opens unwhole inner s its_state).0
+  early = (early_state h j held.opens unwhole inner s (held_state t held)).0
 
   pub handshakes : is_handshake s ≡ true
-  handshakes = (early_state h j opens unwhole inner s its_state).1
+  handshakes = (early_state h j held.opens unwhole inner s (held_state t held)).1
 
-  module _ (pending : Pending) (up : pending.up ≡ flat_map (λ x. option_to_list (up_peer x.state)) parts.links) (dials : pending.dials ≡ flat_map (λ x. option_to_list (dialled_peer x.state)) parts.links) where
+  module _ {links : List KeptLink} (these : links ≡ parts.links) (pending : Pending) (up : pending.up ≡ flat_map (λ x. option_to_list (up_peer x.state)) links)
+      (dials : pending.dials ≡ flat_map (λ x. option_to_list (dialled_peer x.state)) links) where
     pub early_never_up : (up_now : Linked) (frames : List (List ℕ)) → Hears parts.admission pending s body (Heard.Up up_now frames) → ⊥
     early_never_up up_now frames hears = lie (sym (early_goes_on parts.admission pending body s early (Heard.Up up_now frames) hears.1))
 
-    pub early_few : (now : LinkState) (frames : List (List ℕ)) (gives_up : Bool) → Hears parts.admission pending s body (Heard.On now frames gives_up) → length frames ≤ 2
-    early_few now frames gives_up hears = few_frames parts.admission pending body s (Heard.On now frames gives_up) hears.1
+    ups_so : (n : List ℕ) → is_pending_up pending n ≡ is_name_up n h.entries
+    ups_so n = ups_are h t.sound.legal parts.links t.links n pending (up ∙ ap (flat_map (λ (x : KeptLink). option_to_list (up_peer x.state))) these)
 
-    pub early_few_ended : (r : Rule) (frames : List (List ℕ)) → Hears parts.admission pending s body (Heard.Ended r frames) → length frames ≤ 2
-    early_few_ended r frames hears = subst (λ fs. length fs ≤ 2) (sym hears.3) (few_refused hears.0)
+    dials_so : (n : List ℕ) → is_dialled pending n ≡ is_dialling n h.entries
+    dials_so n = dials_are h t.sound.legal parts.links t.links n pending (dials ∙ ap (flat_map (λ (x : KeptLink). option_to_list (dialled_peer x.state))) these)
 
-    rules_are : first_broken (checks h seat (Event.Frame j body)) ≡ option_map rule_of (state_checked.first_broken (state_checks parts.admission pending s body))
-    rules_are = early_rules h parts.admission t.admission pending seat j body (λ n. ups_are h t.sound.legal parts.links t.links n pending up) (λ n. dials_are h t.sound.legal parts.links t.links n pending dials) s early its_state
+    module _ (now : LinkState) (frames : List (List ℕ)) (gives_up : Bool) (hears : Hears parts.admission pending s body (Heard.On now frames gives_up)) where
+      pub early_few : length frames ≤ 2
+      early_few = few_frames parts.admission pending body s (Heard.On now frames gives_up) hears.1
 
-    pub early_went_on : (now : LinkState) (frames : List (List ℕ)) (gives_up : Bool) → Hears parts.admission pending s body (Heard.On now frames gives_up) → (new : List KeptLink) → HaveGoneOn p now frames gives_up (set (set parts.links p w) p last) new
-        → IsNext h (made h seat (Event.Frame j body) (Accepted Reply.Done) []) × Follows (with_entry h (made h seat (Event.Frame j body) (Accepted Reply.Done) [])) (record parts { links = new })
-    early_went_on now frames gives_up hears new on =
-        let old = set (set parts.links p w) p last in
-        let out = held_out h parts t j p at v w next last s held in
-        let there = is_there h parts t j p at v in
-        let ups = λ (n : List ℕ). ups_are h t.sound.legal parts.links t.links n pending up in
-        let dial_eq = λ (n : List ℕ). dials_are h t.sound.legal parts.links t.links n pending dials in
-        let answered = early_answered h parts.admission t.admission pending seat j body ups dial_eq space s early its_state hears.0 in
-        let unlike = early_unlike h parts.admission t.admission pending seat j body ups dial_eq s early its_state in
-        let entered = early_next h parts.admission t.admission pending seat j body ups dial_eq answered t.sound.legal inner unlike in
-        let moves = early_goes h parts.admission t.admission pending seat j body ups dial_eq answered parts.links t.links t.sound.legal old s early its_state hears.0
-        (λ none. beside_same parts.links p there.0 w.room old out v (ap dialled_peer (sym (held_is h parts t j p at v w next last s held)) ∙ none)) (Heard.On now frames gives_up) hears.1 in (
-          entered,
-          record {
-            sound = sound_now h parts.limit _ t.sound entered;
-            admission = t.admission;
-            processes = t.processes;
-            scopes = subst (λ w. ScopesFollow w parts.scopes) (sym (early_scopes h parts.admission t.admission pending seat j body ups dial_eq answered t.sound.legal inner unlike)) t.scopes;
-            links = subst (LinksFollow _) (sym (moved_from parts.links p there.0 w.room old out (λ link. now) (narrow_frames frames) (λ link. cond gives_up (dial_beside now old) None) new on v))
-                (moved_follow h _ t.sound.legal j now (narrow_frames frames) (cond gives_up (dial_beside now old) None) moves parts.links t.links p v there.0 there.1 on.room);
-            monitors = follows_other h _ parts.monitors entered.number t.monitors refl;
-          },
-        )
+      pub early_went_on : (new : List KeptLink) → HaveGoneOn p now frames gives_up (set (set parts.links p w) p last) new
+          → IsNext h (made h seat (Event.Frame j body) (Accepted Reply.Done) []) × Follows (with_entry h (made h seat (Event.Frame j body) (Accepted Reply.Done) [])) (record parts { links = new })
+      early_went_on new on =
+          let old = set (set parts.links p w) p last in
+          let out = held_out t held in
+          let there = is_there h parts t j p held.at v in
+          let answered = early_answered h parts.admission t.admission pending seat j body ups_so dials_so held.space s early (held_state t held) hears.0 in
+          let unlike = early_unlike h parts.admission t.admission pending seat j body ups_so dials_so s early (held_state t held) in
+          let entered = early_next h parts.admission t.admission pending seat j body ups_so dials_so answered t.sound.legal inner unlike in
+          let moves = early_goes h parts.admission t.admission pending seat j body ups_so dials_so answered parts.links t.links t.sound.legal old s early (held_state t held) hears.0
+          (λ none. beside_same parts.links p there.0 w.room old out v (ap dialled_peer (sym (held_is t held)) ∙ none)) (Heard.On now frames gives_up) hears.1 in (
+            entered,
+            step_follows t entered refl t.admission t.processes
+                (subst (λ w. ScopesFollow w parts.scopes) (sym (early_scopes h parts.admission t.admission pending seat j body ups_so dials_so answered t.sound.legal inner unlike)) t.scopes)
+                (subst (LinksFollow _) (sym (moved_from parts.links p there.0 w.room old out (λ link. now) (narrow_frames frames) (λ link. cond gives_up (dial_beside now old) None) new on v))
+                (moved_follow h _ t.sound.legal j now (narrow_frames frames) (cond gives_up (dial_beside now old) None) moves parts.links t.links p v there.0 there.1 on.room)),
+          )
 
-    pub early_broke : (r : Rule) (frames : List (List ℕ)) → Hears parts.admission pending s body (Heard.Ended r frames) → (new : List KeptLink) → HaveEnded p frames (set (set parts.links p w) p last) new
-        → IsNext h (made h seat (Event.Frame j body) (Refused r) []) × Follows (with_entry h (made h seat (Event.Frame j body) (Refused r) [])) (record parts { links = new })
-    early_broke r frames hears new ends =
-        let there = is_there h parts t j p at v in
-        let entered = refused_next h seat j body r space (rules_are ∙ ap (option_map rule_of) hears.2 ∙ ap Some (sym hears.1)) in
-        (entered, refused_follows h seat j body r opens unwhole (narrow_frames frames) (ap refusal_owes hears.1 ∙ owes_alike hears.0 ∙ ap narrow_frames (sym hears.3)) parts t p v there.0 there.1 entered w.room (set (set parts.links p w) p last) new (held_out h parts t j p at v w next last s held) frames refl ends)
+    module _ (r : Rule) (frames : List (List ℕ)) (hears : Hears parts.admission pending s body (Heard.Ended r frames)) where
+      pub early_few_ended : length frames ≤ 2
+      early_few_ended = subst (λ fs. length fs ≤ 2) (sym hears.3) (few_refused hears.0)
+
+      pub early_broke : (new : List KeptLink) → HaveEnded p frames (set (set parts.links p w) p last) new
+          → IsNext h (made h seat (Event.Frame j body) (Refused r) []) × Follows (with_entry h (made h seat (Event.Frame j body) (Refused r) [])) (record parts { links = new })
+      early_broke new ends =
+          let there = is_there h parts t j p held.at v in
+          let rules = early_rules h parts.admission t.admission pending seat j body ups_so dials_so s early (held_state t held) in
+          let entered = refused_next h seat j body r held.space (rules ∙ ap (option_map rule_of) hears.2 ∙ ap Some (sym hears.1)) in (
+            entered,
+            refused_follows h seat j body r held.opens unwhole (narrow_frames frames) (ap refusal_owes hears.1 ∙ owes_alike hears.0 ∙ ap narrow_frames (sym hears.3)) parts t p v there.0 there.1
+                entered w.room (set (set parts.links p w) p last) new (held_out t held) frames refl ends,
+          )

@@ -6,7 +6,7 @@ use Rattle.node_core.proofs.Words.{frame_checks, History, is_dialling, is_open, 
 use Rattle.node_core.proofs.Words.{up_answer, verdict, with_entry, awaits, is_last, is_name_up, Entry, Accepted, Rule, AdmissionFollows}
 use Rattle.node_core.proofs.Words.{admission_words, heard_named, is_handshake, rule_of, IsState, LinksFollow, facts, link_words, KeptLink}
 use Rattle.node_core.proofs.Words.{dial_beside, dialled_peer, narrow_frames, scope_words, is_node_name, ack_frame, status_owed, reply_owed, Dialled}
-use Rattle.node_core.proofs.Words.{Awaited, Heard, LinkState, state_checks, accepted_as, Event, Reply}
+use Rattle.node_core.proofs.Words.{Awaited, Heard, LinkState, state_checks, accepted_as, Event, Reply, not-true}
 use Rattle.link_states.specs.Named.{named_by}
 use Rattle.link_states.specs.Pending.{is_up}
 use Rattle.policy_audit.proofs.Finished.{is_message}
@@ -33,17 +33,13 @@ passes : (b : Bool) (r : StateRule) (x : Option StateRule) → cond (not b) (Som
 passes true r x q = (refl, q)
 passes false r x q = no_value q
 
-unbroken_not : (b : Bool) → not b ≡ true → b ≡ false
-unbroken_not true n = sym n
-unbroken_not false n = refl
-
 -- an accepted Name isn't the own one
 not_own : (rules : AdmissionRules) (pending : Pending) (f : Name) → state_checked.first_broken (state_checked.name_checks rules pending (Some f)) ≡ None → same f.name rules.own ≡ false
 not_own rules pending f holds =
     let flags = passes (has_bit 24 f.flags) _ _ holds in
     let fixed = passes (not (has_bit 33 f.flags)) _ _ flags.1 in
     let proper = passes (is_node_name f.name) _ _ fixed.1 in
-    unbroken_not (same f.name rules.own) (passes (not (same f.name rules.own)) _ _ proper.1).0
+    not-true (same f.name rules.own) (passes (not (same f.name rules.own)) _ _ proper.1).0
 
 no_rule : (x : Option StateRule) (y : Option Rule) → y ≡ option_map rule_of x → x ≡ None → y ≡ None
 no_rule x y q none = q ∙ ap (option_map rule_of) none

@@ -3,6 +3,9 @@ use Rattle.node_core.proofs.Words.{Bool, Err, List, None, Ok, Option, Some, ap, 
 use Rattle.node_core.proofs.Words.{true, ℕ, [], ◌<◌, ◌∙◌, ◌∷◌, ◌≡◌, ◌≤◌, ltb-true, IsChange, checks, first_broken, History, events, is_accepted, past}
 use Rattle.node_core.proofs.Words.{IsAnswered, IsNext, answer, is_full, next_number, verdict, with_entry, Change, Entry, Verdict, Accepted, Refused}
 use Rattle.node_core.proofs.Words.{Event, Reply, Rule, how_many, Moment, present, is_restart, is_spawn, judged, IsSound, CoreFault, Follows, Parts}
+use Rattle.node_core.proofs.Words.{◌&&◌, AdmissionFollows, AdmissionRules, KeptLink, LinksFollow, ProcessesFollow, Running, ScopesFollow, Spawned}
+use Rattle.node_core.proofs.Words.{admission_words, follows_other, link_words, process_words, scope_words}
+use Rattle.group_monitors.specs.Follows.{concerns_monitors}
 use Rattle.node_core.specs.Step.{Steps}
 
 -- the entry of an event with this verdict and this change
@@ -53,6 +56,19 @@ sound_now h limit e sound next = record {
   fits = sound.fits;
   few = let space = next.room in let is = sound.limit_is in omega (arith, space, is);
   few_spawned = let more = spawned_more e h.entries in let so_far = sound.few_spawned in omega (arith, more, so_far);
+}
+
+-- all that is kept follows the next entry, where no monitor is concerned
+pub step_follows : {h : History} {parts : Parts} {e : Entry} → Follows h parts → IsNext h e → (is_accepted e.verdict && concerns_monitors e.event) ≡ false → {a : AdmissionRules} {p : Spawned} {rs : List Running} {ks : List KeptLink}
+    → AdmissionFollows (admission_words (with_entry h e)) a → ProcessesFollow (process_words (with_entry h e)) p → ScopesFollow (scope_words (with_entry h e)) rs → LinksFollow (link_words (with_entry h e)) ks
+    → Follows (with_entry h e) (record parts { admission = a; processes = p; scopes = rs; links = ks })
+step_follows {h} {parts} {e} t next calm a p s l = record {
+  sound = sound_now h parts.limit e t.sound next;
+  admission = a;
+  processes = p;
+  scopes = s;
+  links = l;
+  monitors = follows_other h e parts.monitors next.number t.monitors calm;
 }
 
 -- what follows the history that was opened follows the one that was given

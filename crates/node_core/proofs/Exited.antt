@@ -3,15 +3,15 @@ use Rattle.node_core.proofs.Words.{Bool, List, None, Option, Some, ap, arith, co
 use Rattle.node_core.proofs.Words.{◌==◌, ◌∙◌, ◌∷◌, ◌≡◌, AllByRecursion, AllZip, filter, flat_map, same_decides, same, same_pid, Pid, count_after_exit}
 use Rattle.node_core.proofs.Words.{Table, stopped_lists, told_numbers, and_left, IsChange, checks, first_broken, local_rows, heard, told, History}
 use Rattle.node_core.proofs.Words.{creation, listed, OutFrame, waiting, wide, is_local, lives, IsAnswered, IsNext, is_full, with_entry, Change, Entry}
-use Rattle.node_core.proofs.Words.{Accepted, Rule, follows_other, Follows, Parts, all_frames, exit_frames, link_words, KeptLink, IsParting, rows_left}
-use Rattle.node_core.proofs.Words.{Spawned, IsRunningOf, is_number, scope_words, if_told, lives_of, exited_links, Running, AreExitsTold, count_but}
-use Rattle.node_core.proofs.Words.{HasParted, Message, Event, Reply}
+use Rattle.node_core.proofs.Words.{Accepted, Rule, Follows, Parts, all_frames, exit_frames, link_words, KeptLink, IsParting, rows_left, Spawned}
+use Rattle.node_core.proofs.Words.{IsRunningOf, is_number, scope_words, if_told, lives_of, exited_links, Running, AreExitsTold, count_but, HasParted}
+use Rattle.node_core.proofs.Words.{Message, Event, Reply}
 use Rattle.policy_audit.proofs.LivesNow.{exits_more, lives_exited, spawned_exited}
 use Rattle.policy_audit.proofs.RowsAfter.{exited_rows}
 use Rattle.node_core.specs.declared.changes.Part.{Part}
-use Rattle.node_core.proofs.Entered.{made, accepted_now, answered_now, next_now, sound_now}
+use Rattle.node_core.proofs.Entered.{step_follows, made, accepted_now, answered_now, next_now}
 use Rattle.node_core.proofs.Moved.{told_frames}
-use Rattle.node_core.proofs.PartingChange.{partings_change}
+use Rattle.node_core.proofs.Partings.{partings_change}
 use Rattle.node_core.proofs.RowsGone.{left_are}
 use Rattle.node_core.proofs.Starting.{names}
 use Rattle.node_core.proofs.Told.{told_follow}
@@ -74,14 +74,10 @@ module _ (h : History) (seat : ℕ) (parts : Parts) (t : Follows h parts) (p : P
       now_listed : (u f : List ℕ) (x : Pid) → listed exited u f x ≡ cond (same_pid x p) 0 (listed h u f x)
       now_listed u f x = exited_rows h exit_entry its refl p refl u f x
 
-      nothing : (b : Bool) → cond {A = ℕ} b 0 0 ≡ 0
-      nothing true = refl
-      nothing false = refl
-
       exit_change : IsChange h exited cs
       exit_change = partings_change h exited (λ u. count_after_exit u p)
           (λ r a g x. ap (cond (same_pid x p) 0) (a.rows g x) ∙ sym (now_listed r.scope g x))
-          parts.scopes t.scopes (λ s none g x. now_listed s g x ∙ ap (cond (same_pid x p) 0) (stopped_lists h s g x none) ∙ nothing (same_pid x p)) cs
+          parts.scopes t.scopes (λ s none g x. now_listed s g x ∙ ap (cond (same_pid x p) 0) (stopped_lists h s g x none) ∙ (grind arith)) cs
           (record { all = told_so.all; each = told_so.each; some = told_so.some })
 
     pub exit_next : is_full h ≡ false → is_number p.number parts.processes.live ≡ true → IsNext h exit_entry
@@ -105,21 +101,17 @@ module _ (h : History) (seat : ℕ) (parts : Parts) (t : Follows h parts) (p : P
         pub exit_follows : (new : List Running) → AllZip (HasParted away) parts.scopes new → (q : Spawned) → q.spawned ≡ parts.processes.spawned
             → ((n : ℕ) → is_number n q.live ≡ cond (nat_eq p.number n) false (is_number n parts.processes.live)) → length q.live + 1 ≡ length parts.processes.live
             → Follows exited (record parts { scopes = new; links = links; processes = q })
-        exit_follows new z q same live fewer = record {
-          sound = sound_now h parts.limit exit_entry t.sound next;
-          admission = t.admission;
-          processes = record {
-            spawned = same ∙ t.processes.spawned ∙ sym (spawned_exited h exit_entry it refl p refl);
-            live = λ n. live n ∙ ap (λ b. cond (nat_eq p.number n) false b) (t.processes.live n) ∙ sym (lives_exited h exit_entry it refl p refl n);
-            count = (let was = t.processes.count in let more = exits_more h exit_entry it refl p refl in let still = spawned_exited h exit_entry it refl p refl in omega (arith, was, more, still, fewer));
-          };
-          scopes = record {
-            running = zipped_map (λ r. r.scope) (λ r. r.scope) parts.scopes new (zipped_weaker (HasParted away) (λ r q. q.scope ≡ r.scope) (λ r q x. x.scope) parts.scopes new z) ∙ t.scopes.running;
-            each = zipped_each (HasParted away) (IsRunningOf (scope_words h)) (IsRunningOf (scope_words exited)) parted parts.scopes new z t.scopes.each;
-          };
-          links = told_follow (link_words h) (link_words exited) (all_frames parts.scopes told_so.all) (λ l. refl)
-              (told_numbers h exit_entry it refl refl (λ l. (exited_links h exit_entry it refl p refl l).kept_is)) parts.links links
-              (λ l near. ap (λ f. waiting h l ++ f) (ap (policy_frames l) (sym t.scopes.running) ∙ frames_are l parts.scopes told_so.all t.scopes.each told_so.each))
-              told_so.links t.links;
-          monitors = follows_other h exit_entry parts.monitors next.number t.monitors refl;
-        }
+        exit_follows new z q same live fewer = step_follows t next refl t.admission
+            (record {
+              spawned = same ∙ t.processes.spawned ∙ sym (spawned_exited h exit_entry it refl p refl);
+              live = λ n. live n ∙ ap (λ b. cond (nat_eq p.number n) false b) (t.processes.live n) ∙ sym (lives_exited h exit_entry it refl p refl n);
+              count = (let was = t.processes.count in let more = exits_more h exit_entry it refl p refl in let still = spawned_exited h exit_entry it refl p refl in omega (arith, was, more, still, fewer));
+            })
+            (record {
+              running = zipped_map (λ r. r.scope) (λ r. r.scope) parts.scopes new (zipped_weaker (HasParted away) (λ r q. q.scope ≡ r.scope) (λ r q x. x.scope) parts.scopes new z) ∙ t.scopes.running;
+              each = zipped_each (HasParted away) (IsRunningOf (scope_words h)) (IsRunningOf (scope_words exited)) parted parts.scopes new z t.scopes.each;
+            })
+            (told_follow (link_words h) (link_words exited) (all_frames parts.scopes told_so.all) (λ l. refl)
+            (told_numbers h exit_entry it refl refl (λ l. (exited_links h exit_entry it refl p refl l).kept_is)) parts.links links
+            (λ l near. ap (λ f. waiting h l ++ f) (ap (policy_frames l) (sym t.scopes.running) ∙ frames_are l parts.scopes told_so.all t.scopes.each told_so.each))
+            told_so.links t.links)

@@ -1,6 +1,6 @@
 -- Elements that pass a test, and their places.
-use Rattle.node_core.proofs.Words.{Bool, List, None, Some, ap, arith, cond, false, find, is_some, length, map, nat_lt, not, position, refl, subst}
-use Rattle.node_core.proofs.Words.{suc, sym, true, ℕ, [], ◌+◌, ◌<◌, ◌||◌, ◌∙◌, ◌∷◌, ◌≡◌, AllByRecursion, list_any, lt-ltb, ltb-true, position-Some}
+use Rattle.node_core.proofs.Words.{Bool, List, None, Some, ap, arith, cond, false, find, is_some, length, map, nat_lt, position, refl, subst, suc}
+use Rattle.node_core.proofs.Words.{sym, true, ℕ, [], ◌+◌, ◌<◌, ◌||◌, ◌∙◌, ◌∷◌, ◌≡◌, AllByRecursion, list_any, lt-ltb, ltb-true, position-Some}
 use Rattle.node_core.proofs.Words.{no_value, ltb-false, position_or_len}
 
 -- the value in an option
@@ -23,20 +23,12 @@ module _ {A : Type 0} (test : A → Bool) where
   -- where nothing is found, nothing passes
   pub none_found : (xs : List A) → find test xs ≡ None → list_any test xs ≡ false
   none_found [] q = refl
-  none_found (y ∷ ys) q = by (test y) refl (none_found ys)
-    where
-      by : (b : Bool) → test y ≡ b → (find test ys ≡ None → list_any test ys ≡ false) → (test y || list_any test ys) ≡ false
-      by true e later = no_value (sym (first_is true y ys e) ∙ q)
-      by false e later = ap (λ b. b || list_any test ys) e ∙ later (sym (first_is false y ys e) ∙ q)
+  none_found (y ∷ ys) q = grind (arith, none_found ys)
 
   -- where one is found, one passes
   pub some_found : (xs : List A) (x : A) → find test xs ≡ Some x → list_any test xs ≡ true
   some_found [] x q = no_value (sym q)
-  some_found (y ∷ ys) x q = by (test y) refl (some_found ys x)
-    where
-      by : (b : Bool) → test y ≡ b → (find test ys ≡ Some x → list_any test ys ≡ true) → (test y || list_any test ys) ≡ true
-      by true e later = ap (λ b. b || list_any test ys) e
-      by false e later = ap (λ b. b || list_any test ys) e ∙ later (sym (first_is false y ys e) ∙ q)
+  some_found (y ∷ ys) x q = grind (arith, some_found ys x)
 
 -- a test of a value of the elements
 pub any_map : {A B : Type 0} (test : B → Bool) (f : A → B) (xs : List A) → list_any test (map f xs) ≡ list_any (λ x. test (f x)) xs
@@ -46,30 +38,16 @@ any_map test f (x ∷ xs) = ap (λ b. test (f x) || b) (any_map test f xs)
 -- ---- places
 
 one_less : (n m : ℕ) → nat_lt (1 + n) (suc m) ≡ nat_lt n m
-one_less n m = by (nat_lt (1 + n) (suc m)) refl (nat_lt n m) refl
-  where
-    by : (a : Bool) → nat_lt (1 + n) (suc m) ≡ a → (b : Bool) → nat_lt n m ≡ b → a ≡ b
-    by true p true q = refl
-    by false p false q = refl
-    by true p false q = absurd (let less = ltb-true (1 + n) (suc m) p in let more = ltb-false n m q in omega (arith, less, more))
-    by false p true q = absurd (let less = ltb-true n m q in let more = ltb-false (1 + n) (suc m) p in omega (arith, less, more))
+one_less n m = grind (arith, ltb-true, lt-ltb, ltb-false)
 
 -- a place is found where one passes
 module _ {A : Type 0} (test : A → Bool) where
   place_by : (xs : List A) → (nat_lt (position_or_len test xs) (length xs) ≡ list_any test xs)
   place_by [] = refl
-  place_by (x ∷ xs) = by (test x) refl (place_by xs)
-    where
-      by : (b : Bool) → test x ≡ b → nat_lt (position_or_len test xs) (length xs) ≡ list_any test xs → nat_lt (position_or_len test (x ∷ xs)) (length (x ∷ xs)) ≡ (test x || list_any test xs)
-      by true q later = ap (λ b. nat_lt (cond (not b) (1 + position_or_len test xs) 0) (suc (length xs))) q ∙ lt-ltb 0 (suc (length xs)) (omega arith) ∙ sym (ap (λ b. b || list_any test xs) q)
-      by false q later = ap (λ b. nat_lt (cond (not b) (1 + position_or_len test xs) 0) (suc (length xs))) q ∙ one_less (position_or_len test xs) (length xs) ∙ later ∙ sym (ap (λ b. b || list_any test xs) q)
+  place_by (x ∷ xs) = grind (arith, place_by xs, one_less (position_or_len test xs) (length xs), lt-ltb 0 (suc (length xs)))
 
   pub place_found : (xs : List A) → is_some (position test xs) ≡ list_any test xs
-  place_found xs = one (nat_lt (position_or_len test xs) (length xs)) ∙ place_by xs
-    where
-      one : (b : Bool) → is_some {T = ℕ} (cond b (Some (position_or_len test xs)) None) ≡ b
-      one true = refl
-      one false = refl
+  place_found xs = rw (← place_by xs) (grind arith)
 
   -- where no place is found, none passes
   pub no_place : (xs : List A) → position test xs ≡ None → list_any test xs ≡ false

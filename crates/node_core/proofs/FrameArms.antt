@@ -1,9 +1,9 @@
 -- What the state of a kept link says of the frame that it awaits.
-use Rattle.node_core.proofs.Words.{Bool, List, None, Some, ap, cond, false, get_or, nat_eq, not, position, refl, subst, sym, true, ℕ, ◌&&◌, ◌||◌, ◌∙◌}
-use Rattle.node_core.proofs.Words.{◌≡◌, is_empty, Linked, and_both, always, checks, first_broken, frame_checks, History, is_open, is_up, waiting}
-use Rattle.node_core.proofs.Words.{IsLegal, awaits, is_last, is_whole, refuses_calmly, IsState, LinkFacts, LinksFollow, facts, link_words, KeptLink}
-use Rattle.node_core.proofs.Words.{◌⊎◌, inl, inr, Introduced, LinkState, Event, Rule}
-use Rattle.node_core.proofs.Places.{link_at, not_kept}
+use Rattle.node_core.proofs.Words.{List, Some, ap, cond, false, get_or, nat_eq, not, position, refl, subst, sym, true, ℕ, ◌&&◌, ◌||◌, ◌∙◌, ◌≡◌}
+use Rattle.node_core.proofs.Words.{Linked, and_both, always, checks, first_broken, frame_checks, History, is_open, is_up, IsLegal, awaits, is_last}
+use Rattle.node_core.proofs.Words.{is_whole, refuses_calmly, IsState, LinkFacts, LinksFollow, facts, link_words, KeptLink, ◌⊎◌, inl, inr, Introduced}
+use Rattle.node_core.proofs.Words.{LinkState, Event, Rule}
+use Rattle.node_core.proofs.KeptOn.{link_at}
 
 -- a frame is awaited that isn't the last
 pub record IsEarly (f : LinkFacts) : Type 0 where
@@ -12,14 +12,11 @@ pub record IsEarly (f : LinkFacts) : Type 0 where
   pub inner : is_last f.awaited ≡ false
 
 pub early_by : (f : LinkFacts) (s : LinkState) → IsState f s → ((x : Introduced) → s ≡ LinkState.Reply x → ⊥) → ((x : Introduced) → s ≡ LinkState.Ack x → ⊥) → ((x : Linked) → s ≡ LinkState.Up x → ⊥) → (s ≡ LinkState.Ended → ⊥) → IsEarly f
-early_by f (LinkState.Name c) t a b u e = record { opens = t.0.open_now; unwhole = t.0.whole; inner = ap is_last t.0.awaited }
-early_by f (LinkState.Answer x) t a b u e = record { opens = t.0.open_now; unwhole = t.0.whole; inner = ap is_last t.0.awaited }
 early_by f (LinkState.Reply x) t a b u e = absurd (a x refl)
-early_by f (LinkState.Status x) t a b u e = record { opens = t.0.open_now; unwhole = t.0.whole; inner = ap is_last t.0.awaited }
-early_by f (LinkState.Challenge x) t a b u e = record { opens = t.0.open_now; unwhole = t.0.whole; inner = ap is_last t.0.awaited }
 early_by f (LinkState.Ack x) t a b u e = absurd (b x refl)
 early_by f (LinkState.Up x) t a b u e = absurd (u x refl)
 early_by f LinkState.Ended t a b u e = absurd (e refl)
+early_by f s t a b u e = record { opens = t.0.open_now; unwhole = t.0.whole; inner = ap is_last t.0.awaited }
 
 -- the last frame of a side is awaited
 pub record IsAtLast (f : LinkFacts) : Type 0 where
@@ -38,14 +35,6 @@ pub closed_calm : (h : History) (l : ℕ) (body : List ℕ) → is_open l h.entr
 closed_calm h l body closed = ap (λ b. (not b || is_whole l h.entries) && true) closed
 
 module _ (h : History) (legal : IsLegal h) (kept : List KeptLink) (t : LinksFollow (link_words h) kept) (l : ℕ) where
-  -- no link of that number is kept
-  pub none_open : position (λ x. nat_eq x.number l) kept ≡ None → is_open l h.entries ≡ false
-  none_open none = by (is_open l h.entries) (not_kept h legal kept t l none)
-    where
-      by : (b : Bool) → (b || not (is_empty (waiting h l))) ≡ false → b ≡ false
-      by true q = q
-      by false q = refl
-
   -- the state of the link at its place
   pub state_at : (p : ℕ) (x : KeptLink) → position (λ y. nat_eq y.number l) kept ≡ Some p → x ≡ get_or kept p x → (s : LinkState) → s ≡ x.state → IsState (facts h l) s
   state_at p x found is s same =

@@ -1,16 +1,12 @@
 -- What an accepted frame makes of what is said of its own link and of the others.
-use Rattle.node_core.proofs.Words.{Bool, List, None, Option, ap, cond, false, refl, sym, true, ℕ, [], ◌++◌, ◌==◌, ◌∙◌, ◌∷◌, ◌≡◌, filter}
-use Rattle.node_core.proofs.Words.{option_map_or, eq-eqb, Name, History, is_accepted, is_open, named_by, OutFrame, frame_owes, own_challenge, waiting}
-use Rattle.node_core.proofs.Words.{IsAnswered, with_entry, awaits, challenge_in, is_last, peer_of, Entry, IsIntroduced, IsState, facts, kept_numbers}
-use Rattle.node_core.proofs.Words.{given, Awaited, entry_link, IsOnward, framed_numbers, LinkState, Awaits, IsPeer, Event}
+use Rattle.node_core.proofs.Words.{Bool, List, None, Option, ap, cond, false, refl, sym, true, ℕ, ◌++◌, ◌==◌, ◌∙◌, ◌≡◌, filter, option_map_or, eq-eqb}
+use Rattle.node_core.proofs.Words.{Name, History, is_accepted, is_open, named_by, OutFrame, frame_owes, own_challenge, waiting, IsAnswered}
+use Rattle.node_core.proofs.Words.{with_entry, awaits, challenge_in, is_last, peer_of, Entry, IsIntroduced, IsState, facts, kept_numbers, given}
+use Rattle.node_core.proofs.Words.{Awaited, entry_link, IsOnward, framed_numbers, LinkState, Awaits, IsPeer, Event}
 use Rattle.policy_audit.proofs.Onward.{frame_open}
 use Rattle.policy_audit.proofs.LinkFrames.{handshake_links}
-use Rattle.node_core.proofs.KeptOn.{facts_same}
+use Rattle.node_core.proofs.KeptOn.{facts_same, filter_all}
 use Rattle.node_core.proofs.MovedOn.{AreMoves, stays_but}
-
-pub every_one : {A : Type 0} (xs : List A) → filter (λ x. true) xs ≡ xs
-every_one [] = refl
-every_one (x ∷ xs) = ap (λ ys. x ∷ ys) (every_one xs)
 
 -- of a list the same stay by tests that agree
 pub same_stay : (test more : ℕ → Bool) (xs : List ℕ) → ((l : ℕ) → test l ≡ more l) → filter test xs ≡ filter more xs
@@ -57,5 +53,5 @@ module _ (h : History) (e : Entry) (answered : IsAnswered h e) (yes : is_accepte
       frames = frames;
       others = λ l apart stays. other_facts l apart (inner_open l);
       waits = λ l apart stays. (handshake_links h e answered yes j body is inner unnamed l).waiting_is ∙ ap (λ b. cond b (waiting h l ++ frame_owes h l body (awaits l h.entries)) (waiting h l)) apart;
-      numbers = framed_numbers h e yes answered j body is inner unnamed ∙ sym (every_one (kept_numbers h));
+      numbers = framed_numbers h e yes answered j body is inner unnamed ∙ sym (filter_all (λ x. true) (λ x. refl) (kept_numbers h));
     }

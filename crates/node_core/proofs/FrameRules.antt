@@ -1,18 +1,17 @@
 -- The rules for a frame of the handshake, as a state knows them, are those of the policy.
-use Rattle.node_core.proofs.Words.{Bool, List, None, Option, Some, ap, cond, false, length, not, refl, sym, true, ℕ, [], ◌&&◌, ◌==◌, ◌||◌, ◌∙◌, ◌∷◌}
-use Rattle.node_core.proofs.Words.{◌≡◌, option_map, option_map_or, same_decides, same_sym, is_empty, has_bit, is_among, same, text_cmp, Challenge}
-use Rattle.node_core.proofs.Words.{Name, ReplyFrame, StatusWord, AdmissionRules, is_dialled, Pending, StateRule, lie, allow_list, always}
-use Rattle.node_core.proofs.Words.{first_broken, History, is_dialling, digest_for, own_challenge, is_name_up, is_peer, peer_of, Rule}
-use Rattle.node_core.proofs.Words.{AdmissionFollows, admission_words, rule_of, is_gt, is_node_name, cookie_of, allowed, cookie, name_checks}
-use Rattle.node_core.proofs.Words.{answer_checks, status_checks, challenge_checks, digest_checks, is_peer_up, is_simultaneous}
+use Rattle.node_core.proofs.Words.{Bool, List, None, Option, Some, ap, cond, false, not, refl, sym, true, ℕ, [], ◌&&◌, ◌∙◌, ◌∷◌, ◌≡◌, option_map}
+use Rattle.node_core.proofs.Words.{option_map_or, same_sym, has_bit, same, text_cmp, Challenge, Name, ReplyFrame, StatusWord, AdmissionRules}
+use Rattle.node_core.proofs.Words.{is_dialled, Pending, StateRule, lie, always, first_broken, History, is_dialling, digest_for, own_challenge}
+use Rattle.node_core.proofs.Words.{is_name_up, is_peer, peer_of, Rule, AdmissionFollows, admission_words, rule_of, is_gt, is_node_name, cookie_of}
+use Rattle.node_core.proofs.Words.{allowed, cookie, name_checks, answer_checks, status_checks, challenge_checks, digest_checks, is_peer_up}
+use Rattle.node_core.proofs.Words.{is_simultaneous}
 use Rattle.std.proofs.Common.{bytes_eq}
 use Rattle.handshake_frames.specs.declared.frame.AckFrame.{AckFrame}
 use Rattle.cookie_digest.specs.Digest.{digest_of}
 use Rattle.link_states.specs.Pending.{is_up}
 use Rattle.node_core.proofs.Cookies.{cookie_is}
-use Rattle.node_core.proofs.Moves.{none_is_empty}
-use Rattle.node_core.proofs.Once.{same_names}
 use Rattle.link_states.specs.Checks as state
+use Rattle.node_core.proofs.LinkTests.{allowed_by}
 
 -- one check before others
 pub further : (b c : Bool) (r : StateRule) (x : Option Rule) (y : Option StateRule) → b ≡ c → x ≡ option_map rule_of y → cond (not b) (Some (rule_of r)) x ≡ option_map rule_of (cond (not c) (Some r) y)
@@ -22,18 +21,6 @@ further true false r x y q others = lie q
 further false true r x y q others = lie (sym q)
 
 module _ (h : History) (rules : AdmissionRules) (t : AdmissionFollows (admission_words h) rules) where
-  -- nobody is named in either list, or somebody in both
-  empty_too : (xs ys : List (List ℕ)) → ((n : List ℕ) → is_among n xs ≡ is_among n ys) → is_empty ys ≡ is_empty xs
-  empty_too [] [] q = refl
-  empty_too (x ∷ xs) (y ∷ ys) q = refl
-  empty_too [] (y ∷ ys) q = lie (sym (q y ∙ ap (λ b. b || is_among y ys) ((same_decides y y).1 refl)))
-  empty_too (x ∷ xs) [] q = lie (sym (ap (λ b. b || is_among x xs) ((same_decides x x).1 refl)) ∙ q x)
-
-  allowed_is : (n : List ℕ) → allowed h n ≡ state.allows rules n
-  allowed_is n =
-      let same_ones = same_names rules.allowed (allow_list h) t.allowed in
-      (λ i. (empty_too rules.allowed (allow_list h) same_ones ∙ none_is_empty rules.allowed (length rules.allowed == 0) refl) i || sym (same_ones n) i)
-
   -- the digest that is awaited of a peer
   pub digest_is : (l : ℕ) (n : List ℕ) (c : ℕ) → peer_of l h.entries ≡ Some n → digest_for h l c ≡ digest_of (cookie_of rules n) c
   digest_is l n c of = ap (λ x. digest_of (option_map_or (cookie h) x []) c) of ∙ ap (λ k. digest_of k c) (sym (cookie_is h rules t n))
@@ -83,6 +70,6 @@ module _ (h : History) (rules : AdmissionRules) (t : AdmissionFollows (admission
       (further (not (has_bit 33 f.flags)) (not (has_bit 33 f.flags)) StateRule.DynamicName _ _ refl
       (further (is_node_name f.name) (is_node_name f.name) StateRule.BadName _ _ refl
       (further (not (same f.name h.opening.name)) (not (bytes_eq f.name rules.own)) StateRule.OwnName _ _ (ap (λ o. not (same f.name o)) (sym t.own))
-      (further (allowed h f.name) (state.allows rules f.name) StateRule.NotAllowed _ _ (allowed_is f.name)
+      (further (allowed h f.name) (state.allows rules f.name) StateRule.NotAllowed _ _ (sym (allowed_by h rules t f.name))
       (further (not (is_simultaneous h f.name)) (not (state.outranks rules pending f.name)) StateRule.Simultaneous None None
       (λ i. not (not (sym (ups f.name) i) && sym (dials f.name) i && is_gt (text_cmp (sym t.own i) f.name))) refl)))))

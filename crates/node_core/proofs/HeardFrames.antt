@@ -1,16 +1,14 @@
 -- A frame of the handshake, as the node hears it: the state of its link, and what is heard of it.
-use Rattle.node_core.proofs.Words.{Bool, List, None, Option, Some, ap, arith, cond, false, get_or, length, nat_eq, not, position, refl, subst, sym}
-use Rattle.node_core.proofs.Words.{true, ℕ, [], ◌+◌, ◌<◌, ◌==◌, ◌||◌, ◌∙◌, ◌∷◌, ◌≡◌, ◌≤◌, list_any, option_map, is_empty, Challenge, Name}
-use Rattle.node_core.proofs.Words.{challenge_frame, name_frame, reply_frame, status_of, ReplyFrame, StatusWord, AdmissionRules, found, is_dialled}
-use Rattle.node_core.proofs.Words.{Pending, StateRule, lie, no_value, kept_among, History, is_open, is_kept, waiting, awaits, is_last, is_whole}
-use Rattle.node_core.proofs.Words.{Follows, Parts, heard_named, is_handshake, IsLinkOf, IsState, facts, link_words, KeptLink, if◌then◌else◌}
-use Rattle.node_core.proofs.Words.{position_from, refusal_frames, status_owed, reply_owed, ack_owed, introduced, linked, Heard, LinkState}
-use Rattle.node_core.proofs.Words.{accepted_as, Named}
-use Rattle.std.proofs.lemmas.Iterator.Adapters.{position_from-zero}
+use Rattle.node_core.proofs.Words.{if◌then◌else◌, Bool, List, None, Option, Some, ap, arith, false, get_or, length, nat_eq, position, refl, subst}
+use Rattle.node_core.proofs.Words.{sym, true, ℕ, ◌<◌, ◌∙◌, ◌≡◌, ◌≤◌, option_map, Challenge, Name, challenge_frame, name_frame, reply_frame, status_of}
+use Rattle.node_core.proofs.Words.{ReplyFrame, StatusWord, AdmissionRules, found, is_dialled, Pending, StateRule, lie, no_value, History, is_open}
+use Rattle.node_core.proofs.Words.{awaits, is_last, is_whole, Follows, Parts, heard_named, is_handshake, IsLinkOf, IsState, facts, link_words}
+use Rattle.node_core.proofs.Words.{KeptLink, refusal_frames, status_owed, reply_owed, ack_owed, introduced, linked, Heard, LinkState, accepted_as}
+use Rattle.node_core.proofs.Words.{Named}
 use Rattle.link_states.specs.Frames.{greeting_owed}
 use Rattle.link_states.specs.Pending.{is_up}
 use Rattle.node_core.proofs.EarlyHeard.{is_early}
-use Rattle.node_core.proofs.Found.{any_map, some_is}
+use Rattle.node_core.proofs.Found.{some_is}
 use Rattle.node_core.proofs.KeptOn.{each_at, place_is}
 use Rattle.link_states.specs.Named as says
 
@@ -18,35 +16,23 @@ use Rattle.link_states.specs.Named as says
 
 module _ (h : History) (j : ℕ) (opens : is_open j h.entries ≡ true) where
   pub early_state : is_whole j h.entries ≡ false → is_last (awaits j h.entries) ≡ false → (s : LinkState) → IsState (facts h j) s → (is_early s ≡ true) × (is_handshake s ≡ true)
-  early_state unwhole inner (LinkState.Name c) a = (refl, refl)
-  early_state unwhole inner (LinkState.Answer s) a = (refl, refl)
-  early_state unwhole inner (LinkState.Status dial) a = (refl, refl)
-  early_state unwhole inner (LinkState.Challenge dial) a = (refl, refl)
   early_state unwhole inner (LinkState.Reply s) a = lie (sym (ap is_last a.0.awaited) ∙ inner)
   early_state unwhole inner (LinkState.Ack s) a = lie (sym (ap is_last a.0.awaited) ∙ inner)
   early_state unwhole inner (LinkState.Up up) a = lie (sym a.0.whole ∙ unwhole)
   early_state unwhole inner LinkState.Ended a = lie (sym opens ∙ a)
+  early_state unwhole inner s a = (refl, refl)
 
   pub last_state : is_last (awaits j h.entries) ≡ true → (s : LinkState) → IsState (facts h j) s → (is_early s ≡ false) × (is_handshake s ≡ true)
   last_state last (LinkState.Reply s) a = (refl, refl)
   last_state last (LinkState.Ack s) a = (refl, refl)
-  last_state last (LinkState.Name c) a = lie (sym last ∙ ap is_last a.0.awaited)
-  last_state last (LinkState.Answer s) a = lie (sym last ∙ ap is_last a.0.awaited)
-  last_state last (LinkState.Status dial) a = lie (sym last ∙ ap is_last a.0.awaited)
-  last_state last (LinkState.Challenge dial) a = lie (sym last ∙ ap is_last a.0.awaited)
-  last_state last (LinkState.Up up) a = lie (sym last ∙ ap is_last a.0.awaited)
   last_state last LinkState.Ended a = lie (sym opens ∙ a)
+  last_state last s a = lie (sym last ∙ ap is_last a.0.awaited)
 
 -- a state of the handshake is of a link that isn't whole
 pub unwhole_state : (h : History) (j : ℕ) (s : LinkState) → is_handshake s ≡ true → IsState (facts h j) s → is_whole j h.entries ≡ false
-unwhole_state h j (LinkState.Name c) q a = a.0.whole
-unwhole_state h j (LinkState.Answer s) q a = a.0.whole
-unwhole_state h j (LinkState.Reply s) q a = a.0.whole
-unwhole_state h j (LinkState.Status s) q a = a.0.whole
-unwhole_state h j (LinkState.Challenge s) q a = a.0.whole
-unwhole_state h j (LinkState.Ack s) q a = a.0.whole
 unwhole_state h j (LinkState.Up up) q a = lie (sym q)
 unwhole_state h j LinkState.Ended q a = lie (sym q)
+unwhole_state h j s q a = a.0.whole
 
 -- the link at the place of a number
 module _ (h : History) (parts : Parts) (t : Follows h parts) (j p : ℕ) (at : position (λ x. nat_eq x.number j) parts.links ≡ Some p) (d : KeptLink) where
@@ -145,24 +131,3 @@ module _ (rules : AdmissionRules) (pending : Pending) (body : List ℕ) where
   last_comes_up (LinkState.Up up) late r q = no_value (sym q)
   last_comes_up LinkState.Ended late r q = no_value (sym q)
   last_comes_up s late r q = lie late
-
--- ---- where no link has the number
-
-none_from : {A : Type 0} (test : A → Bool) (i : ℕ) (xs : List A) → position_from test i xs ≡ None → list_any test xs ≡ false
-none_from test i [] q = refl
-none_from test i (x ∷ xs) q = by (test x) (none_from test (i + 1) xs) q
-  where
-    by : (b : Bool) → (position_from test (i + 1) xs ≡ None → list_any test xs ≡ false) → cond b (Some i) (position_from test (i + 1) xs) ≡ None → (b || list_any test xs) ≡ false
-    by true later q = no_value q
-    by false later q = later q
-
-pub closed_without : (h : History) (parts : Parts) → Follows h parts → (j : ℕ) → position (λ x. nat_eq x.number j) parts.links ≡ None → is_open j h.entries ≡ false
-closed_without h parts t j none = by (is_open j h.entries) refl
-  where
-    unkept : is_kept h j ≡ false
-    unkept = kept_among h t.sound.legal j ∙ ap (list_any (λ (n : ℕ). n == j)) (sym t.links.numbers) ∙ any_map (λ (n : ℕ). n == j) (λ (x : KeptLink). x.number) parts.links
-        ∙ none_from (λ (x : KeptLink). nat_eq x.number j) 0 parts.links (sym (position_from-zero (λ (x : KeptLink). nat_eq x.number j) parts.links) ∙ none)
-
-    by : (b : Bool) → is_open j h.entries ≡ b → b ≡ false
-    by false q = refl
-    by true q = lie (sym (ap (λ b. b || not (is_empty (waiting h j))) q) ∙ unkept)

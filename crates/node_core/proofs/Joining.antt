@@ -1,16 +1,16 @@
 -- Own processes that join groups.
-use Rattle.node_core.proofs.Words.{All, Bool, List, None, Option, Some, ap, arith, cond, false, get_or, length, map, nat_le, not, position, refl, set}
-use Rattle.node_core.proofs.Words.{suc, sym, true, zero, ℕ, [], ◌&&◌, ◌++◌, ◌+◌, ◌<◌, ◌==◌, ◌∙◌, ◌∷◌, ◌≡◌, ◌≤◌, list_all, le-leb, leb-true}
-use Rattle.node_core.proofs.Words.{same_decides, listing, mentions, same, pid_cmp, Pid, Message, local_total, all_hold, lie, no_value, unbroken}
-use Rattle.node_core.proofs.Words.{told_numbers, and_left, and_right, checks, first_broken, local_rows, row, History, creation, listed, waiting, wide}
-use Rattle.node_core.proofs.Words.{is_local, is_running, lives, IsAnswered, IsNext, is_full, with_entry, Change, Entry, Accepted, Rule, follows_other}
-use Rattle.node_core.proofs.Words.{IsCalmFault, Follows, Parts, link_words, KeptLink, IsMoved, ProcessesFollow, process_words, Spawned, IsRunningOf}
-use Rattle.node_core.proofs.Words.{is_number, scope_words, if_among, said_to, max_rows, count_after_join, lives_of, joined_links, Running, CoreFault}
-use Rattle.node_core.proofs.Words.{IsJoinRefusal, own_checks, Event, Reply}
+use Rattle.node_core.proofs.Words.{lt-leb, All, Bool, List, None, Option, Some, ap, arith, cond, false, get_or, length, map, nat_le, not, position}
+use Rattle.node_core.proofs.Words.{refl, set, suc, sym, true, zero, ℕ, [], ◌&&◌, ◌++◌, ◌+◌, ◌<◌, ◌==◌, ◌∙◌, ◌∷◌, ◌≡◌, ◌≤◌, list_all, le-leb, leb-true}
+use Rattle.node_core.proofs.Words.{same_decides, listing, mentions, same, pid_cmp, Pid, Message, local_total, all_hold, unbroken, told_numbers}
+use Rattle.node_core.proofs.Words.{and_left, and_right, checks, first_broken, local_rows, row, History, creation, listed, waiting, wide, is_local}
+use Rattle.node_core.proofs.Words.{is_running, lives, IsAnswered, IsNext, is_full, with_entry, Change, Entry, Accepted, Rule, IsCalmFault, Follows}
+use Rattle.node_core.proofs.Words.{Parts, link_words, KeptLink, IsMoved, ProcessesFollow, process_words, Spawned, IsRunningOf, is_number, scope_words}
+use Rattle.node_core.proofs.Words.{if_among, said_to, max_rows, count_after_join, lives_of, joined_links, Running, CoreFault, IsJoinRefusal}
+use Rattle.node_core.proofs.Words.{own_checks, Event, Reply}
 use Rattle.policy_audit.proofs.RowsAfter.{joined_rows}
-use Rattle.node_core.proofs.Entered.{made, accepted_now, answered_now, next_now, sound_now}
-use Rattle.node_core.proofs.OwnTotal.{rows_total}
-use Rattle.node_core.proofs.Placed.{follows_there, runs_there, scope_is}
+use Rattle.node_core.proofs.Entered.{step_follows, made, accepted_now, answered_now, next_now}
+use Rattle.node_core.proofs.RowsGone.{rows_total}
+use Rattle.node_core.proofs.MessagePlaces.{scope_here, runs_here}
 use Rattle.node_core.proofs.Told.{told_follow}
 use Rattle.node_core.proofs.Moved.{moved_change, moved_frames, moved_scopes}
 
@@ -26,20 +26,6 @@ own_nodes h n is [] local k d l = absurd (omega (arith, l))
 own_nodes h n is (q ∷ qs) local zero d l = (same_decides q.node h.opening.name).0 (and_left (same q.node h.opening.name) (q.creation == creation h) (and_left (is_local h q) (list_all (is_local h) qs) local)) ∙ sym is
 own_nodes h n is (q ∷ qs) local (suc k) d l = own_nodes h n is qs (and_right (is_local h q) (list_all (is_local h) qs) local) k d (omega (arith, l))
 
-too_many : (n m : ℕ) → m < n → nat_le n m ≡ false
-too_many n m over = by (nat_le n m) refl
-  where
-    by : (b : Bool) → nat_le n m ≡ b → b ≡ false
-    by true e = (let within = leb-true n m e in absurd (omega (arith, over, within)))
-    by false e = refl
-
-more_yet : (n m : ℕ) → nat_le m 4096 ≡ false → nat_le (n + m) 4096 ≡ false
-more_yet n m q = by (nat_le (n + m) 4096) refl
-  where
-    by : (b : Bool) → nat_le (n + m) 4096 ≡ b → b ≡ false
-    by true e = (let within = leb-true (n + m) 4096 e in lie (sym (le-leb m 4096 (omega (arith, within))) ∙ q))
-    by false e = refl
-
 -- ---- the rules of a Join
 
 module _ (h : History) (seat : ℕ) (s g : List ℕ) (ps : List Pid) where
@@ -53,14 +39,7 @@ module _ (h : History) (seat : ℕ) (s g : List ℕ) (ps : List Pid) where
   pub join_own : is_running h s ≡ true → (r : Rule) → first_broken (own_checks h ps) ≡ Some r → first_broken (checks h seat (Event.Join s g ps)) ≡ Some r
   join_own runs r q =
       ap (λ b. join_broken b (list_all (is_local h) ps) (list_all (lives h) ps) (nat_le (length (local_rows h s) + length ps) 4096)) runs
-      ∙ by (list_all (is_local h) ps) (list_all (lives h) ps) (nat_le (length ps) 4096) refl q
-    where
-      by : (local alive short : Bool) → nat_le (length ps) 4096 ≡ short → cond (not local) (Some Rule.NotLocal) (cond (not alive) (Some Rule.NoProcess) (cond (not short) (Some Rule.RowsFull) None)) ≡ Some r
-          → join_broken true local alive (nat_le (length (local_rows h s) + length ps) 4096) ≡ Some r
-      by false alive short e q = q
-      by true false short e q = q
-      by true true false e q = ap (join_broken true true true) (more_yet (length (local_rows h s)) (length ps) e) ∙ q
-      by true true true e q = no_value (sym q)
+      ∙ grind (arith, leb-true, le-leb, lt-leb)
 
   module _ (runs : is_running h s ≡ true) (q : first_broken (own_checks h ps) ≡ None) where
     pub all_local : list_all (is_local h) ps ≡ true
@@ -70,7 +49,7 @@ module _ (h : History) (seat : ℕ) (s g : List ℕ) (ps : List Pid) where
     all_alive = unbroken (list_all (lives h) ps) (all_hold (own_checks h ps) q).1.0
 
     join_full : 4096 < length (local_rows h s) + length ps → first_broken (checks h seat (Event.Join s g ps)) ≡ Some Rule.RowsFull
-    join_full many = λ i. join_broken (runs i) (all_local i) (all_alive i) (too_many (length (local_rows h s) + length ps) 4096 many i)
+    join_full many = λ i. join_broken (runs i) (all_local i) (all_alive i) (lt-leb (length (local_rows h s) + length ps) 4096 many i)
 
     pub join_holds : length (local_rows h s) + length ps ≤ 4096 → first_broken (checks h seat (Event.Join s g ps)) ≡ None
     join_holds few = λ i. join_broken (runs i) (all_local i) (all_alive i) (le-leb (length (local_rows h s) + length ps) 4096 few i)
@@ -83,15 +62,15 @@ more_rows rows held more is over = omega (arith, is, over)
 
 -- ---- a Join
 
-module _ (h : History) (seat : ℕ) (parts : Parts) (t : Follows h parts) (s g : List ℕ) (ps : List Pid) (p : ℕ) (here : position (λ r. same r.scope s) parts.scopes ≡ Some p) (a : Running) (at : a ≡ get_or parts.scopes p a) where
+module _ {h : History} (seat : ℕ) {parts : Parts} (t : Follows h parts) (s g : List ℕ) (ps : List Pid) {p : ℕ} (here : position (λ r. same r.scope s) parts.scopes ≡ Some p) {a : Running} (at : a ≡ get_or parts.scopes p a) where
   abbrev there : IsRunningOf (scope_words h) a
-  there = follows_there h parts.scopes t.scopes s p here a at
+  there = (scope_here t s here at).running
 
   abbrev its_scope : a.scope ≡ s
-  its_scope = scope_is h parts.scopes t.scopes s p here a at
+  its_scope = (scope_here t s here at).named
 
   runs : is_running h s ≡ true
-  runs = runs_there h parts.scopes t.scopes s p here a at
+  runs = runs_here t s p here
 
   own_total : length (local_rows h s) ≡ local_total a.table
   own_total = rows_total h s a its_scope there t.sound.legal
@@ -124,7 +103,7 @@ module _ (h : History) (seat : ℕ) (parts : Parts) (t : Follows h parts) (s g :
       others_now : (u f : List ℕ) (q : Pid) → same u s ≡ false → listed h u f q ≡ listed joined_now u f q
       others_now u f q other = sym (joined_rows h joined_entry its refl s g ps refl u f q ∙ ap (λ c. cond c (listed h u f q + cond (same f g) (mentions q ps) 0) (listed h u f q)) other)
 
-    pub join_next : is_full h ≡ false → first_broken (own_checks h ps) ≡ None → local_total a.table + length ps ≤ max_rows → IsNext h joined_entry
+    join_next : is_full h ≡ false → first_broken (own_checks h ps) ≡ None → local_total a.table + length ps ≤ max_rows → IsNext h joined_entry
     join_next space q few =
         let holds = join_holds h seat s g ps runs q (let is = own_total in omega (arith, is, few)) in
         let verdict = accepted_now h seat (Event.Join s g ps) space Reply.Done holds refl in
@@ -132,17 +111,15 @@ module _ (h : History) (seat : ℕ) (parts : Parts) (t : Follows h parts) (s g :
         next_now h seat (Event.Join s g ps) space (Accepted Reply.Done) cs verdict
         (moved_change h seat parts t s p here a b at said_joined (count_after_join a.table g ps) links cs moved joined_now (rows_now its) (others_now its))
 
-    pub join_follows : IsNext h joined_entry → Follows joined_now (record parts { scopes = set parts.scopes p b; links = links })
+    join_follows : IsNext h joined_entry → Follows joined_now (record parts { scopes = set parts.scopes p b; links = links })
     join_follows next =
         let its : IsAnswered h joined_entry = record { room = next.room; number = next.number; verdict = next.verdict } in
-        record {
-          sound = sound_now h parts.limit joined_entry t.sound next;
-          admission = t.admission;
-          processes = t.processes;
-          scopes = moved_scopes h seat parts t s p here a b at said_joined (count_after_join a.table g ps) links cs moved joined_now (rows_now its) (others_now its) refl refl (λ l u. refl) (λ l u. refl);
-          links = told_follow (link_words h) (link_words joined_now) (if_among (said_to a.told.items said_joined) (wide said_joined)) (λ l. refl)
-              (told_numbers h joined_entry its refl refl (λ l. (joined_links h joined_entry its refl s g ps refl l).kept_is)) parts.links links
-              (λ l near. ap (λ f. waiting h l ++ f) (moved_frames h seat parts t s p here a b at said_joined (count_after_join a.table g ps) links cs moved Message.Join (map (row g) (listing pid_cmp (λ q. mentions q ps) ps)) l))
-              moved.links t.links;
-          monitors = follows_other h joined_entry parts.monitors next.number t.monitors refl;
-        }
+        step_follows t next refl t.admission t.processes
+        (moved_scopes h seat parts t s p here a b at said_joined (count_after_join a.table g ps) links cs moved joined_now (rows_now its) (others_now its) refl refl (λ l u. refl) (λ l u. refl))
+        (told_follow (link_words h) (link_words joined_now) (if_among (said_to a.told.items said_joined) (wide said_joined)) (λ l. refl)
+        (told_numbers h joined_entry its refl refl (λ l. (joined_links h joined_entry its refl s g ps refl l).kept_is)) parts.links links
+        (λ l near. ap (λ f. waiting h l ++ f) (moved_frames h seat parts t s p here a b at said_joined (count_after_join a.table g ps) links cs moved Message.Join (map (row g) (listing pid_cmp (λ q. mentions q ps) ps)) l))
+        moved.links t.links)
+
+    pub joined : is_full h ≡ false → first_broken (own_checks h ps) ≡ None → local_total a.table + length ps ≤ max_rows → IsNext h joined_entry × Follows joined_now (record parts { scopes = set parts.scopes p b; links = links })
+    joined space q few = (join_next space q few, join_follows (join_next space q few))

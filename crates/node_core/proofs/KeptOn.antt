@@ -2,7 +2,8 @@
 use Rattle.node_core.proofs.Words.{Bool, List, Some, ap, arith, cond, false, get_or, length, map, nat_eq, nat_lt, position, refl, set, subst, suc}
 use Rattle.node_core.proofs.Words.{sym, true, zero, ℕ, [], ◌<◌, ◌∙◌, ◌∷◌, ◌≡◌, AllByRecursion, filter, list_all, option_map_or, eqb-true, ltb-true}
 use Rattle.node_core.proofs.Words.{position-Some, and_left, and_right, History, is_open, challenge_in, IsLinkOf, LinkWords, LinksFollow, facts}
-use Rattle.node_core.proofs.Words.{KeptLink, IsSameLink, Climbs}
+use Rattle.node_core.proofs.Words.{KeptLink, IsSameLink, Climbs, None, is_some, list_any, kept_among, is_kept, IsLegal, link_words, map-id}
+use Rattle.node_core.proofs.Found.{any_map, place_found}
 
 -- what is said of a link is the same, where its words are
 pub facts_same : (h k : History) → k.opening ≡ h.opening → (l : ℕ) → IsSameLink l h.entries k.entries → is_open l k.entries ≡ is_open l h.entries → facts k l ≡ facts h l
@@ -22,12 +23,7 @@ facts_same h k opening l it opens = λ i. record {
 module _ (w v : LinkWords) (f : KeptLink → KeptLink) (stays : ℕ → Bool) (same : (x : KeptLink) → (f x).number ≡ x.number) where
   numbers_on : (kept : List KeptLink) → map (λ x. x.number) (filter (λ x. stays x.number) (map f kept)) ≡ filter stays (map (λ x. x.number) kept)
   numbers_on [] = refl
-  numbers_on (x ∷ xs) = ap (λ n. map (λ y. y.number) (cond (stays n) (f x ∷ filter (λ y. stays y.number) (map f xs)) (filter (λ y. stays y.number) (map f xs)))) (same x) ∙ by (stays x.number) (numbers_on xs)
-    where
-      by : (b : Bool) → map (λ y. y.number) (filter (λ y. stays y.number) (map f xs)) ≡ filter stays (map (λ y. y.number) xs)
-          → map (λ y. y.number) (cond b (f x ∷ filter (λ y. stays y.number) (map f xs)) (filter (λ y. stays y.number) (map f xs))) ≡ cond b (x.number ∷ filter stays (map (λ y. y.number) xs)) (filter stays (map (λ y. y.number) xs))
-      by true later = λ i. same x i ∷ later i
-      by false later = later
+  numbers_on (x ∷ xs) = grind (arith, same x, numbers_on xs)
 
   each_on : ((x : KeptLink) → stays x.number ≡ true → IsLinkOf w x → IsLinkOf v (f x)) → (kept : List KeptLink) → AllByRecursion (IsLinkOf w) kept → AllByRecursion (IsLinkOf v) (filter (λ x. stays x.number) (map f kept))
   each_on on [] a = tt
@@ -62,11 +58,7 @@ each_at P (x ∷ xs) (suc p) d a less = each_at P xs p d a.1 (omega (arith, less
 module _ (w v : LinkWords) (y : KeptLink) (here : IsLinkOf v y) (on : (x : KeptLink) → nat_eq x.number y.number ≡ false → IsLinkOf w x → IsLinkOf v x) where
   above : (n : ℕ) (xs : List KeptLink) → list_all (λ m. nat_lt n m) (map (λ x. x.number) xs) ≡ true → n ≡ y.number → AllByRecursion (IsLinkOf w) xs → AllByRecursion (IsLinkOf v) xs
   above n [] l e a = tt
-  above n (x ∷ xs) l e a = (on x (apart (nat_eq x.number y.number) refl) a.0, above n xs (and_right (nat_lt n x.number) (list_all (λ m. nat_lt n m) (map (λ z. z.number) xs)) l) e a.1)
-    where
-      apart : (b : Bool) → nat_eq x.number y.number ≡ b → b ≡ false
-      apart false q = refl
-      apart true q = absurd (let less : n < x.number = ltb-true n x.number (and_left (nat_lt n x.number) (list_all (λ m. nat_lt n m) (map (λ z. z.number) xs)) l) in let is : x.number ≡ y.number = eqb-true x.number y.number q in omega (arith, less, is, e))
+  above n (x ∷ xs) l e a = (on x (grind (arith, eqb-true x.number y.number, ltb-true n x.number)) a.0, above n xs (and_right (nat_lt n x.number) (list_all (λ m. nat_lt n m) (map (λ z. z.number) xs)) l) e a.1)
 
   below : (n : ℕ) (xs : List KeptLink) (p : ℕ) (d : KeptLink) → list_all (λ m. nat_lt n m) (map (λ x. x.number) xs) ≡ true → p < length xs → n < (get_or xs p d).number
   below n [] p d l less = absurd (omega (arith, less))
@@ -76,11 +68,9 @@ module _ (w v : LinkWords) (y : KeptLink) (here : IsLinkOf v y) (on : (x : KeptL
   changed : (xs : List KeptLink) (p : ℕ) (d : KeptLink) → Climbs (map (λ x. x.number) xs) → AllByRecursion (IsLinkOf w) xs → p < length xs → y.number ≡ (get_or xs p d).number → AllByRecursion (IsLinkOf v) (set xs p y)
   changed [] p d c a less is = tt
   changed (x ∷ xs) zero d c a less is = (here, above x.number xs c.0 (sym is) a.1)
-  changed (x ∷ xs) (suc p) d c a less is = (on x (apart (nat_eq x.number y.number) refl) a.0, changed xs p d c.1 a.1 (omega (arith, less)) is)
-    where
-      apart : (b : Bool) → nat_eq x.number y.number ≡ b → b ≡ false
-      apart false q = refl
-      apart true q = absurd (let above_it : x.number < (get_or xs p d).number = below x.number xs p d c.0 (omega (arith, less)) in let same : x.number ≡ y.number = eqb-true x.number y.number q in omega (arith, above_it, same, is))
+  changed (x ∷ xs) (suc p) d c a less is =
+      let above_it = below x.number xs p d c.0 (omega (arith, less)) in
+      (on x (grind (arith, eqb-true x.number y.number, above_it)) a.0, changed xs p d c.1 a.1 (omega (arith, less)) is)
 
   same_numbers : (xs : List KeptLink) (p : ℕ) (d : KeptLink) → p < length xs → y.number ≡ (get_or xs p d).number → map (λ x. x.number) (set xs p y) ≡ map (λ x. x.number) xs
   same_numbers [] p d less is = refl
@@ -92,3 +82,38 @@ module _ (w v : LinkWords) (y : KeptLink) (here : IsLinkOf v y) (on : (x : KeptL
     numbers = same_numbers kept p d less is ∙ t.numbers ∙ sym numbers;
     each = changed kept p d (subst Climbs (sym t.numbers) climbs) t.each less is;
   }
+
+-- ---- the place of a kept link, and links that are taken away
+
+-- the links that stay follow, where each that stays does
+pub stay_follow : (w v : LinkWords) (stays : ℕ → Bool) (kept : List KeptLink) → LinksFollow w kept → v.numbers ≡ filter stays w.numbers → ((x : KeptLink) → stays x.number ≡ true → IsLinkOf w x → IsLinkOf v x) → LinksFollow v (filter (λ x. stays x.number) kept)
+stay_follow w v stays kept t numbers on = subst (λ xs. LinksFollow v (filter (λ x. stays x.number) xs)) (map-id kept) (all_follow w v (λ x. x) stays (λ x. refl) kept t numbers on)
+
+-- one that doesn't stay may be changed before
+pub filter_set : {A : Type 0} (test : A → Bool) (xs : List A) (i : ℕ) (d y : A) → i < length xs → test (get_or xs i d) ≡ false → test y ≡ false → filter test (set xs i y) ≡ filter test xs
+filter_set test [] i d y less was is = refl
+filter_set test (x ∷ xs) zero d y less was is = ap (λ b. cond b (y ∷ filter test xs) (filter test xs)) is ∙ sym (ap (λ b. cond b (x ∷ filter test xs) (filter test xs)) was)
+filter_set test (x ∷ xs) (suc i) d y less was is = ap (λ ys. cond (test x) (x ∷ ys) ys) (filter_set test xs i d y (omega (arith, less)) was is)
+
+-- where all stay, the list stays
+pub filter_all : {A : Type 0} (test : A → Bool) → ((x : A) → test x ≡ true) → (xs : List A) → filter test xs ≡ xs
+filter_all test all [] = refl
+filter_all test all (x ∷ xs) = ap (λ b. cond b (x ∷ filter test xs) (filter test xs)) (all x) ∙ ap (λ ys. x ∷ ys) (filter_all test all xs)
+
+module _ (h : History) (legal : IsLegal h) (kept : List KeptLink) (t : LinksFollow (link_words h) kept) (l : ℕ) where
+  -- a link is kept where it has a place
+  pub kept_by_place : is_some (position (λ x. nat_eq x.number l) kept) ≡ is_kept h l
+  kept_by_place =
+      place_found (λ x. nat_eq x.number l) kept
+      ∙ sym (any_map (λ n. nat_eq n l) (λ x. x.number) kept)
+      ∙ ap (list_any (λ n. nat_eq n l)) t.numbers ∙ sym (kept_among h legal l)
+
+  pub not_kept : position (λ x. nat_eq x.number l) kept ≡ None → is_kept h l ≡ false
+  not_kept none = sym kept_by_place ∙ ap is_some none
+
+  pub is_kept_at : (p : ℕ) → position (λ x. nat_eq x.number l) kept ≡ Some p → is_kept h l ≡ true
+  is_kept_at p found = sym kept_by_place ∙ ap is_some found
+
+  -- the link at its place
+  pub link_at : (p : ℕ) (d : KeptLink) → position (λ x. nat_eq x.number l) kept ≡ Some p → IsLinkOf (link_words h) (get_or kept p d) × ((get_or kept p d).number ≡ l) × (p < length kept)
+  link_at p d found = let is = place_is kept l p d found in (each_at (IsLinkOf (link_words h)) kept p d t.each is.0, is.1, is.0)

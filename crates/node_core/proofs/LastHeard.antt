@@ -1,27 +1,97 @@
 -- What the last frame of a handshake makes of a node: its link comes up, or ends.
-use Rattle.node_core.proofs.Words.{Bool, List, Some, ap, false, is_some, length, map, nat_eq, position, refl, set, subst, sym, true, ℕ, [], ◌∙◌, ◌≡◌}
-use Rattle.node_core.proofs.Words.{◌≤◌, AllZip, unwrap_or, Linked, Pending, count_after_drop, lie, first_broken, frame_checks, History, is_open}
-use Rattle.node_core.proofs.Words.{OutFrame, refusal_owes, wide, IsNext, answer, is_full, with_entry, awaits, is_last, Change, Accepted, Refused}
-use Rattle.node_core.proofs.Words.{Reply, Rule, Follows, Parts, HaveEnded, older_of, Hears, is_handshake, IsState, facts, KeptLink, known_peer}
-use Rattle.node_core.proofs.Words.{narrow_frames, up_peer, ArePartings, IsCutOff, LinkState, Running, HaveComeUp, Message, Event, Heard}
-use Rattle.node_core.proofs.Entered.{made}
+use Rattle.node_core.proofs.Words.{get_or, Bool, List, Some, ap, is_some, length, map, refl, set, subst, sym, true, ℕ, [], ◌∙◌, ◌≡◌, ◌≤◌, AllZip}
+use Rattle.node_core.proofs.Words.{unwrap_or, Linked, Pending, count_after_drop, lie, History, OutFrame, wide, IsNext, answer, with_entry, awaits}
+use Rattle.node_core.proofs.Words.{is_last, Change, Accepted, Refused, Reply, Rule, Follows, Parts, HaveEnded, older_of, Hears, is_handshake}
+use Rattle.node_core.proofs.Words.{KeptLink, known_peer, narrow_frames, up_peer, ArePartings, IsCutOff, LinkState, Running, HaveComeUp, Message}
+use Rattle.node_core.proofs.Words.{Event, Heard, None, cond, false, ◌++◌, ◌<◌, ◌∷◌, same, Pid, stopped_lists, and_left, heard, told, is_up, listed}
+use Rattle.node_core.proofs.Words.{discovers, IsAnswered, is_full, present_link, Entry, moved_on, without_link, LinksFollow, link_words, scope_words}
+use Rattle.node_core.proofs.Entered.{made, step_follows, accepted_now, answered_now, next_now}
 use Rattle.node_core.proofs.Found.{some_is}
 use Rattle.node_core.proofs.FrameRefused.{refused_follows, refused_next}
 use Rattle.node_core.proofs.HeardFrames.{few_frames, few_refused, is_there, last_comes_up, last_state, unwhole_state}
-use Rattle.node_core.proofs.HeldLink.{IsHeld, held_is, held_out, held_state}
-use Rattle.node_core.proofs.LastFrame.{up_follows, up_next}
-use Rattle.node_core.proofs.ProofChecked.{ComesUp, answered_up, awaits_last, comes, ended_by, fails, is_last_state, not_up_yet}
+use Rattle.node_core.proofs.HeldLink.{IsHeld, held_is, held_out, held_seen, held_state}
+use Rattle.node_core.proofs.ProofChecked.{ComesUp, answered_up, awaits_last, comes, ended_by, fails, is_last_state, not_up_yet, meets, visible_now}
+use Rattle.policy_audit.proofs.HeardNow.{proved_heard}
+use Rattle.policy_audit.proofs.RowsAfter.{up_rows}
+use Rattle.node_core.proofs.CameUp.{but_replaced, came_up_moves, older_present}
+use Rattle.node_core.proofs.Emptied.{IsEmptied, moved_from, older_same}
+use Rattle.node_core.proofs.MovedOn.{moved_follow}
+use Rattle.node_core.proofs.Partings.{partings_change}
+use Rattle.node_core.proofs.ScopesCutOff.{AreCutOff, cut_off_follow}
 
-module _ (h : History) (parts : Parts) (t : Follows h parts) (seat j p : ℕ) (body : List ℕ) (space : is_full h ≡ false) (opens : is_open j h.entries ≡ true) (final : is_last (awaits j h.entries) ≡ true)
-    (at : position (λ x. nat_eq x.number j) parts.links ≡ Some p) (v w next last : KeptLink) (s : LinkState) (held : IsHeld parts.links p v w next last s) where
-  its_state : IsState (facts h j) s
-  its_state = held_state h parts t j p at v w next last s held
+-- a Discover for each scope that runs
+pub discovers_for : (rs : List Running) → map (λ r. wide (Message.Discover r.scope)) rs ≡ map (λ s. wide (Message.Discover s)) (map (λ r. r.scope) rs)
+discovers_for [] = refl
+discovers_for (r ∷ rs) = ap (λ fs. wide (Message.Discover r.scope) ∷ fs) (discovers_for rs)
 
+dropped : (b : Bool) (x : ℕ) → x ≡ 0 → cond b 0 x ≡ 0
+dropped true x q = refl
+dropped false x q = q
+
+module _ (h : History) (seat j : ℕ) (body : List ℕ) (up : Linked) (frames : List (List ℕ)) (c : ComesUp h j body up frames) (r : Reply) (cs : List Change) where
+  abbrev pub e : Entry
+  e = made h seat (Event.Frame j body) (Accepted r) cs
+
+  abbrev pub k : History
+  k = with_entry h e
+
+  module _ (space : is_full h ≡ false) (is : answer h seat (Event.Frame j body) ≡ r) where
+    up_answered : IsAnswered h e
+    up_answered = answered_now h seat (Event.Frame j body) space (Accepted r) cs (accepted_now h seat (Event.Frame j body) space r (meets h j body up frames c seat) is)
+
+    module _ (parts : Parts) (t : Follows h parts) where
+      rows : (s g : List ℕ) (p : Pid) → listed k s g p ≡ cond (same p.node up.peer) 0 (listed h s g p)
+      rows s g p = up_rows h t.sound.legal e up_answered refl j body refl up.peer c.last c.known.peer.peer c.known.peer.other s g p
+
+      pub up_next : ArePartings (λ x. count_after_drop x up.peer) parts.scopes cs → IsNext h e
+      up_next gone = next_now h seat (Event.Frame j body) space (Accepted r) cs (accepted_now h seat (Event.Frame j body) space r (meets h j body up frames c seat) is)
+          (partings_change h k (λ x. count_after_drop x up.peer)
+          (λ x a g p. ap (cond (same p.node up.peer) 0) (a.rows g p) ∙ sym (rows x.scope g p))
+          parts.scopes t.scopes
+          (λ s stopped g p. rows s g p ∙ dropped (same p.node up.peer) (listed h s g p) (stopped_lists h s g p stopped)) cs gone)
+
+      -- over which link the peer was heard, if at all
+      abbrev old_one : ℕ
+      old_one = unwrap_or (present_link up.peer h.entries) j
+
+      scopes_cut_off : AreCutOff old_one up.peer (scope_words h) (scope_words k)
+      scopes_cut_off = record {
+        own = refl;
+        running = refl;
+        listed = rows;
+        heard = λ l s. (proved_heard h t.sound.legal e up_answered refl j body refl up.peer c.last c.known.peer.peer l s).heard_is
+            ∙ but_replaced h t.sound.legal up.peer j c.unwhole l (heard l s h.entries) (λ q. and_left (is_up l h.entries) _ q);
+        told = λ l s. (proved_heard h t.sound.legal e up_answered refl j body refl up.peer c.last c.known.peer.peer l s).told_is
+            ∙ but_replaced h t.sound.legal up.peer j c.unwhole l (told l s h.entries) (λ q. and_left (is_up l h.entries) _ q);
+      }
+
+      module _ (p : ℕ) (d : KeptLink) (less : p < length parts.links) (there : (get_or parts.links p d).number ≡ j) (before : up_peer (get_or parts.links p d).state ≡ None) where
+        discovers_are : cond up.visible (map (λ x. wide (Message.Discover x.scope)) parts.scopes) [] ≡ discovers h j
+        discovers_are = λ i. cond (sym (visible_now h j body up frames c) i) ((discovers_for parts.scopes ∙ ap (map (λ s. wide (Message.Discover s))) t.scopes.running) i) []
+
+        links_follow : (room : ℕ) → LinksFollow (link_words k) (without_link (older_of up.peer parts.links) (set parts.links p (moved_on (LinkState.Up up) (narrow_frames frames ++ discovers h j) room (get_or parts.links p d))))
+        links_follow room = subst (λ x. LinksFollow (link_words k) (without_link x (set parts.links p (moved_on (LinkState.Up up) (narrow_frames frames ++ discovers h j) room (get_or parts.links p d)))))
+            (sym (older_present h t.sound.legal up.peer parts.links t.links))
+            (moved_follow h k t.sound.legal j (LinkState.Up up) (narrow_frames frames ++ discovers h j) (present_link up.peer h.entries)
+            (came_up_moves h t.sound.legal j body up frames c e up_answered refl refl) parts.links t.links p d less there room)
+
+        pub up_follows : IsNext h e → (out_room : ℕ) (old new : List KeptLink) → IsEmptied parts.links p out_room old → (asked : List OutFrame) → asked ≡ map (λ x. wide (Message.Discover x.scope)) parts.scopes → HaveComeUp p up frames asked old new
+            → (scopes : List Running) → AllZip (IsCutOff (unwrap_or (older_of up.peer old) j) up.peer) parts.scopes scopes → Follows k (record parts { links = new; scopes = scopes })
+        up_follows next out_room old new out asked these comes scopes cut = step_follows t next refl t.admission t.processes
+            (cut_off_follow old_one up.peer (scope_words h) (scope_words k) scopes_cut_off parts.scopes scopes t.scopes
+            (subst (λ x. AllZip (IsCutOff (unwrap_or x j) up.peer) parts.scopes scopes) (older_same parts.links p less out_room old out d before up.peer ∙ older_present h t.sound.legal up.peer parts.links t.links) cut))
+            (subst (LinksFollow (link_words k)) (sym (
+            moved_from parts.links p less out_room old out (λ x. LinkState.Up up) (narrow_frames frames ++ cond up.visible asked []) (λ x. older_of up.peer old) new comes d
+            ∙ (λ i. without_link (older_same parts.links p less out_room old out d before up.peer i) (set parts.links p (moved_on (LinkState.Up up) (narrow_frames frames ++ (ap (λ fs. cond up.visible fs []) these ∙ discovers_are) i) comes.room (get_or parts.links p d))))))
+            (links_follow comes.room))
+
+module _ {h : History} {parts : Parts} (t : Follows h parts) (seat : ℕ) (body : List ℕ) {j p : ℕ} {v w next last : KeptLink} {s : LinkState} (held : IsHeld h parts.links j p v w next last s)
+    (final : is_last (awaits j h.entries) ≡ true) where
   late : is_last_state s ≡ true
-  late = awaits_last h j s its_state opens final
+  late = awaits_last h j s (held_state t held) held.opens final
 
   pub handshakes : is_handshake s ≡ true
-  handshakes = (last_state h j opens final s its_state).1
+  handshakes = (last_state h j held.opens final s (held_state t held)).1
 
   -- its peer is known
   pub has_peer : is_some (known_peer s) ≡ true
@@ -34,47 +104,47 @@ module _ (h : History) (parts : Parts) (t : Follows h parts) (seat j p : ℕ) (b
 
   module _ (pending : Pending) where
     pub last_never_on : (now : LinkState) (frames : List (List ℕ)) (gives_up : Bool) → Hears parts.admission pending s body (Heard.On now frames gives_up) → ⊥
-    last_never_on now frames gives_up hears = lie (sym (last_comes_up parts.admission pending body s (last_state h j opens final s its_state).0 (Heard.On now frames gives_up) hears.1))
-
-    pub last_few_ended : (r : Rule) (frames : List (List ℕ)) → Hears parts.admission pending s body (Heard.Ended r frames) → length frames ≤ 2
-    last_few_ended r frames hears = subst (λ fs. length fs ≤ 2) (sym hears.3) (few_refused hears.0)
+    last_never_on now frames gives_up hears = lie (sym (last_comes_up parts.admission pending body s (last_state h j held.opens final s (held_state t held)).0 (Heard.On now frames gives_up) hears.1))
 
     module _ (r : Rule) (frames : List (List ℕ)) (hears : Hears parts.admission pending s body (Heard.Ended r frames)) where
-      breaks : (first_broken (frame_checks h j body (awaits j h.entries)) ≡ Some r) × (refusal_owes r ≡ narrow_frames frames)
-      breaks = ended_by h j parts.admission t.admission body pending s late its_state r frames hears
+      pub last_few_ended : length frames ≤ 2
+      last_few_ended = subst (λ fs. length fs ≤ 2) (sym hears.3) (few_refused hears.0)
 
-      pub last_broke : IsNext h (made h seat (Event.Frame j body) (Refused r) [])
-      last_broke = refused_next h seat j body r space (fails h seat j body r opens breaks.0)
-
-      pub last_ended : (new : List KeptLink) → HaveEnded p frames (set (set parts.links p w) p last) new → Follows (with_entry h (made h seat (Event.Frame j body) (Refused r) [])) (record parts { links = new })
-      last_ended new ends =
-          let there = is_there h parts t j p at v in
-          refused_follows h seat j body r opens (unwhole_state h j s handshakes its_state) (narrow_frames frames) breaks.1 parts t p v there.0 there.1 last_broke w.room (set (set parts.links p w) p last) new (held_out h parts t j p at v w next last s held) frames refl ends
+      pub last_broke : (new : List KeptLink) → HaveEnded p frames (set (set parts.links p w) p last) new
+          → IsNext h (made h seat (Event.Frame j body) (Refused r) []) × Follows (with_entry h (made h seat (Event.Frame j body) (Refused r) [])) (record parts { links = new })
+      last_broke new ends =
+          let there = is_there h parts t j p held.at v in
+          let breaks = ended_by h j parts.admission t.admission body pending s late (held_state t held) r frames hears in
+          let entered = refused_next h seat j body r held.space (fails h seat j body r held.opens breaks.0) in (
+            entered,
+            refused_follows h seat j body r held.opens (unwhole_state h j s handshakes (held_state t held)) (narrow_frames frames) breaks.1 parts t p v there.0 there.1
+                entered w.room (set (set parts.links p w) p last) new (held_out t held) frames refl ends,
+          )
 
     module _ (up : Linked) (frames : List (List ℕ)) (hears : Hears parts.admission pending s body (Heard.Up up frames)) where
       it : ComesUp h j body up frames × (known_peer s ≡ Some up.peer)
-      it = comes h j parts.admission t.admission body pending s late its_state up frames hears
+      it = comes h j parts.admission t.admission body pending s late (held_state t held) up frames hears
 
       pub last_few : length frames ≤ 2
       last_few = few_frames parts.admission pending body s (Heard.Up up frames) hears.1
 
       -- the peer as it was named before, and the answer
-      module _ (peer : List ℕ) (known : known_peer s ≡ Some peer) (r : Reply) (q : r ≡ Reply.Up peer up.creation up.visible) (cs : List Change) where
+      module _ {seen : KeptLink} (again : seen ≡ get_or (set parts.links p w) p seen) {peer : List ℕ} (known : known_peer seen.state ≡ Some peer) {r : Reply} (q : r ≡ Reply.Up peer up.creation up.visible) (cs : List Change)
+          {running : List Running} (these : running ≡ parts.scopes) (gone : ArePartings (λ x. count_after_drop x peer) running cs) where
         peer_is : peer ≡ up.peer
-        peer_is = some_is (sym known ∙ it.1)
+        peer_is = some_is (sym known ∙ ap known_peer (held_seen t held again) ∙ it.1)
 
         reply_is : answer h seat (Event.Frame j body) ≡ r
         reply_is = answered_up h j body up frames it.0 seat ∙ sym (q ∙ ap (λ n. Reply.Up n up.creation up.visible) peer_is)
 
-        pub last_next : (scopes : List Running) → ArePartings (λ x. count_after_drop x peer) scopes cs → scopes ≡ parts.scopes → IsNext h (made h seat (Event.Frame j body) (Accepted r) cs)
-        last_next scopes gone these = up_next h seat j body up frames it.0 r cs space reply_is parts t
+        pub last_next : IsNext h (made h seat (Event.Frame j body) (Accepted r) cs)
+        last_next = up_next h seat j body up frames it.0 r cs held.space reply_is parts t
             (subst (λ n. ArePartings (λ x. count_after_drop x n) parts.scopes cs) peer_is (subst (λ rs. ArePartings (λ x. count_after_drop x peer) rs cs) these gone))
 
-        pub last_came_up : IsNext h (made h seat (Event.Frame j body) (Accepted r) cs) → (new : List KeptLink) (asked : List OutFrame) (running : List Running) → asked ≡ map (λ x. wide (Message.Discover x.scope)) running → running ≡ parts.scopes
-            → HaveComeUp p up frames asked (set (set parts.links p w) p last) new
+        pub last_came_up : (new : List KeptLink) {asked : List OutFrame} → asked ≡ map (λ x. wide (Message.Discover x.scope)) running → HaveComeUp p up frames asked (set (set parts.links p w) p last) new
             → (scopes : List Running) → AllZip (IsCutOff (unwrap_or (older_of up.peer (set (set parts.links p w) p last)) j) up.peer) parts.scopes scopes
             → Follows (with_entry h (made h seat (Event.Frame j body) (Accepted r) cs)) (record parts { links = new; scopes = scopes })
-        last_came_up enters new asked running discover these ups scopes cut =
-            let there = is_there h parts t j p at v in
-            up_follows h seat j body up frames it.0 r cs space reply_is parts t p v there.0 there.1 (ap up_peer (sym (held_is h parts t j p at v w next last s held)) ∙ not_up_yet s late)
-            enters w.room (set (set parts.links p w) p last) new (held_out h parts t j p at v w next last s held) asked (discover ∙ ap (map (λ (x : Running). wide (Message.Discover x.scope))) these) ups scopes cut
+        last_came_up new {asked} discover ups scopes cut =
+            let there = is_there h parts t j p held.at v in
+            up_follows h seat j body up frames it.0 r cs held.space reply_is parts t p v there.0 there.1 (ap up_peer (sym (held_is t held)) ∙ not_up_yet s late)
+            last_next w.room (set (set parts.links p w) p last) new (held_out t held) asked (discover ∙ ap (map (λ (x : Running). wide (Message.Discover x.scope))) these) ups scopes cut

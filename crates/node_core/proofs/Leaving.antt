@@ -3,12 +3,12 @@ use Rattle.node_core.proofs.Words.{All, Bool, List, None, Option, Some, ap, cond
 use Rattle.node_core.proofs.Words.{true, ℕ, [], ◌++◌, ◌-◌, ◌==◌, ◌||◌, ◌∙◌, ◌∷◌, ◌≡◌, list_all, list_any, same_decides, listing, mentions, same}
 use Rattle.node_core.proofs.Words.{pid_cmp, Pid, Message, count_of, local_count, told_numbers, and_left, and_right, checks, first_broken, row}
 use Rattle.node_core.proofs.Words.{History, creation, listed, waiting, wide, is_local, is_running, IsAnswered, IsNext, is_full, with_entry, Change}
-use Rattle.node_core.proofs.Words.{Entry, Accepted, Rule, follows_other, IsCalmFault, Follows, Parts, link_words, KeptLink, IsMoved, IsRunningOf}
-use Rattle.node_core.proofs.Words.{scope_words, if_among, said_to, min, count_after_leave, is_any_joined, own, left_links, Running, CoreFault}
-use Rattle.node_core.proofs.Words.{IsLeaveRefusal, Event, Reply}
+use Rattle.node_core.proofs.Words.{Entry, Accepted, Rule, IsCalmFault, Follows, Parts, link_words, KeptLink, IsMoved, IsRunningOf, scope_words}
+use Rattle.node_core.proofs.Words.{if_among, said_to, min, count_after_leave, is_any_joined, own, left_links, Running, CoreFault, IsLeaveRefusal}
+use Rattle.node_core.proofs.Words.{Event, Reply}
 use Rattle.policy_audit.proofs.RowsAfter.{left_rows}
-use Rattle.node_core.proofs.Entered.{made, accepted_now, answered_now, next_now, sound_now}
-use Rattle.node_core.proofs.Placed.{follows_there, runs_there, scope_is}
+use Rattle.node_core.proofs.Entered.{step_follows, made, accepted_now, answered_now, next_now}
+use Rattle.node_core.proofs.MessagePlaces.{scope_here, runs_here}
 use Rattle.node_core.proofs.Scopes.{own_counts}
 use Rattle.node_core.proofs.Joining.{own_nodes}
 use Rattle.node_core.proofs.Told.{told_follow}
@@ -16,7 +16,7 @@ use Rattle.node_core.proofs.Moved.{moved_change, moved_frames, moved_scopes}
 
 -- ---- a Leave
 
-module _ (h : History) (seat : ℕ) (parts : Parts) (t : Follows h parts) (s g : List ℕ) (ps : List Pid) where
+module _ {h : History} (seat : ℕ) {parts : Parts} (t : Follows h parts) (s g : List ℕ) (ps : List Pid) where
   abbrev leave_broken : Bool → Bool → Bool → Option Rule
   leave_broken runs local some = cond (not runs) (Some Rule.NoScope) (cond (not local) (Some Rule.NotLocal) (cond (not some) (Some Rule.NotJoined) None))
 
@@ -26,15 +26,15 @@ module _ (h : History) (seat : ℕ) (parts : Parts) (t : Follows h parts) (s g :
   pub leave_foreign : is_running h s ≡ true → list_all (is_local h) ps ≡ false → first_broken (checks h seat (Event.Leave s g ps)) ≡ Some Rule.NotLocal
   leave_foreign runs q = λ i. leave_broken (runs i) (q i) (list_any (λ x. nat_lt 0 (own h s g x)) ps)
 
-  module _ (p : ℕ) (here : position (λ r. same r.scope s) parts.scopes ≡ Some p) (a : Running) (at : a ≡ get_or parts.scopes p a) where
+  module _ {p : ℕ} (here : position (λ r. same r.scope s) parts.scopes ≡ Some p) {a : Running} (at : a ≡ get_or parts.scopes p a) where
     abbrev there : IsRunningOf (scope_words h) a
-    there = follows_there h parts.scopes t.scopes s p here a at
+    there = (scope_here t s here at).running
 
     abbrev its_scope : a.scope ≡ s
-    its_scope = scope_is h parts.scopes t.scopes s p here a at
+    its_scope = (scope_here t s here at).named
 
     runs : is_running h s ≡ true
-    runs = runs_there h parts.scopes t.scopes s p here a at
+    runs = runs_here t s p here
 
     abbrev counts : local_count a.table ≡ own h s
     counts = own_counts h s a its_scope there t.sound.legal
@@ -87,24 +87,22 @@ module _ (h : History) (seat : ℕ) (parts : Parts) (t : Follows h parts) (s g :
         others_now : (u f : List ℕ) (q : Pid) → same u s ≡ false → listed h u f q ≡ listed left_now u f q
         others_now u f q other = sym (left_rows h left_entry its refl s g ps refl u f q ∙ ap (λ c. cond c (listed h u f q - cond (same f g) (mentions q ps) 0) (listed h u f q)) other)
 
-      pub leave_next : is_full h ≡ false → list_all (is_local h) ps ≡ true → is_any_joined a.table g ps ≡ true → IsNext h left_entry
+      leave_next : is_full h ≡ false → list_all (is_local h) ps ≡ true → is_any_joined a.table g ps ≡ true → IsNext h left_entry
       leave_next space local some =
           let verdict = accepted_now h seat (Event.Leave s g ps) space Reply.Done (leave_holds local some) refl in
           let its = answered_now h seat (Event.Leave s g ps) space (Accepted Reply.Done) cs verdict in
           next_now h seat (Event.Leave s g ps) space (Accepted Reply.Done) cs verdict
           (moved_change h seat parts t s p here a b at (said_left (own h s)) (count_after_leave a.table g ps) links cs moved left_now (rows_now its) (others_now its))
 
-      pub leave_follows : IsNext h left_entry → Follows left_now (record parts { scopes = set parts.scopes p b; links = links })
+      leave_follows : IsNext h left_entry → Follows left_now (record parts { scopes = set parts.scopes p b; links = links })
       leave_follows next =
           let its : IsAnswered h left_entry = record { room = next.room; number = next.number; verdict = next.verdict } in
-          record {
-            sound = sound_now h parts.limit left_entry t.sound next;
-            admission = t.admission;
-            processes = t.processes;
-            scopes = moved_scopes h seat parts t s p here a b at (said_left (own h s)) (count_after_leave a.table g ps) links cs moved left_now (rows_now its) (others_now its) refl refl (λ l u. refl) (λ l u. refl);
-            links = told_follow (link_words h) (link_words left_now) (if_among (said_to a.told.items (said_left (own h s))) (wide (said_left (own h s)))) (λ l. refl)
-                (told_numbers h left_entry its refl refl (λ l. (left_links h left_entry its refl s g ps refl l).kept_is)) parts.links links
-                (λ l near. ap (λ f. waiting h l ++ f) (moved_frames h seat parts t s p here a b at (said_left (own h s)) (count_after_leave a.table g ps) links cs moved Message.Leave (map (row g) (listing pid_cmp (λ q. min (mentions q ps) (own h s g q)) ps)) l))
-                moved.links t.links;
-            monitors = follows_other h left_entry parts.monitors next.number t.monitors refl;
-          }
+          step_follows t next refl t.admission t.processes
+          (moved_scopes h seat parts t s p here a b at (said_left (own h s)) (count_after_leave a.table g ps) links cs moved left_now (rows_now its) (others_now its) refl refl (λ l u. refl) (λ l u. refl))
+          (told_follow (link_words h) (link_words left_now) (if_among (said_to a.told.items (said_left (own h s))) (wide (said_left (own h s)))) (λ l. refl)
+          (told_numbers h left_entry its refl refl (λ l. (left_links h left_entry its refl s g ps refl l).kept_is)) parts.links links
+          (λ l near. ap (λ f. waiting h l ++ f) (moved_frames h seat parts t s p here a b at (said_left (own h s)) (count_after_leave a.table g ps) links cs moved Message.Leave (map (row g) (listing pid_cmp (λ q. min (mentions q ps) (own h s g q)) ps)) l))
+          moved.links t.links)
+
+      pub left : is_full h ≡ false → list_all (is_local h) ps ≡ true → is_any_joined a.table g ps ≡ true → IsNext h left_entry × Follows left_now (record parts { scopes = set parts.scopes p b; links = links })
+      left space local some = (leave_next space local some, leave_follows (leave_next space local some))

@@ -4,11 +4,13 @@ use Rattle.node_core.proofs.Words.{◌||◌, ◌∙◌, ◌∷◌, ◌≡◌, Al
 use Rattle.node_core.proofs.Words.{AdmissionRules, lie, and_false, allow_list, dial_checks, first_broken, History, is_dialling, is_open}
 use Rattle.node_core.proofs.Words.{is_unfinished_dial, is_up, IsLegal, awaits, is_name_up, is_peer, is_whole, peer_of, AdmissionFollows}
 use Rattle.node_core.proofs.Words.{admission_words, IsLinkOf, IsState, LinksFollow, facts, link_words, KeptLink, dialled_peer, up_peer, allowed}
-use Rattle.node_core.proofs.Words.{opened, is_dial_to, kept_links, name_up_kept, dialling_kept, LinkState, Awaits, Rule}
+use Rattle.node_core.proofs.Words.{opened, is_dial_to, kept_links, name_up_kept, dialling_kept, LinkState, Awaits, Rule, ◌++◌, flat_map}
+use Rattle.node_core.proofs.Words.{option_to_list, Pending}
 use Rattle.link_states.specs.Checks.{allows}
 use Rattle.policy_audit.proofs.Onward.{is_acceptors, is_diallers, by_peer, by_dial}
 use Rattle.node_core.proofs.Found.{any_map}
 use Rattle.node_core.proofs.Once.{same_names}
+use Rattle.link_states.specs.Pending as pending
 
 -- tests that agree on all
 pub agree : {A : Type 0} (P : A → Type 0) (f g : A → Bool) → ((x : A) → P x → f x ≡ g x) → (xs : List A) → AllByRecursion P xs → list_any f xs ≡ list_any g xs
@@ -21,14 +23,9 @@ module _ (h : History) (n : List ℕ) where
 
   -- a link is up with n exactly where its state says so
   pub up_by : (l : ℕ) (s : LinkState) → IsState (facts h l) s → option_map_or (λ m. same m n) (up_peer s) false ≡ (is_up l h.entries && is_peer n l h.entries)
-  up_by l (LinkState.Name c) t = down l t.0.whole
-  up_by l (LinkState.Answer s) t = down l t.0.whole
-  up_by l (LinkState.Reply s) t = down l t.0.whole
-  up_by l (LinkState.Status s) t = down l t.0.whole
-  up_by l (LinkState.Challenge s) t = down l t.0.whole
-  up_by l (LinkState.Ack s) t = down l t.0.whole
   up_by l (LinkState.Up s) t = sym (λ i. (t.0.open_now i && t.0.whole i) && option_map_or (λ m. same m n) (t.1.peer.peer i) false)
   up_by l LinkState.Ended t = sym (ap (λ b. (b && is_whole l h.entries) && is_peer n l h.entries) t)
+  up_by l s t = down l t.0.whole
 
   undialled : (l : ℕ) → Awaits (facts h l) (awaits l h.entries) false → is_acceptors (awaits l h.entries) ≡ true → false ≡ (is_open l h.entries && is_unfinished_dial n l h.entries)
   undialled l t a = sym ((λ i. t.open_now i && (option_map_or (λ o. is_dial_to n o.start) ((by_peer l h.entries t.open_now a).opened i) false && not (is_whole l h.entries))))
@@ -45,15 +42,13 @@ module _ (h : History) (n : List ℕ) where
 
   -- a link is an own dial to n exactly where its state says so
   pub dialled_by : (l : ℕ) (s : LinkState) → IsState (facts h l) s → option_map_or (λ m. same m n) (dialled_peer s) false ≡ (is_open l h.entries && is_unfinished_dial n l h.entries)
-  dialled_by l (LinkState.Name c) t = undialled l (record { open_now = t.0.open_now; whole = t.0.whole; awaited = refl }) (ap is_acceptors t.0.awaited)
-  dialled_by l (LinkState.Answer s) t = undialled l (record { open_now = t.0.open_now; whole = t.0.whole; awaited = refl }) (ap is_acceptors t.0.awaited)
-  dialled_by l (LinkState.Reply s) t = undialled l (record { open_now = t.0.open_now; whole = t.0.whole; awaited = refl }) (ap is_acceptors t.0.awaited)
   dialled_by l (LinkState.Status s) t = dialled l s.peer t.0.open_now t.0.whole (ap is_diallers t.0.awaited) t.1.peer.peer
   dialled_by l (LinkState.Challenge s) t = dialled l s.peer t.0.open_now t.0.whole (ap is_diallers t.0.awaited) t.1.peer.peer
   dialled_by l (LinkState.Ack s) t = dialled l s.peer t.0.open_now t.0.whole (ap is_diallers t.0.awaited) t.1.peer.peer
   dialled_by l (LinkState.Up s) t = sym (ap (λ b. is_open l h.entries && (option_map_or (λ o. is_dial_to n o.start) (opened l h.entries) false && not b)) t.0.whole
       ∙ ap (λ b. is_open l h.entries && b) (and_false (option_map_or (λ o. is_dial_to n o.start) (opened l h.entries) false)) ∙ and_false (is_open l h.entries))
   dialled_by l LinkState.Ended t = sym (ap (λ b. b && is_unfinished_dial n l h.entries) t)
+  dialled_by l s t = undialled l (record { open_now = t.0.open_now; whole = t.0.whole; awaited = refl }) (ap is_acceptors t.0.awaited)
 
   module _ (legal : IsLegal h) (kept : List KeptLink) (t : LinksFollow (link_words h) kept) where
     -- a peer is up where a kept link is up with it
@@ -104,3 +99,23 @@ dial_by h n own granted up dials room a b c d e =
 pub not_some : {A : Type 0} (o : Option A) → ((x : A) → o ≡ Some x → ⊥) → o ≡ None
 not_some None f = refl
 not_some (Some x) f = absurd (f x refl)
+
+-- ---- the peers that are up and the own dials, as the kept links show them
+
+-- what is said of a list of options is said of those that are there
+any_some : {A B : Type 0} (test : B → Bool) (f : A → Option B) (xs : List A) → list_any test (flat_map (λ x. option_to_list (f x)) xs) ≡ list_any (λ x. option_map_or test (f x) false) xs
+any_some {B = B} test f [] = refl
+any_some {B = B} test f (x ∷ xs) = by (f x) (any_some test f xs)
+  where
+    by : (o : Option B) → list_any test (flat_map (λ y. option_to_list (f y)) xs) ≡ list_any (λ y. option_map_or test (f y) false) xs
+        → list_any test (option_to_list o ++ flat_map (λ y. option_to_list (f y)) xs) ≡ (option_map_or test o false || list_any (λ y. option_map_or test (f y) false) xs)
+    by None later = later
+    by (Some y) later = ap (λ b. test y || b) later
+
+module _ (h : History) (legal : IsLegal h) (kept : List KeptLink) (t : LinksFollow (link_words h) kept) (n : List ℕ) where
+  module _ (p : Pending) where
+    pub ups_are : p.up ≡ flat_map (λ x. option_to_list (up_peer x.state)) kept → pending.is_up p n ≡ is_name_up n h.entries
+    ups_are q = ap (λ ns. pending.has_name ns n) q ∙ any_some (λ m. same m n) (λ (x : KeptLink). up_peer x.state) kept ∙ up_is h n legal kept t
+
+    pub dials_are : p.dials ≡ flat_map (λ x. option_to_list (dialled_peer x.state)) kept → pending.is_dialled p n ≡ is_dialling n h.entries
+    dials_are q = ap (λ ns. pending.has_name ns n) q ∙ any_some (λ m. same m n) (λ (x : KeptLink). dialled_peer x.state) kept ∙ dialling_is h n legal kept t

@@ -1,17 +1,10 @@
 -- The processes of a node after those that were spawned.
-use Rattle.node_core.proofs.Words.{Bool, List, ap, arith, cond, false, length, nat_eq, nat_le, nat_lt, refl, sym, true, ℕ, [], ◌+◌, ◌<◌, ◌∙◌, ◌≡◌}
-use Rattle.node_core.proofs.Words.{le-leb, leb-true, lt-ltb, ltb-true, lie, and_left, and_right, History, creation, lives, IsLegal, IsNext, answer}
-use Rattle.node_core.proofs.Words.{Accepted, Reply, ProcessesFollow, process_words, Spawned, is_number, ltb-false, spawned, living, own_pid, Event}
+use Rattle.node_core.proofs.Words.{Bool, List, ap, arith, cond, false, length, nat_eq, nat_le, nat_lt, refl, sym, true, ℕ, [], ◌+◌, ◌∙◌, ◌≡◌}
+use Rattle.node_core.proofs.Words.{leb-true, lt-ltb, and_left, and_right, History, creation, lives, IsLegal, IsNext, answer, Accepted, Reply}
+use Rattle.node_core.proofs.Words.{ProcessesFollow, process_words, Spawned, is_number, spawned, living, own_pid, Event, leb-false}
 use Rattle.policy_audit.proofs.LivesNow.{lives_spawned}
 use Rattle.node_core.proofs.Entered.{made}
 use Rattle.node_core.proofs.Calm.{answered}
-
-pub under : (n m : ℕ) → nat_le n m ≡ false → m < n
-under n m q = by (nat_lt m n) refl
-  where
-    by : (b : Bool) → nat_lt m n ≡ b → m < n
-    by true e = ltb-true m n e
-    by false e = (let least = ltb-false m n e in lie (sym (le-leb n m (omega (arith, least))) ∙ q))
 
 not_true : (b : Bool) → (b ≡ true → ⊥) → b ≡ false
 not_true true f = absurd (f refl)
@@ -20,7 +13,7 @@ not_true false f = refl
 module _ (h : History) (p : Spawned) (t : ProcessesFollow (process_words h) p) where
   -- where there is room among those that live, one more may be spawned
   pub pids_fit : nat_le 65536 (length p.live) ≡ false → nat_lt (living h) 65536 ≡ true
-  pids_fit q = lt-ltb (living h) 65536 (let few = under 65536 (length p.live) q in let count = t.count in omega (arith, few, count))
+  pids_fit q = lt-ltb (living h) 65536 (let few = leb-false 65536 (length p.live) q in let count = t.count in omega (arith, few, count))
 
   -- the next process doesn't live yet
   pub next_is_new : is_number (p.spawned + 1) p.live ≡ false

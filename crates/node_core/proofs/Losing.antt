@@ -2,18 +2,97 @@
 use Rattle.node_core.proofs.Words.{List, None, Option, Some, ap, cond, false, get_or, is_some, length, nat_eq, not, position, refl, subst, sym, true}
 use Rattle.node_core.proofs.Words.{ℕ, ◌&&◌, ◌<◌, ◌∙◌, ◌≡◌, filter, option_map_or, position-Some, same_decides, same, lie, no_value, and_both}
 use Rattle.node_core.proofs.Words.{and_false, History, is_open, is_up, IsAnswered, IsNext, is_full, with_entry, is_name_up, is_whole, peer_of}
-use Rattle.node_core.proofs.Words.{present_link, Change, Entry, Accepted, follows_other, Follows, Parts, AreCut, AreLost, IsLinkOf, IsState}
-use Rattle.node_core.proofs.Words.{LinksFollow, facts, link_words, KeptLink, up_peer, agrees, LinkState, Running, Event, Reply, Rule}
+use Rattle.node_core.proofs.Words.{present_link, Change, Entry, Accepted, Follows, Parts, AreCut, AreLost, IsLinkOf, IsState, LinksFollow, facts}
+use Rattle.node_core.proofs.Words.{link_words, KeptLink, up_peer, agrees, LinkState, Running, Event, Reply, Rule, Bool, [], ◌==◌, unwrap_or, and-true}
+use Rattle.node_core.proofs.Words.{eqb-true, Pid, count_after_drop, no_change, stopped_lists, flip, IsChange, heard, told, first_of, listed, waiting}
+use Rattle.node_core.proofs.Words.{running_scopes, ArePartings, ScopesFollow, scope_words, hears, talk, tells, IsSameLink, IsHeardNow, arith}
 use Rattle.policy_audit.proofs.LinkFrames.{lost_links, disconnected_links}
 use Rattle.policy_audit.proofs.LinksLeft.{facts_left, lost_numbers, disconnected_numbers}
 use Rattle.policy_audit.proofs.HeardNow.{lost_heard, disconnected_heard}
 use Rattle.policy_audit.proofs.RowsAfter.{lost_rows, lost_other, disconnected_rows}
-use Rattle.node_core.proofs.Entered.{made, accepted_now, answered_now, next_now, sound_now}
-use Rattle.node_core.proofs.Gone.{IsGone, RowsGone, gone_links, gone_change, gone_scopes}
+use Rattle.node_core.proofs.Entered.{step_follows, made, accepted_now, answered_now, next_now}
 use Rattle.node_core.proofs.Found.{some_is, place_found}
-use Rattle.node_core.proofs.KeptOn.{each_at}
+use Rattle.node_core.proofs.KeptOn.{each_at, facts_same, is_kept_at, link_at, stay_follow}
 use Rattle.node_core.proofs.LinkTests.{up_is}
-use Rattle.node_core.proofs.Places.{is_kept_at, link_at}
+use Rattle.policy_audit.proofs.KeptNumbers.{kept_numbers}
+use Rattle.node_core.proofs.Partings.{partings_change}
+use Rattle.node_core.proofs.ScopesCutOff.{AreCutOff, cut_off_follow}
+
+-- ---- a link that is gone
+
+-- link j is gone after k, and nothing else is said of other links
+pub record IsGone (h k : History) (j : ℕ) : Type 0 where
+  pub name : k.opening ≡ h.opening
+  pub same : (l : ℕ) → IsSameLink l h.entries k.entries
+  pub opens : (l : ℕ) → is_open l k.entries ≡ (is_open l h.entries && not (j == l))
+  pub waits : (l : ℕ) → waiting k l ≡ cond (j == l) [] (waiting h l)
+  pub numbers : kept_numbers k ≡ filter (λ l. not (j == l)) (kept_numbers h)
+  pub running : running_scopes k ≡ running_scopes h
+  pub heard : (l : ℕ) (s : List ℕ) → IsHeardNow k l s (heard l s h.entries && not (j == l)) (told l s h.entries && not (j == l))
+
+module _ (h k : History) (j : ℕ) (gone : IsGone h k j) where
+  other_facts : (l : ℕ) → (j == l) ≡ false → facts k l ≡ facts h l
+  other_facts l other = facts_same h k gone.name l (gone.same l) (gone.opens l ∙ ap (λ b. is_open l h.entries && not b) other ∙ and-true (is_open l h.entries))
+
+  other_link : (x : KeptLink) → (j == x.number) ≡ false → IsLinkOf (link_words h) x → IsLinkOf (link_words k) x
+  other_link x other it = record {
+    state = subst (λ f. IsState f x.state) (sym (other_facts x.number other)) it.state;
+    frames = it.frames ∙ sym (gone.waits x.number ∙ ap (λ b. cond b [] (waiting h x.number)) other);
+    idle = it.idle;
+  }
+
+  pub gone_links : (kept : List KeptLink) → LinksFollow (link_words h) kept → LinksFollow (link_words k) (filter (λ x. not (nat_eq x.number j)) kept)
+  gone_links kept t = stay_follow (link_words h) (link_words k) (λ l. not (nat_eq l j)) kept t
+      (gone.numbers ∙ (λ i. filter (λ l. not (flip j l i)) (kept_numbers h)))
+      (λ x stays it. other_link x (grind (arith, flip j x.number)) it)
+
+  -- ---- a link that isn't up
+
+  module _ (down : is_up j h.entries ≡ false) (rows : (s g : List ℕ) (p : Pid) → listed k s g p ≡ listed h s g p) where
+    unless_gone : (l : ℕ) (x : Bool) → (is_up l h.entries ≡ false → x ≡ false) → (b : Bool) → (j == l) ≡ b → (x && not b) ≡ x
+    unless_gone l x quiet false q = and-true x
+    unless_gone l x quiet true q = and_false x ∙ sym (quiet (sym (ap (λ y. is_up y h.entries) (eqb-true j l q)) ∙ down))
+
+    still_scopes : scope_words k ≡ scope_words h
+    still_scopes = λ i. record {
+      own = (gone.name i).name;
+      running = gone.running i;
+      listed = λ s g p. rows s g p i;
+      heard = λ l s. ((gone.heard l s).heard_is ∙ unless_gone l (heard l s h.entries) (λ d. ap (λ b. b && unwrap_or (first_of (hears s) (talk l h.entries)) false) d) (j == l) refl) i;
+      told = λ l s. ((gone.heard l s).told_is ∙ unless_gone l (told l s h.entries) (λ d. ap (λ b. b && unwrap_or (first_of (tells s) (talk l h.entries)) false) d) (j == l) refl) i;
+    }
+
+  -- ---- a link that was up with n
+
+  module _ (n : List ℕ) (rows : (s g : List ℕ) (p : Pid) → listed k s g p ≡ cond (same p.node n) 0 (listed h s g p)) where
+    cut_words : AreCutOff j n (scope_words h) (scope_words k)
+    cut_words = record {
+      own = ap (λ o. o.name) gone.name;
+      running = gone.running;
+      listed = rows;
+      heard = λ l s. (gone.heard l s).heard_is ∙ ap (λ b. heard l s h.entries && not b) (flip j l);
+      told = λ l s. (gone.heard l s).told_is ∙ ap (λ b. told l s h.entries && not b) (flip j l);
+    }
+
+    lost_change : (rs : List Running) (cs : List Change) → ArePartings (λ t. count_after_drop t n) rs cs → ScopesFollow (scope_words h) rs → IsChange h k cs
+    lost_change rs cs a t = partings_change h k (λ x. count_after_drop x n)
+        (λ r u g p. ap (cond (same p.node n) 0) (u.rows g p) ∙ sym (rows r.scope g p))
+        rs t (λ s stopped g p. rows s g p ∙ ap (cond (same p.node n) 0) (stopped_lists h s g p stopped) ∙ (grind arith)) cs a
+
+  -- ---- both
+
+  -- how often a process is listed now that the link is gone, which was up with this peer if it was up
+  abbrev pub RowsGone : Option (List ℕ) → Type 0
+  RowsGone None = (s g : List ℕ) (p : Pid) → listed k s g p ≡ listed h s g p
+  RowsGone (Some n) = (s g : List ℕ) (p : Pid) → listed k s g p ≡ cond (same p.node n) 0 (listed h s g p)
+
+  pub gone_change : (o : Option (List ℕ)) → RowsGone o → (rs : List Running) (cs : List Change) → AreLost o rs cs → ScopesFollow (scope_words h) rs → IsChange h k cs
+  gone_change None rows rs cs none t = subst (IsChange h k) (sym none) (no_change h k (λ s g p. sym (rows s g p)))
+  gone_change (Some n) rows rs cs lost t = lost_change n rows rs cs lost t
+
+  pub gone_scopes : (o : Option (List ℕ)) → (o ≡ None → is_up j h.entries ≡ false) → RowsGone o → (old new : List Running) → AreCut j o old new → ScopesFollow (scope_words h) old → ScopesFollow (scope_words k) new
+  gone_scopes None down rows old new same_scopes t = subst (λ w. ScopesFollow w new) (sym (still_scopes (down refl) rows)) (subst (ScopesFollow (scope_words h)) (sym same_scopes) t)
+  gone_scopes (Some n) down rows old new cuts t = cut_off_follow j n (scope_words h) (scope_words k) (cut_words n rows) old new t cuts
 
 -- ---- whether a link is up, by its state
 
@@ -21,14 +100,9 @@ unfinished : (h : History) (l : ℕ) → is_whole l h.entries ≡ false → is_u
 unfinished h l q = ap (λ b. is_open l h.entries && b) q ∙ and_false (is_open l h.entries)
 
 pub down_by : (h : History) (l : ℕ) (s : LinkState) → IsState (facts h l) s → up_peer s ≡ None → is_up l h.entries ≡ false
-down_by h l (LinkState.Name c) t q = unfinished h l t.0.whole
-down_by h l (LinkState.Answer s) t q = unfinished h l t.0.whole
-down_by h l (LinkState.Reply s) t q = unfinished h l t.0.whole
-down_by h l (LinkState.Status s) t q = unfinished h l t.0.whole
-down_by h l (LinkState.Challenge s) t q = unfinished h l t.0.whole
-down_by h l (LinkState.Ack s) t q = unfinished h l t.0.whole
 down_by h l (LinkState.Up s) t q = no_value q
 down_by h l LinkState.Ended t q = ap (λ b. b && is_whole l h.entries) t
+down_by h l s t q = unfinished h l t.0.whole
 
 -- the link is up with n, which is another node
 pub record IsUpWith (h : History) (l : ℕ) (n : List ℕ) : Type 0 where
@@ -37,14 +111,8 @@ pub record IsUpWith (h : History) (l : ℕ) (n : List ℕ) : Type 0 where
   pub other : same n h.opening.name ≡ false
 
 pub up_with : (h : History) (l : ℕ) (s : LinkState) (n : List ℕ) → IsState (facts h l) s → up_peer s ≡ Some n → IsUpWith h l n
-up_with h l (LinkState.Name c) n t q = no_value (sym q)
-up_with h l (LinkState.Answer s) n t q = no_value (sym q)
-up_with h l (LinkState.Reply s) n t q = no_value (sym q)
-up_with h l (LinkState.Status s) n t q = no_value (sym q)
-up_with h l (LinkState.Challenge s) n t q = no_value (sym q)
-up_with h l (LinkState.Ack s) n t q = no_value (sym q)
 up_with h l (LinkState.Up s) n t q = subst (IsUpWith h l) (some_is q) (record { up = and_both (is_open l h.entries) (is_whole l h.entries) t.0.open_now t.0.whole; peer = t.1.peer.peer; other = t.1.peer.other })
-up_with h l LinkState.Ended n t q = no_value (sym q)
+up_with h l s n t q = no_value (sym q)
 
 -- ---- a link that is lost
 
@@ -84,16 +152,11 @@ module _ (h : History) (seat j : ℕ) (cs : List Change) (parts : Parts) (t : Fo
 
   pub lost_follows : IsNext h loss → (scopes : List Running) → AreCut link.number (up_peer link.state) parts.scopes scopes
       → Follows (with_entry h loss) (record parts { scopes = scopes; links = filter (λ x. not (nat_eq x.number j)) parts.links })
-  lost_follows next scopes cuts = record {
-    sound = sound_now h parts.limit _ t.sound next;
-    admission = t.admission;
-    processes = t.processes;
-    scopes = gone_scopes h (with_entry h loss) j lost_gone (up_peer link.state) (down_by h j link.state its_state)
-        (lost_listed (record { room = next.room; number = next.number; verdict = next.verdict }) (up_peer link.state) refl) parts.scopes scopes
-        (subst (λ l. AreCut l (up_peer link.state) parts.scopes scopes) it.1 cuts) t.scopes;
-    links = gone_links h (with_entry h loss) j lost_gone parts.links t.links;
-    monitors = follows_other h _ parts.monitors next.number t.monitors refl;
-  }
+  lost_follows next scopes cuts = step_follows t next refl t.admission t.processes
+      (gone_scopes h (with_entry h loss) j lost_gone (up_peer link.state) (down_by h j link.state its_state)
+      (lost_listed (record { room = next.room; number = next.number; verdict = next.verdict }) (up_peer link.state) refl) parts.scopes scopes
+      (subst (λ l. AreCut l (up_peer link.state) parts.scopes scopes) it.1 cuts) t.scopes)
+      (gone_links h (with_entry h loss) j lost_gone parts.links t.links)
 
 -- ---- a link that is given up
 
@@ -150,12 +213,7 @@ module _ (h : History) (seat : ℕ) (n : List ℕ) (cs : List Change) (parts : P
 
     pub parting_follows : IsNext h parting → (scopes : List Running) (number : ℕ) → number ≡ last.number → AreCut last.number (up_peer last.state) parts.scopes scopes
         → Follows (with_entry h parting) (record parts { scopes = scopes; links = filter (λ x. not (nat_eq x.number number)) parts.links })
-    parting_follows next scopes number is cuts = record {
-      sound = sound_now h parts.limit _ t.sound next;
-      admission = t.admission;
-      processes = t.processes;
-      scopes = gone_scopes h (with_entry h parting) last.number parting_gone (up_peer last.state) (down_by h last.number last.state here.state)
-          (parting_listed (record { room = next.room; number = next.number; verdict = next.verdict })) parts.scopes scopes cuts t.scopes;
-      links = subst (λ l. LinksFollow (link_words (with_entry h parting)) (filter (λ x. not (nat_eq x.number l)) parts.links)) (sym is) (gone_links h (with_entry h parting) last.number parting_gone parts.links t.links);
-      monitors = follows_other h _ parts.monitors next.number t.monitors refl;
-    }
+    parting_follows next scopes number is cuts = step_follows t next refl t.admission t.processes
+        (gone_scopes h (with_entry h parting) last.number parting_gone (up_peer last.state) (down_by h last.number last.state here.state)
+        (parting_listed (record { room = next.room; number = next.number; verdict = next.verdict })) parts.scopes scopes cuts t.scopes)
+        (subst (λ l. LinksFollow (link_words (with_entry h parting)) (filter (λ x. not (nat_eq x.number l)) parts.links)) (sym is) (gone_links h (with_entry h parting) last.number parting_gone parts.links t.links))

@@ -2,14 +2,13 @@
 use Rattle.node_core.proofs.Words.{Bool, List, None, Some, ap, cond, false, get_or, length, nat_eq, position, refl, set, subst, sym, true, ℕ, []}
 use Rattle.node_core.proofs.Words.{◌++◌, ◌<◌, ◌==◌, ◌∙◌, ◌≡◌, option_map_or, eq-eqb, eqb-true, append-nil, same, Pid, Message, kept_climbs}
 use Rattle.node_core.proofs.Words.{running_rises, and_left, and_right, flip, IsChange, always, checks, first_broken, frame_checks, message_checks}
-use Rattle.node_core.proofs.Words.{heard, message_taken, told, History, is_open, is_up, links, named_by, listed, frame_owes, waiting, IsAnswered}
-use Rattle.node_core.proofs.Words.{IsLegal, IsNext, is_full, up_answer, verdict, with_entry, AwaitMessage, awaits, challenge_in, is_last, is_whole}
-use Rattle.node_core.proofs.Words.{Change, Entry, Accepted, follows_other, Follows, Parts, IsState, LinksFollow, facts, kept_numbers, link_words}
-use Rattle.node_core.proofs.Words.{KeptLink, IsRunningOf, ScopesFollow, scope_words, message_owes, entry_link, framed_numbers, Running, Event, Reply}
-use Rattle.node_core.proofs.Words.{Rule}
+use Rattle.node_core.proofs.Words.{heard, message_taken, told, History, is_open, is_up, links, named_by, listed, waiting, IsAnswered, IsLegal, IsNext}
+use Rattle.node_core.proofs.Words.{is_full, up_answer, verdict, with_entry, AwaitMessage, awaits, challenge_in, is_last, is_whole, Change, Entry}
+use Rattle.node_core.proofs.Words.{Accepted, Follows, Parts, IsState, LinksFollow, facts, kept_numbers, link_words, KeptLink, IsRunningOf}
+use Rattle.node_core.proofs.Words.{ScopesFollow, scope_words, message_owes, entry_link, framed_numbers, Running, Event, Reply, Rule, arith}
 use Rattle.policy_audit.proofs.Onward.{message_taken_on}
 use Rattle.policy_audit.proofs.LinkFrames.{message_links}
-use Rattle.node_core.proofs.Entered.{made, accepted_now, answered_now, next_now, sound_now}
+use Rattle.node_core.proofs.Entered.{step_follows, made, accepted_now, answered_now, next_now}
 use Rattle.node_core.proofs.Calm.{same_links}
 use Rattle.node_core.proofs.KeptOn.{facts_same, one_follows, place_is}
 use Rattle.node_core.proofs.OneScope.{one_scope_follows}
@@ -68,26 +67,15 @@ module _ (h : History) (seat l : ℕ) (body : List ℕ) (m : Message) (space : i
           }) opens
       by false e = facts_same h now refl j (entry_link h.entries entry l j body refl e) opens
 
-  owes : frame_owes h l body AwaitMessage ≡ message_owes h l m
-  owes = ap (λ o. option_map_or (message_owes h l) o []) says
-
   waits : (j : ℕ) → waiting now j ≡ cond (l == j) (waiting h j ++ message_owes h j m) (waiting h j)
-  waits j = (message_links h entry its_answered refl l body refl awaited j).waiting_is ∙ by (l == j) refl
-    where
-      by : (b : Bool) → (l == j) ≡ b → cond b (waiting h j ++ frame_owes h j body AwaitMessage) (waiting h j) ≡ cond b (waiting h j ++ message_owes h j m) (waiting h j)
-      by true e = ap (λ o. waiting h j ++ option_map_or (message_owes h j) o []) says
-      by false e = refl
+  waits j = (message_links h entry its_answered refl l body refl awaited j).waiting_is ∙ ap (λ o. cond (l == j) (waiting h j ++ option_map_or (message_owes h j) o []) (waiting h j)) says
 
   same_numbers : kept_numbers now ≡ kept_numbers h
   same_numbers = framed_numbers h entry refl its_answered l body refl (ap is_last awaited) (ap (λ a. named_by a body) awaited)
 
   -- a message to which nothing is owed leaves the links
   pub silent_links : ((j : ℕ) → message_owes h j m ≡ []) → (kept : List KeptLink) → LinksFollow (link_words h) kept → LinksFollow (link_words now) kept
-  silent_links nothing kept t = subst (λ w. LinksFollow w kept) (sym (same_links h now refl same_facts (λ j. waits j ∙ by j (l == j)))) t
-    where
-      by : (j : ℕ) (b : Bool) → cond b (waiting h j ++ message_owes h j m) (waiting h j) ≡ waiting h j
-      by j true = ap (λ fs. waiting h j ++ fs) (nothing j) ∙ append-nil (waiting h j)
-      by j false = refl
+  silent_links nothing kept t = subst (λ w. LinksFollow w kept) (sym (same_links h now refl same_facts (λ j. waits j ∙ grind (arith, nothing j, append-nil (waiting h j))))) t
 
   -- else what is owed waits for its link
   pub owed_links : (kept : List KeptLink) → IsLegal h → LinksFollow (link_words h) kept → (p : ℕ) (x y : KeptLink) → position (λ z. nat_eq z.number l) kept ≡ Some p → IsUpHere h l x → y.number ≡ x.number → y.state ≡ x.state
@@ -130,11 +118,4 @@ module _ (h : History) (seat l : ℕ) (body : List ℕ) (m : Message) (space : i
   -- ---- all that is kept
 
   pub message_follows : (parts : Parts) (rs : List Running) (kept : List KeptLink) → Follows h parts → IsNext h entry → ScopesFollow (scope_words now) rs → LinksFollow (link_words now) kept → Follows now (record parts { scopes = rs; links = kept })
-  message_follows parts rs kept t next scopes links = record {
-    sound = sound_now h parts.limit entry t.sound next;
-    admission = t.admission;
-    processes = t.processes;
-    scopes = scopes;
-    links = links;
-    monitors = follows_other h entry parts.monitors next.number t.monitors refl;
-  }
+  message_follows parts rs kept t next scopes links = step_follows t next refl t.admission t.processes scopes links

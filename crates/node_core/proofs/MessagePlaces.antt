@@ -1,13 +1,11 @@
 -- Where the link and the scope of a message are kept.
-use Rattle.node_core.proofs.Words.{Follows, Parts, List, None, Some, ap, cond, false, get_or, length, nat_eq, not, position, refl, subst, sym, true, ℕ, ◌<◌, ◌||◌}
-use Rattle.node_core.proofs.Words.{◌∙◌, ◌≡◌, get_or_default, position-Some, same_decides, is_empty, same, Linked, lie, and_left, and_right, History}
-use Rattle.node_core.proofs.Words.{is_open, is_up, is_kept, waiting, is_running, AwaitMessage, awaits, is_whole, IsIntroduced, IsLinkOf}
-use Rattle.node_core.proofs.Words.{IsState, LinkFacts, facts, link_words, KeptLink, IsRunningOf, scope_words, Running}
-use Rattle.node_core.proofs.Words.{LinkState}
+use Rattle.node_core.proofs.Words.{arith, Follows, Parts, List, None, Some, ap, cond, false, get_or, length, nat_eq, not, position, refl, subst, sym}
+use Rattle.node_core.proofs.Words.{true, ℕ, ◌<◌, ◌||◌, ◌∙◌, ◌≡◌, get_or_default, position-Some, same_decides, is_empty, same, Linked, lie, and_left}
+use Rattle.node_core.proofs.Words.{and_right, History, is_open, is_up, is_kept, waiting, is_running, AwaitMessage, awaits, is_whole, IsIntroduced}
+use Rattle.node_core.proofs.Words.{IsLinkOf, IsState, LinkFacts, facts, link_words, KeptLink, IsRunningOf, scope_words, Running, LinkState}
 use Rattle.node_core.proofs.Found.{no_place, some_place}
 use Rattle.node_core.proofs.Scopes.{runs_is}
-use Rattle.node_core.proofs.KeptOn.{each_at}
-use Rattle.node_core.proofs.Places.{not_kept, is_kept_at, link_at}
+use Rattle.node_core.proofs.KeptOn.{each_at, not_kept, is_kept_at, link_at}
 
 -- ---- links
 
@@ -74,6 +72,9 @@ same_there h rs s p r q there is = is ∙ get_or_default rs p q r there.within �
 -- ---- what waits for a kept link
 
 module _ {h : History} {parts : Parts} (t : Follows h parts) (l : ℕ) where
+  pub closed_here : position (λ x. nat_eq x.number l) parts.links ≡ None → is_open l h.entries ≡ false
+  closed_here q = grind (arith, not_kept h t.sound.legal parts.links t.links l q)
+
   pub waits_none : position (λ x. nat_eq x.number l) parts.links ≡ None → None ≡ cond (is_kept h l) (Some (length (waiting h l))) None
   waits_none q = sym (ap (λ b. cond b (Some (length (waiting h l))) None) (not_kept h t.sound.legal parts.links t.links l q))
 

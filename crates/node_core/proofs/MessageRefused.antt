@@ -1,13 +1,12 @@
 -- The rules that a message breaks, by what a node keeps of its link and of its scope.
-use Rattle.node_core.proofs.Words.{All, Bool, List, None, Some, ap, arith, cond, false, length, nat_le, not, refl, subst, sym, true, ℕ, [], ◌&&◌}
-use Rattle.node_core.proofs.Words.{◌++◌, ◌+◌, ◌<◌, ◌==◌, ◌||◌, ◌∙◌, ◌∷◌, ◌≡◌, ◌≤◌, AllByRecursion, filter, flat_map, list_all, option_map_or, le-leb}
-use Rattle.node_core.proofs.Words.{leb-true, same_decides, same_sym, is_empty, has_bit, IsPidListing, same, Pid, Row, Name, Message, all_hold}
-use Rattle.node_core.proofs.Words.{no_value, unbroken, and_left, and_right, flip, always, checks, first_broken, message_checks, heard, message_taken}
-use Rattle.node_core.proofs.Words.{History, is_open, is_up, listed, refusal_owes, is_running, AwaitMessage, awaits, is_whole, peer_of, Rule}
-use Rattle.node_core.proofs.Words.{IsCalmFault, refuses_calmly, facts, KeptLink, up_peer, IsRunningOf, is_number, scope_words, IsGroupListing}
-use Rattle.node_core.proofs.Words.{node_total, max_rows, are_counted, rows_of, is_from, members, groups, Check, are_from, hears_in, runs, unless}
-use Rattle.node_core.proofs.Words.{peer_rows, are_listed, CoreFault, Running, is_shown, are_of_peer, IsGiven, scope_in, early_checks, IsAddRefusal}
-use Rattle.node_core.proofs.Words.{IsTakeRefusal, Event}
+use Rattle.node_core.proofs.Words.{lt-leb, All, Bool, List, None, Some, ap, arith, cond, false, length, nat_le, not, refl, subst, sym, true, ℕ, []}
+use Rattle.node_core.proofs.Words.{◌&&◌, ◌++◌, ◌+◌, ◌<◌, ◌==◌, ◌||◌, ◌∙◌, ◌∷◌, ◌≡◌, ◌≤◌, AllByRecursion, filter, flat_map, list_all, option_map_or}
+use Rattle.node_core.proofs.Words.{le-leb, same_decides, same_sym, is_empty, has_bit, IsPidListing, same, Pid, Row, Name, Message, all_hold, no_value}
+use Rattle.node_core.proofs.Words.{unbroken, and_left, and_right, flip, always, checks, first_broken, message_checks, heard, message_taken, History}
+use Rattle.node_core.proofs.Words.{is_open, is_up, listed, refusal_owes, is_running, AwaitMessage, awaits, is_whole, peer_of, Rule, IsCalmFault}
+use Rattle.node_core.proofs.Words.{refuses_calmly, facts, KeptLink, up_peer, IsRunningOf, is_number, scope_words, IsGroupListing, node_total}
+use Rattle.node_core.proofs.Words.{max_rows, are_counted, rows_of, is_from, members, groups, Check, unless, peer_rows, are_listed, CoreFault, Running}
+use Rattle.node_core.proofs.Words.{is_shown, are_of_peer, IsGiven, scope_in, early_checks, IsAddRefusal, IsTakeRefusal, Event}
 use Rattle.std.proofs.lemmas.List.Elements.{All-from_recursion}
 use Rattle.scope_core.proofs.Members.{length-members}
 use Rattle.policy_audit.specs.Sides.{is_visible}
@@ -28,26 +27,15 @@ late_checks h l m = []
 
 split : (h : History) (l : ℕ) (m : Message) → message_checks h l m ≡ early_checks h l m ++ late_checks h l m
 split h l (Message.Discover s) = refl
-split h l (Message.Sync s rows) = refl
-split h l (Message.Join s rows) = refl
-split h l (Message.Leave s rows) = refl
-split h l (Message.Down s) = refl
+split h l m = refl
 
 broken_first : (cs ds : List Check) (r : Rule) → first_broken cs ≡ Some r → first_broken (cs ++ ds) ≡ Some r
 broken_first [] ds r q = no_value (sym q)
-broken_first (c ∷ cs) ds r q = by c.broken q (broken_first cs ds r)
-  where
-    by : (b : Bool) → cond b (Some c.rule) (first_broken cs) ≡ Some r → (first_broken cs ≡ Some r → first_broken (cs ++ ds) ≡ Some r) → cond b (Some c.rule) (first_broken (cs ++ ds)) ≡ Some r
-    by true q later = q
-    by false q later = later q
+broken_first (c ∷ cs) ds r q = grind (arith, broken_first cs ds r)
 
 broken_later : (cs ds : List Check) → first_broken cs ≡ None → first_broken (cs ++ ds) ≡ first_broken ds
 broken_later [] ds q = refl
-broken_later (c ∷ cs) ds q = by c.broken q (broken_later cs ds)
-  where
-    by : (b : Bool) → cond b (Some c.rule) (first_broken cs) ≡ None → (first_broken cs ≡ None → first_broken (cs ++ ds) ≡ first_broken ds) → cond b (Some c.rule) (first_broken (cs ++ ds)) ≡ first_broken ds
-    by true q later = no_value q
-    by false q later = later q
+broken_later (c ∷ cs) ds q = grind (arith, broken_later cs ds)
 
 pub early_broken : (h : History) (l : ℕ) (m : Message) (r : Rule) → first_broken (early_checks h l m) ≡ Some r → first_broken (message_checks h l m) ≡ Some r
 early_broken h l m r q = ap first_broken (split h l m) ∙ broken_first (early_checks h l m) (late_checks h l m) r q
@@ -66,27 +54,18 @@ none_broken h seat l body up awaited says = message_rules h seat l body up await
 
 -- the link is not visible
 pub hidden_first : (h : History) (l : ℕ) (m : Message) → is_visible h l ≡ false → first_broken (early_checks h l m) ≡ Some Rule.HiddenLink
-hidden_first h l (Message.Discover s) q = ap (λ b. first_broken (unless b Rule.HiddenLink ∷ runs h s ∷ [])) q
-hidden_first h l (Message.Sync s rows) q = ap (λ b. first_broken (unless b Rule.HiddenLink ∷ runs h s ∷ are_from h l rows ∷ [])) q
-hidden_first h l (Message.Join s rows) q = ap (λ b. first_broken (unless b Rule.HiddenLink ∷ runs h s ∷ hears_in h l s ∷ are_from h l rows ∷ [])) q
-hidden_first h l (Message.Leave s rows) q = ap (λ b. first_broken (unless b Rule.HiddenLink ∷ runs h s ∷ hears_in h l s ∷ are_from h l rows ∷ [])) q
-hidden_first h l (Message.Down s) q = ap (λ b. first_broken (unless b Rule.HiddenLink ∷ runs h s ∷ [])) q
+hidden_first h l (Message.Discover s) q = rw q refl
+hidden_first h l m q = rw q refl
 
 -- or the scope doesn't run
 pub stopped_first : (h : History) (l : ℕ) (m : Message) → is_visible h l ≡ true → is_running h (scope_in m) ≡ false → first_broken (early_checks h l m) ≡ Some Rule.NoScope
-stopped_first h l (Message.Discover s) v q = λ i. first_broken (unless (v i) Rule.HiddenLink ∷ unless (q i) Rule.NoScope ∷ [])
-stopped_first h l (Message.Sync s rows) v q = λ i. first_broken (unless (v i) Rule.HiddenLink ∷ unless (q i) Rule.NoScope ∷ are_from h l rows ∷ [])
-stopped_first h l (Message.Join s rows) v q = λ i. first_broken (unless (v i) Rule.HiddenLink ∷ unless (q i) Rule.NoScope ∷ hears_in h l s ∷ are_from h l rows ∷ [])
-stopped_first h l (Message.Leave s rows) v q = λ i. first_broken (unless (v i) Rule.HiddenLink ∷ unless (q i) Rule.NoScope ∷ hears_in h l s ∷ are_from h l rows ∷ [])
-stopped_first h l (Message.Down s) v q = λ i. first_broken (unless (v i) Rule.HiddenLink ∷ unless (q i) Rule.NoScope ∷ [])
+stopped_first h l (Message.Discover s) v q = rw (v, q) refl
+stopped_first h l m v q = rw (v, q) refl
 
 -- where none of them is broken, the scope runs
 pub scope_runs : (h : History) (l : ℕ) (m : Message) → first_broken (early_checks h l m) ≡ None → is_running h (scope_in m) ≡ true
-scope_runs h l (Message.Discover s) q = unbroken (is_running h s) (all_hold (early_checks h l (Message.Discover s)) q).1.0
-scope_runs h l (Message.Sync s rows) q = unbroken (is_running h s) (all_hold (early_checks h l (Message.Sync s rows)) q).1.0
-scope_runs h l (Message.Join s rows) q = unbroken (is_running h s) (all_hold (early_checks h l (Message.Join s rows)) q).1.0
-scope_runs h l (Message.Leave s rows) q = unbroken (is_running h s) (all_hold (early_checks h l (Message.Leave s rows)) q).1.0
-scope_runs h l (Message.Down s) q = unbroken (is_running h s) (all_hold (early_checks h l (Message.Down s)) q).1.0
+scope_runs h l (Message.Discover s) q = grind arith
+scope_runs h l m q = grind arith
 
 -- and each row is of its link's peer
 pub rows_from : (h : History) (l : ℕ) (s : List ℕ) (rows : List Row) → first_broken (early_checks h l (Message.Sync s rows)) ≡ None → list_all (λ r. is_from l h.entries r.pid) rows ≡ true
@@ -131,26 +110,14 @@ module _ {h : History} {l : ℕ} {x : KeptLink} (here : IsUpHere h l x) where
     where
       each : (rs : List Row) → list_all (λ r. is_from l h.entries r.pid) rs ≡ true → AllByRecursion (λ r. r.pid.node ≡ here.far.peer) rs
       each [] q = tt
-      each (r ∷ rs) q = (
-        (same_decides r.pid.node here.far.peer).0 (and_left (same r.pid.node here.far.peer) (r.pid.creation == here.far.creation) (sym (from_is r.pid) ∙ and_left (is_from l h.entries r.pid) (list_all (λ z. is_from l h.entries z.pid) rs) q)),
-        each rs (and_right (is_from l h.entries r.pid) (list_all (λ z. is_from l h.entries z.pid) rs) q),
-      )
+      each (r ∷ rs) q = grind (arith, each rs, from_is r.pid, same_decides)
 
   -- the first rule that is broken, but for those that the table tells
   pub refusal_is : (hs : List ℕ) (m : Message) → is_visible h l ≡ true → is_running h (scope_in m) ≡ true → is_number l hs ≡ heard l (scope_in m) h.entries → first_broken (early_checks h l m) ≡ refusal x hs m
-  refusal_is hs (Message.Discover s) v q hears = λ i. first_broken (unless (v i) Rule.HiddenLink ∷ unless (q i) Rule.NoScope ∷ [])
-  refusal_is hs (Message.Sync s rows) v q hears =
-      (λ i. first_broken (unless (v i) Rule.HiddenLink ∷ unless (q i) Rule.NoScope ∷ unless (sym (of_peer_is rows) i) Rule.ForeignPid ∷ []))
-      ∙ turned (are_of_peer x.state rows) (Some Rule.ForeignPid) None
-  refusal_is hs (Message.Join s rows) v q hears =
-      (λ i. first_broken (unless (v i) Rule.HiddenLink ∷ unless (q i) Rule.NoScope ∷ unless (sym hears i) Rule.NotHeard ∷ unless (sym (of_peer_is rows) i) Rule.ForeignPid ∷ []))
-      ∙ turned (is_number l hs) (Some Rule.NotHeard) (cond (not (are_of_peer x.state rows)) (Some Rule.ForeignPid) None)
-      ∙ (λ i. cond (is_number (sym here.number i) hs) (turned (are_of_peer x.state rows) (Some Rule.ForeignPid) None i) (Some Rule.NotHeard))
-  refusal_is hs (Message.Leave s rows) v q hears =
-      (λ i. first_broken (unless (v i) Rule.HiddenLink ∷ unless (q i) Rule.NoScope ∷ unless (sym hears i) Rule.NotHeard ∷ unless (sym (of_peer_is rows) i) Rule.ForeignPid ∷ []))
-      ∙ turned (is_number l hs) (Some Rule.NotHeard) (cond (not (are_of_peer x.state rows)) (Some Rule.ForeignPid) None)
-      ∙ (λ i. cond (is_number (sym here.number i) hs) (turned (are_of_peer x.state rows) (Some Rule.ForeignPid) None i) (Some Rule.NotHeard))
-  refusal_is hs (Message.Down s) v q hears = λ i. first_broken (unless (v i) Rule.HiddenLink ∷ unless (q i) Rule.NoScope ∷ [])
+  refusal_is hs (Message.Discover s) v q hears = rw (v, q) refl
+  refusal_is hs (Message.Down s) v q hears = rw (v, q) refl
+  refusal_is hs (Message.Sync s rows) v q hears = rw (v, q, ← of_peer_is rows) (turned (are_of_peer x.state rows) (Some Rule.ForeignPid) None)
+  refusal_is hs m v q hears = grind (arith, here.number, of_peer_is)
 
 -- ---- refusals end no link
 
@@ -158,21 +125,10 @@ module _ (h : History) (l : ℕ) (body : List ℕ) (up : is_up l h.entries ≡ t
   pub calm : (r : Rule) → refusal_owes r ≡ [] → refuses_calmly h (Event.Frame l body) r ≡ true
   calm r nothing = λ i. (not (and_left (is_open l h.entries) (is_whole l h.entries) up i) || and_right (is_open l h.entries) (is_whole l h.entries) up i) && is_empty (nothing i)
 
-foreign_silent : (b : Bool) (r : Rule) → cond b None (Some Rule.ForeignPid) ≡ Some r → refusal_owes r ≡ []
-foreign_silent true r q = no_value (sym q)
-foreign_silent false r q = ap refusal_owes (sym (some_is q))
-
-unheard_silent : (a b : Bool) (r : Rule) → cond a (cond b None (Some Rule.ForeignPid)) (Some Rule.NotHeard) ≡ Some r → refusal_owes r ≡ []
-unheard_silent true b r q = foreign_silent b r q
-unheard_silent false b r q = ap refusal_owes (sym (some_is q))
-
 -- what a message breaks early is owed nothing
 pub refusal_silent : (x : KeptLink) (hs : List ℕ) (m : Message) (r : Rule) → refusal x hs m ≡ Some r → refusal_owes r ≡ []
-refusal_silent x hs (Message.Discover s) r q = no_value (sym q)
-refusal_silent x hs (Message.Sync s rows) r q = foreign_silent (are_of_peer x.state rows) r q
-refusal_silent x hs (Message.Join s rows) r q = unheard_silent (is_number x.number hs) (are_of_peer x.state rows) r q
-refusal_silent x hs (Message.Leave s rows) r q = unheard_silent (is_number x.number hs) (are_of_peer x.state rows) r q
-refusal_silent x hs (Message.Down s) r q = no_value (sym q)
+refusal_silent x hs (Message.Discover s) r q = grind arith
+refusal_silent x hs m r q = grind arith
 
 -- ---- what the table tells
 
@@ -187,11 +143,7 @@ module _ (h : History) (l : ℕ) (s : List ℕ) (r : Running) (named : r.scope �
 
   -- a Join that makes too many rows
   join_full : (rows : List Row) (n : List ℕ) → peer_of l h.entries ≡ Some n → max_rows < node_total r.table n + length rows → first_broken (early_checks h l (Message.Join s rows)) ≡ None → first_broken (message_checks h l (Message.Join s rows)) ≡ Some Rule.RowsFull
-  join_full rows n of many q = early_held h l (Message.Join s rows) q ∙ ap (λ b. cond (not b) (Some Rule.RowsFull) None) (above (nat_le (peer_rows h l s + length rows) 4096) refl)
-    where
-      above : (b : Bool) → nat_le (peer_rows h l s + length rows) 4096 ≡ b → b ≡ false
-      above false e = refl
-      above true e = absurd (let most = leb-true (peer_rows h l s + length rows) 4096 e in let is = total_is n of in omega (arith, most, is, many))
+  join_full rows n of many q = early_held h l (Message.Join s rows) q ∙ ap (λ b. cond (not b) (Some Rule.RowsFull) None) (lt-leb (peer_rows h l s + length rows) 4096 (let is = total_is n of in omega (arith, is, many)))
 
   pub join_fits : (rows : List Row) (n : List ℕ) → peer_of l h.entries ≡ Some n → node_total r.table n + length rows ≤ max_rows → first_broken (early_checks h l (Message.Join s rows)) ≡ None → first_broken (message_checks h l (Message.Join s rows)) ≡ None
   join_fits rows n of few q = early_held h l (Message.Join s rows) q ∙ ap (λ b. cond (not b) (Some Rule.RowsFull) None) (le-leb (peer_rows h l s + length rows) 4096 (let is = total_is n of in omega (arith, is, few)))

@@ -1,9 +1,10 @@
 -- What each accepted message makes of its scope and of its link.
-use Rattle.node_core.proofs.Words.{Bool, List, arith, message_owes, position, length, ◌≤◌, early_checks, up_peer, node_total, max_rows, are_counted, CoreFault, IsAddRefusal, IsTakeRefusal, IsCalmFault, None, Some, ap, cond, false, get_or, nat_eq, not, refl, set, subst, sym, true, ℕ, [], ◌&&◌, ◌+◌}
-use Rattle.node_core.proofs.Words.{◌-◌, ◌==◌, ◌||◌, ◌∙◌, ◌∷◌, ◌≡◌, and-true, eqb-true, same_decides, same_sym, IsDifference, occurrences, same}
-use Rattle.node_core.proofs.Words.{same_row, GroupChange, Pid, Row, count_after_drop, count_of, no_change, and_false, flip, if_some, first_broken}
-use Rattle.node_core.proofs.Words.{message_checks, row, heard, message_taken, told, History, is_up, listed, IsAnswered, IsNext, is_full}
-use Rattle.node_core.proofs.Words.{with_entry, peer_of, Entry, Accepted, Follows, Parts, LinksFollow, link_words, KeptLink, IsCutOff}
+use Rattle.node_core.proofs.Words.{Bool, List, arith, message_owes, position, length, ◌≤◌, early_checks, up_peer, node_total, max_rows, are_counted}
+use Rattle.node_core.proofs.Words.{CoreFault, IsAddRefusal, IsTakeRefusal, IsCalmFault, None, Some, ap, cond, false, get_or, nat_eq, not, refl, set}
+use Rattle.node_core.proofs.Words.{subst, sym, true, ℕ, [], ◌&&◌, ◌+◌, ◌-◌, ◌==◌, ◌||◌, ◌∙◌, ◌∷◌, ◌≡◌, and-true, eqb-true, same_decides, same_sym}
+use Rattle.node_core.proofs.Words.{IsDifference, occurrences, same, same_row, GroupChange, Pid, Row, count_after_drop, count_of, no_change, and_false}
+use Rattle.node_core.proofs.Words.{flip, if_some, first_broken, message_checks, row, heard, message_taken, told, History, is_up, listed, IsAnswered}
+use Rattle.node_core.proofs.Words.{IsNext, is_full, with_entry, peer_of, Entry, Accepted, Follows, Parts, LinksFollow, link_words, KeptLink, IsCutOff}
 use Rattle.node_core.proofs.Words.{IsRunningOf, is_number, scope_words, count_after_sync, count_after_add, count_after_take, IsHeardNow, Running}
 use Rattle.node_core.proofs.Words.{with_number, without, HasBecome, Message, Event, Reply}
 use Rattle.std.proofs.lemmas.List.Folds.{list_any-append}
@@ -108,7 +109,7 @@ module _ {h : History} {parts : Parts} (t : Follows h parts) (seat l : ℕ) (bod
     silent : ((j : ℕ) → message_owes h j m ≡ []) → IsDifference (count_of r.table) (count_of y.table) gs → IsKept gs
     silent nothing differ =
         let next = its_next h seat l body m space up here.awaited says holds (if_some s gs)
-            (scope_change h (after_it gs) s gs (difference_is h s r there.named there.running (after_it gs) refl y (λ g q. counts (count_of r.table g q) g q) hs ts b rows_here gs differ) (λ u g q apart. sym (rows_apart u apart g q))) in
+        (scope_change h (after_it gs) s gs (difference_is h s r there.named there.running (after_it gs) refl y (λ g q. counts (count_of r.table g q) g q) hs ts b rows_here gs differ) (λ u g q apart. sym (rows_apart u apart g q))) in
         (next, follows next parts.links (silent_links h seat l body m space up here.awaited says holds (if_some s gs) nothing parts.links t.links))
 
   module _ (says : message_taken body ≡ Some (Message.Discover s)) (early : first_broken (early_checks h l (Message.Discover s)) ≡ None) where

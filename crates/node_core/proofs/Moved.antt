@@ -4,7 +4,7 @@ use Rattle.node_core.proofs.Words.{IsDifference, is_empty, same, Pid, Row, Messa
 use Rattle.node_core.proofs.Words.{OutFrame, wide, running_scopes, Change, Follows, Parts, KeptLink, IsMoved, IsRunningOf, ScopesFollow, is_number}
 use Rattle.node_core.proofs.Words.{scope_words, Alike, if_among, running_rises, set-get_or, if_told, Running}
 use Rattle.node_core.proofs.Scopes.{counts_listed}
-use Rattle.node_core.proofs.Placed.{follows_there, scope_is, within}
+use Rattle.node_core.proofs.MessagePlaces.{scope_here}
 use Rattle.node_core.proofs.OneScope.{one_scope_follows, scope_change}
 use Rattle.node_core.proofs.Told.{alike_again}
 
@@ -23,7 +23,7 @@ told_frames (r ∷ rs) numbers frame l b q = ap (λ c. cond (not c) [] (frame �
 module _ (h : History) (seat : ℕ) (parts : Parts) (t : Follows h parts) (s : List ℕ) (p : ℕ) (here : position (λ r. same r.scope s) parts.scopes ≡ Some p) (a b : Running) (at : a ≡ get_or parts.scopes p a)
     (m : Message) (count : List ℕ → Pid → ℕ) (links : List KeptLink) (cs : List Change) (moved : IsMoved m count a b parts.links links cs) where
   its_scope : a.scope ≡ s
-  its_scope = scope_is h parts.scopes t.scopes s p here a at
+  its_scope = (scope_here t s here at).named
 
   module _ (k : History) (rows : (f : List ℕ) (q : Pid) → listed k s f q ≡ count f q) (others : (u f : List ℕ) (q : Pid) → same u s ≡ false → listed h u f q ≡ listed k u f q) where
     now_counted : (f : List ℕ) (q : Pid) → count_of b.table f q ≡ listed k b.scope f q
@@ -32,7 +32,7 @@ module _ (h : History) (seat : ℕ) (parts : Parts) (t : Follows h parts) (s : L
     pub moved_change : IsChange h k cs
     moved_change = subst (IsChange h k) (sym (moved.changes ∙ ap (λ u. if_some u moved.groups) its_scope))
         (scope_change h k s moved.groups
-        (subst (λ f. IsDifference f (listed k s) moved.groups) (counts_listed h s a its_scope (follows_there h parts.scopes t.scopes s p here a at))
+        (subst (λ f. IsDifference f (listed k s) moved.groups) (counts_listed h s a its_scope (scope_here t s here at).running)
         (subst (λ f. IsDifference (count_of a.table) f moved.groups) (λ i f q. (now_counted f q ∙ ap (λ u. listed k u f q) (moved.scope ∙ its_scope)) i) moved.difference))
         others)
 
@@ -40,7 +40,7 @@ module _ (h : History) (seat : ℕ) (parts : Parts) (t : Follows h parts) (s : L
   module _ (k : History) (rows : (f : List ℕ) (q : Pid) → listed k s f q ≡ count f q) (others : (u f : List ℕ) (q : Pid) → same u s ≡ false → listed h u f q ≡ listed k u f q)
       (running : running_scopes k ≡ running_scopes h) (own_name : k.opening.name ≡ h.opening.name) (hears : (l : ℕ) (u : List ℕ) → heard l u k.entries ≡ heard l u h.entries) (tells : (l : ℕ) (u : List ℕ) → told l u k.entries ≡ told l u h.entries) where
     abbrev there : IsRunningOf (scope_words h) a
-    there = follows_there h parts.scopes t.scopes s p here a at
+    there = (scope_here t s here at).running
 
     changed : IsRunningOf (scope_words k) b
     changed = record {
@@ -60,19 +60,19 @@ module _ (h : History) (seat : ℕ) (parts : Parts) (t : Follows h parts) (s : L
 
     pub moved_scopes : ScopesFollow (scope_words k) (set parts.scopes p b)
     moved_scopes = one_scope_follows (scope_words h) (scope_words k) s b changed (moved.scope ∙ its_scope) still
-        parts.scopes p a t.scopes (running_rises h) running (within h parts.scopes t.scopes s p here a at) (sym (ap (λ r. r.scope) at) ∙ its_scope)
+        parts.scopes p a t.scopes (running_rises h) running (scope_here t s here at).within (sym (ap (λ r. r.scope) at) ∙ its_scope)
 
   -- what is told of rows, to links of which as many are told as the policy says
   pub moved_frames : (say : List ℕ → List Row → Message) (brought : List Row) (l : ℕ)
       → if_told h l s (say s) brought ≡ if_among (cond (not (is_empty brought)) a.told.items []) (wide (say a.scope brought)) l
   moved_frames say brought l =
-      let there = follows_there h parts.scopes t.scopes s p here a at in
+      let there = (scope_here t s here at).running in
       told_frames brought a.told.items (wide (say s brought)) l (told l s h.entries) (there.told l ∙ ap (λ u. told l u h.entries) its_scope)
       ∙ ap (λ u. if_among (cond (not (is_empty brought)) a.told.items []) (wide (say u brought)) l) (sym its_scope)
 
 -- ---- where nothing was moved
 
 -- all is as before where the scope at the place is the same, and the links are but for their room
-pub unmoved : (h : History) (parts : Parts) → Follows h parts → (p : ℕ) (a b : Running) → a ≡ get_or parts.scopes p a → b ≡ a → (links : List KeptLink) → Alike parts.links links → Follows h (record parts { scopes = set parts.scopes p b; links = links })
-unmoved h parts t p a b at same links alike =
+pub unmoved : {h : History} {parts : Parts} → Follows h parts → (p : ℕ) {a b : Running} → a ≡ get_or parts.scopes p a → b ≡ a → {links : List KeptLink} → Alike parts.links links → Follows h (record parts { scopes = set parts.scopes p b; links = links })
+unmoved {h} {parts} t p {a} at same {links} alike =
     subst (λ rs. Follows h (record parts { scopes = rs; links = links })) (sym ((λ i. set parts.scopes p ((same ∙ at) i)) ∙ set-get_or parts.scopes p a)) (alike_again h parts t links alike)

@@ -1,25 +1,17 @@
 -- The kept links after an entry by which one moves on, and perhaps another goes.
-use Rattle.node_core.proofs.Words.{Bool, List, None, Option, Some, ap, cond, false, get_or, length, map, nat_eq, not, refl, set, subst, sym, true, ℕ}
-use Rattle.node_core.proofs.Words.{[], ◌++◌, ◌<◌, ◌==◌, ◌||◌, ◌∙◌, ◌∷◌, ◌≡◌, filter, eq-eqb, kept_climbs, flip, History, OutFrame, waiting, IsLegal}
-use Rattle.node_core.proofs.Words.{moved_on, without_link, IsLinkOf, IsState, LinkWords, LinksFollow, facts, kept_numbers, link_words, KeptLink}
-use Rattle.node_core.proofs.Words.{LinkState}
-use Rattle.node_core.proofs.KeptOn.{all_follow, one_follows, each_at}
+use Rattle.node_core.proofs.Words.{Bool, List, None, Option, Some, ap, cond, false, get_or, length, nat_eq, not, refl, set, subst, sym, true, ℕ, ◌++◌}
+use Rattle.node_core.proofs.Words.{◌<◌, ◌==◌, ◌||◌, ◌∙◌, ◌≡◌, filter, eq-eqb, kept_climbs, flip, History, OutFrame, waiting, IsLegal, moved_on}
+use Rattle.node_core.proofs.Words.{without_link, IsLinkOf, IsState, LinkWords, LinksFollow, facts, kept_numbers, link_words, KeptLink, LinkState}
+use Rattle.node_core.proofs.Words.{arith}
+use Rattle.node_core.proofs.KeptOn.{one_follows, each_at, filter_all, stay_follow}
 
 -- a link stays unless it has this number
 abbrev pub stays_but : Option ℕ → ℕ → Bool
 stays_but None l = true
 stays_but (Some n) l = not (nat_eq l n)
 
-all_stay : (xs : List KeptLink) → filter (λ x. true) xs ≡ xs
-all_stay [] = refl
-all_stay (x ∷ xs) = ap (λ ys. x ∷ ys) (all_stay xs)
-
-as_they_are : (xs : List KeptLink) → map (λ x. x) xs ≡ xs
-as_they_are [] = refl
-as_they_are (x ∷ xs) = ap (λ ys. x ∷ ys) (as_they_are xs)
-
 pub without_is : (gone : Option ℕ) (xs : List KeptLink) → filter (λ x. stays_but gone x.number) xs ≡ without_link gone xs
-without_is None xs = all_stay xs
+without_is None xs = filter_all (λ x. true) (λ x. refl) xs
 without_is (Some n) xs = refl
 
 -- between two histories link j moves on to this state with these further frames, and of the others those that stay are as before
@@ -71,15 +63,10 @@ module _ (h k : History) (legal : IsLegal h) (j : ℕ) (state : LinkState) (fram
   stayed x q a = with_words between (link_words k) x (sym (new (facts k) (facts h))) (sym (new (waiting k) (waiting h))) a
     where
       new : {A : Type 0} (f g : ℕ → A) → pick f g x.number ≡ f x.number
-      new f g = ap (λ b. cond (j == x.number || b) (f x.number) (g x.number)) q ∙ either (j == x.number)
-        where
-          either : (b : Bool) → cond (b || true) (f x.number) (g x.number) ≡ f x.number
-          either true = refl
-          either false = refl
+      new f g = grind (arith, q)
 
   pub moves_follow : LinksFollow (link_words k) (filter (λ x. stays x.number) (set kept p moved))
-  moves_follow = subst (λ xs. LinksFollow (link_words k) (filter (λ (x : KeptLink). stays x.number) xs)) (as_they_are (set kept p moved))
-      (all_follow between (link_words k) (λ x. x) stays (λ x. refl) (set kept p moved) (one_follows (link_words h) between moved here other kept p d t (kept_climbs h legal) refl less refl) moves.numbers stayed)
+  moves_follow = stay_follow between (link_words k) stays (set kept p moved) (one_follows (link_words h) between moved here other kept p d t (kept_climbs h legal) refl less refl) moves.numbers stayed
 
 -- the same, where at most one link goes
 pub moved_follow : (h k : History) → IsLegal h → (j : ℕ) (state : LinkState) (frames : List OutFrame) (gone : Option ℕ) → AreMoves h k j state frames (stays_but gone)

@@ -1,10 +1,10 @@
 -- What an accepted Name makes of its link, and of the own dial to that peer.
-use Rattle.node_core.proofs.Words.{Bool, List, None, Option, Some, ap, cond, false, nat_eq, not, refl, subst, sym, true, ℕ, [], ◌&&◌, ◌++◌, ◌==◌, ◌∙◌}
-use Rattle.node_core.proofs.Words.{◌∷◌, ◌≡◌, option_map, option_map_or, eq-eqb, eqb-true, same, Name, name_frame, AdmissionRules, is_dialled, Pending}
-use Rattle.node_core.proofs.Words.{lie, and_left, and_right, History, is_accepted, is_dialling, is_open, is_unfinished_dial, OutFrame, waiting}
-use Rattle.node_core.proofs.Words.{IsAnswered, IsLegal, with_entry, is_name_up, Entry, AdmissionFollows, admission_words, heard_named, IsIntroduced}
-use Rattle.node_core.proofs.Words.{IsLinkOf, IsState, LinksFollow, facts, kept_numbers, link_words, KeptLink, dial_beside, dialled_peer}
-use Rattle.node_core.proofs.Words.{narrow_frames, if◌then◌else◌, Named, introduced, is_visible, AwaitAnswer, AwaitReply, own_challenge_frame}
+use Rattle.node_core.proofs.Words.{if◌then◌else◌, Bool, List, None, Option, Some, ap, cond, false, nat_eq, not, refl, subst, sym, true, ℕ, [], ◌&&◌}
+use Rattle.node_core.proofs.Words.{◌++◌, ◌==◌, ◌∙◌, ◌∷◌, ◌≡◌, option_map, option_map_or, eq-eqb, eqb-true, same, Name, name_frame, AdmissionRules}
+use Rattle.node_core.proofs.Words.{is_dialled, Pending, lie, and_left, and_right, History, is_accepted, is_dialling, is_open, is_unfinished_dial}
+use Rattle.node_core.proofs.Words.{OutFrame, waiting, IsAnswered, IsLegal, with_entry, is_name_up, Entry, AdmissionFollows, admission_words}
+use Rattle.node_core.proofs.Words.{heard_named, IsIntroduced, IsLinkOf, IsState, LinksFollow, facts, kept_numbers, link_words, KeptLink, dial_beside}
+use Rattle.node_core.proofs.Words.{dialled_peer, narrow_frames, Named, introduced, is_visible, AwaitAnswer, AwaitReply, own_challenge_frame}
 use Rattle.node_core.proofs.Words.{status_frame, welcome, Heard, LinkState, dial_to, StatusWord, Event}
 use Rattle.link_states.specs.Pending.{is_up}
 use Rattle.policy_audit.proofs.LinkFrames.{named_links, given_up_by}

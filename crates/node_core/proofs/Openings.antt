@@ -1,13 +1,12 @@
 -- Links that open: the new link follows its opening, and all others are as before.
-use Rattle.node_core.proofs.Words.{Bool, List, None, Some, ap, arith, cond, false, length, map, nat_le, nat_lt, not, refl, subst, sym, true, ℕ, []}
-use Rattle.node_core.proofs.Words.{◌++◌, ◌+◌, ◌<◌, ◌==◌, ◌||◌, ◌∙◌, ◌∷◌, ◌≡◌, ◌≤◌, AllByRecursion, list_all, option_map_or, eq-eqb, eqb-true}
-use Rattle.node_core.proofs.Words.{leb-true, lt-ltb, ltb-true, same, AdmissionRules, all_hold, lie, unbroken, no_change, and_left, and_right}
-use Rattle.node_core.proofs.Words.{dial_checks, first_broken, History, is_accepted, is_open, is_kept, narrow, running_scopes, IsAnswered, IsLegal}
-use Rattle.node_core.proofs.Words.{IsNext, is_full, next_number, with_entry, challenge_in, Entry, Accepted, follows_other, AdmissionFollows}
-use Rattle.node_core.proofs.Words.{admission_words, Follows, Parts, IsLinkOf, IsState, LinksFollow, facts, link_words, KeptLink, ScopesFollow}
-use Rattle.node_core.proofs.Words.{scope_words, length-map, map-append, own_flags, Start, ByPeer, ByDial, start_of, own_name_frame, kept_links}
-use Rattle.node_core.proofs.Words.{kept_count, kept_opening, opening_waiting, all_left, all_reverse, opened_waiting, dialled_waiting, dialled_link}
-use Rattle.node_core.proofs.Words.{Event, Reply, Rule, LinkState}
+use Rattle.node_core.proofs.Words.{le-ltb, not-true, List, None, Some, ap, arith, cond, false, length, map, nat_le, nat_lt, not, refl, subst, sym}
+use Rattle.node_core.proofs.Words.{true, ℕ, [], ◌++◌, ◌<◌, ◌==◌, ◌||◌, ◌∙◌, ◌∷◌, ◌≡◌, ◌≤◌, AllByRecursion, list_all, option_map_or, eq-eqb, eqb-true}
+use Rattle.node_core.proofs.Words.{leb-true, lt-ltb, same, AdmissionRules, all_hold, unbroken, no_change, and_left, and_right, dial_checks}
+use Rattle.node_core.proofs.Words.{first_broken, History, is_accepted, is_open, is_kept, narrow, running_scopes, IsAnswered, IsLegal, IsNext, is_full}
+use Rattle.node_core.proofs.Words.{next_number, with_entry, challenge_in, Entry, Accepted, AdmissionFollows, admission_words, Follows, Parts}
+use Rattle.node_core.proofs.Words.{IsLinkOf, IsState, LinksFollow, facts, link_words, KeptLink, ScopesFollow, scope_words, length-map, map-append}
+use Rattle.node_core.proofs.Words.{own_flags, Start, ByPeer, ByDial, start_of, own_name_frame, kept_links, kept_count, kept_opening, opening_waiting}
+use Rattle.node_core.proofs.Words.{all_left, all_reverse, opened_waiting, dialled_waiting, dialled_link, Event, Reply, Rule, LinkState}
 use Rattle.handshake_frames.specs.Spelling.{name_bytes}
 use Rattle.link_states.specs.Frames.{own_name}
 use Rattle.policy_audit.proofs.KeptLinks.{links_below}
@@ -16,22 +15,15 @@ use Rattle.policy_audit.proofs.NewLinks.{IsNewLink, opened_apart, opened_new, op
 use Rattle.policy_audit.proofs.HeardNow.{opening_heard}
 use Rattle.policy_audit.proofs.RowsAfter.{opened_rows, dialled_rows}
 use Rattle.node_core.proofs.KeptOn.{facts_same}
-use Rattle.node_core.proofs.Entered.{made, accepted_now, answered_now, next_now, sound_now}
+use Rattle.node_core.proofs.Entered.{step_follows, made, accepted_now, answered_now, next_now}
 
 -- ---- how many links are kept
 
 pub kept_are : (h : History) (kept : List KeptLink) → LinksFollow (link_words h) kept → kept_links h ≡ length kept
 kept_are h kept t = kept_count h ∙ ap length (sym t.numbers) ∙ length-map kept (λ x. x.number)
 
-pub not_below : (n m : ℕ) → m ≤ n → nat_lt n m ≡ false
-not_below n m over = by (nat_lt n m) refl
-  where
-    by : (b : Bool) → nat_lt n m ≡ b → b ≡ false
-    by true e = (let less = ltb-true n m e in absurd (omega (arith, over, less)))
-    by false e = refl
-
 pub links_full : (h : History) (kept : List KeptLink) → LinksFollow (link_words h) kept → 64 ≤ length kept → nat_lt (kept_links h) 64 ≡ false
-links_full h kept t over = not_below (kept_links h) 64 (let is = kept_are h kept t in omega (arith, is, over))
+links_full h kept t over = le-ltb (kept_links h) 64 (let is = kept_are h kept t in omega (arith, is, over))
 
 pub links_fit : (h : History) (kept : List KeptLink) → LinksFollow (link_words h) kept → length kept < 64 → nat_lt (kept_links h) 64 ≡ true
 links_fit h kept t few = lt-ltb (kept_links h) 64 (let is = kept_are h kept t in omega (arith, is, few))
@@ -54,11 +46,7 @@ module _ (h : History) (legal : IsLegal h) (e : Entry) (is_made : IsAnswered h e
   }
 
   older : (n : ℕ) → nat_le n (length h.entries) ≡ true → (e.number == n) ≡ false
-  older n below = by (e.number == n) refl
-    where
-      by : (b : Bool) → (e.number == n) ≡ b → b ≡ false
-      by false q = refl
-      by true q = absurd (let here : e.number ≡ length h.entries + 1 = is_made.number in let there : e.number ≡ n = eqb-true e.number n q in let less = leb-true n (length h.entries) below in omega (arith, here, there, less))
+  older n below = grind (arith, is_made.number, eqb-true, leb-true)
 
   each_more : (new : KeptLink) → IsLinkOf (link_words k) new → (xs : List KeptLink) → list_all (λ n. nat_le n (length h.entries)) (map (λ x. x.number) xs) ≡ true → AllByRecursion (IsLinkOf (link_words h)) xs
       → AllByRecursion (IsLinkOf (link_words k)) (xs ++ new ∷ [])
@@ -111,22 +99,17 @@ module _ (h : History) (legal : IsLegal h) (seat c n : ℕ) (numbered : n ≡ ne
 
     pub opened_follows : (parts : Parts) (challenge room : ℕ) → Follows h parts → challenge ≡ c
         → Follows (with_entry h opening) (record parts { links = parts.links ++ record { number = n; state = LinkState.Name challenge; frames = []; prepared = []; room = room } ∷ [] })
-    opened_follows parts challenge room t same_challenge = record {
-      sound = sound_now h parts.limit _ t.sound next;
-      admission = t.admission;
-      processes = t.processes;
-      scopes = subst (λ w. ScopesFollow w parts.scopes) (sym opened_scopes) t.scopes;
-      links = new_follows h legal opening answer_is refl (ByPeer c) refl parts.links (record { number = n; state = LinkState.Name challenge; frames = []; prepared = []; room = room }) t.links numbered
-          (subst (λ j. IsLinkOf (link_words (with_entry h opening)) (record { number = j; state = LinkState.Name challenge; frames = []; prepared = []; room = room })) (sym numbered) (record {
-            state = (
-              record { open_now = opens_now h legal opening answer_is refl (ByPeer c) refl; whole = (its h legal opening answer_is refl (ByPeer c) refl).whole; awaited = (its h legal opening answer_is refl (ByPeer c) refl).awaits },
-              same_challenge ∙ sym (ap (λ o. option_map_or (λ x. challenge_in x.start) o 0) (its h legal opening answer_is refl (ByPeer c) refl).opened),
-            );
-            frames = sym (opened_waiting h opening answer_is refl legal c refl);
-            idle = refl;
-          }));
-      monitors = follows_other h _ parts.monitors next.number t.monitors refl;
-    }
+    opened_follows parts challenge room t same_challenge = step_follows t next refl t.admission t.processes
+        (subst (λ w. ScopesFollow w parts.scopes) (sym opened_scopes) t.scopes)
+        (new_follows h legal opening answer_is refl (ByPeer c) refl parts.links (record { number = n; state = LinkState.Name challenge; frames = []; prepared = []; room = room }) t.links numbered
+        (subst (λ j. IsLinkOf (link_words (with_entry h opening)) (record { number = j; state = LinkState.Name challenge; frames = []; prepared = []; room = room })) (sym numbered) (record {
+          state = (
+            record { open_now = opens_now h legal opening answer_is refl (ByPeer c) refl; whole = (its h legal opening answer_is refl (ByPeer c) refl).whole; awaited = (its h legal opening answer_is refl (ByPeer c) refl).awaits },
+            same_challenge ∙ sym (ap (λ o. option_map_or (λ x. challenge_in x.start) o 0) (its h legal opening answer_is refl (ByPeer c) refl).opened),
+          );
+          frames = sym (opened_waiting h opening answer_is refl legal c refl);
+          idle = refl;
+        })))
 
 -- ---- a link to a peer
 
@@ -158,11 +141,7 @@ module _ (h : History) (legal : IsLegal h) (seat : ℕ) (peer : List ℕ) (c n :
     }
 
     other_node : same peer h.opening.name ≡ false
-    other_node = flipped (same peer h.opening.name) (unbroken (not (same peer h.opening.name)) (all_hold (dial_checks h peer) holds).0)
-      where
-        flipped : (b : Bool) → not b ≡ true → b ≡ false
-        flipped false q = refl
-        flipped true q = lie (sym q)
+    other_node = not-true (same peer h.opening.name) (unbroken (not (same peer h.opening.name)) (all_hold (dial_checks h peer) holds).0)
 
     dialled_now : (parts : Parts) (room : ℕ) → Follows h parts → IsLinkOf (link_words (with_entry h dial)) (dialled_link parts.admission (next_number h) peer c room)
     dialled_now parts room t = record {
@@ -178,13 +157,8 @@ module _ (h : History) (legal : IsLegal h) (seat : ℕ) (peer : List ℕ) (c n :
     }
 
     pub dialled_follows : (parts : Parts) (link : KeptLink) → Follows h parts → link ≡ dialled_link parts.admission n peer c link.room → Follows (with_entry h dial) (record parts { links = parts.links ++ link ∷ [] })
-    dialled_follows parts link t is = record {
-      sound = sound_now h parts.limit _ t.sound next;
-      admission = t.admission;
-      processes = t.processes;
-      scopes = subst (λ w. ScopesFollow w parts.scopes) (sym dialled_scopes) t.scopes;
-      links = subst (λ x. LinksFollow (link_words (with_entry h dial)) (parts.links ++ x ∷ [])) (sym is)
-          (new_follows h legal dial dial_is refl (ByDial peer c) refl parts.links (dialled_link parts.admission n peer c link.room) t.links numbered
-          (subst (λ j. IsLinkOf (link_words (with_entry h dial)) (dialled_link parts.admission j peer c link.room)) (sym numbered) (dialled_now parts link.room t)));
-      monitors = follows_other h _ parts.monitors next.number t.monitors refl;
-    }
+    dialled_follows parts link t is = step_follows t next refl t.admission t.processes
+        (subst (λ w. ScopesFollow w parts.scopes) (sym dialled_scopes) t.scopes)
+        (subst (λ x. LinksFollow (link_words (with_entry h dial)) (parts.links ++ x ∷ [])) (sym is)
+        (new_follows h legal dial dial_is refl (ByDial peer c) refl parts.links (dialled_link parts.admission n peer c link.room) t.links numbered
+        (subst (λ j. IsLinkOf (link_words (with_entry h dial)) (dialled_link parts.admission j peer c link.room)) (sym numbered) (dialled_now parts link.room t))))

@@ -46,12 +46,8 @@ module _ (h : History) (j : ℕ) where
   pub awaits_last : (s : LinkState) → IsState (facts h j) s → is_open j h.entries ≡ true → is_last (awaits j h.entries) ≡ true → is_last_state s ≡ true
   awaits_last (LinkState.Reply s) a opens last = refl
   awaits_last (LinkState.Ack s) a opens last = refl
-  awaits_last (LinkState.Name c) a opens last = sym (ap is_last a.0.awaited) ∙ last
-  awaits_last (LinkState.Answer s) a opens last = sym (ap is_last a.0.awaited) ∙ last
-  awaits_last (LinkState.Status s) a opens last = sym (ap is_last a.0.awaited) ∙ last
-  awaits_last (LinkState.Challenge s) a opens last = sym (ap is_last a.0.awaited) ∙ last
-  awaits_last (LinkState.Up s) a opens last = sym (ap is_last a.0.awaited) ∙ last
   awaits_last LinkState.Ended a opens last = lie (sym opens ∙ a)
+  awaits_last s a opens last = sym (ap is_last a.0.awaited) ∙ last
 
   module _ (rules : AdmissionRules) (t : AdmissionFollows (admission_words h) rules) (body : List ℕ) (pending : Pending) where
     -- ---- it breaks a rule

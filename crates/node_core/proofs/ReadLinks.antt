@@ -2,9 +2,9 @@
 use Rattle.node_core.proofs.Words.{Bool, List, None, Option, Some, ap, arith, cond, false, is_some, map, nat_eq, not, refl, subst, suc, sym, true, ℕ}
 use Rattle.node_core.proofs.Words.{[], ◌&&◌, ◌++◌, ◌||◌, ◌∙◌, ◌∷◌, ◌≡◌, ◌≤◌, AllByRecursion, flat_map, list_any, option_map_or, option_to_list}
 use Rattle.node_core.proofs.Words.{eq-eqb, eqb-true, same_decides, is_empty, occurrences, same, lie, kept_among, and_false, and_left, and_right}
-use Rattle.node_core.proofs.Words.{History, is_open, is_up, is_kept, waiting, awaits, is_name_up, is_peer, is_whole, peer_of, Follows, Parts}
-use Rattle.node_core.proofs.Words.{IsLinkOf, IsState, facts, kept_numbers, link_words, KeptLink, up_peer, how_many, kept_once, name_up_kept, one_up}
-use Rattle.node_core.proofs.Words.{LinkState, frame_awaited}
+use Rattle.node_core.proofs.Words.{History, is_open, is_up, waiting, awaits, is_name_up, is_peer, is_whole, peer_of, Follows, Parts, IsLinkOf}
+use Rattle.node_core.proofs.Words.{IsState, facts, kept_numbers, link_words, KeptLink, up_peer, how_many, kept_once, name_up_kept, one_up, LinkState}
+use Rattle.node_core.proofs.Words.{frame_awaited}
 use Rattle.node_core.specs.Reading.{up_name, up_names, frame_of, awaiting}
 use Rattle.node_core.proofs.Found.{any_map}
 use Rattle.node_core.proofs.LinkTests.{agree, up_is}
@@ -13,34 +13,17 @@ use Rattle.node_core.proofs.LinkTests.{agree, up_is}
 
 module _ (h : History) (l : ℕ) where
   up_told : (s : LinkState) → IsState (facts h l) s → is_some (up_peer s) ≡ is_up l h.entries
-  up_told (LinkState.Name c) t = grind (arith, t.0.whole)
-  up_told (LinkState.Answer s) t = grind (arith, t.0.whole)
-  up_told (LinkState.Reply s) t = grind (arith, t.0.whole)
-  up_told (LinkState.Status s) t = grind (arith, t.0.whole)
-  up_told (LinkState.Challenge s) t = grind (arith, t.0.whole)
-  up_told (LinkState.Ack s) t = grind (arith, t.0.whole)
   up_told (LinkState.Up s) t = sym (λ i. t.0.open_now i && t.0.whole i)
   up_told LinkState.Ended t = sym (ap (λ b. b && is_whole l h.entries) t)
+  up_told s t = grind (arith, t.0.whole)
 
   name_told : (s : LinkState) → IsState (facts h l) s → option_to_list (up_peer s) ≡ up_name h l
   name_told (LinkState.Up s) t = sym (λ i. cond (t.0.open_now i && t.0.whole i) (option_to_list (t.1.peer.peer i)) [])
-  name_told (LinkState.Name c) t = ap (λ b. cond b (option_to_list (peer_of l h.entries)) []) (up_told (LinkState.Name c) t)
-  name_told (LinkState.Answer s) t = ap (λ b. cond b (option_to_list (peer_of l h.entries)) []) (up_told (LinkState.Answer s) t)
-  name_told (LinkState.Reply s) t = ap (λ b. cond b (option_to_list (peer_of l h.entries)) []) (up_told (LinkState.Reply s) t)
-  name_told (LinkState.Status s) t = ap (λ b. cond b (option_to_list (peer_of l h.entries)) []) (up_told (LinkState.Status s) t)
-  name_told (LinkState.Challenge s) t = ap (λ b. cond b (option_to_list (peer_of l h.entries)) []) (up_told (LinkState.Challenge s) t)
-  name_told (LinkState.Ack s) t = ap (λ b. cond b (option_to_list (peer_of l h.entries)) []) (up_told (LinkState.Ack s) t)
-  name_told LinkState.Ended t = ap (λ b. cond b (option_to_list (peer_of l h.entries)) []) (up_told LinkState.Ended t)
+  name_told s t = ap (λ b. cond b (option_to_list (peer_of l h.entries)) []) (up_told s t)
 
   frame_told : (s : LinkState) → IsState (facts h l) s → frame_awaited s ≡ cond (is_open l h.entries) (Some (frame_of (awaits l h.entries))) None
-  frame_told (LinkState.Name c) t = sym (λ i. cond (t.0.open_now i) (Some (frame_of (t.0.awaited i))) None)
-  frame_told (LinkState.Answer s) t = sym (λ i. cond (t.0.open_now i) (Some (frame_of (t.0.awaited i))) None)
-  frame_told (LinkState.Reply s) t = sym (λ i. cond (t.0.open_now i) (Some (frame_of (t.0.awaited i))) None)
-  frame_told (LinkState.Status s) t = sym (λ i. cond (t.0.open_now i) (Some (frame_of (t.0.awaited i))) None)
-  frame_told (LinkState.Challenge s) t = sym (λ i. cond (t.0.open_now i) (Some (frame_of (t.0.awaited i))) None)
-  frame_told (LinkState.Ack s) t = sym (λ i. cond (t.0.open_now i) (Some (frame_of (t.0.awaited i))) None)
-  frame_told (LinkState.Up s) t = sym (λ i. cond (t.0.open_now i) (Some (frame_of (t.0.awaited i))) None)
   frame_told LinkState.Ended t = sym (ap (λ b. cond b (Some (frame_of (awaits l h.entries))) None) t)
+  frame_told s t = sym (λ i. cond (t.0.open_now i) (Some (frame_of (t.0.awaited i))) None)
 
 -- ---- lists of numbers
 
@@ -68,14 +51,7 @@ counts_one test one (x ∷ xs) once = by (test x) refl (counts_one test one xs (
 
 names_count : (h : History) (n : List ℕ) (xs : List ℕ) → occurrences same n (flat_map (up_name h) xs) ≡ how_many (λ l. is_up l h.entries && is_peer n l h.entries) xs
 names_count h n [] = refl
-names_count h n (x ∷ xs) = by (is_up x h.entries) (peer_of x h.entries) (names_count h n xs)
-  where
-    by : (b : Bool) (o : Option (List ℕ)) → occurrences same n (flat_map (up_name h) xs) ≡ how_many (λ l. is_up l h.entries && is_peer n l h.entries) xs
-        → occurrences same n (cond b (option_to_list o) [] ++ flat_map (up_name h) xs)
-        ≡ cond (b && option_map_or (λ m. same m n) o false) (suc (how_many (λ l. is_up l h.entries && is_peer n l h.entries) xs)) (how_many (λ l. is_up l h.entries && is_peer n l h.entries) xs)
-    by true (Some m) q = ap (λ k. cond (same m n) (suc k) k) q
-    by true None q = q
-    by false o q = q
+names_count h n (x ∷ xs) = grind (arith, names_count h n xs)
 
 -- ---- the readers
 

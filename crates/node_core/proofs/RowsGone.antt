@@ -1,16 +1,61 @@
 -- The rows that leave with a process.
-use Rattle.node_core.proofs.Words.{Bool, List, ap, arith, cond, false, length, map, refl, sym, true, ℕ, [], ◌++◌, ◌+◌, ◌-◌, ◌∙◌, ◌∷◌, ◌≡◌, ◌≤◌}
-use Rattle.node_core.proofs.Words.{AllByRecursion, filter, Less, same_decides, same_pid_decides, IsDifference, Rises, occurrences, same, same_pid}
-use Rattle.node_core.proofs.Words.{same_row, pid_cmp, row_cmp, text_cmp, GroupChange, Pid, Row, count_after_exit, Table, count_of, local_count}
-use Rattle.node_core.proofs.Words.{local_total, local_rows, row, History, IsLegal, rows_left, IsRunningOf, scope_words, Ordering, is_gt, IsProper}
-use Rattle.node_core.proofs.Words.{times_left, Ascends, count_in_group, Running}
+use Rattle.node_core.proofs.Words.{List, ap, arith, cond, false, length, map, refl, ℕ, [], ◌++◌, ◌+◌, ◌∙◌, ◌∷◌, ◌≡◌, ◌≤◌, AllByRecursion, filter}
+use Rattle.node_core.proofs.Words.{Less, same_decides, same_pid_decides, IsDifference, Rises, occurrences, same_pid, same_row, pid_cmp, row_cmp}
+use Rattle.node_core.proofs.Words.{text_cmp, GroupChange, Pid, Row, count_after_exit, Table, count_of, local_count, local_total, local_rows, row}
+use Rattle.node_core.proofs.Words.{History, IsLegal, rows_left, IsRunningOf, scope_words, Ordering, is_gt, IsProper, times_left, Ascends}
+use Rattle.node_core.proofs.Words.{count_in_group, Running, Bool, sym, true, IsListing, spread, total, same_length, same_row_decides, is_of_node}
 use Rattle.std.specs.Ordering.{ordering_then}
-use Rattle.dist_types.proofs.Listings.{all_append}
+use Rattle.dist_types.proofs.Listings.{all_append, fewer_length, length-spread, spread_counts}
 use Rattle.dist_types.proofs.Totals.{how_many_append}
 use Rattle.policy_audit.proofs.Lists.{rows_of_group}
-use Rattle.policy_audit.proofs.OwnRows.{exit_listing}
-use Rattle.node_core.proofs.OwnTotal.{few_rows}
+use Rattle.policy_audit.proofs.OwnRows.{exit_listing, local_rows_are}
 use Rattle.node_core.proofs.Scopes.{own_counts}
+use Rattle.scope_core.specs.declared.counted.Counted.{Counted}
+
+-- the own rows of a table, each as often as it is counted
+abbrev pub own_rows : Table → List Row
+own_rows t = spread (λ c. c.row) (λ c. cond (is_of_node t.own c.row) c.count 0) t.rows
+
+nothing : (b : Bool) → cond {A = ℕ} b 0 0 ≡ 0
+nothing true = refl
+nothing false = refl
+
+own_shares : (own : List ℕ) (r : Row) (cs : List Counted) → total (λ c. cond (same_row c.row r) (cond (is_of_node own c.row) c.count 0) 0) cs ≡ cond (is_of_node own r) (total (λ c. cond (same_row c.row r) c.count 0) cs) 0
+own_shares own r [] = sym (nothing (is_of_node own r))
+own_shares own r (c ∷ cs) = by (same_row c.row r) refl (is_of_node own r) refl (own_shares own r cs)
+  where
+    its : same_row c.row r ≡ true → is_of_node own c.row ≡ is_of_node own r
+    its s = ap (is_of_node own) ((same_row_decides c.row r).0 s)
+
+    by : (a : Bool) → same_row c.row r ≡ a → (b : Bool) → is_of_node own r ≡ b
+        → total (λ x. cond (same_row x.row r) (cond (is_of_node own x.row) x.count 0) 0) cs ≡ cond (is_of_node own r) (total (λ x. cond (same_row x.row r) x.count 0) cs) 0
+        → cond a (cond (is_of_node own c.row) c.count 0) 0 + total (λ x. cond (same_row x.row r) (cond (is_of_node own x.row) x.count 0) 0) cs ≡ cond b (cond a c.count 0 + total (λ x. cond (same_row x.row r) x.count 0) cs) 0
+    by true s true o later =
+        (λ i. cond ((its s ∙ o) i) c.count 0 + later i) ∙ ap (λ b. c.count + cond b (total (λ x. cond (same_row x.row r) x.count 0) cs) 0) o
+    by true s false o later =
+        (λ i. cond ((its s ∙ o) i) c.count 0 + later i) ∙ (let none : cond (is_of_node own r) (total (λ x. cond (same_row x.row r) x.count 0) cs) 0 ≡ 0 = ap (λ b. cond b (total (λ x. cond (same_row x.row r) x.count 0) cs) 0) o in omega (arith, none))
+    by false s true o later = (let is : cond (is_of_node own r) (total (λ x. cond (same_row x.row r) x.count 0) cs) 0 ≡ total (λ x. cond (same_row x.row r) x.count 0) cs = ap (λ b. cond b (total (λ x. cond (same_row x.row r) x.count 0) cs) 0) o in omega (arith, is, later))
+    by false s false o later = (let none : cond (is_of_node own r) (total (λ x. cond (same_row x.row r) x.count 0) cs) 0 ≡ 0 = ap (λ b. cond b (total (λ x. cond (same_row x.row r) x.count 0) cs) 0) o in omega (arith, none, later))
+
+pub own_occurs : (t : Table) (r : Row) → occurrences same_row r (own_rows t) ≡ local_count t r.group r.pid
+own_occurs t r = spread_counts same_row (λ c. c.row) (λ c. cond (is_of_node t.own c.row) c.count 0) r t.rows ∙ own_shares t.own r t.rows
+
+pub own_length : (t : Table) → length (own_rows t) ≡ local_total t
+own_length t = length-spread (λ c. c.row) (λ c. cond (is_of_node t.own c.row) c.count 0) t.rows
+
+-- rows that are counted at most as often as own rows are no more than those
+pub few_rows : (t : Table) (rows : List Row) → ((r : Row) → occurrences same_row r rows ≤ local_count t r.group r.pid) → length rows ≤ local_total t
+few_rows t rows few =
+    let within = fewer_length same_row same_row_decides rows (own_rows t) (λ r. let is = own_occurs t r in let some = few r in omega (arith, is, some)) in
+    let is = own_length t in
+    omega (arith, within, is)
+
+-- the rows of the policy are as many as the table counts
+pub rows_total : (h : History) (s : List ℕ) (r : Running) → r.scope ≡ s → IsRunningOf (scope_words h) r → IsLegal h → length (local_rows h s) ≡ local_total r.table
+rows_total h s r named t legal =
+    same_length same_row same_row_decides (local_rows h s) (own_rows r.table)
+    (λ x. IsListing.counts (local_rows_are h s) x ∙ sym (ap (λ f. f x.group x.pid) (own_counts h s r named t legal)) ∙ sym (own_occurs r.table x))
+    ∙ own_length r.table
 
 -- each row leaves as often as the changes say
 left_occurs : (r : Row) (gs : List GroupChange) → occurrences same_row r (rows_left gs) ≡ times_left r.group r.pid gs
@@ -40,23 +85,10 @@ left_ascends (c ∷ gs) r a = ascends_append row_cmp (map (row c.group) c.left) 
 module _ (t : Table) (p : Pid) (own_one : t.own ≡ p.node) (gs : List GroupChange) (d : IsDifference (count_of t) (count_after_exit t p) gs) where
   -- the rows of the process leave, and no others
   exit_counts : (r : Row) → occurrences same_row r (rows_left gs) ≡ cond (same_pid r.pid p) (local_count t r.group r.pid) 0
-  exit_counts r = left_occurs r gs ∙ d.left r.group r.pid ∙ by (same_pid r.pid p) refl
-    where
-      by : (b : Bool) → same_pid r.pid p ≡ b → count_of t r.group r.pid - cond b 0 (count_of t r.group r.pid) ≡ cond b (local_count t r.group r.pid) 0
-      by true s =
-          let own_node : same r.pid.node t.own ≡ true = ap (λ q. same q.node t.own) ((same_pid_decides r.pid p).0 s) ∙ ap (λ n. same n t.own) (sym own_one) ∙ itself t.own in
-          (let all : count_of t r.group r.pid - 0 ≡ count_of t r.group r.pid = omega arith in all) ∙ sym (ap (λ b. cond b (count_of t r.group r.pid) 0) own_node)
-        where
-          itself : (n : List ℕ) → same n n ≡ true
-          itself n = (same_decides n n).1 refl
-      by false s = omega arith
+  exit_counts r = left_occurs r gs ∙ d.left r.group r.pid ∙ grind (arith, same_pid_decides r.pid p, same_decides r.pid.node t.own, own_one)
 
   pub few_left : local_total t ≤ 4096 → length (rows_left gs) ≤ 4096
-  few_left few = (let within = few_rows t (rows_left gs) (λ r. least r (same_pid r.pid p) refl) in omega (arith, within, few))
-    where
-      least : (r : Row) (b : Bool) → same_pid r.pid p ≡ b → occurrences same_row r (rows_left gs) ≤ local_count t r.group r.pid
-      least r true s = (let is : occurrences same_row r (rows_left gs) ≡ local_count t r.group r.pid = exit_counts r ∙ ap (λ b. cond b (local_count t r.group r.pid) 0) s in omega (arith, is))
-      least r false s = (let is : occurrences same_row r (rows_left gs) ≡ 0 = exit_counts r ∙ ap (λ b. cond b (local_count t r.group r.pid) 0) s in omega (arith, is))
+  few_left few = (let within = few_rows t (rows_left gs) (λ r. grind (arith, exit_counts r)) in omega (arith, within, few))
 
 -- they are the policy's rows of the process
 pub left_are : (h : History) (r : Running) → IsRunningOf (scope_words h) r → IsLegal h → (p : Pid) → r.table.own ≡ p.node → (gs : List GroupChange) → IsDifference (count_of r.table) (count_after_exit r.table p) gs

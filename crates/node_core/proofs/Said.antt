@@ -55,27 +55,23 @@ left_rows_are g ps gone count rows left a =
 
 pub join_fault : (t : Table) (ps : List Pid) (f : TableFault) → IsJoinFault t ps f → IsJoinRefusal t ps (fault_of f)
 join_fault t ps TableFault.RowsFull q = (refl, q)
-join_fault t ps TableFault.NotJoined q = absurd q
-join_fault t ps TableFault.NotListed q = absurd q
 join_fault t ps TableFault.OutOfMemory q = tt
+join_fault t ps f q = absurd q
 
 pub leave_fault : (t : Table) (g : List ℕ) (ps : List Pid) (f : TableFault) → IsLeaveFault t g ps f → IsLeaveRefusal t g ps (fault_of f)
-leave_fault t g ps TableFault.RowsFull q = absurd q
 leave_fault t g ps TableFault.NotJoined q = (refl, q)
-leave_fault t g ps TableFault.NotListed q = absurd q
 leave_fault t g ps TableFault.OutOfMemory q = tt
+leave_fault t g ps f q = absurd q
 
 pub add_fault : (t : Table) (n : List ℕ) (rows : List Row) (f : TableFault) → IsAddFault t n rows f → IsAddRefusal t n rows (fault_of f)
 add_fault t n rows TableFault.RowsFull q = (refl, q)
-add_fault t n rows TableFault.NotJoined q = absurd q
-add_fault t n rows TableFault.NotListed q = absurd q
 add_fault t n rows TableFault.OutOfMemory q = tt
+add_fault t n rows f q = absurd q
 
 pub take_fault : (t : Table) (rows : List Row) (f : TableFault) → IsTakeFault t rows f → IsTakeRefusal t rows (fault_of f)
-take_fault t rows TableFault.RowsFull q = absurd q
-take_fault t rows TableFault.NotJoined q = absurd q
 take_fault t rows TableFault.NotListed q = (refl, q)
 take_fault t rows TableFault.OutOfMemory q = tt
+take_fault t rows f q = absurd q
 
 -- what is prepared and then dropped leaves all as it was
 pub dropped_again : (numbers : List ℕ) (frame : OutFrame) (old mid new : List KeptLink) → AreIdle old → map unroomed mid ≡ map (λ x. unroomed (prepared_for numbers frame x)) old

@@ -1,26 +1,12 @@
 -- The scopes after a link of a peer is gone, or another of its links has come up.
-use Rattle.node_core.proofs.Words.{Bool, List, ap, cond, false, nat_eq, not, refl, sym, true, ℕ, [], ◌&&◌, ◌==◌, ◌||◌, ◌∙◌, ◌∷◌, ◌≡◌, AllZip, eq-eqb}
-use Rattle.node_core.proofs.Words.{eqb-true, same, Pid, and_false, flip, IsCutOff, IsRunningOf, ScopeWords, ScopesFollow, is_number, Running, without}
+use Rattle.node_core.proofs.Words.{List, ap, cond, nat_eq, not, refl, sym, ℕ, [], ◌&&◌, ◌==◌, ◌∙◌, ◌∷◌, ◌≡◌, AllZip, eq-eqb, eqb-true, same, Pid}
+use Rattle.node_core.proofs.Words.{flip, IsCutOff, IsRunningOf, ScopeWords, ScopesFollow, is_number, Running, without, arith}
 use Rattle.node_core.proofs.Zipped.{zipped_map, zipped_weaker, zipped_each}
 
 -- whether a number is left of these
 pub number_left : (l j : ℕ) (ns : List ℕ) → is_number l (without j ns) ≡ (is_number l ns && not (j == l))
 number_left l j [] = refl
-number_left l j (x ∷ xs) = by (nat_eq x j) refl (number_left l j xs)
-  where
-    gone : (b : Bool) → nat_eq l x ≡ b → nat_eq x j ≡ true → (is_number l xs && not (j == l)) ≡ ((b || is_number l xs) && not (j == l))
-    gone false e q = refl
-    gone true e q =
-        let here : (j == l) ≡ true = eq-eqb j l (sym (eqb-true x j q) ∙ sym (eqb-true l x e)) in
-        ap (λ b. is_number l xs && not b) here ∙ and_false (is_number l xs) ∙ sym (ap not here)
-
-    left : (b : Bool) → nat_eq l x ≡ b → nat_eq x j ≡ false → (b || (is_number l xs && not (j == l))) ≡ ((b || is_number l xs) && not (j == l))
-    left false e q = refl
-    left true e q = sym (ap not (flip j l ∙ ap (λ n. nat_eq n j) (eqb-true l x e) ∙ q))
-
-    by : (b : Bool) → nat_eq x j ≡ b → is_number l (without j xs) ≡ (is_number l xs && not (j == l)) → is_number l (cond (not b) (x ∷ without j xs) (without j xs)) ≡ ((nat_eq l x || is_number l xs) && not (j == l))
-    by true q later = later ∙ gone (nat_eq l x) refl q
-    by false q later = ap (λ b. nat_eq l x || b) later ∙ left (nat_eq l x) refl q
+number_left l j (x ∷ xs) = grind (arith, number_left l j xs, eqb-true x j, eqb-true l x, eq-eqb j l, flip j l)
 
 -- the words of scopes between which link m of node n is cut off
 pub record AreCutOff (m : ℕ) (n : List ℕ) (w v : ScopeWords) : Type 0 where

@@ -3,15 +3,15 @@ use Rattle.node_core.proofs.Words.{Bool, List, None, Option, Some, ap, arith, co
 use Rattle.node_core.proofs.Words.{zero, ℕ, [], ◌++◌, ◌<◌, ◌||◌, ◌∙◌, ◌∷◌, ◌≡◌, ◌≤◌, AllByRecursion, Less, lt-ltb, ltb-true, same_decides, Rises}
 use Rattle.node_core.proofs.Words.{is_among, same, text_cmp, Pid, count_of, lie, no_change, stopped_lists, told_numbers, running_among, checks}
 use Rattle.node_core.proofs.Words.{first_broken, heard, told, History, listed, waiting, wide, is_running, running_scopes, IsAnswered, IsNext, is_full}
-use Rattle.node_core.proofs.Words.{with_entry, Entry, Accepted, Rule, follows_other, Follows, Parts, link_words, KeptLink, IsRunningOf, ScopesFollow}
-use Rattle.node_core.proofs.Words.{is_number, scope_words, AreTold, if_among, shown_numbers, Ordering, Equal, Greater, insert, placed, texts_total}
+use Rattle.node_core.proofs.Words.{with_entry, Entry, Accepted, Rule, Follows, Parts, link_words, KeptLink, IsRunningOf, ScopesFollow, is_number}
+use Rattle.node_core.proofs.Words.{scope_words, AreTold, if_among, shown_numbers, Ordering, Equal, Greater, insert, placed, texts_total}
 use Rattle.node_core.proofs.Words.{started_links, running_started, Running, put_scope, Message, Event, Reply}
 use Rattle.std.proofs.lemmas.Map.Lookups.{exact_bytes}
 use Rattle.std.specs.Ordering.{is_lt, ordering_reverse, match_ordering}
 use Rattle.std.specs.List.Sorted.{IsPartitionedBy, IsPartitionPoint}
 use Rattle.policy_audit.proofs.KeptLinks.{told_runs, heard_runs'}
 use Rattle.policy_audit.proofs.RowsAfter.{started_rows}
-use Rattle.node_core.proofs.Entered.{made, accepted_now, answered_now, next_now, sound_now}
+use Rattle.node_core.proofs.Entered.{step_follows, made, accepted_now, answered_now, next_now}
 use Rattle.node_core.proofs.Told.{told_follow, shown_number}
 
 -- ---- a scope put among others
@@ -148,19 +148,14 @@ module _ (h : History) (seat : ℕ) (s : List ℕ) where
       pub start_follows : (r : Running) → r.scope ≡ s → r.table.own ≡ h.opening.name → ((g : List ℕ) (p : Pid) → count_of r.table g p ≡ 0) → r.heard.items ≡ [] → r.told.items ≡ []
           → (links : List KeptLink) → AreTold (if_among (shown_numbers parts.links) (wide (Message.Discover s))) parts.links links
           → Follows started (record parts { scopes = put_scope r parts.scopes; links = links })
-      start_follows r named own none unheard untold links tells = record {
-        sound = sound_now h parts.limit e t.sound next;
-        admission = t.admission;
-        processes = t.processes;
-        scopes = record {
-          running =
-              put_names r parts.scopes (ap (λ x. is_among x (names parts.scopes)) named ∙ ap (is_among s) t.scopes.running ∙ running_among h s ∙ stopped)
-              ∙ (λ i. placed text_cmp (named i) (t.scopes.running i)) ∙ sym (running_started h e refl s refl);
-          each = put_each (IsRunningOf (scope_words started)) r parts.scopes (new_one r named own none unheard untold) (all_still parts.scopes t.scopes.each);
-        };
-        links = told_follow (link_words h) (link_words started) (if_among (shown_numbers parts.links) (wide (Message.Discover s))) (λ l. refl)
-            (told_numbers h e its refl refl (λ l. (started_links h e its refl s refl l).kept_is)) parts.links links
-            (λ l here. ap (λ b. waiting h l ++ cond b (wide (Message.Discover s) ∷ []) []) (sym (shown_number (link_words h) parts.links t.links l here)))
-            tells t.links;
-        monitors = follows_other h e parts.monitors next.number t.monitors refl;
-      }
+      start_follows r named own none unheard untold links tells = step_follows t next refl t.admission t.processes
+          (record {
+            running =
+                put_names r parts.scopes (ap (λ x. is_among x (names parts.scopes)) named ∙ ap (is_among s) t.scopes.running ∙ running_among h s ∙ stopped)
+                ∙ (λ i. placed text_cmp (named i) (t.scopes.running i)) ∙ sym (running_started h e refl s refl);
+            each = put_each (IsRunningOf (scope_words started)) r parts.scopes (new_one r named own none unheard untold) (all_still parts.scopes t.scopes.each);
+          })
+          (told_follow (link_words h) (link_words started) (if_among (shown_numbers parts.links) (wide (Message.Discover s))) (λ l. refl)
+          (told_numbers h e its refl refl (λ l. (started_links h e its refl s refl l).kept_is)) parts.links links
+          (λ l here. ap (λ b. waiting h l ++ cond b (wide (Message.Discover s) ∷ []) []) (sym (shown_number (link_words h) parts.links t.links l here)))
+          tells t.links)

@@ -1,9 +1,9 @@
 -- A scope that stops.
-use Rattle.node_core.proofs.Words.{Bool, List, None, Some, ap, cond, false, not, refl, subst, sym, true, ℕ, [], ◌&&◌, ◌++◌, ◌∙◌, ◌∷◌, ◌≡◌}
-use Rattle.node_core.proofs.Words.{AllByRecursion, filter, and-true, same_decides, same_sym, IsDifference, same, GroupChange, no_count, told_numbers}
-use Rattle.node_core.proofs.Words.{if_some, checks, first_broken, heard, told, History, listed, waiting, wide, is_running, IsAnswered, IsNext}
-use Rattle.node_core.proofs.Words.{is_full, with_entry, Entry, Accepted, Follows, Parts, link_words, KeptLink, IsRunningOf, scope_words, AreTold}
-use Rattle.node_core.proofs.Words.{if_among, shown_numbers, follows_dropped, stopped_links, running_stopped, Running, Message, Event, Reply, Rule}
+use Rattle.node_core.proofs.Words.{List, None, Some, ap, cond, false, not, refl, subst, sym, true, ℕ, [], ◌&&◌, ◌++◌, ◌∙◌, ◌∷◌, ◌≡◌, AllByRecursion}
+use Rattle.node_core.proofs.Words.{filter, and-true, same_decides, same_sym, IsDifference, same, GroupChange, no_count, told_numbers, if_some, checks}
+use Rattle.node_core.proofs.Words.{first_broken, heard, told, History, listed, waiting, wide, is_running, IsAnswered, IsNext, is_full, with_entry}
+use Rattle.node_core.proofs.Words.{Entry, Accepted, Follows, Parts, link_words, KeptLink, IsRunningOf, scope_words, AreTold, if_among, shown_numbers}
+use Rattle.node_core.proofs.Words.{follows_dropped, stopped_links, running_stopped, Running, Message, Event, Reply, Rule, arith}
 use Rattle.group_monitors.specs.Monitors.{without_scope}
 use Rattle.policy_audit.proofs.HeardNow.{stopped_heard}
 use Rattle.policy_audit.proofs.RowsAfter.{stopped_rows}
@@ -20,12 +20,7 @@ all_but s rs = filter (λ r. not (same r.scope s)) rs
 
 names_left : (s : List ℕ) (rs : List Running) → names (all_but s rs) ≡ filter (λ t. not (same t s)) (names rs)
 names_left s [] = refl
-names_left s (r ∷ rs) = by (not (same r.scope s)) (names_left s rs)
-  where
-    by : (b : Bool) → names (all_but s rs) ≡ filter (λ t. not (same t s)) (names rs)
-        → names (cond b (r ∷ all_but s rs) (all_but s rs)) ≡ cond b (r.scope ∷ filter (λ t. not (same t s)) (names rs)) (filter (λ t. not (same t s)) (names rs))
-    by true others = ap (λ ys. r.scope ∷ ys) others
-    by false others = others
+names_left s (r ∷ rs) = grind (arith, names_left s rs)
 
 module _ (h : History) (seat : ℕ) (s : List ℕ) (gs : List GroupChange) where
   abbrev e : Entry
@@ -61,11 +56,8 @@ module _ (h : History) (seat : ℕ) (s : List ℕ) (gs : List GroupChange) where
 
       all_still : (rs : List Running) → AllByRecursion (IsRunningOf (scope_words h)) rs → AllByRecursion (IsRunningOf (scope_words stopped)) (all_but s rs)
       all_still [] a = tt
-      all_still (r ∷ rs) a = by (same r.scope s) refl (all_still rs a.1)
-        where
-          by : (b : Bool) → same r.scope s ≡ b → AllByRecursion (IsRunningOf (scope_words stopped)) (all_but s rs) → AllByRecursion (IsRunningOf (scope_words stopped)) (cond (not b) (r ∷ all_but s rs) (all_but s rs))
-          by true q others = others
-          by false q others = (still r q a.0, others)
+      all_still (r ∷ rs) a = elim (same r.scope s) as (λ b. same r.scope s ≡ b → AllByRecursion (IsRunningOf (scope_words stopped)) (cond (not b) (r ∷ all_but s rs) (all_but s rs)))
+          [ true ↦ λ q. all_still rs a.1 | false ↦ λ q. (still r q a.0, all_still rs a.1) ] refl
 
       pub stop_follows : (links : List KeptLink) → AreTold (if_among (shown_numbers parts.links) (wide (Message.Down s))) parts.links links
           → Follows stopped (record parts { scopes = all_but s parts.scopes; links = links; monitors = without_scope s parts.monitors })

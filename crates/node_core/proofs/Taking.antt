@@ -1,25 +1,18 @@
 -- The frames that wait for a link are handed over.
 use Rattle.node_core.proofs.Words.{Bool, List, None, Some, ap, cond, false, get_or, length, nat_eq, not, position, refl, set, subst, sym, true, ℕ, []}
-use Rattle.node_core.proofs.Words.{◌&&◌, ◌<◌, ◌==◌, ◌∙◌, ◌≡◌, filter, eq-eqb, eqb-true, lie, kept_climbs, flip, History, is_open, OutFrame, waiting}
-use Rattle.node_core.proofs.Words.{IsNext, is_full, with_entry, Entry, Accepted, follows_other, Follows, Parts, IsLinkOf, IsState, LinksFollow, facts}
-use Rattle.node_core.proofs.Words.{link_words, KeptLink, LinkState, is_ended, without_ended, Event, Reply, Rule}
+use Rattle.node_core.proofs.Words.{◌&&◌, ◌<◌, ◌==◌, ◌∙◌, ◌≡◌, filter, eq-eqb, eqb-true, kept_climbs, flip, History, is_open, OutFrame, waiting}
+use Rattle.node_core.proofs.Words.{IsNext, is_full, with_entry, Entry, Accepted, Follows, Parts, IsLinkOf, IsState, LinksFollow, facts, link_words}
+use Rattle.node_core.proofs.Words.{KeptLink, LinkState, is_ended, without_ended, Event, Reply, Rule, arith}
 use Rattle.policy_audit.proofs.LinkFrames.{taken_links}
 use Rattle.policy_audit.proofs.LinksLeft.{taken_numbers}
-use Rattle.node_core.proofs.Entered.{made, sound_now}
-use Rattle.node_core.proofs.Quiet.{quiet_next}
-use Rattle.node_core.proofs.KeptOn.{one_follows}
-use Rattle.node_core.proofs.Places.{stay_follow, filter_set, filter_all, is_kept_at, link_at}
+use Rattle.node_core.proofs.Entered.{step_follows, made}
+use Rattle.node_core.proofs.Calm.{quiet_next}
+use Rattle.node_core.proofs.KeptOn.{one_follows, stay_follow, filter_set, filter_all, is_kept_at, link_at}
 
 -- a link is open unless its state is the end
 pub open_by : (h : History) (l : ℕ) (s : LinkState) → IsState (facts h l) s → is_open l h.entries ≡ not (is_ended s)
-open_by h l (LinkState.Name c) t = t.0.open_now
-open_by h l (LinkState.Answer s) t = t.0.open_now
-open_by h l (LinkState.Reply s) t = t.0.open_now
-open_by h l (LinkState.Status s) t = t.0.open_now
-open_by h l (LinkState.Challenge s) t = t.0.open_now
-open_by h l (LinkState.Ack s) t = t.0.open_now
-open_by h l (LinkState.Up s) t = t.0.open_now
 open_by h l LinkState.Ended t = t
+open_by h l s t = t.0.open_now
 
 -- a link for which nothing waits any more
 abbrev pub emptied : KeptLink → ℕ → KeptLink
@@ -55,41 +48,25 @@ module _ (h : History) (seat j : ℕ) (frames : List OutFrame) (parts : Parts) (
   module _ (next : IsNext h take) where
     -- all but the links
     taken_parts : (kept : List KeptLink) → LinksFollow (link_words (with_entry h take)) kept → Follows (with_entry h take) (record parts { links = kept })
-    taken_parts kept follows = record {
-      sound = sound_now h parts.limit _ t.sound next;
-      admission = t.admission;
-      processes = t.processes;
-      scopes = t.scopes;
-      links = follows;
-      monitors = follows_other h _ parts.monitors next.number t.monitors refl;
-    }
+    taken_parts kept follows = step_follows t next refl t.admission t.processes t.scopes follows
 
     -- an open link is kept
     pub open_taken : (room : ℕ) → is_ended link.state ≡ false → Follows (with_entry h take) (record parts { links = set parts.links p (emptied link room) })
     open_taken room opened = taken_parts (set parts.links p (emptied link room))
         (one_follows (link_words h) (link_words (with_entry h take)) (emptied link room) (record { state = it.0.state; frames = sym (its_frames link.number it.1); idle = refl })
         (λ x other y. other_link x (flip j x.number ∙ ap (λ l. nat_eq x.number l) (sym it.1) ∙ other) y) parts.links p d t.links (kept_climbs h t.sound.legal)
-        (taken_numbers h take refl j refl ∙ filter_all (λ l. not (j == l && not (is_open l h.entries))) (λ l. stays l (j == l) refl) (link_words h).numbers) it.2 refl)
-      where
-        stays : (l : ℕ) (b : Bool) → (j == l) ≡ b → not (b && not (is_open l h.entries)) ≡ true
-        stays l false q = refl
-        stays l true q = ap (λ b. not (not b)) (sym (ap (λ x. is_open x h.entries) (eqb-true j l q)) ∙ opens false opened)
+        (taken_numbers h take refl j refl ∙ filter_all (λ l. not (j == l && not (is_open l h.entries))) (λ l. grind (arith, eqb-true j l, opens false opened)) (link_words h).numbers) it.2 refl)
 
     -- an ended one is gone
     pub ended_taken : (room : ℕ) → is_ended link.state ≡ true → Follows (with_entry h take) (record parts { links = filter (λ x. not (nat_eq x.number j)) (set parts.links p (emptied link room)) })
     ended_taken room ended = taken_parts (filter (λ x. not (nat_eq x.number j)) (set parts.links p (emptied link room)))
         (subst (LinksFollow (link_words (with_entry h take))) (sym (filter_set (λ x. not (nat_eq x.number j)) parts.links p d (emptied link room) it.2 (ap not (eq-eqb link.number j it.1)) (ap not (eq-eqb link.number j it.1))))
         (stay_follow (link_words h) (link_words (with_entry h take)) (λ l. not (nat_eq l j)) parts.links t.links
-        (taken_numbers h take refl j refl ∙ (λ i. filter (λ l. not (goes l (j == l) refl i)) (link_words h).numbers))
-        (λ x stays y. other_link x (apart x.number (j == x.number) refl (flip j x.number) stays) y)))
+        (taken_numbers h take refl j refl ∙ (λ i. filter (λ l. not (goes l i)) (link_words h).numbers))
+        (λ x stays y. other_link x (grind (arith, flip j x.number)) y)))
       where
-        goes : (l : ℕ) (b : Bool) → (j == l) ≡ b → (j == l && not (is_open l h.entries)) ≡ nat_eq l j
-        goes l false q = ap (λ b. b && not (is_open l h.entries)) q ∙ sym q ∙ flip j l
-        goes l true q = ap (λ b. b && not (is_open l h.entries)) q ∙ ap not (sym (ap (λ x. is_open x h.entries) (eqb-true j l q)) ∙ opens true ended) ∙ sym q ∙ flip j l
-
-        apart : (n : ℕ) (b : Bool) → (j == n) ≡ b → (j == n) ≡ nat_eq n j → not (nat_eq n j) ≡ true → (j == n) ≡ false
-        apart n false q same stays = q
-        apart n true q same stays = lie (sym stays ∙ ap not (sym same ∙ q))
+        goes : (l : ℕ) → (j == l && not (is_open l h.entries)) ≡ nat_eq l j
+        goes l = grind (arith, eqb-true j l, flip j l, opens true ended)
 
     -- the link is changed, and gone if it has ended
     pub taken_follows : (new at : KeptLink) (room : ℕ) → new ≡ emptied link room → at ≡ new → Follows (with_entry h take) (record parts { links = without_ended at (set parts.links p new) })

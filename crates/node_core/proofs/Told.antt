@@ -107,16 +107,11 @@ unshown f q = sym (
     ∙ ap (λ b. b && (not f.hidden && option_map_or (λ n. has_bit 0 n.flags) f.said false)) (and_false f.open_now))
 
 pub shown_is : (f : LinkFacts) (s : LinkState) → IsState f s → is_shown s ≡ shown_by f
-shown_is f (LinkState.Name c) t = unshown f t.0.whole
-shown_is f (LinkState.Answer s) t = unshown f t.0.whole
-shown_is f (LinkState.Reply s) t = unshown f t.0.whole
-shown_is f (LinkState.Status s) t = unshown f t.0.whole
-shown_is f (LinkState.Challenge s) t = unshown f t.0.whole
-shown_is f (LinkState.Ack s) t = unshown f t.0.whole
 shown_is f (LinkState.Up s) t =
     let given = t.1.said.1 in
     given.visible_is ∙ sym (λ i. (t.0.open_now i && t.0.whole i) && (not f.hidden && option_map_or (λ n. has_bit 0 n.flags) (given.said i) false))
 shown_is f LinkState.Ended t = sym (ap (λ b. (b && f.whole) && (not f.hidden && option_map_or (λ n. has_bit 0 n.flags) f.said false)) t)
+shown_is f s t = unshown f t.0.whole
 
 -- the number of a kept link is one of those shown where the words say so
 shown_among : (w : LinkWords) (xs : List KeptLink) → AllByRecursion (IsLinkOf w) xs → (l : ℕ) → is_number l (shown_numbers xs) ≡ (is_number l (map (λ x. x.number) xs) && shown_by (w.facts l))

@@ -8,7 +8,7 @@ pub use Rattle.std.specs.Option.{option_map, option_map_or, option_to_list, unwr
 pub use Rattle.std.specs.declared.cmp.Ordering.TheVariants.{Less, Equal, Greater}
 pub use Rattle.std.specs.declared.result.Result.{Result}
 pub use Rattle.std.proofs.Math.Bool.{and-true}
-pub use Rattle.std.proofs.lemmas.Bool.{eq-eqb, eqb-true, le-leb, leb-true, lt-ltb, ltb-true, ltb-false}
+pub use Rattle.std.proofs.lemmas.Bool.{eq-eqb, eqb-true, le-leb, leb-true, lt-leb, le-ltb, leb-false, not-true, lt-ltb, ltb-true, ltb-false}
 pub use Rattle.std.proofs.lemmas.Fn.{filter_same}
 pub use Rattle.std.proofs.lemmas.Iterator.{YieldsList-from_slice}
 pub use Rattle.std.proofs.lemmas.Iterator.Search.{all_from_yields_List}

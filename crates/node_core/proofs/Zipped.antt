@@ -1,6 +1,6 @@
 -- A list whose elements are changed one after the other, each to one that it is related to.
 use Rattle.node_core.proofs.Words.{List, ap, arith, drop, get_or, length, map, refl, set, subst, suc, take, zero, ℕ, [], ◌++◌, ◌+◌, ◌<◌, ◌∷◌, ◌≡◌}
-use Rattle.node_core.proofs.Words.{◌≤◌, AllByRecursion, AllZip, set-get_or}
+use Rattle.node_core.proofs.Words.{◌≤◌, AllByRecursion, AllZip, set-get_or, ◌∙◌}
 
 -- the first i elements are related to what they were, and the others are what they were
 pub record SoFar {A : Type 0} (R : A → A → Type 0) (i : ℕ) (old items : List A) : Type 0 where
@@ -82,3 +82,21 @@ zipped_each R P Q on [] [] a ps = tt
 zipped_each R P Q on [] (y ∷ ys) a ps = absurd a
 zipped_each R P Q on (x ∷ xs) [] a ps = absurd a
 zipped_each R P Q on (x ∷ xs) (y ∷ ys) a ps = (on x y a.0 ps.0, zipped_each R P Q on xs ys a.1 ps.1)
+
+-- ---- a list whose elements are written one after the other
+
+module _ {A : Type 0} (f : A → A) where
+  -- the first i elements, changed, and the others
+  abbrev pub so_far : ℕ → List A → List A
+  so_far i xs = map f (take i xs) ++ drop i xs
+
+  one_step : (i : ℕ) (xs : List A) (d : A) → i < length (so_far i xs) → set (so_far i xs) i (f (get_or (so_far i xs) i d)) ≡ so_far (suc i) xs
+  one_step zero [] d here = absurd (omega (arith, here))
+  one_step zero (x ∷ xs) d here = refl
+  one_step (suc i) [] d here = absurd (omega (arith, here))
+  one_step (suc i) (x ∷ xs) d here = ap (λ ys. f x ∷ ys) (one_step i xs d (omega (arith, here)))
+
+  -- one more is written
+  pub written : (xs items : List A) (i : ℕ) (d v : A) → items ≡ so_far i xs → i < length items → v ≡ f (get_or items i d) → set items i v ≡ so_far (i + 1) xs
+  written xs items i d v is here to =
+      (λ j. set (is j) i ((to ∙ ap (λ ys. f (get_or ys i d)) is) j)) ∙ one_step i xs d (subst (λ ys. i < length ys) is here) ∙ ap (λ (n : ℕ). so_far n xs) (let more : suc i ≡ i + 1 = omega arith in more)

@@ -1,5 +1,5 @@
-use Rattle.node_core.proofs.Words.{ap, false, length, nat_eq, not, refl, set, sym, true, ℕ, ◌==◌, ◌∙◌, filter, get_or-set_same}
-use Rattle.node_core.proofs.Words.{get_or_default, KeptLink, narrow_frames}
+use Rattle.node_core.proofs.Words.{ap, false, length, nat_eq, not, refl, set, sym, true, ℕ, ◌==◌, ◌∙◌, filter, get_or-set_same, get_or_default}
+use Rattle.node_core.proofs.Words.{KeptLink, narrow_frames}
 use Rattle.node_core.proofs.Moves.{ended, none_is_empty}
 use Rattle.node_core.proofs.handshaking.end.Goals as goal
 

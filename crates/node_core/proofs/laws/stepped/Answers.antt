@@ -1,4 +1,4 @@
-use Rattle.node_core.proofs.AfterStep.{stepped_legal, stepped_opening}
+use Rattle.node_core.proofs.StepAnswers.{stepped_legal, stepped_opening}
 use Rattle.node_core.proofs.laws.stepped.Goals as goal
 
 pub returns-clause-legal : goal.returns-clause-legal

@@ -1,5 +1,5 @@
 use Rattle.node_core.proofs.Words.{arith, committed}
-use Rattle.node_core.proofs.Written.{written}
+use Rattle.node_core.proofs.Zipped.{written}
 use Rattle.node_core.proofs.links.commit.Goals as goal
 
 pub loop-link-preserved : goal.loop-link-preserved

@@ -1,7 +1,7 @@
 use Rattle.node_core.proofs.Words.{None, Some, ap, cond, not, refl, [], past, Event, Reply, Rule}
 use Rattle.node_core.proofs.Entered.{steps_on}
 use Rattle.node_core.proofs.Cookies.{names_follow, names_full, names_fit}
-use Rattle.node_core.proofs.Quiet.{quiet_next, allow_follows}
+use Rattle.node_core.proofs.Calm.{quiet_next, allow_follows}
 use Rattle.node_core.proofs.node.NodeCore.allow.Goals as goal
 
 pub refuse-requires-clause-broken : goal.refuse-requires-clause-broken

@@ -1,5 +1,5 @@
 use Rattle.node_core.proofs.Words.{refl, past, Event, Reply}
-use Rattle.node_core.proofs.Quiet.{quiet_next}
+use Rattle.node_core.proofs.Calm.{quiet_next}
 use Rattle.group_monitors.proofs.FromPolicy.{follows_checked}
 use Rattle.node_core.proofs.Watching.{unwatched}
 use Rattle.node_core.proofs.node.NodeCore.demonitor.Goals as goal

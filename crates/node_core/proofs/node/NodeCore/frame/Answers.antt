@@ -1,61 +1,42 @@
-use Rattle.node_core.proofs.Words.{sym, ◌∙◌, past, facts, LinkState}
-use Rattle.node_core.proofs.FrameArms.{early_by, last_by, closed_rule, closed_calm, none_open, state_at, up_by}
+use Rattle.node_core.proofs.Words.{sym, ◌∙◌, IsState, facts}
+use Rattle.node_core.proofs.Entered.{seen}
+use Rattle.node_core.proofs.FrameArms.{early_by, last_by, closed_rule, closed_calm, state_at, up_by}
+use Rattle.node_core.proofs.MessagePlaces.{closed_here}
 use Rattle.node_core.proofs.node.NodeCore.frame.Goals as goal
+use Rattle.node_core.proofs.node.NodeCore.frame.Goals.{After-state}
+
+-- the state of the link at its place
+state : (c : After-state) → IsState (facts c.args.self.now c.args.number) c.state.result.now
+state c =
+    let t = seen c.self.view_is c.self.invariant in
+    state_at c.args.self.now t.sound.legal c.self.inside.links.items t.links c.args.number c.in-Some.place c.index.result.now (rw c.deref.ensures.value at (sym c.place_of.ensures ∙ c.in-Some.is)) c.index.ensures c.state.result.now c.state.ensures
 
 pub refuse-requires-clause-broken : goal.refuse-requires-clause-broken
-refuse-requires-clause-broken c =
-    let none = rw c.deref.ensures.value at (sym c.place_of.ensures ∙ c.in_default.is) in
-    rw (← c.self.view_is) (closed_rule (past c.self.inside.opening c.self.inside.audit.entries) c.args.seat c.args.number c.args.body (none_open (past c.self.inside.opening c.self.inside.audit.entries) c.self.invariant.sound.legal c.self.inside.links.items c.self.invariant.links c.args.number none))
+refuse-requires-clause-broken c = closed_rule c.args.self.now c.args.seat c.args.number c.args.body
+    (closed_here (seen c.self.view_is c.self.invariant) c.args.number (rw c.deref.ensures.value at (sym c.place_of.ensures ∙ c.in_default.is)))
 
 pub refuse-requires-clause-calm : goal.refuse-requires-clause-calm
-refuse-requires-clause-calm c =
-    let none = rw c.deref.ensures.value at (sym c.place_of.ensures ∙ c.in_default.is) in
-    rw (← c.self.view_is) (closed_calm (past c.self.inside.opening c.self.inside.audit.entries) c.args.number c.args.body (none_open (past c.self.inside.opening c.self.inside.audit.entries) c.self.invariant.sound.legal c.self.inside.links.items c.self.invariant.links c.args.number none))
+refuse-requires-clause-calm c = closed_calm c.args.self.now c.args.number c.args.body
+    (closed_here (seen c.self.view_is c.self.invariant) c.args.number (rw c.deref.ensures.value at (sym c.place_of.ensures ∙ c.in_default.is)))
 
 pub refuse-requires-in-Ended-clause-broken : goal.refuse-requires-in-Ended-clause-broken
-refuse-requires-in-Ended-clause-broken c =
-    let found = rw c.deref.ensures.value at (sym c.place_of.ensures ∙ c.in-Some.is) in
-    let state = state_at (past c.self.inside.opening c.self.inside.audit.entries) c.self.invariant.sound.legal c.self.inside.links.items c.self.invariant.links c.args.number c.in-Some.place c.index.result.now found c.index.ensures LinkState.Ended (sym c.in-Ended.is ∙ c.state.ensures) in
-    rw (← c.self.view_is) (closed_rule (past c.self.inside.opening c.self.inside.audit.entries) c.args.seat c.args.number c.args.body state)
+refuse-requires-in-Ended-clause-broken c = closed_rule c.args.self.now c.args.seat c.args.number c.args.body (rw c.in-Ended.is at (state (goal.at.refuse-requires-in-Ended-clause-broken c).After-state))
 
 pub refuse-requires-in-Ended-clause-calm : goal.refuse-requires-in-Ended-clause-calm
-refuse-requires-in-Ended-clause-calm c =
-    let found = rw c.deref.ensures.value at (sym c.place_of.ensures ∙ c.in-Some.is) in
-    let state = state_at (past c.self.inside.opening c.self.inside.audit.entries) c.self.invariant.sound.legal c.self.inside.links.items c.self.invariant.links c.args.number c.in-Some.place c.index.result.now found c.index.ensures LinkState.Ended (sym c.in-Ended.is ∙ c.state.ensures) in
-    rw (← c.self.view_is) (closed_calm (past c.self.inside.opening c.self.inside.audit.entries) c.args.number c.args.body state)
+refuse-requires-in-Ended-clause-calm c = closed_calm c.args.self.now c.args.number c.args.body (rw c.in-Ended.is at (state (goal.at.refuse-requires-in-Ended-clause-calm c).After-state))
 
 pub message-requires-clause-up : goal.message-requires-clause-up
 message-requires-clause-up c =
-    let found = rw c.deref.ensures.value at (sym c.place_of.ensures ∙ c.in-Some.is) in
-    let state = state_at (past c.self.inside.opening c.self.inside.audit.entries) c.self.invariant.sound.legal c.self.inside.links.items c.self.invariant.links c.args.number c.in-Some.place c.index.result.now found c.index.ensures (LinkState.Up c.in-Up.field-0) (sym c.in-Up.is ∙ c.state.ensures) in
-    rw (← c.self.view_is) (up_by (past c.self.inside.opening c.self.inside.audit.entries) c.self.invariant.sound.legal c.self.inside.links.items c.self.invariant.links c.args.number c.in-Up.field-0 state)
+    let t = seen c.self.view_is c.self.invariant in
+    up_by c.args.self.now t.sound.legal c.self.inside.links.items t.links c.args.number c.in-Up.field-0 (rw c.in-Up.is at (state (goal.at.message-requires-clause-up c).After-state))
 
-pub early_frame-requires-clause-opens : goal.early_frame-requires-clause-opens
-early_frame-requires-clause-opens c =
-    let found = rw c.deref.ensures.value at (sym c.place_of.ensures ∙ c.in-Some.is) in
-    let state = state_at (past c.self.inside.opening c.self.inside.audit.entries) c.self.invariant.sound.legal c.self.inside.links.items c.self.invariant.links c.args.number c.in-Some.place c.index.result.now found c.index.ensures c.state.result.now c.state.ensures in
-    rw (← c.self.view_is) (early_by (facts (past c.self.inside.opening c.self.inside.audit.entries) c.args.number) c.state.result.now state c.in_default-state.not-Reply c.in_default-state.not-Ack c.in_default-state.not-Up c.in_default-state.not-Ended).opens
+pub early_frame-requires : goal.early_frame-requires
+early_frame-requires c =
+    let now = state (goal.at.early_frame-requires c).After-state in
+    let it = early_by (facts c.args.self.now c.args.number) c.state.result.now now c.in_default-state.not-Reply c.in_default-state.not-Ack c.in_default-state.not-Up c.in_default-state.not-Ended in
+    record { space = c.requires; opens = it.opens; unwhole = it.unwhole; early = it.inner }
 
-pub early_frame-requires-clause-unwhole : goal.early_frame-requires-clause-unwhole
-early_frame-requires-clause-unwhole c =
-    let found = rw c.deref.ensures.value at (sym c.place_of.ensures ∙ c.in-Some.is) in
-    let state = state_at (past c.self.inside.opening c.self.inside.audit.entries) c.self.invariant.sound.legal c.self.inside.links.items c.self.invariant.links c.args.number c.in-Some.place c.index.result.now found c.index.ensures c.state.result.now c.state.ensures in
-    rw (← c.self.view_is) (early_by (facts (past c.self.inside.opening c.self.inside.audit.entries) c.args.number) c.state.result.now state c.in_default-state.not-Reply c.in_default-state.not-Ack c.in_default-state.not-Up c.in_default-state.not-Ended).unwhole
-
-pub early_frame-requires-clause-early : goal.early_frame-requires-clause-early
-early_frame-requires-clause-early c =
-    let found = rw c.deref.ensures.value at (sym c.place_of.ensures ∙ c.in-Some.is) in
-    let state = state_at (past c.self.inside.opening c.self.inside.audit.entries) c.self.invariant.sound.legal c.self.inside.links.items c.self.invariant.links c.args.number c.in-Some.place c.index.result.now found c.index.ensures c.state.result.now c.state.ensures in
-    rw (← c.self.view_is) (early_by (facts (past c.self.inside.opening c.self.inside.audit.entries) c.args.number) c.state.result.now state c.in_default-state.not-Reply c.in_default-state.not-Ack c.in_default-state.not-Up c.in_default-state.not-Ended).inner
-
-pub last_frame-requires-clause-opens : goal.last_frame-requires-clause-opens
-last_frame-requires-clause-opens c =
-    let found = rw c.deref.ensures.value at (sym c.place_of.ensures ∙ c.in-Some.is) in
-    let state = state_at (past c.self.inside.opening c.self.inside.audit.entries) c.self.invariant.sound.legal c.self.inside.links.items c.self.invariant.links c.args.number c.in-Some.place c.index.result.now found c.index.ensures c.state.result.now c.state.ensures in
-    rw (← c.self.view_is) (last_by (facts (past c.self.inside.opening c.self.inside.audit.entries) c.args.number) c.state.result.now state c.in-Reply.is).opens
-
-pub last_frame-requires-clause-last : goal.last_frame-requires-clause-last
-last_frame-requires-clause-last c =
-    let found = rw c.deref.ensures.value at (sym c.place_of.ensures ∙ c.in-Some.is) in
-    let state = state_at (past c.self.inside.opening c.self.inside.audit.entries) c.self.invariant.sound.legal c.self.inside.links.items c.self.invariant.links c.args.number c.in-Some.place c.index.result.now found c.index.ensures c.state.result.now c.state.ensures in
-    rw (← c.self.view_is) (last_by (facts (past c.self.inside.opening c.self.inside.audit.entries) c.args.number) c.state.result.now state c.in-Reply.is).last
+pub last_frame-requires : goal.last_frame-requires
+last_frame-requires c =
+    let it = last_by (facts c.args.self.now c.args.number) c.state.result.now (state (goal.at.last_frame-requires c).After-state) c.in-Reply.is in
+    record { space = c.requires; opens = it.opens; last = it.last }

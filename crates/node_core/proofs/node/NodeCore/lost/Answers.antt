@@ -1,6 +1,6 @@
 use Rattle.node_core.proofs.Words.{None, Some, ap, cond, length, not, subst, sym, ◌<◌, ◌∙◌, past, AreCut, AreLost, up_peer, Event, Reply, Rule}
 use Rattle.node_core.proofs.Entered.{steps_on}
-use Rattle.node_core.proofs.Places.{not_kept, link_at}
+use Rattle.node_core.proofs.KeptOn.{not_kept, link_at}
 use Rattle.node_core.proofs.Preparing.{same_at}
 use Rattle.node_core.proofs.Losing.{lost_next, lost_follows}
 use Rattle.node_core.proofs.node.NodeCore.lost.Goals as goal

@@ -1,6 +1,6 @@
 use Rattle.node_core.proofs.Words.{refl, past, Event, Reply}
 use Rattle.node_core.proofs.Cookies.{cookie_follows}
-use Rattle.node_core.proofs.Quiet.{quiet_next, set_cookie_follows}
+use Rattle.node_core.proofs.Calm.{quiet_next, set_cookie_follows}
 use Rattle.node_core.proofs.node.NodeCore.set_cookie.Goals as goal
 
 pub invariant_of-self-2 : goal.invariant_of-self-2

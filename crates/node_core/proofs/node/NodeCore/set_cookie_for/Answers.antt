@@ -1,7 +1,7 @@
 use Rattle.node_core.proofs.Words.{None, Some, ap, cond, not, refl, [], past, Event, Reply, Rule}
 use Rattle.node_core.proofs.Entered.{steps_on}
 use Rattle.node_core.proofs.Cookies.{cookie_for_follows, cookie_calm, peers_fit}
-use Rattle.node_core.proofs.Quiet.{quiet_next, set_cookie_for_follows}
+use Rattle.node_core.proofs.Calm.{quiet_next, set_cookie_for_follows}
 use Rattle.node_core.proofs.node.NodeCore.set_cookie_for.Goals as goal
 
 pub give_up-requires-clause-fault : goal.give_up-requires-clause-fault

@@ -1,7 +1,7 @@
 use Rattle.node_core.proofs.Words.{None, Some, ap, cond, not, refl, sym, [], ◌+◌, ◌∙◌, past, Event, Reply, Rule}
 use Rattle.node_core.proofs.Entered.{steps_on}
 use Rattle.node_core.proofs.Lives.{pids_fit, next_is_new, spawned_follow, spawn_answer}
-use Rattle.node_core.proofs.Quiet.{quiet_next, spawn_follows}
+use Rattle.node_core.proofs.Calm.{quiet_next, spawn_follows}
 use Rattle.node_core.proofs.node.NodeCore.spawn.Goals as goal
 
 pub invariant_of-self : goal.invariant_of-self

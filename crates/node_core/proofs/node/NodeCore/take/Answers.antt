@@ -1,6 +1,6 @@
 use Rattle.node_core.proofs.Words.{None, Some, ap, cond, length, not, sym, [], ◌<◌, ◌∙◌, get_or-set_same, past, Event, Reply, Rule}
 use Rattle.node_core.proofs.Entered.{steps_on}
-use Rattle.node_core.proofs.Places.{not_kept, link_at}
+use Rattle.node_core.proofs.KeptOn.{not_kept, link_at}
 use Rattle.node_core.proofs.Preparing.{same_at}
 use Rattle.node_core.proofs.Taking.{emptied, taken_next, taken_follows}
 use Rattle.node_core.proofs.node.NodeCore.take.Goals as goal

@@ -2,7 +2,7 @@ use Rattle.node_core.proofs.Words.{ap, arith, length, refl, [], ◌∷◌, past,
 use Rattle.group_monitors.specs.Monitors.{monitor_of, updates_behind}
 use Rattle.group_monitors.proofs.FromPolicy.{follows_seen, follows_seen_later, follows_told}
 use Rattle.node_core.proofs.Entered.{made, steps_on}
-use Rattle.node_core.proofs.Quiet.{quiet_next}
+use Rattle.node_core.proofs.Calm.{quiet_next}
 use Rattle.node_core.proofs.Watching.{advanced, fetched, told_one}
 use Rattle.node_core.proofs.node.NodeCore.updates.Goals as goal
 

@@ -1,5 +1,5 @@
 use Rattle.node_core.proofs.Words.{None, Some, ap, cond, not, refl, subst, sym, past, IsFree, follows_free, Event, Reply, Rule}
-use Rattle.node_core.proofs.Quiet.{quiet_next}
+use Rattle.node_core.proofs.Calm.{quiet_next}
 use Rattle.node_core.proofs.Watching.{group_watched}
 use Rattle.node_core.proofs.node.NodeCore.watch_group.Goals as goal
 
