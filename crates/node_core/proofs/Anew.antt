@@ -1,15 +1,11 @@
 -- A node that begins anew.
-use Rattle.node_core.proofs.Words.{Bool, List, None, Option, Some, ap, arith, cond, false, not, refl, sym, true, ℕ, [], ◌+◌, ◌==◌, ◌∙◌, ◌≡◌, eq-eqb}
-use Rattle.node_core.proofs.Words.{eqb-true, same, Pid, no_count, stopped_lists, checks, first_broken, History, creation, listed, IsNext, is_full}
-use Rattle.node_core.proofs.Words.{with_entry, Change, Accepted, Follows, Parts, ArePartings, follows_cleared, own_pid, Event, Reply, Rule}
-use Rattle.node_core.proofs.Words.{own_cookie}
+use Rattle.node_core.proofs.Words.{List, None, Some, ap, arith, cond, false, not, refl, sym, ℕ, [], ◌+◌, ◌==◌, ◌∙◌, ◌≡◌, eq-eqb, eqb-true, Pid}
+use Rattle.node_core.proofs.Words.{no_count, stopped_lists, checks, first_broken, History, creation, listed, IsNext, is_full, with_entry, Change}
+use Rattle.node_core.proofs.Words.{Accepted, Follows, Parts, ArePartings, follows_cleared, own_pid, Event, Reply, Rule, own_cookie}
 use Rattle.policy_audit.proofs.LivesNow.{lives_restarted}
 use Rattle.node_core.proofs.Entered.{made, accepted_now, next_now, sound_now}
 use Rattle.node_core.proofs.Partings.{partings_change}
-
-nothing : (b : Bool) → None ≡ cond {A = Option (List ℕ)} b None None
-nothing true = refl
-nothing false = refl
+use Rattle.node_core.proofs.Found.{not_so}
 
 module _ (h : History) (seat : ℕ) where
   abbrev anew : List Change → History
@@ -19,11 +15,7 @@ module _ (h : History) (seat : ℕ) where
   creation_spent q = ap (λ b. cond (not (not b)) (Some Rule.CreationSpent) None) (eq-eqb (creation h) 4294967295 q)
 
   pub creation_left : (n : ℕ) → n ≡ creation h → (n ≡ 4294967295 → ⊥) → first_broken (checks h seat Event.Restart) ≡ None
-  creation_left n is q = ap (λ b. cond (not (not b)) (Some Rule.CreationSpent) None) (by (creation h == 4294967295) refl)
-    where
-      by : (b : Bool) → (creation h == 4294967295) ≡ b → b ≡ false
-      by false e = refl
-      by true e = absurd (q (is ∙ eqb-true (creation h) 4294967295 e))
+  creation_left n is q = ap (λ b. cond (not (not b)) (Some Rule.CreationSpent) None) (not_so (creation h == 4294967295) (λ e. q (is ∙ eqb-true (creation h) 4294967295 e)))
 
   creation_more : (cs : List Change) → creation (anew cs) ≡ creation h + 1
   creation_more cs = omega arith
@@ -45,7 +37,7 @@ module _ (h : History) (seat : ℕ) where
         hidden = refl;
         creation = (let was : parts.admission.creation ≡ creation h = t.admission.creation in let is : creation (anew cs) ≡ creation h + 1 = creation_more cs in omega (arith, more, was, is));
         own_cookie = kept;
-        cookie = λ n. nothing (same n h.opening.name);
+        cookie = λ n. grind arith;
         peers = λ n. refl;
         allowed = λ n. refl;
       };

@@ -1,29 +1,18 @@
 -- A node that has seen nothing.
-use Rattle.node_core.proofs.Words.{Bool, List, None, Option, ap, arith, cond, false, nat_le, refl, suc, sym, true, zero, ℕ, [], ◌&&◌, ◌+◌, ◌<◌, ◌==◌}
-use Rattle.node_core.proofs.Words.{◌∙◌, ◌≡◌, ◌≤◌, leb-true, same, AdmissionRules, and_false, past, Follows, ◌^◌, follows_start, Opening}
+use Rattle.node_core.proofs.Words.{Bool, arith, false, nat_le, refl, suc, true, zero, ℕ, [], ◌&&◌, ◌+◌, ◌<◌, ◌==◌, ◌≡◌, leb-true, same}
+use Rattle.node_core.proofs.Words.{AdmissionRules, past, Follows, ◌^◌, follows_start, Opening}
 
 -- the rules of admission at the start
 abbrev pub first_rules : Opening → AdmissionRules
 first_rules o = record { own = o.name; cookie = o.cookie; hidden = o.hidden; creation = o.creation; peers = []; allowed = [] }
 
-neither : (b : Bool) → ◌≡◌ {A = Option (List ℕ)} None (cond b None None)
-neither true = refl
-neither false = refl
-
 -- no process was spawned
 none_numbered : (n : ℕ) → (nat_le 1 n && nat_le n 0) ≡ false
 none_numbered zero = refl
-none_numbered (suc n) = ap (λ b. nat_le 1 (suc n) && b) (by (nat_le (suc n) 0) refl) ∙ and_false (nat_le 1 (suc n))
-  where
-    by : (b : Bool) → nat_le (suc n) 0 ≡ b → b ≡ false
-    by true q = absurd (let less : suc n ≤ 0 = leb-true (suc n) 0 q in omega (arith, less))
-    by false q = refl
+none_numbered (suc n) = grind (arith, leb-true (suc n) 0)
 
 none_lives : (a b c : Bool) → (b && c) ≡ false → false ≡ (a && b && c && true)
-none_lives true true true q = sym q
-none_lives true true false q = refl
-none_lives true false c q = refl
-none_lives false b c q = refl
+none_lives a b c q = grind arith
 
 pub begun : (o : Opening) → o.entries < 2 ^ 32 → Follows (past o []) (record { limit = o.entries; admission = first_rules o; processes = record { spawned = 0; live = [] }; scopes = []; links = []; monitors = [] })
 begun o fits = record {
@@ -33,7 +22,7 @@ begun o fits = record {
     hidden = refl;
     creation = omega arith;
     own_cookie = refl;
-    cookie = λ n. neither (same n o.name);
+    cookie = λ n. grind arith;
     peers = λ n. refl;
     allowed = λ n. refl;
   };

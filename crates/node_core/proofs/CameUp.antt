@@ -10,13 +10,8 @@ use Rattle.policy_audit.proofs.LinksLeft.{proved_numbers}
 use Rattle.node_core.proofs.Found.{found_in, none_found}
 use Rattle.node_core.proofs.FrameFacts.{other_facts, own_awaits, same_stay, still_introduced}
 use Rattle.node_core.proofs.MovedOn.{AreMoves, stays_but}
-use Rattle.node_core.proofs.LinkTests.{up_is, up_by}
+use Rattle.node_core.proofs.LinkTests.{up_is, up_by, peer_by_test}
 use Rattle.node_core.proofs.ProofChecked.{ComesUp}
-
--- a peer by the test is the peer
-pub peer_by_test : (n : List ℕ) (x : Option (List ℕ)) → option_map_or (λ m. same m n) x false ≡ true → x ≡ Some n
-peer_by_test n None q = lie (sym q)
-peer_by_test n (Some m) q = ap Some ((same_decides m n).0 q)
 
 no_link : (x : Option ℕ) → is_some x ≡ false → x ≡ None
 no_link None q = refl
@@ -64,11 +59,8 @@ module _ (h : History) (legal : IsLegal h) (n : List ℕ) where
             let opens = and_left (is_open l h.entries) (is_whole l h.entries) here.0 in
             let whole = and_right (is_open l h.entries) (is_whole l h.entries) here.0 in
             let of = ap (λ x. option_map_or (λ k. same k n) x false) here.1 ∙ (same_decides n n).1 refl in
-            λ i. opens i && (not (apart (j == l) refl i) && whole i && of i)
-          where
-            apart : (b : Bool) → (j == l) ≡ b → (j == l) ≡ false
-            apart false e = e
-            apart true e = lie (sym (and_right (is_open l h.entries) (is_whole l h.entries) ((agrees h.opening h.entries legal n l).0 (p ∙ ap Some (sym q))).0) ∙ sym (ap (λ x. is_whole x h.entries) (eqb-true j l e)) ∙ unwhole)
+            let apart : (j == l) ≡ false = grind (arith, eqb-true j l, unwhole, whole) in
+            λ i. opens i && (not (apart i) && whole i && of i)
 
         some : (m : ℕ) → present_link n h.entries ≡ Some m → (a : Bool) → (is_open l h.entries && replaced_by j n h.entries l) ≡ a → (b : Bool) → nat_eq l m ≡ b → not a ≡ not b
         some m p true q true e = refl
@@ -88,12 +80,8 @@ module _ (h : History) (legal : IsLegal h) (n : List ℕ) where
         let opens = and_left (is_open l h.entries) (is_whole l h.entries) here in
         ap (λ b. not (b && replaced_by j n h.entries l)) (sym opens) ∙ replaced_is l ∙ by (present_link n h.entries)
       where
-        apart : (b : Bool) → nat_eq l j ≡ b → nat_eq l j ≡ false
-        apart false e = e
-        apart true e = lie (sym (and_right (is_open l h.entries) (is_whole l h.entries) (up refl)) ∙ ap (λ x. is_whole x h.entries) (eqb-true l j e) ∙ unwhole)
-
         by : (x : Option ℕ) → stays_but x l ≡ not (nat_eq l (unwrap_or x j))
-        by None = sym (ap not (apart (nat_eq l j) refl))
+        by None = grind (arith, eqb-true l j, unwhole, up refl)
         by (Some m) = refl
 
 module _ (h : History) (legal : IsLegal h) (j : ℕ) (body : List ℕ) (up : Linked) (frames : List (List ℕ)) (c : ComesUp h j body up frames)

@@ -7,6 +7,10 @@ use Rattle.node_core.proofs.Words.{no_value, ltb-false, position_or_len}
 pub some_is : {A : Type 0} {x y : A} → Some x ≡ Some y → x ≡ y
 some_is {A} {x} {y} q = ap (λ o. elim o as (λ _. A) [ Some z ↦ z | None ↦ x ]) q
 
+pub not_so : (b : Bool) → (b ≡ true → ⊥) → b ≡ false
+not_so true f = absurd (f refl)
+not_so false f = refl
+
 module _ {A : Type 0} (test : A → Bool) where
   first_is : (b : Bool) (y : A) (ys : List A) → test y ≡ b → find test (y ∷ ys) ≡ cond b (Some y) (find test ys)
   first_is b y ys e = ap (λ b. cond b (Some y) (find test ys)) e

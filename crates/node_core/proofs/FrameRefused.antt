@@ -4,6 +4,7 @@ use Rattle.node_core.proofs.Words.{◌++◌, ◌<◌, ◌==◌, ◌∙◌, ◌�
 use Rattle.node_core.proofs.Words.{History, is_open, OutFrame, refusal_owes, waiting, running_scopes, IsNext, is_full, with_entry, is_whole, Entry}
 use Rattle.node_core.proofs.Words.{Refused, Rule, Follows, Parts, HaveEnded, moved_on, without_link, rule_of, LinksFollow, facts, kept_numbers}
 use Rattle.node_core.proofs.Words.{link_words, KeptLink, narrow_frames, ScopesFollow, scope_words, refusal_frames, entry_rows, Event, LinkState}
+use Rattle.node_core.proofs.Words.{and-true}
 use Rattle.policy_audit.proofs.HeardNow.{refused_heard}
 use Rattle.policy_audit.proofs.LinkFrames.{refused_links}
 use Rattle.policy_audit.proofs.LinksLeft.{refused_numbers}
@@ -48,15 +49,11 @@ module _ (h : History) (seat j : ℕ) (body : List ℕ) (r : Rule) where
     refused_moves = record {
       state = (refused_links h e j body r refl refl unwhole j).open_is ∙ ap (λ b. is_open j h.entries && not b) (eq-eqb j j refl) ∙ and_false (is_open j h.entries);
       frames = (refused_links h e j body r refl refl unwhole j).waiting_is ∙ (λ i. cond (eq-eqb j j refl i) (waiting h j ++ owed i) (waiting h j));
-      others = λ l apart stays. λ i. record (facts h l) { open_now = ((refused_links h e j body r refl refl unwhole l).open_is ∙ ap (λ b. is_open l h.entries && not b) apart ∙ plain (is_open l h.entries)) i };
+      others = λ l apart stays. λ i. record (facts h l) { open_now = ((refused_links h e j body r refl refl unwhole l).open_is ∙ ap (λ b. is_open l h.entries && not b) apart ∙ and-true (is_open l h.entries)) i };
       waits = λ l apart stays. (refused_links h e j body r refl refl unwhole l).waiting_is ∙ ap (λ b. cond b (waiting h l ++ refusal_owes r) (waiting h l)) apart;
       numbers = refused_numbers h e j body r refl refl opens unwhole
           ∙ same_stay (λ l. not (j == l && is_empty (waiting h l ++ refusal_owes r))) (stays_but gone) (kept_numbers h) (λ l. stays_if l (j == l) refl (is_empty (waiting h j ++ more)) refl);
     }
-      where
-        plain : (b : Bool) → (b && true) ≡ b
-        plain true = refl
-        plain false = refl
 
     refused_scopes : scope_words k ≡ scope_words h
     refused_scopes = λ i. record {

@@ -5,12 +5,17 @@ use Rattle.node_core.proofs.Words.{AdmissionRules, lie, and_false, allow_list, d
 use Rattle.node_core.proofs.Words.{is_unfinished_dial, is_up, IsLegal, awaits, is_name_up, is_peer, is_whole, peer_of, AdmissionFollows}
 use Rattle.node_core.proofs.Words.{admission_words, IsLinkOf, IsState, LinksFollow, facts, link_words, KeptLink, dialled_peer, up_peer, allowed}
 use Rattle.node_core.proofs.Words.{opened, is_dial_to, kept_links, name_up_kept, dialling_kept, LinkState, Awaits, Rule, ◌++◌, flat_map}
-use Rattle.node_core.proofs.Words.{option_to_list, Pending}
+use Rattle.node_core.proofs.Words.{option_to_list, Pending, and-true}
 use Rattle.link_states.specs.Checks.{allows}
 use Rattle.policy_audit.proofs.Onward.{is_acceptors, is_diallers, by_peer, by_dial}
 use Rattle.node_core.proofs.Found.{any_map}
 use Rattle.node_core.proofs.Once.{same_names}
 use Rattle.link_states.specs.Pending as pending
+
+-- a peer by the test is the peer
+pub peer_by_test : (n : List ℕ) (x : Option (List ℕ)) → option_map_or (λ m. same m n) x false ≡ true → x ≡ Some n
+peer_by_test n None q = lie (sym q)
+peer_by_test n (Some m) q = ap Some ((same_decides m n).0 q)
 
 -- tests that agree on all
 pub agree : {A : Type 0} (P : A → Type 0) (f g : A → Bool) → ((x : A) → P x → f x ≡ g x) → (xs : List A) → AllByRecursion P xs → list_any f xs ≡ list_any g xs
@@ -34,11 +39,7 @@ module _ (h : History) (n : List ℕ) where
   dialled l m opens unwhole a of =
       let it = by_dial l h.entries opens a in
       ap (λ o. option_map_or (λ x. same x n) o false) (sym of ∙ it.peer_is)
-      ∙ sym (plain (same it.peer n)) ∙ sym (λ i. opens i && (option_map_or (λ o. is_dial_to n o.start) (it.opened i) false && not (unwhole i)))
-    where
-      plain : (b : Bool) → (b && true) ≡ b
-      plain true = refl
-      plain false = refl
+      ∙ sym (and-true (same it.peer n)) ∙ sym (λ i. opens i && (option_map_or (λ o. is_dial_to n o.start) (it.opened i) false && not (unwhole i)))
 
   -- a link is an own dial to n exactly where its state says so
   pub dialled_by : (l : ℕ) (s : LinkState) → IsState (facts h l) s → option_map_or (λ m. same m n) (dialled_peer s) false ≡ (is_open l h.entries && is_unfinished_dial n l h.entries)
@@ -72,11 +73,7 @@ module _ (h : History) (rules : AdmissionRules) (t : AdmissionFollows (admission
   none_named [] [] q = refl
   none_named [] (y ∷ ys) q = lie (sym (q y ∙ ap (λ b. b || is_among y ys) ((same_decides y y).1 refl)))
   none_named (x ∷ xs) [] q = lie (sym (ap (λ b. b || is_among x xs) ((same_decides x x).1 refl)) ∙ q x)
-  none_named (x ∷ xs) (y ∷ ys) q = some (length (x ∷ xs) == 0) refl
-    where
-      some : (b : Bool) → (length (x ∷ xs) == 0) ≡ b → b ≡ false
-      some false e = refl
-      some true e = absurd (let none : length (x ∷ xs) ≡ 0 = eqb-true (length (x ∷ xs)) 0 e in omega (arith, none))
+  none_named (x ∷ xs) (y ∷ ys) q = grind (arith, eqb-true (length (x ∷ xs)) 0)
 
   -- a name is allowed by the rules where it is allowed by the policy
   pub allowed_by : (n : List ℕ) → allows rules n ≡ allowed h n
@@ -89,11 +86,7 @@ pub dial_by : (h : History) (n : List ℕ) (own granted up dials room : Bool) �
     → first_broken (dial_checks h n) ≡ cond own (Some Rule.OwnName) (cond (not granted) (Some Rule.NotAllowed) (cond up (Some Rule.LinkUp) (cond dials (Some Rule.LinkPending) (cond (not room) (Some Rule.LinksFull) None))))
 dial_by h n own granted up dials room a b c d e =
     (λ i. cond (not (not (a i))) (Some Rule.OwnName) (cond (not (b i)) (Some Rule.NotAllowed) (cond (not (not (c i))) (Some Rule.LinkUp) (cond (not (not (d i))) (Some Rule.LinkPending) (cond (not (e i)) (Some Rule.LinksFull) None)))))
-    ∙ (λ i. cond (twice own i) (Some Rule.OwnName) (cond (not granted) (Some Rule.NotAllowed) (cond (twice up i) (Some Rule.LinkUp) (cond (twice dials i) (Some Rule.LinkPending) (cond (not room) (Some Rule.LinksFull) None)))))
-  where
-    twice : (x : Bool) → not (not x) ≡ x
-    twice true = refl
-    twice false = refl
+    ∙ grind arith
 
 -- an option that is no value
 pub not_some : {A : Type 0} (o : Option A) → ((x : A) → o ≡ Some x → ⊥) → o ≡ None

@@ -1,14 +1,11 @@
 -- The processes of a node after those that were spawned.
-use Rattle.node_core.proofs.Words.{Bool, List, ap, arith, cond, false, length, nat_eq, nat_le, nat_lt, refl, sym, true, ℕ, [], ◌+◌, ◌∙◌, ◌≡◌}
-use Rattle.node_core.proofs.Words.{leb-true, lt-ltb, and_left, and_right, History, creation, lives, IsLegal, IsNext, answer, Accepted, Reply}
-use Rattle.node_core.proofs.Words.{ProcessesFollow, process_words, Spawned, is_number, spawned, living, own_pid, Event, leb-false}
+use Rattle.node_core.proofs.Words.{List, ap, arith, cond, false, length, nat_eq, nat_le, nat_lt, refl, sym, true, ℕ, [], ◌+◌, ◌∙◌, ◌≡◌, leb-true}
+use Rattle.node_core.proofs.Words.{lt-ltb, and_left, and_right, History, creation, lives, IsLegal, IsNext, answer, Accepted, Reply, ProcessesFollow}
+use Rattle.node_core.proofs.Words.{process_words, Spawned, is_number, spawned, living, own_pid, Event, leb-false}
 use Rattle.policy_audit.proofs.LivesNow.{lives_spawned}
 use Rattle.node_core.proofs.Entered.{made}
 use Rattle.node_core.proofs.Calm.{answered}
-
-not_true : (b : Bool) → (b ≡ true → ⊥) → b ≡ false
-not_true true f = absurd (f refl)
-not_true false f = refl
+use Rattle.node_core.proofs.Found.{not_so}
 
 module _ (h : History) (p : Spawned) (t : ProcessesFollow (process_words h) p) where
   -- where there is room among those that live, one more may be spawned
@@ -17,7 +14,7 @@ module _ (h : History) (p : Spawned) (t : ProcessesFollow (process_words h) p) w
 
   -- the next process doesn't live yet
   pub next_is_new : is_number (p.spawned + 1) p.live ≡ false
-  next_is_new = t.live (p.spawned + 1) ∙ not_true (lives h (own_pid h (p.spawned + 1))) (λ q.
+  next_is_new = t.live (p.spawned + 1) ∙ not_so (lives h (own_pid h (p.spawned + 1))) (λ q.
       let born = and_right _ (nat_le (p.spawned + 1) (spawned h)) (and_left _ _ q) in
       let within = leb-true (p.spawned + 1) (spawned h) born in
       let is = t.spawned in

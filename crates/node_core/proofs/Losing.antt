@@ -1,11 +1,11 @@
 -- Links that are lost or given up.
 use Rattle.node_core.proofs.Words.{List, None, Option, Some, ap, cond, false, get_or, is_some, length, nat_eq, not, position, refl, subst, sym, true}
-use Rattle.node_core.proofs.Words.{ℕ, ◌&&◌, ◌<◌, ◌∙◌, ◌≡◌, filter, option_map_or, position-Some, same_decides, same, lie, no_value, and_both}
-use Rattle.node_core.proofs.Words.{and_false, History, is_open, is_up, IsAnswered, IsNext, is_full, with_entry, is_name_up, is_whole, peer_of}
-use Rattle.node_core.proofs.Words.{present_link, Change, Entry, Accepted, Follows, Parts, AreCut, AreLost, IsLinkOf, IsState, LinksFollow, facts}
-use Rattle.node_core.proofs.Words.{link_words, KeptLink, up_peer, agrees, LinkState, Running, Event, Reply, Rule, Bool, [], ◌==◌, unwrap_or, and-true}
-use Rattle.node_core.proofs.Words.{eqb-true, Pid, count_after_drop, no_change, stopped_lists, flip, IsChange, heard, told, first_of, listed, waiting}
-use Rattle.node_core.proofs.Words.{running_scopes, ArePartings, ScopesFollow, scope_words, hears, talk, tells, IsSameLink, IsHeardNow, arith}
+use Rattle.node_core.proofs.Words.{ℕ, ◌&&◌, ◌<◌, ◌∙◌, ◌≡◌, filter, option_map_or, position-Some, same, no_value, and_both, and_false, History}
+use Rattle.node_core.proofs.Words.{is_open, is_up, IsAnswered, IsNext, is_full, with_entry, is_name_up, is_whole, peer_of, present_link, Change}
+use Rattle.node_core.proofs.Words.{Entry, Accepted, Follows, Parts, AreCut, AreLost, IsLinkOf, IsState, LinksFollow, facts, link_words, KeptLink}
+use Rattle.node_core.proofs.Words.{up_peer, agrees, LinkState, Running, Event, Reply, Rule, Bool, [], ◌==◌, unwrap_or, and-true, eqb-true, Pid}
+use Rattle.node_core.proofs.Words.{count_after_drop, no_change, stopped_lists, flip, IsChange, heard, told, first_of, listed, waiting, running_scopes}
+use Rattle.node_core.proofs.Words.{ArePartings, ScopesFollow, scope_words, hears, talk, tells, IsSameLink, IsHeardNow, arith}
 use Rattle.policy_audit.proofs.LinkFrames.{lost_links, disconnected_links}
 use Rattle.policy_audit.proofs.LinksLeft.{facts_left, lost_numbers, disconnected_numbers}
 use Rattle.policy_audit.proofs.HeardNow.{lost_heard, disconnected_heard}
@@ -13,7 +13,7 @@ use Rattle.policy_audit.proofs.RowsAfter.{lost_rows, lost_other, disconnected_ro
 use Rattle.node_core.proofs.Entered.{step_follows, made, accepted_now, answered_now, next_now}
 use Rattle.node_core.proofs.Found.{some_is, place_found}
 use Rattle.node_core.proofs.KeptOn.{each_at, facts_same, is_kept_at, link_at, stay_follow}
-use Rattle.node_core.proofs.LinkTests.{up_is}
+use Rattle.node_core.proofs.LinkTests.{up_is, peer_by_test}
 use Rattle.policy_audit.proofs.KeptNumbers.{kept_numbers}
 use Rattle.node_core.proofs.Partings.{partings_change}
 use Rattle.node_core.proofs.ScopesCutOff.{AreCutOff, cut_off_follow}
@@ -179,11 +179,7 @@ module _ (h : History) (seat : ℕ) (n : List ℕ) (cs : List Change) (parts : P
     here = each_at (IsLinkOf (link_words h)) parts.links p d t.links.each place.0
 
     peer_is : up_peer last.state ≡ Some n
-    peer_is = by (up_peer last.state) place.1
-      where
-        by : (o : Option (List ℕ)) → option_map_or (λ m. same m n) o false ≡ true → o ≡ Some n
-        by None q = lie (sym q)
-        by (Some m) q = ap Some ((same_decides m n).0 q)
+    peer_is = peer_by_test n (up_peer last.state) place.1
 
     its_up : IsUpWith h last.number n
     its_up = up_with h last.number last.state n here.state peer_is

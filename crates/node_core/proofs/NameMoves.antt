@@ -5,14 +5,14 @@ use Rattle.node_core.proofs.Words.{is_dialled, Pending, lie, and_left, and_right
 use Rattle.node_core.proofs.Words.{OutFrame, waiting, IsAnswered, IsLegal, with_entry, is_name_up, Entry, AdmissionFollows, admission_words}
 use Rattle.node_core.proofs.Words.{heard_named, IsIntroduced, IsLinkOf, IsState, LinksFollow, facts, kept_numbers, link_words, KeptLink, dial_beside}
 use Rattle.node_core.proofs.Words.{dialled_peer, narrow_frames, Named, introduced, is_visible, AwaitAnswer, AwaitReply, own_challenge_frame}
-use Rattle.node_core.proofs.Words.{status_frame, welcome, Heard, LinkState, dial_to, StatusWord, Event}
+use Rattle.node_core.proofs.Words.{status_frame, welcome, Heard, LinkState, dial_to, StatusWord, Event, arith}
 use Rattle.link_states.specs.Pending.{is_up}
 use Rattle.policy_audit.proofs.LinkFrames.{named_links, given_up_by}
 use Rattle.policy_audit.proofs.LinksLeft.{named_numbers}
 use Rattle.policy_audit.proofs.Onward.{name_taken}
 use Rattle.node_core.proofs.EarlyMoves.{own_challenge_is, visible_is}
 use Rattle.node_core.proofs.FrameFacts.{other_facts, own_awaits, same_challenge, same_stay}
-use Rattle.node_core.proofs.Found.{found_in, none_found}
+use Rattle.node_core.proofs.Found.{found_in, none_found, not_so}
 use Rattle.node_core.proofs.MovedOn.{AreMoves, stays_but}
 use Rattle.node_core.proofs.OneDial.{dials, one_dial, is_known_dial}
 use Rattle.node_core.proofs.LinkTests.{dialling_is, dialled_by}
@@ -26,17 +26,7 @@ Goes h k j kept r = Unit {0}
 
 -- where a link isn't given up, it is as open as before
 open_still : (o g : Bool) → (o && g) ≡ false → (o && not g) ≡ o
-open_still true true q = sym q
-open_still true false q = refl
-open_still false g q = refl
-
-pub not_so : (b : Bool) → (b ≡ true → ⊥) → b ≡ false
-not_so true f = absurd (f refl)
-not_so false f = refl
-
-twice : (b : Bool) → not (not b) ≡ b
-twice true = refl
-twice false = refl
+open_still o g q = grind arith
 
 -- the own dial among the kept links
 pub find_dial : (h : History) → IsLegal h → (kept : List KeptLink) → LinksFollow (link_words h) kept → (n : List ℕ) → is_dialling n h.entries ≡ true
@@ -77,7 +67,7 @@ module _ (h : History) (legal : IsLegal h) (rules : AdmissionRules) (t : Admissi
     frames = (named_links h e answered yes j body is f a.0.awaited said j).waiting_is ∙ (λ i. cond (not_itself i) [] (cond (eq-eqb j j refl i) (waiting h j ++ frames i) (waiting h j)));
     others = λ l apart stays. other_facts h e answered yes j body is l apart (kept_open l (ends l ∙ ap not stays));
     waits = λ l apart stays. (named_links h e answered yes j body is f a.0.awaited said l).waiting_is ∙ (λ i. cond ((ends l ∙ ap not stays) i) [] (cond (apart i) (waiting h l ++ welcome h l f.name) (waiting h l)));
-    numbers = named_numbers h e yes answered j body is f a.0.awaited said ∙ same_stay (λ l. not (is_open l h.entries && given_up_by j f h.entries l)) (stays_but gone) (kept_numbers h) (λ l. ap not (ends l) ∙ twice (stays_but gone l));
+    numbers = named_numbers h e yes answered j body is f a.0.awaited said ∙ same_stay (λ l. not (is_open l h.entries && given_up_by j f h.entries l)) (stays_but gone) (kept_numbers h) (λ l. grind (arith, ends l));
   }
 
   -- a dial that it gives up
@@ -85,12 +75,7 @@ module _ (h : History) (legal : IsLegal h) (rules : AdmissionRules) (t : Admissi
   given_up_dial l q = λ i. and_left (is_open l h.entries) (given_up_by j f h.entries l) q i && and_right (not (j == l) && not (is_name_up f.name h.entries)) (is_unfinished_dial f.name l h.entries) (and_right (is_open l h.entries) (given_up_by j f h.entries l) q) i
 
   where_up : is_name_up f.name h.entries ≡ true → (l : ℕ) → (is_open l h.entries && given_up_by j f h.entries l) ≡ false
-  where_up up l = ap (λ b. is_open l h.entries && ((not (j == l) && not b) && is_unfinished_dial f.name l h.entries)) up ∙ none (is_open l h.entries) (not (j == l)) (is_unfinished_dial f.name l h.entries)
-    where
-      none : (a b d : Bool) → (a && ((b && false) && d)) ≡ false
-      none true true d = refl
-      none true false d = refl
-      none false b d = refl
+  where_up up l = grind (arith, up)
 
   where_undialled : is_dialling f.name h.entries ≡ false → (l : ℕ) → (is_open l h.entries && given_up_by j f h.entries l) ≡ false
   where_undialled free l = not_so (is_open l h.entries && given_up_by j f h.entries l) (λ q. lie (sym (is_known_dial f.name h.entries l (given_up_dial l q)) ∙ free))

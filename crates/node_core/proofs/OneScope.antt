@@ -1,7 +1,7 @@
 -- One of the running scopes changes.
-use Rattle.node_core.proofs.Words.{Bool, List, ap, arith, false, get_or, length, map, not, refl, set, subst, suc, sym, true, zero, ℕ, [], ◌<◌, ◌||◌}
-use Rattle.node_core.proofs.Words.{◌∙◌, ◌∷◌, ◌≡◌, AllByRecursion, filter, Less, same_sym, IsDifference, is_empty, Rises, same, text_cmp, GroupChange}
-use Rattle.node_core.proofs.Words.{Pid, IsChange, if_some, History, listed, IsRunningOf, ScopeWords, ScopesFollow, apart, changes_are, Running}
+use Rattle.node_core.proofs.Words.{List, ap, arith, false, get_or, length, map, not, refl, set, subst, suc, sym, zero, ℕ, [], ◌<◌, ◌∙◌, ◌∷◌, ◌≡◌}
+use Rattle.node_core.proofs.Words.{AllByRecursion, filter, Less, same_sym, IsDifference, is_empty, Rises, same, text_cmp, GroupChange, Pid, IsChange}
+use Rattle.node_core.proofs.Words.{if_some, History, listed, IsRunningOf, ScopeWords, ScopesFollow, apart, changes_are, Running}
 
 module _ (w v : ScopeWords) (s : List ℕ) (y : Running) (here : IsRunningOf v y) (named : y.scope ≡ s) (on : (r : Running) → same r.scope s ≡ false → IsRunningOf w r → IsRunningOf v r) where
   -- those above it stay
@@ -34,12 +34,8 @@ module _ (w v : ScopeWords) (s : List ℕ) (y : Running) (here : IsRunningOf v y
 -- where the rows of one scope alone change
 pub scope_change : (h k : History) (s : List ℕ) (gs : List GroupChange) → IsDifference (listed h s) (listed k s) gs
     → ((u g : List ℕ) (p : Pid) → same u s ≡ false → listed h u g p ≡ listed k u g p) → IsChange h k (if_some s gs)
-scope_change h k s gs d others = by gs (changes_are h k (record { scope = s; groups = gs } ∷ []) (tt, tt) (d, tt) (λ u none g p. others u g p (same_sym u s ∙ other (same s u) none)))
+scope_change h k s gs d others = by gs (changes_are h k (record { scope = s; groups = gs } ∷ []) (tt, tt) (d, tt) (λ u none g p. others u g p (grind (arith, same_sym u s))))
   where
-    other : (b : Bool) → (b || false) ≡ false → b ≡ false
-    other true q = q
-    other false q = refl
-
     by : (xs : List GroupChange) → IsChange h k (filter (λ c. not (is_empty c.groups)) (record { scope = s; groups = xs } ∷ [])) → IsChange h k (if_some s xs)
     by [] is = is
     by (x ∷ xs) is = is

@@ -1,13 +1,12 @@
 -- What is read of the kept links, in the policy's words.
-use Rattle.node_core.proofs.Words.{Bool, List, None, Option, Some, ap, arith, cond, false, is_some, map, nat_eq, not, refl, subst, suc, sym, true, ℕ}
-use Rattle.node_core.proofs.Words.{[], ◌&&◌, ◌++◌, ◌||◌, ◌∙◌, ◌∷◌, ◌≡◌, ◌≤◌, AllByRecursion, flat_map, list_any, option_map_or, option_to_list}
-use Rattle.node_core.proofs.Words.{eq-eqb, eqb-true, same_decides, is_empty, occurrences, same, lie, kept_among, and_false, and_left, and_right}
-use Rattle.node_core.proofs.Words.{History, is_open, is_up, waiting, awaits, is_name_up, is_peer, is_whole, peer_of, Follows, Parts, IsLinkOf}
-use Rattle.node_core.proofs.Words.{IsState, facts, kept_numbers, link_words, KeptLink, up_peer, how_many, kept_once, name_up_kept, one_up, LinkState}
-use Rattle.node_core.proofs.Words.{frame_awaited}
+use Rattle.node_core.proofs.Words.{Bool, List, None, Some, ap, arith, cond, false, is_some, map, nat_eq, not, refl, subst, suc, sym, true, ℕ, []}
+use Rattle.node_core.proofs.Words.{◌&&◌, ◌++◌, ◌||◌, ◌∙◌, ◌∷◌, ◌≡◌, ◌≤◌, AllByRecursion, flat_map, list_any, option_map_or, option_to_list, eq-eqb}
+use Rattle.node_core.proofs.Words.{eqb-true, is_empty, occurrences, same, kept_among, and_false, and_left, and_right, History, is_open, is_up}
+use Rattle.node_core.proofs.Words.{waiting, awaits, is_name_up, is_peer, is_whole, peer_of, Follows, Parts, IsLinkOf, IsState, facts, kept_numbers}
+use Rattle.node_core.proofs.Words.{link_words, KeptLink, up_peer, how_many, kept_once, name_up_kept, one_up, LinkState, frame_awaited}
 use Rattle.node_core.specs.Reading.{up_name, up_names, frame_of, awaiting}
 use Rattle.node_core.proofs.Found.{any_map}
-use Rattle.node_core.proofs.LinkTests.{agree, up_is}
+use Rattle.node_core.proofs.LinkTests.{agree, up_is, peer_by_test}
 
 -- ---- what a link's state tells
 
@@ -85,12 +84,8 @@ module _ {h : History} {parts : Parts} (t : Follows h parts) where
       ∙ counts_one (λ l. is_up l h.entries && is_peer n l h.entries) alone (kept_numbers h) (kept_once h t.sound.legal)
       ∙ ap (λ b. cond b 1 0) (sym (name_up_kept h t.sound.legal n))
     where
-      its : (o : Option (List ℕ)) → option_map_or (λ m. same m n) o false ≡ true → o ≡ Some n
-      its None p = lie (sym p)
-      its (Some m) p = ap Some ((same_decides m n).0 p)
-
       alone : (a b : ℕ) → (is_up a h.entries && is_peer n a h.entries) ≡ true → (is_up b h.entries && is_peer n b h.entries) ≡ true → a ≡ b
-      alone a b p q = one_up h t.sound.legal n a b (and_left _ _ p) (and_left _ _ q) (its (peer_of a h.entries) (and_right (is_up a h.entries) _ p)) (its (peer_of b h.entries) (and_right (is_up b h.entries) _ q))
+      alone a b p q = one_up h t.sound.legal n a b (and_left _ _ p) (and_left _ _ q) (peer_by_test n (peer_of a h.entries) (and_right (is_up a h.entries) _ p)) (peer_by_test n (peer_of b h.entries) (and_right (is_up b h.entries) _ q))
 
   pub links_are : map (λ x. record { link = x.number; frame = frame_awaited x.state }) parts.links ≡ map (awaiting h) (kept_numbers h)
   links_are = all parts.links t.links.each ∙ ap (map (awaiting h)) t.links.numbers

@@ -1,11 +1,11 @@
 -- A scope that starts.
 use Rattle.node_core.proofs.Words.{Bool, List, None, Option, Some, ap, arith, cond, false, get_or, length, map, nat_lt, not, refl, suc, sym, true}
-use Rattle.node_core.proofs.Words.{zero, ℕ, [], ◌++◌, ◌<◌, ◌||◌, ◌∙◌, ◌∷◌, ◌≡◌, ◌≤◌, AllByRecursion, Less, lt-ltb, ltb-true, same_decides, Rises}
-use Rattle.node_core.proofs.Words.{is_among, same, text_cmp, Pid, count_of, lie, no_change, stopped_lists, told_numbers, running_among, checks}
-use Rattle.node_core.proofs.Words.{first_broken, heard, told, History, listed, waiting, wide, is_running, running_scopes, IsAnswered, IsNext, is_full}
-use Rattle.node_core.proofs.Words.{with_entry, Entry, Accepted, Rule, Follows, Parts, link_words, KeptLink, IsRunningOf, ScopesFollow, is_number}
-use Rattle.node_core.proofs.Words.{scope_words, AreTold, if_among, shown_numbers, Ordering, Equal, Greater, insert, placed, texts_total}
-use Rattle.node_core.proofs.Words.{started_links, running_started, Running, put_scope, Message, Event, Reply}
+use Rattle.node_core.proofs.Words.{zero, ℕ, [], ◌++◌, ◌<◌, ◌||◌, ◌∙◌, ◌∷◌, ◌≡◌, ◌≤◌, AllByRecursion, Less, lt-ltb, same_decides, Rises, is_among}
+use Rattle.node_core.proofs.Words.{same, text_cmp, Pid, count_of, lie, no_change, stopped_lists, told_numbers, running_among, checks, first_broken}
+use Rattle.node_core.proofs.Words.{heard, told, History, listed, waiting, wide, is_running, running_scopes, IsAnswered, IsNext, is_full, with_entry}
+use Rattle.node_core.proofs.Words.{Entry, Accepted, Rule, Follows, Parts, link_words, KeptLink, IsRunningOf, ScopesFollow, is_number, scope_words}
+use Rattle.node_core.proofs.Words.{AreTold, if_among, shown_numbers, Ordering, Equal, Greater, insert, placed, texts_total, started_links}
+use Rattle.node_core.proofs.Words.{running_started, Running, put_scope, Message, Event, Reply, le-ltb, length-map}
 use Rattle.std.proofs.lemmas.Map.Lookups.{exact_bytes}
 use Rattle.std.specs.Ordering.{is_lt, ordering_reverse, match_ordering}
 use Rattle.std.specs.List.Sorted.{IsPartitionedBy, IsPartitionPoint}
@@ -62,11 +62,7 @@ rising_before s (x ∷ xs) r (suc i) zero d l h n = absurd (omega (arith, l))
 rising_before s (x ∷ xs) r (suc i) (suc j) d l h n = rising_before s xs r.1 i j d (omega (arith, l)) (omega (arith, h)) n
 
 pub before_partitions : (s : List ℕ) (rs : List Running) → Rises text_cmp (names rs) → IsPartitionedBy (is_before s) rs
-before_partitions s rs r i j d l h e = by (is_before s (get_or rs i d)) refl
-  where
-    by : (b : Bool) → is_before s (get_or rs i d) ≡ b → b ≡ true
-    by true n = refl
-    by false n = lie (sym e ∙ rising_before s rs r i j d l h n)
+before_partitions s rs r i j d l h e = grind (arith, rising_before s rs r i j d l h)
 
 pub put_at : (r : Running) (rs : List Running) (i : ℕ) → i ≤ length rs → IsPartitionPoint (λ y. is_before r.scope y ≡ true) (λ y. is_before r.scope y ≡ false) rs i → insert rs i r ≡ put_scope r rs
 put_at r [] zero l p = refl
@@ -79,11 +75,7 @@ put_at r (x ∷ xs) (suc i) l p =
 -- ---- a start
 
 pub running_length : (h : History) (rs : List Running) → ScopesFollow (scope_words h) rs → length (running_scopes h) ≡ length rs
-running_length h rs t = ap length (sym t.running) ∙ long rs
-  where
-    long : (rs : List Running) → length (names rs) ≡ length rs
-    long [] = refl
-    long (r ∷ rs) = ap suc (long rs)
+running_length h rs t = ap length (sym t.running) ∙ length-map rs (λ r. r.scope)
 
 module _ (h : History) (seat : ℕ) (s : List ℕ) where
   abbrev e : Entry
@@ -101,14 +93,7 @@ module _ (h : History) (seat : ℕ) (s : List ℕ) where
 
   module _ (parts : Parts) (t : Follows h parts) (stopped : is_running h s ≡ false) where
     pub scopes_full : 64 ≤ length parts.scopes → first_broken (checks h seat (Event.StartScope s)) ≡ Some Rule.ScopesFull
-    scopes_full many = λ i. checked (stopped i) (crowded i)
-      where
-        crowded : nat_lt (length (running_scopes h)) 64 ≡ false
-        crowded = by (nat_lt (length (running_scopes h)) 64) refl
-          where
-            by : (b : Bool) → nat_lt (length (running_scopes h)) 64 ≡ b → b ≡ false
-            by false q = refl
-            by true q = absurd (let few = ltb-true (length (running_scopes h)) 64 q in let is = running_length h parts.scopes t.scopes in omega (arith, few, is, many))
+    scopes_full many = λ i. checked (stopped i) (le-ltb (length (running_scopes h)) 64 (let is = running_length h parts.scopes t.scopes in omega (arith, is, many)) i)
 
     pub scopes_fit : length parts.scopes < 64 → first_broken (checks h seat (Event.StartScope s)) ≡ None
     scopes_fit few = λ i. checked (stopped i) (lt-ltb (length (running_scopes h)) 64 (let is = running_length h parts.scopes t.scopes in omega (arith, is, few)) i)

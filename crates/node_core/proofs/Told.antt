@@ -1,9 +1,9 @@
 -- Links for which further frames wait.
 use Rattle.node_core.proofs.Words.{Bool, Err, List, None, Ok, OnErr, Option, Some, ap, cond, false, is_some, map, nat_eq, not, refl, subst, sym, true}
-use Rattle.node_core.proofs.Words.{ℕ, [], ◌&&◌, ◌++◌, ◌||◌, ◌∙◌, ◌∷◌, ◌≡◌, AllByRecursion, AllZip, filter, option_map_or, eq-eqb, eqb-true, has_bit}
-use Rattle.node_core.proofs.Words.{lie, and_false, History, OutFrame, Follows, Parts, IsLinkOf, IsState, LinkFacts, LinkWords, LinksFollow}
-use Rattle.node_core.proofs.Words.{link_words, KeptLink, committed, prepared_for, unroomed, with_frames, with_prepared, is_number, Alike, AreIdle}
-use Rattle.node_core.proofs.Words.{AreTold, if_among, shown_numbers, IfSome, IfNone, LinkState, is_shown}
+use Rattle.node_core.proofs.Words.{ℕ, [], ◌&&◌, ◌++◌, ◌||◌, ◌∙◌, ◌∷◌, ◌≡◌, AllByRecursion, AllZip, option_map_or, eq-eqb, eqb-true, has_bit, lie}
+use Rattle.node_core.proofs.Words.{and_false, History, OutFrame, Follows, Parts, IsLinkOf, IsState, LinkFacts, LinkWords, LinksFollow, link_words}
+use Rattle.node_core.proofs.Words.{KeptLink, committed, prepared_for, unroomed, with_frames, with_prepared, is_number, Alike, AreIdle, AreTold}
+use Rattle.node_core.proofs.Words.{if_among, shown_numbers, IfSome, IfNone, LinkState, is_shown, arith}
 use Rattle.std.proofs.Common.{Result}
 use Rattle.node_core.proofs.Zipped.{zipped_map}
 
@@ -116,17 +116,7 @@ shown_is f s t = unshown f t.0.whole
 -- the number of a kept link is one of those shown where the words say so
 shown_among : (w : LinkWords) (xs : List KeptLink) → AllByRecursion (IsLinkOf w) xs → (l : ℕ) → is_number l (shown_numbers xs) ≡ (is_number l (map (λ x. x.number) xs) && shown_by (w.facts l))
 shown_among w [] t l = refl
-shown_among w (x ∷ xs) t l = by (shown_among w xs t.1 l) (is_shown x.state) (shown_is (w.facts x.number) x.state t.0.state) (nat_eq l x.number) refl
-  where
-    here : (b : Bool) → b ≡ shown_by (w.facts x.number) → nat_eq l x.number ≡ true → b ≡ shown_by (w.facts l)
-    here b q m = q ∙ ap (λ n. shown_by (w.facts n)) (sym (eqb-true l x.number m))
-
-    by : is_number l (shown_numbers xs) ≡ (is_number l (map (λ z. z.number) xs) && shown_by (w.facts l)) → (b : Bool) → b ≡ shown_by (w.facts x.number) → (c : Bool) → nat_eq l x.number ≡ c
-        → is_number l (map (λ z. z.number) (cond b (x ∷ filter (λ z. is_shown z.state) xs) (filter (λ z. is_shown z.state) xs))) ≡ ((c || is_number l (map (λ z. z.number) xs)) && shown_by (w.facts l))
-    by others true q true m = ap (λ c. c || is_number l (shown_numbers xs)) m ∙ here true q m
-    by others true q false m = ap (λ c. c || is_number l (shown_numbers xs)) m ∙ others
-    by others false q true m = others ∙ ap (λ c. is_number l (map (λ z. z.number) xs) && c) (sym (here false q m)) ∙ and_false (is_number l (map (λ z. z.number) xs)) ∙ here false q m
-    by others false q false m = others
+shown_among w (x ∷ xs) t l = grind (arith, shown_among w xs t.1 l, shown_is (w.facts x.number) x.state t.0.state, eqb-true l x.number, and_false)
 
 pub shown_number : (w : LinkWords) (xs : List KeptLink) → LinksFollow w xs → (l : ℕ) → is_number l (map (λ x. x.number) xs) ≡ true → is_number l (shown_numbers xs) ≡ shown_by (w.facts l)
 shown_number w xs t l q = shown_among w xs t.each l ∙ ap (λ b. b && shown_by (w.facts l)) q
