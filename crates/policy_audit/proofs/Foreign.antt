@@ -24,7 +24,7 @@ foreign_in o (e ∷ es) legal l n q = by_event e.event e.verdict legal.0.verdict
     by_event (Event.Frame k body) (Accepted r) v so_far q =
         let fits = (open_first (is_open k es) (frame_checks (past o es) k body (awaits k es)) (accepted (past o es) e.seat (Event.Frame k body) r v).0).1 in
         grind (arith, named_now (past o es) k (record { body = body; before = es }) n (opened k es) (taken k es) fits, so_far, eqb-true k l)
-    by_event ev v m so_far q = grind (arith, so_far l, none_taken o es legal.1 n e legal.0.number l)
+    by_event ev v _ so_far q = grind (arith, so_far l, none_taken o es legal.1 n e legal.0.number l)
 
 pub peer_foreign : (h : History) → IsLegal h → (l : ℕ) (n : List ℕ) → peer_of l h.entries ≡ Some n → same n h.opening.name ≡ false
 peer_foreign h legal l n q = foreign_in h.opening h.entries legal l n q

@@ -54,7 +54,7 @@ module _ (s : List ℕ) (asks : Talk → Option Bool) (stop : (t : List ℕ) →
         by : (a : Bool) → (k == l) ≡ a → (b : Bool) → is_whole l es ≡ b → says_yes (cond (a && b) (talk_of (message_taken body)) [] ++ talk l es) ≡ true → is_running (past o es) s ≡ true
         by true n true w h = spoken (message_taken body) (framed k body (accepted (past o es) e.seat (Event.Frame k body) r q).0 (ap (λ j. is_whole j es) (eqb-true k l n) ∙ w)) so_far h
         by a n b w h = so_far h
-    by_event ev v q so_far h = grind (arith, stop)
+    by_event ev v _ so_far h = grind (arith, stop)
 
   yes_runs : (o : Opening) (es : List Entry) → IsLegalIn o es → (l : ℕ) → says_yes (talk l es) ≡ true → is_running (past o es) s ≡ true
   yes_runs o [] legal l h = lie (sym h)

@@ -15,11 +15,6 @@ use Rattle.policy_audit.proofs.Finished.{kept}
 
 -- ---- what is owed to a link that isn't open: nothing, but the own Name at its Dial
 
--- what a refusal is owed
-abbrev refusal : Verdict → List OutFrame
-refusal (Accepted r) = []
-refusal (Refused r) = refusal_owes r
-
 module _ (o : Opening) (es : List Entry) (l : ℕ) (closed : is_open l es ≡ false) where
   -- its peer isn't told
   not_told : (s : List ℕ) → told l s es ≡ false
@@ -101,9 +96,6 @@ module _ (h : History) (legal : IsLegal h) (l : ℕ) where
   module _ (above : length es < l) where
     pub unborn_waiting : waiting h l ≡ []
     unborn_waiting = unopened_waiting h.opening es legal l (unborn h.opening es legal l above)
-
-    pub unborn_open : is_open l es ≡ false
-    unborn_open = closed_if l es (unborn h.opening es legal l above)
 
 -- ---- the numbers of links
 

@@ -1,9 +1,9 @@
 -- Which own processes live, after each Spawn, Exit and Restart.
 use Rattle.policy_audit.proofs.Words.{ap, arith, refl, eq-eqb, eqb-false, eqb-true, le-leb, leb-true, list_any, Bool, List, [], cond, false}
-use Rattle.policy_audit.proofs.Words.{nat_eq, nat_le, not, suc, true, ℕ, ◌&&◌, ◌+◌, ◌<◌, ◌==◌, ◌||◌, ◌∷◌, ◌≡◌, same_decides}
-use Rattle.policy_audit.proofs.Words.{same_pid_decides, how_many, same, Pid, checks, History, creation, events, is_accepted, past, is_exit}
-use Rattle.policy_audit.proofs.Words.{is_exit_of, is_local, lives, spawned, IsAnswered, IsLegal, IsLegalIn, verdict, with_entry, Entry}
-use Rattle.policy_audit.proofs.Words.{Verdict, Accepted, Event, Opening}
+use Rattle.policy_audit.proofs.Words.{nat_eq, nat_le, not, suc, true, ℕ, ◌&&◌, ◌+◌, ◌<◌, ◌==◌, ◌∷◌, ◌≡◌, same_decides, same_pid_decides}
+use Rattle.policy_audit.proofs.Words.{how_many, same, Pid, checks, History, creation, events, is_accepted, past, is_exit, is_exit_of}
+use Rattle.policy_audit.proofs.Words.{is_local, lives, spawned, IsAnswered, IsLegal, IsLegalIn, verdict, with_entry, Entry, Verdict}
+use Rattle.policy_audit.proofs.Words.{Accepted, Event, Opening}
 use Rattle.policy_audit.proofs.Accepted.{accepted, all_hold, unbroken}
 use Rattle.policy_audit.proofs.Walked.{but}
 use Rattle.policy_audit.proofs.UpLinks.{and_both, and_left, and_right}
@@ -38,7 +38,7 @@ unended o (e ∷ es) legal p above = by_event e.event e.verdict legal.0.verdict 
     by_event (Event.Exit x) (Accepted r) q so_far b =
         let lived = unbroken (lives (past o es) x) (all_hold (checks (past o es) e.seat (Event.Exit x)) (accepted (past o es) e.seat (Event.Exit x) r q).0).1.0 in
         grind (arith, same_pid_decides x p, leb-true)
-    by_event ev v q so_far b = grind arith
+    by_event ev v _ so_far b = grind arith
 
 -- whether a process lives, by its parts
 abbrev alive : Bool → ℕ → ℕ → Bool → Bool
@@ -47,10 +47,6 @@ alive local number born ended = local && nat_le 1 number && nat_le number born &
 -- one process more
 born_more : (local ended : Bool) (n born : ℕ) → local ≡ true → (born < n → ended ≡ false) → alive local n (suc born) ended ≡ cond (nat_eq (born + 1) n) true (alive local n born ended)
 born_more local ended n born is never = grind (arith, is, never, eqb-true, eqb-false, le-leb, leb-true)
-
--- one process less
-ended_more : (local now ended : Bool) (n born : ℕ) → alive local n born (now || ended) ≡ cond now false (alive local n born ended)
-ended_more local now ended n born = grind arith
 
 module _ (h : History) (e : Entry) (made : IsAnswered h e) (yes : is_accepted e.verdict ≡ true) where
   abbrev k : History

@@ -1,13 +1,10 @@
 -- Who is counted in a group was named by an event.
 use Rattle.policy_audit.proofs.Words.{arith, list_any-append, filter, flat_map, list_any, Bool, List, [], cond, false, map, true, ℕ, ◌++◌}
-use Rattle.policy_audit.proofs.Words.{◌<◌, ◌||◌, ◌∷◌, ◌≡◌, is_among, mentions, occurrences, same, same_pid, same_row, stands_in, Pid, Row}
-use Rattle.policy_audit.proofs.Words.{groups_named, pids_named, row, rows_named, rows_of, stated_in, talk, talk_in, History, Moment, events}
-use Rattle.policy_audit.proofs.Words.{present, listed, is_running, joined, own, Event}
+use Rattle.policy_audit.proofs.Words.{◌<◌, ◌∷◌, ◌≡◌, is_among, mentions, occurrences, same, same_pid, same_row, stands_in, Pid, Row}
+use Rattle.policy_audit.proofs.Words.{groups_named, pids_named, row, rows_brought, rows_named, message_taken, rows_of, stated_in, talk}
+use Rattle.policy_audit.proofs.Words.{talk_at, talk_in, History, Moment, events, present, listed, is_running, joined, own, Event}
 
 -- ---- lists
-
-pub or_true : (a b : Bool) → b ≡ true → (a || b) ≡ true
-or_true a b q = grind arith
 
 pub any_behind : {A : Type 0} (test : A → Bool) (xs ys : List A) → list_any test ys ≡ true → list_any test (xs ++ ys) ≡ true
 any_behind test xs ys q = grind (arith, list_any-append test xs ys)
@@ -45,7 +42,9 @@ module _ (s g : List ℕ) (p : Pid) where
 
   pub joined_named : (es : List Event) → 0 < joined s g p es → named_in es ≡ true
   joined_named [] h = absurd (omega arith)
-  joined_named (e ∷ es) h = grind (arith, joined_named es, list_any-append, mentioned)
+  joined_named (Event.Join t f ps ∷ es) h = grind (arith, joined_named es, list_any-append, mentioned)
+  joined_named (Event.Frame l body ∷ es) h = any_behind (λ r. same_row r (row g p)) (rows_brought s (message_taken body)) (flat_map (rows_named s) es) (joined_named es h)
+  joined_named (e ∷ es) h = grind (arith, joined_named es)
 
   -- what a message brings
   brought : (rows : List Row) → 0 < rows_of g p rows → has rows ≡ true
@@ -53,7 +52,13 @@ module _ (s g : List ℕ) (p : Pid) where
 
   stated_named : (l : ℕ) (ms : List Moment) → 0 < stated_in s g p (talk_in l ms) → named_in (map (λ m. m.event) ms) ≡ true
   stated_named l [] h = absurd (omega arith)
-  stated_named l (m ∷ ms) h = grind (arith, stated_named l ms, list_any-append, brought)
+  stated_named l (m ∷ ms) h = by_event m.event (stated_named l ms) h
+    where
+      by_event : (ev : Event) → (0 < stated_in s g p (talk_in l ms) → named_in (map (λ n. n.event) ms) ≡ true) → 0 < stated_in s g p (talk_at l m.before ev ++ talk_in l ms) → named_in (ev ∷ map (λ n. n.event) ms) ≡ true
+      by_event (Event.Frame k body) others h = grind (arith, others, list_any-append, brought)
+      by_event (Event.Join t f ps) others h = any_behind (λ r. same_row r (row g p)) (cond (same t s) (map (row f) ps) []) (flat_map (rows_named s) (map (λ n. n.event) ms)) (others h)
+      by_event (Event.StopScope t) others h = grind (arith, others)
+      by_event ev others h = others h
 
   pub own_named : (h : History) → 0 < own h s g p → named_in (events h.entries) ≡ true
   own_named h q = joined_named (events h.entries) (some_where (is_running h s) (joined s g p (events h.entries)) q)

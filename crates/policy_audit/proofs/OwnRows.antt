@@ -33,7 +33,7 @@ unjoined o (e ∷ es) legal s g p foreign = by_event e.event e.verdict legal.0.v
     by_event (Event.Join t u ps) (Accepted r) q so_far f =
         let all = unbroken (list_all (is_local (past o es)) ps) (all_hold (join_checks (past o es) t u ps) (accepted (past o es) e.seat (Event.Join t u ps) r q).0).1.0 in
         grind (arith, uncounted same_pid (λ y x. (same_pid_decides y x).0) (is_local (past o es)) p ps all)
-    by_event ev v q so_far f = grind arith
+    by_event ev v _ so_far f = grind arith
 
 pub foreign_own : (h : History) → IsLegal h → (s g : List ℕ) (p : Pid) → is_local h p ≡ false → own h s g p ≡ 0
 foreign_own h legal s g p foreign = grind (arith, unjoined h.opening h.entries legal s g p foreign)

@@ -35,9 +35,6 @@ number_of x y q = ap (λ o. unwrap_or o 0) q
 pub was_before : (e o p : Bool) → ((not e && o) && p) ≡ true → (o && p) ≡ true
 was_before e o p q = grind arith
 
-pub unwhole_end : (g o p : Bool) → (g && p) ≡ false → ((not g && o) && p) ≡ (o && p)
-unwhole_end g o p q = grind arith
-
 -- ---- the law
 
 -- of a name: its present link is each link of it that is up

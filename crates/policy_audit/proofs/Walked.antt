@@ -4,7 +4,8 @@ use Rattle.policy_audit.proofs.Words.{bytes_eq, cond, false, get_or, is_some, le
 use Rattle.policy_audit.proofs.Words.{Challenge, Name, ack_frame, challenge_frame, name_frame, reply_frame, status_of, AckFrame, ReplyFrame}
 use Rattle.policy_audit.proofs.Words.{StatusWord, digest_of, allowed, cookie, goes_on, checks, dial_checks, first_broken, frame_checks}
 use Rattle.policy_audit.proofs.Words.{past, is_open, IsLegalIn, verdict, AwaitMessage, ByDial, ByPeer, Opened, Start, Taken, and_frame}
-use Rattle.policy_audit.proofs.Words.{awaited_in, awaits, opened, taken, was_up, whole_side, Entry, Verdict, Accepted, Event, Opening}
+use Rattle.policy_audit.proofs.Words.{awaited_in, awaits, opened, taken, was_up, whole_side, Entry, Verdict, Accepted, Refused, Event}
+use Rattle.policy_audit.proofs.Words.{Opening}
 use Rattle.policy_audit.proofs.Accepted.{lie, accepted, all_hold, unbroken, open_first, Fits, fits}
 
 -- an entry with another event and verdict
@@ -122,4 +123,7 @@ far o (e ∷ es) legal l = by_event e.event e.verdict legal.0.verdict (far o es 
         let here : e.number ≡ length es + 1 = legal.0.number in
         grind (arith, p, may, unborn o es legal.1 l, eqb-true e.number l)
     by_event (Event.Frame k body) (Accepted r) q p = by_frame k body (accepted (past o es) e.seat (Event.Frame k body) r q).0 p (k == l) refl
-    by_event ev v q p = (let here : e.number ≡ length es + 1 = legal.0.number in grind (arith, p, unborn o es legal.1 l, eqb-true e.number l))
+    by_event (Event.Opened c) (Accepted r) _ p = (let here : e.number ≡ length es + 1 = legal.0.number in grind (arith, p, unborn o es legal.1 l, eqb-true e.number l))
+    by_event Event.Restart (Accepted r) q p = refl
+    by_event ev (Accepted r) q p = p
+    by_event ev (Refused r) q p = p

@@ -1,12 +1,12 @@
 -- Which rows an entry may change: no others change.
 use Rattle.policy_audit.proofs.Words.{ap, arith, refl, subst, sym, ◌∙◌, eqb-true, not-false, not-true, or_parts, option_map_or, Bool, List}
 use Rattle.policy_audit.proofs.Words.{None, Option, Some, [], cond, false, length, not, true, ℕ, ◌&&◌, ◌++◌, ◌+◌, ◌==◌, ◌||◌, ◌∷◌, ◌≡◌}
-use Rattle.policy_audit.proofs.Words.{same_decides, same_sym, has_bit, mentions, same, same_pid, stands_in, Pid, Name, Message, checks}
-use Rattle.policy_audit.proofs.Words.{is_about_rows, is_replaced, may_change, Talk, message_taken, stated_in, talk, talk_of, History, past}
-use Rattle.policy_audit.proofs.Words.{is_open, is_up, listed, listed_by, is_local, is_running, own, IsLegalIn, IsNext, up_answer, verdict}
-use Rattle.policy_audit.proofs.Words.{with_entry, Taken, awaits, is_last, is_peer, is_visible, is_whole, opened, peer_of, present_link}
-use Rattle.policy_audit.proofs.Words.{taken, Entry, Verdict, Accepted, Refused, Event, Opening, Reply}
-use Rattle.policy_audit.proofs.Accepted.{accepted, all_hold}
+use Rattle.policy_audit.proofs.Words.{same_decides, same_sym, mentions, same, same_pid, stands_in, Pid, Message, checks, is_about_rows}
+use Rattle.policy_audit.proofs.Words.{is_replaced, may_change, Talk, message_taken, stated_in, talk, talk_of, History, past, is_open, is_up}
+use Rattle.policy_audit.proofs.Words.{listed, listed_by, is_local, is_running, own, IsLegalIn, IsNext, up_answer, verdict, with_entry}
+use Rattle.policy_audit.proofs.Words.{Taken, awaits, is_last, is_peer, is_visible, is_whole, opened, peer_of, present_link, taken, Entry}
+use Rattle.policy_audit.proofs.Words.{Verdict, Accepted, Refused, Event, Opening, Reply}
+use Rattle.policy_audit.proofs.Accepted.{lie, accepted, all_hold}
 use Rattle.policy_audit.proofs.Walked.{but, frame_fits}
 use Rattle.policy_audit.proofs.Finished.{stays, kept, given_kept, Completed}
 use Rattle.policy_audit.proofs.UpLinks.{and_right, flip, agrees, none_opened, given_up, done_now, answered, ends_by, other}
@@ -23,10 +23,6 @@ or_right a b q = (or_parts a b q).1
 unmentioned : (p : Pid) (ps : List Pid) → stands_in same_pid p ps ≡ false → mentions p ps ≡ 0
 unmentioned p [] q = refl
 unmentioned p (x ∷ ps) q = grind (arith, unmentioned p ps)
-
--- how often a link lists a process, by what is said of the link
-abbrev pub lists : Bool → Pid → Option Name → Option (List ℕ) → Bool → Bool → ℕ → ℕ
-lists hidden p gave peer up sync count = cond ((not hidden && option_map_or (λ f. has_bit 0 f.flags) gave false) && (option_map_or (λ m. same m p.node) peer false && option_map_or (λ f. f.creation == p.creation) gave false)) (cond (up && sync) count 0) 0
 
 module _ (o : Opening) (es : List Entry) (x : Entry) (s g : List ℕ) (p : Pid) where
   abbrev remote : List Entry → Option ℕ → ℕ
@@ -74,10 +70,6 @@ module _ (o : Opening) (es : List Entry) (legal : IsLegalIn o es) (e : Entry) (n
 
   other_number : (l : ℕ) → present_link n es ≡ Some l → (e.number == l) ≡ false
   other_number l q = grind (arith, whole_of l, none_opened o es legal n e numbered l)
-
-  -- the present link of p's node isn't replaced
-  abbrev stays_present : Entry → Type 0
-  stays_present x = is_replaced n es (x ∷ es) ≡ false
 
   -- ---- frames
 
@@ -142,7 +134,16 @@ module _ (o : Opening) (es : List Entry) (legal : IsLegalIn o es) (e : Entry) (n
   rows_step (Event.Frame k body) (Accepted r) q within =
       let met = accepted (past o es) e.seat (Event.Frame k body) r q in
       frame_rows k body r (frame_fits o es e.seat k body met.0).0 met.1 within
-  rows_step ev (Accepted r) q within = grind (arith, flip, up_of, same_sym n, unmentioned p, other_number)
+  rows_step Event.Restart (Accepted r) q within = lie within
+  rows_step (Event.StopScope t) (Accepted r) _ within = grind arith
+  rows_step (Event.Exit x) (Accepted r) _ within = grind arith
+  rows_step (Event.Join t f ps) (Accepted r) _ within = grind (arith, unmentioned p ps)
+  rows_step (Event.Leave t f ps) (Accepted r) _ within = grind (arith, unmentioned p ps)
+  rows_step (Event.Dial m c) (Accepted r) _ within = grind (arith, other_number)
+  rows_step (Event.Opened c) (Accepted r) _ within = grind (arith, other_number)
+  rows_step (Event.Lost j) (Accepted r) _ within = grind (arith, flip)
+  rows_step (Event.Disconnect m) (Accepted r) _ within = grind (arith, up_of, same_sym n m)
+  rows_step ev (Accepted r) q within = rows_left (past o es) e ev (Accepted r) refl s g p
 
 -- no row changes but those that the entry may change
 pub rows_within : (h : History) (e : Entry) → IsNext h e → IsLegalIn h.opening h.entries → (s g : List ℕ) (p : Pid) → may_change h.entries e s g p ≡ false → listed (with_entry h e) s g p ≡ listed h s g p

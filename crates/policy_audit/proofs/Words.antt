@@ -1,23 +1,22 @@
 -- The words that the proofs of this crate speak in: those of std, of the crates below and of its own specs, passed on from one place.
 pub use Rattle.std.proofs.Common.{ap, arith, refl, subst, sym, ◌∙◌}
 pub use Rattle.std.proofs.Math.ListN.{get_or-eq_default}
-pub use Rattle.std.proofs.lemmas.Bool.{and_from, and_parts, eq-eqb, eqb-false, eqb-true, false_from_ne_true, le-leb, le-ltb, leb-true, lt-leb, lt-ltb, ltb-false}
-pub use Rattle.std.proofs.lemmas.Bool.{ltb-true, not-false, not-true, or_parts}
+pub use Rattle.std.proofs.lemmas.Bool.{and_from, and_parts, eq-eqb, eqb-false, eqb-true, le-leb, leb-true, lt-ltb, ltb-true, not-false}
+pub use Rattle.std.proofs.lemmas.Bool.{not-true, or_parts}
 pub use Rattle.std.proofs.lemmas.Cmp.{tied_itself}
 pub use Rattle.std.proofs.lemmas.Grind.{flat_map-append}
 pub use Rattle.std.proofs.lemmas.List.{append-nil, length-append, length-reverse, reverse-append}
 pub use Rattle.std.proofs.lemmas.List.Elements.{filter-append}
 pub use Rattle.std.proofs.lemmas.List.Folds.{list_all-append, list_any-append}
-pub use Rattle.std.proofs.lemmas.Map.Keys.{IsDistinct-head, IsDistinct-tail}
 pub use Rattle.std.proofs.lemmas.Map.Lookups.{exact_bytes}
 pub use Rattle.std.proofs.lemmas.Slice.Eq.{bytes_eq-Decides}
 pub use Rattle.std.specs.Bool.{beq}
 pub use Rattle.std.specs.Cmp.{booleans_Decides, both_ways}
 pub use Rattle.std.specs.Cmp.Lexicographic.{pointwise}
 unfoldable pub use Rattle.std.specs.Fmt.{digits}
-pub use Rattle.std.specs.List.{AllByRecursion, IsDistinct, filter, flat_map, list_all, list_any}
+pub use Rattle.std.specs.List.{AllByRecursion, filter, flat_map, list_all, list_any}
 pub use Rattle.std.specs.Option.{option_and_then, option_map_or, unwrap_or}
-pub use Rattle.std.specs.Ordering.{is_eq, is_gt, ordering_reverse, ordering_then}
+pub use Rattle.std.specs.Ordering.{is_gt, ordering_reverse, ordering_then}
 pub use Rattle.std.specs.Prelude.{Bool, IsTrue, List, MatchBool, None, Option, Some, [], bytes_eq, codes, cond, false, get_or, is_some}
 pub use Rattle.std.specs.Prelude.{length, map, min, nat_eq, nat_le, nat_lt, not, reverse, suc, true, zero, ℕ, ◌&&◌, ◌*◌, ◌++◌, ◌+◌, ◌-◌}
 pub use Rattle.std.specs.Prelude.{◌<◌, ◌==◌, ◌||◌, ◌↔◌, ◌∷◌, ◌≡◌, ◌≤◌}
@@ -54,8 +53,8 @@ pub use Rattle.policy_audit.specs.Checks.{runs, status_checks}
 pub use Rattle.policy_audit.specs.Contents.{contents, groups_named, local_groups, local_members, local_rows, pids_named, row, rows_brought}
 pub use Rattle.policy_audit.specs.Contents.{rows_named}
 pub use Rattle.policy_audit.specs.Effects.{IsAsOpen, IsSameLink, IsUntouched, is_about_rows, is_replaced, leaves_rows, may_change}
-pub use Rattle.policy_audit.specs.Hearing.{Said, Stopped, Talk, heard, hears, message_taken, rows_of, stated, stated_in, talk, talk_at}
-pub use Rattle.policy_audit.specs.Hearing.{talk_in, talk_of, tells, told}
+pub use Rattle.policy_audit.specs.Hearing.{Said, Stopped, Talk, heard, hears, message_taken, rows_of, stated_in, talk, talk_at, talk_in}
+pub use Rattle.policy_audit.specs.Hearing.{talk_of, tells, told}
 pub use Rattle.policy_audit.specs.History.{History, Moment, creation, events, first_of, is_accepted, is_restart, past, present}
 pub use Rattle.policy_audit.specs.Links.{ends, frame_ends, gives_up, is_dial_to, is_dialling, is_open, is_opened_by, is_unfinished_dial}
 pub use Rattle.policy_audit.specs.Links.{is_up, links, named_by, share_peer}
@@ -64,8 +63,8 @@ pub use Rattle.policy_audit.specs.Monitors.{Target, group_updates, is_watched, m
 pub use Rattle.policy_audit.specs.OutFrame.{OutFrame}
 pub use Rattle.policy_audit.specs.Owed.{digest_for, drops, frame_owes, if_told, if_visible, is_kept, owed, own_challenge, own_name_frame}
 pub use Rattle.policy_audit.specs.Owed.{refusal_owes, waiting, waiting_in, welcome, wide}
-pub use Rattle.policy_audit.specs.Own.{is_exit, is_exit_of, is_local, is_running, is_spawn, joined, lives, own, running_scopes}
-pub use Rattle.policy_audit.specs.Own.{scopes_started, spawned, starts}
+pub use Rattle.policy_audit.specs.Own.{is_exit, is_exit_of, is_local, is_running, joined, lives, own, running_scopes, scopes_started}
+pub use Rattle.policy_audit.specs.Own.{spawned, starts}
 pub use Rattle.policy_audit.specs.Policy.{IsAnswered, IsLegal, IsLegalIn, IsNext, after, answer, bare_entry, entry_of, is_full, judged}
 pub use Rattle.policy_audit.specs.Policy.{up_answer, verdict, with_entry}
 pub use Rattle.policy_audit.specs.Scripts.{Call, Shown, play, show, verdicts}

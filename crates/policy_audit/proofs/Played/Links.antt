@@ -85,17 +85,7 @@ allow_list =
     ∷ breaks (Event.Dial (codes "a@h") 9) Rule.NotAllowed ∷ []
 
 abbrev pub allow_list_keeps_the_link : List Line
-allow_list_keeps_the_link =
-    done (Event.Allow [])
-    ∷ a_named 2
-    ++ done (Event.Allow (codes "c@h" ∷ []))
-    ∷ gives (sent 2 (codes "7200000001482c811da5d5b4bc6d497ffa98491e38")) (Reply.Up (codes "a@h") 5 true)
-    ∷ gives (Event.Opened 9) (Reply.Link 6)
-    ∷ breaks (sent 6 (codes "4e0000000001000001000000050003614068")) Rule.NotAllowed
-    ∷ takes 6 (frame (codes "736e6f745f616c6c6f776564") ∷ [])
-    ∷ breaks (Event.Take 6) Rule.NoSuchLink
-    ∷ breaks (Event.Dial (codes "a@h") 9) Rule.NotAllowed
-    ∷ done (Event.Disconnect (codes "a@h")) ∷ []
+allow_list_keeps_the_link = allow_list ++ done (Event.Disconnect (codes "a@h")) ∷ []
 
 abbrev pub half_open_links : List Line
 half_open_links =
