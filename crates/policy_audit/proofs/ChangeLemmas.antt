@@ -1,13 +1,14 @@
 -- The computed change is the exact difference of what two histories list.
 use Rattle.policy_audit.proofs.Words.{ap, arith, refl, subst, sym, ◌∙◌, ltb-true, not-false, or_parts, flat_map-append, append-nil}
-use Rattle.policy_audit.proofs.Words.{list_any-append, exact_bytes, AllByRecursion, flat_map, unwrap_or, Bool, List, [], cond, false}
-use Rattle.policy_audit.proofs.Words.{length, map, nat_lt, true, ℕ, ◌&&◌, ◌++◌, ◌+◌, ◌-◌, ◌<◌, ◌∷◌, ◌≡◌, Less, ascending_rises}
+use Rattle.policy_audit.proofs.Words.{list_any-append, exact_bytes, AllByRecursion, flat_map, option_map_or, unwrap_or, Bool, List, []}
+use Rattle.policy_audit.proofs.Words.{cond, false, length, map, nat_lt, true, ℕ, ◌&&◌, ◌++◌, ◌+◌, ◌-◌, ◌<◌, ◌∷◌, ◌≡◌, Less, ascending_rises}
 use Rattle.policy_audit.proofs.Words.{ascending_stands, listing_counts, one_of_many, exact_pids, pids_total, same_decides, same_pid_decides}
 use Rattle.policy_audit.proofs.Words.{texts_total, IsDifference, IsProper, change_unless_empty, is_empty, IsListing, IsPidListing, Rises}
 use Rattle.policy_audit.proofs.Words.{ascending, is_among, listing, mentions, same, same_pid, same_row, total, pid_cmp, text_cmp}
 use Rattle.policy_audit.proofs.Words.{GroupChange, Pid, IsChange, change, events_of, groups_in, if_some, scope_change, groups_named}
-use Rattle.policy_audit.proofs.Words.{pids_named, row, rows_named, History, events, first_of, listed, is_running, joined, scopes_started}
-use Rattle.policy_audit.proofs.Words.{starts, IsNext, after, entry_of, is_full, with_entry, Change, Entry, Event}
+use Rattle.policy_audit.proofs.Words.{pids_named, row, rows_named, History, events, first_of, listed, listed_by, is_local, is_running}
+use Rattle.policy_audit.proofs.Words.{joined, own, scopes_started, starts, IsNext, after, entry_of, is_full, with_entry, present_link}
+use Rattle.policy_audit.proofs.Words.{Change, Entry, Event}
 use Rattle.policy_audit.proofs.Accepted.{lie}
 use Rattle.policy_audit.proofs.OneDifference.{apart}
 use Rattle.policy_audit.proofs.Named.{any_before, any_behind, has, named_in, listed_named, group_named, pid_named}
@@ -97,11 +98,17 @@ module _ (h k : History) where
 -- a scope that runs was started
 pub was_started : (s : List ℕ) (es : List Event) → unwrap_or (first_of (starts s) es) false ≡ true → is_among s (flat_map scopes_started es) ≡ true
 was_started s [] q = lie (sym q)
-was_started s (e ∷ es) q = grind (arith, was_started s es)
+was_started s (Event.StartScope t ∷ es) q = grind (arith, was_started s es)
+was_started s (Event.StopScope t ∷ es) q = grind (arith, was_started s es)
+was_started s (e ∷ es) q = was_started s es q
 
 -- a scope that doesn't run lists nobody
 pub stopped_lists : (h : History) (s g : List ℕ) (p : Pid) → is_running h s ≡ false → listed h s g p ≡ 0
-stopped_lists h s g p q = grind arith
+stopped_lists h s g p q = by (is_local h p)
+  where
+    by : (b : Bool) → cond b (own h s g p) (cond (is_running h s) (option_map_or (listed_by h s g p) (present_link p.node h.entries) 0) 0) ≡ 0
+    by true = rw q
+    by false = rw q
 
 -- where each row of a scope is listed as often as before, there is no difference in it
 pub no_difference : (h k : History) (s : List ℕ) → ((g : List ℕ) (p : Pid) → listed h s g p ≡ listed k s g p) → IsDifference (listed h s) (listed k s) []

@@ -3,7 +3,7 @@ use Rattle.policy_audit.proofs.Words.{ap, arith, refl, subst, sym, ◌∙◌, eq
 use Rattle.policy_audit.proofs.Words.{[], cond, false, length, true, ℕ, ◌&&◌, ◌++◌, ◌+◌, ◌==◌, ◌∷◌, ◌≡◌, same_decides, same, Message}
 use Rattle.policy_audit.proofs.Words.{always, checks, first_broken, frame_checks, message_checks, runs, Said, Stopped, Talk, hears}
 use Rattle.policy_audit.proofs.Words.{message_taken, talk, talk_of, tells, History, first_of, past, is_open, is_running, IsLegalIn, verdict}
-use Rattle.policy_audit.proofs.Words.{awaits, is_whole, opened, taken, Entry, Verdict, Accepted, Event, Opening, Rule}
+use Rattle.policy_audit.proofs.Words.{awaits, is_whole, opened, taken, Entry, Verdict, Accepted, Refused, Event, Opening, Rule}
 use Rattle.policy_audit.proofs.Accepted.{lie, accepted, open_first}
 use Rattle.policy_audit.proofs.Walked.{but, unborn}
 use Rattle.policy_audit.proofs.Finished.{whole_awaits, whole_kept}
@@ -54,7 +54,11 @@ module _ (s : List ℕ) (asks : Talk → Option Bool) (stop : (t : List ℕ) →
         by : (a : Bool) → (k == l) ≡ a → (b : Bool) → is_whole l es ≡ b → says_yes (cond (a && b) (talk_of (message_taken body)) [] ++ talk l es) ≡ true → is_running (past o es) s ≡ true
         by true n true w h = spoken (message_taken body) (framed k body (accepted (past o es) e.seat (Event.Frame k body) r q).0 (ap (λ j. is_whole j es) (eqb-true k l n) ∙ w)) so_far h
         by a n b w h = so_far h
-    by_event ev v _ so_far h = grind (arith, stop)
+    by_event (Event.StartScope t) (Accepted r) _ so_far h = grind arith
+    by_event (Event.StopScope t) (Accepted r) _ so_far h = grind (arith, stop)
+    by_event Event.Restart (Accepted r) _ so_far h = lie (sym h)
+    by_event ev (Accepted r) _ so_far h = so_far h
+    by_event ev (Refused r) _ so_far h = so_far h
 
   yes_runs : (o : Opening) (es : List Entry) → IsLegalIn o es → (l : ℕ) → says_yes (talk l es) ≡ true → is_running (past o es) s ≡ true
   yes_runs o [] legal l h = lie (sym h)
@@ -78,6 +82,14 @@ pub heard_whole : (o : Opening) (es : List Entry) → IsLegalIn o es → (l : �
 heard_whole o [] legal l s h = lie (sym h)
 heard_whole o (e ∷ es) legal l s h = by_event e.event e.verdict (heard_whole o es legal.1 l s) h
   where
+    here : e.number ≡ length es + 1
+    here = legal.0.number
+
     by_event : (ev : Event) (v : Verdict) → (has_sync s (talk l es) ≡ true → is_whole l es ≡ true) → has_sync s (talk l (but e ev v ∷ es)) ≡ true → is_whole l (but e ev v ∷ es) ≡ true
     by_event (Event.Frame k body) (Accepted r) so_far h = grind (arith, whole_kept (record { body = body; before = es }) (opened l es) (taken l es))
-    by_event ev v so_far h = (let here : e.number ≡ length es + 1 = legal.0.number in grind (arith, unborn o es legal.1 l, eqb-true e.number l))
+    by_event (Event.Opened c) (Accepted r) so_far h = grind (arith, here, unborn o es legal.1 l, eqb-true e.number l)
+    by_event (Event.Dial n c) (Accepted r) so_far h = grind (arith, here, unborn o es legal.1 l, eqb-true e.number l)
+    by_event (Event.StopScope t) (Accepted r) so_far h = grind arith
+    by_event Event.Restart (Accepted r) so_far h = lie (sym h)
+    by_event ev (Accepted r) so_far h = so_far h
+    by_event ev (Refused r) so_far h = so_far h

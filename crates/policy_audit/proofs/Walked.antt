@@ -1,11 +1,11 @@
 -- How far the handshake of a link is, in a history that the policy makes.
-use Rattle.policy_audit.proofs.Words.{arith, refl, subst, sym, eqb-true, option_and_then, option_map_or, Bool, List, None, Option, Some, []}
-use Rattle.policy_audit.proofs.Words.{bytes_eq, cond, false, get_or, is_some, length, true, ℕ, ◌++◌, ◌+◌, ◌<◌, ◌==◌, ◌∷◌, ◌≡◌, same}
-use Rattle.policy_audit.proofs.Words.{Challenge, Name, ack_frame, challenge_frame, name_frame, reply_frame, status_of, AckFrame, ReplyFrame}
-use Rattle.policy_audit.proofs.Words.{StatusWord, digest_of, allowed, cookie, goes_on, checks, dial_checks, first_broken, frame_checks}
-use Rattle.policy_audit.proofs.Words.{past, is_open, IsLegalIn, verdict, AwaitMessage, ByDial, ByPeer, Opened, Start, Taken, and_frame}
-use Rattle.policy_audit.proofs.Words.{awaited_in, awaits, opened, taken, was_up, whole_side, Entry, Verdict, Accepted, Refused, Event}
-use Rattle.policy_audit.proofs.Words.{Opening}
+use Rattle.policy_audit.proofs.Words.{arith, refl, subst, sym, and_parts, eqb-true, option_and_then, option_map_or, Bool, List, None}
+use Rattle.policy_audit.proofs.Words.{Option, Some, [], bytes_eq, cond, false, get_or, is_some, length, not, true, ℕ, ◌++◌, ◌+◌, ◌<◌, ◌==◌}
+use Rattle.policy_audit.proofs.Words.{◌∷◌, ◌≡◌, same, Challenge, Name, ack_frame, challenge_frame, name_frame, reply_frame, status_of}
+use Rattle.policy_audit.proofs.Words.{AckFrame, ReplyFrame, StatusWord, digest_of, allowed, cookie, goes_on, checks, dial_checks}
+use Rattle.policy_audit.proofs.Words.{first_broken, frame_checks, past, ends, is_open, IsLegalIn, verdict, AwaitMessage, ByDial, ByPeer}
+use Rattle.policy_audit.proofs.Words.{Opened, Start, Taken, and_frame, awaited_in, awaits, opened, taken, was_up, whole_side, Entry}
+use Rattle.policy_audit.proofs.Words.{Verdict, Accepted, Refused, Event, Opening}
 use Rattle.policy_audit.proofs.Accepted.{lie, accepted, all_hold, unbroken, open_first, Fits, fits}
 
 -- an entry with another event and verdict
@@ -93,12 +93,29 @@ module _ (o : Opening) (es : List Entry) (legal : IsLegalIn o es) (body : List �
 -- a link whose number no entry has yet
 pub unborn : (o : Opening) (es : List Entry) → IsLegalIn o es → (l : ℕ) → length es < l → opened l es ≡ None
 unborn o [] legal l below = refl
-unborn o (e ∷ es) legal l below = (let here : e.number ≡ length es + 1 = legal.0.number in grind (arith, unborn o es legal.1 l, eqb-true e.number l))
+unborn o (e ∷ es) legal l below = by_event e.event e.verdict (unborn o es legal.1 l (omega (arith, below)))
+  where
+    here : e.number ≡ length es + 1
+    here = legal.0.number
+
+    by_event : (ev : Event) (v : Verdict) → opened l es ≡ None → opened l (but e ev v ∷ es) ≡ None
+    by_event (Event.Opened c) (Accepted r) q = grind (arith, here, eqb-true e.number l)
+    by_event (Event.Dial n c) (Accepted r) q = grind (arith, here, eqb-true e.number l)
+    by_event Event.Restart (Accepted r) q = refl
+    by_event ev (Accepted r) q = q
+    by_event ev (Refused r) q = q
 
 -- an open link was opened
 pub open_opened : (l : ℕ) (es : List Entry) → is_open l es ≡ true → is_some (opened l es) ≡ true
 open_opened l [] q = lie (sym q)
-open_opened l (e ∷ es) q = grind (arith, open_opened l es)
+open_opened l (e ∷ es) q = by_event e.event e.verdict (open_opened l es) q
+  where
+    by_event : (ev : Event) (v : Verdict) → (is_open l es ≡ true → is_some (opened l es) ≡ true) → is_open l (but e ev v ∷ es) ≡ true → is_some (opened l (but e ev v ∷ es)) ≡ true
+    by_event (Event.Opened c) (Accepted r) so_far q = grind arith
+    by_event (Event.Dial n c) (Accepted r) so_far q = grind arith
+    by_event Event.Restart (Accepted r) so_far q = lie (sym q)
+    by_event ev (Accepted r) so_far q = so_far (and_parts (not (ends l es (Accepted r) ev)) (is_open l es) q).1
+    by_event ev (Refused r) so_far q = so_far (and_parts (not (ends l es (Refused r) ev)) (is_open l es) q).1
 
 -- an accepted frame of link k: k is open, and the frame is of the kind that it awaits
 pub frame_fits : (o : Opening) (es : List Entry) (seat k : ℕ) (body : List ℕ) → first_broken (checks (past o es) seat (Event.Frame k body)) ≡ None → (is_open k es ≡ true) × Fits (past o es) (opened k es) (taken k es) body (awaits k es)
