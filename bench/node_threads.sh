@@ -6,7 +6,8 @@
 # THREADS_SPEED may name a file where the built program is kept, and taken from at the next run.
 set -eu
 root=$(cd "$(dirname "$0")/.." && pwd)
-. "$root/bench/unproved.sh"
+me=bench/node_threads.sh
+. "$root/bin/program.sh"
 folder=$(mktemp -d)
 trap 'rm -rf "$folder"' EXIT
 program=${THREADS_SPEED:-$folder/program}
@@ -19,7 +20,8 @@ build() {
     cat "$root/crates.txt"
     echo 'threads_speed: dist_types handshake_frames cookie_digest link_frames policy_audit node_core node_threads indexmap md5 anyhow'
   } >"$folder/crates.txt"
-  build_unproved "$folder/crates/threads_speed" "$program"
+  ready_to_build "$(dirname "$program")"
+  build_unproved "$folder/crates/threads_speed" "$program" -O3
 }
 
 # Prints a line of `step` and `call`: this key's, under this title.
