@@ -1,12 +1,12 @@
 -- The node after an accepted frame that isn't the last of a handshake.
 use Rattle.node_core.proofs.Words.{Bool, List, None, Option, Some, ap, cond, false, not, refl, subst, sym, true, ℕ, [], ◌∙◌, ◌≡◌, option_map}
-use Rattle.node_core.proofs.Words.{same_decides, has_bit, same, Pid, Challenge, Name, challenge_frame, name_frame, reply_frame, status_of, StatusWord}
+use Rattle.node_core.proofs.Words.{same_decides, has_bit, same, Pid, Challenge, Name, challenge_frame, name_frame, status_of, StatusWord}
 use Rattle.node_core.proofs.Words.{AdmissionRules, found, is_dialled, Pending, StateRule, lie, no_value, no_change, always, checks, first_broken}
 use Rattle.node_core.proofs.Words.{frame_checks, History, is_dialling, is_open, listed, running_scopes, IsAnswered, IsLegal, IsNext, is_full}
 use Rattle.node_core.proofs.Words.{up_answer, verdict, with_entry, awaits, is_last, is_name_up, Entry, Accepted, Rule, AdmissionFollows}
-use Rattle.node_core.proofs.Words.{admission_words, heard_named, is_handshake, rule_of, IsState, LinksFollow, facts, link_words, KeptLink}
-use Rattle.node_core.proofs.Words.{dial_beside, dialled_peer, narrow_frames, scope_words, is_node_name, ack_frame, status_owed, reply_owed, Dialled}
-use Rattle.node_core.proofs.Words.{Awaited, Heard, LinkState, state_checks, accepted_as, Event, Reply, not-true}
+use Rattle.node_core.proofs.Words.{admission_words, heard_named, rule_of, IsState, LinksFollow, facts, link_words, KeptLink, dial_beside}
+use Rattle.node_core.proofs.Words.{dialled_peer, narrow_frames, scope_words, is_node_name, status_owed, reply_owed, Dialled, Awaited, Heard}
+use Rattle.node_core.proofs.Words.{LinkState, state_checks, accepted_as, Event, Reply, not-true}
 use Rattle.link_states.specs.Named.{named_by}
 use Rattle.link_states.specs.Pending.{is_up}
 use Rattle.policy_audit.proofs.Finished.{is_message}
@@ -15,7 +15,7 @@ use Rattle.policy_audit.proofs.RowsAfter.{unfinished_rows}
 use Rattle.node_core.proofs.EarlyMoves.{answer_moves, status_moves, challenge_moves}
 use Rattle.node_core.proofs.Entered.{made, accepted_now, answered_now}
 use Rattle.node_core.proofs.Found.{some_is}
-use Rattle.node_core.proofs.FrameRules.{name_rules, answer_rules, reply_rules, status_rules, challenge_rules, ack_rules}
+use Rattle.node_core.proofs.FrameRules.{name_rules, answer_rules, status_rules, challenge_rules}
 use Rattle.node_core.proofs.MovedOn.{AreMoves, stays_but}
 use Rattle.node_core.proofs.NameMoves.{Goes, name_goes}
 use Rattle.link_states.specs.Checks as state_checked
@@ -50,14 +50,6 @@ module _ (h : History) (rules : AdmissionRules) (t : AdmissionFollows (admission
 
   checks_of : (open_now : is_open j h.entries ≡ true) (a : Awaited) → awaits j h.entries ≡ a → first_broken (checks h seat (Event.Frame j body)) ≡ first_broken (frame_checks h j body a)
   checks_of opens a awaited = λ i. first_broken (cond (opens i) (frame_checks h j body (awaited i)) (always Rule.NoSuchLink))
-
-  -- the rules of the last frame
-  pub last_rules : (s : LinkState) → is_handshake s ≡ true → is_early s ≡ false → IsState (facts h j) s → first_broken (checks h seat (Event.Frame j body)) ≡ their_checks s
-  last_rules (LinkState.Reply s) q late a = checks_of a.0.open_now _ a.0.awaited ∙ reply_rules h rules t j s.peer a.1.peer.peer s.challenge a.1.challenge (reply_frame body)
-  last_rules (LinkState.Ack s) q late a = checks_of a.0.open_now _ a.0.awaited ∙ ack_rules h rules t j s.peer a.1.peer.peer s.challenge a.1.challenge (ack_frame body)
-  last_rules (LinkState.Up up) q late a = lie (sym q)
-  last_rules LinkState.Ended q late a = lie (sym q)
-  last_rules s q late a = lie late
 
   module _ (ups : (n : List ℕ) → is_up pending n ≡ is_name_up n h.entries) (dials : (n : List ℕ) → is_dialled pending n ≡ is_dialling n h.entries) where
     pub early_rules : (s : LinkState) → is_early s ≡ true → IsState (facts h j) s → first_broken (checks h seat (Event.Frame j body)) ≡ their_checks s

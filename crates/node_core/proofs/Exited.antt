@@ -23,15 +23,9 @@ module _ (h : History) (seat : ℕ) (p : Pid) where
   abbrev exit_broken : Bool → Bool → Option Rule
   exit_broken local alive = cond (not local) (Some Rule.NotLocal) (cond (not alive) (Some Rule.NoProcess) None)
 
-  pub exit_foreign : is_local h p ≡ false → first_broken (checks h seat (Event.Exit p)) ≡ Some Rule.NotLocal
-  exit_foreign q = ap (λ b. exit_broken b (lives h p)) q
-
 module _ (h : History) (seat : ℕ) (parts : Parts) (t : Follows h parts) (p : Pid) (local : is_local h p ≡ true) where
   alive : (b : Bool) → is_number p.number parts.processes.live ≡ b → lives h p ≡ b
   alive b q = lives_of h p local ∙ sym (t.processes.live p.number) ∙ q
-
-  pub exit_dead : is_number p.number parts.processes.live ≡ false → first_broken (checks h seat (Event.Exit p)) ≡ Some Rule.NoProcess
-  exit_dead q = λ i. exit_broken h seat p (local i) (alive false q i)
 
   pub exit_holds : is_number p.number parts.processes.live ≡ true → first_broken (checks h seat (Event.Exit p)) ≡ None
   exit_holds q = λ i. exit_broken h seat p (local i) (alive true q i)

@@ -75,9 +75,6 @@ frames_end p [] (d ∷ ds) r c l a = absurd a
 frames_end p (q ∷ qs) [] r c l a = absurd a
 frames_end p (q ∷ qs) (d ∷ ds) r c l a = ap (λ f. exit_frames q d.groups l ++ f) (frames_end p qs ds r c l a.1) ∙ sym (append_assoc (exit_frames q d.groups l) (all_frames qs ds l) (exit_frames r c.groups l))
 
-pub exits_none : (p : Pid) (links : List KeptLink) (cs : List Change) → cs ≡ [] → AreExits p [] links links cs
-exits_none p links cs none = record { all = []; each = tt; some = none; links = prepared_none (λ l. []) (λ l. refl) links }
-
 -- one scope more
 pub exits_on : (p : Pid) (rs : List Running) (r : Running) (old mid new : List KeptLink) (cs ds : List Change) (gs : List GroupChange) → AreExits p rs old mid cs
     → IsDifference (count_of r.table) (count_after_exit r.table p) gs → ArePrepared (exit_frames r gs) mid new → ds ≡ cs ++ cond (not (is_empty gs)) (record { scope = r.scope; groups = gs } ∷ []) [] → AreExits p (rs ++ r ∷ []) old new ds

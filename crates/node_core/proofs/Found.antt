@@ -1,7 +1,7 @@
 -- Elements that pass a test, and their places.
 use Rattle.node_core.proofs.Words.{Bool, List, None, Some, ap, arith, cond, false, find, is_some, length, map, nat_lt, position, refl, subst, suc}
-use Rattle.node_core.proofs.Words.{sym, true, ℕ, [], ◌+◌, ◌<◌, ◌||◌, ◌∙◌, ◌∷◌, ◌≡◌, AllByRecursion, list_any, lt-ltb, ltb-true, position-Some}
-use Rattle.node_core.proofs.Words.{no_value, ltb-false, position_or_len}
+use Rattle.node_core.proofs.Words.{sym, true, ℕ, [], ◌+◌, ◌||◌, ◌∙◌, ◌∷◌, ◌≡◌, AllByRecursion, list_any, lt-ltb, ltb-true, no_value, ltb-false}
+use Rattle.node_core.proofs.Words.{position_or_len}
 
 -- the value in an option
 pub some_is : {A : Type 0} {x y : A} → Some x ≡ Some y → x ≡ y
@@ -60,7 +60,3 @@ module _ {A : Type 0} (test : A → Bool) where
   -- where one is found, one passes, and it is within the list
   pub some_place : (xs : List A) (p : ℕ) → position test xs ≡ Some p → list_any test xs ≡ true
   some_place xs p found = sym (place_found xs) ∙ ap is_some found
-
-  pub place_within : (xs : List A) (p : ℕ) → position test xs ≡ Some p → p < length xs
-  place_within [] p found = no_value (sym found)
-  place_within (x ∷ xs) p found = (position-Some test (x ∷ xs) p x found).0

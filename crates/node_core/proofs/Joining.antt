@@ -54,9 +54,6 @@ module _ (h : History) (seat : ℕ) (s g : List ℕ) (ps : List Pid) where
     pub join_holds : length (local_rows h s) + length ps ≤ 4096 → first_broken (checks h seat (Event.Join s g ps)) ≡ None
     join_holds few = λ i. join_broken (runs i) (all_local i) (all_alive i) (le-leb (length (local_rows h s) + length ps) 4096 few i)
 
-pub joins_few : (h : History) (ps : List Pid) → first_broken (own_checks h ps) ≡ None → length ps ≤ 4096
-joins_few h ps q = leb-true (length ps) 4096 (unbroken (nat_le (length ps) 4096) (all_hold (own_checks h ps) q).1.1.0)
-
 more_rows : (rows held more : ℕ) → rows ≡ held → max_rows < held + more → 4096 < rows + more
 more_rows rows held more is over = omega (arith, is, over)
 

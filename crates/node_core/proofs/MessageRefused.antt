@@ -48,10 +48,6 @@ pub says_broken : (h : History) (seat l : ℕ) (body : List ℕ) (m : Message) (
     → first_broken (checks h seat (Event.Frame l body)) ≡ Some r
 says_broken h seat l body m r up awaited says q = message_rules h seat l body up awaited ∙ ap (λ o. first_broken (option_map_or (message_checks h l) o (always Rule.BadFrame))) says ∙ q
 
--- a frame that is none
-pub none_broken : (h : History) (seat l : ℕ) (body : List ℕ) → is_up l h.entries ≡ true → awaits l h.entries ≡ AwaitMessage → message_taken body ≡ None → first_broken (checks h seat (Event.Frame l body)) ≡ Some Rule.BadFrame
-none_broken h seat l body up awaited says = message_rules h seat l body up awaited ∙ ap (λ o. first_broken (option_map_or (message_checks h l) o (always Rule.BadFrame))) says
-
 -- the link is not visible
 pub hidden_first : (h : History) (l : ℕ) (m : Message) → is_visible h l ≡ false → first_broken (early_checks h l m) ≡ Some Rule.HiddenLink
 hidden_first h l (Message.Discover s) q = rw q refl

@@ -14,9 +14,6 @@ pub owed_on : (v w : KeptLink) (frames : List OutFrame) → v.prepared ≡ [] �
 owed_on v w frames idle owed = owed ∙ λ i. record { number = v.number; state = v.state; frames = v.frames ++ frames; prepared = idle i; room = w.room }
 
 module _ (xs : List KeptLink) (p : ℕ) (here : p < length xs) where
-  pub set_again : (a b v : KeptLink) (d : KeptLink) → v ≡ get_or (set xs p a) p d → v ≡ a
-  set_again a b v d is = is ∙ get_or-set_same xs p a d here
-
   -- what is read at the place doesn't depend on what would be read beyond the list
   pub moved : (v d : KeptLink) (is : v ≡ get_or xs p d) (frames : List OutFrame) (state : KeptLink → LinkState) (gone : KeptLink → Option ℕ) (w : KeptLink) (room : ℕ) (new : List KeptLink)
       → w ≡ moved_on (state v) frames room v → new ≡ without_link (gone v) (set xs p w) → HaveMoved p state frames gone xs new

@@ -25,9 +25,6 @@ module _ (h k : History) (left : Table → List ℕ → Pid → ℕ) (leaves : (
       stopped_lists h s g p stopped ∙ sym (others s stopped g p)))
 
 module _ (left : Table → List ℕ → Pid → ℕ) where
-  pub no_partings : ArePartings left [] []
-  no_partings = record { all = []; each = tt; some = refl }
-
   -- one scope more, which changes or not
   pub one_parting : (rs : List Running) (cs : List Change) (r : Running) (gs : List GroupChange) → ArePartings left rs cs → IsDifference (count_of r.table) (left r.table) gs
       → ArePartings left (rs ++ r ∷ []) (cs ++ cond (not (is_empty gs)) (record { scope = r.scope; groups = gs } ∷ []) [])

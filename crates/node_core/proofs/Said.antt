@@ -1,10 +1,9 @@
 -- Messages of own rows, and the links that are told them.
 use Rattle.node_core.proofs.Words.{Bool, List, OnErr, ap, arith, cond, false, length, map, not, refl, subst, sym, true, ℕ, [], ◌++◌, ◌<◌, ◌∙◌, ◌∷◌}
 use Rattle.node_core.proofs.Words.{◌≡◌, AllZip, same_pid_decides, is_empty, IsListing, IsPidListing, IsRowListing, listing, mentions, same, same_pid}
-use Rattle.node_core.proofs.Words.{pid_cmp, Pid, Row, Message, Table, lie, row, OutFrame, wide, KeptLink, prepared_for, unroomed, with_prepared}
-use Rattle.node_core.proofs.Words.{is_number, Alike, AreIdle, said_to, min, stands_in, exact_pids, pids_total, IsJoinFault, IsLeaveFault, IsAddFault}
-use Rattle.node_core.proofs.Words.{IsTakeFault, occurs_stands, Running, IsBrief, is_said, IsAddRefusal, IsTakeRefusal, fault_of, IsJoinRefusal}
-use Rattle.node_core.proofs.Words.{IsLeaveRefusal}
+use Rattle.node_core.proofs.Words.{pid_cmp, Pid, Row, Message, Table, lie, row, OutFrame, KeptLink, prepared_for, unroomed, with_prepared, is_number}
+use Rattle.node_core.proofs.Words.{Alike, AreIdle, min, stands_in, exact_pids, pids_total, IsJoinFault, IsLeaveFault, occurs_stands, Running, IsBrief}
+use Rattle.node_core.proofs.Words.{is_said, fault_of, IsJoinRefusal, IsLeaveRefusal}
 use Rattle.std.proofs.Common.{Result}
 use Rattle.dist_types.proofs.Listings.{listing_counts}
 use Rattle.link_frames.specs.Spelling.{HasSpelling}
@@ -23,16 +22,6 @@ spelled (Message.Sync s rows) b q = b
 spelled (Message.Join s rows) b q = (some_left rows q, b)
 spelled (Message.Leave s rows) b q = (some_left rows q, b)
 spelled (Message.Down s) b q = tt
-
-module _ (numbers : List ℕ) (m : Message) (old : List KeptLink) where
-  abbrev prepared_as : Bool → List KeptLink
-  prepared_as b = map (λ x. unroomed (prepared_for (cond b numbers []) (wide m) x)) old
-
-  pub said_prepared : (new : List KeptLink) → is_said m ≡ true → map unroomed new ≡ map (λ x. unroomed (prepared_for numbers (wide m) x)) old → map unroomed new ≡ map (λ x. unroomed (prepared_for (said_to numbers m) (wide m) x)) old
-  said_prepared new q is = is ∙ sym (ap prepared_as q)
-
-  pub unsaid_prepared : is_said m ≡ false → map unroomed old ≡ map (λ x. unroomed (prepared_for (said_to numbers m) (wide m) x)) old
-  unsaid_prepared q = sym (ap prepared_as q)
 
 -- ---- rows of one group
 
@@ -62,16 +51,6 @@ pub leave_fault : (t : Table) (g : List ℕ) (ps : List Pid) (f : TableFault) �
 leave_fault t g ps TableFault.NotJoined q = (refl, q)
 leave_fault t g ps TableFault.OutOfMemory q = tt
 leave_fault t g ps f q = absurd q
-
-pub add_fault : (t : Table) (n : List ℕ) (rows : List Row) (f : TableFault) → IsAddFault t n rows f → IsAddRefusal t n rows (fault_of f)
-add_fault t n rows TableFault.RowsFull q = (refl, q)
-add_fault t n rows TableFault.OutOfMemory q = tt
-add_fault t n rows f q = absurd q
-
-pub take_fault : (t : Table) (rows : List Row) (f : TableFault) → IsTakeFault t rows f → IsTakeRefusal t rows (fault_of f)
-take_fault t rows TableFault.NotListed q = (refl, q)
-take_fault t rows TableFault.OutOfMemory q = tt
-take_fault t rows f q = absurd q
 
 -- what is prepared and then dropped leaves all as it was
 pub dropped_again : (numbers : List ℕ) (frame : OutFrame) (old mid new : List KeptLink) → AreIdle old → map unroomed mid ≡ map (λ x. unroomed (prepared_for numbers frame x)) old

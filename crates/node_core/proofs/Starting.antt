@@ -1,11 +1,11 @@
 -- A scope that starts.
-use Rattle.node_core.proofs.Words.{Bool, List, None, Option, Some, ap, arith, cond, false, get_or, length, map, nat_lt, not, refl, suc, sym, true}
-use Rattle.node_core.proofs.Words.{zero, ℕ, [], ◌++◌, ◌<◌, ◌||◌, ◌∙◌, ◌∷◌, ◌≡◌, ◌≤◌, AllByRecursion, Less, lt-ltb, same_decides, Rises, is_among}
-use Rattle.node_core.proofs.Words.{same, text_cmp, Pid, count_of, lie, no_change, stopped_lists, told_numbers, running_among, checks, first_broken}
-use Rattle.node_core.proofs.Words.{heard, told, History, listed, waiting, wide, is_running, running_scopes, IsAnswered, IsNext, is_full, with_entry}
-use Rattle.node_core.proofs.Words.{Entry, Accepted, Rule, Follows, Parts, link_words, KeptLink, IsRunningOf, ScopesFollow, is_number, scope_words}
-use Rattle.node_core.proofs.Words.{AreTold, if_among, shown_numbers, Ordering, Equal, Greater, insert, placed, texts_total, started_links}
-use Rattle.node_core.proofs.Words.{running_started, Running, put_scope, Message, Event, Reply, le-ltb, length-map}
+use Rattle.node_core.proofs.Words.{Bool, List, None, Option, Some, ap, arith, cond, false, get_or, length, map, not, refl, suc, sym, true, zero, ℕ}
+use Rattle.node_core.proofs.Words.{[], ◌++◌, ◌<◌, ◌||◌, ◌∙◌, ◌∷◌, ◌≡◌, ◌≤◌, AllByRecursion, Less, lt-ltb, same_decides, Rises, is_among, same}
+use Rattle.node_core.proofs.Words.{text_cmp, Pid, count_of, lie, no_change, stopped_lists, told_numbers, running_among, checks, first_broken, heard}
+use Rattle.node_core.proofs.Words.{told, History, listed, waiting, wide, is_running, running_scopes, IsAnswered, IsNext, is_full, with_entry, Entry}
+use Rattle.node_core.proofs.Words.{Accepted, Rule, Follows, Parts, link_words, KeptLink, IsRunningOf, ScopesFollow, is_number, scope_words, AreTold}
+use Rattle.node_core.proofs.Words.{if_among, shown_numbers, Ordering, Equal, Greater, insert, placed, texts_total, started_links, running_started}
+use Rattle.node_core.proofs.Words.{Running, put_scope, Message, Event, Reply, length-map}
 use Rattle.std.proofs.lemmas.Map.Lookups.{exact_bytes}
 use Rattle.std.specs.Ordering.{is_lt, ordering_reverse, match_ordering}
 use Rattle.std.specs.List.Sorted.{IsPartitionedBy, IsPartitionPoint}
@@ -88,13 +88,7 @@ module _ (h : History) (seat : ℕ) (s : List ℕ) where
   abbrev checked : Bool → Bool → Option Rule
   checked runs room = cond (not (not runs)) (Some Rule.ScopeRunning) (cond (not room) (Some Rule.ScopesFull) None)
 
-  pub scope_running : is_running h s ≡ true → first_broken (checks h seat (Event.StartScope s)) ≡ Some Rule.ScopeRunning
-  scope_running q = ap (λ b. checked b (nat_lt (length (running_scopes h)) 64)) q
-
   module _ (parts : Parts) (t : Follows h parts) (stopped : is_running h s ≡ false) where
-    pub scopes_full : 64 ≤ length parts.scopes → first_broken (checks h seat (Event.StartScope s)) ≡ Some Rule.ScopesFull
-    scopes_full many = λ i. checked (stopped i) (le-ltb (length (running_scopes h)) 64 (let is = running_length h parts.scopes t.scopes in omega (arith, is, many)) i)
-
     pub scopes_fit : length parts.scopes < 64 → first_broken (checks h seat (Event.StartScope s)) ≡ None
     scopes_fit few = λ i. checked (stopped i) (lt-ltb (length (running_scopes h)) 64 (let is = running_length h parts.scopes t.scopes in omega (arith, is, few)) i)
 

@@ -3,7 +3,7 @@ use Rattle.node_core.proofs.Words.{Bool, Err, List, None, Ok, OnErr, Option, Som
 use Rattle.node_core.proofs.Words.{ℕ, [], ◌&&◌, ◌++◌, ◌||◌, ◌∙◌, ◌∷◌, ◌≡◌, AllByRecursion, AllZip, option_map_or, eq-eqb, eqb-true, has_bit, lie}
 use Rattle.node_core.proofs.Words.{and_false, History, OutFrame, Follows, Parts, IsLinkOf, IsState, LinkFacts, LinkWords, LinksFollow, link_words}
 use Rattle.node_core.proofs.Words.{KeptLink, committed, prepared_for, unroomed, with_frames, with_prepared, is_number, Alike, AreIdle, AreTold}
-use Rattle.node_core.proofs.Words.{if_among, shown_numbers, IfSome, IfNone, LinkState, is_shown, arith}
+use Rattle.node_core.proofs.Words.{if_among, shown_numbers, IfNone, LinkState, is_shown, arith}
 use Rattle.std.proofs.Common.{Result}
 use Rattle.node_core.proofs.Zipped.{zipped_map}
 
@@ -25,10 +25,6 @@ zip_map f g (x ∷ xs) (y ∷ ys) q = ((cc), zip_map f g xs ys (cc))
 pub at_none : {A P : Type 0} (o : Option A) → is_some o ≡ false → IfNone o P → P
 at_none None q p = p
 at_none (Some x) q p = lie q
-
-pub at_some : {A : Type 0} {P : A → Type 0} {Q : Type 0} (o : Option A) → is_some o ≡ true → ((x : A) → P x → Q) → IfSome o P → Q
-at_some None q f p = lie (sym q)
-at_some (Some x) q f p = f x p
 
 -- ---- links that follow
 

@@ -13,9 +13,6 @@ pub places-place-requires-clause-runs : goal.places-place-requires-clause-runs
 places-place-requires-clause-runs c =
     rw c.deref-2.ensures.value (running_placed (seen c.self.view_is c.self.invariant) c.args.scope (scope_runs c.args.self.now c.args.number (Message.Discover c.args.scope) c.requires.holds))
 
-pub invariant_of-self : goal.invariant_of-self
-invariant_of-self c = rw c.in_err-make_room.ensures.same c.self.invariant
-
 pub invariant_of-self-in_err-make_room-2 : goal.invariant_of-self-in_err-make_room-2
 invariant_of-self-in_err-make_room-2 c = rw c.in_ok-make_room.ensures.ok.1 (follows_with c.self.invariant c.self.invariant.scopes (roomed_links c.self.invariant c.args.number (rw (← c.self.view_is) at c.requires.up)
     (rw c.deref.ensures.value at c.places-place.ensures.link) c.index_mut.ensures.value c.in_err-make_room-2.ensures.same))

@@ -20,9 +20,6 @@ up_at c = up_here (seen c.self.view_is c.self.invariant) c.args.number c.require
 pub unreachable-requires : goal.unreachable-requires
 unreachable-requires c = has_peer (up_at (goal.at.unreachable-requires c).After-index) c.in_default.ensures
 
-pub invariant_of-self : goal.invariant_of-self
-invariant_of-self c = rw c.in_err-room.ensures.same c.self.invariant
-
 pub invariant_of-self-2 : goal.invariant_of-self-2
 invariant_of-self-2 c = rw (c.accept.ensures.entries, c.accept.ensures.limit, c.in_ok-room.ensures.room, c.filled.ensures, c.in_ok-room.ensures.scope) (
     downed c.self.invariant c.args.seat c.args.number c.args.body (rw (← c.self.view_is) at c.requires.space) (rw (← c.self.view_is) at c.requires.up)

@@ -1,14 +1,11 @@
-use Rattle.node_core.proofs.Words.{refl, sym, ◌∙◌, past, link_words, Event, Reply}
+use Rattle.node_core.proofs.Words.{refl, sym, ◌∙◌, past, Event, Reply}
 use Rattle.node_core.proofs.Entered.{steps_on}
-use Rattle.node_core.proofs.Told.{alike_again, follow_idle}
+use Rattle.node_core.proofs.Told.{alike_again}
 use Rattle.node_core.proofs.Exited.{exit_own, exit_next, exit_follows}
 use Rattle.node_core.proofs.node.NodeCore.exit.Goals as goal
 
 pub tell_exit-requires-clause-own : goal.tell_exit-requires-clause-own
 tell_exit-requires-clause-own c = rw c.deref.ensures.value (exit_own (past c.self.inside.opening c.self.inside.audit.entries) c.args.seat _ c.self.invariant c.args.pid (rw (← c.self.view_is) at (sym c.is_local.ensures ∙ c.if-not-is_local.false)))
-
-pub tell_exit-requires-clause-idle : goal.tell_exit-requires-clause-idle
-tell_exit-requires-clause-idle c = follow_idle (link_words (past c.self.inside.opening c.self.inside.audit.entries)) c.self.inside.links.items c.self.invariant.links.each
 
 pub invariant_of-self-in_err-changes : goal.invariant_of-self-in_err-changes
 invariant_of-self-in_err-changes c =

@@ -1,8 +1,7 @@
-use Rattle.node_core.proofs.Words.{sym, past, link_words}
+use Rattle.node_core.proofs.Words.{sym}
 use Rattle.node_core.proofs.Entered.{seen, steps_on}
 use Rattle.node_core.proofs.Moved.{unmoved}
 use Rattle.node_core.proofs.MessagePlaces.{runs_here, stopped_here}
-use Rattle.node_core.proofs.Told.{follow_idle}
 use Rattle.node_core.proofs.Joining.{join_nowhere, join_own, join_calm, joins_own, joined}
 use Rattle.node_core.proofs.node.NodeCore.join.Goals as goal
 
@@ -17,9 +16,6 @@ refuse-requires-in-Some-join_refusal-clause-broken c = join_own c.args.self.now 
 pub join_one-changes-requires-clause-own : goal.join_one-changes-requires-clause-own
 join_one-changes-requires-clause-own c = rw c.as_slice-2.ensures (joins_own c.args.seat c.self.invariant c.args.scope c.args.group c.args.pids (sym (rw c.deref.ensures.value at c.in-Some.ensures)) c.index_mut.ensures.value
     (sym (rw (c.as_slice.ensures, ← c.self.view_is) at c.in_default-join_refusal.ensures)))
-
-pub join_one-changes-requires-clause-idle : goal.join_one-changes-requires-clause-idle
-join_one-changes-requires-clause-idle c = follow_idle (link_words (past c.self.inside.opening c.self.inside.audit.entries)) c.self.inside.links.items c.self.invariant.links.each
 
 pub give_up-requires-clause-fault : goal.give_up-requires-clause-fault
 give_up-requires-clause-fault c = rw c.in-Err.ensures.unentered.0 (join_calm c.args.seat c.self.invariant c.args.scope c.args.group c.args.pids (sym (rw c.deref.ensures.value at c.in-Some.ensures)) c.index_mut.ensures.value

@@ -3,9 +3,6 @@ use Rattle.node_core.proofs.Entered.{steps_on}
 use Rattle.node_core.proofs.Anew.{creation_left, anew_next, anew_follows}
 use Rattle.node_core.proofs.node.NodeCore.restart.Goals as goal
 
-pub invariant_of-self : goal.invariant_of-self
-invariant_of-self c = rw c.in_err-make_room.ensures.same c.self.invariant
-
 pub returns : goal.returns
 returns c =
     let pushed = rw (c.in_ok-make_room.ensures.ok.1) at c.accept.ensures.entries in

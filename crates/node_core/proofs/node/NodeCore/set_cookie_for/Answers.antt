@@ -7,9 +7,6 @@ use Rattle.node_core.proofs.node.NodeCore.set_cookie_for.Goals as goal
 pub give_up-requires-clause-fault : goal.give_up-requires-clause-fault
 give_up-requires-clause-fault c = rw c.in-Err.ensures.unentered.0 (cookie_calm (past c.self.inside.opening c.self.inside.audit.entries) c.self.inside.admission c.self.invariant.admission c.args.seat c.args.peer c.args.cookie c.in-Err.fault c.in-Err.ensures.refused)
 
-pub invariant_of-self-in-Err : goal.invariant_of-self-in-Err
-invariant_of-self-in-Err c = rw (c.in-Err.ensures.unentered.0, c.in-Err.ensures.unentered.1, c.in-Err.ensures.same) c.self.invariant
-
 pub returns-in-Ok : goal.returns-in-Ok
 returns-in-Ok c =
     let pushed = rw (c.in-Ok.ensures.room, c.new-nothing.ensures.items) at c.accept.ensures.entries in

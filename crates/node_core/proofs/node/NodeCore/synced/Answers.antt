@@ -21,9 +21,6 @@ up_at c = up_here (seen c.self.view_is c.self.invariant) c.args.number c.require
 pub unreachable-requires : goal.unreachable-requires
 unreachable-requires c = has_peer (up_at (goal.at.unreachable-requires c).After-index) c.in_default.ensures
 
-pub invariant_of-self : goal.invariant_of-self
-invariant_of-self c = rw c.in_err-room.ensures.same c.self.invariant
-
 pub hear_rows-requires-clause-of_peer : goal.hear_rows-requires-clause-of_peer
 hear_rows-requires-clause-of_peer c =
     let here = up_at (goal.at.hear_rows-requires-clause-of_peer c).After-index in

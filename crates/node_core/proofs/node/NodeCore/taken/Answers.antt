@@ -3,7 +3,6 @@ use Rattle.node_core.proofs.Entered.{seen, steps_on}
 use Rattle.node_core.proofs.MessagePlaces.{IsUpHere, up_placed, up_here, running_placed}
 use Rattle.node_core.proofs.MessageRefused.{scope_runs, left_from, all_of_peer, peer_is, has_peer}
 use Rattle.node_core.proofs.MessageScopes.{taken, taken_calm}
-use Rattle.node_core.proofs.MessageRoom.{same_scope, unchanged_scope, follows_with}
 use Rattle.node_core.proofs.node.NodeCore.taken.Goals as goal
 use Rattle.node_core.proofs.node.NodeCore.taken.Goals.{After-index}
 
@@ -25,10 +24,6 @@ pub take_rows-changes-requires : goal.take_rows-changes-requires
 take_rows-changes-requires c =
     let here = up_at (goal.at.take_rows-changes-requires c).After-index in
     rw (peer_is here c.in-Some.ensures) (all_of_peer here c.args.rows (left_from c.args.self.now c.args.number c.args.scope c.args.rows c.requires.holds))
-
-pub invariant_of-self-in-Err : goal.invariant_of-self-in-Err
-invariant_of-self-in-Err c = rw (c.in-Err.ensures.unentered.0, c.in-Err.ensures.unentered.1) (follows_with c.self.invariant
-    (same_scope c.self.invariant c.args.scope (rw c.deref-2.ensures.value at c.places-place.ensures.scope) c.index_mut.ensures.value (unchanged_scope c.in-Err.ensures.same)) c.self.invariant.links)
 
 pub give_up-requires-clause-fault : goal.give_up-requires-clause-fault
 give_up-requires-clause-fault c = rw c.in-Err.ensures.unentered.0 (taken_calm c.self.invariant c.args.seat c.args.number c.args.body (rw (← c.self.view_is) at c.requires.space) (rw (← c.self.view_is) at c.requires.up)
