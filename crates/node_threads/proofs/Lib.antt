@@ -1,2 +1,5 @@
+pub mod Answered
 pub mod Counted
 pub mod Kept
+pub mod Steps
+pub mod Written

@@ -1,7 +1,8 @@
 -- What a pass has recorded, and which entries of an audit are a seat's.
-use Rattle.std.specs.Prelude.{ℕ, ◌-◌, ◌==◌, Bool, List, length, map, reverse, Option, Some, None, slice_get}
+use Rattle.std.specs.Prelude.{◌≡◌, ℕ, ◌-◌, ◌==◌, Bool, true, false, List, ◌++◌, length, map, reverse, Option, Some, None, slice_get}
 use Rattle.std.specs.List.{filter}
 use Rattle.policy_audit.specs.declared.reply.Reply.{Reply}
+use Rattle.policy_audit.specs.declared.reply.Reply.TheVariants.{Up}
 use Rattle.policy_audit.specs.declared.entry.Entry.{Entry}
 use Rattle.policy_audit.specs.declared.entry.Verdict.{Verdict}
 use Rattle.policy_audit.specs.declared.entry.Verdict.TheVariants.{Accepted, Refused}
@@ -41,3 +42,21 @@ reply_of (Some call) = reply_in call.verdict
 -- the reply of the last call, if it was accepted
 abbrev pub last_reply : List Call → Option Reply
 last_reply calls = reply_of (slice_get calls (length calls - 1))
+
+-- ---- what a worker's calls add
+
+-- the pass has gained these calls
+abbrev pub Gains : Record → List Call → Record → Type 0
+Gains pass more pass' = pass' ≡ record { seat = pass.seat; calls = pass.calls ++ more }
+
+abbrev pub is_up_reply : Reply → Bool
+is_up_reply (Up peer creation visible) = true
+is_up_reply reply = false
+
+abbrev pub is_up_answer : Verdict → Bool
+is_up_answer (Accepted reply) = is_up_reply reply
+is_up_answer (Refused rule) = false
+
+-- the call was answered that its link is up
+abbrev pub is_up : Call → Bool
+is_up call = is_up_answer call.verdict

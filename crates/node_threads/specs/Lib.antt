@@ -4,3 +4,9 @@ pub mod Applied
 pub mod Lending
 pub mod Opened
 pub mod Closing
+pub mod Cutting
+pub mod Ends
+pub mod Retreat
+pub mod Reading
+pub mod Writing
+pub mod Serving

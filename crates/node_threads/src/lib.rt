@@ -1,18 +1,32 @@
-//! One node for many threads: a lock around it, and a pass for each caller that keeps what it called.
+//! One node for many threads: a lock around it, a pass for each caller that keeps what it called, and the two workers of a
+//! link.
 #![tactic(auto)]
 
 mod call;
 mod close;
+mod cutter;
+mod ends;
 mod fault;
 mod node;
 mod pass;
+mod reading;
+mod retreat;
+mod serving;
 mod shared;
+mod writing;
 
 pub use close::{CloseFault, CloseRule, Closed};
+pub use ends::{Gate, LinkOut, ReadEnd, WriteEnd};
 pub use fault::{CallFault, NewFault};
 pub use node::Node;
 pub use pass::{Call, Pass};
+pub use reading::read_link;
+pub use retreat::{Retreat, RetreatStep};
+pub use serving::{Served, serve_link};
 pub use shared::Shared;
+pub use writing::write_link;
 
 #[cfg(test)]
 mod tests;
+#[cfg(test)]
+mod worker_tests;

@@ -9,7 +9,7 @@ use dist_types::OutOfMemory;
 use node_core::{NodeCore, OpenFault};
 use policy_audit::Opening;
 use std::alloc::{AllocError, Global};
-use std::sync::{Condvar, Mutex};
+use std::sync::{Condvar, Mutex, Wait};
 
 /// A node for many threads.
 #[derive(Drop)]
@@ -49,6 +49,14 @@ impl Node {
             moved: Condvar::new(),
         };
         Ok((node, passes))
+    }
+
+    /// All writers are to hang up: a link couldn't be given up for want of memory.
+    pub(crate) fn mark_stuck<R: Wait>(&self, rt: &R) {
+        let mut shared = self.shared.lock(rt);
+        shared.set_stuck();
+        drop(shared);
+        self.moved.notify_all();
     }
 }
 

@@ -19,6 +19,8 @@ pub struct Shared {
     alloc: Global,
     core: NodeCore,
     counts: Vec<u32>,
+    /// The writers of all links are to hang up. No contract rests on it.
+    stuck: bool,
 }
 
 impl Model for Shared {
@@ -43,6 +45,7 @@ impl Shared {
             alloc,
             core,
             counts,
+            stuck: false,
         })
     }
 
@@ -52,6 +55,21 @@ impl Shared {
         ensures sound { IsSound self.now }
     {
         &self.core
+    }
+
+    pub(crate) fn is_stuck(&self) -> bool {
+        self.stuck
+    }
+
+    pub(crate) fn set_stuck(&mut self)
+        ensures { self.new ≡ self.old }
+    {
+        self.stuck = true;
+    }
+
+    /// Whether the writer of this link has something to do: frames to take, or to end.
+    pub(crate) fn calls_writer(&self, link: u32) -> bool {
+        self.stuck || self.core.is_full() || self.core.waiting(link) != Some(0)
     }
 
     /// How many seats there are.
@@ -68,6 +86,7 @@ impl Shared {
             alloc: _,
             core,
             counts: _,
+            stuck: _,
         } = self;
         core
     }

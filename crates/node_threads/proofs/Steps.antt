@@ -1,0 +1,274 @@
+-- A reader's steps, one after another.
+use Rattle.std.proofs.Common.{◌≡◌, ◌≢◌, ℕ, ◌<◌, ◌≤◌, Bool, true, false, List, [], ◌∷◌, ◌++◌, ◌||◌, length, take, drop, Option, Some, None, Ok, Err, IfSome, refl, sym, ap, subst, ◌∙◌, inl, append-nil, append_assoc, arith}
+use Rattle.std.specs.Int.{w16}
+use Rattle.std.specs.List.{list_any}
+use Rattle.std.specs.Option.{option_to_list}
+use Rattle.std.proofs.lemmas.List.{map-append, take-append-drop}
+use Rattle.std.proofs.lemmas.List.Elements.{All-nil}
+use Rattle.std.proofs.lemmas.List.Folds.{list_any-append}
+use Rattle.std.proofs.lemmas.Option.{IfSome_then}
+use Rattle.handshake_frames.specs.Stream.{IsFed}
+use Rattle.handshake_frames.proofs.StreamLemmas.{reads_16, goes_on, IsPartial-empty}
+use Rattle.link_frames.specs.declared.fault.FeedFault.{FeedFault}
+use Rattle.link_frames.specs.declared.fault.FeedFault.TheVariants as faults
+use Rattle.link_frames.specs.Stream.{SplitsLink}
+use Rattle.link_frames.proofs.LinkLemmas.{goes_on as link_goes_on, IsRest-empty}
+use Rattle.policy_audit.specs.declared.event.Event.TheVariants.{Frame}
+use Rattle.node_threads.specs.declared.cutter.Cutter.{Cutter}
+use Rattle.node_threads.specs.declared.cutter.Cutter.TheVariants.{Handshake, Messages}
+use Rattle.node_threads.specs.declared.ends.ReadEnd.{ReadEnd}
+use Rattle.node_threads.specs.declared.ends.ReadEnd.TheVariants as ends
+use Rattle.node_threads.specs.declared.pass.Call.{Call}
+use Rattle.node_threads.specs.Calls.{Record, Gains, is_up}
+use Rattle.node_threads.specs.Cutting.{is_done, CutsOff}
+use Rattle.node_threads.specs.Ends.{rule_of, read_end_of_feed}
+use Rattle.node_threads.specs.Reading.{AreFrames, OfHandshake, IsRead, Moves, ReadsOn, IsAnswerOf, Stops, Gave, ReadsTo, ReadsAs}
+use Rattle.node_threads.proofs.Answered.{gains_none, gains_more}
+
+frames_more : (link : ℕ) (bodies others : List (List ℕ)) (calls more : List Call) → AreFrames link bodies calls → AreFrames link others more → AreFrames link (bodies ++ others) (calls ++ more)
+frames_more link bodies others calls more a b = rw (map-append (λ (c : Call). c.event) calls more, map-append (Frame link) bodies others, a, b) refl
+
+-- ---- one body at most
+
+module _ (link : ℕ) (piece : List ℕ) (used : ℕ) where
+  handshake_more : (bytes rest : List ℕ) (calls : List Call) (body : Option (List ℕ)) (new : List ℕ) (more : List Call) → OfHandshake link bytes calls rest → IsFed w16 rest piece used body new
+      → AreFrames link (option_to_list body) more → OfHandshake link (bytes ++ take used piece) (calls ++ more) new
+  handshake_more bytes rest calls body new more was fed frames = record {
+    bodies = was.bodies ++ option_to_list body;
+    splits = goes_on w16 reads_16 bytes was.bodies rest piece used body new was.splits fed;
+    frames = frames_more link was.bodies (option_to_list body) calls more was.frames frames;
+  }
+
+  -- the frame of a body that was cut off is one more; in a handshake it isn't answered `Up`
+  pub reads_more : (old : Cutter) (body : Option (List ℕ)) (new : Cutter) (more : List Call) → CutsOff old piece used body new → AreFrames link (option_to_list body) more
+      → (is_done new ≡ false → list_any is_up more ≡ false) → Moves link old (take used piece) more new
+  reads_more (Handshake rest) body new more cuts frames early before calls was =
+      let none = early (ap is_done cuts.1) in
+      subst (λ (c : Cutter). IsRead link (before ++ take used piece) (calls ++ more) c) (sym cuts.1) (record {
+        handshake = handshake_more before rest calls body cuts.0 more was.handshake cuts.2 frames;
+        none_up = rw (list_any-append is_up calls more, was.none_up, none) refl;
+      })
+  reads_more (Messages reader) body new more cuts frames early before calls was =
+      subst (λ (c : Cutter). IsRead link (before ++ take used piece) (calls ++ more) c) (sym cuts.1) (record {
+        early = was.early;
+        late = was.late ++ take used piece;
+        first = was.first;
+        last = was.last;
+        later = was.later ++ more;
+        bytes_are = ap (λ bs. bs ++ take used piece) was.bytes_are ∙ append_assoc was.early was.late (take used piece);
+        calls_are = ap (λ cs. cs ++ more) was.calls_are ∙ append_assoc (was.first ++ was.last ∷ []) was.later more;
+        none_up = was.none_up;
+        up = was.up;
+        handshake = was.handshake;
+        messages = record {
+          bodies = was.messages.bodies ++ option_to_list body;
+          splits = link_goes_on was.late was.messages.bodies reader.rest piece used body cuts.0.rest was.messages.splits cuts.2.fed;
+          frames = frames_more link was.messages.bodies (option_to_list body) was.later more was.messages.frames frames;
+        };
+      })
+
+  -- the frame that is answered `Up` ends the handshake
+  pub comes_up : (old : Cutter) (body : List ℕ) (mid : Cutter) (c : Call) → CutsOff old piece used (Some body) mid → is_done mid ≡ false → c.event ≡ Frame link body → is_up c ≡ true
+      → Moves link old (take used piece) (c ∷ []) (Messages (record { rest = []; too_long = false }))
+  comes_up (Handshake rest) body mid c cuts done event up before calls was = record {
+    early = before ++ take used piece;
+    late = [];
+    first = calls;
+    last = c;
+    later = [];
+    bytes_are = sym (append-nil (before ++ take used piece));
+    calls_are = sym (append-nil (calls ++ c ∷ []));
+    none_up = was.none_up;
+    up = up;
+    handshake = subst (λ rest. OfHandshake link (before ++ take used piece) (calls ++ c ∷ []) rest) cuts.2.empty
+        (handshake_more before rest calls (Some body) cuts.0 (c ∷ []) was.handshake cuts.2 (ap (λ e. e ∷ []) event));
+    messages = record { bodies = []; splits = unread; frames = refl };
+  }
+    where
+      unread : SplitsLink [] [] []
+      unread = record {
+        frames = [];
+        splits = record { fit = All-nil _; whole = refl; partial = IsRest-empty.partial };
+        given = refl;
+        within = All-nil _;
+        short = IsRest-empty.short;
+      }
+  comes_up (Messages reader) body mid c cuts done event up before calls was = let wrong : true ≡ false = sym (ap is_done cuts.1) ∙ done in cc
+
+  -- some of a piece is used, but no more than there is
+  pub cuts_within : (old : Cutter) (body : Option (List ℕ)) (new : Cutter) → CutsOff old piece used body new → (used ≤ length piece) × (0 < length piece → 0 < used)
+  cuts_within (Handshake rest) None new cuts = (omega (arith, cuts.2.whole), λ some. omega (arith, some, cuts.2.whole))
+  cuts_within (Handshake rest) (Some body) new cuts = (cuts.2.within, λ some. cuts.2.onward)
+  cuts_within (Messages reader) None new cuts = (omega (arith, cuts.2.fed.whole), λ some. omega (arith, some, cuts.2.fed.whole))
+  cuts_within (Messages reader) (Some body) new cuts = (cuts.2.fed.within, λ some. cuts.2.fed.onward)
+
+-- ---- one step after another
+
+pub reads_none : (link : ℕ) (p p' : Record) (cutter : Cutter) → p' ≡ p → ReadsOn link p cutter [] p' cutter
+reads_none link p p' cutter is = record {
+  more = [];
+  gains = gains_none p p' is;
+  moves = λ before calls was. rw (append-nil before, append-nil calls) was;
+}
+
+pub reads_then : (link : ℕ) (p mid p' : Record) (old between new : Cutter) (xs ys : List ℕ) → ReadsOn link p old xs mid between → ReadsOn link mid between ys p' new → ReadsOn link p old (xs ++ ys) p' new
+reads_then link p mid p' old between new xs ys first then = record {
+  more = first.more ++ then.more;
+  gains = gains_more p mid p' first.more then.more first.gains then.gains;
+  moves = λ before calls was.
+      subst (λ bs. IsRead link bs (calls ++ (first.more ++ then.more)) new) (append_assoc before xs ys)
+      (subst (λ cs. IsRead link ((before ++ xs) ++ ys) cs new) (append_assoc calls first.more then.more)
+      (then.moves (before ++ xs) (calls ++ first.more) (first.moves before calls was)));
+}
+
+last_then : (end : ReadEnd) (xs ys : List Call) → IsAnswerOf end ys → IsAnswerOf end (xs ++ ys)
+last_then end xs ys last = IfSome_then (rule_of end) last (λ rule l. (xs ++ l.0, l.1, ap (λ cs. xs ++ cs) l.2 ∙ sym (append_assoc xs l.0 (l.1 ∷ [])), l.3))
+
+pub stops_then : (link : ℕ) (p mid p' : Record) (old between : Cutter) (bytes xs ys : List ℕ) (end : ReadEnd) → bytes ≡ xs ++ ys → ReadsOn link p old xs mid between → Stops link mid between ys end p'
+    → Stops link p old bytes end p'
+unfolding reads_then
+stops_then link p mid p' old between bytes xs ys end is first stops = record {
+  used = xs ++ stops.used;
+  unused = stops.unused;
+  cutter = stops.cutter;
+  whole = is ∙ ap (λ bs. xs ++ bs) stops.whole ∙ sym (append_assoc xs stops.used stops.unused);
+  reads = reads_then link p mid p' old between stops.cutter xs stops.used first stops.reads;
+  answer = last_then end first.more stops.reads.more stops.answer;
+  unclosed = stops.unclosed;
+}
+
+-- nothing more was read
+pub stops_here : (link : ℕ) (p p' : Record) (cutter : Cutter) (bytes : List ℕ) (end : ReadEnd) → p' ≡ p → IsAnswerOf end [] → end ≢ ends.Closed → Stops link p cutter bytes end p'
+unfolding reads_none
+stops_here link p p' cutter bytes end is answer unclosed = record {
+  used = [];
+  unused = bytes;
+  cutter = cutter;
+  whole = refl;
+  reads = reads_none link p p' cutter is;
+  answer = answer;
+  unclosed = unclosed;
+}
+
+-- ---- a body that was cut off
+
+-- the piece had a body that is too long, or memory was wanting
+pub stops_unfed : (link : ℕ) (p : Record) (cutter : Cutter) (piece : List ℕ) (fault : FeedFault) → Stops link p cutter piece (read_end_of_feed fault) p
+stops_unfed link p cutter piece faults.TooLong = stops_here link p p cutter piece ends.TooLong refl tt (λ q. cc)
+stops_unfed link p cutter piece faults.OutOfMemory = stops_here link p p cutter piece ends.Memory refl tt (λ q. cc)
+
+module _ (link : ℕ) (piece : List ℕ) (used : ℕ) (p p' : Record) (old mid : Cutter) where
+  -- what a piece has brought, with what the pass has gained
+  abbrev pub Handing : Cutter → Type 0
+  Handing new = (used ≤ length piece) × (0 < length piece → 0 < used) × ReadsOn link p old (take used piece) p' new
+
+  pub handed_none : (body : Option (List ℕ)) → body ≡ None → CutsOff old piece used body mid → p' ≡ p → Handing mid
+  handed_none body none cuts is =
+      let within = cuts_within link piece used old body mid cuts in (
+        within.0,
+        within.1,
+        record {
+          more = [];
+          gains = gains_none p p' is;
+          moves = reads_more link piece used old None mid [] (subst (λ b. CutsOff old piece used b mid) none cuts) refl (λ q. refl);
+        },
+      )
+
+  module _ (some : Option (List ℕ)) (body : List ℕ) (is : some ≡ Some body) (cuts : CutsOff old piece used some mid) where
+    cut : CutsOff old piece used (Some body) mid
+    cut = subst (λ b. CutsOff old piece used b mid) is cuts
+
+    pub handed_on : (up : Bool) → Gave link body p (Ok up) p' → (is_done mid ≡ false → up ≡ false) → Handing mid
+    handed_on up gave early =
+        let within = cuts_within link piece used old (Some body) mid cut in (
+          within.0,
+          within.1,
+          record {
+            more = gave.0 ∷ [];
+            gains = gave.3;
+            moves = reads_more link piece used old (Some body) mid (gave.0 ∷ []) cut (ap (λ e. e ∷ []) gave.1) (λ q. ap (λ b. b || false) (gave.2 ∙ early q));
+          },
+        )
+
+    pub handed_up : (new : Cutter) → new ≡ Messages (record { rest = []; too_long = false }) → Gave link body p (Ok true) p' → is_done mid ≡ false → Handing new
+    handed_up new messages gave early =
+        let within = cuts_within link piece used old (Some body) mid cut in (
+          within.0,
+          within.1,
+          record {
+            more = gave.0 ∷ [];
+            gains = gave.3;
+            moves = subst (λ c. Moves link old (take used piece) (gave.0 ∷ []) c) (sym messages) (comes_up link piece used old body mid gave.0 cut early gave.1 gave.2);
+          },
+        )
+
+    pub handed_end : (end : ReadEnd) → Gave link body p (Err end) p' → Stops link p old piece end p'
+    handed_end end gave = by gave.0 gave.1 gave.2 gave.3
+      where
+        by : (more : Option Call) → Gains p (option_to_list more) p' → IfSome more (λ c. (c.event ≡ Frame link body) × (is_up c ≡ false)) → IsAnswerOf end (option_to_list more) → Stops link p old piece end p'
+        by None gains frame answer = stops_here link p p' old piece end (gains ∙ ap (λ cs. record { seat = p.seat; calls = cs }) (append-nil p.calls)) answer gave.4
+        by (Some c) gains frame answer = record {
+          used = take used piece;
+          unused = drop used piece;
+          cutter = mid;
+          whole = sym (take-append-drop used piece);
+          reads = record {
+            more = c ∷ [];
+            gains = gains;
+            moves = reads_more link piece used old (Some body) mid (c ∷ []) cut (ap (λ e. e ∷ []) frame.0) (λ q. ap (λ b. b || false) frame.1);
+          };
+          answer = answer;
+          unclosed = gave.4;
+        }
+
+-- ---- the whole
+
+unread : (link : ℕ) → IsRead link [] [] (Handshake [])
+unread link = record {
+  handshake = record { bodies = []; splits = record { fit = All-nil _; whole = refl; partial = IsPartial-empty w16 reads_16 }; frames = refl };
+  none_up = refl;
+}
+
+-- all was read
+pub reads_to_end : (link : ℕ) (p p' : Record) (bytes : List ℕ) (cutter : Cutter) (end : ReadEnd) → IfSome (rule_of end) (λ rule. ⊥) → ReadsOn link p (Handshake []) bytes p' cutter → ReadsTo link p bytes end p'
+reads_to_end link p p' bytes cutter end no_rule reads = record {
+  used = bytes;
+  unused = [];
+  frames = reads.more;
+  cutter = cutter;
+  whole = sym (append-nil bytes);
+  read = reads.moves [] [] (unread link);
+  gains = reads.gains;
+  answer = IfSome_then (rule_of end) no_rule (λ rule never. absurd never);
+  closed = λ q. refl;
+}
+
+-- there was an end before
+pub reads_to_stop : (link : ℕ) (p p' : Record) (bytes : List ℕ) (end : ReadEnd) → Stops link p (Handshake []) bytes end p' → ReadsTo link p bytes end p'
+reads_to_stop link p p' bytes end stops = record {
+  used = stops.used;
+  unused = stops.unused;
+  frames = stops.reads.more;
+  cutter = stops.cutter;
+  whole = stops.whole;
+  read = stops.reads.moves [] [] (unread link);
+  gains = stops.reads.gains;
+  answer = stops.answer;
+  closed = λ q. absurd (stops.unclosed q);
+}
+
+-- no Lost was called
+pub reads_unlost : (link : ℕ) (p p' : Record) (bytes : List ℕ) (end : ReadEnd) → ReadsTo link p bytes end p' → ReadsAs link p bytes end p'
+reads_unlost link p p' bytes end reads = record {
+  used = reads.used;
+  unused = reads.unused;
+  frames = reads.frames;
+  lost = [];
+  cutter = reads.cutter;
+  whole = reads.whole;
+  read = reads.read;
+  at_most = inl refl;
+  gains = rw (append-nil reads.frames) reads.gains;
+  answer = IfSome_then (rule_of end) reads.answer (λ rule last. (refl, last));
+  closed = reads.closed;
+}

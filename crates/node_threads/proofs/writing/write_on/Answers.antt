@@ -1,0 +1,12 @@
+use Rattle.node_threads.proofs.Written.{written_more, writes_to}
+use Rattle.node_threads.proofs.writing.write_on.Goals as goal
+
+pub returns-in-Err : goal.returns-in-Err
+returns-in-Err g c =
+    writes_to c.args.link c.args.pass.now c.loop.pass c.write_once.new.pass (g.W.Write.contents c.args.output.now) (g.W.Write.contents c.loop.output) (g.W.Write.contents c.write_once.new.output)
+    c.in-Err.end c.loop.invariant c.in-Err.ensures
+
+pub loop-preserved : goal.loop-preserved
+loop-preserved g c =
+    written_more c.args.link c.args.pass.now c.loop.pass c.write_once.new.pass (g.W.Write.contents c.args.output.now) (g.W.Write.contents c.loop.output) (g.W.Write.contents c.write_once.new.output)
+    c.loop.invariant c.in_default.ensures

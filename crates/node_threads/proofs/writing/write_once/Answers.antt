@@ -1,0 +1,18 @@
+use Rattle.node_threads.specs.declared.ends.WriteEnd.TheVariants as ends
+use Rattle.node_threads.proofs.Written.{took_unwritten, took_end}
+use Rattle.node_threads.proofs.writing.write_once.Goals as goal
+
+pub returns-in-Err : goal.returns-in-Err
+returns-in-Err g c =
+    took_end c.args.link c.args.pass.now c.call.follows.lender-at-none c.in-Err.fault c.end_of.result (g.W.Write.contents c.args.output.now) c.end_of.ensures
+    (rw c.in-Err.is at c.call.follows.holds-at-none)
+
+pub returns-in_default : goal.returns-in_default
+returns-in_default g c =
+    took_unwritten c.args.link c.args.pass.now c.call.follows.lender-at-none _ ends.Memory (g.W.Write.contents c.args.output.now) (g.W.Write.contents c.args.output.now) (λ q. cc)
+    (rw c.in-Ok-Out.is at c.call.follows.holds-at-none)
+
+pub returns-then-is_err : goal.returns-then-is_err
+returns-then-is_err g c =
+    took_unwritten c.args.link c.args.pass.now c.call.follows.lender-at-none _ ends.WriteFault (g.W.Write.contents c.args.output.now) (g.W.Write.contents c.write_all.new.self) (λ q. cc)
+    (rw c.in-Ok-Out.is at c.call.follows.holds-at-none)

@@ -1,0 +1,83 @@
+//! Why the workers of a link stop, and who is told of their work.
+ghost use Rattle.std.specs.Prelude.{◌≡◌};
+ghost use Rattle.std.specs.Io.KnownBytes.{Keeps};
+ghost use Rattle.node_threads.specs.Ends.{read_end_of_feed};
+
+use link_frames::FeedFault;
+use policy_audit::Rule;
+use std::io::Write;
+use std::net::{Shutdown, TcpStream};
+
+/// Why the reader of a link stopped.
+#[derive(Clone, Copy, Debug, PartialEq, Eq)]
+pub enum ReadEnd {
+    /// The bytes have ended.
+    Closed,
+    /// A frame of the handshake was refused.
+    Refused(Rule),
+    /// The node has the link no more.
+    Gone,
+    /// The audit is full.
+    EntriesFull,
+    /// Another node made the pass.
+    StrangePass,
+    /// A body is longer than a reader takes.
+    TooLong,
+    /// A read failed.
+    ReadFault,
+    /// Memory was wanting, and the link was given up.
+    Memory,
+    /// Memory was wanting even for that.
+    StuckLink,
+}
+
+/// Why the writer of a link stopped.
+#[derive(Clone, Copy, Debug, PartialEq, Eq)]
+pub enum WriteEnd {
+    /// The node has the link no more.
+    Gone,
+    /// The audit is full.
+    EntriesFull,
+    /// Another node made the pass.
+    StrangePass,
+    /// A write failed.
+    WriteFault,
+    /// Memory was wanting, and the link was given up.
+    Memory,
+    /// Memory was wanting even for that, at this link or at another.
+    StuckLink,
+}
+
+/// Is told of each read and of each call of a reader. No lock is held then.
+pub trait Gate {
+    /// The reader of that link is about to read.
+    fn reading(&self, link: u32);
+
+    /// A frame of that link was answered.
+    fn answered(&self, link: u32);
+}
+
+/// What a writer writes to, and hangs up at its end.
+pub trait LinkOut: Write {
+    /// Ends the link in both directions, so that its reader comes to an end, too.
+    fn hang_up(&mut self)
+        ensures { Keeps (Self.contents self.old) (Self.contents self.new) };
+}
+
+impl LinkOut for TcpStream {
+    fn hang_up(&mut self) {
+        // A socket that can't be shut down has ended already.
+        self.shutdown(Shutdown::Both).ok();
+    }
+}
+
+impl From<FeedFault> for ReadEnd {
+    ghost from_gives = { λ fault end. end ≡ read_end_of_feed fault };
+
+    fn from(fault: FeedFault) -> ReadEnd {
+        match fault {
+            FeedFault::TooLong => ReadEnd::TooLong,
+            FeedFault::OutOfMemory => ReadEnd::Memory,
+        }
+    }
+}

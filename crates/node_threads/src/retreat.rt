@@ -1,0 +1,94 @@
+//! What follows on the answer to a `Lost`.
+ghost use Rattle.std.specs.Prelude.{◌≡◌, ◌+◌, ◌<◌, Err};
+ghost use Rattle.node_core.specs.declared.fault.CoreFault.TheVariants as core_faults;
+ghost use Rattle.node_threads.specs.declared.fault.CallFault.TheVariants as faults;
+ghost use Rattle.node_threads.specs.declared.retreat.RetreatStep.TheVariants as steps;
+ghost use Rattle.node_threads.specs.Applied.{answer_now};
+ghost use Rattle.node_threads.specs.Retreat.{tries_after, step_after, MayLose};
+
+use crate::fault::CallFault;
+use crate::node::Node;
+use crate::pass::Pass;
+use node_core::CoreFault;
+use policy_audit::{Event, Reply, Rule};
+use std::marker::Model;
+use std::sync::Wait;
+
+/// How often a `Lost` is called while memory is wanting.
+const TRIES: u32 = 64;
+
+/// What follows on an answer to a `Lost`.
+#[derive(Clone, Copy, Debug, PartialEq, Eq)]
+pub enum RetreatStep {
+    /// Memory is wanting: the `Lost` is called again.
+    Again,
+    /// Memory was wanting 64 times.
+    Stuck,
+    /// The audit is full.
+    Full,
+    Settled,
+}
+
+/// Counts the wants of memory while a link is given up. Contracts see it as their number.
+#[derive(Debug, Drop)]
+pub struct Retreat {
+    tries: u32,
+}
+
+impl Model for Retreat {
+    ghost use Rattle.std.specs.Prelude.{ℕ, ◌≤◌};
+
+    ghost Value = { ℕ };
+
+    ghost view = { λ retreat. retreat.tries };
+
+    ghost invariant = { λ retreat. retreat.tries ≤ 64 };
+}
+
+impl Retreat {
+    pub fn new() -> Retreat
+        ensures { result ≡ 0 }
+    {
+        Retreat { tries: 0 }
+    }
+
+    /// `Again` for the first 63 wants of memory and `Stuck` from the 64th on, `Full` for a full audit, and `Settled` for every
+    /// other answer.
+    pub fn next(&mut self, answer: &Result<&Reply, CallFault>) -> RetreatStep
+        ensures tries { self.new ≡ tries_after self.old (answer_now answer.now) }
+        ensures step { result ≡ step_after self.old (answer_now answer.now) }
+        ensures again { result ≡ steps.Again → (answer_now answer.now ≡ Err (faults.Core core_faults.OutOfMemory)) × (self.new ≡ self.old + 1) × (self.new < 64) }
+    {
+        match answer {
+            Err(CallFault::Core(CoreFault::OutOfMemory)) => {
+                self.tries = TRIES.min(self.tries + 1);
+                if self.tries < TRIES {
+                    RetreatStep::Again
+                } else {
+                    RetreatStep::Stuck
+                }
+            }
+            Err(CallFault::Core(CoreFault::Refused(rule))) if *rule == Rule::EntriesFull => {
+                RetreatStep::Full
+            }
+            _ => RetreatStep::Settled,
+        }
+    }
+}
+
+/// Calls `Lost` until it is settled. Where memory is wanting to the end, all writers of the node are told.
+pub(crate) fn lose<R: Wait>(rt: &R, node: &Node, pass: &mut Pass, link: u32) -> RetreatStep
+    ensures { MayLose link pass.old pass.new }
+{
+    let mut retreat = Retreat::new();
+    loop {
+        match retreat.next(&pass.call(node, rt, Event::Lost(link))) {
+            RetreatStep::Again => {}
+            RetreatStep::Stuck => {
+                node.mark_stuck(rt);
+                return RetreatStep::Stuck;
+            }
+            step => return step,
+        }
+    }
+}

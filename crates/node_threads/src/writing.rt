@@ -1,0 +1,126 @@
+//! The writer of a link.
+ghost use Rattle.std.specs.Prelude.{◌≡◌, IfOk};
+ghost use Rattle.std.specs.List.{flat_map};
+ghost use Rattle.policy_audit.specs.Wire.{wire_bytes};
+ghost use Rattle.node_threads.specs.Writing.{TakeEnd, Took, WritesTo, WritesAs};
+
+use crate::ends::{LinkOut, WriteEnd};
+use crate::fault::CallFault;
+use crate::node::Node;
+use crate::pass::Pass;
+use crate::retreat::{RetreatStep, lose};
+use dist_types::OutOfMemory;
+use node_core::CoreFault;
+use policy_audit::{Event, OutFrame, Reply, Rule};
+use std::alloc::Global;
+use std::sync::Wait;
+
+/// Takes the frames that wait for a link and writes them, whenever some wait, until there is an end; then it hangs up. Where a write
+/// fails or memory is wanting, the link is lost.
+pub fn write_link<R: Wait, W: LinkOut>(
+    rt: &R,
+    alloc: Global,
+    node: &Node,
+    pass: &mut Pass,
+    link: u32,
+    output: &mut W,
+) -> WriteEnd
+    ensures { WritesAs link pass.old (W.contents output.old) result (W.contents output.new) pass.new }
+{
+    let end = write_on(rt, alloc, node, pass, link, output);
+    let end = match end {
+        WriteEnd::WriteFault | WriteEnd::Memory => match lose(rt, node, pass, link) {
+            RetreatStep::Stuck => WriteEnd::StuckLink,
+            RetreatStep::Full => WriteEnd::EntriesFull,
+            RetreatStep::Settled | RetreatStep::Again => end,
+        },
+        _ => end,
+    };
+    output.hang_up();
+    end
+}
+
+/// Takes and writes until there is an end.
+fn write_on<R: Wait, W: LinkOut>(
+    rt: &R,
+    alloc: Global,
+    node: &Node,
+    pass: &mut Pass,
+    link: u32,
+    output: &mut W,
+) -> WriteEnd
+    ensures { WritesTo link pass.old (W.contents output.old) result (W.contents output.new) pass.new }
+{
+    for _ in rt.forever() {
+        if is_stuck_at(rt, node, link) {
+            return WriteEnd::StuckLink;
+        }
+        if let Err(end) = write_once(rt, alloc, node, pass, link, output) {
+            return end;
+        }
+    }
+    unreachable!()
+}
+
+/// Waits until the writer of the link has something to do, and tells whether that is to end.
+fn is_stuck_at<R: Wait>(rt: &R, node: &Node, link: u32) -> bool {
+    let shared = node.moved.wait_while(
+        rt,
+        node.shared.lock(rt),
+        |shared| !shared.calls_writer(link),
+    );
+    shared.is_stuck()
+}
+
+/// Takes what waits, and writes it.
+fn write_once<R: Wait, W: LinkOut>(
+    rt: &R,
+    alloc: Global,
+    node: &Node,
+    pass: &mut Pass,
+    link: u32,
+    output: &mut W,
+) -> Result<(), WriteEnd>
+    ensures { Took link pass.old (W.contents output.old) result (W.contents output.new) pass.new }
+{
+    let wire = match pass.call(node, rt, Event::Take(link)) {
+        Ok(Reply::Out(frames)) => wire_of(alloc, frames.as_slice()),
+        Ok(_) => return Ok(()),
+        Err(fault) => return Err(end_of(fault)),
+    };
+    let Ok(bytes) = wire else {
+        return Err(WriteEnd::Memory);
+    };
+    if output.write_all(bytes.as_slice()).is_err() {
+        return Err(WriteEnd::WriteFault);
+    }
+    Ok(())
+}
+
+/// The bytes of frames as they go over the wire.
+fn wire_of(alloc: Global, frames: &[OutFrame]) -> Result<Vec<u8>, OutOfMemory>
+    ensures { IfOk result (λ bytes. bytes.items ≡ flat_map wire_bytes frames.now) }
+{
+    let mut bytes = Vec::new(alloc);
+    for frame in frames {
+        frame.wire(&mut bytes)?;
+    }
+    Ok(bytes)
+}
+
+/// Which end follows on a Take without a reply. A Take is refused by no other rules than these.
+fn end_of(fault: CallFault) -> WriteEnd
+    ensures { TakeEnd fault result }
+{
+    match fault {
+        CallFault::StrangePass => WriteEnd::StrangePass,
+        CallFault::Core(CoreFault::OutOfMemory) => WriteEnd::Memory,
+        CallFault::Core(CoreFault::Refused(rule)) => {
+            if rule == Rule::EntriesFull {
+                WriteEnd::EntriesFull
+            } else {
+                WriteEnd::Gone
+            }
+        }
+    }
+}
