@@ -1,7 +1,7 @@
 -- A node that begins anew.
 use Rattle.node_core.proofs.Words.{List, None, Some, ap, arith, cond, false, not, refl, sym, ℕ, [], ◌+◌, ◌==◌, ◌∙◌, ◌≡◌, eq-eqb, eqb-true, Pid}
 use Rattle.node_core.proofs.Words.{no_count, stopped_lists, checks, first_broken, History, creation, listed, IsNext, is_full, with_entry, Change}
-use Rattle.node_core.proofs.Words.{Accepted, Follows, Parts, ArePartings, follows_cleared, own_pid, Event, Reply, Rule, own_cookie}
+use Rattle.node_core.proofs.Words.{Accepted, Follows, Parts, ArePartings, follows_cleared, own_pid, Event, Reply, Rule}
 use Rattle.policy_audit.proofs.LivesNow.{lives_restarted}
 use Rattle.node_core.proofs.Entered.{made, accepted_now, next_now, sound_now}
 use Rattle.node_core.proofs.Partings.{partings_change}

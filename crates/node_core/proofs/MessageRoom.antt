@@ -33,9 +33,6 @@ same_scope {h} {parts} t s {p} {r} {y} q is b =
     (counted h s r there.named there.running) (heard_there h s r there.named there.running) (told_there h s r there.named there.running))
     (b.scope ∙ there.named) (λ z apart u. u) parts.scopes p r t.scopes (running_rises h) refl there.within (ap (λ z. z.scope) (sym there.is) ∙ there.named)
 
-pub unchanged_scope : {r y : Running} → y ≡ r → HasBecome r y (count_of r.table) r.heard.items r.told.items
-unchanged_scope {r} q = subst (λ z. HasBecome r z (count_of r.table) r.heard.items r.told.items) (sym q) (record { scope = refl; rows = record { own = refl; counts = λ g p. refl }; heard = refl; told = refl })
-
 pub follows_with : {h : History} {parts : Parts} → Follows h parts → {rs : List Running} {kept : List KeptLink} → ScopesFollow (scope_words h) rs → LinksFollow (link_words h) kept
     → Follows h (record parts { scopes = rs; links = kept })
 follows_with t scopes links = record { sound = t.sound; admission = t.admission; processes = t.processes; scopes = scopes; links = links; monitors = t.monitors }
