@@ -7,7 +7,7 @@ use Rattle.policy_audit.proofs.Words.{texts_total, IsDifference, IsProper, chang
 use Rattle.policy_audit.proofs.Words.{ascending, is_among, listing, mentions, same, same_pid, same_row, total, pid_cmp, text_cmp}
 use Rattle.policy_audit.proofs.Words.{GroupChange, Pid, IsChange, change, events_of, groups_in, if_some, scope_change, groups_named}
 use Rattle.policy_audit.proofs.Words.{pids_named, row, rows_named, History, events, first_of, listed, listed_by, is_local, is_running}
-use Rattle.policy_audit.proofs.Words.{joined, own, scopes_started, starts, IsNext, after, entry_of, is_full, with_entry, present_link}
+use Rattle.policy_audit.proofs.Words.{own, scopes_started, starts, IsNext, entry_of, is_full, with_entry, present_link}
 use Rattle.policy_audit.proofs.Words.{Change, Entry, Event}
 use Rattle.policy_audit.proofs.Accepted.{lie}
 use Rattle.policy_audit.proofs.OneDifference.{apart}

@@ -2,7 +2,7 @@
 use Rattle.policy_audit.proofs.Words.{ap, arith, refl, sym, ◌∙◌, tied_itself, exact_bytes, AllByRecursion, ordering_reverse, List, [], cond}
 use Rattle.policy_audit.proofs.Words.{false, map, true, ℕ, ◌&&◌, ◌+◌, ◌∷◌, ◌≡◌, Ordering, Equal, Greater, Less, same_ascending, exact_pids}
 use Rattle.policy_audit.proofs.Words.{pids_total, same_decides, same_pid_decides, texts_total, IsDifference, IsProper, is_empty, Ascends}
-use Rattle.policy_audit.proofs.Words.{Rises, mentions, same, same_pid, total, pid_cmp, text_cmp, GroupChange, Pid, joined, after}
+use Rattle.policy_audit.proofs.Words.{Rises, mentions, same, same_pid, total, pid_cmp, text_cmp, GroupChange, Pid, after}
 use Rattle.policy_audit.proofs.Accepted.{lie}
 
 -- a text that comes before another isn't the same

@@ -63,7 +63,8 @@ module _ (o : Opening) (es : List Entry) (legal : IsLegalIn o es) (e : Entry) (n
   starts_scope t r stopped = by (same t s) refl
     where
       by : (b : Bool) → same t s ≡ b → same_rows (but e (Event.StartScope t) (Accepted r))
-      by false q = grind arith
+      by false q = all_same o es (but e (Event.StartScope t) (Accepted r)) s g p refl (grind arith) (grind arith)
+          (remote_same o es (but e (Event.StartScope t) (Accepted r)) s g p refl (λ l here. refl))
       by true q = (let here : is_running (past o es) s ≡ false = grind (arith, same_decides t s) in grind (arith, unheard here, stopped_lists (past o es) s g p here))
 
   -- ---- links
@@ -135,10 +136,14 @@ module _ (o : Opening) (es : List Entry) (legal : IsLegalIn o es) (e : Entry) (n
       let met = accepted (past o es) e.seat (Event.Frame k body) r q in
       frame_rows k body r (frame_fits o es e.seat k body met.0).0 met.1 within
   rows_step Event.Restart (Accepted r) q within = lie within
-  rows_step (Event.StopScope t) (Accepted r) _ within = grind arith
-  rows_step (Event.Exit x) (Accepted r) _ within = grind arith
-  rows_step (Event.Join t f ps) (Accepted r) _ within = grind (arith, unmentioned p ps)
-  rows_step (Event.Leave t f ps) (Accepted r) _ within = grind (arith, unmentioned p ps)
+  rows_step (Event.StopScope t) (Accepted r) _ within = all_same o es (but e (Event.StopScope t) (Accepted r)) s g p refl (grind arith) (grind arith)
+      (remote_same o es (but e (Event.StopScope t) (Accepted r)) s g p refl (λ l here. grind arith))
+  rows_step (Event.Exit x) (Accepted r) _ within = all_same o es (but e (Event.Exit x) (Accepted r)) s g p refl (grind arith) refl
+      (remote_same o es (but e (Event.Exit x) (Accepted r)) s g p refl (λ l here. refl))
+  rows_step (Event.Join t f ps) (Accepted r) _ within = all_same o es (but e (Event.Join t f ps) (Accepted r)) s g p refl (grind (arith, unmentioned p ps)) refl
+      (remote_same o es (but e (Event.Join t f ps) (Accepted r)) s g p refl (λ l here. refl))
+  rows_step (Event.Leave t f ps) (Accepted r) _ within = all_same o es (but e (Event.Leave t f ps) (Accepted r)) s g p refl (grind (arith, unmentioned p ps)) refl
+      (remote_same o es (but e (Event.Leave t f ps) (Accepted r)) s g p refl (λ l here. refl))
   rows_step (Event.Dial m c) (Accepted r) _ within = grind (arith, other_number)
   rows_step (Event.Opened c) (Accepted r) _ within = grind (arith, other_number)
   rows_step (Event.Lost j) (Accepted r) _ within = grind (arith, flip)
