@@ -1,8 +1,5 @@
 pub mod LineLemmas
-pub mod NumberLemmas
-pub mod CutLemmas
-pub mod TextLemmas
-pub mod StepLemmas
+pub mod WordLemmas
 pub mod Played
-pub mod Unlacking
+pub mod StepLemmas
 pub mod WorkedScripts

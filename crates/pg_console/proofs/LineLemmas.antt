@@ -1,5 +1,6 @@
 -- The first line of a text, and the first word of a line.
-use Rattle.std.proofs.Common.{◌≡◌, ◌≢◌, ℕ, suc, ◌-◌, ◌<◌, Bool, Some, None, true, false, cond, List, [], ◌∷◌, ◌++◌, length, All, refl, sym, ap, ◌∙◌, arith, rules, nat_lt, eqb, ne_eqb}
+use Rattle.std.proofs.Common.{◌≡◌, ◌≢◌, ℕ, suc, ◌-◌, ◌<◌, Bool, Some, None, true, false, cond, List, [], ◌∷◌, ◌++◌, length, All, refl, arith, rules}
+use Rattle.std.proofs.Common.{nat_lt, eqb, ne_eqb}
 use Rattle.std.proofs.lemmas.List.Elements.{All-head, All-tail}
 use Rattle.std.specs.Io.BufRead.{take_through, drop_through, strip_last}
 use Rattle.std.specs.List.{list_any}
@@ -13,18 +14,10 @@ strip_cons b c cs =
     let one : suc (length cs) - 1 ≡ length cs = omega arith in
     let some : nat_lt 0 (suc (suc (length cs))) ≡ true = search rules in
     let some_left : nat_lt 0 (suc (length cs)) ≡ true = search rules in
-    rw (two, one, some, some_left) (at _ _ _)
-  where
-    at : (t : Bool) (xs ys : List ℕ) → cond t (b ∷ xs) (b ∷ ys) ≡ b ∷ cond t xs ys
-    at true xs ys = refl
-    at false xs ys = refl
+    rw (two, one, some, some_left) (grind arith)
 
 strip_through : (b c : ℕ) (cs : List ℕ) → strip_last 10 (b ∷ take_through 10 (c ∷ cs)) ≡ b ∷ strip_last 10 (take_through 10 (c ∷ cs))
-strip_through b c cs = at (eqb c 10)
-  where
-    at : (t : Bool) → strip_last 10 (b ∷ cond t (c ∷ []) (c ∷ take_through 10 cs)) ≡ b ∷ strip_last 10 (cond t (c ∷ []) (c ∷ take_through 10 cs))
-    at true = strip_cons b c []
-    at false = strip_cons b c (take_through 10 cs)
+strip_through b c cs = grind (arith, strip_cons b c [], strip_cons b c (take_through 10 cs))
 
 -- the first line is what a reader gives up to a line feed, without it
 abbrev pub BeginsWithLine : List ℕ → Type 0
@@ -38,11 +31,7 @@ lines_one b = at (eqb b 10) refl
     at false e = rw e (rw e refl)
 
 lines_cons : (b c : ℕ) (cs : List ℕ) → BeginsWithLine (c ∷ cs) → BeginsWithLine (b ∷ c ∷ cs)
-lines_cons b c cs h = at (eqb b 10) refl
-  where
-    at : (t : Bool) → eqb b 10 ≡ t → BeginsWithLine (b ∷ c ∷ cs)
-    at true e = rw e (rw e refl)
-    at false e = rw e (ap (onto_first b) h ∙ ap (λ (l : List ℕ). l ∷ lines_of (drop_through 10 (c ∷ cs))) (sym (strip_through b c cs)))
+lines_cons b c cs h = grind (arith, h, strip_through b c cs)
 
 pub lines_step : (b : ℕ) (bytes : List ℕ) → BeginsWithLine (b ∷ bytes)
 lines_step b [] = lines_one b
@@ -59,17 +48,13 @@ words_space [] ys h = refl
 words_space (x ∷ xs) ys h = rw (ne_eqb x 32 (All-head (λ b. b ≢ 32) x xs h), words_space xs ys (All-tail (λ b. b ≢ 32) x xs h)) refl
 
 -- there is always a word
+onto_some : (x : ℕ) (words : List (List ℕ)) → 0 < length (onto_first x words)
+onto_some x [] = omega arith
+onto_some x (word ∷ words) = omega arith
+
 words_some : (xs : List ℕ) → 0 < length (words_of xs)
 words_some [] = omega arith
-words_some (x ∷ xs) = at (eqb x 32)
-  where
-    onto : (words : List (List ℕ)) → 0 < length (onto_first x words)
-    onto [] = omega arith
-    onto (word ∷ words) = omega arith
-
-    at : (t : Bool) → 0 < length (cond t ([] ∷ words_of xs) (onto_first x (words_of xs)))
-    at true = omega arith
-    at false = onto (words_of xs)
+words_some (x ∷ xs) = grind (arith, onto_some x (words_of xs))
 
 -- a word before others is not the only one
 only_before : (words : List (List ℕ)) → 0 < length words → only_of ([] ∷ words) ≡ None
@@ -84,10 +69,4 @@ only_onto x (word ∷ other ∷ words) some = refl
 -- a line is one word where it has no space
 pub only_words : (xs : List ℕ) → only_of (words_of xs) ≡ cond (list_any (λ x. eqb x 32) xs) None (Some xs)
 only_words [] = refl
-only_words (x ∷ xs) = at (eqb x 32) (list_any (λ y. eqb y 32) xs) refl refl (only_words xs)
-  where
-    at : (t any : Bool) → eqb x 32 ≡ t → list_any (λ y. eqb y 32) xs ≡ any → only_of (words_of xs) ≡ cond (list_any (λ y. eqb y 32) xs) None (Some xs)
-        → only_of (words_of (x ∷ xs)) ≡ cond (list_any (λ y. eqb y 32) (x ∷ xs)) None (Some (x ∷ xs))
-    at true any e h rest = rw e (only_before (words_of xs) (words_some xs))
-    at false true e h rest = rw (e, h) (only_onto x (words_of xs) (words_some xs) ∙ ap (option_map (λ word. x ∷ word)) (rw h at rest))
-    at false false e h rest = rw (e, h) (only_onto x (words_of xs) (words_some xs) ∙ ap (option_map (λ word. x ∷ word)) (rw h at rest))
+only_words (x ∷ xs) = grind (arith, only_words xs, only_before (words_of xs) (words_some xs), only_onto x (words_of xs) (words_some xs))

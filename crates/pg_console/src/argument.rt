@@ -29,6 +29,7 @@ impl Argument for u32 {
 impl Argument for Scope {
     ghost read = { text_of };
 
+    #[tactic(auto, using(crate::proofs::WordLemmas::text_read))]
     fn of_word(alloc: Global, word: &[u8]) -> Result<Scope, LineFault> {
         Ok(Scope::parse(alloc, word)?)
     }
@@ -37,6 +38,7 @@ impl Argument for Scope {
 impl Argument for Group {
     ghost read = { text_of };
 
+    #[tactic(auto, using(crate::proofs::WordLemmas::text_read))]
     fn of_word(alloc: Global, word: &[u8]) -> Result<Group, LineFault> {
         Ok(Group::parse(alloc, word)?)
     }
@@ -45,6 +47,7 @@ impl Argument for Group {
 impl Argument for Cookie {
     ghost read = { text_of };
 
+    #[tactic(auto, using(crate::proofs::WordLemmas::text_read))]
     fn of_word(alloc: Global, word: &[u8]) -> Result<Cookie, LineFault> {
         Ok(Cookie::parse(alloc, word)?)
     }

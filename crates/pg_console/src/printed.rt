@@ -89,7 +89,7 @@ fn put_counted(alloc: Global, pids: &Pids, out: &mut Vec<u8>) -> Result<(), OutO
 }
 
 /// Adds the creation and the number of a process, each behind a slash. A list has many, so both are added at once.
-#[tactic(auto, using(crate::proofs::NumberLemmas::decimal_short))]
+#[tactic(auto, using(crate::proofs::WordLemmas::decimal_short))]
 fn put_slashed(creation: u32, number: u64, out: &mut Vec<u8>) -> Result<(), OutOfMemory>
     ensures { OnOk result (out.new.items ≡ out.old.items ++ codes "/" ++ decimal creation ++ codes "/" ++ decimal number) }
 {

@@ -1,4 +1,4 @@
-use Rattle.pg_console.proofs.Unlacking.{text-unlacking}
+use Rattle.pg_console.proofs.StepLemmas.{text-unlacking}
 use Rattle.pg_console.proofs.laws.text_without_lack.Goals as goal
 
 pub returns : goal.returns

@@ -1,5 +1,5 @@
 use Rattle.std.proofs.Common.{◌≡◌, ◌≢◌, ◌+◌, ◌-◌, length, take, drop, get_or, arith, rules, take_all, length-drop}
-use Rattle.pg_console.proofs.CutLemmas.{cut_none, cut_here, whole_more}
+use Rattle.pg_console.proofs.WordLemmas.{cut_none, cut_here, whole_more}
 use Rattle.pg_console.proofs.values.cut.Goals as goal
 
 pub returns-then-word-i-eq47-clause-found : goal.returns-then-word-i-eq47-clause-found

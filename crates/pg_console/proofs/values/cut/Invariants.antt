@@ -1,5 +1,5 @@
 use Rattle.std.proofs.Common.{◌-◌, drop, length}
-use Rattle.pg_console.proofs.CutLemmas.{IsWhole}
+use Rattle.pg_console.proofs.WordLemmas.{IsWhole}
 use Rattle.pg_console.proofs.values.cut.Given as goal
 
 -- no slash stands behind

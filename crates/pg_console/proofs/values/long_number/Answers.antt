@@ -2,7 +2,7 @@ use Rattle.std.proofs.Common.{◌≡◌, ◌<◌, ◌^◌, List, ℕ, decimal, s
 use Rattle.std.specs.Str.{bytes_eq}
 use Rattle.std.proofs.lemmas.Fmt.{IsAscii-decimal, parse-decimal}
 use Rattle.std.proofs.lemmas.Str.{IsUtf8-from_ascii}
-use Rattle.pg_console.proofs.NumberLemmas.{number_is, number_none, bytes_eq_same, bytes_eq_refl}
+use Rattle.pg_console.proofs.WordLemmas.{number_is, number_none, bytes_eq_same, bytes_eq_refl}
 use Rattle.pg_console.proofs.values.long_number.Goals as goal
 
 pub returns-in_default : goal.returns-in_default
