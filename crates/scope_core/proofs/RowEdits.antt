@@ -162,3 +162,8 @@ reversed_counted xs ys n e f b a = grind (arith, all_at, all_from)
 -- no rows are kept
 pub none_kept : (xs : List Counted) → xs ≡ [] → IsKept xs
 none_kept xs e = grind arith
+
+-- what is kept where a row is put in, and where one is lessened
+pub ruleset puts_in = (tally_put, tally_grown, inserted, count_fits, one_fits, put_kept, grown_kept)
+
+pub ruleset lessens = (less_takes, less_kept, remove_takes, removed_kept, same_at, its_last)

@@ -119,7 +119,7 @@ fn take(rows: &mut Vec<Counted>, group: &Group, pid: &Pid) -> bool
 }
 
 /// One less at this place. The row goes with its last.
-#[tactic(auto, using(crate::proofs::RowEdits::less_takes, crate::proofs::RowEdits::less_kept, crate::proofs::RowEdits::remove_takes, crate::proofs::RowEdits::removed_kept, crate::proofs::RowEdits::same_at, crate::proofs::RowEdits::its_last))]
+#[tactic(auto, using(crate::proofs::RowEdits::lessens))]
 fn lessen(rows: &mut Vec<Counted>, at: usize)
     requires bound { at < vec_len rows.old }
     requires kept { IsKept rows.old.items }
@@ -164,7 +164,7 @@ fn add_each(rows: &mut Vec<Counted>, more: Vec<Counted>)
 }
 
 /// Puts a counted row in, into the room that there is.
-#[tactic(auto, using(crate::proofs::RowEdits::tally_put, crate::proofs::RowEdits::tally_grown, crate::proofs::RowEdits::inserted, crate::proofs::RowEdits::count_fits, crate::proofs::RowEdits::one_fits, crate::proofs::RowEdits::put_kept, crate::proofs::RowEdits::grown_kept))]
+#[tactic(auto, using(crate::proofs::RowEdits::puts_in))]
 pub fn add(rows: &mut Vec<Counted>, fresh: Counted)
     requires room { vec_len rows.old < vec_capacity rows.old }
     requires kept { IsKept rows.old.items }
