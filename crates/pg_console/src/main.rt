@@ -12,6 +12,7 @@ mod laws;
 mod link_commands;
 mod node_commands;
 mod options;
+mod pair;
 mod printed;
 mod query_commands;
 mod script;
@@ -24,11 +25,16 @@ use clap::ArgMatches;
 use clap::error::{Error as LineError, ErrorKind as LineFault};
 use diagnosis::diagnose;
 use options::{command, opening};
+use pair::{PairEnd, pair};
 use policy_audit::Opening;
 use script::RunFault;
 use std::alloc::{AllocError, Global};
 use std::io::{self, BufReader, ErrorKind};
+use std::net::{Net, TcpListener, TcpStream};
 use std::process::ExitCode;
+use std::sync::Wait;
+use std::thread::Threads;
+use std::time::Clock;
 use words::without_feed;
 
 const OUT_OF_MEMORY: &str = "error: out of memory";
@@ -91,7 +97,21 @@ fn refusal(alloc: Global, error: &LineError) -> Result<String, AllocError> {
 }
 
 /// Does what the command line asks for.
-fn follow<R: AllocGlobal + Input + Print + Eprint>(rt: &R, matches: &ArgMatches<'_>) -> ExitCode {
+fn follow<R>(rt: &R, matches: &ArgMatches<'_>) -> ExitCode
+where
+    R: AllocGlobal
+        + Input
+        + Print
+        + Eprint
+        + Net<Listener = TcpListener, Stream = TcpStream>
+        + Threads
+        + Wait
+        + Clock
+        + Sync,
+{
+    if matches.subcommand_matches("pair").is_some() {
+        return meet(rt);
+    }
     let Some(run) = matches.subcommand_matches("run") else {
         return failed(rt, 2, "error: no command was given");
     };
@@ -99,6 +119,27 @@ fn follow<R: AllocGlobal + Input + Print + Eprint>(rt: &R, matches: &ArgMatches<
         Ok(opening) => play(rt, opening),
         Err(fault) => match format!(in rt.alloc(); "{fault}") {
             Ok(text) => failed(rt, fault.status(), text.as_str()),
+            Err(_) => failed(rt, 1, OUT_OF_MEMORY),
+        },
+    }
+}
+
+/// Lets two nodes meet.
+fn meet<
+    R: AllocGlobal
+        + Print
+        + Eprint
+        + Net<Listener = TcpListener, Stream = TcpStream>
+        + Threads
+        + Wait
+        + Clock
+        + Sync,
+>(rt: &R) -> ExitCode {
+    match pair(rt, rt.alloc(), &mut io::writer(rt)) {
+        PairEnd::Done => ExitCode::SUCCESS,
+        PairEnd::Late => ExitCode::from(1),
+        PairEnd::Failed(error) => match format!(in rt.alloc(); "error: {error}") {
+            Ok(text) => failed(rt, 1, text.as_str()),
             Err(_) => failed(rt, 1, OUT_OF_MEMORY),
         },
     }

@@ -53,7 +53,14 @@ pub fn command<'a>(alloc: Global) -> Result<Command<'a>, Error> {
             .about("Plays scripts on a node of process groups")
             .after_help(SCRIPTS)
             .subcommand_required(true)
-            .subcommand(run)?,
+            .subcommand(run)?
+            .subcommand(pair_command(alloc))?,
+    )
+}
+
+fn pair_command<'a>(alloc: Global) -> Command<'a> {
+    Command::new(alloc, "pair").about(
+        "Links two nodes over 127.0.0.1, and prints whom each of them lists",
     )
 }
 
