@@ -203,7 +203,7 @@ struct Opened {
     writer: Pass,
 }
 
-fn opened<R: Wait>(rt: &R, alloc: Global, entries: u32) -> Result<Opened, Fail> {
+fn with_link<R: Wait>(rt: &R, alloc: Global, entries: u32) -> Result<Opened, Fail> {
     let (node, mut passes) = Node::new(alloc, opening(alloc, entries)?, 2)?;
     let writer = passes.pop().ok_or("no pass")?;
     let mut reader = passes.pop().ok_or("no pass")?;
@@ -254,7 +254,7 @@ fn read<R: Wait>(
         node,
         mut reader,
         writer,
-    } = opened(rt, alloc, entries)?;
+    } = with_link(rt, alloc, entries)?;
     let end = read_link(rt, alloc, &node, &mut reader, 1, &mut sent, &Open);
     let (frames, lost) = calls_of(&reader).ok_or("another event")?;
     closed(alloc, node, reader, writer)?;
@@ -315,7 +315,7 @@ fn a_link_that_was_lost_is_gone(rt: HostRuntime) -> Result<(), Fail> {
         node,
         mut reader,
         mut writer,
-    } = opened(&rt, alloc, 100)?;
+    } = with_link(&rt, alloc, 100)?;
     assert!(rt; writer.call(&node, &rt, Event::Lost(1)).is_ok());
     let end = read_link(
         &rt,
@@ -373,7 +373,7 @@ fn serve<R: Threads + Wait + Sync>(
         node,
         reader,
         writer,
-    } = opened(rt, alloc, 100)?;
+    } = with_link(rt, alloc, 100)?;
     let gate = Holding {
         reads: AtomicU64::new(0),
         told,
