@@ -1,5 +1,3 @@
-pub mod LineLemmas
-pub mod WordLemmas
 pub mod Played
 pub mod StepLemmas
 pub mod WorkedScripts

@@ -6,13 +6,13 @@ use Rattle.policy_audit.specs.History.{History}
 use Rattle.node_core.specs.declared.fault.CoreFault.{CoreFault}
 use Rattle.node_core.specs.declared.fault.CoreFault.TheVariants as faults
 use Rattle.node_core.specs.Step.{IsStepped}
-use Rattle.pg_console.specs.declared.command.Command.TheVariants as command
+use Rattle.pg_text.specs.declared.command.Command.TheVariants as command
 use Rattle.pg_console.specs.Playing.{Playing, opened_with}
-use Rattle.pg_console.specs.Answers.{verdict_line, step_line, fault_line}
+use Rattle.pg_text.specs.Answers.{verdict_line, step_line, fault_line}
 use Rattle.pg_console.specs.Transcript.{answer_to, left_by, text, text_from, is_fault, line_text, line_left}
 use Rattle.std.specs.List.{list_any}
 use Rattle.policy_audit.specs.declared.opening.Opening.{Opening}
-use Rattle.pg_console.specs.Lines.{lines_of}
+use Rattle.pg_text.specs.Lines.{lines_of}
 
 -- the same seat asks a node that has seen this
 abbrev pub seated : ℕ → History → Playing

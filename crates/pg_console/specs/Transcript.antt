@@ -4,12 +4,12 @@ use Rattle.policy_audit.specs.declared.opening.Opening.{Opening}
 use Rattle.policy_audit.specs.History.{History}
 use Rattle.policy_audit.specs.Policy.{verdict, after, is_full}
 use Rattle.policy_audit.specs.Log.{entry_at}
-use Rattle.pg_console.specs.declared.command.Command.{Command}
-use Rattle.pg_console.specs.declared.command.Command.TheVariants as command
+use Rattle.pg_text.specs.declared.command.Command.{Command}
+use Rattle.pg_text.specs.declared.command.Command.TheVariants as command
 use Rattle.pg_console.specs.Playing.{Playing, opened_with}
-use Rattle.pg_console.specs.Lines.{lines_of, is_quiet}
-use Rattle.pg_console.specs.Commands.{said_by}
-use Rattle.pg_console.specs.Answers.{verdict_line, memory_line, seat_line, size_line, entry_line, fault_line}
+use Rattle.pg_text.specs.Lines.{lines_of, is_quiet}
+use Rattle.pg_text.specs.Commands.{said_by}
+use Rattle.pg_text.specs.Answers.{verdict_line, memory_line, seat_line, size_line, entry_line, fault_line}
 
 -- memory lacks in a step, which a full audit never gets so far as to need
 abbrev pub finds_none : Bool → History → Bool

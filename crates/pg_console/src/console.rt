@@ -2,15 +2,14 @@
 ghost use Rattle.std.specs.Prelude.{◌≡◌, ◌++◌, ◌↔◌, ◌⊎◌, ◌<◌, Bool, true, false, IfOk, IfErr, OnOk, Err};
 ghost use Rattle.pg_console.specs.Playing.{opened_with};
 ghost use Rattle.pg_console.specs.Transcript.{answer_to, left_by, line_text, line_left, is_fault};
-ghost use Rattle.pg_console.specs.declared.command.LineFault.TheVariants as faults;
+ghost use Rattle.pg_text.specs.declared.command.LineFault.TheVariants as faults;
 ghost use Rattle.node_core.specs.declared.fault.OpenFault.TheVariants as opens;
 
-use crate::answers::{put_entry, put_step};
-use crate::command::{Command, LineFault, parse};
-use crate::printed::{put_numbered_line, put_word};
-use crate::words::is_quiet;
 use dist_types::OutOfMemory;
 use node_core::{NodeCore, OpenFault};
+use pg_text::{
+    Command, LineFault, is_quiet, parse, put_entry, put_numbered_line, put_step, put_word,
+};
 use policy_audit::{Event, Opening};
 use std::alloc::Global;
 use std::marker::Model;

@@ -1,31 +1,19 @@
 //! Plays scripts on a node of process groups.
 #![tactic(auto)]
 
-mod answers;
-mod argument;
-mod arguments;
-mod command;
 mod console;
-mod diagnosis;
-mod event_kind;
 mod laws;
-mod link_commands;
-mod node_commands;
 mod options;
 mod pair;
-mod printed;
-mod query_commands;
 mod script;
 #[cfg(test)]
 mod tests;
-mod values;
-mod words;
 
 use clap::ArgMatches;
 use clap::error::{Error as LineError, ErrorKind as LineFault};
-use diagnosis::diagnose;
 use options::{command, opening};
 use pair::{PairEnd, pair};
+use pg_text::{diagnose, without_feed};
 use policy_audit::Opening;
 use script::RunFault;
 use std::alloc::{AllocError, Global};
@@ -35,7 +23,6 @@ use std::process::ExitCode;
 use std::sync::Wait;
 use std::thread::Threads;
 use std::time::Clock;
-use words::without_feed;
 
 const OUT_OF_MEMORY: &str = "error: out of memory";
 

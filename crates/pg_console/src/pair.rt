@@ -1,9 +1,9 @@
 //! Two nodes in one process, linked over the loopback: each has a process in one group, and lists that of the other.
-use crate::printed::Printed;
 use anyhow::{Result, bail};
 use cookie_digest::ChallengeSource;
 use dist_types::{Cookie, Group, Items, NodeName, Scope, TryClone};
 use node_threads::{Gate, Node, Pass, Served, serve_link};
+use pg_text::Printed;
 use policy_audit::{Event, Members, Opening, Reply};
 use rand_chacha::ChaCha20Rng;
 use rand_core::SeedableRng;

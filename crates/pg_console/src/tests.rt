@@ -5,10 +5,7 @@ use policy_audit::Opening;
 use std::io::{BufRead, Write};
 use std::test::Fail;
 
-mod diagnoses;
 mod faults;
-mod printing;
-mod reading;
 mod transcripts;
 
 // What holds a node, a script or its answers has few ways out, since a check follows the end of a value along each; the assertions

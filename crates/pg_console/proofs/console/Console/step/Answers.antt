@@ -1,5 +1,5 @@
 use Rattle.std.proofs.Common.{◌≡◌, ◌++◌, ℕ, Bool, List, ap, subst, ◌∙◌, OnOk}
-use Rattle.pg_console.specs.declared.command.Command.TheVariants as command
+use Rattle.pg_text.specs.declared.command.Command.TheVariants as command
 use Rattle.pg_console.specs.Playing.{Playing}
 use Rattle.pg_console.specs.Transcript.{answer_to, left_by}
 use Rattle.pg_console.proofs.StepLemmas.{seated, stepped_line, on_ok}

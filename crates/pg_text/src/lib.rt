@@ -1,0 +1,28 @@
+//! The commands of a node as lines of text, and its answers as lines.
+#![tactic(auto)]
+
+mod answers;
+mod argument;
+mod arguments;
+mod command;
+mod diagnosis;
+mod event_kind;
+mod link_commands;
+mod node_commands;
+mod printed;
+mod query_commands;
+mod values;
+mod words;
+
+pub use answers::{put_entry, put_step};
+pub use argument::Argument;
+pub use arguments::{both, each, first, named, only};
+pub use command::{Command, LineFault, nothing, parse};
+pub use diagnosis::{Diagnosis, FORMS, Reason, diagnose};
+pub use event_kind::kind;
+pub use printed::{Printed, put_bytes, put_each, put_number, put_numbered_line, put_word};
+pub use values::{cut, long_number, number};
+pub use words::{first_word, is_quiet, next_word, only_word, without_feed};
+
+#[cfg(test)]
+mod tests;

@@ -1,0 +1,5 @@
+//! Lines that are read, and answers that are printed.
+
+mod diagnoses;
+mod printing;
+mod reading;
