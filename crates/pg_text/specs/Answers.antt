@@ -1,5 +1,5 @@
 -- The line that an answer is printed as.
-use Rattle.std.specs.Prelude.{ℕ, List, ◌++◌, codes, decimal, length, if◌then◌else◌, Option, Some, None, Ok, Err}
+use Rattle.std.specs.Prelude.{ℕ, Bool, List, ◌++◌, codes, decimal, length, if◌then◌else◌, Option, Some, None, Ok, Err}
 use Rattle.std.specs.declared.result.Result.{Result}
 use Rattle.std.specs.List.{flat_map}
 use Rattle.hex.specs.Hex.{encode_lower}
@@ -34,9 +34,17 @@ counted_text pids = codes " " ++ decimal (length pids) ++ spaced pid_text pids
 abbrev pub group_text : GroupPids → List ℕ
 group_text g = g.group ++ counted_text g.pids
 
+-- what processes did
+abbrev pub happened_text : Bool → List ℕ
+happened_text leave = if leave then codes "leave " else codes "join "
+
 -- what happened, in which group, to which processes
 abbrev pub update_text : Update → List ℕ
-update_text u = (if u.leave then codes "leave " else codes "join ") ++ u.group ++ counted_text u.pids
+update_text u = happened_text u.leave ++ u.group ++ counted_text u.pids
+
+-- an update with the number of the monitor that it is told to
+abbrev pub told_text : ℕ → Update → List ℕ
+told_text monitor u = happened_text u.leave ++ decimal monitor ++ codes " " ++ u.group ++ counted_text u.pids
 
 -- a body in hex
 abbrev pub frame_text : OutFrame → List ℕ

@@ -6,3 +6,4 @@ pub mod Commands
 pub mod Faults
 pub mod Kinds
 pub mod Answers
+pub mod Asked

@@ -1,7 +1,8 @@
 //! Answers as lines of text.
-ghost use Rattle.std.specs.Prelude.{◌≡◌, ◌++◌, OnOk, codes, decimal};
+ghost use Rattle.std.specs.Prelude.{◌≡◌, ◌++◌, OnOk, Err, codes, decimal};
 ghost use Rattle.std.specs.Option.{option_copied};
-ghost use Rattle.pg_text.specs.Answers.{spaced, reply_text, refusal_text, judged_text, step_line, entry_line};
+ghost use Rattle.pg_text.specs.Answers.{spaced, reply_text, refusal_text, judged_text, verdict_line, step_line, entry_line};
+ghost use Rattle.policy_audit.specs.declared.entry.Verdict.TheVariants.{Accepted};
 
 use crate::event_kind::kind;
 use crate::printed::{Printed, put_bytes, put_each, put_number, put_word};
@@ -19,9 +20,26 @@ pub fn put_step(
     ensures { OnOk result (out.new.items ≡ out.old.items ++ step_line stepped.now) }
 {
     match stepped {
-        Ok(reply) => put_reply(alloc, reply, out)?,
-        Err(CoreFault::Refused(rule)) => put_refusal(*rule, out)?,
-        Err(CoreFault::OutOfMemory) => put_word("memory", out)?,
+        Ok(reply) => put_accepted(alloc, reply, out),
+        Err(fault) => put_unanswered(*fault, out),
+    }
+}
+
+/// Adds the line for what an accepted event was answered.
+pub fn put_accepted(alloc: Global, reply: &Reply, out: &mut Vec<u8>) -> Result<(), OutOfMemory>
+    ensures { OnOk result (out.new.items ≡ out.old.items ++ verdict_line (Accepted reply.now)) }
+{
+    put_reply(alloc, reply, out)?;
+    put_word("\n", out)
+}
+
+/// Adds the line for a step that has no reply.
+pub fn put_unanswered(fault: CoreFault, out: &mut Vec<u8>) -> Result<(), OutOfMemory>
+    ensures { OnOk result (out.new.items ≡ out.old.items ++ step_line (Err fault)) }
+{
+    match fault {
+        CoreFault::Refused(rule) => put_refusal(rule, out)?,
+        CoreFault::OutOfMemory => put_word("memory", out)?,
     }
     put_word("\n", out)
 }

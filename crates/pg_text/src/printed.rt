@@ -1,6 +1,6 @@
 //! Values as parts of an answer line.
 ghost use Rattle.std.specs.Prelude.{◌≡◌, ◌+◌, ◌<◌, ◌≤◌, ◌++◌, List, ℕ, OnOk, codes, decimal, drop, length};
-ghost use Rattle.pg_text.specs.Answers.{spaced, pid_text, counted_text, group_text, update_text, frame_text};
+ghost use Rattle.pg_text.specs.Answers.{spaced, pid_text, counted_text, group_text, happened_text, update_text, told_text, frame_text};
 
 use dist_types::{Group, OutOfMemory, Pid, Pids};
 use itoa::{Buffer, write_digits};
@@ -39,8 +39,7 @@ impl Printed for GroupPids {
     ghost text = { group_text };
 
     fn put(&self, alloc: Global, out: &mut Vec<u8>) -> Result<(), OutOfMemory> {
-        put_bytes(self.group.as_bytes(), out)?;
-        put_counted(alloc, &self.pids, out)
+        put_held(alloc, &self.group, &self.pids, out)
     }
 }
 
@@ -48,10 +47,8 @@ impl Printed for Update {
     ghost text = { update_text };
 
     fn put(&self, alloc: Global, out: &mut Vec<u8>) -> Result<(), OutOfMemory> {
-        let happened = if self.leave { "leave " } else { "join " };
-        put_word(happened, out)?;
-        put_bytes(self.group.as_bytes(), out)?;
-        put_counted(alloc, &self.pids, out)
+        put_word(happened(self.leave), out)?;
+        put_held(alloc, &self.group, &self.pids, out)
     }
 }
 
@@ -62,6 +59,35 @@ impl Printed for OutFrame {
         let text = hex::encode(alloc, self.body.as_slice())?;
         put_word(text.as_str(), out)
     }
+}
+
+/// Adds an update with the monitor that it is told to, by the number of its entry, as `join 3 g 1 a@h/1/1`.
+pub fn put_told(
+    alloc: Global,
+    monitor: u32,
+    update: &Update,
+    out: &mut Vec<u8>,
+) -> Result<(), OutOfMemory>
+    ensures { OnOk result (out.new.items ≡ out.old.items ++ told_text monitor update.now) }
+{
+    put_number(happened(update.leave), u64::from(monitor), out)?;
+    put_word(" ", out)?;
+    put_held(alloc, &update.group, &update.pids, out)
+}
+
+/// What an update says that processes did.
+fn happened(leave: bool) -> &'static str
+    ensures { result.now ≡ happened_text leave }
+{
+    if leave { "leave " } else { "join " }
+}
+
+/// Adds a group, how many processes it has, and each.
+fn put_held(alloc: Global, group: &Group, pids: &Pids, out: &mut Vec<u8>) -> Result<(), OutOfMemory>
+    ensures { OnOk result (out.new.items ≡ out.old.items ++ group.now ++ counted_text pids.now) }
+{
+    put_bytes(group.as_bytes(), out)?;
+    put_counted(alloc, pids, out)
 }
 
 /// Adds each value behind a space.
