@@ -1,5 +1,6 @@
 //! Answers as lines.
 use crate::answers::{put_entry, put_step};
+use crate::printed::put_told;
 use dist_types::{Body, Group, Items, NodeName, Pid, Pids};
 use node_core::CoreFault;
 use policy_audit::{
@@ -118,6 +119,31 @@ fn prints_updates(rt: HostRuntime) -> Result<(), Fail> {
         Ok(told),
         "updates leave g 1 a@h/5/3 join g 1 a@h/5/3\n",
     )
+}
+
+/// The line of an update that is told to the monitor 7.
+fn told(alloc: Global, leave: bool) -> Result<Vec<u8>, Fail> {
+    let update = Update {
+        group: group(alloc)?,
+        leave,
+        pids: pids(alloc, &[3])?,
+    };
+    line_of_update(alloc, &update)
+}
+
+fn line_of_update(alloc: Global, update: &Update) -> Result<Vec<u8>, Fail> {
+    let mut out = Vec::new(alloc);
+    put_told(alloc, 7, update, &mut out)?;
+    Ok(out)
+}
+
+#[test]
+fn prints_updates_with_their_monitor(rt: HostRuntime) -> Result<(), Fail> {
+    let joined = told(rt.alloc(), false)?;
+    assert_eq!(rt; joined.as_slice(), b"join 7 g 1 a@h/5/3".as_slice());
+    let left = told(rt.alloc(), true)?;
+    assert_eq!(rt; left.as_slice(), b"leave 7 g 1 a@h/5/3".as_slice());
+    Ok(())
 }
 
 #[test]

@@ -1,4 +1,5 @@
 //! Lines that are commands, and lines that are not.
+use crate::asked::{moved_pids, query_of, speaks_for_link};
 use crate::command::{Command, LineFault, parse};
 use crate::event_kind::kind;
 use dist_types::{NodeName, Pid};
@@ -191,4 +192,39 @@ fn reads_a_name_with_slashes(rt: HostRuntime) -> Result<(), Fail> {
     let ended = ends(rt.alloc(), "exit a/b@h/1/4/1", &process);
     assert!(rt; ended);
     Ok(())
+}
+
+/// What an event asks for, told in one word each: whether it is a query, whether it speaks for a link, whom it moves.
+fn asked(event: &Event) -> (bool, bool, usize) {
+    (
+        query_of(event).is_some(),
+        speaks_for_link(event),
+        moved_pids(event).len(),
+    )
+}
+
+fn asked_by(read: &Result<Command, LineFault>) -> Option<(bool, bool, usize)> {
+    match read {
+        Ok(Command::Step(event)) => Some(asked(event)),
+        _ => None,
+    }
+}
+
+fn asked_in(alloc: Global, line: &str) -> Option<(bool, bool, usize)> {
+    asked_by(&parse(alloc, line.as_bytes()))
+}
+
+#[test]
+fn tells_what_commands_ask_for(rt: HostRuntime) {
+    let cases = [
+        ("local_groups pg", (true, false, 0)),
+        ("members pg g", (true, false, 0)),
+        ("frame 1 4e", (false, true, 0)),
+        ("disconnect a@h", (false, false, 0)),
+        ("exit b@h/4/1", (false, false, 1)),
+        ("leave pg g b@h/4/1 b@h/4/1", (false, false, 2)),
+    ];
+    for (line, wanted) in cases {
+        assert_eq!(rt; asked_in(rt.alloc(), line), Some(wanted), "{line}");
+    }
 }
