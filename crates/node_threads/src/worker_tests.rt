@@ -1,13 +1,13 @@
 //! The workers of a link over bytes in memory: the name frame and the reply of a@h, and what b@h owes to them.
 use super::*;
 use dist_types::{Cookie, NodeName};
+use node_core::CoreFault;
 use policy_audit::{Event, Opening, Reply, Rule};
 use std::alloc::Global;
 use std::io;
 use std::io::{ErrorKind, Read, Write};
 use std::sync::Wait;
 use std::sync::atomic::{AtomicU64, Ordering};
-use std::test::Fail;
 use std::thread::Threads;
 
 /// The name frame of a@h and its reply to the challenge 123, each behind its length.
@@ -183,10 +183,19 @@ impl Gate for Holding<'_> {
     fn answered(&self, _link: u32) {}
 }
 
-fn opening(alloc: Global, entries: u32) -> Result<Opening, Fail> {
-    let name = NodeName::parse(alloc, b"b@h")?;
-    let cookie = Cookie::parse(alloc, b"password")?;
-    Ok(Opening {
+// What reads a text has no contract, so that a check doesn't compute with the text.
+fn name_of(alloc: Global, text: &[u8]) -> Option<NodeName> {
+    NodeName::parse(alloc, text).ok()
+}
+
+fn cookie_of(alloc: Global, text: &[u8]) -> Option<Cookie> {
+    Cookie::parse(alloc, text).ok()
+}
+
+fn opening(alloc: Global, entries: u32) -> Option<Opening> {
+    let name = name_of(alloc, b"b@h")?;
+    let cookie = cookie_of(alloc, b"password")?;
+    Some(Opening {
         name,
         cookie,
         hidden: false,
@@ -196,26 +205,20 @@ fn opening(alloc: Global, entries: u32) -> Result<Opening, Fail> {
 }
 
 /// The node b@h with link 1 open, the pass of its reader, and that of its writer.
-#[derive(Drop)]
-struct Opened {
-    node: Node,
-    reader: Pass,
-    writer: Pass,
+fn with_link<R: Wait>(rt: &R, alloc: Global, entries: u32) -> Option<(Node, Vec<Pass>)> {
+    let (node, mut passes) = Node::new(alloc, opening(alloc, entries)?, 2).ok()?;
+    if opens_link(rt, &node, passes.first_mut()?) {
+        Some((node, passes))
+    } else {
+        None
+    }
 }
 
-fn with_link<R: Wait>(rt: &R, alloc: Global, entries: u32) -> Result<Opened, Fail> {
-    let (node, mut passes) = Node::new(alloc, opening(alloc, entries)?, 2)?;
-    let writer = passes.pop().ok_or("no pass")?;
-    let mut reader = passes.pop().ok_or("no pass")?;
-    match reader.call(&node, rt, Event::Opened(123)) {
-        Ok(Reply::Link(1)) => {}
-        _ => return Err(Fail::from("no link")),
-    }
-    Ok(Opened {
-        node,
-        reader,
-        writer,
-    })
+fn opens_link<R: Wait>(rt: &R, node: &Node, reader: &mut Pass) -> bool {
+    matches!(
+        reader.call(node, rt, Event::Opened(123)),
+        Ok(Reply::Link(1))
+    )
 }
 
 /// How many frames and how many losses a pass has called behind its first entry, if it has called nothing else.
@@ -223,208 +226,323 @@ fn calls_of(pass: &Pass) -> Option<(usize, usize)> {
     let mut frames = 0usize;
     let mut lost = 0usize;
     for call in pass.calls().get(1..)? {
-        match call.event {
-            Event::Frame(1, _) if lost == 0 => frames = frames.saturating_add(1),
-            Event::Lost(1) => lost = lost.saturating_add(1),
-            _ => return None,
+        if lost == 0 && is_frame(&call.event) {
+            frames = frames.saturating_add(1);
+        } else if is_loss(&call.event) {
+            lost = lost.saturating_add(1);
+        } else {
+            return None;
         }
     }
     Some((frames, lost))
 }
 
+fn is_frame(event: &Event) -> bool {
+    matches!(event, Event::Frame(1, _))
+}
+
+fn is_loss(event: &Event) -> bool {
+    matches!(event, Event::Lost(1))
+}
+
 /// Closes the node, and tells how many entries it has.
-fn closed(alloc: Global, node: Node, reader: Pass, writer: Pass) -> Result<usize, Fail> {
-    let mut passes = Vec::new(alloc);
-    passes.push(reader)?;
-    passes.push(writer)?;
-    match node.close(passes) {
-        Ok(closed) => Ok(closed.core.audit().len()),
-        Err(_) => Err(Fail::from("not closed")),
+fn closed(node: Node, passes: Vec<Pass>) -> Option<usize> {
+    entries_of(&node.close(passes))
+}
+
+fn entries_of(end: &Result<Closed, CloseFault>) -> Option<usize> {
+    match end {
+        Ok(closed) => Some(closed.core.audit().len()),
+        Err(_) => None,
     }
 }
 
-/// Reads what was sent: the end, and what the pass has called.
-fn read<R: Wait>(
+/// Why a reader stopped, and what its pass has called.
+#[derive(Clone, Copy, Debug, PartialEq, Eq)]
+struct Seen {
+    end: ReadEnd,
+    frames: usize,
+    lost: usize,
+}
+
+/// Reads what was sent.
+fn read<R: Wait>(rt: &R, alloc: Global, entries: u32, sent: &mut Sent) -> Option<Seen> {
+    let (node, mut passes) = with_link(rt, alloc, entries)?;
+    let seen = read_by(rt, alloc, &node, passes.first_mut()?, sent);
+    closed(node, passes)?;
+    seen
+}
+
+fn read_by<R: Wait>(
     rt: &R,
     alloc: Global,
-    entries: u32,
-    mut sent: Sent,
-) -> Result<(ReadEnd, usize, usize), Fail> {
-    let Opened {
-        node,
-        mut reader,
-        writer,
-    } = with_link(rt, alloc, entries)?;
-    let end = read_link(rt, alloc, &node, &mut reader, 1, &mut sent, &Open);
-    let (frames, lost) = calls_of(&reader).ok_or("another event")?;
-    closed(alloc, node, reader, writer)?;
-    Ok((end, frames, lost))
+    node: &Node,
+    reader: &mut Pass,
+    sent: &mut Sent,
+) -> Option<Seen> {
+    let end = read_link(rt, alloc, node, reader, 1, sent, &Open);
+    let (frames, lost) = calls_of(reader)?;
+    Some(Seen { end, frames, lost })
 }
 
 #[test]
-fn reads_however_the_bytes_come(rt: HostRuntime) -> Result<(), Fail> {
-    let alloc: Global = rt.alloc();
+fn reads_however_the_bytes_come(rt: HostRuntime) {
+    let wanted = Seen {
+        end: ReadEnd::Closed,
+        frames: 2,
+        lost: 1,
+    };
     for step in [4096, 20, 7, 1] {
         for interrupts in [false, true] {
             let mut sent = Sent::by(step);
             sent.interrupts = interrupts;
-            assert_eq!(rt; read(&rt, alloc, 100, sent)?, (ReadEnd::Closed, 2, 1));
+            assert_eq!(rt; read(&rt, rt.alloc(), 100, &mut sent), Some(wanted));
         }
     }
-    Ok(())
+}
+
+/// How many frames have come before the read of that number, of one byte each.
+fn frames_before(read: u32) -> usize {
+    if read <= 20 {
+        0
+    } else if read <= 43 {
+        1
+    } else {
+        2
+    }
 }
 
 #[test]
-fn a_read_that_fails_ends_the_link(rt: HostRuntime) -> Result<(), Fail> {
-    let alloc: Global = rt.alloc();
+fn a_read_that_fails_ends_the_link(rt: HostRuntime) {
     for fails_at in 1..45 {
         let mut sent = Sent::by(1);
         sent.fails_at = fails_at;
-        let frames = if fails_at <= 20 {
-            0
-        } else if fails_at <= 43 {
-            1
-        } else {
-            2
+        let wanted = Seen {
+            end: ReadEnd::ReadFault,
+            frames: frames_before(fails_at),
+            lost: 1,
         };
         assert_eq!(rt;
-            read(&rt, alloc, 100, sent)?,
-            (ReadEnd::ReadFault, frames, 1)
+            read(&rt, rt.alloc(), 100, &mut sent),
+            Some(wanted),
+            "read {fails_at}"
         );
     }
-    Ok(())
 }
 
 #[test]
-fn a_full_audit_ends_a_reader(rt: HostRuntime) -> Result<(), Fail> {
-    let alloc: Global = rt.alloc();
-    for frames in [0, 1, 2] {
-        let entries = 1 + frames as u32;
+fn a_full_audit_ends_a_reader(rt: HostRuntime) {
+    for entries in [1u32, 2, 3] {
+        let wanted = Seen {
+            end: ReadEnd::EntriesFull,
+            frames: entries.saturating_sub(1) as usize,
+            lost: 0,
+        };
         assert_eq!(rt;
-            read(&rt, alloc, entries, Sent::by(4096))?,
-            (ReadEnd::EntriesFull, frames, 0)
+            read(&rt, rt.alloc(), entries, &mut Sent::by(4096)),
+            Some(wanted)
         );
     }
-    Ok(())
 }
 
-#[test]
-fn a_link_that_was_lost_is_gone(rt: HostRuntime) -> Result<(), Fail> {
-    let alloc: Global = rt.alloc();
-    let Opened {
-        node,
-        mut reader,
-        mut writer,
-    } = with_link(&rt, alloc, 100)?;
-    assert!(rt; writer.call(&node, &rt, Event::Lost(1)).is_ok());
-    let end = read_link(
-        &rt,
-        alloc,
-        &node,
-        &mut reader,
-        1,
-        &mut Sent::by(4096),
-        &Open,
-    );
-    assert_eq!(rt; end, ReadEnd::Gone);
-    assert_eq!(rt; calls_of(&reader), Some((1, 0)));
+/// Why a writer stopped, and whether it hung up.
+#[derive(Clone, Copy, Debug, PartialEq, Eq)]
+struct Stop {
+    end: WriteEnd,
+    hung_up: bool,
+}
+
+/// What the workers of a link see that was lost before; four entries were made.
+#[derive(Clone, Copy, Debug, PartialEq, Eq)]
+struct Late {
+    read: Seen,
+    written: Stop,
+}
+
+fn after_loss<R: Wait>(rt: &R, alloc: Global) -> Option<Late> {
+    let (node, mut passes) = with_link(rt, alloc, 100)?;
+    let late = work_late(rt, alloc, &node, passes.as_mut_slice());
+    if closed(node, passes) == Some(4) {
+        late
+    } else {
+        None
+    }
+}
+
+/// Loses the link by the pass of its writer, and runs both workers.
+fn work_late<R: Wait>(rt: &R, alloc: Global, node: &Node, passes: &mut [Pass]) -> Option<Late> {
+    if !loses(rt, node, passes.last_mut()?) {
+        return None;
+    }
+    let read = read_by(rt, alloc, node, passes.first_mut()?, &mut Sent::by(4096))?;
+    let written = write_by(rt, alloc, node, passes.last_mut()?);
+    Some(Late { read, written })
+}
+
+fn loses<R: Wait>(rt: &R, node: &Node, writer: &mut Pass) -> bool {
+    writer.call(node, rt, Event::Lost(1)).is_ok()
+}
+
+fn write_by<R: Wait>(rt: &R, alloc: Global, node: &Node, writer: &mut Pass) -> Stop {
     let told = Told::new();
     let mut wire = Wire::by(alloc, 4096, &told);
-    let end = write_link(&rt, alloc, &node, &mut writer, 1, &mut wire);
-    assert_eq!(rt; end, WriteEnd::Gone);
-    assert!(rt; told.is_hung_up());
-    assert_eq!(rt; closed(alloc, node, reader, writer)?, 4);
-    Ok(())
+    let end = write_link(rt, alloc, node, writer, 1, &mut wire);
+    Stop {
+        end,
+        hung_up: told.is_hung_up(),
+    }
 }
+
+#[test]
+fn a_link_that_was_lost_is_gone(rt: HostRuntime) {
+    let wanted = Late {
+        read: Seen {
+            end: ReadEnd::Gone,
+            frames: 1,
+            lost: 0,
+        },
+        written: Stop {
+            end: WriteEnd::Gone,
+            hung_up: true,
+        },
+    };
+    assert_eq!(rt; after_loss(&rt, rt.alloc()), Some(wanted));
+}
+
+/// What follows on that fault.
+fn next(retreat: &mut Retreat, fault: CallFault) -> RetreatStep {
+    retreat.next(&Err(fault))
+}
+
+/// An answer to a Lost, and what follows on it.
+#[derive(Clone, Copy)]
+struct Answer {
+    fault: CallFault,
+    step: RetreatStep,
+}
+
+/// The answers behind 63 wants of memory.
+const ANSWERS: [Answer; 5] = [
+    Answer {
+        fault: CallFault::Core(CoreFault::Refused(Rule::EntriesFull)),
+        step: RetreatStep::Full,
+    },
+    Answer {
+        fault: CallFault::Core(CoreFault::Refused(Rule::NoSuchLink)),
+        step: RetreatStep::Settled,
+    },
+    Answer {
+        fault: CallFault::StrangePass,
+        step: RetreatStep::Settled,
+    },
+    Answer {
+        fault: CallFault::Core(CoreFault::OutOfMemory),
+        step: RetreatStep::Stuck,
+    },
+    Answer {
+        fault: CallFault::Core(CoreFault::OutOfMemory),
+        step: RetreatStep::Stuck,
+    },
+];
 
 #[test]
 fn a_retreat_ends_at_the_64th_want(rt: HostRuntime) {
     let mut retreat = Retreat::new();
-    let want: Result<&Reply, CallFault> = Err(CallFault::Core(node_core::CoreFault::OutOfMemory));
-    let full: Result<&Reply, CallFault> = Err(CallFault::Core(node_core::CoreFault::Refused(
-        Rule::EntriesFull,
-    )));
-    let gone: Result<&Reply, CallFault> = Err(CallFault::Core(node_core::CoreFault::Refused(
-        Rule::NoSuchLink,
-    )));
-    for _ in 0..63u32 {
-        assert_eq!(rt; retreat.next(&want), RetreatStep::Again);
+    for want in 1..64u32 {
+        let step = next(&mut retreat, CallFault::Core(CoreFault::OutOfMemory));
+        assert_eq!(rt; step, RetreatStep::Again, "want {want}");
     }
-    assert_eq!(rt; retreat.next(&full), RetreatStep::Full);
-    assert_eq!(rt; retreat.next(&gone), RetreatStep::Settled);
-    assert_eq!(rt;
-        retreat.next(&Err(CallFault::StrangePass)),
-        RetreatStep::Settled
-    );
     assert_eq!(rt; retreat.next(&Ok(&Reply::Done)), RetreatStep::Settled);
-    assert_eq!(rt; retreat.next(&want), RetreatStep::Stuck);
-    assert_eq!(rt; retreat.next(&want), RetreatStep::Stuck);
+    for answer in ANSWERS {
+        assert_eq!(rt; next(&mut retreat, answer.fault), answer.step);
+    }
 }
 
-/// Serves the link with both workers.
+/// Why both workers stopped.
+#[derive(Clone, Copy, Debug, PartialEq, Eq)]
+struct Ends {
+    read: ReadEnd,
+    written: WriteEnd,
+}
+
+/// Serves the link with both workers, over writes of so many bytes; the write of that number fails.
 fn serve<R: Threads + Wait + Sync>(
     rt: &R,
     alloc: Global,
     told: &Told,
     step: usize,
     fails_at: u32,
-) -> Result<(ReadEnd, WriteEnd, usize), Fail> {
-    let Opened {
-        node,
-        reader,
-        writer,
-    } = with_link(rt, alloc, 100)?;
-    let gate = Holding {
-        reads: AtomicU64::new(0),
-        told,
-    };
+) -> Option<Ends> {
+    let (node, mut passes) = with_link(rt, alloc, 100)?;
+    let writer = passes.pop()?;
+    let reader = passes.pop()?;
     let mut wire = Wire::by(alloc, step, told);
     wire.fails_at = fails_at;
-    let served = serve_link(
-        rt,
-        alloc,
-        &node,
-        1,
-        reader,
-        writer,
-        Sent::by(4096),
-        wire,
-        &gate,
-    );
+    let served = serve_with(rt, alloc, &node, reader, writer, wire);
+    ended(node, served, passes)
+}
+
+fn serve_with<R: Threads + Wait + Sync>(
+    rt: &R,
+    alloc: Global,
+    node: &Node,
+    reader: Pass,
+    writer: Pass,
+    wire: Wire<'_>,
+) -> Served {
+    let gate = Holding {
+        reads: AtomicU64::new(0),
+        told: wire.told,
+    };
+    let sent = Sent::by(4096);
+    serve_link(rt, alloc, node, 1, reader, writer, sent, wire, &gate)
+}
+
+/// Closes the node with the passes of both workers.
+fn ended(node: Node, served: Served, mut passes: Vec<Pass>) -> Option<Ends> {
     let Served {
         reader,
         read,
         writer,
         written,
     } = served;
-    let entries = closed(alloc, node, reader, writer)?;
-    Ok((read, written, entries))
+    passes.push(reader).ok()?;
+    passes.push(writer).ok()?;
+    closed(node, passes)?;
+    Some(Ends { read, written })
 }
 
 #[test]
-fn both_workers_serve_a_link(rt: HostRuntime) -> Result<(), Fail> {
-    let alloc: Global = rt.alloc();
+fn both_workers_serve_a_link(rt: HostRuntime) {
+    let wanted = Ends {
+        read: ReadEnd::Closed,
+        written: WriteEnd::Gone,
+    };
     for step in [4096, 7, 1] {
         let told = Told::new();
-        let (read, written, _) = serve(&rt, alloc, &told, step, 0)?;
-        assert_eq!(rt; (read, written), (ReadEnd::Closed, WriteEnd::Gone));
+        assert_eq!(rt; serve(&rt, rt.alloc(), &told, step, 0), Some(wanted));
         assert!(rt; told.has_all());
         assert!(rt; told.is_hung_up());
     }
-    Ok(())
+}
+
+/// Whether a writer whose write of that number failed did what it should.
+fn gave_up(ends: Ends, told: &Told, fails_at: u32) -> bool {
+    ends.written == WriteEnd::WriteFault
+        && (ends.read == ReadEnd::Closed || ends.read == ReadEnd::Gone)
+        && told.late.load(Ordering::SeqCst) == 0
+        && told.right.load(Ordering::SeqCst) == u64::from(fails_at).saturating_sub(1)
+        && told.is_hung_up()
 }
 
 #[test]
-fn a_write_that_fails_ends_the_link(rt: HostRuntime) -> Result<(), Fail> {
-    let alloc: Global = rt.alloc();
+fn a_write_that_fails_ends_the_link(rt: HostRuntime) {
     for fails_at in 1..49 {
         let told = Told::new();
-        let (read, written, _) = serve(&rt, alloc, &told, 1, fails_at)?;
-        assert_eq!(rt; written, WriteEnd::WriteFault);
-        assert!(rt; read == ReadEnd::Closed || read == ReadEnd::Gone);
-        assert_eq!(rt; told.late.load(Ordering::SeqCst), 0);
-        assert_eq!(rt; told.right.load(Ordering::SeqCst), fails_at as u64 - 1);
-        assert!(rt; told.is_hung_up());
+        let ends = serve(&rt, rt.alloc(), &told, 1, fails_at);
+        assert!(rt;
+            ends.is_some_and(|ends| gave_up(ends, &told, fails_at)),
+            "write {fails_at}"
+        );
     }
-    Ok(())
 }
