@@ -1,0 +1,108 @@
+//! What comes of a link, within its limits of time.
+use crate::guard::ReflectionGuard;
+use crate::lanes::Lanes;
+use crate::limits::PULSES;
+use crate::output::Outlet;
+use node_threads::Node;
+use std::io::{self, ErrorKind, Read};
+use std::net::TcpStream;
+use std::sync::Wait;
+use std::time::{Clock, Duration, Instant};
+
+/// How far a link is.
+#[derive(Drop)]
+pub(crate) enum Stage {
+    /// Begun then; a link that this node has dialled is guarded.
+    Handshake(Instant, Option<ReflectionGuard>),
+    /// Nothing has come for so many pulses.
+    Up(u32),
+}
+
+/// What the reader of a link reads from. Until the link is up all reads together have the time of a handshake; then each waits
+/// for a pulse, and the link is lost after eight of them without a byte.
+#[derive(Drop)]
+pub(crate) struct LinkInput<'a, R: Wait + Clock> {
+    pub(crate) rt: &'a R,
+    pub(crate) node: &'a Node,
+    pub(crate) lanes: &'a Lanes,
+    pub(crate) link: u32,
+    pub(crate) stream: &'a TcpStream,
+    pub(crate) outlet: &'a Outlet<'a>,
+    pub(crate) stage: Stage,
+}
+
+impl<R: Wait + Clock> LinkInput<'_, R> {
+    /// Sets how long the next read may wait.
+    fn limit(&mut self) -> io::Result<()> {
+        let Stage::Handshake(start, guard) = &self.stage else {
+            return Ok(());
+        };
+        if self.node.shared.lock(self.rt).core().is_up(self.link) {
+            if guard.is_some() {
+                self.outlet.has_come_up(self.rt)?;
+            }
+            self.stage = Stage::Up(0);
+            return self
+                .stream
+                .set_read_timeout(Some(self.lanes.limits().pulse()));
+        }
+        let left = self
+            .lanes
+            .limits()
+            .setup
+            .saturating_sub(start.elapsed(self.rt)?);
+        if left.is_zero() {
+            return Err(io::Error::from(ErrorKind::TimedOut));
+        }
+        self.stream.set_read_timeout(Some(left))
+    }
+
+    /// Looks at what has come, before it is handed in.
+    fn look(&mut self, piece: &[u8]) -> io::Result<()> {
+        match &mut self.stage {
+            Stage::Handshake(_, Some(guard)) => match guard.finds(self.rt, self.lanes, piece) {
+                Ok(false) => Ok(()),
+                Ok(true) => {
+                    self.lanes.count_reflection();
+                    Err(io::Error::from(ErrorKind::PermissionDenied))
+                }
+                Err(_) => Err(io::Error::from(ErrorKind::OutOfMemory)),
+            },
+            Stage::Handshake(_, None) => Ok(()),
+            Stage::Up(silent) => {
+                *silent = 0;
+                Ok(())
+            }
+        }
+    }
+
+    /// Nothing has come in time: the read is to be tried again, until that is too often.
+    fn wait_on(&mut self) -> ErrorKind {
+        match &mut self.stage {
+            Stage::Up(silent) if *silent < PULSES - 1 => {
+                *silent += 1;
+                ErrorKind::Interrupted
+            }
+            _ => ErrorKind::TimedOut,
+        }
+    }
+}
+
+impl<R: Wait + Clock> Read for LinkInput<'_, R> {
+    fn read(&mut self, buf: &mut [u8]) -> io::Result<usize> {
+        self.limit()?;
+        let mut stream = self.stream;
+        let read = stream.read(buf);
+        self.outlet.tick(self.rt)?;
+        match read {
+            Ok(count) => {
+                self.look(&buf[..count])?;
+                Ok(count)
+            }
+            Err(error) if error.kind() == ErrorKind::WouldBlock => {
+                Err(io::Error::from(self.wait_on()))
+            }
+            Err(error) => Err(error),
+        }
+    }
+}

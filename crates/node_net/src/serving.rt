@@ -1,0 +1,97 @@
+//! One link over a socket.
+use crate::guard::ReflectionGuard;
+use crate::input::{LinkInput, Stage};
+use crate::lane::Lane;
+use crate::lanes::Lanes;
+use crate::output::{LinkOutput, Outlet};
+use dist_types::{NodeName, OutOfMemory, TryClone};
+use node_threads::Node;
+use policy_audit::Event;
+use std::alloc::Global;
+use std::net::TcpStream;
+use std::sync::Wait;
+use std::thread::Threads;
+use std::time::{Clock, Instant};
+
+/// Who has opened a connection.
+#[derive(Clone, Copy)]
+pub(crate) enum Opener<'a> {
+    Peer,
+    /// This node, to that peer.
+    Own(&'a NodeName),
+}
+
+impl Opener<'_> {
+    fn event(&self, alloc: Global, challenge: u32) -> Result<Event, OutOfMemory> {
+        Ok(match self {
+            Opener::Peer => Event::Opened(challenge),
+            Opener::Own(peer) => Event::Dial(peer.try_clone(alloc)?, challenge),
+        })
+    }
+
+    fn guard(&self, alloc: Global) -> Option<ReflectionGuard> {
+        match self {
+            Opener::Peer => None,
+            Opener::Own(_) => Some(ReflectionGuard::new(alloc)),
+        }
+    }
+}
+
+/// Serves a link over a connection until it ends: whether it came up.
+pub(crate) fn serve_stream<R: Threads + Wait + Clock + Sync>(
+    rt: &R,
+    alloc: Global,
+    node: &Node,
+    lanes: &Lanes,
+    mut lane: Lane,
+    stream: &TcpStream,
+    opener: Opener<'_>,
+) -> (Lane, bool) {
+    let challenge = lane.draw();
+    let Ok(ticket) = lanes.enter(rt, challenge, stream) else {
+        return (lane, false);
+    };
+    let (lane, came_up) = serve_entered(rt, alloc, node, lanes, lane, stream, opener, challenge);
+    lanes.leave(rt, ticket);
+    (lane, came_up)
+}
+
+fn serve_entered<R: Threads + Wait + Clock + Sync>(
+    rt: &R,
+    alloc: Global,
+    node: &Node,
+    lanes: &Lanes,
+    mut lane: Lane,
+    stream: &TcpStream,
+    opener: Opener<'_>,
+    challenge: u32,
+) -> (Lane, bool) {
+    let Ok(outlet) = Outlet::new(rt, stream, lanes.limits()) else {
+        return (lane, false);
+    };
+    let Ok(start) = Instant::now(rt) else {
+        return (lane, false);
+    };
+    let Ok(event) = opener.event(alloc, challenge) else {
+        return (lane, false);
+    };
+    let Some(link) = lane.open(rt, node, event) else {
+        return (lane, false);
+    };
+    let input = LinkInput {
+        rt,
+        node,
+        lanes,
+        link,
+        stream,
+        outlet: &outlet,
+        stage: Stage::Handshake(start, opener.guard(alloc)),
+    };
+    let output = LinkOutput {
+        rt,
+        outlet: &outlet,
+    };
+    let lane = lane.serve(rt, alloc, node, link, input, output);
+    let came_up = outlet.was_up(rt);
+    (lane, came_up)
+}
