@@ -1,10 +1,15 @@
 //! A lane: two passes that serve one link after another.
+ghost use Rattle.std.specs.Prelude.{◌≡◌, IfOk, IfErr, IfSome};
+ghost use Rattle.std.specs.List.{Contains};
+ghost use Rattle.node_net.specs.LaneCalls.{Pair, IsLane, IsUsed, IsOpening, Opens, own_links};
+
 use cookie_digest::ChallengeSource;
 use node_threads::{Gate, LinkOut, Node, Pass, Served, serve_link};
 use policy_audit::{Event, Reply};
 use rand_chacha::ChaCha20Rng;
 use std::alloc::Global;
 use std::io::Read;
+use std::marker::Model;
 use std::sync::Wait;
 use std::thread::Threads;
 
@@ -12,9 +17,19 @@ use std::thread::Threads;
 /// Dial, and Frame, Take and Lost of the links that these opened.
 #[derive(Drop)]
 pub struct Lane {
-    pub(crate) reader: Pass,
-    pub(crate) writer: Pass,
+    reader: Pass,
+    writer: Pass,
     source: ChallengeSource<ChaCha20Rng>,
+}
+
+impl Model for Lane {
+    ghost use Rattle.node_net.specs.LaneCalls.{Pair, IsLane};
+
+    ghost Value = { Pair };
+
+    ghost view = { λ lane. record { reader = lane.reader; writer = lane.writer } };
+
+    ghost invariant = { λ lane. IsLane (record { reader = lane.reader; writer = lane.writer }) };
 }
 
 /// A pass that has made calls before can't be a lane's; both come back.
@@ -30,7 +45,11 @@ impl Lane {
         reader: Pass,
         writer: Pass,
         source: ChallengeSource<ChaCha20Rng>,
-    ) -> Result<Lane, UsedPass> {
+    ) -> Result<Lane, UsedPass>
+        ensures ok { IfOk result (λ lane. lane ≡ record { reader = reader; writer = writer }) }
+        ensures refused { IfErr result (λ used. IsUsed (record { reader = reader; writer = writer })) }
+        ensures back { IfErr result (λ used. (used.reader ≡ reader) × (used.writer ≡ writer)) }
+    {
         if !reader.calls().is_empty() || !writer.calls().is_empty() {
             return Err(UsedPass { reader, writer });
         }
@@ -42,7 +61,10 @@ impl Lane {
     }
 
     /// The passes, for the node's `close`.
-    pub fn into_passes(self) -> (Pass, Pass) {
+    pub fn into_passes(self) -> (Pass, Pass)
+        ensures both { (result.0 ≡ self.reader) × (result.1 ≡ self.writer) }
+        ensures lane { IsLane (record { reader = result.0; writer = result.1 }) }
+    {
         let Lane {
             reader,
             writer,
@@ -52,16 +74,18 @@ impl Lane {
     }
 
     /// The challenge for the next link.
-    pub(crate) fn draw(&mut self) -> u32 {
+    pub(crate) fn draw(&mut self) -> u32
+        ensures { self.new ≡ self.old }
+    {
         self.source.draw()
     }
 
     /// Opens a link: its number, unless the node refuses it.
-    pub(crate) fn open<R: Wait>(&mut self, rt: &R, node: &Node, event: Event) -> Option<u32> {
-        match self.reader.call(node, rt, event) {
-            Ok(Reply::Link(link)) => Some(*link),
-            _ => None,
-        }
+    pub(crate) fn open<R: Wait>(&mut self, rt: &R, node: &Node, event: Event) -> Option<u32>
+        requires opening { IsOpening event }
+        ensures { IfSome result (Contains (own_links self.new.reader.calls)) }
+    {
+        open_link(&mut self.reader, rt, node, event)
     }
 
     /// Serves a link that it has opened, until it ends.
@@ -78,6 +102,7 @@ impl Lane {
         R: Threads + Wait + Sync,
         I: Read + Drop,
         W: LinkOut + Send + Drop,
+        requires own { Contains (own_links self.reader.calls) link }
     {
         let Lane {
             reader,
@@ -91,6 +116,17 @@ impl Lane {
             writer,
             source,
         }
+    }
+}
+
+/// Calls an event that opens a link: its number, unless the node refuses it.
+fn open_link<R: Wait>(pass: &mut Pass, rt: &R, node: &Node, event: Event) -> Option<u32>
+    requires opening { IsOpening event }
+    ensures { Opens result pass.old pass.new }
+{
+    match pass.call(node, rt, event) {
+        Ok(Reply::Link(link)) => Some(*link),
+        _ => None,
     }
 }
 

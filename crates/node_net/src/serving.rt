@@ -1,4 +1,7 @@
 //! One link over a socket.
+ghost use Rattle.std.specs.Prelude.{IfOk};
+ghost use Rattle.node_net.specs.LaneCalls.{IsOpening};
+
 use crate::guard::ReflectionGuard;
 use crate::input::{LinkInput, Stage};
 use crate::lane::Lane;
@@ -22,7 +25,9 @@ pub(crate) enum Opener<'a> {
 }
 
 impl Opener<'_> {
-    fn event(&self, alloc: Global, challenge: u32) -> Result<Event, OutOfMemory> {
+    fn event(&self, alloc: Global, challenge: u32) -> Result<Event, OutOfMemory>
+        ensures { IfOk result IsOpening }
+    {
         Ok(match self {
             Opener::Peer => Event::Opened(challenge),
             Opener::Own(peer) => Event::Dial(peer.try_clone(alloc)?, challenge),
