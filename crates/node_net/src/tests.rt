@@ -121,22 +121,33 @@ fn join<R: Wait + Sync>(rt: &R, alloc: Global, site: &mut Site) -> Result<(), Fa
     Ok(())
 }
 
+/// How many processes a reply lists.
+fn pids_in(reply: &Reply) -> usize {
+    match reply {
+        Reply::Pids(pids) => pids.as_slice().len(),
+        _ => 0,
+    }
+}
+
 /// How many members a node sees, once there are two; else in the end.
 fn members<R: Wait + Clock>(rt: &R, alloc: Global, node: &Node) -> usize {
-    let (Ok(scope), Ok(group)) = (Scope::parse(alloc, b"pg"), Group::parse(alloc, b"g")) else {
+    let Ok(scope) = Scope::parse(alloc, b"pg") else {
+        return 0;
+    };
+    let Ok(group) = Group::parse(alloc, b"g") else {
         return 0;
     };
     let mut seen = 0;
     for _ in 0..PATIENCE {
         let shared = node.shared.lock(rt);
-        seen = match shared
+        let reply = shared
             .core()
-            .look(&scope, node_core::Query::Members(&group))
-        {
-            Ok(Reply::Pids(pids)) => pids.as_slice().len(),
-            _ => 0,
-        };
+            .look(&scope, node_core::Query::Members(&group));
         drop(shared);
+        seen = match reply {
+            Ok(reply) => pids_in(&reply),
+            Err(_) => 0,
+        };
         if seen == 2 {
             return 2;
         }
@@ -194,8 +205,10 @@ fn challenged(stream: &mut TcpStream) -> Option<u32> {
 
 /// Comes up as c@h with the challenge 5.
 fn come_up(alloc: Global, stream: &mut TcpStream) -> bool {
-    let (Some(challenge), Ok(cookie)) = (challenged(stream), Cookie::parse(alloc, b"password"))
-    else {
+    let Some(challenge) = challenged(stream) else {
+        return false;
+    };
+    let Ok(cookie) = Cookie::parse(alloc, b"password") else {
         return false;
     };
     let mut reply = [0u8; 23];
