@@ -13,6 +13,7 @@ use Rattle.link_frames.specs.declared.fault.FeedFault.{FeedFault}
 use Rattle.link_frames.specs.declared.fault.FeedFault.TheVariants as faults
 use Rattle.link_frames.specs.Stream.{SplitsLink}
 use Rattle.link_frames.proofs.LinkLemmas.{goes_on as link_goes_on, IsRest-empty}
+use Rattle.policy_audit.specs.declared.entry.Verdict.TheVariants.{Refused}
 use Rattle.policy_audit.specs.declared.event.Event.TheVariants.{Frame}
 use Rattle.node_threads.specs.declared.cutter.Cutter.{Cutter}
 use Rattle.node_threads.specs.declared.cutter.Cutter.TheVariants.{Handshake, Messages}
@@ -22,7 +23,8 @@ use Rattle.node_threads.specs.declared.pass.Call.{Call}
 use Rattle.node_threads.specs.Calls.{Record, Gains, is_up}
 use Rattle.node_threads.specs.Cutting.{is_done, CutsOff}
 use Rattle.node_threads.specs.Ends.{rule_of, read_end_of_feed}
-use Rattle.node_threads.specs.Reading.{AreFrames, OfHandshake, IsRead, Moves, ReadsOn, IsAnswerOf, Stops, Gave, ReadsTo, ReadsAs}
+use Rattle.node_threads.specs.Reading.{AreFrames, OfHandshake, IsRead, Moves, ReadsOn, LastIs, IsAnswerOf, Stops, Gave, ReadsTo, ReadsAs}
+use Rattle.node_threads.specs.Retreat.{MayLose}
 use Rattle.node_threads.proofs.Answered.{gains_none, gains_more}
 
 frames_more : (link : ℕ) (bodies others : List (List ℕ)) (calls more : List Call) → AreFrames link bodies calls → AreFrames link others more → AreFrames link (bodies ++ others) (calls ++ more)
@@ -271,4 +273,21 @@ reads_unlost link p p' bytes end reads = record {
   gains = rw (append-nil reads.frames) reads.gains;
   answer = IfSome_then (rule_of end) reads.answer (λ rule last. (refl, last));
   closed = reads.closed;
+}
+
+-- a Lost was called, and may be an entry
+pub reads_lost : (link : ℕ) (p mid p' : Record) (bytes : List ℕ) (end after : ReadEnd) → rule_of after ≡ None → (after ≡ ends.Closed → end ≡ ends.Closed) → ReadsTo link p bytes end mid → MayLose link mid p'
+    → ReadsAs link p bytes after p'
+reads_lost link p mid p' bytes end after none same reads lost = record {
+  used = reads.used;
+  unused = reads.unused;
+  frames = reads.frames;
+  lost = lost.0;
+  cutter = reads.cutter;
+  whole = reads.whole;
+  read = reads.read;
+  at_most = lost.1;
+  gains = gains_more p mid p' reads.frames lost.0 reads.gains lost.2;
+  answer = subst (λ o. IfSome o (λ rule. (lost.0 ≡ []) × LastIs (Refused rule) reads.frames)) (sym none) tt;
+  closed = λ q. reads.closed (same q);
 }

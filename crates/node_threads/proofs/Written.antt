@@ -6,9 +6,11 @@ use Rattle.std.specs.Option.{option_to_list}
 use Rattle.std.proofs.KnownBytes.{Appends-nil, Appends-trans, Appends-kept}
 use Rattle.std.proofs.lemmas.Grind.{flat_map-append}
 use Rattle.std.proofs.lemmas.List.Elements.{All-nil, All-cons, All-append}
+use Rattle.policy_audit.specs.OutFrame.{OutFrame}
 use Rattle.policy_audit.specs.Wire.{wire_bytes}
 use Rattle.policy_audit.specs.declared.event.Event.TheVariants.{Take}
 use Rattle.policy_audit.specs.declared.reply.Reply.{Reply}
+use Rattle.policy_audit.specs.declared.reply.Reply.TheVariants.{Out}
 use Rattle.node_core.specs.declared.fault.CoreFault.TheVariants.{Refused, OutOfMemory}
 use Rattle.node_threads.specs.declared.fault.CallFault.{CallFault}
 use Rattle.node_threads.specs.declared.fault.CallFault.TheVariants.{StrangePass, Core}
@@ -70,6 +72,14 @@ module _ (link : ℕ) (p p' : Record) where
   took_unwritten reply end known known' other called =
       let a = accepted p p' (Take link) reply called in
       (Some a.0, a.3, a.1, λ q. absurd (other q))
+
+  -- frames were answered, and written
+  pub took_written : (frames : List OutFrame) (bytes : List ℕ) (known known' : Option (List ℕ)) → bytes ≡ flat_map wire_bytes frames → Appends known known' bytes → Called p (Take link) (Ok (Out frames)) p'
+      → Took link p known (Ok tt) known' p'
+  took_written frames bytes known known' are written called =
+      let a = accepted p p' (Take link) (Out frames) called in
+      let all : bytes ≡ flat_map wire_bytes (frames ++ []) = rw (append-nil frames) are in
+      (a.0, a.1, a.3, subst (λ v. Appends known known' (flat_map wire_bytes (frames_in v ++ []))) (sym a.2) (subst (λ bs. Appends known known' bs) all written))
 
   -- there was no answer, and nothing was written
   pub took_end : (fault : CallFault) (end : WriteEnd) (known : Option (List ℕ)) → TakeEnd fault end → Called p (Take link) (Err fault) p' → Took link p known (Err end) known p'

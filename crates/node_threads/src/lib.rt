@@ -27,6 +27,12 @@ pub use shared::Shared;
 pub use writing::write_link;
 
 #[cfg(test)]
+mod close_tests;
+#[cfg(test)]
+mod memory_tests;
+#[cfg(test)]
+mod retreat_tests;
+#[cfg(test)]
 mod tests;
 #[cfg(test)]
 mod worker_tests;

@@ -1,5 +1,4 @@
-//! Callers on threads of their own, and nodes that aren't closed. What can't be played for want of memory is None; the
-//! assertions stand in the tests.
+//! Callers on threads of their own. What can't be played for want of memory is None; the assertions stand in the tests.
 use super::*;
 use dist_types::{Cookie, Group, Items, NodeName, OutOfMemory, Pid, Pids, Scope, TryClone};
 use node_core::CoreFault;
@@ -11,11 +10,11 @@ use std::thread;
 use std::thread::Threads;
 
 // What reads a text has no contract, so that a check doesn't compute with the text.
-fn name_of(alloc: Global, text: &[u8]) -> Option<NodeName> {
+pub(super) fn name_of(alloc: Global, text: &[u8]) -> Option<NodeName> {
     NodeName::parse(alloc, text).ok()
 }
 
-fn cookie_of(alloc: Global, text: &[u8]) -> Option<Cookie> {
+pub(super) fn cookie_of(alloc: Global, text: &[u8]) -> Option<Cookie> {
     Cookie::parse(alloc, text).ok()
 }
 
@@ -27,7 +26,7 @@ fn group_of(alloc: Global, text: &[u8]) -> Option<Group> {
     Group::parse(alloc, text).ok()
 }
 
-fn opening(alloc: Global, entries: u32) -> Option<Opening> {
+pub(super) fn opening(alloc: Global, entries: u32) -> Option<Opening> {
     let name = name_of(alloc, b"a@h")?;
     let cookie = cookie_of(alloc, b"password")?;
     Some(Opening {
@@ -39,12 +38,12 @@ fn opening(alloc: Global, entries: u32) -> Option<Opening> {
     })
 }
 
-fn new_node(alloc: Global, entries: u32, seats: u32) -> Option<(Node, Vec<Pass>)> {
+pub(super) fn new_node(alloc: Global, entries: u32, seats: u32) -> Option<(Node, Vec<Pass>)> {
     Node::new(alloc, opening(alloc, entries)?, seats).ok()
 }
 
 /// How many entries a node has that these passes close.
-fn closed(node: Node, passes: Vec<Pass>) -> Option<usize> {
+pub(super) fn closed(node: Node, passes: Vec<Pass>) -> Option<usize> {
     entries_of(&node.close(passes))
 }
 
@@ -55,9 +54,23 @@ fn entries_of(end: &Result<Closed, CloseFault>) -> Option<usize> {
     }
 }
 
+// What calls has no contract and is given the event, so that a check doesn't compute the policy's verdict on it.
+pub(super) fn is_done<R: Wait>(rt: &R, node: &Node, pass: &mut Pass, event: Event) -> bool {
+    pass.call(node, rt, event).is_ok()
+}
+
+pub(super) fn fault_of<R: Wait>(
+    rt: &R,
+    node: &Node,
+    pass: &mut Pass,
+    event: Event,
+) -> Option<CallFault> {
+    pass.call(node, rt, event).err()
+}
+
 /// A process of the node, and the group that it joins.
 #[derive(Drop)]
-struct Member {
+pub(super) struct Member {
     alloc: Global,
     scope: Scope,
     group: Group,
@@ -74,7 +87,7 @@ fn pid_of(alloc: Global, number: u64) -> Option<Pid> {
 }
 
 /// The process of that number, and the group `g` of the scope `pg`.
-fn member_of(alloc: Global, number: u64) -> Option<Member> {
+pub(super) fn member_of(alloc: Global, number: u64) -> Option<Member> {
     let scope = scope_of(alloc, b"pg")?;
     let group = group_of(alloc, b"g")?;
     let pid = pid_of(alloc, number)?;
@@ -88,7 +101,7 @@ fn member_of(alloc: Global, number: u64) -> Option<Member> {
 
 /// What a member asks for.
 #[derive(Clone, Copy)]
-enum Ask {
+pub(super) enum Ask {
     Start,
     Spawn,
     Join,
@@ -150,7 +163,7 @@ fn asked(ask: Ask, place: Place) -> Event {
 }
 
 #[derive(Clone, Copy, Debug, PartialEq, Eq)]
-enum Told {
+pub(super) enum Told {
     Done,
     Member,
     NoMember,
@@ -171,12 +184,12 @@ fn told_of(fault: CallFault) -> Told {
 
 /// Who takes the lock.
 #[derive(Clone, Copy)]
-enum Way {
+pub(super) enum Way {
     Call,
     Lock,
 }
 
-fn ask_for<R: Wait>(
+pub(super) fn ask_for<R: Wait>(
     rt: &R,
     node: &Node,
     pass: &mut Pass,
@@ -369,11 +382,16 @@ fn wrong_in_a_round<R: Wait>(rt: &R, node: &Node, pass: &mut Pass, member: &Memb
 
 /// A new process of the seat.
 fn spawned<R: Wait>(rt: &R, alloc: Global, node: &Node, pass: &mut Pass) -> Option<Member> {
-    let number = match pass.call(node, rt, Event::Spawn) {
-        Ok(reply) => number_of(reply)?,
-        Err(_) => return None,
-    };
+    let number = new_number(rt, node, pass, Event::Spawn)?;
     member_of(alloc, number)
+}
+
+/// The number of the process that the event makes.
+fn new_number<R: Wait>(rt: &R, node: &Node, pass: &mut Pass, event: Event) -> Option<u64> {
+    match pass.call(node, rt, event) {
+        Ok(reply) => number_of(reply),
+        Err(_) => None,
+    }
 }
 
 fn number_of(reply: &Reply) -> Option<u64> {
@@ -437,15 +455,11 @@ fn start_and_work<R: Threads + Wait + Sync>(
     rounds: u32,
 ) -> Option<u64> {
     let scope = scope_of(alloc, b"pg")?;
-    if starts(rt, node, passes.first_mut()?, scope) {
+    if is_done(rt, node, passes.first_mut()?, Event::StartScope(scope)) {
         Some(work_all(rt, alloc, node, passes, rounds))
     } else {
         None
     }
-}
-
-fn starts<R: Wait>(rt: &R, node: &Node, pass: &mut Pass, scope: Scope) -> bool {
-    pass.call(node, rt, Event::StartScope(scope)).is_ok()
 }
 
 #[test]
@@ -456,217 +470,4 @@ fn sixteen_seats_on_four_threads(rt: HostRuntime) {
         entries: 1 + 16 + 16 * 10_000,
     };
     assert_eq!(rt; crowd(&rt, rt.alloc(), 2_500), Some(wanted));
-}
-
-/// Two seats: the pass of seat 0 alone, and then both.
-fn lacks_a_pass(alloc: Global) -> Option<CloseRule> {
-    let (node, mut passes) = new_node(alloc, 100, 2)?;
-    let second = passes.pop()?;
-    match node.close(passes) {
-        Err(fault) => closed_with(fault, second),
-        Ok(_) => None,
-    }
-}
-
-/// Why a node wasn't closed; with one pass more it is.
-fn closed_with(fault: CloseFault, pass: Pass) -> Option<CloseRule> {
-    let CloseFault {
-        rule,
-        node,
-        mut passes,
-    } = fault;
-    passes.push(pass).ok()?;
-    closed(node, passes)?;
-    Some(rule)
-}
-
-/// A pass that has spawned a process on a node of its own.
-fn stranger<R: Wait>(rt: &R, alloc: Global) -> Option<Pass> {
-    let (node, mut passes) = new_node(alloc, 100, 1)?;
-    if !spawns(rt, &node, passes.first_mut()?) {
-        return None;
-    }
-    passes.pop()
-}
-
-fn spawns<R: Wait>(rt: &R, node: &Node, pass: &mut Pass) -> bool {
-    pass.call(node, rt, Event::Spawn).is_ok()
-}
-
-/// What a strange pass is told by a new node, and why the node isn't closed with both passes, nor with the strange one.
-#[derive(Clone, Copy, Debug, PartialEq, Eq)]
-struct Meeting {
-    told: Option<CallFault>,
-    both: CloseRule,
-    strange: CloseRule,
-}
-
-fn meets_a_stranger<R: Wait>(rt: &R, alloc: Global) -> Option<Meeting> {
-    let mut strange = stranger(rt, alloc)?;
-    let (node, mut passes) = new_node(alloc, 100, 1)?;
-    let told = strange.call(&node, rt, Event::Spawn).err();
-    passes.push(strange).ok()?;
-    match node.close(passes) {
-        Err(fault) => met(told, fault),
-        Ok(_) => None,
-    }
-}
-
-/// Takes the own pass away, and puts it back for the strange one.
-fn met(told: Option<CallFault>, fault: CloseFault) -> Option<Meeting> {
-    let CloseFault {
-        rule: both,
-        node,
-        mut passes,
-    } = fault;
-    let strange = passes.pop()?;
-    let own = passes.pop()?;
-    passes.push(strange).ok()?;
-    let strange = match node.close(passes) {
-        Err(fault) => alone(fault, own)?,
-        Ok(_) => return None,
-    };
-    Some(Meeting {
-        told,
-        both,
-        strange,
-    })
-}
-
-/// Why a node wasn't closed; with this pass alone it is.
-fn alone(fault: CloseFault, pass: Pass) -> Option<CloseRule> {
-    let CloseFault {
-        rule,
-        node,
-        mut passes,
-    } = fault;
-    passes.clear();
-    passes.push(pass).ok()?;
-    closed(node, passes)?;
-    Some(rule)
-}
-
-#[test]
-fn close_refusals(rt: HostRuntime) {
-    let alloc: Global = rt.alloc();
-    assert_eq!(rt; lacks_a_pass(alloc), Some(CloseRule::MissingPass));
-    let wanted = Meeting {
-        told: Some(CallFault::StrangePass),
-        both: CloseRule::DoublePass,
-        strange: CloseRule::Mismatch,
-    };
-    assert_eq!(rt; meets_a_stranger(&rt, alloc), Some(wanted));
-}
-
-/// A node of that many seats and entries, and why there is none.
-#[derive(Clone, Copy)]
-struct Refused {
-    seats: u32,
-    entries: u32,
-    fault: NewFault,
-}
-
-const REFUSED: [Refused; 4] = [
-    Refused {
-        seats: 0,
-        entries: 100,
-        fault: NewFault::BadSeats,
-    },
-    Refused {
-        seats: 257,
-        entries: 100,
-        fault: NewFault::BadSeats,
-    },
-    Refused {
-        seats: 0,
-        entries: 0,
-        fault: NewFault::BadSeats,
-    },
-    Refused {
-        seats: 1,
-        entries: 0,
-        fault: NewFault::BadLimit,
-    },
-];
-
-fn opens(alloc: Global, seats: u32) -> bool {
-    new_node(alloc, 1, seats).is_some()
-}
-
-/// Why there is no node of that many seats and entries.
-fn refused_node(alloc: Global, seats: u32, entries: u32) -> Option<NewFault> {
-    Node::new(alloc, opening(alloc, entries)?, seats).err()
-}
-
-#[test]
-fn refuses_seats_and_limits(rt: HostRuntime) {
-    let alloc: Global = rt.alloc();
-    for row in REFUSED {
-        let fault = refused_node(alloc, row.seats, row.entries);
-        assert_eq!(rt;
-            fault,
-            Some(row.fault),
-            "{} seats, {} entries",
-            row.seats,
-            row.entries
-        );
-    }
-    assert!(rt; opens(alloc, 256));
-}
-
-/// How many calls the pass has, and how many entries the node.
-fn sizes<R: Wait>(rt: &R, node: &Node, pass: &Pass) -> (usize, usize) {
-    let shared = node.shared.lock(rt);
-    let entries = shared.core().audit().len();
-    drop(shared);
-    (pass.calls().len(), entries)
-}
-
-/// Asks until there is memory, and tells whether want of it changed anything.
-fn insist<R: Wait>(
-    rt: &R,
-    node: &Node,
-    pass: &mut Pass,
-    member: &Member,
-    way: Way,
-    what: Ask,
-) -> bool {
-    for _ in 0..4 {
-        let before = sizes(rt, node, pass);
-        let told = ask_for(rt, node, pass, member, way, what);
-        if told != Told::NoMemory {
-            return told != Told::Strange;
-        }
-        if sizes(rt, node, pass) != before {
-            return false;
-        }
-    }
-    false
-}
-
-/// Whether want of memory changed nothing, at one event of each kind.
-fn insist_on_all<R: Wait>(rt: &R, alloc: Global, node: &Node, pass: &mut Pass) -> Option<bool> {
-    let member = member_of(alloc, 1)?;
-    for way in [Way::Call, Way::Lock] {
-        for what in [Ask::Start, Ask::Spawn, Ask::Join, Ask::Members, Ask::Leave] {
-            if !insist(rt, node, pass, &member, way, what) {
-                return Some(false);
-            }
-        }
-    }
-    Some(true)
-}
-
-/// How many entries a node has after one event of each kind, whatever allocation is refused.
-fn insisted<R: Wait>(rt: &R, alloc: Global) -> Option<(bool, usize)> {
-    let (node, mut passes) = new_node(alloc, 100, 1)?;
-    let same = insist_on_all(rt, alloc, &node, passes.first_mut()?);
-    let entries = closed(node, passes);
-    Some((same?, entries?))
-}
-
-/// To be run with each allocation refused in turn: `rt try --test --fail-alloc N`.
-#[test]
-fn want_of_memory_changes_nothing(rt: HostRuntime) {
-    assert_eq!(rt; insisted(&rt, rt.alloc()), Some((true, 10)));
 }

@@ -1,8 +1,7 @@
 //! The workers of a link over bytes in memory: the name frame and the reply of a@h, and what b@h owes to them.
+use super::tests::{closed, cookie_of, is_done, name_of};
 use super::*;
-use dist_types::{Cookie, NodeName};
-use node_core::CoreFault;
-use policy_audit::{Event, Opening, Reply, Rule};
+use policy_audit::{Event, Opening, Reply};
 use std::alloc::Global;
 use std::io;
 use std::io::{ErrorKind, Read, Write};
@@ -183,15 +182,6 @@ impl Gate for Holding<'_> {
     fn answered(&self, _link: u32) {}
 }
 
-// What reads a text has no contract, so that a check doesn't compute with the text.
-fn name_of(alloc: Global, text: &[u8]) -> Option<NodeName> {
-    NodeName::parse(alloc, text).ok()
-}
-
-fn cookie_of(alloc: Global, text: &[u8]) -> Option<Cookie> {
-    Cookie::parse(alloc, text).ok()
-}
-
 fn opening(alloc: Global, entries: u32) -> Option<Opening> {
     let name = name_of(alloc, b"b@h")?;
     let cookie = cookie_of(alloc, b"password")?;
@@ -207,18 +197,16 @@ fn opening(alloc: Global, entries: u32) -> Option<Opening> {
 /// The node b@h with link 1 open, the pass of its reader, and that of its writer.
 fn with_link<R: Wait>(rt: &R, alloc: Global, entries: u32) -> Option<(Node, Vec<Pass>)> {
     let (node, mut passes) = Node::new(alloc, opening(alloc, entries)?, 2).ok()?;
-    if opens_link(rt, &node, passes.first_mut()?) {
+    if opens_link(rt, &node, passes.first_mut()?, Event::Opened(123)) {
         Some((node, passes))
     } else {
         None
     }
 }
 
-fn opens_link<R: Wait>(rt: &R, node: &Node, reader: &mut Pass) -> bool {
-    matches!(
-        reader.call(node, rt, Event::Opened(123)),
-        Ok(Reply::Link(1))
-    )
+// What calls has no contract and is given the event, so that a check doesn't compute the policy's verdict on it.
+fn opens_link<R: Wait>(rt: &R, node: &Node, reader: &mut Pass, event: Event) -> bool {
+    matches!(reader.call(node, rt, event), Ok(Reply::Link(1)))
 }
 
 /// How many frames and how many losses a pass has called behind its first entry, if it has called nothing else.
@@ -243,18 +231,6 @@ fn is_frame(event: &Event) -> bool {
 
 fn is_loss(event: &Event) -> bool {
     matches!(event, Event::Lost(1))
-}
-
-/// Closes the node, and tells how many entries it has.
-fn closed(node: Node, passes: Vec<Pass>) -> Option<usize> {
-    entries_of(&node.close(passes))
-}
-
-fn entries_of(end: &Result<Closed, CloseFault>) -> Option<usize> {
-    match end {
-        Ok(closed) => Some(closed.core.audit().len()),
-        Err(_) => None,
-    }
 }
 
 /// Why a reader stopped, and what its pass has called.
@@ -371,16 +347,12 @@ fn after_loss<R: Wait>(rt: &R, alloc: Global) -> Option<Late> {
 
 /// Loses the link by the pass of its writer, and runs both workers.
 fn work_late<R: Wait>(rt: &R, alloc: Global, node: &Node, passes: &mut [Pass]) -> Option<Late> {
-    if !loses(rt, node, passes.last_mut()?) {
+    if !is_done(rt, node, passes.last_mut()?, Event::Lost(1)) {
         return None;
     }
     let read = read_by(rt, alloc, node, passes.first_mut()?, &mut Sent::by(4096))?;
     let written = write_by(rt, alloc, node, passes.last_mut()?);
     Some(Late { read, written })
-}
-
-fn loses<R: Wait>(rt: &R, node: &Node, writer: &mut Pass) -> bool {
-    writer.call(node, rt, Event::Lost(1)).is_ok()
 }
 
 fn write_by<R: Wait>(rt: &R, alloc: Global, node: &Node, writer: &mut Pass) -> Stop {
@@ -407,55 +379,6 @@ fn a_link_that_was_lost_is_gone(rt: HostRuntime) {
         },
     };
     assert_eq!(rt; after_loss(&rt, rt.alloc()), Some(wanted));
-}
-
-/// What follows on that fault.
-fn next(retreat: &mut Retreat, fault: CallFault) -> RetreatStep {
-    retreat.next(&Err(fault))
-}
-
-/// An answer to a Lost, and what follows on it.
-#[derive(Clone, Copy)]
-struct Answer {
-    fault: CallFault,
-    step: RetreatStep,
-}
-
-/// The answers behind 63 wants of memory.
-const ANSWERS: [Answer; 5] = [
-    Answer {
-        fault: CallFault::Core(CoreFault::Refused(Rule::EntriesFull)),
-        step: RetreatStep::Full,
-    },
-    Answer {
-        fault: CallFault::Core(CoreFault::Refused(Rule::NoSuchLink)),
-        step: RetreatStep::Settled,
-    },
-    Answer {
-        fault: CallFault::StrangePass,
-        step: RetreatStep::Settled,
-    },
-    Answer {
-        fault: CallFault::Core(CoreFault::OutOfMemory),
-        step: RetreatStep::Stuck,
-    },
-    Answer {
-        fault: CallFault::Core(CoreFault::OutOfMemory),
-        step: RetreatStep::Stuck,
-    },
-];
-
-#[test]
-fn a_retreat_ends_at_the_64th_want(rt: HostRuntime) {
-    let mut retreat = Retreat::new();
-    for want in 1..64u32 {
-        let step = next(&mut retreat, CallFault::Core(CoreFault::OutOfMemory));
-        assert_eq!(rt; step, RetreatStep::Again, "want {want}");
-    }
-    assert_eq!(rt; retreat.next(&Ok(&Reply::Done)), RetreatStep::Settled);
-    for answer in ANSWERS {
-        assert_eq!(rt; next(&mut retreat, answer.fault), answer.step);
-    }
 }
 
 /// Why both workers stopped.

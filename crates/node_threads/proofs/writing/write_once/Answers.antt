@@ -1,6 +1,12 @@
+use Rattle.std.proofs.Common.{rules}
 use Rattle.node_threads.specs.declared.ends.WriteEnd.TheVariants as ends
-use Rattle.node_threads.proofs.Written.{took_unwritten, took_end}
+use Rattle.node_threads.proofs.Written.{took_written, took_unwritten, took_end}
 use Rattle.node_threads.proofs.writing.write_once.Goals as goal
+
+pub returns : goal.returns
+returns g c =
+    took_written c.args.link c.args.pass.now c.call.follows.lender-at-none c.in-Ok-Out.frames c.in-Ok-wire.bytes.items (g.W.Write.contents c.args.output.now) (g.W.Write.contents c.write_all.new.self)
+    (cc (c.in-Ok-wire.ensures, c.as_slice.ensures)) (search rules) (rw (c.in-Ok-Out.is, c.in-Ok-Out.field-0-is) at c.call.follows.holds-at-none)
 
 pub returns-in-Err : goal.returns-in-Err
 returns-in-Err g c =
