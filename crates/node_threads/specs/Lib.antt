@@ -10,3 +10,4 @@ pub mod Retreat
 pub mod Reading
 pub mod Writing
 pub mod Serving
+pub mod Accepting

@@ -2,6 +2,7 @@
 //! link.
 #![tactic(auto)]
 
+mod accepting;
 mod call;
 mod close;
 mod cutter;
@@ -15,6 +16,7 @@ mod serving;
 mod shared;
 mod writing;
 
+pub use accepting::{AcceptEnd, Accepted, Door, Pair, accept_links};
 pub use close::{CloseFault, CloseRule, Closed};
 pub use ends::{Gate, LinkOut, ReadEnd, WriteEnd};
 pub use fault::{CallFault, NewFault};
@@ -26,6 +28,8 @@ pub use serving::{Served, serve_link};
 pub use shared::Shared;
 pub use writing::write_link;
 
+#[cfg(test)]
+mod accepting_tests;
 #[cfg(test)]
 mod close_tests;
 #[cfg(test)]

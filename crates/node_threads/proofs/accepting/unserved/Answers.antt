@@ -1,0 +1,5 @@
+use Rattle.node_threads.proofs.Pairs.{none_served}
+use Rattle.node_threads.proofs.accepting.unserved.Goals as goal
+
+pub returns-clause-served : goal.returns-clause-served
+returns-clause-served c = none_served c.args.pairs.items
