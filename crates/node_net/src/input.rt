@@ -9,11 +9,14 @@ use std::net::TcpStream;
 use std::sync::Wait;
 use std::time::{Clock, Duration, Instant};
 
+/// After so many bytes of a handshake no more are read: a whole one has some hundreds, and the audit keeps what came.
+const LONGEST_HANDSHAKE: usize = 1_024;
+
 /// How far a link is.
 #[derive(Drop)]
 pub(crate) enum Stage {
-    /// Begun then; a link that this node has dialled is guarded.
-    Handshake(Instant, Option<ReflectionGuard>),
+    /// Begun then, and so many bytes have come; a link that this node has dialled is guarded.
+    Handshake(Instant, usize, Option<ReflectionGuard>),
     /// Nothing has come for so many pulses.
     Up(u32),
 }
@@ -34,7 +37,7 @@ pub(crate) struct LinkInput<'a, R: Wait + Clock> {
 impl<R: Wait + Clock> LinkInput<'_, R> {
     /// Sets how long the next read may wait.
     fn limit(&mut self) -> io::Result<()> {
-        let Stage::Handshake(start, guard) = &self.stage else {
+        let Stage::Handshake(start, heard, guard) = &self.stage else {
             return Ok(());
         };
         if self.node.shared.lock(self.rt).core().is_up(self.link) {
@@ -45,6 +48,9 @@ impl<R: Wait + Clock> LinkInput<'_, R> {
             return self
                 .stream
                 .set_read_timeout(Some(self.lanes.limits().pulse()));
+        }
+        if *heard > LONGEST_HANDSHAKE {
+            return Err(io::Error::from(ErrorKind::InvalidData));
         }
         let left = self
             .lanes
@@ -60,15 +66,20 @@ impl<R: Wait + Clock> LinkInput<'_, R> {
     /// Looks at what has come, before it is handed in.
     fn look(&mut self, piece: &[u8]) -> io::Result<()> {
         match &mut self.stage {
-            Stage::Handshake(_, Some(guard)) => match guard.finds(self.rt, self.lanes, piece) {
-                Ok(false) => Ok(()),
-                Ok(true) => {
-                    self.lanes.count_reflection();
-                    Err(io::Error::from(ErrorKind::PermissionDenied))
+            Stage::Handshake(_, heard, guard) => {
+                *heard = heard.saturating_add(piece.len());
+                let Some(guard) = guard else {
+                    return Ok(());
+                };
+                match guard.finds(self.rt, self.lanes, piece) {
+                    Ok(false) => Ok(()),
+                    Ok(true) => {
+                        self.lanes.count_reflection();
+                        Err(io::Error::from(ErrorKind::PermissionDenied))
+                    }
+                    Err(_) => Err(io::Error::from(ErrorKind::OutOfMemory)),
                 }
-                Err(_) => Err(io::Error::from(ErrorKind::OutOfMemory)),
-            },
-            Stage::Handshake(_, None) => Ok(()),
+            }
             Stage::Up(silent) => {
                 *silent = 0;
                 Ok(())

@@ -90,7 +90,7 @@ fn serve_entered<R: Threads + Wait + Clock + Sync>(
         link,
         stream,
         outlet: &outlet,
-        stage: Stage::Handshake(start, opener.guard(alloc)),
+        stage: Stage::Handshake(start, 0, opener.guard(alloc)),
     };
     let output = LinkOutput {
         rt,
