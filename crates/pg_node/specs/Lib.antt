@@ -1,0 +1,5 @@
+pub mod Asked
+pub mod Processes
+pub mod Calls
+pub mod Outcomes
+pub mod Answers

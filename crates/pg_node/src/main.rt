@@ -1,0 +1,144 @@
+//! A node of process groups, linked with others over TCP, that plays commands from standard input and from a control socket.
+#![tactic(auto)]
+
+mod audit_file;
+mod caller;
+mod connection;
+mod control;
+mod hub;
+mod life;
+mod lines;
+mod news;
+mod operator;
+mod options;
+mod processes;
+mod reading;
+mod request;
+mod run;
+mod session;
+mod settings;
+mod turn;
+mod watch;
+
+use clap::ArgMatches;
+use clap::error::{Error as LineError, ErrorKind as LineFault};
+use lines::{LineQueue, read_input};
+use options::{Fault, Options, command, read_options};
+use rand_chacha::ChaCha20Rng;
+use run::run;
+use std::alloc::{AllocError, Global};
+use std::fs::Files;
+use std::io::ErrorKind;
+use std::net::Net;
+use std::process::ExitCode;
+use std::random::RandomSource;
+use std::sync::Arc;
+use std::thread;
+
+const OUT_OF_MEMORY: &str = "error: out of memory";
+
+/// Status 0 at the end of standard input or at `quit`, 1 at a fault of a file, a socket or standard output, or for want of memory,
+/// 2 at one of the command line.
+fn main(rt: HostRuntime) -> ExitCode {
+    let alloc = rt.alloc();
+    let words = match std::env::args(&rt) {
+        Ok(words) => words.collect(alloc),
+        Err(error) if error.kind() == ErrorKind::InvalidData => {
+            return failed(
+                &rt,
+                2,
+                "error: the command line has a word that is not UTF-8",
+            );
+        }
+        Err(_) => return failed(&rt, 1, OUT_OF_MEMORY),
+    };
+    let words: Vec<String> = match words {
+        Ok(words) => words,
+        Err(_) => return failed(&rt, 1, OUT_OF_MEMORY),
+    };
+    let Ok(command) = command(alloc) else {
+        return failed(&rt, 1, OUT_OF_MEMORY);
+    };
+    let matches = match command.try_get_matches_from(words.as_slice()) {
+        Ok(matches) => matches,
+        Err(error) => return unmatched(&rt, &error),
+    };
+    let (options, source) = match prepare(&rt, alloc, &matches) {
+        Ok(prepared) => prepared,
+        Err(fault) => return told(&rt, fault.status, &fault.reason),
+    };
+    let Ok(lines) = Arc::new(alloc, LineQueue::new(alloc)) else {
+        return failed(&rt, 1, OUT_OF_MEMORY);
+    };
+    let Ok(theirs) = Arc::try_clone(&lines) else {
+        return failed(&rt, 1, OUT_OF_MEMORY);
+    };
+    // Nothing can end a read of standard input, so its thread may outlive the run, and isn't joined.
+    let own = rt;
+    if thread::spawn(&rt, move || read_input(&own, alloc, &theirs)).is_err() {
+        return failed(&rt, 1, "error: no thread can be made");
+    }
+    match run(&rt, alloc, options, source, &lines) {
+        Ok(()) => ExitCode::SUCCESS,
+        Err(reason) => told(&rt, 1, &reason),
+    }
+}
+
+/// The options, and a generator that nobody can foresee.
+fn prepare<'a, R: RandomSource + Files + Net>(
+    rt: &R,
+    alloc: Global,
+    matches: &ArgMatches<'a>,
+) -> Result<(Options<'a>, ChaCha20Rng), Fault> {
+    let mut source: ChaCha20Rng = match rand::make_rng(rt) {
+        Ok(source) => source,
+        Err(error) => return Err(Fault::of_system(error)),
+    };
+    let options = read_options(rt, alloc, &mut source, matches)?;
+    Ok((options, source))
+}
+
+/// Ends a program whose command line has no matches: it is refused, or it asks for a text, as `--help` does.
+fn unmatched<R: AllocGlobal + Print + Eprint>(rt: &R, error: &LineError) -> ExitCode {
+    if error.kind() == LineFault::OutOfMemory {
+        return failed(rt, 1, OUT_OF_MEMORY);
+    }
+    if error.use_stderr() {
+        return match refusal(rt.alloc(), error) {
+            Ok(line) => failed(rt, 2, line.as_str()),
+            Err(_) => failed(rt, 1, OUT_OF_MEMORY),
+        };
+    }
+    match error.print(rt) {
+        Ok(()) => ExitCode::SUCCESS,
+        Err(_) => failed(rt, 1, "error: standard output can't be written"),
+    }
+}
+
+/// What the parser of the command line says, as one line: its first paragraph, which names the words at fault.
+fn refusal(alloc: Global, error: &LineError) -> Result<String, AllocError> {
+    let text = error.to_string(alloc)?;
+    let mut line = String::new(alloc);
+    for part in text.lines().take_while(|part| !part.is_empty()) {
+        if !line.is_empty() {
+            line.push(' ')?;
+        }
+        line.push_str(part.trim())?;
+    }
+    Ok(line)
+}
+
+/// Ends the program for this reason.
+fn told<R: AllocGlobal + Eprint>(rt: &R, status: u8, reason: &anyhow::Error) -> ExitCode {
+    match format!(in rt.alloc(); "error: {reason}") {
+        Ok(text) => failed(rt, status, text.as_str()),
+        Err(_) => failed(rt, 1, OUT_OF_MEMORY),
+    }
+}
+
+/// One line on standard error, and this status.
+fn failed(rt: &impl Eprint, status: u8, line: &str) -> ExitCode {
+    // There is nobody left to be told where standard error is closed.
+    rt.eprintln(line).ok();
+    ExitCode::from(status)
+}

@@ -1,0 +1,340 @@
+//! The command line.
+use anyhow::{Error as Reason, anyhow};
+use clap::{Arg, ArgAction, ArgMatches, Command, Error as ClapError, value_parser};
+use dist_types::{Cookie, NodeName};
+use node_net::{Limits, Target};
+use policy_audit::Opening;
+use rand::Rng;
+use std::alloc::{AllocFailed, Global};
+use std::fs::{self, Files};
+use std::net::{Net, SocketAddr, ToSocketAddrs};
+use std::os::unix::fs::PermissionsExt;
+use std::time::Duration;
+
+/// The most entries of an audit, where none are given.
+const ENTRIES: u32 = 1_000_000;
+
+/// The fewest: room for what a new life of the node says first, and for its last sixteenth.
+const FEWEST: u32 = 64;
+
+/// The bits of a file's mode that let others read or write it.
+const OTHERS: u32 = 0o077;
+
+/// What stands behind the help of the parser.
+const COMMANDS: &str = "\
+Commands, one a line, on standard input and on each control connection; a word with .. may come any number of times:
+  node       cookie COOKIE | cookie_for NAME COOKIE | allow NAME.. | disconnect NAME | nodes
+  scopes     start SCOPE | stop SCOPE
+  processes  spawn | exit PROCESS | join SCOPE GROUP PROCESS.. | leave SCOPE GROUP PROCESS..
+  queries    members SCOPE GROUP | local_members SCOPE GROUP | groups SCOPE | local_groups SCOPE
+  monitors   monitor SCOPE GROUP | monitor_scope SCOPE | demonitor REF
+  others     size | audit ENTRY | help | quit
+
+Example:
+  pg_node b@h --cookie-file cookie --listen 127.0.0.1:4369 --control node.sock
+
+Status: 0 at the end of standard input or at quit; 1 at a fault of a file, a socket or standard output, or for want of memory;
+2 at a fault of the command line. docs/FORMATS.md has the answers.";
+
+/// What the program runs with.
+#[derive(Drop)]
+pub struct Options<'a> {
+    pub opening: Opening,
+    pub listen: Option<SocketAddr>,
+    pub targets: Vec<Target>,
+    pub limits: Limits,
+    pub allowed: Vec<NodeName>,
+    pub cookies: Vec<(NodeName, Cookie)>,
+    /// The path of the control socket.
+    pub control: Option<&'a str>,
+    /// The path of the file for audits that have ended.
+    pub audit: Option<&'a str>,
+}
+
+/// Why there are no options.
+#[derive(Drop)]
+pub struct Fault {
+    /// That of the program: 2 for what stands on the command line, else 1.
+    pub status: u8,
+    pub reason: Reason,
+}
+
+impl Fault {
+    /// The system can't give what the program begins with.
+    pub fn of_system(error: std::io::Error) -> Fault {
+        failed(anyhow!("{error}"))
+    }
+}
+
+impl<T: Drop> From<AllocFailed<T>> for Fault {
+    fn from(_error: AllocFailed<T>) -> Fault {
+        failed(anyhow!("out of memory"))
+    }
+}
+
+fn failed(reason: Reason) -> Fault {
+    Fault { status: 1, reason }
+}
+
+fn misused(reason: Reason) -> Fault {
+    Fault { status: 2, reason }
+}
+
+/// The arguments of the program.
+pub fn command<'a>(alloc: Global) -> Result<Command<'a>, ClapError> {
+    let command = Command::new(alloc, "pg_node")
+        .version("0.1.0")
+        .about("A node of process groups, linked with others over TCP")
+        .after_help(COMMANDS);
+    let command = node_arguments(alloc, command)?;
+    let command = link_arguments(alloc, command)?;
+    Ok(command)
+}
+
+fn node_arguments<'a>(alloc: Global, command: Command<'a>) -> Result<Command<'a>, ClapError> {
+    let name = Arg::new(alloc, "NAME")
+        .help("The node's own name, as b@h")
+        .required(true);
+    let hidden = Arg::new(alloc, "hidden")
+        .long("hidden")
+        .help("Makes each link a hidden one")
+        .action(ArgAction::SetTrue);
+    let creation = Arg::new(alloc, "creation")
+        .long("creation")
+        .value_name("N")
+        .help("The node's creation, at least 1; drawn where it isn't given")
+        .value_parser(value_parser!(u32).range(1..));
+    let entries = Arg::new(alloc, "entries")
+        .long("entries")
+        .value_name("N")
+        .help("The most entries of an audit, at least 64; the node begins anew before it is full")
+        .value_parser(value_parser!(u32).range(64..))
+        .default_value("1000000");
+    Ok(
+        command
+            .arg(name)?
+            .arg(text(
+                alloc,
+                "cookie-file",
+                "FILE",
+                "A file with the secret that the node shares with its peers",
+            ))?
+            .arg(text(
+                alloc,
+                "cookie",
+                "TEXT",
+                "The secret itself, which others can see on the command line",
+            ))?
+            .arg(texts(
+                alloc,
+                "cookie-for",
+                "NAME=FILE",
+                "A file with the secret for one peer",
+            ))?
+            .arg(texts(
+                alloc,
+                "allow",
+                "NAME",
+                "A peer that may connect; all may, where none is given",
+            ))?
+            .arg(hidden)?
+            .arg(creation)?
+            .arg(entries)?
+            .arg(text(
+                alloc,
+                "audit",
+                "FILE",
+                "Where audits that have ended are written",
+            ))?,
+    )
+}
+
+fn link_arguments<'a>(alloc: Global, command: Command<'a>) -> Result<Command<'a>, ClapError> {
+    Ok(
+        command
+            .arg(text(
+                alloc,
+                "listen",
+                "ADDR:PORT",
+                "Where peers connect; port 0 is a free one",
+            ))?
+            .arg(texts(alloc, "dial", "NAME=HOST:PORT", "A peer to keep a link to"))?
+            .arg(text(alloc, "control", "PATH", "A Unix socket for commands"))?
+            .arg(millis(alloc, "setuptime", "For a whole handshake").default_value("7000"))?
+            .arg(millis(
+                alloc,
+                "ticktime",
+                "A link is lost that is silent for so long",
+            )
+            .default_value("60000"))?,
+    )
+}
+
+fn text<'a>(alloc: Global, name: &'a str, value: &'a str, help: &'a str) -> Arg<'a> {
+    Arg::new(alloc, name)
+        .long(name)
+        .value_name(value)
+        .help(help)
+}
+
+fn texts<'a>(alloc: Global, name: &'a str, value: &'a str, help: &'a str) -> Arg<'a> {
+    text(alloc, name, value, help).action(ArgAction::Append)
+}
+
+fn millis<'a>(alloc: Global, name: &'a str, help: &'a str) -> Arg<'a> {
+    text(alloc, name, "MS", help).value_parser(value_parser!(u32).range(8..))
+}
+
+/// What the program runs with. Files with cookies are read, and names of hosts are looked up.
+pub fn read_options<'a, R: Files + Net>(
+    rt: &R,
+    alloc: Global,
+    words: &mut impl Rng,
+    matches: &ArgMatches<'a>,
+) -> Result<Options<'a>, Fault> {
+    Ok(Options {
+        opening: opening(rt, alloc, words, matches)?,
+        listen: listen(matches)?,
+        targets: targets(rt, alloc, matches)?,
+        limits: limits(matches),
+        allowed: allowed(alloc, matches)?,
+        cookies: cookies(rt, alloc, matches)?,
+        control: matches.get_str("control"),
+        audit: matches.get_str("audit"),
+    })
+}
+
+fn opening<R: Files>(
+    rt: &R,
+    alloc: Global,
+    words: &mut impl Rng,
+    matches: &ArgMatches<'_>,
+) -> Result<Opening, Fault> {
+    Ok(Opening {
+        name: name(alloc, "NAME", matches.get_str("NAME").unwrap_or(""))?,
+        cookie: own_cookie(rt, alloc, matches)?,
+        hidden: matches.get_flag("hidden"),
+        creation: matches
+            .get_one::<u32>("creation")
+            .unwrap_or_else(|| words.next_u32().max(1)),
+        entries: matches
+            .get_one::<u32>("entries")
+            .unwrap_or(ENTRIES)
+            .max(FEWEST),
+    })
+}
+
+fn name(alloc: Global, option: &str, word: &str) -> Result<NodeName, Fault> {
+    NodeName::parse(alloc, word.as_bytes()).map_err(|fault| misused(anyhow!(
+        "{option}: {fault}: {word:.60}"
+    )))
+}
+
+fn own_cookie<R: Files>(rt: &R, alloc: Global, matches: &ArgMatches<'_>) -> Result<Cookie, Fault> {
+    match (matches.get_str("cookie-file"), matches.get_str("cookie")) {
+        (Some(path), None) => read_cookie(rt, alloc, path),
+        (None, Some(text)) => Cookie::parse(alloc, text.as_bytes()).map_err(|fault| misused(anyhow!(
+            "--cookie: {fault}"
+        ))),
+        (Some(_), Some(_)) => Err(misused(anyhow!(
+            "--cookie-file and --cookie: only one may be given"
+        ))),
+        (None, None) => Err(misused(anyhow!("--cookie-file or --cookie is missing"))),
+    }
+}
+
+/// The cookie in a file, which ends with its first line. Others than the owner may have no right to the file.
+fn read_cookie<R: Files>(rt: &R, alloc: Global, path: &str) -> Result<Cookie, Fault> {
+    let unread = |error: std::io::Error| failed(anyhow!("{path:.80}: {error}"));
+    let mode = fs::metadata(rt, path).map_err(unread)?.permissions().mode();
+    if mode & OTHERS != 0 {
+        return Err(failed(anyhow!(
+            "{path:.60}: others can read this file of a cookie (chmod 600)"
+        )));
+    }
+    let text = fs::read(&(rt, alloc), path).map_err(unread)?;
+    Cookie::parse(alloc, first_line(text.as_slice())).map_err(|fault| failed(anyhow!(
+        "{path:.60}: the cookie: {fault}"
+    )))
+}
+
+fn first_line(text: &[u8]) -> &[u8] {
+    for (i, byte) in text.iter().enumerate() {
+        if *byte == b'\n' || *byte == b'\r' {
+            return &text[..i];
+        }
+    }
+    text
+}
+
+fn cookies<R: Files>(
+    rt: &R,
+    alloc: Global,
+    matches: &ArgMatches<'_>,
+) -> Result<Vec<(NodeName, Cookie)>, Fault> {
+    let mut cookies = Vec::new(alloc);
+    for word in matches.get_strs("cookie-for").unwrap_or(&[]) {
+        let Some((peer, path)) = word.split_once('=') else {
+            return Err(misused(anyhow!("--cookie-for: no NAME=FILE: {word:.60}")));
+        };
+        cookies.push((
+            name(alloc, "--cookie-for", peer)?,
+            read_cookie(rt, alloc, path)?,
+        ))?;
+    }
+    Ok(cookies)
+}
+
+fn allowed(alloc: Global, matches: &ArgMatches<'_>) -> Result<Vec<NodeName>, Fault> {
+    let mut names = Vec::new(alloc);
+    for word in matches.get_strs("allow").unwrap_or(&[]) {
+        names.push(name(alloc, "--allow", word)?)?;
+    }
+    Ok(names)
+}
+
+fn listen(matches: &ArgMatches<'_>) -> Result<Option<SocketAddr>, Fault> {
+    let Some(word) = matches.get_str("listen") else {
+        return Ok(None);
+    };
+    match word.parse::<SocketAddr>() {
+        Ok(addr) => Ok(Some(addr)),
+        Err(_) => Err(misused(anyhow!("--listen: no ADDR:PORT: {word:.60}"))),
+    }
+}
+
+fn targets<R: Net>(rt: &R, alloc: Global, matches: &ArgMatches<'_>) -> Result<Vec<Target>, Fault> {
+    let mut targets = Vec::new(alloc);
+    for word in matches.get_strs("dial").unwrap_or(&[]) {
+        let Some((peer, place)) = word.split_once('=') else {
+            return Err(misused(anyhow!("--dial: no NAME=HOST:PORT: {word:.60}")));
+        };
+        if Some(peer) == matches.get_str("NAME") {
+            return Err(misused(anyhow!("--dial: the node's own name: {word:.60}")));
+        }
+        targets.push(Target {
+            peer: name(alloc, "--dial", peer)?,
+            addr: look_up(rt, place)?,
+        })?;
+    }
+    Ok(targets)
+}
+
+/// The first address of a host and port.
+fn look_up<R: Net>(rt: &R, place: &str) -> Result<SocketAddr, Fault> {
+    let found = match place.to_socket_addrs(rt) {
+        Ok(mut found) => found.next(),
+        Err(error) => return Err(failed(anyhow!("--dial: {place:.60}: {error}"))),
+    };
+    found.ok_or_else(|| failed(anyhow!("--dial: {place:.60}: no such host")))
+}
+
+fn limits(matches: &ArgMatches<'_>) -> Limits {
+    let millis = |name: &str, usual: u32| {
+        Duration::from_millis(u64::from(matches.get_one::<u32>(name).unwrap_or(usual)))
+    };
+    Limits {
+        setup: millis("setuptime", 7_000),
+        tick: millis("ticktime", 60_000),
+    }
+}

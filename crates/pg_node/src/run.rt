@@ -1,0 +1,269 @@
+//! The whole run of the program.
+use crate::control;
+use crate::hub::Hub;
+use crate::life::{Links, live};
+use crate::lines::LineQueue;
+use crate::news::Seen;
+use crate::operator::Operator;
+use crate::options::Options;
+use crate::settings::given;
+use crate::turn::{LaneMaker, begin, copy, finish, turn};
+use anyhow::{Result, anyhow, bail};
+use node_net::Lane;
+use policy_audit::Opening;
+use rand_chacha::ChaCha20Rng;
+use std::alloc::Global;
+use std::fs::{self, Files};
+use std::net::{Net, SocketAddr, TcpListener, TcpStream};
+use std::os::unix::net::UnixListener;
+use std::sync::Wait;
+use std::thread;
+use std::thread::{Scope, Threads};
+use std::time::Clock;
+
+/// What each life of the node is made with.
+#[derive(Drop)]
+struct Plan<'a> {
+    opening: Opening,
+    links: Links,
+    /// Where peers connect, with the port that was got.
+    addr: Option<SocketAddr>,
+    /// The path of the file for audits that have ended.
+    audit: Option<&'a str>,
+    maker: LaneMaker,
+}
+
+/// Runs a node until the end of standard input, or until `quit`.
+pub fn run<R>(
+    rt: &R,
+    alloc: Global,
+    options: Options<'_>,
+    words: ChaCha20Rng,
+    lines: &LineQueue,
+) -> Result<()>
+where
+    R: Net<Listener = TcpListener, Stream = TcpStream>
+        + Threads
+        + Wait
+        + Clock
+        + Files
+        + Print
+        + Eprint
+        + Sync,
+{
+    let Options {
+        opening,
+        listen,
+        targets,
+        limits,
+        allowed,
+        cookies,
+        control,
+        audit,
+    } = options;
+    let mut plan = Plan {
+        opening: copy(alloc, &opening)?,
+        links: Links { targets, limits },
+        addr: None,
+        audit,
+        maker: LaneMaker::new(words),
+    };
+    let number = opening.creation;
+    let settings = given(alloc, allowed, cookies)?;
+    let (hub, lanes) = begin(rt, alloc, opening, settings, &mut plan.maker)?;
+    let listener = match listen {
+        Some(addr) => {
+            let listener = bind(rt, addr)?;
+            plan.addr = Some(announce(rt, &listener)?);
+            Some(listener)
+        }
+        None => None,
+    };
+    let door = match control {
+        Some(path) => Some(control::bind(rt, alloc, path, number)?),
+        None => None,
+    };
+    if let Some(path) = control {
+        rt.println(format!(in alloc; "control {path}")?.as_str())?;
+    }
+    let ended = serve(
+        rt,
+        alloc,
+        &hub,
+        &mut plan,
+        listener,
+        lanes,
+        door.as_ref(),
+        lines,
+    );
+    if let Some(path) = control {
+        // The path is gone where somebody else has taken it away.
+        fs::remove_file(rt, path).ok();
+    }
+    finish(rt, alloc, hub, ended?, audit)
+}
+
+fn bind<R: Net<Listener = TcpListener, Stream = TcpStream>>(
+    rt: &R,
+    addr: SocketAddr,
+) -> Result<TcpListener> {
+    TcpListener::bind(rt, addr).map_err(|error| anyhow!("--listen {addr}: {error}"))
+}
+
+/// Prints where peers connect.
+fn announce<R: Print + Eprint>(rt: &R, listener: &TcpListener) -> Result<SocketAddr> {
+    let addr = listener.local_addr()?;
+    println!(rt; "listening {addr}")?;
+    if addr.ip().is_unspecified() {
+        rt.eprintln(
+            "warning: all networks can reach the node, and names and rows cross them in plain",
+        ).ok();
+    }
+    Ok(addr)
+}
+
+/// Serves all connections and links until the end. The lanes come back.
+fn serve<R>(
+    rt: &R,
+    alloc: Global,
+    hub: &Hub,
+    plan: &mut Plan<'_>,
+    listener: Option<TcpListener>,
+    lanes: Vec<Lane>,
+    door: Option<&UnixListener>,
+    lines: &LineQueue,
+) -> Result<Vec<Lane>>
+where
+    R: Net<Listener = TcpListener, Stream = TcpStream>
+        + Threads
+        + Wait
+        + Clock
+        + Files
+        + Print
+        + Eprint
+        + Sync,
+{
+    let Some((seat, seen)) = hub.enter(rt) else {
+        bail!("out of memory");
+    };
+    let operator = Operator::new(seat, door.is_none());
+    let ended = thread::scope(thread::scope_env(), rt, |scope| {
+        let are_made = start_all(scope, rt, alloc, hub, &operator, seen, lines, door);
+        let ended = live_on(rt, alloc, hub, plan, listener, lanes, are_made);
+        hub.quit(rt);
+        lines.end(rt);
+        if let Some(door) = door {
+            // A listener that can't be shut has failed already.
+            control::shut(door).ok();
+        }
+        ended
+    });
+    if operator.has_failed() {
+        bail!("standard output can't be written");
+    }
+    ended
+}
+
+/// One life after another, until the program is to end; none where the threads for commands couldn't be made.
+fn live_on<R>(
+    rt: &R,
+    alloc: Global,
+    hub: &Hub,
+    plan: &mut Plan<'_>,
+    listener: Option<TcpListener>,
+    lanes: Vec<Lane>,
+    are_made: bool,
+) -> Result<Vec<Lane>>
+where
+    R: Net<Listener = TcpListener, Stream = TcpStream>
+        + Threads
+        + Wait
+        + Clock
+        + Files
+        + Eprint
+        + Sync,
+{
+    if !are_made {
+        bail!("no thread can be made");
+    }
+    let mut listener = listener;
+    let mut lanes = lanes;
+    for _ in rt.forever() {
+        lanes = live(rt, alloc, hub, &plan.links, listener, lanes);
+        if hub.is_quitting() {
+            return Ok(lanes);
+        }
+        lanes = turn(
+            rt,
+            alloc,
+            hub,
+            lanes,
+            &mut plan.maker,
+            plan.audit,
+            &mut plan.opening,
+        )?;
+        listener = match plan.addr {
+            Some(addr) => Some(bind(rt, addr)?),
+            None => None,
+        };
+    }
+    unreachable!()
+}
+
+/// Starts the threads for commands: whether all could be made.
+fn start_all<'s, E: 's, R: Threads + Wait + Clock + Print + Sync + 's>(
+    scope: &'s Scope<'s, E>,
+    rt: &'s R,
+    alloc: Global,
+    hub: &'s Hub,
+    operator: &'s Operator,
+    seen: Seen,
+    lines: &'s LineQueue,
+    door: Option<&'s UnixListener>,
+) -> bool {
+    start_answering(scope, rt, alloc, hub, operator, lines)
+        && start_telling(scope, rt, alloc, hub, operator, seen, lines)
+        && start_control(scope, rt, alloc, hub, door)
+}
+
+fn start_answering<'s, E: 's, R: Threads + Wait + Print + Sync + 's>(
+    scope: &'s Scope<'s, E>,
+    rt: &'s R,
+    alloc: Global,
+    hub: &'s Hub,
+    operator: &'s Operator,
+    lines: &'s LineQueue,
+) -> bool {
+    scope
+        .spawn(move || operator.answer(rt, alloc, hub, lines))
+        .is_ok()
+}
+
+fn start_telling<'s, E: 's, R: Threads + Wait + Print + Sync + 's>(
+    scope: &'s Scope<'s, E>,
+    rt: &'s R,
+    alloc: Global,
+    hub: &'s Hub,
+    operator: &'s Operator,
+    seen: Seen,
+    lines: &'s LineQueue,
+) -> bool {
+    scope
+        .spawn(move || operator.tell(rt, alloc, hub, seen, lines))
+        .is_ok()
+}
+
+fn start_control<'s, E: 's, R: Threads + Wait + Clock + Sync + 's>(
+    scope: &'s Scope<'s, E>,
+    rt: &'s R,
+    alloc: Global,
+    hub: &'s Hub,
+    door: Option<&'s UnixListener>,
+) -> bool {
+    match door {
+        Some(door) => scope
+            .spawn(move || control::serve_control(rt, alloc, hub, door))
+            .is_ok(),
+        None => true,
+    }
+}

@@ -1,0 +1,199 @@
+//! From one life of the node to the next.
+use crate::audit_file::write_audit;
+use crate::caller::Caller;
+use crate::hub::{House, Hub, SEATS};
+use crate::life::LANES;
+use crate::session::Session;
+use crate::settings::held;
+use anyhow::{Result, bail};
+use cookie_digest::ChallengeSource;
+use dist_types::TryClone;
+use node_net::Lane;
+use node_threads::{Node, Pass};
+use policy_audit::{Event, Opening};
+use rand_chacha::ChaCha20Rng;
+use std::alloc::Global;
+use std::fs::Files;
+use std::mem::swap;
+use std::sync::Wait;
+use std::vec;
+
+/// The passes of a node: that of the keeper, one for each seat of a connection, and two for each lane.
+const PASSES: u32 = 1 + SEATS as u32 + 2 * LANES as u32;
+
+/// Makes the lanes of each life. No two of them draw the same challenges.
+#[derive(Drop)]
+pub struct LaneMaker {
+    words: ChaCha20Rng,
+    made: u64,
+}
+
+impl LaneMaker {
+    pub fn new(words: ChaCha20Rng) -> LaneMaker {
+        LaneMaker { words, made: 0 }
+    }
+
+    fn make(&mut self, reader: Pass, writer: Pass) -> Result<Lane> {
+        // The first stream is that of the words that were drawn before.
+        self.made = self.made.saturating_add(1);
+        let mut words = self.words.clone()?;
+        words.set_stream(self.made);
+        match Lane::new(reader, writer, ChallengeSource::new(words)) {
+            Ok(lane) => Ok(lane),
+            Err(_) => bail!("a pass of a new node has made calls"),
+        }
+    }
+
+    fn make_all(&mut self, alloc: Global, mut passes: vec::IntoIter<Pass>) -> Result<Vec<Lane>> {
+        let mut lanes = Vec::new(alloc);
+        for _ in 0..LANES {
+            lanes.push(self.make(next_pass(&mut passes)?, next_pass(&mut passes)?)?)?;
+        }
+        Ok(lanes)
+    }
+}
+
+fn next_pass(passes: &mut vec::IntoIter<Pass>) -> Result<Pass> {
+    match passes.next() {
+        Some(pass) => Ok(pass),
+        None => bail!("a new node has too few passes"),
+    }
+}
+
+fn next_caller(passes: &mut vec::IntoIter<Pass>) -> Result<Caller> {
+    match Caller::new(next_pass(passes)?) {
+        Ok(caller) => Ok(caller),
+        Err(_) => bail!("a pass of a new node has made calls"),
+    }
+}
+
+/// The first life.
+pub fn begin<R: Wait>(
+    rt: &R,
+    alloc: Global,
+    opening: Opening,
+    settings: Vec<Event>,
+    maker: &mut LaneMaker,
+) -> Result<(Hub, Vec<Lane>)> {
+    let entries = opening.entries;
+    let (node, passes) = Node::new(alloc, opening, PASSES)?;
+    let mut passes = passes.into_iter();
+    let mut keeper = next_pass(&mut passes)?;
+    set_up(rt, &node, &mut keeper, settings)?;
+    let mut sessions = Vec::new(alloc);
+    for _ in 0..SEATS {
+        sessions.push(Session::new(alloc, next_caller(&mut passes)?))?;
+    }
+    let lanes = maker.make_all(alloc, passes)?;
+    Ok((Hub::new(node, House { keeper, sessions }, entries), lanes))
+}
+
+/// Says what holds before the first link.
+fn set_up<R: Wait>(rt: &R, node: &Node, keeper: &mut Pass, settings: Vec<Event>) -> Result<()> {
+    for event in settings {
+        if let Err(fault) = keeper.call(node, rt, event) {
+            bail!("a cookie, a name or a scope can't be set: {fault}");
+        }
+    }
+    Ok(())
+}
+
+/// Ends a life, whose lanes have come back, and begins the next one with the next creation: the lanes of that.
+pub fn turn<R: Wait + Files>(
+    rt: &R,
+    alloc: Global,
+    hub: &Hub,
+    lanes: Vec<Lane>,
+    maker: &mut LaneMaker,
+    file: Option<&str>,
+    opening: &mut Opening,
+) -> Result<Vec<Lane>> {
+    opening.creation = opening.creation.wrapping_add(1).max(1);
+    let (ended, passes) = Node::new(alloc, copy(alloc, opening)?, PASSES)?;
+    let mut passes = passes.into_iter();
+    let mut old = passes_of(alloc, lanes)?;
+    let mut house = hub.house.lock(rt);
+    swap(&mut *hub.node.shared.lock(rt), &mut *ended.shared.lock(rt));
+    let settings = held(alloc, ended.shared.lock(rt).core())?;
+    change_passes(rt, hub, &mut house, &mut passes, &mut old)?;
+    set_up(rt, &hub.node, &mut house.keeper, settings)?;
+    drop(house);
+    hub.wake(rt);
+    if hub.is_nearly_full(hub.node.shared.lock(rt).core()) {
+        bail!("--entries: too few for the cookies, names and scopes that were set");
+    }
+    close(rt, alloc, ended, old, file)?;
+    maker.make_all(alloc, passes)
+}
+
+/// Gives the keeper and all sessions the passes of the new life, and takes those of the old one.
+fn change_passes<R: Wait>(
+    rt: &R,
+    hub: &Hub,
+    house: &mut House,
+    passes: &mut vec::IntoIter<Pass>,
+    old: &mut Vec<Pass>,
+) -> Result<()> {
+    let mut keeper = next_pass(passes)?;
+    swap(&mut house.keeper, &mut keeper);
+    old.push(keeper)?;
+    let shared = hub.node.shared.lock(rt);
+    for session in house.sessions.iter_mut() {
+        let ended = session.begin_anew(next_caller(passes)?, shared.core());
+        old.push(ended.into_pass())?;
+    }
+    Ok(())
+}
+
+/// A copy of an opening.
+pub fn copy(alloc: Global, opening: &Opening) -> Result<Opening> {
+    Ok(Opening {
+        name: opening.name.try_clone(alloc)?,
+        cookie: opening.cookie.try_clone(alloc)?,
+        hidden: opening.hidden,
+        creation: opening.creation,
+        entries: opening.entries,
+    })
+}
+
+fn passes_of(alloc: Global, lanes: Vec<Lane>) -> Result<Vec<Pass>> {
+    let mut passes = Vec::new(alloc);
+    for lane in lanes {
+        let (reader, writer) = lane.into_passes();
+        passes.push(reader)?;
+        passes.push(writer)?;
+    }
+    Ok(passes)
+}
+
+/// The end of the last life.
+pub fn finish<R: Wait + Files>(
+    rt: &R,
+    alloc: Global,
+    hub: Hub,
+    lanes: Vec<Lane>,
+    file: Option<&str>,
+) -> Result<()> {
+    let (node, house) = hub.into_parts();
+    let House { keeper, sessions } = house;
+    let mut passes = passes_of(alloc, lanes)?;
+    passes.push(keeper)?;
+    for session in sessions {
+        passes.push(session.into_caller().into_pass())?;
+    }
+    close(rt, alloc, node, passes, file)
+}
+
+/// Settles all passes of a life that has ended, and writes its audit.
+fn close<R: Files>(
+    rt: &R,
+    alloc: Global,
+    node: Node,
+    passes: Vec<Pass>,
+    file: Option<&str>,
+) -> Result<()> {
+    match node.close(passes) {
+        Ok(closed) => write_audit(rt, alloc, file, closed.core.audit()),
+        Err(fault) => bail!("the node is not closed: {}", fault.rule),
+    }
+}
