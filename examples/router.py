@@ -1,0 +1,75 @@
+#!/usr/bin/env python3
+"""A router: router.py CONTROL
+
+It hands each line of its standard input to a worker (worker.py), in turn to each that the pg_node behind the control socket CONTROL lists
+now, and prints the answer, or `nobody`. It prints `here HOST:PORT` and `gone HOST:PORT` when a worker comes or goes.
+"""
+
+import collections
+import socket
+import sys
+import threading
+import time
+
+listed = collections.Counter()  # the processes in the group of each worker
+is_known = threading.Event()  # once the node has said who is listed
+
+
+def count(group, number):
+    """So many processes more in a group, or fewer."""
+    was, listed[group] = listed[group], listed[group] + number
+    if bool(was) != bool(listed[group]):
+        print("gone" if was else "here", group.removeprefix("jobs/"), flush=True)
+
+
+def watch():
+    """Asks who is listed, and to be told of changes. Whoever was listed before the node began anew is gone."""
+    for group in +listed:
+        count(group, -listed[group])
+    control.sendall(b"start jobs\nmonitor_scope jobs\n")
+
+
+def follow(words):
+    match words:
+        case ["ref", _, *groups]:  # each group, the number of its processes, and the processes
+            while groups:
+                count(groups[0], int(groups[1]))
+                groups = groups[2 + int(groups[1]):]
+            is_known.set()
+        case ["!", "join", _, group, number, *_]:
+            count(group, int(number))
+        case ["!", "leave", _, group, number, *_]:
+            count(group, -int(number))
+        case ["!", "restarted" | "ended", _]:
+            watch()
+
+
+def done(job, turn):
+    """The answer of a worker that is listed now; of the next one, where the first went this moment."""
+    groups = sorted(+listed)
+    for place in range(turn, turn + len(groups)):
+        host, port = groups[place % len(groups)].removeprefix("jobs/").split(":")
+        try:
+            with socket.create_connection((host, int(port)), 1) as worker:
+                worker.sendall(job.encode())
+                if answer := worker.makefile().readline():
+                    return answer.rstrip("\n")
+        except OSError:
+            continue
+    return "nobody"
+
+
+def route():
+    is_known.wait()
+    for turn, job in enumerate(sys.stdin):
+        print(done(job, turn), flush=True)
+    control.shutdown(socket.SHUT_RDWR)
+
+
+control = socket.socket(socket.AF_UNIX)
+while control.connect_ex(sys.argv[1]):
+    time.sleep(0.1)  # the node isn't there yet
+watch()
+threading.Thread(target=route, daemon=True).start()
+for line in control.makefile():
+    follow(line.split())
