@@ -1,0 +1,37 @@
+/* Refuses allocations of a program that it is loaded before: the call of number REFUSED_CALL, or that and all later ones where
+   REFUSED_ON is set. Where the program ends it tells on standard error how many calls there were. */
+
+#include <stdio.h>
+#include <stdlib.h>
+#include <sys/syscall.h>
+#include <unistd.h>
+
+extern void *__libc_malloc(size_t size);
+extern void *__libc_calloc(size_t count, size_t size);
+extern void *__libc_realloc(void *old, size_t size);
+
+static long calls, first = -1, is_on;
+
+static int is_refused(void) {
+  if (first < 0) {
+    const char *word = getenv("REFUSED_CALL");
+    is_on = getenv("REFUSED_ON") != NULL;
+    first = word ? atol(word) : 0;
+  }
+  long call = __atomic_add_fetch(&calls, 1, __ATOMIC_RELAXED);
+  return first > 0 && (call == first || (is_on && call > first));
+}
+
+void *malloc(size_t size) { return is_refused() ? NULL : __libc_malloc(size); }
+
+void *calloc(size_t count, size_t size) { return is_refused() ? NULL : __libc_calloc(count, size); }
+
+void *realloc(void *old, size_t size) { return is_refused() ? NULL : __libc_realloc(old, size); }
+
+void _exit(int status) {
+  char line[32];
+  int length = snprintf(line, sizeof line, "calls %ld\n", calls);
+  if (length > 0 && write(2, line, (size_t)length) < 0) status = 3;
+  syscall(SYS_exit_group, status);
+  __builtin_unreachable();
+}

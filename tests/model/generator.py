@@ -1,0 +1,259 @@
+"""Writes scripts from a seed. Each line is chosen from what the model says of the lines before it, so that most are accepted."""
+
+from random import Random
+
+from faults import FAULTS
+from history import Monitor, MonitorScope, Opening
+from limits import LIMITS
+from peers import COOKIES, GROUPS, PEERS, SCOPES, Peers
+from script import MOST_ENTRIES
+from texts import pid_text
+
+# The actions of each theme, with their weights.
+LINKS = {
+    'opened': 6, 'dial': 6, 'advance': 24, 'handshake': 10, 'wrong': 5, 'broken': 4, 'take': 9, 'lost': 3, 'disconnect': 3,
+    'allow': 2, 'cookie': 2, 'cookie_for': 2, 'start': 3, 'frame_of_no_link': 2, 'restart': 1, 'audit': 1,
+}
+ROWS = {
+    'handshake': 2, 'message': 24, 'wrong_message': 6, 'exchange': 8, 'take': 9, 'members': 5, 'groups': 3, 'start': 4, 'stop': 1,
+    'spawn': 4, 'join': 8, 'leave': 6, 'exit': 2, 'lost': 1, 'disconnect': 1, 'monitor': 2, 'updates': 3, 'opened': 1, 'dial': 1,
+    'advance': 3, 'broken': 2,
+}
+OWN = {
+    'start': 4, 'stop': 2, 'spawn': 6, 'exit': 3, 'join': 16, 'leave': 12, 'members': 8, 'groups': 5, 'monitor': 5, 'updates': 9,
+    'demonitor': 2, 'seat': 3, 'restart': 2, 'audit': 3, 'cookie': 1, 'cookie_for': 1, 'allow': 1, 'handshake': 1, 'exchange': 1,
+    'take': 2,
+}
+MONITORS = {
+    'monitor': 8, 'updates': 18, 'updates_of_another': 2, 'demonitor': 3, 'seat': 4, 'start': 3, 'stop': 1, 'spawn': 3, 'join': 8,
+    'leave': 7, 'exit': 2, 'handshake': 2, 'message': 18, 'exchange': 3, 'lost': 1, 'disconnect': 1, 'restart': 1, 'wrong_message': 2,
+}
+EVERYTHING = {action: 3 for theme in (LINKS, ROWS, OWN, MONITORS) for action in theme} | {'restart': 1, 'advance': 12, 'message': 12}
+THEMES = (LINKS, ROWS, OWN, MONITORS, EVERYTHING)
+
+
+class Generator(Peers):
+    """Each method of a theme says a line or a few."""
+
+    def restart(self):
+        """A restart, and at times a question after what was before it."""
+        refs = self.refs()
+        self.say('restart')
+        if refs and self.chance(50):
+            self.say('updates', self.one_of(refs))
+        if self.chance(30):
+            self.take()
+
+    def cookie(self):
+        self.say('cookie', self.one_of(COOKIES))
+
+    def cookie_for(self):
+        self.say('cookie_for', self.one_of(PEERS + (self.opening.name,)), self.one_of(COOKIES))
+
+    def allow(self):
+        if self.chance(15):
+            self.say('allow')
+        else:
+            self.say('allow', *self.rng.sample(PEERS + ('d@h', self.opening.name), self.rng.randint(2, 5)))
+
+    def start(self):
+        self.say('start', self.one_of(SCOPES))
+
+    def stop(self):
+        self.say('stop', self.scope())
+
+    def spawn(self):
+        self.say('spawn')
+
+    def own_pid(self):
+        """A process, mostly one that lives; one is spawned first where none lives, mostly."""
+        if not self.model.living(self.h) and self.chance(80):
+            self.spawn()
+        living = [pid for number in range(1, self.model.spawned(self.h) + 1)
+                  if self.model.lives(self.h, pid := self.model.new_pid(self.h)._replace(number=number))]
+        if living and self.chance(85):
+            return self.one_of(living)
+        pid = self.model.new_pid(self.h)._replace(number=self.rng.randint(1, self.model.spawned(self.h) + 1))
+        return self.one_of((pid, pid._replace(creation=1), pid._replace(name='a@h'), pid._replace(number=2**64 - 1),
+                            pid._replace(number=0)))
+
+    def own_pids(self):
+        return [pid_text(self.own_pid()) for _ in range(self.one_of((0, 1, 1, 1, 2, 2, 3)))]
+
+    def exit(self):
+        self.say('exit', pid_text(self.own_pid()))
+
+    def join(self):
+        self.say('join', self.scope(), self.one_of(GROUPS), *self.own_pids())
+
+    def leave(self):
+        """Takes processes out of a group, mostly such as are in it."""
+        scope = self.scope()
+        if not self.model.own(self.h, scope) and self.chance(70):
+            self.say('join', scope, self.one_of(GROUPS), pid_text(self.own_pid()))
+        rows = sorted(self.model.own(self.h, scope))
+        if not rows or self.chance(15):
+            self.say('leave', scope, self.one_of(GROUPS), *self.own_pids())
+            return
+        group, pid = self.one_of(rows)
+        self.say('leave', scope, group, *[pid_text(pid)] * self.one_of((1, 1, 1, 2)), *(self.own_pids() if self.chance(30) else []))
+
+    def group(self, scope):
+        """A group, mostly one that has members."""
+        groups = self.model.groups(self.h, scope)
+        return self.one_of(groups) if groups and self.chance(75) else self.one_of(GROUPS)
+
+    def members(self):
+        scope = self.scope()
+        self.say(self.one_of(('members', 'members', 'local_members')), scope, self.group(scope))
+
+    def groups(self):
+        self.say(self.one_of(('groups', 'local_groups')), self.scope())
+
+    def monitor(self):
+        if self.chance(40):
+            self.say('monitor_scope', self.scope())
+        else:
+            scope = self.scope()
+            self.say('monitor', scope, self.group(scope))
+
+    def ref(self):
+        """The number of a monitor, mostly one of the seat that asks, which is made first where there is none."""
+        if not self.refs() and self.chance(80):
+            self.monitor()
+        refs = self.refs()
+        untold = [ref for ref in refs if self.model.updates(self.h, self.console.seat, ref)]
+        if untold and self.chance(70):
+            return self.one_of(untold)
+        return self.one_of(refs) if refs and self.chance(90) else self.rng.randint(0, self.h.number + 1)
+
+    def refs(self):
+        made = [entry.number for entry in self.console.entries if isinstance(entry.event, (Monitor, MonitorScope))]
+        return [ref for ref in made if self.model.monitor(self.h, self.console.seat, ref)]
+
+    def demonitor(self):
+        self.say('demonitor', self.ref())
+
+    def updates(self):
+        self.say('updates', self.ref())
+
+    def updates_of_another(self):
+        """Another seat asks for what a monitor has to tell, and then its own seat does."""
+        ref, seat = self.ref(), self.console.seat
+        self.say('seat', seat + 1 if seat < 5 else 0)
+        self.say('updates', ref)
+        self.say('seat', seat)
+        self.say('updates', ref)
+
+    def seat(self):
+        self.say('seat', self.one_of((0, 0, 1, 2, 4_294_967_295)))
+
+    def audit(self):
+        self.say(*self.one_of((('size',), ('audit', self.rng.randint(0, self.h.number + 1)), ('audit', self.h.number))))
+
+    def opened(self):
+        self.say('opened', self.challenge())
+
+    def dial(self):
+        self.say('dial', self.peer() if self.chance(95) else self.opening.name, self.challenge())
+
+    def frame(self, link, body):
+        text = body.hex()
+        self.say('frame', link, text.upper() if self.chance(5) else text)
+
+    def link(self, is_up=None):
+        """An open link, of which the handshake is whole or not where that is said, or None."""
+        links = [link for link in self.model.open_links(self.h) if is_up in (None, self.model.is_whole(self.h, link))]
+        visible = [link for link in links if self.model.is_up(self.h, link) and self.model.is_visible(self.h, link)]
+        if is_up and visible and self.chance(95):
+            return self.one_of(visible)
+        return self.one_of(links) if links else None
+
+    def advance(self):
+        """The next right frame of an unfinished handshake."""
+        if (link := self.link(is_up=False)) is None:
+            return self.opened()
+        self.frame(link, self.right_frame(link))
+
+    def handshake(self):
+        """Opens or dials a link, and brings it up, mostly."""
+        self.one_of((self.opened, self.dial))()
+        link = self.h.number
+        while self.model.is_open(self.h, link) and not self.model.is_whole(self.h, link) and self.chance(97):
+            self.frame(link, self.right_frame(link))
+            if self.model.is_full(self.h):
+                break
+            if self.chance(15):
+                self.say('take', link)
+
+    def wrong(self):
+        if (link := self.link()) is not None:
+            self.frame(link, self.wrong_frame(link))
+
+    def broken(self):
+        if (link := self.link()) is not None:
+            self.frame(link, self.broken_frame(link))
+
+    def frame_of_no_link(self):
+        self.frame(self.rng.randint(0, self.h.number + 1), self.one_of((self.name_frame(), b'sok', b'\0')))
+
+    def message(self):
+        if (link := self.link(is_up=True)) is None:
+            return self.handshake()
+        self.frame(link, self.right_frame(link))
+
+    def wrong_message(self):
+        if (link := self.link(is_up=True)) is not None:
+            self.frame(link, self.wrong_frame(link))
+
+    def exchange(self):
+        """Tells and hears a peer in a scope at once."""
+        if (link := self.link(is_up=True)) is None:
+            return self.handshake()
+        scope = self.scope(95).encode()
+        self.frame(link, b'D' + bytes([len(scope)]) + scope)
+        self.frame(link, b'S' + bytes([len(scope)]) + scope + b'\0\0\0\0')
+
+    def some_link(self):
+        """A link, mostly one that is kept."""
+        kept = [link for link in self.model.links(self.h) if self.model.is_kept(self.h, link)]
+        return self.one_of(kept) if kept and self.chance(90) else self.rng.randint(0, self.h.number + 1)
+
+    def take(self):
+        self.say('take', self.some_link())
+
+    def lost(self):
+        self.say('lost', self.some_link())
+
+    def disconnect(self):
+        self.say('disconnect', self.peer())
+
+
+def opening_of(rng):
+    creation = rng.choice((1, 1, 4, 7, 0, 4_294_967_294, 4_294_967_295))
+    entries = rng.choice((10, 25, 60)) if rng.random() < 0.06 else MOST_ENTRIES
+    return Opening(rng.choice(('b@h', 'm@h', 'b@h')), rng.choice(('password', 'secret')), rng.random() < 0.06, creation, entries)
+
+
+def of_theme(rng, title):
+    """A script of 30 to 150 lines, and at times one that ends with a fault."""
+    writer = Generator(rng, opening_of(rng))
+    theme = rng.choice(THEMES)
+    actions, weights, length = list(theme), list(theme.values()), rng.randint(30, 130)
+    while len(writer.lines) < length:
+        getattr(writer, rng.choices(actions, weights)[0])()
+    if writer.chance(5):
+        for number in range(writer.h.number + 1):
+            writer.say('audit', number)
+    if writer.chance(15):
+        writer.say(rng.choice(FAULTS))
+        writer.say('size')
+    return writer.script(title, writer.chance(10))
+
+
+def script_of(seed, number):
+    """The script of a seed with a number; now and then one that meets a limit."""
+    rng, title = Random(f'{seed}/{number}'), f'seed {seed}, script {number}'
+    if number % 40 == 7 and number // 40 < len(LIMITS):
+        return LIMITS[number // 40](rng, title)
+    return of_theme(rng, title)
