@@ -1,0 +1,89 @@
+-- What bodies make of a view, one after the other.
+use Rattle.frame_laws.proofs.Words.{ap, arith, refl, sym, ◌∙◌, lie, is_some, option_map_or, option_to_list, slice_get, Bool, List, None, Option, Some, [], cond, false, length, suc, take, true, zero, ℕ}
+use Rattle.frame_laws.proofs.Words.{◌++◌, ◌+◌, ◌∷◌, ◌≡◌, Pid, Message, Entry}
+use Rattle.frame_laws.proofs.Words.{heard, message_taken, is_about_rows, says_rows, messages_said, seen_by, view_of}
+use Rattle.frame_laws.specs.Honest.{IsHonest}
+use Rattle.frame_laws.specs.Known.{known}
+use Rattle.frame_laws.proofs.Calm.{seen_apart, said_apart}
+use Rattle.frame_laws.proofs.Places.{append_nil, take_first, take_both}
+use Rattle.std.proofs.lemmas.Option.{slice_get_within}
+use Rattle.policy_audit.specs.Hearing.{stated}
+
+-- ---- lists
+
+module _ {A : Type 0} where
+  pub stands_first : (xs ys : List A) (n : ℕ) (x : A) → slice_get xs n ≡ Some x → slice_get (xs ++ ys) n ≡ Some x
+  stands_first [] ys n x q = lie (sym (ap is_some q))
+  stands_first (y ∷ xs) ys zero x q = q
+  stands_first (y ∷ xs) ys (suc n) x q = stands_first xs ys n x q
+
+  pub stands_last : (xs : List A) (x : A) → slice_get (xs ++ x ∷ []) (length xs) ≡ Some x
+  stands_last [] x = refl
+  stands_last (y ∷ xs) x = stands_last xs x
+
+  pub take_last : (xs : List A) (x : A) → take (length xs + 1) (xs ++ x ∷ []) ≡ xs ++ x ∷ []
+  take_last xs x = take_both xs (x ∷ []) 1
+
+  pub take_all : (xs : List A) (x : A) → take (length xs) (xs ++ x ∷ []) ≡ xs
+  take_all xs x = (λ i. take (more i) (xs ++ x ∷ [])) ∙ take_both xs (x ∷ []) 0 ∙ append_nil xs
+    where
+      more : length xs ≡ length xs + 0
+      more = omega arith
+
+pub honest_first : (name : List ℕ) (creation : ℕ) (s : List ℕ) (xs ys : List (List ℕ)) → IsHonest name creation s (xs ++ ys) → IsHonest name creation s xs
+honest_first name creation s xs ys it = record {
+  own = λ n body m q says. it.own n body m (stands_first xs ys n body q) says;
+  few = λ n body q rows.
+      let all = it.few n body (stands_first xs ys n body q) rows in
+      let less = slice_get_within xs n body q in
+      (all.0, λ g p. ap (view_of s g p) (sym (take_first xs ys (n + 1) (omega (arith, less)))) ∙ all.1 g p, all.2);
+  there = λ n body rows q says g p.
+      let was = it.there n body rows (stands_first xs ys n body q) says g p in
+      let less = slice_get_within xs n body q in
+      (was.0, ap (view_of s g p) (sym (take_first xs ys n (omega (arith, less)))) ∙ was.1, was.2);
+}
+
+-- ---- one body more
+
+module _ (s g : List ℕ) (p : Pid) where
+  pub view_more : (bodies : List (List ℕ)) (body : List ℕ) → view_of s g p (bodies ++ body ∷ []) ≡ seen_by s g p (option_to_list (message_taken body)) (view_of s g p bodies)
+  view_more bodies body =
+      ap (λ ms. seen_by s g p ms None) (said_apart bodies (body ∷ []) ∙ ap (λ ms. messages_said bodies ++ ms) (append_nil (option_to_list (message_taken body))))
+      ∙ seen_apart s g p (messages_said bodies) (option_to_list (message_taken body)) None
+
+  -- a message that makes something known where nothing was makes the same of all
+  pub anew : (x : Option Message) (n : ℕ) → seen_by s g p (option_to_list x) None ≡ Some n → (v : Option ℕ) → seen_by s g p (option_to_list x) v ≡ Some n
+  anew None n q v = lie (sym (ap is_some q))
+  anew (Some (Message.Discover t)) n q v = lie (sym (ap is_some q))
+  anew (Some (Message.Sync t rows)) n q v = grind (arith, q)
+  anew (Some (Message.Join t rows)) n q v = grind (arith, q)
+  anew (Some (Message.Leave t rows)) n q v = grind (arith, q)
+  anew (Some (Message.Down t)) n q v = grind (arith, q)
+
+  -- one that says no rows of s, and leaves something known, leaves all
+  pub left_so : (x : Option Message) (v : Option ℕ) (n : ℕ) → option_map_or (says_rows s) x false ≡ false → seen_by s g p (option_to_list x) v ≡ Some n → (w : Option ℕ) → seen_by s g p (option_to_list x) w ≡ w
+  left_so None v n none q w = refl
+  left_so (Some (Message.Discover t)) v n none q w = refl
+  left_so (Some (Message.Sync t rows)) v n none q w = grind (arith, none)
+  left_so (Some (Message.Join t rows)) v n none q w = grind (arith, none)
+  left_so (Some (Message.Leave t rows)) v n none q w = grind (arith, none)
+  left_so (Some (Message.Down t)) v n none q w = grind (arith, q)
+
+  -- one that isn't about rows of s leaves all
+  pub apart_so : (x : Option Message) → is_about_rows s x ≡ false → (w : Option ℕ) → seen_by s g p (option_to_list x) w ≡ w
+  apart_so None q w = refl
+  apart_so (Some m) q w = grind (arith, q)
+
+pub apart_rows : (s : List ℕ) (x : Option Message) → is_about_rows s x ≡ false → option_map_or (says_rows s) x false ≡ false
+apart_rows s None q = refl
+apart_rows s (Some m) q = grind (arith, q)
+
+pub is_known : (l : ℕ) (s g : List ℕ) (p : Pid) (es : List Entry) → heard l s es ≡ true → known l s g p es ≡ Some (stated l s g p es)
+is_known l s g p es hears = ap (λ b. cond b (Some (stated l s g p es)) None) hears
+
+pub known_heard : (l : ℕ) (s g : List ℕ) (p : Pid) (es : List Entry) (n : ℕ) → known l s g p es ≡ Some n → heard l s es ≡ true
+known_heard l s g p es n q = by (heard l s es) refl
+  where
+    by : (b : Bool) → heard l s es ≡ b → heard l s es ≡ true
+    by true q = q
+    by false un = lie (ap is_some (sym q ∙ ap (λ b. cond b (Some (stated l s g p es)) None) un))

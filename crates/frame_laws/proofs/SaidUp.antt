@@ -1,0 +1,141 @@
+-- A message is owed to a link after it was proved, and no restart comes between.
+use Rattle.frame_laws.proofs.Words.{ap, arith, refl, sym, ◌∙◌, eqb-true, lie, list_all, flat_map, filter, is_some, slice_get}
+use Rattle.frame_laws.proofs.Words.{Bool, List, Some, [], cond, false, length, map, min, not, true, zero, suc, ℕ, ◌&&◌, ◌++◌, ◌+◌, ◌==◌, ◌∷◌, ◌≡◌, ◌≤◌}
+use Rattle.frame_laws.proofs.Words.{same_pid, mentions, listing, pid_cmp, Row, Message, OutFrame, Opening, Event, Reply, Verdict, Accepted, Refused, Entry, Rule, History}
+use Rattle.frame_laws.proofs.Words.{is_accepted, is_restart, past, own, running_scopes, local_rows, row, Awaited, AwaitReply}
+use Rattle.frame_laws.proofs.Words.{AwaitAck, AwaitMessage, awaits, is_whole, frame_owes, if_told, if_visible, owed, own_name_frame, refusal_owes, ltb-true, IsTrue, IsAnswered, IsLegalIn, but}
+use Rattle.frame_laws.proofs.Words.{IsProvedLink, is_restarted_after}
+use Rattle.frame_laws.proofs.Places.{AllOwed}
+use Rattle.policy_audit.proofs.Onward.{ack_taken, message_taken_on, reply_taken}
+
+-- ---- a link that is whole was proved
+
+module _ (o : Opening) where
+  -- no entry has a later number
+  unrestarted : (es : List Entry) → IsLegalIn o es → (k : ℕ) → length es ≤ k → is_restarted_after k es ≡ false
+  unrestarted [] legal k le = refl
+  unrestarted (e ∷ es) legal k le = grind (arith, legal.0.number, ltb-true, unrestarted es legal.1 k)
+
+  -- a restart leaves no link whole
+  not_restart : (es : List Entry) (e : Entry) (l : ℕ) (ev : Event) (v : Verdict) → is_whole l (but e ev v ∷ es) ≡ true → (is_accepted v && is_restart ev) ≡ false
+  not_restart es e l Event.Restart (Accepted r) w = sym w
+  not_restart es e l ev (Accepted r) w = refl
+  not_restart es e l ev (Refused r) w = refl
+
+  pub was_proved : (es : List Entry) → IsLegalIn o es → (l : ℕ) → is_whole l es ≡ true → IsProvedLink (past o es) l
+  was_proved [] legal l w = lie (sym w)
+  was_proved (e ∷ es) legal l w = by (was_proved es legal.1 l) (is_whole l es) refl
+    where
+      number : e.number ≡ length es + 1
+      number = legal.0.number
+
+      by : (is_whole l es ≡ true → IsProvedLink (past o es) l) → (b : Bool) → is_whole l es ≡ b → IsProvedLink (past o (e ∷ es)) l
+      by so_far true was =
+          let before = so_far was in
+          let within = before.within in
+          record {
+            whole = w;
+            proof = before.proof;
+            within = omega (arith, within);
+            proved = grind (arith, was, before.proved);
+            unbroken = grind (arith, not_restart es e l e.event e.verdict w, before.unbroken);
+          }
+      by so_far false was = record {
+        whole = w;
+        proof = e.number;
+        within = omega (arith, number);
+        proved = grind (arith, was, w);
+        unbroken = grind (arith, unrestarted es legal.1 e.number, number, ltb-true);
+      }
+
+-- ---- messages are owed to whole links alone
+
+-- no frame is a message
+abbrev are_narrow : List OutFrame → Bool
+are_narrow fs = list_all (λ f. not f.wide) fs
+
+narrow_at : (fs : List OutFrame) (m : ℕ) (f : OutFrame) → are_narrow fs ≡ true → slice_get fs m ≡ Some f → f.wide ≡ false
+narrow_at [] m f all q = lie (sym (ap is_some q))
+narrow_at (x ∷ fs) zero f all q = grind arith
+narrow_at (x ∷ fs) (suc m) f all q = narrow_at fs m f (grind arith) q
+
+-- a frame within a handshake, but for its last
+abbrev is_early : Awaited → Bool
+is_early AwaitReply = false
+is_early AwaitAck = false
+is_early AwaitMessage = false
+is_early a = true
+
+early_narrow : (h : History) (l : ℕ) (body : List ℕ) (a : Awaited) → is_early a ≡ true → are_narrow (frame_owes h l body a) ≡ true
+early_narrow h l body a q = grind arith
+
+refusals_narrow : (r : Rule) → are_narrow (refusal_owes r) ≡ true
+refusals_narrow r = grind arith
+
+module _ (o : Opening) (es : List Entry) (e : Entry) (l : ℕ) where
+  -- what is owed to a link that isn't whole
+  spoken : (fs : List OutFrame) → (is_whole l es ≡ false → fs ≡ []) → (m : ℕ) (f : OutFrame) → slice_get fs m ≡ Some f → is_whole l es ≡ true
+  spoken fs none m f q = by (is_whole l es) refl
+    where
+      by : (b : Bool) → is_whole l es ≡ b → is_whole l es ≡ true
+      by true w = w
+      by false w = lie (ap is_some (sym q ∙ ap (λ x. slice_get x m) (none w)))
+
+  untold : is_whole l es ≡ false → (s : List ℕ) (say : List Row → Message) (rows : List Row) → if_told (past o es) l s say rows ≡ []
+  untold w s say rows = grind arith
+
+  all_untold : is_whole l es ≡ false → (say : List ℕ → List Row → Message) (rows : List ℕ → List Row) (ss : List (List ℕ)) → flat_map (λ s. if_told (past o es) l s (say s) (rows s)) ss ≡ []
+  all_untold w say rows [] = refl
+  all_untold w say rows (s ∷ ss) = λ i. untold w s (say s) (rows s) i ++ all_untold w say rows ss i
+
+  unseen : is_whole l es ≡ false → (say : Message) → if_visible (past o es) l say ≡ []
+  unseen w say = grind arith
+
+  framed : (k : ℕ) (body : List ℕ) (r : Reply) → IsAnswered (past o es) (but e (Event.Frame k body) (Accepted r)) → k ≡ l → (a : Awaited) → awaits l es ≡ a
+      → (m : ℕ) (f : OutFrame) → slice_get (frame_owes (past o es) l body a) m ≡ Some f → f.wide ≡ true → is_whole l (but e (Event.Frame k body) (Accepted r) ∷ es) ≡ true
+  framed k body r made is AwaitReply a m f q w = (reply_taken (past o es) (but e (Event.Frame k body) (Accepted r)) made refl l body (ap (λ j. Event.Frame j body) is) a).whole
+  framed k body r made is AwaitAck a m f q w = (ack_taken (past o es) (but e (Event.Frame k body) (Accepted r)) made refl l body (ap (λ j. Event.Frame j body) is) a).whole
+  framed k body r made is AwaitMessage a m f q w = (message_taken_on (past o es) (but e (Event.Frame k body) (Accepted r)) made refl l body (ap (λ j. Event.Frame j body) is) a).whole
+  framed k body r made is x a m f q w = lie (sym w ∙ narrow_at (frame_owes (past o es) l body x) m f (early_narrow (past o es) l body x refl) q)
+
+  by_frame : (k : ℕ) (body : List ℕ) (r : Reply) → IsAnswered (past o es) (but e (Event.Frame k body) (Accepted r)) → (b : Bool) → (k == l) ≡ b
+      → (m : ℕ) (f : OutFrame) → slice_get (cond b (frame_owes (past o es) l body (awaits l es)) []) m ≡ Some f → f.wide ≡ true → is_whole l (but e (Event.Frame k body) (Accepted r) ∷ es) ≡ true
+  by_frame k body r made true is m f q w = framed k body r made (eqb-true k l is) (awaits l es) refl m f q w
+  by_frame k body r made false is m f q w = lie (sym (ap is_some q))
+
+  by_refusal : (r : Rule) (b : Bool) (m : ℕ) (f : OutFrame) → slice_get (cond b (refusal_owes r) []) m ≡ Some f → f.wide ≡ false
+  by_refusal r true m f q = narrow_at (refusal_owes r) m f (refusals_narrow r) q
+  by_refusal r false m f q = lie (sym (ap is_some q))
+
+  by_dial : (b : Bool) (name : OutFrame) (m : ℕ) (f : OutFrame) → name.wide ≡ false → slice_get (cond b (name ∷ []) []) m ≡ Some f → f.wide ≡ false
+  by_dial true name m f narrow q = narrow_at (name ∷ []) m f (ap (λ b. not b && true) narrow) q
+  by_dial false name m f narrow q = lie (sym (ap is_some q))
+
+  whole_when_said : (ev : Event) (v : Verdict) → IsAnswered (past o es) (but e ev v) → (m : ℕ) (f : OutFrame) → slice_get (owed (past o es) l e.number ev v) m ≡ Some f → f.wide ≡ true
+      → is_whole l (but e ev v ∷ es) ≡ true
+  whole_when_said (Event.StartScope s) (Accepted r) made m f q w = spoken (if_visible (past o es) l (Message.Discover s)) (λ un. unseen un (Message.Discover s)) m f q
+  whole_when_said (Event.StopScope s) (Accepted r) made m f q w = spoken (if_visible (past o es) l (Message.Down s)) (λ un. unseen un (Message.Down s)) m f q
+  whole_when_said (Event.Exit p) (Accepted r) made m f q w =
+      spoken (owed (past o es) l e.number (Event.Exit p) (Accepted r)) (λ un. all_untold un (λ s. Message.Leave s) (λ s. filter (λ x. same_pid x.pid p) (local_rows (past o es) s)) (running_scopes (past o es))) m f q
+  whole_when_said (Event.Join s g ps) (Accepted r) made m f q w =
+      spoken (owed (past o es) l e.number (Event.Join s g ps) (Accepted r)) (λ un. untold un s (Message.Join s) (map (row g) (listing pid_cmp (λ p. mentions p ps) ps))) m f q
+  whole_when_said (Event.Leave s g ps) (Accepted r) made m f q w =
+      spoken (owed (past o es) l e.number (Event.Leave s g ps) (Accepted r)) (λ un. untold un s (Message.Leave s) (map (row g) (listing pid_cmp (λ p. min (mentions p ps) (own (past o es) s g p)) ps))) m f q
+  whole_when_said (Event.Dial n c) (Accepted r) made m f q w = lie (sym w ∙ by_dial (e.number == l) (own_name_frame (past o es)) m f refl q)
+  whole_when_said (Event.Frame k body) (Accepted r) made m f q w = by_frame k body r made (k == l) refl m f q w
+  whole_when_said (Event.Frame k body) (Refused r) made m f q w = lie (sym w ∙ by_refusal r (k == l) m f q)
+  whole_when_said ev v made m f q w = lie (sym (ap is_some q))
+
+-- ---- along a history
+
+abbrev pub IsSaidUp : ℕ → History → OutFrame → Type 0
+IsSaidUp l h f = IsTrue f.wide → IsProvedLink h l
+
+pub all_said_up : (o : Opening) (es : List Entry) → IsLegalIn o es → (l : ℕ) → AllOwed o l (IsSaidUp l) es
+all_said_up o [] legal l = tt
+all_said_up o (e ∷ es) legal l = (
+  λ m f q w.
+      let made : IsAnswered (past o es) e = record { room = legal.0.room; number = legal.0.number; verdict = legal.0.verdict } in
+      was_proved o (e ∷ es) legal l (whole_when_said o es e l e.event e.verdict made m f q w),
+  all_said_up o es legal.1 l,
+)

@@ -1,0 +1,6 @@
+use Rattle.frame_laws.proofs.Bodies.{honest_first}
+use Rattle.frame_laws.proofs.HonestNode.{node_honest}
+use Rattle.frame_laws.proofs.laws.honest.Goals as goal
+
+pub returns : goal.returns
+returns c = record { owed = node_honest; first = honest_first }

@@ -1,0 +1,12 @@
+pub mod Sent
+pub mod Moments
+pub mod ToldRows
+pub mod Views
+pub mod Written
+pub mod Says
+pub mod Hellos
+pub mod Known
+pub mod MaySay
+pub mod Honest
+pub mod Given
+pub mod HeardMoment
