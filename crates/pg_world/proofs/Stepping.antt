@@ -1,0 +1,36 @@
+-- What a node's step says of its answer.
+use Rattle.std.proofs.Common.{◌≡◌, ℕ, Bool, true, false, not, cond, Some, None, Ok, Err, ap, sym, refl, arith}
+use Rattle.policy_audit.specs.declared.event.Event.{Event}
+use Rattle.policy_audit.specs.declared.event.Event.TheVariants as event
+use Rattle.policy_audit.specs.declared.reply.Reply.{Reply}
+use Rattle.policy_audit.specs.declared.reply.Reply.TheVariants as reply
+use Rattle.policy_audit.specs.declared.rule.Rule.TheVariants as rule
+use Rattle.policy_audit.specs.declared.entry.Verdict.TheVariants.{Accepted, Refused}
+use Rattle.policy_audit.specs.History.{History}
+use Rattle.policy_audit.specs.Owed.{waiting, is_kept}
+use Rattle.policy_audit.specs.Checks.{checks, first_broken}
+use Rattle.policy_audit.specs.Policy.{is_full, judged, with_entry, entry_of}
+use Rattle.node_core.specs.declared.fault.CoreFault.TheVariants as core_fault
+use Rattle.node_core.specs.Step.{IsStepped}
+
+-- a full audit refuses every event, and nothing is entered
+pub full_step : (h : History) (seat : ℕ) (e : Event) → is_full h ≡ true → IsStepped h seat e h (Err (core_fault.Refused rule.EntriesFull))
+unfolding IsStepped
+full_step h seat e full = (
+  ap (λ b. cond b (Refused rule.EntriesFull) (judged h seat e (first_broken (checks h seat e)))) full,
+  sym (ap (λ b. cond b h (with_entry h (entry_of h seat e))) full),
+)
+
+-- where the audit isn't full, memory may be wanting
+pub memory_step : (h : History) (seat : ℕ) (e : Event) → is_full h ≡ false → IsStepped h seat e h (Err core_fault.OutOfMemory)
+unfolding IsStepped
+memory_step h seat e space = (space, refl)
+
+module _ (h : History) (seat l : ℕ) (r : Reply) where
+  by : (full kept : Bool) → cond full (Refused rule.EntriesFull) (judged h seat (event.Take l) (cond (not kept) (Some rule.NoSuchLink) None)) ≡ Accepted r → (kept ≡ true) × (r ≡ reply.Out (waiting h l))
+  by full kept e = grind arith
+
+  -- a Take hands over what waits for a link that is kept
+  pub taken : (new : History) → IsStepped h seat (event.Take l) new (Ok r) → (is_kept h l ≡ true) × (r ≡ reply.Out (waiting h l))
+  unfolding IsStepped
+  taken new t = by (is_full h) (is_kept h l) t.0

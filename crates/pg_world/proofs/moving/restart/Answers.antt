@@ -1,0 +1,6 @@
+use Rattle.pg_world.specs.World.{world}
+use Rattle.pg_world.proofs.Turning.{restart_is}
+use Rattle.pg_world.proofs.moving.restart.Goals as goal
+
+pub returns : goal.returns
+returns c = λ xs. restart_is (world c.args.nodes.now xs) (world c.ask.new.nodes xs) c.args.node c.args.seat c.ask.result (c.ask.ensures xs)

@@ -1,0 +1,7 @@
+use Rattle.std.proofs.Common.{◌≡◌, ◌<◌, ℕ, Some, ◌≢◌}
+use Rattle.std.specs.Prelude.{slice_get}
+use Rattle.policy_audit.specs.History.{History}
+use Rattle.pg_world.proofs.world.is_named_before.Given as goal
+
+abbrev pub invariant-loop-earlier : goal.invariant-loop-earlier
+invariant-loop-earlier l = (i : ℕ) (h k : History) → i < l.earlier → slice_get l.nodes i ≡ Some h → slice_get l.nodes l.place ≡ Some k → h.opening.name ≢ k.opening.name

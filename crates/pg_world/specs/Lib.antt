@@ -1,0 +1,4 @@
+pub mod World
+pub mod Queues
+pub mod Steps
+pub mod Refusals

@@ -1,0 +1,33 @@
+//! What follows from the contract of a step. Each function does nothing; its contract is the law.
+ghost use Rattle.std.specs.Prelude.{◌≡◌, ◌≢◌, ℕ, IsTrue, Err, List, []};
+ghost use Rattle.std.specs.declared.result.Result.{Result};
+ghost use Rattle.policy_audit.specs.History.{History};
+ghost use Rattle.node_core.specs.declared.fault.CoreFault.TheVariants as core_fault;
+ghost use Rattle.pg_world.specs.declared.side.Side.{Side};
+ghost use Rattle.pg_world.specs.declared.world_step.WorldStep.{WorldStep};
+ghost use Rattle.pg_world.specs.declared.world_step.WorldReply.{WorldReply};
+ghost use Rattle.pg_world.specs.declared.fault.WorldFault.{WorldFault};
+ghost use Rattle.pg_world.specs.declared.fault.WorldFault.TheVariants as fault;
+ghost use Rattle.pg_world.specs.World.{Nodes, world, HaveNodes};
+ghost use Rattle.pg_world.specs.Steps.{IsWorldStep, end_at, opener_at};
+ghost use Rattle.pg_world.specs.Refusals.{keeps_wires};
+
+/// A step that wants memory changes nothing.
+pub fn memory_changes_nothing()
+    ensures { (old new : Nodes) (t : WorldStep) → IsWorldStep old t new (Err (fault.Core core_fault.OutOfMemory)) → new ≡ old }
+{}
+
+/// A refused step changes no wire, except that a frame whose delivery is refused by another rule than `EntriesFull` leaves its
+/// queue, and that a cut of a link that isn't kept drops what is under way to it.
+pub fn refusals_keep_wires()
+    ensures { (old new : Nodes) (t : WorldStep) (f : WorldFault) → IsWorldStep old t new (Err f) → IsTrue (keeps_wires t f) → new.wires ≡ old.wires }
+{}
+
+/// In a world without wires, and so in every world that steps make of it, both nodes of each wire are there. So `NoNode` is
+/// answered of no wire.
+pub fn wires_have_nodes()
+    ensures start { (hs : List History) → HaveNodes (world hs []) }
+    ensures stays { (old new : Nodes) (t : WorldStep) (r : Result WorldReply WorldFault) → HaveNodes old → IsWorldStep old t new r → HaveNodes new }
+    ensures ends { (w : Nodes) (n : ℕ) (at : Side) → HaveNodes w → end_at w n at ≢ Err fault.NoNode }
+    ensures opener { (w : Nodes) (n : ℕ) → HaveNodes w → opener_at w n ≢ Err fault.NoNode }
+{}

@@ -1,0 +1,20 @@
+//! Several nodes and the wires between them, one step at a time.
+#![tactic(auto)]
+
+mod fault;
+mod laws;
+mod moving;
+mod queue;
+mod side;
+mod wire;
+mod world;
+mod world_step;
+
+pub use fault::{SameName, WorldFault};
+pub use laws::{memory_changes_nothing, refusals_keep_wires, wires_have_nodes};
+pub use side::Side;
+pub use world::World;
+pub use world_step::{WorldReply, WorldStep};
+
+#[cfg(test)]
+mod tests;
