@@ -4,3 +4,9 @@ pub mod Turning
 pub mod Naming
 pub mod Refusals
 pub mod Wired
+mod Puts
+mod Entering
+mod Ends
+mod Moments
+mod Starting
+mod Steady

@@ -2,3 +2,5 @@ pub mod World
 pub mod Queues
 pub mod Steps
 pub mod Refusals
+pub mod Sound
+pub mod Views

@@ -1,5 +1,5 @@
 //! What follows from the contract of a step. Each function does nothing; its contract is the law.
-ghost use Rattle.std.specs.Prelude.{◌≡◌, ◌≢◌, ℕ, IsTrue, Err, List, []};
+ghost use Rattle.std.specs.Prelude.{◌≡◌, ◌≢◌, ℕ, IsTrue, Err, List, [], Some, slice_get};
 ghost use Rattle.std.specs.declared.result.Result.{Result};
 ghost use Rattle.policy_audit.specs.History.{History};
 ghost use Rattle.node_core.specs.declared.fault.CoreFault.TheVariants as core_fault;
@@ -8,9 +8,12 @@ ghost use Rattle.pg_world.specs.declared.world_step.WorldStep.{WorldStep};
 ghost use Rattle.pg_world.specs.declared.world_step.WorldReply.{WorldReply};
 ghost use Rattle.pg_world.specs.declared.fault.WorldFault.{WorldFault};
 ghost use Rattle.pg_world.specs.declared.fault.WorldFault.TheVariants as fault;
-ghost use Rattle.pg_world.specs.World.{Nodes, world, HaveNodes};
+ghost use Rattle.pg_world.specs.World.{Nodes, world, DifferInName, HaveNodes};
 ghost use Rattle.pg_world.specs.Steps.{IsWorldStep, end_at, opener_at};
 ghost use Rattle.pg_world.specs.Refusals.{keeps_wires};
+ghost use Rattle.pg_world.specs.Sound.{IsWorld};
+ghost use Rattle.frame_laws.specs.Written.{IsNode};
+ghost use Rattle.pg_world.specs.Views.{ListMoments, ListNow};
 
 /// A step that wants memory changes nothing.
 pub fn memory_changes_nothing()
@@ -30,4 +33,23 @@ pub fn wires_have_nodes()
     ensures stays { (old new : Nodes) (t : WorldStep) (r : Result WorldReply WorldFault) → HaveNodes old → IsWorldStep old t new r → HaveNodes new }
     ensures ends { (w : Nodes) (n : ℕ) (at : Side) → HaveNodes w → end_at w n at ≢ Err fault.NoNode }
     ensures opener { (w : Nodes) (n : ℕ) → HaveNodes w → opener_at w n ≢ Err fault.NoNode }
+{}
+
+/// In a world, where a node's present link to another hears a scope, the node lists the other's own rows at one moment: the source of the
+/// last Sync, Join or Leave that it accepted there in this hearing, when the other had proved its end of the link, with no restart since. Where it
+/// doesn't hear the scope, it lists no row of the other.
+pub fn list_moments()
+    ensures { (w : Nodes) → IsWorld w → ListMoments w }
+{}
+
+/// In a world, where both ends of a wire are up and visible, tell and hear each other in a scope, and nothing waits or is under way there,
+/// each lists exactly the other's own rows of now.
+pub fn list_now()
+    ensures { (w : Nodes) → IsWorld w → ListNow w }
+{}
+
+/// Nodes that have seen nothing and differ in their names are a world, without wires.
+pub fn starts_sound()
+    ensures { (hs : List History) → DifferInName hs → ((i : ℕ) (h : History) → slice_get hs i ≡ Some h → IsNode h) → ((i : ℕ) (h : History) → slice_get hs i ≡ Some h → h.entries ≡ [])
+        → IsWorld (world hs []) }
 {}

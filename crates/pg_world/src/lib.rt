@@ -11,7 +11,10 @@ mod world;
 mod world_step;
 
 pub use fault::{SameName, WorldFault};
-pub use laws::{memory_changes_nothing, refusals_keep_wires, wires_have_nodes};
+pub use laws::{
+    list_moments, list_now, memory_changes_nothing, refusals_keep_wires, starts_sound,
+    wires_have_nodes,
+};
 pub use side::Side;
 pub use world::World;
 pub use world_step::{WorldReply, WorldStep};

@@ -1,0 +1,30 @@
+-- A world of nodes that have seen nothing, without wires.
+use Rattle.std.proofs.Common.{◌≡◌, arith, ℕ, Bool, true, false, List, [], Some, ap, sym, refl, subst, ◌∙◌}
+use Rattle.std.specs.Prelude.{slice_get, nat_lt}
+use Rattle.std.proofs.lemmas.Bool.{ltb-true}
+use Rattle.policy_audit.specs.History.{History}
+use Rattle.policy_audit.specs.Links.{is_open}
+use Rattle.policy_audit.proofs.Accepted.{lie, no_value}
+use Rattle.frame_laws.specs.Written.{IsNode}
+use Rattle.pg_world.specs.World.{world, DifferInName}
+use Rattle.pg_world.specs.Sound.{IsWorld, FramesAreLate}
+
+module _ (hs : List History) (differ : DifferInName hs) (nodes : (i : ℕ) (h : History) → slice_get hs i ≡ Some h → IsNode h) (unused : (i : ℕ) (h : History) → slice_get hs i ≡ Some h → h.entries ≡ []) where
+  named : (i j : ℕ) (h k : History) → slice_get hs i ≡ Some h → slice_get hs j ≡ Some k → h.opening.name ≡ k.opening.name → i ≡ j
+  named i j h k p q same = by (nat_lt i j) refl (nat_lt j i) refl
+    where
+      by : (a : Bool) → nat_lt i j ≡ a → (b : Bool) → nat_lt j i ≡ b → i ≡ j
+      by true less b other = absurd (differ i j h k (ltb-true i j less) p q same)
+      by false least true more = absurd (differ j i k h (ltb-true j i more) q p (sym same))
+      by false least false most = grind (arith, least, most)
+
+  pub starts : IsWorld (world hs [])
+  starts = record {
+    nodes = nodes;
+    late = λ i h q. subst FramesAreLate (sym (unused i h q)) tt;
+    names = named;
+    wired = λ n x q. no_value (sym q);
+    carried = λ n x q. no_value (sym q);
+    once = λ m n x y j k i l q. no_value (sym q);
+    ends = λ i h q l opens. lie (sym opens ∙ ap (is_open l) (unused i h q));
+  }
