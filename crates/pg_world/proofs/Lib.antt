@@ -10,3 +10,4 @@ mod Ends
 mod Moments
 mod Starting
 mod Steady
+mod Next

@@ -26,7 +26,7 @@ use Rattle.pg_world.specs.Refusals.{keeps_wires}
 -- ---- lists
 
 -- an element put where it stands
-same_element : {A : Type 0} (xs : List A) (n : ℕ) (x : A) → slice_get xs n ≡ Some x → slice_set xs n x ≡ xs
+pub same_element : {A : Type 0} (xs : List A) (n : ℕ) (x : A) → slice_get xs n ≡ Some x → slice_set xs n x ≡ xs
 same_element xs n x e = ap (slice_set xs n) (sym (get_or_from_slice_get xs n x x e)) ∙ set-get_or xs n x
 
 -- a wire that stays
@@ -68,7 +68,7 @@ fault_is t (Err g) xs f e = (g, refl, its t e)
     its (step.Restart i seat) e = ap (λ v. elim v as (λ _. WorldFault) [ Ok r ↦ f | Err g ↦ g ]) e
 
 -- the wires after such a fault
-wires_stay : (t : WorldStep) (g : CoreFault) (xs : List Wire) → IsTrue (keeps_wires t (fault.Core g)) → wires_after t (Err g) xs ≡ xs
+pub wires_stay : (t : WorldStep) (g : CoreFault) (xs : List Wire) → IsTrue (keeps_wires t (fault.Core g)) → wires_after t (Err g) xs ≡ xs
 wires_stay (step.Call i seat ev) g xs k = refl
 wires_stay (step.Dial i j seat c) g xs k = append-nil xs
 wires_stay (step.Accept n seat c) g xs k = same_wire xs n (λ x. x) (λ x. refl)
