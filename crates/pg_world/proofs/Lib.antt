@@ -11,3 +11,9 @@ mod Moments
 mod Starting
 mod Steady
 mod Next
+mod Queued
+mod Calling
+mod Cutting
+mod Opening
+mod Dialling
+mod Accepting

@@ -1,5 +1,5 @@
 -- What a node's step makes of its history: nothing, or one entry; and so of a world.
-use Rattle.std.proofs.Common.{◌≡◌, ◌&&◌, ℕ, Bool, true, false, cond, List, [], ◌∷◌, Option, Some, None, Ok, Err, ap, sym, refl, subst, ◌∙◌}
+use Rattle.std.proofs.Common.{◌≡◌, ◌&&◌, arith, ℕ, Bool, true, false, cond, List, [], ◌∷◌, Option, Some, None, Ok, Err, ap, sym, refl, subst, ◌∙◌}
 use Rattle.std.specs.Prelude.{slice_get, slice_set}
 use Rattle.std.specs.declared.result.Result.{Result}
 use Rattle.std.specs.Option.{option_map_or}
@@ -102,11 +102,11 @@ module _ (h : History) (seat : ℕ) where
   -- the verdict of an audit that isn't full names another rule than EntriesFull
   judged_leaves : (e : Event) (cs : List Check) → all_leave cs ≡ true → leaves (says (judged h seat e (first_broken cs))) ≡ true
   judged_leaves e [] q = refl
-  judged_leaves e (c ∷ cs) q = by c.broken
+  judged_leaves e (c ∷ cs) q = by (judged_leaves e cs (and_right (leaves (Err (core_fault.Refused c.rule))) (all_leave cs) q)) c.broken
     where
-      by : (b : Bool) → leaves (says (judged h seat e (cond b (Some c.rule) (first_broken cs)))) ≡ true
-      by true = and_left (leaves (Err (core_fault.Refused c.rule))) (all_leave cs) q
-      by false = judged_leaves e cs (and_right (leaves (Err (core_fault.Refused c.rule))) (all_leave cs) q)
+      by : leaves (says (judged h seat e (first_broken cs))) ≡ true → (b : Bool) → leaves (says (judged h seat e (cond b (Some c.rule) (first_broken cs)))) ≡ true
+      by rest true = and_left (leaves (Err (core_fault.Refused c.rule))) (all_leave cs) q
+      by rest false = rest
 
   module _ (e : Event) (new : History) where
     by_verdict : (a : Result Reply CoreFault) → a ≡ says (verdict h seat e) → new ≡ after h seat e → Made h e new a

@@ -30,7 +30,7 @@ pub same_element : {A : Type 0} (xs : List A) (n : ℕ) (x : A) → slice_get xs
 same_element xs n x e = ap (slice_set xs n) (sym (get_or_from_slice_get xs n x x e)) ∙ set-get_or xs n x
 
 -- a wire that stays
-same_wire : (xs : List Wire) (n : ℕ) (f : Wire → Wire) → ((x : Wire) → f x ≡ x) → changed n f xs ≡ xs
+pub same_wire : (xs : List Wire) (n : ℕ) (f : Wire → Wire) → ((x : Wire) → f x ≡ x) → changed n f xs ≡ xs
 same_wire xs n f stays = by (slice_get xs n) refl
   where
     by : (o : Option Wire) → slice_get xs n ≡ o → elim o as (λ _. List Wire) [ Some x ↦ slice_set xs n (f x) | None ↦ xs ] ≡ xs
