@@ -1,5 +1,6 @@
 //! A world.
 ghost use Rattle.std.specs.Prelude.{◌≡◌, [], ◌<◌, IsTrue, IsFalse, IfOk, IfErr, OnOk, OnErr, length, ℕ, Some, slice_get, ◌≢◌};
+ghost use Rattle.std.specs.Option.{option_copied};
 ghost use Rattle.policy_audit.specs.History.{History};
 ghost use Rattle.pg_world.specs.World.{world, DifferInName, ShareAName};
 ghost use Rattle.pg_world.specs.Steps.{IsWorldStep};
@@ -44,6 +45,20 @@ impl World {
             nodes,
             wires: Vec::new(alloc),
         })
+    }
+
+    /// The node at a place, counted from 0 in the order in which nodes were handed in.
+    pub fn node(&self, place: usize) -> Option<&NodeCore>
+        ensures { option_copied result ≡ slice_get self.now.nodes place }
+    {
+        self.nodes.get(place)
+    }
+
+    /// How many wires there are. Their places are the numbers below it.
+    pub fn wires(&self) -> usize
+        ensures { result ≡ length self.now.wires }
+    {
+        self.wires.len()
     }
 
     /// One step of one node, or the first fault, which changes nothing.
