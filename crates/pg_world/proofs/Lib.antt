@@ -17,3 +17,5 @@ mod Cutting
 mod Opening
 mod Dialling
 mod Accepting
+mod Handing
+mod Delivering

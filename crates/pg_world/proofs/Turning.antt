@@ -86,7 +86,7 @@ module _ (w : Nodes) (n : ℕ) (at : Side) (seat : ℕ) where
   deliver_turn o q = ap (λ v. at_end v (asks_frame seat (queue_at w n at))) q
 
   -- the queue at this side
-  queue_is : (x : Wire) → slice_get w.wires n ≡ Some x → queue_at w n at ≡ under_way at x
+  pub queue_is : (x : Wire) → slice_get w.wires n ≡ Some x → queue_at w n at ≡ under_way at x
   queue_is x q = ap (λ o. elim o as (λ _. List OutFrame) [ Some y ↦ under_way at y | None ↦ [] ]) q
 
   -- nothing is under way
