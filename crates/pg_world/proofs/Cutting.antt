@@ -90,7 +90,7 @@ module _ (w : Nodes) (sound : IsWorld w) (n : ℕ) (at : Side) (seat : ℕ) wher
     cut_kept : IsWorld (record { nodes = after w sound i h e here next written (apart.late h.entries); wires = wires_after (step.Cut n at seat) (says e.verdict) w.wires })
     cut_kept = queued w sound i h e here next written (apart.late h.entries) n at (cut_by (says e.verdict)) x stands opens
         (λ to gets. ap (λ q. new_came w.nodes i h e here next.number legal (node_at to x) (link_at to x) ++ bodies q) (same_queue to (side_of at to) gets)
-          ∙ still_fits (new_came w.nodes i h e here next.number legal (node_at to x) (link_at to x)) (new_handed w.nodes i h e here next.number legal (node_at (other to) x) (link_at (other to) x)) (bodies (under_way to x)) (none_in (node_at to x) to x) (none_out (node_at (other to) x) (other to) x))
+        ∙ still_fits (new_came w.nodes i h e here next.number legal (node_at to x) (link_at to x)) (new_handed w.nodes i h e here next.number legal (node_at (other to) x) (link_at (other to) x)) (bodies (under_way to x)) (none_in (node_at to x) to x) (none_out (node_at (other to) x) (other to) x))
         (λ m y other_wire its to. (none_in (node_at to y) to y, none_out (node_at to y) to y))
 
   pub cuts : Keeps w (step.Cut n at seat) (turn_of w (step.Cut n at seat))

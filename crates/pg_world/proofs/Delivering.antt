@@ -1,6 +1,6 @@
 -- A world stays one where the oldest frame of a queue comes.
 use Rattle.std.proofs.Common.{◌≡◌, ◌++◌, ℕ, true, cond, List, [], ◌∷◌, Option, Some, ap, sym, refl, subst, ◌∙◌, drop}
-use Rattle.std.specs.Prelude.{slice_get, is_some, ◌==◌}
+use Rattle.std.specs.Prelude.{slice_get, is_some}
 use Rattle.std.proofs.lemmas.Bool.{eq-eqb}
 use Rattle.policy_audit.specs.OutFrame.{OutFrame}
 use Rattle.policy_audit.specs.History.{History}
@@ -13,7 +13,7 @@ use Rattle.frame_laws.specs.Written.{IsWritten}
 use Rattle.frame_laws.proofs.Places.{append_nil}
 use Rattle.pg_world.specs.declared.side.Side.{Side}
 use Rattle.pg_world.specs.declared.world_step.WorldStep.TheVariants as step
-use Rattle.pg_world.specs.World.{Wire, Nodes, world, node_at, link_at, under_way, other}
+use Rattle.pg_world.specs.World.{Wire, Nodes, node_at, link_at, under_way, other}
 use Rattle.pg_world.specs.Queues.{leaves, left_by}
 use Rattle.pg_world.specs.Steps.{turn_of, queue_at, asks_frame, changed_queue, wires_after}
 use Rattle.pg_world.specs.Sound.{IsWorld, IsLate, bodies}
@@ -21,7 +21,7 @@ use Rattle.pg_world.proofs.Calling.{starts_none}
 use Rattle.pg_world.proofs.Entering.{ends_low, new_came, new_handed, none_handed, came_once}
 use Rattle.pg_world.proofs.Handing.{apart_sides, this_wire, this_side}
 use Rattle.pg_world.proofs.Next.{says, Keeps, at_wire}
-use Rattle.pg_world.proofs.Requeued.{queue_here, queue_there, IsSide, Here, There, side_of, still_fits, requeued}
+use Rattle.pg_world.proofs.Queued.{queue_here, queue_there, IsSide, Here, There, side_of, still_fits, queued}
 use Rattle.pg_world.proofs.Steady.{after}
 use Rattle.pg_world.proofs.Turning.{queue_is}
 
@@ -82,10 +82,10 @@ module _ (w : Nodes) (sound : IsWorld w) (n : ℕ) (at : Side) (seat : ℕ) wher
         let same : under_way to now ≡ under_way to x = subst (λ s. under_way s now ≡ under_way s x) (sym q) (queue_there (left_by (says e.verdict) (under_way at x)) x at) in
         ap (λ v. came_at (node_at to x) (link_at to x) ++ bodies v) same
         ∙ still_fits (came_at (node_at to x) (link_at to x)) (handed_at (node_at (other to) x) (link_at (other to) x)) (bodies (under_way to x))
-          (not_elsewhere (node_at to x) (link_at to x) (λ node its. apart_sides at (sym q ∙ this_side w sound n at x l stands link to node its))) (none_out (node_at (other to) x) (link_at (other to) x))
+        (not_elsewhere (node_at to x) (link_at to x) (λ node its. apart_sides at (sym q ∙ this_side w sound n at x l stands link to node its))) (none_out (node_at (other to) x) (link_at (other to) x))
 
     frame_kept : IsWorld (record { nodes = after w sound i h e here next written late; wires = wires_after (step.Deliver n at seat) (says e.verdict) w.wires })
-    frame_kept = requeued w sound i h e here next written late n at (left_by (says e.verdict)) x stands (starts_none e (ap (λ v. is_some (start_of v)) is))
+    frame_kept = queued w sound i h e here next written late n at (left_by (says e.verdict)) x stands (starts_none e (ap (λ v. is_some (start_of v)) is))
         (λ to gets. fits to (side_of at to))
         (λ m y other_wire its to. (not_elsewhere (node_at to y) (link_at to y) (λ node same. other_wire (this_wire w sound n at x l stands link m y its to node same)), none_out (node_at to y) (link_at to y)))
 

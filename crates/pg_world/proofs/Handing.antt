@@ -1,6 +1,6 @@
 -- A world stays one where a node hands out what waits for a link.
 use Rattle.std.proofs.Common.{◌≡◌, ◌++◌, ℕ, cond, List, [], Option, Some, ap, sym, refl, subst, ◌∙◌}
-use Rattle.std.specs.Prelude.{slice_get, is_some, ◌==◌}
+use Rattle.std.specs.Prelude.{slice_get, is_some}
 use Rattle.std.proofs.lemmas.Bool.{eq-eqb}
 use Rattle.policy_audit.specs.OutFrame.{OutFrame}
 use Rattle.policy_audit.specs.History.{History}
@@ -17,14 +17,14 @@ use Rattle.frame_laws.proofs.Places.{append_nil}
 use Rattle.pg_world.specs.declared.side.Side.{Side}
 use Rattle.pg_world.specs.declared.side.Side.TheVariants as side
 use Rattle.pg_world.specs.declared.world_step.WorldStep.TheVariants as step
-use Rattle.pg_world.specs.World.{Wire, Nodes, world, node_at, link_at, under_way, other}
+use Rattle.pg_world.specs.World.{Wire, Nodes, node_at, link_at, under_way, other}
 use Rattle.pg_world.specs.Queues.{joined_by}
 use Rattle.pg_world.specs.Steps.{turn_of, Asks, changed_queue, wires_after}
 use Rattle.pg_world.specs.Sound.{IsWorld, IsLate, bodies}
 use Rattle.pg_world.proofs.Calling.{starts_none}
 use Rattle.pg_world.proofs.Entering.{bodies_apart, new_came, new_handed, none_came, handed_once}
 use Rattle.pg_world.proofs.Next.{says, Keeps, at_wire}
-use Rattle.pg_world.proofs.Requeued.{queue_here, queue_there, IsSide, Here, There, side_of, still_fits, requeued}
+use Rattle.pg_world.proofs.Queued.{queue_here, queue_there, IsSide, Here, There, side_of, still_fits, queued}
 use Rattle.pg_world.proofs.Steady.{after}
 
 -- ---- sides
@@ -106,10 +106,10 @@ module _ (w : Nodes) (sound : IsWorld w) (n : ℕ) (at : Side) (seat : ℕ) wher
         let same : under_way to now ≡ under_way to x = subst (λ s. under_way s now ≡ under_way s x) (sym q) (queue_there (joined_by (says e.verdict) (under_way (other at) x)) x (other at)) in
         ap (λ fs. came_at (node_at to x) (link_at to x) ++ bodies fs) same
         ∙ still_fits (came_at (node_at to x) (link_at to x)) (handed_at (node_at (other to) x) (link_at (other to) x)) (bodies (under_way to x)) (none_in (node_at to x) (link_at to x))
-          (not_elsewhere (node_at (other to) x) (link_at (other to) x) (λ node its. apart_sides at (ap other (sym (q ∙ other_other at)) ∙ this_side w sound n at x l stands link (other to) node its)))
+        (not_elsewhere (node_at (other to) x) (link_at (other to) x) (λ node its. apart_sides at (ap other (sym (q ∙ other_other at)) ∙ this_side w sound n at x l stands link (other to) node its)))
 
     hand_kept : IsWorld (record { nodes = after w sound i h e here next written late; wires = wires_after (step.Hand n at seat) (says e.verdict) w.wires })
-    hand_kept = requeued w sound i h e here next written late n (other at) (joined_by (says e.verdict)) x stands (starts_none e (ap (λ v. is_some (start_of v)) is))
+    hand_kept = queued w sound i h e here next written late n (other at) (joined_by (says e.verdict)) x stands (starts_none e (ap (λ v. is_some (start_of v)) is))
         (λ to gets. fits to (side_of (other at) to))
         (λ m y other_wire its to. (none_in (node_at to y) (link_at to y), not_elsewhere (node_at to y) (link_at to y) (λ node same. other_wire (this_wire w sound n at x l stands link m y its to node same))))
 

@@ -19,3 +19,4 @@ mod Dialling
 mod Accepting
 mod Handing
 mod Delivering
+mod Staying

@@ -87,8 +87,8 @@ module _ (w : Nodes) (sound : IsWorld w) (i : ℕ) (h : History) (e : Entry) (he
   pub still_carries : (m : ℕ) (y : Wire) → slice_get w.wires m ≡ Some y → (to : Side) → Carries nodes_now y to
   still_carries m y its to = carries_on w.nodes i h e here next.number legal y y (same_ends y) (sound.wired m y its) to (sound.carried m y its to)
       (λ gets. still_fits (new_came w.nodes i h e here next.number legal (node_at to y) (link_at to y)) (new_handed w.nodes i h e here next.number legal (node_at (other to) y) (link_at (other to) y)) (bodies (under_way to y))
-        (none_came w.nodes i h e here next.number legal apart.none_in (node_at to y) (link_at to y))
-        (none_handed w.nodes i h e here next.number legal (λ l. apart.none_out l e.verdict) (node_at (other to) y) (link_at (other to) y)))
+      (none_came w.nodes i h e here next.number legal apart.none_in (node_at to y) (link_at to y))
+      (none_handed w.nodes i h e here next.number legal (λ l. apart.none_out l e.verdict) (node_at (other to) y) (link_at (other to) y)))
 
   -- the new link was no end
   too_new : (m : ℕ) (u : Wire) → slice_get w.wires m ≡ Some u → (k : Side) (a b : ℕ) → IsEnd u k a b → a ≡ i → b ≡ e.number → ⊥

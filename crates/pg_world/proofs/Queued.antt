@@ -78,7 +78,7 @@ module _ (w : Nodes) (sound : IsWorld w) (i : ℕ) (h : History) (e : Entry) (he
 
   -- with the entry, what came or was handed out on this wire and is under way there fits, and nothing came or was handed out on others
   pub queued : ((to : Side) → gets_of (slice_get (after w sound i h e here next written late) (node_at to x)) (link_at to x) ≡ true
-          → new_came w.nodes i h e here next.number legal (node_at to x) (link_at to x) ++ bodies (under_way to (changed_queue at f x)) ≡ bodies (under_way to x) ++ new_handed w.nodes i h e here next.number legal (node_at (other to) x) (link_at (other to) x))
+      → new_came w.nodes i h e here next.number legal (node_at to x) (link_at to x) ++ bodies (under_way to (changed_queue at f x)) ≡ bodies (under_way to x) ++ new_handed w.nodes i h e here next.number legal (node_at (other to) x) (link_at (other to) x))
       → ((m : ℕ) (y : Wire) → (m ≡ n → ⊥) → slice_get w.wires m ≡ Some y → (to : Side) → (new_came w.nodes i h e here next.number legal (node_at to y) (link_at to y) ≡ []) × (new_handed w.nodes i h e here next.number legal (node_at to y) (link_at to y) ≡ []))
       → IsWorld (world (after w sound i h e here next written late) wires)
   queued fits others = steady w sound i h e here next written late wires opens_none back forth carried

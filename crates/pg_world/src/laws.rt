@@ -11,7 +11,7 @@ ghost use Rattle.pg_world.specs.declared.fault.WorldFault.TheVariants as fault;
 ghost use Rattle.pg_world.specs.World.{Nodes, world, DifferInName, HaveNodes};
 ghost use Rattle.pg_world.specs.Steps.{IsWorldStep, end_at, opener_at};
 ghost use Rattle.pg_world.specs.Refusals.{keeps_wires};
-ghost use Rattle.pg_world.specs.Sound.{IsWorld};
+ghost use Rattle.pg_world.specs.Sound.{IsWorld, IsWrittenStep};
 ghost use Rattle.frame_laws.specs.Written.{IsNode};
 ghost use Rattle.pg_world.specs.Views.{ListMoments, ListNow};
 
@@ -52,4 +52,9 @@ pub fn list_now()
 pub fn starts_sound()
     ensures { (hs : List History) → DifferInName hs → ((i : ℕ) (h : History) → slice_get hs i ≡ Some h → IsNode h) → ((i : ℕ) (h : History) → slice_get hs i ≡ Some h → h.entries ≡ [])
         → IsWorld (world hs []) }
+{}
+
+/// A world stays one with each step, whether it is answered or refused, if what the step brings is within its limits.
+pub fn stays_sound()
+    ensures { (old new : Nodes) (t : WorldStep) (r : Result WorldReply WorldFault) → IsWorld old → IsWrittenStep t → IsWorldStep old t new r → IsWorld new }
 {}

@@ -12,7 +12,7 @@ mod world_step;
 
 pub use fault::{SameName, WorldFault};
 pub use laws::{
-    list_moments, list_now, memory_changes_nothing, refusals_keep_wires, starts_sound,
+    list_moments, list_now, memory_changes_nothing, refusals_keep_wires, starts_sound, stays_sound,
     wires_have_nodes,
 };
 pub use side::Side;

@@ -1,0 +1,29 @@
+-- A world stays one with each of its steps.
+use Rattle.std.specs.declared.result.Result.{Result}
+use Rattle.pg_world.specs.declared.world_step.WorldStep.{WorldStep}
+use Rattle.pg_world.specs.declared.world_step.WorldStep.TheVariants as step
+use Rattle.pg_world.specs.declared.world_step.WorldReply.{WorldReply}
+use Rattle.pg_world.specs.declared.fault.WorldFault.{WorldFault}
+use Rattle.pg_world.specs.World.{Nodes}
+use Rattle.pg_world.specs.Steps.{IsWorldStep, turn_of}
+use Rattle.pg_world.specs.Sound.{IsWorld, IsWrittenStep}
+use Rattle.pg_world.proofs.Accepting.{accepts}
+use Rattle.pg_world.proofs.Calling.{calls, restarts}
+use Rattle.pg_world.proofs.Cutting.{cuts}
+use Rattle.pg_world.proofs.Delivering.{delivers}
+use Rattle.pg_world.proofs.Dialling.{dials}
+use Rattle.pg_world.proofs.Handing.{hands}
+use Rattle.pg_world.proofs.Next.{Keeps, stays_by}
+
+module _ (w : Nodes) (sound : IsWorld w) where
+  kept : (t : WorldStep) → IsWrittenStep t → Keeps w t (turn_of w t)
+  kept (step.Call i seat e) written = calls w sound i seat e written
+  kept (step.Dial i j seat c) written = dials w sound i j seat c written
+  kept (step.Accept n seat c) written = accepts w sound n seat c written
+  kept (step.Hand n at seat) written = hands w sound n at seat
+  kept (step.Deliver n at seat) written = delivers w sound n at seat
+  kept (step.Cut n at seat) written = cuts w sound n at seat
+  kept (step.Restart i seat) written = restarts w sound i seat
+
+pub stays : (w v : Nodes) (t : WorldStep) (r : Result WorldReply WorldFault) → IsWorld w → IsWrittenStep t → IsWorldStep w t v r → IsWorld v
+stays w v t r sound written s = stays_by w v t r sound (kept w sound t written) s
