@@ -1,10 +1,7 @@
 -- An accepted wire keeps the invariant: the link that is opened is its other end, or the opening is refused.
-use Rattle.std.proofs.Common.{◌≡◌, ◌+◌, ◌++◌, ℕ, true, false, cond, List, [], ◌∷◌, Option, Some, None, Ok, Err, ap, sym, refl, subst, ◌∙◌, length}
-use Rattle.std.specs.Prelude.{slice_get, slice_set}
+use Rattle.std.proofs.Common.{◌≡◌, ◌++◌, ℕ, true, List, ◌∷◌, Option, Some, None, Ok, Err, ap, sym, refl, subst, ◌∙◌}
+use Rattle.std.specs.Prelude.{slice_get}
 use Rattle.std.specs.declared.result.Result.{Result}
-use Rattle.policy_audit.specs.declared.reply.Reply.{Reply}
-use Rattle.policy_audit.specs.declared.reply.Reply.TheVariants as reply
-use Rattle.policy_audit.specs.declared.event.Event.{Event}
 use Rattle.policy_audit.specs.declared.event.Event.TheVariants as event
 use Rattle.policy_audit.specs.declared.entry.Entry.{Entry}
 use Rattle.policy_audit.specs.declared.entry.Verdict.{Verdict}
@@ -22,11 +19,11 @@ use Rattle.pg_world.specs.declared.fault.WorldFault.{WorldFault}
 use Rattle.pg_world.specs.declared.fault.WorldFault.TheVariants as fault
 use Rattle.pg_world.specs.World.{Wire, Nodes, world, with_link}
 use Rattle.pg_world.specs.Queues.{link_opened}
-use Rattle.pg_world.specs.Steps.{Turn, Refuses, asks_opened, opener, wire_opener, turn_of, changed, wires_after}
+use Rattle.pg_world.specs.Steps.{asks_opened, opener, wire_opener, turn_of, changed}
 use Rattle.pg_world.specs.Sound.{IsWorld, IsWired, IsEnd, HasEnd, Carries, came_of, handed_of, gets_of, bodies}
 use Rattle.pg_world.proofs.Calling.{IsApart, apart_kept, refused_none}
 use Rattle.pg_world.proofs.Entering.{stays_wired}
-use Rattle.pg_world.proofs.Next.{says, KeptBy, Keeps}
+use Rattle.pg_world.proofs.Next.{says, Keeps}
 use Rattle.pg_world.proofs.Opening.{nodes_now, now_here, came_none, handed_none, no_link_came, no_link_handed, no_link_gets, opens_it, still_carries, IsEndFrom, WasEnd, NewEnd, opens_world, number_answered}
 use Rattle.pg_world.proofs.Puts.{value_of, Compared, Same, Apart, compare, IsFound, Changed, Kept, found, changed_here, changed_there}
 use Rattle.pg_world.proofs.Refusals.{same_wire}

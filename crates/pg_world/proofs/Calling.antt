@@ -6,7 +6,6 @@ use Rattle.policy_audit.specs.declared.event.Event.{Event}
 use Rattle.policy_audit.specs.declared.event.Event.TheVariants as event
 use Rattle.policy_audit.specs.declared.entry.Entry.{Entry}
 use Rattle.policy_audit.specs.declared.entry.Verdict.{Verdict}
-use Rattle.policy_audit.specs.declared.entry.Verdict.TheVariants.{Accepted, Refused}
 use Rattle.policy_audit.specs.Sides.{start_of}
 use Rattle.policy_audit.specs.Links.{is_opened_by}
 use Rattle.policy_audit.specs.Policy.{IsNext, with_entry}

@@ -1,10 +1,9 @@
 -- A cut keeps the invariant: what is under way to a link that ends, or isn't kept, is dropped.
-use Rattle.std.proofs.Common.{◌≡◌, ◌&&◌, ◌||◌, not, ℕ, Bool, true, false, cond, List, [], ◌∷◌, ◌++◌, Some, None, ap, sym, refl, subst, ◌∙◌}
-use Rattle.std.specs.Prelude.{slice_get, ◌==◌, is_some}
+use Rattle.std.proofs.Common.{◌≡◌, ◌&&◌, ◌||◌, not, ℕ, Bool, true, false, cond, [], ◌∷◌, ◌++◌, Some, None, ap, sym, refl, subst, ◌∙◌}
+use Rattle.std.specs.Prelude.{slice_get, is_some}
 use Rattle.std.proofs.lemmas.Bool.{eq-eqb}
 use Rattle.dist_types.specs.Difference.{is_empty}
 use Rattle.policy_audit.specs.History.{History, is_accepted}
-use Rattle.policy_audit.specs.declared.event.Event.{Event}
 use Rattle.policy_audit.specs.declared.event.Event.TheVariants as event
 use Rattle.policy_audit.specs.declared.rule.Rule.{Rule}
 use Rattle.policy_audit.specs.declared.rule.Rule.TheVariants as rule
@@ -25,7 +24,7 @@ use Rattle.pg_world.specs.Steps.{Asks, turn_of, changed_queue, wires_after}
 use Rattle.pg_world.specs.Sound.{IsWorld, bodies, gets_of}
 use Rattle.pg_world.proofs.Calling.{IsApart, starts_none}
 use Rattle.pg_world.proofs.Entering.{new_came, new_handed, none_came, none_handed}
-use Rattle.pg_world.proofs.Next.{says, KeptBy, Keeps, at_wire}
+use Rattle.pg_world.proofs.Next.{says, Keeps, at_wire}
 use Rattle.pg_world.proofs.Puts.{get_same}
 use Rattle.pg_world.proofs.Queued.{queue_here, queue_there, IsSide, Here, There, side_of, still_fits, queued}
 use Rattle.pg_world.proofs.Steady.{after}

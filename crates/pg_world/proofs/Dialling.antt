@@ -1,9 +1,6 @@
 -- A dial keeps the invariant: it makes a wire of its link, or is refused.
-use Rattle.std.proofs.Common.{◌≡◌, ◌+◌, ℕ, true, false, cond, List, [], ◌∷◌, ◌++◌, Option, Some, None, Ok, Err, ap, sym, refl, subst, ◌∙◌, length}
-use Rattle.std.specs.Prelude.{slice_get, slice_set}
-use Rattle.policy_audit.specs.declared.reply.Reply.{Reply}
-use Rattle.policy_audit.specs.declared.reply.Reply.TheVariants as reply
-use Rattle.policy_audit.specs.declared.event.Event.{Event}
+use Rattle.std.proofs.Common.{◌≡◌, ℕ, true, List, [], ◌∷◌, ◌++◌, Option, Some, None, Ok, ap, sym, refl, subst, ◌∙◌, length}
+use Rattle.std.specs.Prelude.{slice_get}
 use Rattle.policy_audit.specs.declared.event.Event.TheVariants as event
 use Rattle.policy_audit.specs.declared.entry.Entry.{Entry}
 use Rattle.policy_audit.specs.declared.entry.Verdict.{Verdict}
@@ -20,11 +17,11 @@ use Rattle.pg_world.specs.declared.world_step.WorldStep.TheVariants as step
 use Rattle.pg_world.specs.declared.fault.WorldFault.TheVariants as fault
 use Rattle.pg_world.specs.World.{Wire, Nodes, world, dialled}
 use Rattle.pg_world.specs.Queues.{link_opened}
-use Rattle.pg_world.specs.Steps.{Turn, Refuses, asks, turn_of, new_wire, wires_after}
-use Rattle.pg_world.specs.Sound.{IsWorld, IsWired, IsEnd, HasEnd, Carries, came_of, handed_of, bodies}
+use Rattle.pg_world.specs.Steps.{Turn, Refuses, asks, turn_of, new_wire}
+use Rattle.pg_world.specs.Sound.{IsWorld, IsWired, IsEnd, Carries, came_of}
 use Rattle.pg_world.proofs.Calling.{IsApart, apart_kept, asks_kept, refused_none}
 use Rattle.pg_world.proofs.Entering.{onward, stays_wired}
-use Rattle.pg_world.proofs.Next.{says, KeptBy, Keeps}
+use Rattle.pg_world.proofs.Next.{says, Keeps}
 use Rattle.pg_world.proofs.Opening.{nodes_now, now_here, came_none, handed_none, no_link_came, no_link_handed, opens_it, still_carries, IsEndFrom, WasEnd, NewEnd, opens_world, number_answered}
 use Rattle.pg_world.proofs.Puts.{value_of, get_first, get_last, IsOneOf, Old, New, one_of}
 use Rattle.pg_world.proofs.Steady.{same_ends}

@@ -20,3 +20,5 @@ mod Accepting
 mod Handing
 mod Delivering
 mod Staying
+mod Playing
+mod Exchanged

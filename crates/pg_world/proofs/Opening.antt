@@ -1,8 +1,7 @@
 -- A world stays one with an entry that opens a link, which becomes the end of one wire.
-use Rattle.std.proofs.Common.{◌≡◌, ◌≤◌, ◌<◌, ◌+◌, ◌&&◌, arith, ℕ, true, false, cond, List, [], ◌∷◌, ◌++◌, Option, Some, None, ap, sym, refl, subst, ◌∙◌, length}
-use Rattle.std.specs.Prelude.{slice_get, ◌==◌, is_some}
+use Rattle.std.proofs.Common.{◌≡◌, ◌≤◌, ◌<◌, ◌&&◌, arith, ℕ, true, cond, List, [], ◌∷◌, ◌++◌, Option, Some, None, ap, sym, refl, subst, ◌∙◌, length}
+use Rattle.std.specs.Prelude.{slice_get, is_some}
 use Rattle.std.proofs.lemmas.Bool.{eq-eqb}
-use Rattle.policy_audit.specs.OutFrame.{OutFrame}
 use Rattle.policy_audit.specs.declared.reply.Reply.{Reply}
 use Rattle.policy_audit.specs.declared.reply.Reply.TheVariants as reply
 use Rattle.policy_audit.specs.declared.event.Event.{Event}
@@ -13,14 +12,14 @@ use Rattle.policy_audit.specs.Sides.{Start, start_of}
 use Rattle.policy_audit.specs.Links.{is_opened_by}
 use Rattle.policy_audit.specs.Policy.{IsLegal, IsNext, with_entry, answer, next_number}
 use Rattle.policy_audit.proofs.Accepted.{accepted, no_value}
-use Rattle.frame_laws.specs.Sent.{sent, handed, came, delivered, frames_of}
+use Rattle.frame_laws.specs.Sent.{sent, frames_of}
 use Rattle.frame_laws.specs.Hellos.{opening_of}
 use Rattle.frame_laws.specs.Written.{IsWritten}
 use Rattle.frame_laws.proofs.Handing.{all_handed}
 use Rattle.frame_laws.proofs.Openings.{opened_number, unborn_out}
 use Rattle.pg_world.specs.declared.side.Side.{Side}
 use Rattle.pg_world.specs.World.{Wire, Nodes, world, node_at, link_at, under_way, other}
-use Rattle.pg_world.specs.Sound.{IsWorld, IsWired, IsEnd, HasEnd, IsLate, FramesAreLate, Carries, came_of, handed_of, gets_of, bodies}
+use Rattle.pg_world.specs.Sound.{IsWorld, IsWired, IsEnd, HasEnd, Carries, came_of, handed_of, gets_of, bodies}
 use Rattle.pg_world.proofs.Calling.{IsApart}
 use Rattle.pg_world.proofs.Ends.{none_early}
 use Rattle.pg_world.proofs.Entering.{new_came, new_handed, none_came, none_handed, ends_low, carries_on}

@@ -4,3 +4,4 @@ pub mod Steps
 pub mod Refusals
 pub mod Sound
 pub mod Views
+pub mod Exchange

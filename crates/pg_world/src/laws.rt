@@ -1,5 +1,5 @@
 //! What follows from the contract of a step. Each function does nothing; its contract is the law.
-ghost use Rattle.std.specs.Prelude.{◌≡◌, ◌≢◌, ℕ, IsTrue, Err, List, [], Some, slice_get};
+ghost use Rattle.std.specs.Prelude.{◌≡◌, ◌≢◌, ℕ, IsTrue, Err, List, [], ◌++◌, Some, slice_get};
 ghost use Rattle.std.specs.declared.result.Result.{Result};
 ghost use Rattle.policy_audit.specs.History.{History};
 ghost use Rattle.node_core.specs.declared.fault.CoreFault.TheVariants as core_fault;
@@ -14,6 +14,7 @@ ghost use Rattle.pg_world.specs.Refusals.{keeps_wires};
 ghost use Rattle.pg_world.specs.Sound.{IsWorld, IsWrittenStep};
 ghost use Rattle.frame_laws.specs.Written.{IsNode};
 ghost use Rattle.pg_world.specs.Views.{ListMoments, ListNow};
+ghost use Rattle.pg_world.specs.Exchange.{Comes, IsExchanged, IsBehind, two_nodes, exchange, join_again};
 
 /// A step that wants memory changes nothing.
 pub fn memory_changes_nothing()
@@ -57,4 +58,12 @@ pub fn starts_sound()
 /// A world stays one with each step, whether it is answered or refused, if what the step brings is within its limits.
 pub fn stays_sound()
     ensures { (old new : Nodes) (t : WorldStep) (r : Result WorldReply WorldFault) → IsWorld old → IsWrittenStep t → IsWorldStep old t new r → IsWorld new }
+{}
+
+/// There are such worlds: two nodes that have seen nothing, and these steps, each with its answer. Then both ends of their wire
+/// exchange a scope, nothing is under way there, and each node lists a process of the other. Where that process joins once more,
+/// the other node lists it as often as before.
+pub fn two_nodes_exchange()
+    ensures now { (w : Nodes) × Comes two_nodes exchange w × IsWorld w × IsExchanged w }
+    ensures behind { (w : Nodes) × Comes two_nodes (exchange ++ join_again) w × IsWorld w × IsBehind w }
 {}

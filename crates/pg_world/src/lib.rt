@@ -13,7 +13,7 @@ mod world_step;
 pub use fault::{SameName, WorldFault};
 pub use laws::{
     list_moments, list_now, memory_changes_nothing, refusals_keep_wires, starts_sound, stays_sound,
-    wires_have_nodes,
+    two_nodes_exchange, wires_have_nodes,
 };
 pub use side::Side;
 pub use world::World;

@@ -1,0 +1,5 @@
+use Rattle.pg_world.proofs.Exchanged.{two_exchange, one_behind}
+use Rattle.pg_world.proofs.laws.two_nodes_exchange.Goals as goal
+
+pub returns : goal.returns
+returns c = record { now = two_exchange; behind = one_behind }
