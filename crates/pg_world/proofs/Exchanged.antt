@@ -19,7 +19,6 @@ use Rattle.pg_world.specs.Exchange.{fresh, two_nodes, exchange, join_again, Come
 use Rattle.pg_world.proofs.Playing.{play, plays, play_sound}
 use Rattle.pg_world.proofs.Puts.{value_of}
 use Rattle.pg_world.proofs.Starting.{starts}
-use Rattle.pg_world.proofs.Staying.{stays}
 
 -- ---- the nodes are nodes, and what the steps bring is within the limits
 
@@ -109,7 +108,7 @@ exchanged = record {
 }
 
 pub two_exchange : (w : Nodes) × Comes two_nodes exchange w × IsWorld w × IsExchanged w
-two_exchange = (last, plays two_nodes exchange, play_sound stays two_nodes exchange two_sound written, exchanged)
+two_exchange = (last, plays two_nodes exchange, play_sound two_nodes exchange two_sound written, exchanged)
 
 abbrev again : Nodes
 again = play two_nodes (exchange ++ join_again)
@@ -129,4 +128,4 @@ is_behind = record {
 }
 
 pub one_behind : (w : Nodes) × Comes two_nodes (exchange ++ join_again) w × IsWorld w × IsBehind w
-one_behind = (again, plays two_nodes (exchange ++ join_again), play_sound stays two_nodes (exchange ++ join_again) two_sound written_again, is_behind)
+one_behind = (again, plays two_nodes (exchange ++ join_again), play_sound two_nodes (exchange ++ join_again) two_sound written_again, is_behind)

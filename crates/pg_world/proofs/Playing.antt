@@ -23,6 +23,7 @@ use Rattle.pg_world.specs.Steps.{Turn, Refuses, Asks, Turns, IsWorldStep, turn_o
 use Rattle.pg_world.specs.Sound.{IsWorld, IsWrittenStep}
 use Rattle.pg_world.specs.Exchange.{Comes}
 use Rattle.pg_world.proofs.Next.{says}
+use Rattle.pg_world.proofs.Staying.{stays}
 
 -- ---- one step
 
@@ -135,6 +136,6 @@ pub plays : (w : Nodes) (ts : List WorldStep) → Comes w ts (play w ts)
 plays w [] = refl
 plays w (t ∷ ts) = (let it = played w t in (turned w t (turn_of w t), it.result, it.step, plays (turned w t (turn_of w t)) ts))
 
-pub play_sound : ((w v : Nodes) (t : WorldStep) (r : Result WorldReply WorldFault) → IsWorld w → IsWrittenStep t → IsWorldStep w t v r → IsWorld v) → (w : Nodes) (ts : List WorldStep) → IsWorld w → AllByRecursion IsWrittenStep ts → IsWorld (play w ts)
-play_sound stays w [] sound written = sound
-play_sound stays w (t ∷ ts) sound written = (let it = played w t in play_sound stays (turned w t (turn_of w t)) ts (stays w (turned w t (turn_of w t)) t it.result sound written.0 it.step) written.1)
+pub play_sound : (w : Nodes) (ts : List WorldStep) → IsWorld w → AllByRecursion IsWrittenStep ts → IsWorld (play w ts)
+play_sound w [] sound written = sound
+play_sound w (t ∷ ts) sound written = (let it = played w t in play_sound (turned w t (turn_of w t)) ts (stays w (turned w t (turn_of w t)) t it.result sound written.0 it.step) written.1)

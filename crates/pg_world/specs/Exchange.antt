@@ -33,8 +33,8 @@ abbrev pub two_nodes : Nodes
 two_nodes = world (fresh (codes "a@h") ∷ fresh (codes "b@h") ∷ []) []
 
 -- the first process of a node
-abbrev pub first_of : List ℕ → Pid
-first_of name = record { node = name; creation = 4; number = 1 }
+abbrev pub first_process : List ℕ → Pid
+first_process name = record { node = name; creation = 4; number = 1 }
 
 -- ---- the steps
 
@@ -45,8 +45,8 @@ exchange =
     ∷ step.Call 1 0 (event.StartScope (codes "pg"))
     ∷ step.Call 0 0 event.Spawn
     ∷ step.Call 1 0 event.Spawn
-    ∷ step.Call 0 0 (event.Join (codes "pg") (codes "g") (first_of (codes "a@h") ∷ []))
-    ∷ step.Call 1 0 (event.Join (codes "pg") (codes "g") (first_of (codes "b@h") ∷ []))
+    ∷ step.Call 0 0 (event.Join (codes "pg") (codes "g") (first_process (codes "a@h") ∷ []))
+    ∷ step.Call 1 0 (event.Join (codes "pg") (codes "g") (first_process (codes "b@h") ∷ []))
     ∷ step.Dial 0 1 0 77
     ∷ step.Accept 0 0 123
     -- the Name, the status and the Challenge, the Reply, the Ack
@@ -62,7 +62,7 @@ exchange =
 
 -- and then the process of `a@h` joins once more
 abbrev pub join_again : List WorldStep
-join_again = step.Call 0 0 (event.Join (codes "pg") (codes "g") (first_of (codes "a@h") ∷ [])) ∷ []
+join_again = step.Call 0 0 (event.Join (codes "pg") (codes "g") (first_process (codes "a@h") ∷ [])) ∷ []
 
 -- ---- the worlds
 
@@ -82,8 +82,8 @@ pub record IsExchanged (w : Nodes) : Type 0 where
   pub none_to_b : wire.to_acceptor ≡ []
   pub at_a : Exchanges a wire.dialled (codes "pg")
   pub at_b : Exchanges b accepted (codes "pg")
-  pub a_lists : listed a (codes "pg") (codes "g") (first_of (codes "b@h")) ≡ 1
-  pub b_lists : listed b (codes "pg") (codes "g") (first_of (codes "a@h")) ≡ 1
+  pub a_lists : listed a (codes "pg") (codes "g") (first_process (codes "b@h")) ≡ 1
+  pub b_lists : listed b (codes "pg") (codes "g") (first_process (codes "a@h")) ≡ 1
 
 -- `b@h` hears `a@h` over its present link, and lists its process as often as that had joined before
 pub record IsBehind (w : Nodes) : Type 0 where
@@ -94,5 +94,5 @@ pub record IsBehind (w : Nodes) : Type 0 where
   pub b_stands : slice_get w.nodes 1 ≡ Some b
   pub present : present_link (codes "a@h") b.entries ≡ Some link
   pub hears : IsTrue (heard link (codes "pg") b.entries)
-  pub a_has : own a (codes "pg") (codes "g") (first_of (codes "a@h")) ≡ 2
-  pub b_lists : listed b (codes "pg") (codes "g") (first_of (codes "a@h")) ≡ 1
+  pub a_has : own a (codes "pg") (codes "g") (first_process (codes "a@h")) ≡ 2
+  pub b_lists : listed b (codes "pg") (codes "g") (first_process (codes "a@h")) ≡ 1
