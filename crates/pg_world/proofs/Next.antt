@@ -53,7 +53,7 @@ pub data Made (before : History) (e : Event) (new : History) (answer : Result Re
   Unchanged : new ≡ before → leaves answer ≡ false → Made before e new answer
   Entered : (entry : Entry) → entry.event ≡ e → IsNext before entry → new ≡ with_entry before entry → answer ≡ says entry.verdict → leaves (says entry.verdict) ≡ true → Made before e new answer
 
--- the rules of these checks leave a frame out of its queue
+-- a frame that is refused by any of these rules leaves its queue
 abbrev all_leave : List Check → Bool
 all_leave [] = true
 all_leave (c ∷ cs) = leaves (Err (core_fault.Refused c.rule)) && all_leave cs
