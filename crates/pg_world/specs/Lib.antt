@@ -5,3 +5,4 @@ pub mod Refusals
 pub mod Sound
 pub mod Views
 pub mod Exchange
+pub mod Starting

@@ -23,8 +23,19 @@ pub enum WorldFault {
     Core(CoreFault),
 }
 
-/// Two of the nodes have one name. They come back.
+/// Why nodes make no world.
+#[derive(Clone, Copy, Debug, PartialEq, Eq, Error)]
+pub enum NodesFault {
+    #[error("two of the nodes have one name")]
+    SameName,
+    /// A world begins with nodes that have seen nothing.
+    #[error("a node has entries already")]
+    HasEntries,
+}
+
+/// There is no world. The nodes come back.
 #[derive(Drop)]
-pub struct SameName {
+pub struct NoWorld {
+    pub fault: NodesFault,
     pub nodes: Vec<NodeCore>,
 }

@@ -3,6 +3,7 @@
 
 mod fault;
 mod laws;
+mod limits;
 mod moving;
 mod queue;
 mod side;
@@ -10,7 +11,7 @@ mod wire;
 mod world;
 mod world_step;
 
-pub use fault::{SameName, WorldFault};
+pub use fault::{NoWorld, NodesFault, WorldFault};
 pub use laws::{
     list_moments, list_now, memory_changes_nothing, refusals_keep_wires, starts_sound, stays_sound,
     two_nodes_exchange, wires_have_nodes,

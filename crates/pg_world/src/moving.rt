@@ -9,14 +9,43 @@ use crate::fault::WorldFault;
 use crate::queue::{ENTRIES_FULL, OUT_OF_MEMORY, plain};
 use crate::side::{End, Side};
 use crate::wire::{Wire, link_opened};
-use crate::world_step::WorldReply;
+use crate::world_step::{WorldReply, WorldStep};
 use dist_types::{NodeName, OutOfMemory, TryClone};
 use node_core::{CoreFault, NodeCore};
 use policy_audit::{Event, Reply};
 use std::alloc::Global;
 
+/// One step of one node, or the first fault, which changes nothing.
+pub(crate) fn make_step(
+    alloc: Global,
+    nodes: &mut [NodeCore],
+    wires: &mut Vec<Wire>,
+    step: WorldStep,
+) -> Result<WorldReply, WorldFault>
+    ensures { IsWorldStep (world nodes.old wires.old.items) step (world nodes.new wires.new.items) result }
+{
+    match step {
+        WorldStep::Call { node, seat, event } => call(nodes, node, seat, event),
+        WorldStep::Dial {
+            from,
+            to,
+            seat,
+            challenge,
+        } => dial(alloc, nodes, wires, from, to, seat, challenge),
+        WorldStep::Accept {
+            wire,
+            seat,
+            challenge,
+        } => accept(nodes, wires, wire, seat, challenge),
+        WorldStep::Hand { wire, side, seat } => hand(nodes, wires, wire, side, seat),
+        WorldStep::Deliver { wire, side, seat } => deliver(alloc, nodes, wires, wire, side, seat),
+        WorldStep::Cut { wire, side, seat } => cut(nodes, wires, wire, side, seat),
+        WorldStep::Restart { node, seat } => restart(nodes, node, seat),
+    }
+}
+
 /// A node answers a call.
-pub(crate) fn call(
+fn call(
     nodes: &mut [NodeCore],
     node: usize,
     seat: u32,
@@ -32,18 +61,14 @@ pub(crate) fn call(
 }
 
 /// A node begins anew.
-pub(crate) fn restart(
-    nodes: &mut [NodeCore],
-    node: usize,
-    seat: u32,
-) -> Result<WorldReply, WorldFault>
+fn restart(nodes: &mut [NodeCore], node: usize, seat: u32) -> Result<WorldReply, WorldFault>
     ensures { (xs : List Wire) → IsWorldStep (world nodes.old xs) (step.Restart node seat) (world nodes.new xs) result }
 {
     ask(nodes, node, seat, Event::Restart)
 }
 
 /// A node dials another. The name is copied and the wire has its room before the node's step.
-pub(crate) fn dial(
+fn dial(
     alloc: Global,
     nodes: &mut [NodeCore],
     wires: &mut Vec<Wire>,
@@ -70,7 +95,7 @@ pub(crate) fn dial(
 }
 
 /// The other node of a wire opens its link.
-pub(crate) fn accept(
+fn accept(
     nodes: &mut [NodeCore],
     wires: &mut [Wire],
     wire: usize,
@@ -86,7 +111,7 @@ pub(crate) fn accept(
 }
 
 /// The frames that wait at a side of a wire are under way to the other.
-pub(crate) fn hand(
+fn hand(
     nodes: &mut [NodeCore],
     wires: &mut [Wire],
     wire: usize,
@@ -102,7 +127,7 @@ pub(crate) fn hand(
 }
 
 /// The oldest frame under way to a side of a wire comes there.
-pub(crate) fn deliver(
+fn deliver(
     alloc: Global,
     nodes: &mut [NodeCore],
     wires: &mut [Wire],
@@ -122,7 +147,7 @@ pub(crate) fn deliver(
 }
 
 /// The link at a side of a wire is lost, and what is under way to it.
-pub(crate) fn cut(
+fn cut(
     nodes: &mut [NodeCore],
     wires: &mut [Wire],
     wire: usize,

@@ -332,11 +332,37 @@ fn first_bad_cut(alloc: Global) -> Option<usize> {
     Some(40)
 }
 
-fn comes_back(alloc: Global) -> Option<usize> {
-    match World::new(alloc, two_nodes(alloc, b"a@h", b"a@h")?) {
+/// A node that has an entry.
+fn used_node(alloc: Global) -> Option<Vec<NodeCore>> {
+    let mut used = node(alloc, b"a@h")?;
+    used.step(0, Event::Spawn).ok()?;
+    let mut nodes = Vec::new(alloc);
+    nodes.push(used).ok()?;
+    Some(nodes)
+}
+
+/// Why nodes make no world, and how many come back.
+fn no_world(alloc: Global, nodes: Option<Vec<NodeCore>>) -> Option<(NodesFault, usize)> {
+    match World::new(alloc, nodes?) {
         Ok(_) => None,
-        Err(fault) => Some(fault.nodes.len()),
+        Err(no) => Some((no.fault, no.nodes.len())),
     }
+}
+
+fn one_name(alloc: Global) -> Option<(NodesFault, usize)> {
+    no_world(alloc, two_nodes(alloc, b"a@h", b"a@h"))
+}
+
+fn one_used(alloc: Global) -> Option<(NodesFault, usize)> {
+    no_world(alloc, used_node(alloc))
+}
+
+/// How many wires there are after a dial, and whether the second node is shown, and no third.
+fn shown(alloc: Global) -> Option<(usize, bool)> {
+    let mut world = new_world(alloc)?;
+    played(alloc, &mut world, Move::Dial(1))?;
+    let second = world.node(1)?.name().as_bytes() == b"b@h".as_slice();
+    Some((world.wires(), second && world.node(2).is_none()))
 }
 
 #[test]
@@ -366,5 +392,15 @@ fn lists_nothing_after_a_cut(rt: HostRuntime) {
 
 #[test]
 fn two_nodes_of_one_name_come_back(rt: HostRuntime) {
-    assert_eq!(rt; comes_back(rt.alloc()), Some(2));
+    assert_eq!(rt; one_name(rt.alloc()), Some((NodesFault::SameName, 2)));
+}
+
+#[test]
+fn a_node_with_entries_comes_back(rt: HostRuntime) {
+    assert_eq!(rt; one_used(rt.alloc()), Some((NodesFault::HasEntries, 1)));
+}
+
+#[test]
+fn shows_its_nodes_and_wires(rt: HostRuntime) {
+    assert_eq!(rt; shown(rt.alloc()), Some((1, true)));
 }

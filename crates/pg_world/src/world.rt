@@ -4,9 +4,13 @@ ghost use Rattle.std.specs.Option.{option_copied};
 ghost use Rattle.policy_audit.specs.History.{History};
 ghost use Rattle.pg_world.specs.World.{world, DifferInName, ShareAName};
 ghost use Rattle.pg_world.specs.Steps.{IsWorldStep};
+ghost use Rattle.pg_world.specs.Sound.{IsWorld};
+ghost use Rattle.pg_world.specs.Starting.{AreNew, HaveEntries, IsNodesFault};
+ghost use Rattle.pg_world.specs.Views.{ListMoments, ListNow};
 
-use crate::fault::{SameName, WorldFault};
-use crate::moving::{accept, call, cut, deliver, dial, hand, restart};
+use crate::fault::{NoWorld, NodesFault, WorldFault};
+use crate::limits::{has_entries, step_is_written};
+use crate::moving::make_step;
 use crate::wire::Wire;
 use crate::world_step::{WorldReply, WorldStep};
 use node_core::NodeCore;
@@ -23,22 +27,31 @@ pub struct World {
 
 impl Model for World {
     ghost use Rattle.pg_world.specs.World.{Nodes, world};
+    ghost use Rattle.pg_world.specs.Sound.{IsWorld};
 
     ghost Value = { Nodes };
 
     ghost view = { λ w. world w.nodes.items w.wires.items };
+
+    ghost invariant = { λ w. IsWorld (world w.nodes.items w.wires.items) };
 }
 
 impl World {
-    /// A world of these nodes, without wires. They come back where two have one name. It takes no memory.
-    pub fn new(alloc: Global, nodes: Vec<NodeCore>) -> Result<World, SameName>
+    /// A world of these nodes, without wires. They come back where two have one name, or one has seen something. It takes no memory.
+    pub fn new(alloc: Global, nodes: Vec<NodeCore>) -> Result<World, NoWorld>
         ensures ok { IfOk result (λ w. w ≡ world nodes.items []) }
         ensures names { OnOk result (DifferInName nodes.items) }
-        ensures refused { OnErr result (ShareAName nodes.items) }
-        ensures back { IfErr result (λ fault. fault.nodes ≡ nodes) }
+        ensures unused { OnOk result (AreNew nodes.items) }
+        ensures refused { IfErr result (λ no. IsNodesFault no.fault nodes.items) }
+        ensures back { IfErr result (λ no. no.nodes ≡ nodes) }
     {
         if share_a_name(nodes.as_slice()) {
-            return Err(SameName { nodes });
+            let fault = NodesFault::SameName;
+            return Err(NoWorld { fault, nodes });
+        }
+        if have_entries(nodes.as_slice()) {
+            let fault = NodesFault::HasEntries;
+            return Err(NoWorld { fault, nodes });
         }
         Ok(World {
             alloc,
@@ -47,9 +60,13 @@ impl World {
         })
     }
 
-    /// The node at a place, counted from 0 in the order in which nodes were handed in.
+    /// The node at a place, counted from 0 in the order in which nodes were handed in. What it lists of another is that one's own rows of
+    /// one moment, and where nothing is left to do, of now.
     pub fn node(&self, place: usize) -> Option<&NodeCore>
-        ensures { option_copied result ≡ slice_get self.now.nodes place }
+        ensures found { option_copied result ≡ slice_get self.now.nodes place }
+        ensures sound { IsWorld self.now }
+        ensures moments { ListMoments self.now }
+        ensures settled { ListNow self.now }
     {
         self.nodes.get(place)
     }
@@ -63,45 +80,12 @@ impl World {
 
     /// One step of one node, or the first fault, which changes nothing.
     pub fn step(&mut self, step: WorldStep) -> Result<WorldReply, WorldFault>
-        ensures { IsWorldStep self.old step self.new result }
+        ensures step { IsWorldStep self.old step self.new result }
+        ensures moments { ListMoments self.new }
+        ensures settled { ListNow self.new }
     {
-        match step {
-            WorldStep::Call { node, seat, event } => call(&mut self.nodes, node, seat, event),
-            WorldStep::Dial {
-                from,
-                to,
-                seat,
-                challenge,
-            } => dial(
-                self.alloc,
-                &mut self.nodes,
-                &mut self.wires,
-                from,
-                to,
-                seat,
-                challenge,
-            ),
-            WorldStep::Accept {
-                wire,
-                seat,
-                challenge,
-            } => accept(&mut self.nodes, &mut self.wires, wire, seat, challenge),
-            WorldStep::Hand { wire, side, seat } => {
-                hand(&mut self.nodes, &mut self.wires, wire, side, seat)
-            }
-            WorldStep::Deliver { wire, side, seat } => deliver(
-                self.alloc,
-                &mut self.nodes,
-                &mut self.wires,
-                wire,
-                side,
-                seat,
-            ),
-            WorldStep::Cut { wire, side, seat } => {
-                cut(&mut self.nodes, &mut self.wires, wire, side, seat)
-            }
-            WorldStep::Restart { node, seat } => restart(&mut self.nodes, node, seat),
-        }
+        step_is_written(&step);
+        make_step(self.alloc, &mut self.nodes, &mut self.wires, step)
     }
 }
 
@@ -126,6 +110,19 @@ fn is_named_before(nodes: &[NodeCore], place: usize) -> bool
 {
     for earlier in 0..place {
         if nodes[earlier].name() == nodes[place].name() {
+            return true;
+        }
+    }
+    false
+}
+
+/// Whether a node has seen something.
+fn have_entries(nodes: &[NodeCore]) -> bool
+    ensures yes { IsTrue result → HaveEntries nodes.now }
+    ensures no { IsFalse result → AreNew nodes.now }
+{
+    for place in 0..nodes.len() {
+        if has_entries(&nodes[place]) {
             return true;
         }
     }
