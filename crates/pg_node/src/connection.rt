@@ -1,8 +1,7 @@
 //! One connection: a thread answers its lines, and another tells its news.
 use crate::hub::Hub;
 use crate::lines::{Lines, is_too_long};
-use crate::news::Seen;
-use crate::session::Next;
+use pg_session::{Next, Seen};
 use pg_text::put_word;
 use std::alloc::Global;
 use std::io::{self, ErrorKind, Write};

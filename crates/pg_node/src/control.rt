@@ -2,8 +2,8 @@
 use crate::connection::{Desk, answer_all, tell_all};
 use crate::hub::Hub;
 use crate::lines::ReadLines;
-use crate::news::Seen;
 use anyhow::{Result, anyhow, bail};
+use pg_session::Seen;
 use std::alloc::Global;
 use std::fs::{self, Files, Permissions};
 use std::io::{self, BufReader, Write};

@@ -1,9 +1,10 @@
 //! What all threads of the program share: the node, and the seats of its connections.
-use crate::news::Seen;
-use crate::session::{Next, Session};
+
+
 use dist_types::OutOfMemory;
 use node_core::NodeCore;
 use node_threads::{Node, Pass};
+use pg_session::{Next, Seen, Session};
 use std::alloc::Global;
 use std::sync::atomic::{AtomicBool, Ordering};
 use std::sync::{Mutex, Wait};

@@ -2,23 +2,16 @@
 #![tactic(auto)]
 
 mod audit_file;
-mod caller;
 mod connection;
 mod control;
 mod hub;
 mod life;
 mod lines;
-mod news;
 mod operator;
 mod options;
-mod processes;
-mod reading;
-mod request;
 mod run;
-mod session;
 mod settings;
 mod turn;
-mod watch;
 
 use clap::ArgMatches;
 use clap::error::{Error as LineError, ErrorKind as LineFault};

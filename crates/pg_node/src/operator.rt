@@ -2,7 +2,7 @@
 use crate::connection::{Desk, answer_all, tell_all};
 use crate::hub::Hub;
 use crate::lines::{LineQueue, QueuedLines};
-use crate::news::Seen;
+use pg_session::Seen;
 use std::alloc::Global;
 use std::io;
 use std::sync::Wait;

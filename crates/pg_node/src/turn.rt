@@ -1,15 +1,14 @@
 //! From one life of the node to the next.
 use crate::audit_file::write_audit;
-use crate::caller::Caller;
 use crate::hub::{House, Hub, SEATS};
 use crate::life::LANES;
-use crate::session::Session;
 use crate::settings::held;
 use anyhow::{Result, bail};
 use cookie_digest::ChallengeSource;
 use dist_types::TryClone;
 use node_net::Lane;
 use node_threads::{Node, Pass};
+use pg_session::{Caller, Session};
 use policy_audit::{Event, Opening};
 use rand_chacha::ChaCha20Rng;
 use std::alloc::Global;

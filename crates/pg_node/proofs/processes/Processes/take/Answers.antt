@@ -1,5 +1,0 @@
-use Rattle.pg_node.proofs.Callers.{has_last}
-use Rattle.pg_node.proofs.processes.Processes.take.Goals as goal
-
-pub returns-clause-taken : goal.returns-clause-taken
-returns-clause-taken c = rw (← c.self.view_is) (has_last _ _ _ c.pop.ensures.keys)

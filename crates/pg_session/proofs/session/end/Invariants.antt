@@ -1,0 +1,10 @@
+use Rattle.std.proofs.Common.{◌≡◌, true}
+use Rattle.pg_session.specs.Processes.{spawned}
+use Rattle.pg_session.specs.Calls.{GoesOn, may_call}
+use Rattle.pg_session.proofs.session.end.Given as goal
+
+abbrev pub invariant-loop : goal.invariant-loop
+invariant-loop g l = record {
+  on : GoesOn l.fn.caller l.caller;
+  may : may_call (spawned l.caller.calls) l.event ≡ true;
+}

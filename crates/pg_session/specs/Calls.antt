@@ -1,0 +1,51 @@
+-- The calls of a connection.
+use Rattle.std.specs.Prelude.{◌≡◌, ℕ, Bool, true, ◌&&◌, List, ◌++◌, codes, Result, Ok, Err}
+use Rattle.std.specs.List.{All}
+use Rattle.dist_types.specs.declared.pid.Pid.{Pid}
+use Rattle.policy_audit.specs.declared.event.Event.{Event}
+use Rattle.policy_audit.specs.declared.reply.Reply.{Reply}
+use Rattle.node_threads.specs.declared.fault.CallFault.{CallFault}
+use Rattle.node_threads.specs.declared.fault.CallFault.TheVariants.{StrangePass, Core}
+use Rattle.node_threads.specs.declared.pass.Call.{Call}
+use Rattle.node_threads.specs.Calls.{Record, Gains}
+use Rattle.node_threads.specs.Applied.{Called}
+use Rattle.pg_text.specs.Answers.{step_line}
+use Rattle.pg_session.specs.Asked.{is_made}
+use Rattle.pg_session.specs.Processes.{has, spawned, exited_by, moves_only, OwnAfter}
+
+-- whether a connection that has spawned these may call this
+abbrev pub may_call : List Pid → Event → Bool
+may_call own e = is_made e && moves_only own e
+
+-- the calls are such calls: each moves none but processes that these calls have spawned
+abbrev pub AreConnections : List Call → Type 0
+AreConnections calls = All (λ (c : Call). may_call (spawned calls) c.event ≡ true) calls
+
+-- one call of this event
+abbrev pub IsCalled : Record → Event → Record → Type 0
+IsCalled pass e pass' = (answer : Result Reply CallFault) × Called pass e answer pass'
+
+-- the pass has gained some calls
+abbrev pub GoesOn : Record → Record → Type 0
+GoesOn pass pass' = (more : List Call) × Gains pass more pass'
+
+-- ---- the seat of a connection
+
+-- its calls, and the processes that it has
+pub record Seat : Type 0 where
+  pub pass : Record
+  pub own : List Pid
+
+-- it has spawned those that it has
+abbrev pub IsSeat : Seat → Type 0
+IsSeat seat = (p : Pid) → has seat.own p ≡ true → has (spawned seat.pass.calls) p ≡ true
+
+-- the line for what a call is answered
+abbrev pub call_line : Result Reply CallFault → List ℕ
+call_line (Ok reply) = step_line (Ok reply)
+call_line (Err (Core fault)) = step_line (Err fault)
+call_line (Err StrangePass) = codes "fault the pass isn't of this node\n"
+
+-- one call of the event, whose answer was added to these bytes
+abbrev pub AnswersCall : Seat → Event → List ℕ → Seat → List ℕ → Type 0
+AnswersCall seat e out seat' out' = (answer : Result Reply CallFault) × Called seat.pass e answer seat'.pass × OwnAfter answer (exited_by e) seat.own seat'.own × (out' ≡ out ++ call_line answer)

@@ -1,0 +1,30 @@
+-- What a call has come to.
+use Rattle.std.specs.Prelude.{◌≡◌, true, false, cond, List, Option, Some, None, Result, Ok, Err}
+use Rattle.dist_types.specs.declared.pid.Pid.{Pid}
+use Rattle.dist_types.specs.Listing.{same_pid}
+use Rattle.policy_audit.specs.declared.reply.Reply.{Reply}
+use Rattle.policy_audit.specs.declared.reply.Reply.TheVariants as reply
+use Rattle.node_threads.specs.declared.fault.CallFault.{CallFault}
+use Rattle.pg_session.specs.declared.caller.Outcome.{Outcome}
+use Rattle.pg_session.specs.declared.caller.Outcome.TheVariants as outcome
+use Rattle.pg_session.specs.Processes.{has}
+
+-- this is the outcome of a call that was answered so
+abbrev pub IsOutcome : Result Reply CallFault → Outcome → Type 0
+IsOutcome (Ok (reply.Pid p)) o = o ≡ outcome.Process p
+IsOutcome (Ok (reply.Ref n pids)) o = o ≡ outcome.Monitor n
+IsOutcome (Ok (reply.ScopeRef n groups)) o = o ≡ outcome.Monitor n
+IsOutcome (Ok r) o = o ≡ outcome.Done
+IsOutcome (Err fault) o = o ≡ outcome.Refused
+
+-- a process that has come is one of these
+abbrev pub CameFrom : List Pid → Outcome → Type 0
+CameFrom pids (outcome.Process p) = has pids p ≡ true
+CameFrom pids o = Unit {0}
+
+-- what a connection has once a call, by which this process was to exit, came to this
+abbrev pub Kept : Outcome → Option Pid → List Pid → List Pid → Type 0
+Kept (outcome.Process p) exits own own' = (q : Pid) → has own' q ≡ cond (same_pid p q) true (has own q)
+Kept outcome.Refused exits own own' = own' ≡ own
+Kept o (Some p) own own' = (q : Pid) → has own' q ≡ cond (same_pid p q) false (has own q)
+Kept o None own own' = own' ≡ own

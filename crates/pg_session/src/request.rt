@@ -1,0 +1,146 @@
+//! What a line asks for.
+ghost use Rattle.std.specs.Prelude.{◌≡◌, ◌++◌, List, ℕ, IfOk, IfErr, OnOk, Some, codes};
+ghost use Rattle.node_core.specs.Calm.{is_query};
+ghost use Rattle.pg_text.specs.Faults.{IsUnread};
+ghost use Rattle.pg_session.specs.Asked.{is_call, asked_by, asked_of_event, IsAsked};
+
+use dist_types::OutOfMemory;
+use pg_text::{Command, LineFault, Reason, diagnose, first_word, parse, put_bytes, put_word};
+use policy_audit::Event;
+use std::alloc::Global;
+
+const NODES: &str = "nodes";
+
+const HELP: &str = "help";
+
+const QUIT: &str = "quit";
+
+/// What a line asks for.
+#[derive(Drop)]
+pub enum Request {
+    /// A call by the seat of the connection.
+    Call(Event),
+    /// A query, which makes no entry.
+    Query(Event),
+    /// How many entries there are.
+    Size,
+    /// The entry of that number.
+    Audit(u32),
+    /// Which peers are up.
+    Nodes,
+    Help,
+    /// The end of the program.
+    Quit,
+}
+
+/// What a line that is not quiet asks for.
+pub fn read_request(alloc: Global, line: &[u8]) -> Result<Request, LineFault>
+    ensures ok { IfOk result (λ request. asked_by line.now ≡ Some request) }
+    ensures call { IfOk result IsAsked }
+    ensures fault { IfErr result (λ fault. IsUnread fault (asked_by line.now)) }
+{
+    if line == NODES.as_bytes() {
+        return Ok(Request::Nodes);
+    }
+    if line == HELP.as_bytes() {
+        return Ok(Request::Help);
+    }
+    if line == QUIT.as_bytes() {
+        return Ok(Request::Quit);
+    }
+    match parse(alloc, line)? {
+        Command::Step(event) => request_of(event),
+        Command::Size => Ok(Request::Size),
+        Command::Audit(number) => Ok(Request::Audit(number)),
+        Command::Seat(_) => Err(LineFault::Script),
+    }
+}
+
+fn request_of(event: Event) -> Result<Request, LineFault>
+    ensures ok { IfOk result (λ request. asked_of_event event ≡ Some request) }
+    ensures call { IfOk result IsAsked }
+    ensures fault { IfErr result (λ fault. IsUnread fault (asked_of_event event)) }
+{
+    if is_query(&event) {
+        return Ok(Request::Query(event));
+    }
+    if is_call(&event) {
+        return Ok(Request::Call(event));
+    }
+    drop(event);
+    Err(LineFault::Script)
+}
+
+/// Whether a connection may make this call by a line: those are its own that speak for no link, end no life of the node, and ask
+/// for nothing that it is told unasked or that can be read without an entry.
+fn is_call(event: &Event) -> bool
+    ensures { result ≡ is_call event.now }
+{
+    match event {
+        Event::SetCookie(_)
+        | Event::SetCookieFor(_, _)
+        | Event::Allow(_)
+        | Event::StartScope(_)
+        | Event::StopScope(_)
+        | Event::Spawn
+        | Event::Exit(_)
+        | Event::Join(_, _, _)
+        | Event::Leave(_, _, _)
+        | Event::Monitor(_, _)
+        | Event::MonitorScope(_)
+        | Event::Demonitor(_)
+        | Event::Disconnect(_) => true,
+        _ => false,
+    }
+}
+
+fn is_query(event: &Event) -> bool
+    ensures { result ≡ is_query event.now }
+{
+    match event {
+        Event::Members(_, _)
+        | Event::LocalMembers(_, _)
+        | Event::Groups(_)
+        | Event::LocalGroups(_) => true,
+        _ => false,
+    }
+}
+
+/// Adds the line for a line that asks for nothing: why it doesn't.
+pub fn put_fault(alloc: Global, line: &[u8], out: &mut Vec<u8>) -> Result<(), OutOfMemory>
+    ensures { OnOk result ((reason : List ℕ) × (out.new.items ≡ out.old.items ++ codes "fault " ++ reason)) }
+{
+    let reason = reason(alloc, line)?;
+    put_word("fault ", out)?;
+    put_bytes(reason.as_slice(), out)
+}
+
+/// Why a line asks for nothing, with the word at fault, and a line feed.
+fn reason(alloc: Global, line: &[u8]) -> Result<Vec<u8>, OutOfMemory> {
+    let mut text = Vec::new(alloc);
+    let (name, rest) = first_word(line);
+    match diagnose(alloc, line) {
+        Some((Reason::NoSuchCommand, _)) | None if is_bare(name) => {
+            put_word("a word too many: ", &mut text)?;
+            put_bytes(rest.unwrap_or(&[]), &mut text)?;
+        }
+        Some((reason, part)) => {
+            put_word(format!(in alloc; "{reason}")?.as_str(), &mut text)?;
+            if !part.is_empty() {
+                put_word(": ", &mut text)?;
+                put_word(part, &mut text)?;
+            }
+        }
+        None => {
+            put_word("no such command: ", &mut text)?;
+            put_bytes(name, &mut text)?;
+        }
+    }
+    put_word("\n", &mut text)?;
+    Ok(text)
+}
+
+/// Whether this is a command of the program that the console lacks. None of them takes a word.
+fn is_bare(name: &[u8]) -> bool {
+    name == NODES.as_bytes() || name == HELP.as_bytes() || name == QUIT.as_bytes()
+}

@@ -1,0 +1,115 @@
+//! Monitors that tell unasked.
+ghost use Rattle.std.specs.Prelude.{◌≡◌, ◌⊎◌};
+ghost use Rattle.policy_audit.specs.declared.event.Event.TheVariants.{Updates};
+ghost use Rattle.pg_session.specs.Calls.{IsCalled};
+
+use crate::caller::{Caller, Fetched};
+use dist_types::{Group, OutOfMemory, Scope, TryClone};
+use node_threads::Node;
+use pg_text::put_numbered_line;
+use policy_audit::{Change, Entry, Event, Verdict};
+use std::alloc::Global;
+use std::sync::Wait;
+
+/// A monitor of a connection.
+#[derive(Drop)]
+pub struct Watch {
+    /// That of its entry; 0 before there is one.
+    pub number: u32,
+    scope: Scope,
+    /// None for all groups of the scope.
+    group: Option<Group>,
+    /// Whether it has something to tell.
+    is_due: bool,
+    /// Whether it has ended, as with its scope.
+    pub is_over: bool,
+}
+
+impl Watch {
+    /// The monitor that a call asks for, if it asks for one.
+    pub fn of_call(alloc: Global, event: &Event) -> Result<Option<Watch>, OutOfMemory> {
+        match event {
+            Event::Monitor(scope, group) => Watch::of(alloc, scope, Some(group)),
+            Event::MonitorScope(scope) => Watch::of(alloc, scope, None),
+            _ => Ok(None),
+        }
+    }
+
+    fn of(
+        alloc: Global,
+        scope: &Scope,
+        group: Option<&Group>,
+    ) -> Result<Option<Watch>, OutOfMemory> {
+        let group = match group {
+            Some(group) => Some(group.try_clone(alloc)?),
+            None => None,
+        };
+        Ok(Some(Watch {
+            number: 0,
+            scope: scope.try_clone(alloc)?,
+            group,
+            is_due: false,
+            is_over: false,
+        }))
+    }
+
+    /// Notes whether an entry behind its own has changed what it watches, or has ended it. `Updates` is asked of no other monitor:
+    /// each is an entry, and so would call for the next look.
+    pub fn note(&mut self, entry: &Entry) {
+        if entry.number <= self.number {
+            return;
+        }
+        if self.ends_with(entry) {
+            self.is_over = true;
+        } else if entry
+            .change
+            .as_slice()
+            .iter()
+            .any(|change| self.sees(change))
+        {
+            self.is_due = true;
+        }
+    }
+
+    /// Whether the entry has stopped its scope.
+    fn ends_with(&self, entry: &Entry) -> bool {
+        match (&entry.event, &entry.verdict) {
+            (Event::StopScope(scope), Verdict::Accepted(_)) => *scope == self.scope,
+            _ => false,
+        }
+    }
+
+    fn sees(&self, change: &Change) -> bool {
+        if change.scope != self.scope {
+            return false;
+        }
+        match &self.group {
+            Some(group) => change.groups.as_slice().iter().any(|it| it.group == *group),
+            None => true,
+        }
+    }
+
+    /// Adds what it has not told yet, if it has something to tell. Where the audit is full or memory is wanting, it is due still.
+    pub fn tell<R: Wait>(
+        &mut self,
+        caller: &mut Caller,
+        rt: &R,
+        alloc: Global,
+        node: &Node,
+        out: &mut Vec<u8>,
+    ) -> Result<(), OutOfMemory>
+        ensures { IsCalled caller.old (Updates self.old.number) caller.new ⊎ (caller.new ≡ caller.old) }
+    {
+        if self.is_due && !self.is_over {
+            match caller.fetch(rt, alloc, node, self.number, out)? {
+                Fetched::Told => self.is_due = false,
+                Fetched::Over => self.is_over = true,
+                Fetched::NotNow => {}
+            }
+        }
+        if self.is_over {
+            put_numbered_line("! ended ", u64::from(self.number), out)?;
+        }
+        Ok(())
+    }
+}
