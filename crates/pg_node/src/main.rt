@@ -20,6 +20,7 @@ use options::{Fault, Options, command, read_options};
 use rand_chacha::ChaCha20Rng;
 use run::run;
 use std::alloc::{AllocError, Global};
+use std::env::Env;
 use std::fs::Files;
 use std::io::ErrorKind;
 use std::net::Net;
@@ -34,36 +35,19 @@ const OUT_OF_MEMORY: &str = "error: out of memory";
 /// 2 at one of the command line.
 fn main(rt: HostRuntime) -> ExitCode {
     let alloc = rt.alloc();
-    let words = match std::env::args(&rt) {
-        Ok(words) => words.collect(alloc),
-        Err(error) if error.kind() == ErrorKind::InvalidData => {
-            return failed(
-                &rt,
-                2,
-                "error: the command line has a word that is not UTF-8",
-            );
-        }
-        Err(_) => return failed(&rt, 1, OUT_OF_MEMORY),
-    };
-    let words: Vec<String> = match words {
+    let words = match words(&rt) {
         Ok(words) => words,
-        Err(_) => return failed(&rt, 1, OUT_OF_MEMORY),
+        Err(status) => return status,
     };
-    let Ok(command) = command(alloc) else {
-        return failed(&rt, 1, OUT_OF_MEMORY);
-    };
-    let matches = match command.try_get_matches_from(words.as_slice()) {
+    let matches = match matches(&rt, words.as_slice()) {
         Ok(matches) => matches,
-        Err(error) => return unmatched(&rt, &error),
+        Err(status) => return status,
     };
     let (options, source) = match prepare(&rt, alloc, &matches) {
         Ok(prepared) => prepared,
         Err(fault) => return told(&rt, fault.status, &fault.reason),
     };
-    let Ok(lines) = Arc::new(alloc, LineQueue::new(alloc)) else {
-        return failed(&rt, 1, OUT_OF_MEMORY);
-    };
-    let Ok(theirs) = Arc::try_clone(&lines) else {
+    let Ok((lines, theirs)) = line_queue(alloc) else {
         return failed(&rt, 1, OUT_OF_MEMORY);
     };
     // Nothing can end a read of standard input, so its thread may outlive the run, and isn't joined.
@@ -75,6 +59,39 @@ fn main(rt: HostRuntime) -> ExitCode {
         Ok(()) => ExitCode::SUCCESS,
         Err(reason) => told(&rt, 1, &reason),
     }
+}
+
+/// The words of the command line, or the status of a program that can't have them.
+fn words<R: AllocGlobal + Env + Eprint>(rt: &R) -> Result<Vec<String>, ExitCode> {
+    match std::env::args(rt) {
+        Ok(words) => words.collect(rt.alloc()).map_err(|_| failed(rt, 1, OUT_OF_MEMORY)),
+        Err(error) if error.kind() == ErrorKind::InvalidData => Err(failed(
+            rt,
+            2,
+            "error: the command line has a word that is not UTF-8",
+        )),
+        Err(_) => Err(failed(rt, 1, OUT_OF_MEMORY)),
+    }
+}
+
+/// What the words of the command line say, or the status of a program that has nothing else to do.
+fn matches<'a, R: AllocGlobal + Print + Eprint>(
+    rt: &R,
+    words: &'a [String],
+) -> Result<ArgMatches<'a>, ExitCode> {
+    let Ok(command) = command(rt.alloc()) else {
+        return Err(failed(rt, 1, OUT_OF_MEMORY));
+    };
+    command
+        .try_get_matches_from(words)
+        .map_err(|error| unmatched(rt, &error))
+}
+
+/// The lines of standard input on their way, for the run and for the thread that reads them.
+fn line_queue(alloc: Global) -> Result<(Arc<LineQueue>, Arc<LineQueue>), AllocError> {
+    let lines = Arc::new(alloc, LineQueue::new(alloc))?;
+    let theirs = Arc::try_clone(&lines)?;
+    Ok((lines, theirs))
 }
 
 /// The options, and a generator that nobody can foresee.

@@ -82,37 +82,23 @@ fn misused(reason: Reason) -> Fault {
 
 /// The arguments of the program.
 pub fn command<'a>(alloc: Global) -> Result<Command<'a>, ClapError> {
+    let name = Arg::new(alloc, "NAME")
+        .help("The node's own name, as b@h")
+        .required(true);
     let command = Command::new(alloc, "pg_node")
         .version("0.1.0")
         .about("A node of process groups, linked with others over TCP")
-        .after_help(COMMANDS);
+        .after_help(COMMANDS)
+        .arg(name)?;
+    let command = peer_arguments(alloc, command)?;
     let command = node_arguments(alloc, command)?;
     let command = link_arguments(alloc, command)?;
     Ok(command)
 }
 
-fn node_arguments<'a>(alloc: Global, command: Command<'a>) -> Result<Command<'a>, ClapError> {
-    let name = Arg::new(alloc, "NAME")
-        .help("The node's own name, as b@h")
-        .required(true);
-    let hidden = Arg::new(alloc, "hidden")
-        .long("hidden")
-        .help("Makes each link a hidden one")
-        .action(ArgAction::SetTrue);
-    let creation = Arg::new(alloc, "creation")
-        .long("creation")
-        .value_name("N")
-        .help("The node's creation, at least 1; drawn where it isn't given")
-        .value_parser(value_parser!(u32).range(1..));
-    let entries = Arg::new(alloc, "entries")
-        .long("entries")
-        .value_name("N")
-        .help("The most entries of an audit, at least 64; the node begins anew before it is full")
-        .value_parser(value_parser!(u32).range(64..))
-        .default_value("1000000");
+fn peer_arguments<'a>(alloc: Global, command: Command<'a>) -> Result<Command<'a>, ClapError> {
     Ok(
         command
-            .arg(name)?
             .arg(text(
                 alloc,
                 "cookie-file",
@@ -136,17 +122,33 @@ fn node_arguments<'a>(alloc: Global, command: Command<'a>) -> Result<Command<'a>
                 "allow",
                 "NAME",
                 "A peer that may connect; all may, where none is given",
-            ))?
-            .arg(hidden)?
-            .arg(creation)?
-            .arg(entries)?
-            .arg(text(
-                alloc,
-                "audit",
-                "FILE",
-                "Where audits that have ended are written",
             ))?,
     )
+}
+
+fn node_arguments<'a>(alloc: Global, command: Command<'a>) -> Result<Command<'a>, ClapError> {
+    let hidden = Arg::new(alloc, "hidden")
+        .long("hidden")
+        .help("Makes each link a hidden one")
+        .action(ArgAction::SetTrue);
+    let creation = Arg::new(alloc, "creation")
+        .long("creation")
+        .value_name("N")
+        .help("The node's creation, at least 1; drawn where it isn't given")
+        .value_parser(value_parser!(u32).range(1..));
+    let entries = Arg::new(alloc, "entries")
+        .long("entries")
+        .value_name("N")
+        .help("The most entries of an audit, at least 64; the node begins anew before it is full")
+        .value_parser(value_parser!(u32).range(64..))
+        .default_value("1000000");
+    let audit = text(
+        alloc,
+        "audit",
+        "FILE",
+        "Where audits that have ended are written",
+    );
+    Ok(command.arg(hidden)?.arg(creation)?.arg(entries)?.arg(audit)?)
 }
 
 fn link_arguments<'a>(alloc: Global, command: Command<'a>) -> Result<Command<'a>, ClapError> {

@@ -71,21 +71,8 @@ where
     let number = opening.creation;
     let settings = given(alloc, allowed, cookies)?;
     let (hub, lanes) = begin(rt, alloc, opening, settings, &mut plan.maker)?;
-    let listener = match listen {
-        Some(addr) => {
-            let listener = bind(rt, addr)?;
-            plan.addr = Some(announce(rt, &listener)?);
-            Some(listener)
-        }
-        None => None,
-    };
-    let door = match control {
-        Some(path) => Some(control::bind(rt, alloc, path, number)?),
-        None => None,
-    };
-    if let Some(path) = control {
-        rt.println(format!(in alloc; "control {path}")?.as_str())?;
-    }
+    let listener = listen_at(rt, listen, &mut plan)?;
+    let door = open_door(rt, alloc, control, number)?;
     let ended = serve(
         rt,
         alloc,
@@ -101,6 +88,23 @@ where
         fs::remove_file(rt, path).ok();
     }
     finish(rt, alloc, hub, ended?, audit)
+}
+
+/// Opens the address where peers connect, if there is one.
+fn listen_at<R>(
+    rt: &R,
+    addr: Option<SocketAddr>,
+    plan: &mut Plan<'_>,
+) -> Result<Option<TcpListener>>
+where
+    R: Net<Listener = TcpListener, Stream = TcpStream> + Print + Eprint,
+{
+    let Some(addr) = addr else {
+        return Ok(None);
+    };
+    let listener = bind(rt, addr)?;
+    plan.addr = Some(announce(rt, &listener)?);
+    Ok(Some(listener))
 }
 
 fn bind<R: Net<Listener = TcpListener, Stream = TcpStream>>(
@@ -120,6 +124,21 @@ fn announce<R: Print + Eprint>(rt: &R, listener: &TcpListener) -> Result<SocketA
         ).ok();
     }
     Ok(addr)
+}
+
+/// Opens the control socket of this path, if there is one, and prints it.
+fn open_door<R: Files + Net + Print>(
+    rt: &R,
+    alloc: Global,
+    path: Option<&str>,
+    number: u32,
+) -> Result<Option<UnixListener>> {
+    let Some(path) = path else {
+        return Ok(None);
+    };
+    let door = control::bind(rt, alloc, path, number)?;
+    rt.println(format!(in alloc; "control {path}")?.as_str())?;
+    Ok(Some(door))
 }
 
 /// Serves all connections and links until the end. The lanes come back.
