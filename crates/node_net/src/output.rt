@@ -14,11 +14,14 @@ const TICK: [u8; 4] = [0; 4];
 /// first one of its batch.
 const ACK: [u8; 3] = [0, 17, b'a'];
 
-/// A writer that has written so many milliseconds ago, or less, gathers frames.
-const UNDER_LOAD: u64 = 5;
-
-/// For how many milliseconds it gathers them.
+/// For how many milliseconds a writer rests, so that messages gather.
 const GATHERING: u64 = 3;
+
+/// How many messages may go out singly, one right behind the other, before a writer rests all the same.
+const SINGLES: u64 = 20;
+
+/// After how many milliseconds one more of them may.
+const RETURN: u64 = 2;
 
 /// What was written.
 #[derive(Clone, Copy, Debug)]
@@ -26,6 +29,27 @@ struct Written {
     /// Whether messages may go out: nothing of the handshake is owed any more.
     is_up: bool,
     last: Instant,
+    /// The time that single messages may use up yet, of which each uses what it takes to return.
+    spare: Duration,
+}
+
+impl Written {
+    /// Something has gone out.
+    fn has_gone_out(&mut self, now: Instant) {
+        let most = Duration::from_millis(SINGLES * RETURN);
+        let passed = now.duration_since(self.last);
+        self.spare = self.spare.saturating_add(passed).min(most);
+        self.last = now;
+    }
+
+    /// Uses up a message that may go out singly: whether there was one.
+    fn has_one(&mut self) -> bool {
+        let Some(left) = self.spare.checked_sub(Duration::from_millis(RETURN)) else {
+            return false;
+        };
+        self.spare = left;
+        true
+    }
 }
 
 /// The way out of a link, shared by both directions. The lock is held for a whole batch of frames, or a tick.
@@ -48,6 +72,7 @@ impl<'a> Outlet<'a> {
         let written = Written {
             is_up: false,
             last: Instant::now(rt)?,
+            spare: Duration::from_millis(SINGLES * RETURN),
         };
         Ok(Outlet {
             stream,
@@ -60,7 +85,7 @@ impl<'a> Outlet<'a> {
     pub(crate) fn has_come_up<R: Wait + Clock>(&self, rt: &R) -> io::Result<()> {
         let mut written = self.written.lock(rt);
         written.is_up = true;
-        written.last = Instant::now(rt)?;
+        written.has_gone_out(Instant::now(rt)?);
         Ok(())
     }
 
@@ -69,18 +94,17 @@ impl<'a> Outlet<'a> {
         self.written.lock(rt).is_up
     }
 
-    /// Writes a batch of frames. Whether there was another one just before.
+    /// Writes a batch of frames. Whether the writer is to rest: several messages had gathered, or too many have gone out singly.
     fn send<R: Wait + Clock>(&self, rt: &R, batch: &[u8]) -> io::Result<bool> {
         let mut written = self.written.lock(rt);
-        let is_under_load = written.is_up
-            && written.last.elapsed(rt)? <= Duration::from_millis(UNDER_LOAD);
         let mut stream = self.stream;
         stream.write_all(batch)?;
-        if batch.starts_with(&ACK) {
-            written.is_up = true;
+        written.has_gone_out(Instant::now(rt)?);
+        if !written.is_up {
+            written.is_up = batch.starts_with(&ACK);
+            return Ok(false);
         }
-        written.last = Instant::now(rt)?;
-        Ok(is_under_load)
+        Ok(are_several(batch) || !written.has_one())
     }
 
     /// Writes a tick, where nothing has gone out for a pulse. During a write none is needed.
@@ -91,9 +115,17 @@ impl<'a> Outlet<'a> {
         if written.is_up && written.last.elapsed(rt)? >= self.pulse {
             let mut stream = self.stream;
             stream.write_all(&TICK)?;
-            written.last = Instant::now(rt)?;
+            written.has_gone_out(Instant::now(rt)?);
         }
         Ok(())
+    }
+}
+
+/// Whether there is more than one message, each behind its length.
+fn are_several(batch: &[u8]) -> bool {
+    match batch.split_first_chunk() {
+        Some((length, rest)) => rest.len() > u32::from_be_bytes(*length) as usize,
+        None => false,
     }
 }
 
@@ -105,7 +137,7 @@ pub(crate) struct LinkOutput<'a, R: Wait + Clock> {
 }
 
 impl<R: Wait + Clock> Write for LinkOutput<'_, R> {
-    /// Writes all. Under load it rests then, so that frames gather and are taken together: each Take is an entry.
+    /// Writes all, and rests then where messages come so often that they are better taken together: each Take is an entry.
     fn write(&mut self, buf: &[u8]) -> io::Result<usize> {
         if self.outlet.send(self.rt, buf)? {
             thread::sleep(self.rt, Duration::from_millis(GATHERING));
