@@ -3,3 +3,4 @@ pub mod Processes
 pub mod Calls
 pub mod Outcomes
 pub mod Answers
+pub mod Notices

@@ -1,5 +1,6 @@
 //! The right of a connection to call the node.
-ghost use Rattle.std.specs.Prelude.{◌≡◌, ◌⊎◌, ◌++◌, true, IfErr, IfOk, OnOk, Result, Ok, Err};
+ghost use Rattle.std.specs.Prelude.{◌≡◌, ◌⊎◌, ◌++◌, true, map, IfErr, IfOk, OnOk, Result, Ok, Err};
+ghost use Rattle.std.specs.List.{flat_map};
 ghost use Rattle.policy_audit.specs.declared.event.Event.TheVariants.{Updates};
 ghost use Rattle.policy_audit.specs.declared.reply.Reply.{Reply};
 ghost use Rattle.node_threads.specs.declared.fault.CallFault.{CallFault};
@@ -7,6 +8,7 @@ ghost use Rattle.node_threads.specs.Applied.{Called, answer_now};
 ghost use Rattle.pg_session.specs.Processes.{spawned};
 ghost use Rattle.pg_session.specs.Calls.{IsCalled, AreConnections, call_line, may_call};
 ghost use Rattle.pg_session.specs.Outcomes.{IsOutcome, CameFrom};
+ghost use Rattle.pg_session.specs.Notices.{change, notice_line, fetched, Tells};
 
 use dist_types::{OutOfMemory, Pid, TryClone};
 use node_core::CoreFault;
@@ -104,7 +106,8 @@ impl Caller {
         number: u32,
         out: &mut Vec<u8>,
     ) -> Result<Fetched, OutOfMemory>
-        ensures { IsCalled self.old (Updates number) self.new }
+        ensures called { IsCalled self.old (Updates number) self.new }
+        ensures told { OnOk result (Tells self.old out.old.items self.new out.new.items) }
     {
         let answer = self.pass.call(node, rt, Event::Updates(number));
         put_fetched(alloc, number, answer, out)
@@ -175,7 +178,9 @@ fn put_fetched(
     number: u32,
     answer: Result<&Reply, CallFault>,
     out: &mut Vec<u8>,
-) -> Result<Fetched, OutOfMemory> {
+) -> Result<Fetched, OutOfMemory>
+    ensures { OnOk result (out.new.items ≡ out.old.items ++ flat_map notice_line (fetched number (answer_now answer.entry))) }
+{
     match answer {
         Ok(Reply::Updates(updates)) => {
             put_updates(alloc, number, updates.as_slice(), out)?;
@@ -194,7 +199,9 @@ fn put_updates(
     number: u32,
     updates: &[Update],
     out: &mut Vec<u8>,
-) -> Result<(), OutOfMemory> {
+) -> Result<(), OutOfMemory>
+    ensures { OnOk result (out.new.items ≡ out.old.items ++ flat_map notice_line (map (change number) updates.now)) }
+{
     for update in updates {
         put_word("! ", out)?;
         put_told(alloc, number, update, out)?;

@@ -1,4 +1,7 @@
 //! What a connection is told unasked: the peers that come and go, and that the node has begun anew.
+ghost use Rattle.std.specs.Prelude.{◌≡◌, ◌++◌, OnOk};
+ghost use Rattle.pg_session.specs.Notices.{TellsOthers, notice_line, up, down};
+
 use dist_types::{NodeName, OutOfMemory, TryClone};
 use node_core::NodeCore;
 use pg_text::{put_bytes, put_number, put_numbered_line, put_word};
@@ -68,11 +71,14 @@ impl News {
     }
 
     /// Adds that the node has begun anew, if that isn't told yet.
-    pub fn put_restart(&mut self, out: &mut Vec<u8>) -> Result<(), OutOfMemory> {
-        if let Some(creation) = self.restarted {
-            put_numbered_line("! restarted ", u64::from(creation), out)?;
-            self.restarted = None;
-        }
+    pub fn put_restart(&mut self, out: &mut Vec<u8>) -> Result<(), OutOfMemory>
+        ensures { OnOk result (TellsOthers out.old.items out.new.items) }
+    {
+        let Some(creation) = self.restarted else {
+            return Ok(());
+        };
+        put_numbered_line("! restarted ", u64::from(creation), out)?;
+        self.restarted = None;
         Ok(())
     }
 
@@ -87,43 +93,89 @@ impl News {
         alloc: Global,
         core: &NodeCore,
         out: &mut Vec<u8>,
-    ) -> Result<(), OutOfMemory> {
-        for entry in self.unseen(core) {
-            if let Verdict::Accepted(
-                Reply::Up {
-                    peer,
-                    creation,
-                    visible,
-                },
-            ) = &entry.verdict
-            {
-                self.meet(alloc, peer, out)?;
-                put_up(peer, *creation, *visible, out)?;
-            }
-        }
-        for peer in self.peers.as_slice() {
-            if !core.is_peer_up(peer) {
-                put_down(peer, out)?;
-            }
-        }
+    ) -> Result<(), OutOfMemory>
+        ensures { OnOk result (TellsOthers out.old.items out.new.items) }
+    {
+        let entries = self.unseen(core);
+        put_coming(&mut self.peers, alloc, entries, out)?;
+        put_gone(self.peers.as_slice(), core, out)?;
         self.peers.retain(|peer| core.is_peer_up(peer));
         self.seen = Seen::of(core);
         Ok(())
     }
+}
 
-    /// A peer has come up. A link of it that was up before is gone.
-    fn meet(
-        &mut self,
-        alloc: Global,
-        peer: &NodeName,
-        out: &mut Vec<u8>,
-    ) -> Result<(), OutOfMemory> {
-        if self.peers.iter().any(|known| known == peer) {
-            return put_down(peer, out);
-        }
-        self.peers.push(peer.try_clone(alloc)?)?;
-        Ok(())
+/// Adds which peers came up in these entries.
+fn put_coming(
+    peers: &mut Vec<NodeName>,
+    alloc: Global,
+    entries: slice::Iter<'_, Entry>,
+    out: &mut Vec<u8>,
+) -> Result<(), OutOfMemory>
+    ensures { OnOk result (TellsOthers out.old.items out.new.items) }
+{
+    for entry in entries {
+        put_if_up(peers, alloc, entry, out)?;
     }
+    Ok(())
+}
+
+/// Adds that a peer has come up, if the entry says so.
+fn put_if_up(
+    peers: &mut Vec<NodeName>,
+    alloc: Global,
+    entry: &Entry,
+    out: &mut Vec<u8>,
+) -> Result<(), OutOfMemory>
+    ensures { OnOk result (TellsOthers out.old.items out.new.items) }
+{
+    let Verdict::Accepted(
+        Reply::Up {
+            peer,
+            creation,
+            visible,
+        },
+    ) = &entry.verdict
+    else {
+        return Ok(());
+    };
+    meet(peers, alloc, peer, out)?;
+    put_up(peer, *creation, *visible, out)
+}
+
+/// A peer has come up. A link of it that was up before is gone.
+fn meet(
+    peers: &mut Vec<NodeName>,
+    alloc: Global,
+    peer: &NodeName,
+    out: &mut Vec<u8>,
+) -> Result<(), OutOfMemory>
+    ensures { OnOk result (TellsOthers out.old.items out.new.items) }
+{
+    if peers.iter().any(|known| known == peer) {
+        return put_down(peer, out);
+    }
+    peers.push(peer.try_clone(alloc)?)?;
+    Ok(())
+}
+
+/// Adds which of these peers are gone.
+fn put_gone(peers: &[NodeName], core: &NodeCore, out: &mut Vec<u8>) -> Result<(), OutOfMemory>
+    ensures { OnOk result (TellsOthers out.old.items out.new.items) }
+{
+    for peer in peers {
+        put_if_gone(peer, core, out)?;
+    }
+    Ok(())
+}
+
+fn put_if_gone(peer: &NodeName, core: &NodeCore, out: &mut Vec<u8>) -> Result<(), OutOfMemory>
+    ensures { OnOk result (TellsOthers out.old.items out.new.items) }
+{
+    if core.is_peer_up(peer) {
+        return Ok(());
+    }
+    put_down(peer, out)
 }
 
 fn put_up(
@@ -131,7 +183,9 @@ fn put_up(
     creation: u32,
     visible: bool,
     out: &mut Vec<u8>,
-) -> Result<(), OutOfMemory> {
+) -> Result<(), OutOfMemory>
+    ensures { OnOk result (out.new.items ≡ out.old.items ++ notice_line (up peer.now creation visible)) }
+{
     let ending = if visible { " visible\n" } else { " hidden\n" };
     put_word("! up ", out)?;
     put_bytes(peer.as_bytes(), out)?;
@@ -139,7 +193,9 @@ fn put_up(
     put_word(ending, out)
 }
 
-fn put_down(peer: &NodeName, out: &mut Vec<u8>) -> Result<(), OutOfMemory> {
+fn put_down(peer: &NodeName, out: &mut Vec<u8>) -> Result<(), OutOfMemory>
+    ensures { OnOk result (out.new.items ≡ out.old.items ++ notice_line (down peer.now)) }
+{
     put_word("! down ", out)?;
     put_bytes(peer.as_bytes(), out)?;
     put_word("\n", out)

@@ -6,6 +6,7 @@ ghost use Rattle.pg_session.specs.Answers.{Answers, Makes};
 ghost use Rattle.pg_session.specs.Processes.{exited_by, spawned};
 ghost use Rattle.pg_session.specs.Calls.{Seat, GoesOn, IsCalled, AnswersCall, may_call};
 ghost use Rattle.pg_session.specs.Outcomes.{Kept};
+ghost use Rattle.pg_session.specs.Notices.{Tells, TellsOthers};
 ghost use Rattle.pg_session.specs.declared.request.Request.TheVariants as requests;
 
 use crate::caller::{Caller, Outcome};
@@ -103,7 +104,8 @@ impl Session {
 
     /// Adds that the node has begun anew, if the connection hasn't been told.
     pub fn put_restart(&mut self, out: &mut Vec<u8>) -> Result<(), OutOfMemory>
-        ensures { self.new ≡ self.old }
+        ensures same { self.new ≡ self.old }
+        ensures told { OnOk result (TellsOthers out.old.items out.new.items) }
     {
         self.news.put_restart(out)
     }
@@ -216,7 +218,10 @@ impl Session {
         alloc: Global,
         node: &Node,
         out: &mut Vec<u8>,
-    ) -> Result<Seen, OutOfMemory> {
+    ) -> Result<Seen, OutOfMemory>
+        ensures told { OnOk result (Tells self.old.pass out.old.items self.new.pass out.new.items) }
+        ensures own { self.new.own ≡ self.old.own }
+    {
         self.news.put_restart(out)?;
         self.look(rt, alloc, node, out)?;
         tell_all(&mut self.watches, &mut self.caller, rt, alloc, node, out)?;
@@ -231,7 +236,8 @@ impl Session {
         node: &Node,
         out: &mut Vec<u8>,
     ) -> Result<(), OutOfMemory>
-        ensures { self.new ≡ self.old }
+        ensures same { self.new ≡ self.old }
+        ensures told { OnOk result (TellsOthers out.old.items out.new.items) }
     {
         let shared = node.shared.lock(rt);
         note_all(&mut self.watches, self.news.unseen(shared.core()));
@@ -272,7 +278,8 @@ fn tell_all<R: Wait>(
     node: &Node,
     out: &mut Vec<u8>,
 ) -> Result<(), OutOfMemory>
-    ensures { GoesOn caller.old caller.new }
+    ensures goes { GoesOn caller.old caller.new }
+    ensures told { OnOk result (Tells caller.old out.old.items caller.new out.new.items) }
 {
     for watch in watches.iter_mut() {
         watch.tell(caller, rt, alloc, node, out)?;

@@ -1,7 +1,8 @@
 //! Monitors that tell unasked.
-ghost use Rattle.std.specs.Prelude.{◌≡◌, ◌⊎◌};
+ghost use Rattle.std.specs.Prelude.{◌≡◌, ◌⊎◌, OnOk};
 ghost use Rattle.policy_audit.specs.declared.event.Event.TheVariants.{Updates};
 ghost use Rattle.pg_session.specs.Calls.{IsCalled};
+ghost use Rattle.pg_session.specs.Notices.{Tells, TellsOthers};
 
 use crate::caller::{Caller, Fetched};
 use dist_types::{Group, OutOfMemory, Scope, TryClone};
@@ -98,18 +99,32 @@ impl Watch {
         node: &Node,
         out: &mut Vec<u8>,
     ) -> Result<(), OutOfMemory>
-        ensures { IsCalled caller.old (Updates self.old.number) caller.new ⊎ (caller.new ≡ caller.old) }
+        ensures called { IsCalled caller.old (Updates self.old.number) caller.new ⊎ (caller.new ≡ caller.old) }
+        ensures told { OnOk result (Tells caller.old out.old.items caller.new out.new.items) }
     {
-        if self.is_due && !self.is_over {
-            match caller.fetch(rt, alloc, node, self.number, out)? {
-                Fetched::Told => self.is_due = false,
-                Fetched::Over => self.is_over = true,
-                Fetched::NotNow => {}
-            }
+        if !self.is_due || self.is_over {
+            return self.put_end(out);
         }
-        if self.is_over {
-            put_numbered_line("! ended ", u64::from(self.number), out)?;
+        let fetched = caller.fetch(rt, alloc, node, self.number, out)?;
+        self.learn(fetched);
+        self.put_end(out)
+    }
+
+    fn learn(&mut self, fetched: Fetched) {
+        match fetched {
+            Fetched::Told => self.is_due = false,
+            Fetched::Over => self.is_over = true,
+            Fetched::NotNow => {}
         }
-        Ok(())
+    }
+
+    /// Adds that it has ended, if it has.
+    fn put_end(&self, out: &mut Vec<u8>) -> Result<(), OutOfMemory>
+        ensures { OnOk result (TellsOthers out.old.items out.new.items) }
+    {
+        if !self.is_over {
+            return Ok(());
+        }
+        put_numbered_line("! ended ", u64::from(self.number), out)
     }
 }

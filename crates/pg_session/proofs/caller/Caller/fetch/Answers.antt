@@ -1,11 +1,17 @@
 use Rattle.std.proofs.Common.{refl}
 use Rattle.policy_audit.specs.declared.event.Event.TheVariants.{Updates}
-use Rattle.pg_session.proofs.Callers.{called_connections}
+use Rattle.pg_session.proofs.Callers.{called_connections, on_ok}
+use Rattle.pg_session.proofs.Telling.{tells_fetched}
 use Rattle.pg_session.proofs.caller.Caller.fetch.Goals as goal
 
 pub invariant_of-self : goal.invariant_of-self
 invariant_of-self g c =
     called_connections c.self.inside.pass c.call-answer.follows.lender-at-none (Updates c.args.number) c.self.invariant refl (_, c.call-answer.follows.holds-at-none)
 
-pub returns : goal.returns
-returns g c = rw (← c.self.view_is) (_, c.call-answer.follows.holds-at-none)
+pub returns-clause-called : goal.returns-clause-called
+returns-clause-called g c = rw (← c.self.view_is) (_, c.call-answer.follows.holds-at-none)
+
+pub returns-clause-told : goal.returns-clause-told
+returns-clause-told g c =
+    rw (← c.self.view_is)
+    (on_ok c.put_fetched.result (λ is. tells_fetched c.args.number c.self.inside.pass c.call-answer.follows.lender-at-none c.args.out.now.items c.put_fetched.new.out.items _ c.call-answer.follows.holds-at-none is) c.put_fetched.ensures)
