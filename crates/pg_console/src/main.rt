@@ -8,6 +8,7 @@ mod pair;
 mod script;
 #[cfg(test)]
 mod tests;
+mod world;
 
 use clap::ArgMatches;
 use clap::error::{Error as LineError, ErrorKind as LineFault};
@@ -17,12 +18,15 @@ use pg_text::{diagnose, without_feed};
 use policy_audit::Opening;
 use script::RunFault;
 use std::alloc::{AllocError, Global};
+use std::fmt::Display;
 use std::io::{self, BufReader, ErrorKind};
 use std::net::{Net, TcpListener, TcpStream};
 use std::process::ExitCode;
 use std::sync::Wait;
 use std::thread::Threads;
 use std::time::Clock;
+use world::{Stop, play_world};
+use world_script::why_unread;
 
 const OUT_OF_MEMORY: &str = "error: out of memory";
 
@@ -99,6 +103,9 @@ where
     if matches.subcommand_matches("pair").is_some() {
         return meet(rt);
     }
+    if matches.subcommand_matches("world").is_some() {
+        return try_out(rt);
+    }
     let Some(run) = matches.subcommand_matches("run") else {
         return failed(rt, 2, "error: no command was given");
     };
@@ -149,18 +156,65 @@ fn play<R: AllocGlobal + Input + Print + Eprint>(rt: &R, opening: Opening) -> Ex
     }
 }
 
+/// Plays standard input on several nodes and their wires.
+fn try_out<R: AllocGlobal + Input + Print + Eprint>(rt: &R) -> ExitCode {
+    let Ok(mut reader) = BufReader::new(rt.alloc(), rt.reader()) else {
+        return failed(rt, 1, OUT_OF_MEMORY);
+    };
+    let mut line = Vec::new(rt.alloc());
+    match play_world(rt.alloc(), &mut reader, &mut line, &mut io::writer(rt)) {
+        Ok(()) => ExitCode::SUCCESS,
+        Err(stop) => stopped(rt, stop, without_feed(line.as_slice())),
+    }
+}
+
+/// Ends a script of world steps at this line.
+fn stopped<R: AllocGlobal + Eprint>(rt: &R, stop: Stop, line: &[u8]) -> ExitCode {
+    let status = match stop {
+        Stop::SameName(_) => 2,
+        Stop::Run(_) => 1,
+    };
+    match why_stopped(rt.alloc(), stop, line) {
+        Ok(text) => failed(rt, status, text.as_str()),
+        Err(_) => failed(rt, 1, OUT_OF_MEMORY),
+    }
+}
+
+/// Why a script of world steps stopped at this line.
+fn why_stopped(alloc: Global, stop: Stop, line: &[u8]) -> Result<String, AllocError> {
+    match stop {
+        Stop::SameName(number) => {
+            format!(in alloc; "line {number}: an earlier node has this name")
+        }
+        Stop::Run(RunFault::Script(number)) => {
+            let (reason, part) = why_unread(alloc, line);
+            about(alloc, number, &reason, part)
+        }
+        Stop::Run(fault) => format!(in alloc; "error: {fault}"),
+    }
+}
+
 /// Ends a run at the line of this number, and says why it says no command.
 fn misread<R: AllocGlobal + Eprint>(rt: &R, number: u64, line: &[u8]) -> ExitCode {
     let Some((reason, part)) = diagnose(rt.alloc(), line) else {
         return failed(rt, 1, "error: the line can't be read");
     };
-    let text = match part {
-        "" => format!(in rt.alloc(); "line {number}: {reason}"),
-        _ => format!(in rt.alloc(); "line {number}: {reason}: {part:.80}"),
-    };
-    match text {
+    match about(rt.alloc(), number, &reason, part) {
         Ok(text) => failed(rt, 1, text.as_str()),
         Err(_) => failed(rt, 1, OUT_OF_MEMORY),
+    }
+}
+
+/// Says of the line of this number why it can't be read, and what that is about.
+fn about<D: Display>(
+    alloc: Global,
+    number: u64,
+    reason: &D,
+    part: &str,
+) -> Result<String, AllocError> {
+    match part {
+        "" => format!(in alloc; "line {number}: {reason}"),
+        _ => format!(in alloc; "line {number}: {reason}: {part:.80}"),
     }
 }
 

@@ -24,6 +24,19 @@ Example:
 Status: 0 at the end of the script; 1 at a line that is no command, at a fault of a stream, or for want of memory;
 2 at a fault of the command line. docs/FORMATS.md has the answers and the frames.";
 
+/// The lines of a script of world steps, behind the help of the parser.
+const WORLDS: &str = "\
+Lines of a script; the nodes come first, and a word in brackets may be left out:
+  nodes  node NAME COOKIE [hidden] [creation N] [entries N] | at NAME COMMAND.. | restart NAME | seat SEAT | show SCOPE GROUP
+  wires  dial FROM TO CHALLENGE | accept WIRE CHALLENGE | hand WIRE SIDE | deliver WIRE SIDE | cut WIRE SIDE | settle
+COMMAND is one of `run`, and SIDE is dialler or acceptor.
+
+Example:
+  printf 'node a@h x\\nnode b@h x\\ndial a@h b@h 1\\naccept 0 2\\nsettle\\n' | pg_console world
+
+Status: 0 at the end of the script; 1 at a line that can't be read, at a fault of a stream, or for want of memory outside a step;
+2 where two nodes have one name. docs/FORMATS.md has the lines and their answers.";
+
 /// Why NAME or COOKIE is refused.
 #[derive(Clone, Copy, Debug, thiserror::Error)]
 pub enum OptionsFault {
@@ -54,8 +67,15 @@ pub fn command<'a>(alloc: Global) -> Result<Command<'a>, Error> {
             .after_help(SCRIPTS)
             .subcommand_required(true)
             .subcommand(run)?
-            .subcommand(pair_command(alloc))?,
+            .subcommand(pair_command(alloc))?
+            .subcommand(world_command(alloc))?,
     )
+}
+
+fn world_command<'a>(alloc: Global) -> Command<'a> {
+    Command::new(alloc, "world")
+        .about("Plays a script from standard input on several nodes and their wires")
+        .after_help(WORLDS)
 }
 
 fn pair_command<'a>(alloc: Global) -> Command<'a> {

@@ -35,7 +35,7 @@ pub enum RunFault {
 }
 
 /// The most lines that are read, and the most writes of one answer.
-const TURNS: u64 = 1 << 32;
+pub(crate) const TURNS: u64 = 1 << 32;
 
 /// Plays a script on a new node: one answer line for each command, up to the first line that can't be read. Each answer
 /// is written and flushed before the next line is read.
@@ -98,7 +98,7 @@ fn play_lines<R: BufRead, W: Write>(
 }
 
 /// Reads the next line, with its line feed, over the last. At the end of the script there is none.
-fn read_line<R: BufRead>(line: &mut Vec<u8>, reader: &mut R) -> Result<bool, RunFault>
+pub(crate) fn read_line<R: BufRead>(line: &mut Vec<u8>, reader: &mut R) -> Result<bool, RunFault>
     ensures read { OnOk result (IfSome (R.remaining reader.old) (λ rest.
         (line.new.items ≡ take_through 10 rest) × (R.remaining reader.new ≡ Some (drop_through 10 rest)))) }
     ensures found { IfOk result (λ found. found ≡ true → 0 < length line.new.items) }
@@ -140,7 +140,7 @@ fn answer_line<W: Write>(
 }
 
 /// Writes the last line of a script that can't be read further, and says what the run ends with.
-fn tell_fault<W: Write>(line: u64, out: &mut Vec<u8>, writer: &mut W) -> RunFault
+pub(crate) fn tell_fault<W: Write>(line: u64, out: &mut Vec<u8>, writer: &mut W) -> RunFault
     ensures ended { (result ≡ faults.Script line) ⊎ (result ≡ faults.Memory) ⊎ (result ≡ faults.Write) }
     ensures told { result ≡ faults.Script line → Appends (W.contents writer.old) (W.contents writer.new) (fault_line line) }
     ensures untold { result ≡ faults.Memory → writer.new ≡ writer.old }
@@ -170,7 +170,7 @@ fn read_fault(error: Error) -> RunFault
 }
 
 /// Writes all bytes, and sees that they go out. After a fault a beginning of them was written.
-fn send<W: Write>(bytes: &[u8], writer: &mut W) -> Result<(), RunFault>
+pub(crate) fn send<W: Write>(bytes: &[u8], writer: &mut W) -> Result<(), RunFault>
     ensures ok { OnOk result (Appends (W.contents writer.old) (W.contents writer.new) bytes.now) }
     ensures err { IfErr result (λ fault. fault ≡ faults.Write) }
     ensures begun { OnErr result ((n : ℕ) × Appends (W.contents writer.old) (W.contents writer.new) (take n bytes.now)) }

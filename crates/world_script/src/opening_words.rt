@@ -1,0 +1,75 @@
+//! The words behind `node`.
+use crate::reading::is;
+use pg_text::{LineFault, first, next_word, nothing};
+use policy_audit::Opening;
+use std::alloc::Global;
+
+/// The creation of a node that says none.
+const CREATION: u32 = 1;
+
+/// The most entries of a node's audit, where it says none.
+const ENTRIES: u32 = 1_000_000;
+
+/// What follows the name and the cookie of a node.
+struct Settings {
+    hidden: bool,
+    creation: u32,
+    entries: u32,
+}
+
+/// `NAME COOKIE [hidden] [creation N] [entries N]`, with one entry at least.
+pub fn opening(alloc: Global, words: Option<&[u8]>) -> Result<Opening, LineFault> {
+    let (name, rest) = first(alloc, words)?;
+    let (cookie, rest) = first(alloc, rest)?;
+    let Settings {
+        hidden,
+        creation,
+        entries,
+    } = settings(alloc, rest)?;
+    Ok(Opening {
+        name,
+        cookie,
+        hidden,
+        creation,
+        entries,
+    })
+}
+
+/// `[hidden] [creation N] [entries N]`, and nothing behind.
+fn settings(alloc: Global, words: Option<&[u8]>) -> Result<Settings, LineFault> {
+    let (hidden, rest) = flag("hidden", words);
+    let (creation, rest) = number_behind(alloc, "creation", CREATION, rest)?;
+    let (entries, rest) = number_behind(alloc, "entries", ENTRIES, rest)?;
+    nothing(rest)?;
+    if entries == 0 {
+        return Err(LineFault::Script);
+    }
+    Ok(Settings {
+        hidden,
+        creation,
+        entries,
+    })
+}
+
+/// Whether this word is next, and the words behind it.
+fn flag<'a>(word: &str, words: Option<&'a [u8]>) -> (bool, Option<&'a [u8]>) {
+    match next_word(words) {
+        Some((next, rest)) if is(next, word) => (true, rest),
+        _ => (false, words),
+    }
+}
+
+/// The number behind this word, where the word is next, else this number; and the words behind.
+fn number_behind<'a>(
+    alloc: Global,
+    word: &str,
+    default: u32,
+    words: Option<&'a [u8]>,
+) -> Result<(u32, Option<&'a [u8]>), LineFault> {
+    let (found, rest) = flag(word, words);
+    if found {
+        first(alloc, rest)
+    } else {
+        Ok((default, rest))
+    }
+}

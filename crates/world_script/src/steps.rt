@@ -1,0 +1,50 @@
+//! The step of a world that a line asks for.
+use crate::named_world::NamedWorld;
+use crate::world_line::WorldLine;
+use pg_world::WorldStep;
+
+/// The step that a line asks for, if it asks for one.
+pub fn step_of(world: &NamedWorld, seat: u32, asked: WorldLine) -> Option<WorldStep> {
+    Some(match asked {
+        WorldLine::At { node, event } => WorldStep::Call {
+            node: world.place(&node),
+            seat,
+            event,
+        },
+        WorldLine::Dial {
+            from,
+            to,
+            challenge,
+        } => WorldStep::Dial {
+            from: world.place(&from),
+            to: world.place(&to),
+            seat,
+            challenge,
+        },
+        WorldLine::Accept { wire, challenge } => WorldStep::Accept {
+            wire: wire as usize,
+            seat,
+            challenge,
+        },
+        WorldLine::Hand { wire, side } => WorldStep::Hand {
+            wire: wire as usize,
+            side,
+            seat,
+        },
+        WorldLine::Deliver { wire, side } => WorldStep::Deliver {
+            wire: wire as usize,
+            side,
+            seat,
+        },
+        WorldLine::Cut { wire, side } => WorldStep::Cut {
+            wire: wire as usize,
+            side,
+            seat,
+        },
+        WorldLine::Restart(node) => WorldStep::Restart {
+            node: world.place(&node),
+            seat,
+        },
+        _ => return None,
+    })
+}
