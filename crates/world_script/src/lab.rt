@@ -9,7 +9,6 @@ use crate::world_line::WorldLine;
 use dist_types::OutOfMemory;
 use node_core::{NodeCore, OpenFault};
 use pg_text::{LineFault, is_quiet, put_word};
-use pg_world::SameName;
 use policy_audit::Opening;
 use std::alloc::{AllocFailed, Global};
 use std::mem;
@@ -51,12 +50,6 @@ impl From<OpenFault> for LabFault {
             OpenFault::BadLimit => LabFault::Script,
             OpenFault::OutOfMemory => LabFault::Memory,
         }
-    }
-}
-
-impl From<SameName> for LabFault {
-    fn from(_fault: SameName) -> LabFault {
-        LabFault::SameName
     }
 }
 
@@ -121,7 +114,7 @@ impl Lab {
             Some(world) => Ok(world),
             None => {
                 let nodes = mem::replace(&mut self.nodes, Vec::new(self.alloc));
-                Ok(NamedWorld::new(self.alloc, nodes)?)
+                NamedWorld::new(self.alloc, nodes).ok_or(LabFault::SameName)
             }
         }
     }

@@ -1,7 +1,7 @@
 //! A world whose nodes go by their names.
 use dist_types::NodeName;
 use node_core::NodeCore;
-use pg_world::{SameName, World, WorldFault, WorldReply, WorldStep};
+use pg_world::{World, WorldFault, WorldReply, WorldStep};
 use std::alloc::Global;
 
 /// A world, and how many nodes it has.
@@ -12,11 +12,13 @@ pub struct NamedWorld {
 }
 
 impl NamedWorld {
-    /// The world of these nodes.
-    pub fn new(alloc: Global, nodes: Vec<NodeCore>) -> Result<NamedWorld, SameName> {
+    /// The world of these nodes, which have seen nothing, unless two have one name.
+    pub fn new(alloc: Global, nodes: Vec<NodeCore>) -> Option<NamedWorld> {
         let count = nodes.len();
-        let world = World::new(alloc, nodes)?;
-        Ok(NamedWorld { world, count })
+        let Ok(world) = World::new(alloc, nodes) else {
+            return None;
+        };
+        Some(NamedWorld { world, count })
     }
 
     /// How many nodes there are.
