@@ -1,4 +1,9 @@
 //! The words behind `node`.
+ghost use Rattle.std.specs.Prelude.{◌≡◌, IfOk, IfErr, Some};
+ghost use Rattle.pg_text.specs.Faults.{IsUnread};
+ghost use Rattle.pg_text.specs.WordsLeft.{words_left};
+ghost use Rattle.world_script.specs.WorldLines.{opening_of, settings_of, is_next, without, number_behind};
+
 use crate::reading::is;
 use pg_text::{LineFault, first, next_word, nothing};
 use policy_audit::Opening;
@@ -18,14 +23,17 @@ struct Settings {
 }
 
 /// `NAME COOKIE [hidden] [creation N] [entries N]`, with one entry at least.
-pub fn opening(alloc: Global, words: Option<&[u8]>) -> Result<Opening, LineFault> {
+pub fn opening(alloc: Global, words: Option<&[u8]>) -> Result<Opening, LineFault>
+    ensures ok { IfOk result (λ said. opening_of (words_left words.entry) ≡ Some said) }
+    ensures fault { IfErr result (λ fault. IsUnread fault (opening_of (words_left words.entry))) }
+{
     let (name, rest) = first(alloc, words)?;
     let (cookie, rest) = first(alloc, rest)?;
     let Settings {
         hidden,
         creation,
         entries,
-    } = settings(alloc, rest)?;
+    } = read_settings(alloc, rest)?;
     Ok(Opening {
         name,
         cookie,
@@ -36,7 +44,10 @@ pub fn opening(alloc: Global, words: Option<&[u8]>) -> Result<Opening, LineFault
 }
 
 /// `[hidden] [creation N] [entries N]`, and nothing behind.
-fn settings(alloc: Global, words: Option<&[u8]>) -> Result<Settings, LineFault> {
+fn read_settings(alloc: Global, words: Option<&[u8]>) -> Result<Settings, LineFault>
+    ensures ok { IfOk result (λ said. settings_of (words_left words.entry) ≡ Some said) }
+    ensures fault { IfErr result (λ fault. IsUnread fault (settings_of (words_left words.entry))) }
+{
     let (hidden, rest) = flag("hidden", words);
     let (creation, rest) = number_behind(alloc, "creation", CREATION, rest)?;
     let (entries, rest) = number_behind(alloc, "entries", ENTRIES, rest)?;
@@ -52,7 +63,10 @@ fn settings(alloc: Global, words: Option<&[u8]>) -> Result<Settings, LineFault> 
 }
 
 /// Whether this word is next, and the words behind it.
-fn flag<'a>(word: &str, words: Option<&'a [u8]>) -> (bool, Option<&'a [u8]>) {
+fn flag<'a>(word: &str, words: Option<&'a [u8]>) -> (bool, Option<&'a [u8]>)
+    ensures is { result.0 ≡ is_next word.now (words_left words.entry) }
+    ensures left { words_left result.1 ≡ without word.now (words_left words.entry) }
+{
     match next_word(words) {
         Some((next, rest)) if is(next, word) => (true, rest),
         _ => (false, words),
@@ -65,7 +79,10 @@ fn number_behind<'a>(
     word: &str,
     default: u32,
     words: Option<&'a [u8]>,
-) -> Result<(u32, Option<&'a [u8]>), LineFault> {
+) -> Result<(u32, Option<&'a [u8]>), LineFault>
+    ensures ok { IfOk result (λ said. number_behind word.now default (words_left words.entry) ≡ Some (said.0, words_left said.1)) }
+    ensures fault { IfErr result (λ fault. IsUnread fault (number_behind word.now default (words_left words.entry))) }
+{
     let (found, rest) = flag(word, words);
     if found {
         first(alloc, rest)

@@ -1,10 +1,11 @@
 //! What a line of a world's script says.
 ghost use Rattle.std.specs.Prelude.{◌≡◌, IfOk, IfErr, Some};
+ghost use Rattle.std.specs.Str.{bytes_eq};
 ghost use Rattle.pg_text.specs.Arguments.{both};
 ghost use Rattle.pg_text.specs.Faults.{IsUnread};
 ghost use Rattle.pg_text.specs.WordsLeft.{words_left};
 ghost use Rattle.pg_text.specs.Words.{number_of};
-ghost use Rattle.world_script.specs.WorldLines.{asked_by, node_line, wire_line, call_of, dial_of, side_of};
+ghost use Rattle.world_script.specs.WorldLines.{asked_by, node_line, wire_line, call_of, event_of, dial_of, side_of};
 
 use crate::opening_words::opening;
 use crate::world_line::WorldLine;
@@ -16,7 +17,7 @@ use std::alloc::Global;
 
 /// What a line that is not quiet asks for.
 pub fn read_world_line(alloc: Global, line: &[u8]) -> Result<WorldLine, LineFault>
-    ensures ok { IfOk result (λ asked. asked_by line.now ≡ Some asked) }
+    ensures ok { IfOk result (λ said. asked_by line.now ≡ Some said) }
     ensures fault { IfErr result (λ fault. IsUnread fault (asked_by line.now)) }
 {
     let (name, words) = first_word(line);
@@ -25,7 +26,7 @@ pub fn read_world_line(alloc: Global, line: &[u8]) -> Result<WorldLine, LineFaul
 
 /// A line about nodes, or one about wires.
 fn node_line(alloc: Global, name: &[u8], words: Option<&[u8]>) -> Result<WorldLine, LineFault>
-    ensures ok { IfOk result (λ asked. node_line name.now (words_left words.entry) ≡ Some asked) }
+    ensures ok { IfOk result (λ said. node_line name.now (words_left words.entry) ≡ Some said) }
     ensures fault { IfErr result (λ fault. IsUnread fault (node_line name.now (words_left words.entry))) }
 {
     Ok(if is(name, "node") {
@@ -47,7 +48,7 @@ fn node_line(alloc: Global, name: &[u8], words: Option<&[u8]>) -> Result<WorldLi
 
 /// A line about wires.
 fn wire_line(alloc: Global, name: &[u8], words: Option<&[u8]>) -> Result<WorldLine, LineFault>
-    ensures ok { IfOk result (λ asked. wire_line name.now (words_left words.entry) ≡ Some asked) }
+    ensures ok { IfOk result (λ said. wire_line name.now (words_left words.entry) ≡ Some said) }
     ensures fault { IfErr result (λ fault. IsUnread fault (wire_line name.now (words_left words.entry))) }
 {
     Ok(if is(name, "dial") {
@@ -83,7 +84,10 @@ fn call(alloc: Global, words: Option<&[u8]>) -> Result<(NodeName, Event), LineFa
 }
 
 /// The event of a command.
-fn event_of(alloc: Global, words: Option<&[u8]>) -> Result<Event, LineFault> {
+fn event_of(alloc: Global, words: Option<&[u8]>) -> Result<Event, LineFault>
+    ensures ok { IfOk result (λ said. event_of (words_left words.entry) ≡ Some said) }
+    ensures fault { IfErr result (λ fault. IsUnread fault (event_of (words_left words.entry))) }
+{
     let Some(command) = words else {
         return Err(LineFault::Script);
     };
@@ -94,7 +98,10 @@ fn event_of(alloc: Global, words: Option<&[u8]>) -> Result<Event, LineFault> {
 }
 
 /// Who dials whom, with which challenge.
-fn dial(alloc: Global, words: Option<&[u8]>) -> Result<WorldLine, LineFault> {
+fn dial(alloc: Global, words: Option<&[u8]>) -> Result<WorldLine, LineFault>
+    ensures ok { IfOk result (λ said. dial_of (words_left words.entry) ≡ Some said) }
+    ensures fault { IfErr result (λ fault. IsUnread fault (dial_of (words_left words.entry))) }
+{
     let (from, rest) = first(alloc, words)?;
     let (to, challenge) = both(alloc, rest)?;
     Ok(WorldLine::Dial {
@@ -118,7 +125,10 @@ fn wire_side(alloc: Global, words: Option<&[u8]>) -> Result<(u32, Side), LineFau
 }
 
 /// The side that a word names.
-fn side(word: &[u8]) -> Result<Side, LineFault> {
+fn side(word: &[u8]) -> Result<Side, LineFault>
+    ensures ok { IfOk result (λ said. side_of word.now ≡ Some said) }
+    ensures fault { IfErr result (λ fault. IsUnread fault (side_of word.now)) }
+{
     if is(word, "dialler") {
         Ok(Side::Dialler)
     } else if is(word, "acceptor") {
@@ -129,6 +139,8 @@ fn side(word: &[u8]) -> Result<Side, LineFault> {
 }
 
 /// Whether a word is this one.
-pub(crate) fn is(word: &[u8], text: &str) -> bool {
+pub(crate) fn is(word: &[u8], text: &str) -> bool
+    ensures { result ≡ bytes_eq word.now text.now }
+{
     word == text.as_bytes()
 }

@@ -4,7 +4,7 @@ use pg_world::Side;
 use policy_audit::{Event, Opening};
 
 /// What a line asks for. Nodes go by their names, wires by their numbers.
-#[derive(Debug, Drop)]
+#[derive(Drop)]
 pub enum WorldLine {
     /// One more node. It comes before all other lines.
     Node(Opening),
