@@ -1,6 +1,5 @@
 //! What all threads of the program share: the node, and the seats of its connections.
 
-
 use dist_types::OutOfMemory;
 use node_core::NodeCore;
 use node_threads::{Node, Pass};

@@ -64,7 +64,9 @@ fn main(rt: HostRuntime) -> ExitCode {
 /// The words of the command line, or the status of a program that can't have them.
 fn words<R: AllocGlobal + Env + Eprint>(rt: &R) -> Result<Vec<String>, ExitCode> {
     match std::env::args(rt) {
-        Ok(words) => words.collect(rt.alloc()).map_err(|_| failed(rt, 1, OUT_OF_MEMORY)),
+        Ok(words) => words
+            .collect(rt.alloc())
+            .map_err(|_| failed(rt, 1, OUT_OF_MEMORY)),
         Err(error) if error.kind() == ErrorKind::InvalidData => Err(failed(
             rt,
             2,

@@ -148,7 +148,13 @@ fn node_arguments<'a>(alloc: Global, command: Command<'a>) -> Result<Command<'a>
         "FILE",
         "Where audits that have ended are written",
     );
-    Ok(command.arg(hidden)?.arg(creation)?.arg(entries)?.arg(audit)?)
+    Ok(
+        command
+            .arg(hidden)?
+            .arg(creation)?
+            .arg(entries)?
+            .arg(audit)?,
+    )
 }
 
 fn link_arguments<'a>(alloc: Global, command: Command<'a>) -> Result<Command<'a>, ClapError> {

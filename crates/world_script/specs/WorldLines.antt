@@ -45,8 +45,8 @@ number_behind word default words = cond (is_next word words) (first number_of (b
 abbrev pub settings_of : List (List ℕ) → Option Settings
 settings_of words =
     option_and_then (λ c. option_and_then (λ n.
-        cond (is_empty n.1) (cond (n.0 == 0) None (Some (record { hidden = is_next (codes "hidden") words; creation = c.0; entries = n.0 }))) None)
-        (number_behind (codes "entries") 1000000 c.1))
+    cond (is_empty n.1) (cond (n.0 == 0) None (Some (record { hidden = is_next (codes "hidden") words; creation = c.0; entries = n.0 }))) None)
+    (number_behind (codes "entries") 1000000 c.1))
     (number_behind (codes "creation") 1 (without (codes "hidden") words))
 
 -- what a node starts with

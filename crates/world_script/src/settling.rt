@@ -2,8 +2,8 @@
 use crate::named_world::NamedWorld;
 use dist_types::OutOfMemory;
 use node_core::CoreFault;
-use pg_world::{Side, WorldFault, WorldReply, WorldStep};
 use pg_text::{put_numbered_line, put_unanswered};
+use pg_world::{Side, WorldFault, WorldReply, WorldStep};
 use policy_audit::Rule;
 
 /// The most turns of one settling.
@@ -30,7 +30,11 @@ pub fn settle(world: &mut NamedWorld, seat: u32) -> Result<u32, OutOfMemory> {
         }
         let wire = turn as usize / 2 % wires;
         let moved = take_turn(world, wire, side_of(turn), seat)?;
-        quiet = if moved.handed || moved.came { 0 } else { quiet + 1 };
+        quiet = if moved.handed || moved.came {
+            0
+        } else {
+            quiet + 1
+        };
         came += u32::from(moved.came);
     }
     Ok(came)
@@ -69,12 +73,7 @@ fn take_turn(
 }
 
 /// Whether frames waited. They are under way.
-fn hand(
-    world: &mut NamedWorld,
-    wire: usize,
-    side: Side,
-    seat: u32,
-) -> Result<bool, OutOfMemory> {
+fn hand(world: &mut NamedWorld, wire: usize, side: Side, seat: u32) -> Result<bool, OutOfMemory> {
     match world.step(WorldStep::Hand { wire, side, seat }) {
         Ok(WorldReply::Handed(count)) => Ok(count > 0),
         Err(WorldFault::Core(CoreFault::OutOfMemory)) => Err(OutOfMemory),

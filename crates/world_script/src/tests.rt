@@ -159,6 +159,12 @@ fn lines_that_ask_for_nothing(rt: HostRuntime) {
 #[test]
 fn nodes_come_first_and_differ_in_name(rt: HostRuntime) {
     let alloc = rt.alloc();
-    assert_eq!(rt; fault_behind(alloc, &["seat 1"], "node a@h x"), Some(LabFault::Script));
-    assert_eq!(rt; fault_behind(alloc, &["node a@h x"], "node a@h y"), Some(LabFault::SameName));
+    assert_eq!(rt;
+        fault_behind(alloc, &["seat 1"], "node a@h x"),
+        Some(LabFault::Script)
+    );
+    assert_eq!(rt;
+        fault_behind(alloc, &["node a@h x"], "node a@h y"),
+        Some(LabFault::SameName)
+    );
 }

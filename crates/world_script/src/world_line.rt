@@ -9,7 +9,10 @@ pub enum WorldLine {
     /// One more node. It comes before all other lines.
     Node(Opening),
     /// An event at a node, by the present seat.
-    At { node: NodeName, event: Event },
+    At {
+        node: NodeName,
+        event: Event,
+    },
     /// The seat of the lines that follow.
     Seat(u32),
     Dial {
@@ -17,10 +20,22 @@ pub enum WorldLine {
         to: NodeName,
         challenge: u32,
     },
-    Accept { wire: u32, challenge: u32 },
-    Hand { wire: u32, side: Side },
-    Deliver { wire: u32, side: Side },
-    Cut { wire: u32, side: Side },
+    Accept {
+        wire: u32,
+        challenge: u32,
+    },
+    Hand {
+        wire: u32,
+        side: Side,
+    },
+    Deliver {
+        wire: u32,
+        side: Side,
+    },
+    Cut {
+        wire: u32,
+        side: Side,
+    },
     Restart(NodeName),
     /// Frames are handed over and delivered on all wires, until none moves.
     Settle,
