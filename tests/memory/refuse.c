@@ -28,10 +28,16 @@ void *calloc(size_t count, size_t size) { return is_refused() ? NULL : __libc_ca
 
 void *realloc(void *old, size_t size) { return is_refused() ? NULL : __libc_realloc(old, size); }
 
-void _exit(int status) {
+static int tell(void) {
   char line[32];
   int length = snprintf(line, sizeof line, "calls %ld\n", calls);
-  if (length > 0 && write(2, line, (size_t)length) < 0) status = 3;
-  syscall(SYS_exit_group, status);
+  return length > 0 && write(2, line, (size_t)length) == length;
+}
+
+/* The two ways in which a program ends. */
+__attribute__((destructor)) static void end(void) { tell(); }
+
+void _exit(int status) {
+  syscall(SYS_exit_group, tell() ? status : 3);
   __builtin_unreachable();
 }
