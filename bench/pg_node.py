@@ -94,6 +94,7 @@ def linked(field, begin, peers):
     """A node and its peers, all linked."""
     hub = begin(field, "hub").ready()
     watching = Lines(hub)
+    watching.ask("size")  # (answered, so it is told of each peer that comes up)
     others = [begin(field, f"peer{number}", hub) for number in range(peers)]
     for node in others:
         node.ready()
@@ -172,6 +173,7 @@ def start_to_up(field, begin):
     """Milliseconds from the start of a process to the news of its link at the other end, the median."""
     hub = begin(field, "hub").ready()
     watching = Lines(hub)
+    watching.ask("size")
     times = []
     for number in range(STARTS):
         began = time.perf_counter()
