@@ -21,8 +21,8 @@ struct Moved {
 /// Takes turns at the sides of all wires, in their order, until none moves a frame, or for `TURNS` turns. Tells how many frames
 /// came. Without memory for a step it stops there.
 pub fn settle(world: &mut NamedWorld, seat: u32) -> Result<u32, OutOfMemory> {
-    let mut came = 0;
-    let mut quiet = 0;
+    let mut came = 0_u32;
+    let mut quiet = 0_usize;
     for turn in 0..TURNS {
         let wires = world.wires();
         if quiet / 2 >= wires {
@@ -33,9 +33,9 @@ pub fn settle(world: &mut NamedWorld, seat: u32) -> Result<u32, OutOfMemory> {
         quiet = if moved.handed || moved.came {
             0
         } else {
-            quiet + 1
+            quiet.saturating_add(1)
         };
-        came += u32::from(moved.came);
+        came = came.saturating_add(u32::from(moved.came));
     }
     Ok(came)
 }
