@@ -10,6 +10,3 @@ mod name_bytes;
 pub use admission::Admission;
 pub use fault::{AllowFault, CookieFault};
 pub use laws::{cookies_after, names_after};
-
-#[cfg(test)]
-mod tests;

@@ -8,6 +8,3 @@ mod source;
 pub use answer::digest;
 pub use challenge::{Challenge, Proof, Spent};
 pub use source::ChallengeSource;
-
-#[cfg(test)]
-mod tests;

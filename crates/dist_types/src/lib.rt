@@ -34,6 +34,3 @@ pub use pid::Pid;
 pub use row::Row;
 pub use scope::Scope;
 pub use shared::Shared;
-
-#[cfg(test)]
-mod tests;

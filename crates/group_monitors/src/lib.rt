@@ -12,6 +12,3 @@ pub use laws::{
     fetches_tell_the_listing, follows_the_policy, found_after, since_the_place, tells_the_listing,
 };
 pub use monitors::Monitors;
-
-#[cfg(test)]
-mod tests;

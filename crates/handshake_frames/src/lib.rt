@@ -17,6 +17,3 @@ pub use fault::BadFrame;
 pub use frame::{AckFrame, ChallengeFrame, HsFrame, NameFrame, ReplyFrame, StatusWord};
 pub use laws::{any_cut, one_frame, readers, round_trip};
 pub use reader::{Fed, HsReader};
-
-#[cfg(test)]
-mod tests;

@@ -16,6 +16,3 @@ pub use fault::{FeedFault, MessageFault};
 pub use laws::{any_cut, fits_a_reader, one_message, one_spelling, readers, round_trip, too_long};
 pub use message::{Message, Rows};
 pub use reader::LinkReader;
-
-#[cfg(test)]
-mod tests;

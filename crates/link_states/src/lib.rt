@@ -31,6 +31,3 @@ pub use pending::{Names, Pending};
 pub use state_rule::StateRule;
 pub use stopped::Stopped;
 pub use up::Up;
-
-#[cfg(test)]
-mod tests;

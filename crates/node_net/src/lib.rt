@@ -17,6 +17,3 @@ pub use dialling::{Target, keep_dialling, start_dialling};
 pub use lane::{Lane, UsedPass};
 pub use lanes::Lanes;
 pub use limits::Limits;
-
-#[cfg(test)]
-mod tests;

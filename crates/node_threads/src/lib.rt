@@ -27,16 +27,3 @@ pub use retreat::{Retreat, RetreatStep};
 pub use serving::{Served, serve_link};
 pub use shared::Shared;
 pub use writing::write_link;
-
-#[cfg(test)]
-mod accepting_tests;
-#[cfg(test)]
-mod close_tests;
-#[cfg(test)]
-mod memory_tests;
-#[cfg(test)]
-mod retreat_tests;
-#[cfg(test)]
-mod tests;
-#[cfg(test)]
-mod worker_tests;

@@ -27,6 +27,3 @@ pub use printed::{
 };
 pub use values::{cut, long_number, number};
 pub use words::{first_word, is_quiet, next_word, only_word, without_feed};
-
-#[cfg(test)]
-mod tests;

@@ -19,6 +19,3 @@ pub use laws::{
 pub use side::Side;
 pub use world::World;
 pub use world_step::{WorldReply, WorldStep};
-
-#[cfg(test)]
-mod tests;

@@ -23,6 +23,3 @@ pub use opening::Opening;
 pub use out_frame::{OutFrame, OutFrames};
 pub use reply::{Contents, GroupPids, Groups, Members, Reply, Update, Updates};
 pub use rule::Rule;
-
-#[cfg(test)]
-mod tests;

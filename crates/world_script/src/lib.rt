@@ -22,6 +22,3 @@ pub use settling::{TURNS, put_settled, settle};
 pub use showing::put_shown;
 pub use steps::step_of;
 pub use world_line::WorldLine;
-
-#[cfg(test)]
-mod tests;

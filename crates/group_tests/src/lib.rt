@@ -1,0 +1,7 @@
+//! Worked cases of the audit and of the monitors of groups.
+#![tactic(auto)]
+
+#[cfg(test)]
+mod audit;
+#[cfg(test)]
+mod monitors;

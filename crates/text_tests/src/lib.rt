@@ -1,0 +1,9 @@
+//! Worked cases of commands and answers, of a world, and of its lines.
+#![tactic(auto)]
+
+#[cfg(test)]
+mod commands;
+#[cfg(test)]
+mod world_lines;
+#[cfg(test)]
+mod worlds;

@@ -1,0 +1,278 @@
+//! Connections of a door in memory.
+use cookie_digest::ChallengeSource;
+use dist_types::{Cookie, NodeName};
+use node_threads::*;
+use policy_audit::{Event, Opening};
+use rand_chacha::ChaCha20Rng;
+use rand_core::SeedableRng;
+use std::alloc::Global;
+use std::io::{ErrorKind, Read, Write};
+use std::sync::Wait;
+use std::sync::atomic::{AtomicU64, Ordering};
+use std::thread::Threads;
+use std::{io, thread};
+
+/// The name frame of a@h behind its length.
+const NAME: [u8; 20] = [
+    0, 18, 0x4e, 0, 0, 0, 0, 1, 0, 0, 1, 0, 0, 0, 5, 0, 3, 0x61, 0x40, 0x68,
+];
+
+/// What the gate and the connections tell the test.
+#[derive(Drop)]
+struct Heard {
+    /// How many frames of links behind the first were answered.
+    later: AtomicU64,
+    /// How many readers waited for that in vain.
+    missed: AtomicU64,
+    hung_up: AtomicU64,
+}
+
+impl Heard {
+    fn new() -> Heard {
+        Heard {
+            later: AtomicU64::new(0),
+            missed: AtomicU64::new(0),
+            hung_up: AtomicU64::new(0),
+        }
+    }
+
+    /// Waits until a frame of a later link was answered, for a while.
+    fn wait(&self) {
+        for _ in 0..1_000_000u32 {
+            if self.later.load(Ordering::SeqCst) > 0 {
+                return;
+            }
+            thread::yield_now();
+        }
+        self.missed.fetch_add(1, Ordering::SeqCst);
+    }
+}
+
+impl Gate for Heard {
+    fn reading(&self, _link: u32) {}
+
+    fn answered(&self, link: u32) {
+        if link > 1 {
+            self.later.fetch_add(1, Ordering::SeqCst);
+        }
+    }
+}
+
+/// A peer that sends its name and no more. It may wait first.
+#[derive(Drop)]
+struct Peer<'a> {
+    waits: bool,
+    sent: usize,
+    heard: &'a Heard,
+}
+
+impl Read for Peer<'_> {
+    fn read(&mut self, buf: &mut [u8]) -> io::Result<usize> {
+        if self.waits {
+            self.heard.wait();
+        }
+        let left = NAME.get(self.sent..).unwrap_or(&[]);
+        let count = left.len().min(buf.len());
+        for place in 0..count {
+            buf[place] = left[place];
+        }
+        self.sent = self.sent.saturating_add(count);
+        Ok(count)
+    }
+}
+
+/// Takes all that is written.
+#[derive(Drop)]
+struct Line<'a> {
+    heard: &'a Heard,
+}
+
+impl Write for Line<'_> {
+    fn write(&mut self, buf: &[u8]) -> io::Result<usize> {
+        Ok(buf.len())
+    }
+
+    fn flush(&mut self) -> io::Result<()> {
+        Ok(())
+    }
+}
+
+impl LinkOut for Line<'_> {
+    fn hang_up(&mut self) {
+        self.heard.hung_up.fetch_add(1, Ordering::SeqCst);
+    }
+}
+
+/// So many connections, of which the first may wait; then no more, or a fault.
+#[derive(Drop)]
+struct Callers<'a> {
+    left: u32,
+    waits: bool,
+    fails: bool,
+    heard: &'a Heard,
+}
+
+impl<'a> Door for Callers<'a> {
+    type Input = Peer<'a>;
+
+    type Output = Line<'a>;
+
+    fn next(&mut self) -> io::Result<Option<(Peer<'a>, Line<'a>)>> {
+        if self.left == 0 {
+            return if self.fails {
+                Err(io::Error::from(ErrorKind::ConnectionAborted))
+            } else {
+                Ok(None)
+            };
+        }
+        self.left -= 1;
+        let peer = Peer {
+            waits: self.waits,
+            sent: 0,
+            heard: self.heard,
+        };
+        self.waits = false;
+        Ok(Some((peer, Line { heard: self.heard })))
+    }
+}
+
+/// What is tried: a node of so many entries and pairs of passes, and the links that a caller of its own has opened before.
+#[derive(Clone, Copy)]
+struct Plan {
+    entries: u32,
+    pairs: u32,
+    opened: u32,
+    connections: u32,
+    waits: bool,
+    fails: bool,
+}
+
+fn opening(alloc: Global, entries: u32) -> Option<Opening> {
+    let name = NodeName::parse(alloc, b"b@h").ok()?;
+    let cookie = Cookie::parse(alloc, b"password").ok()?;
+    Some(Opening {
+        name,
+        cookie,
+        hidden: false,
+        creation: 4,
+        entries,
+    })
+}
+
+/// The node b@h, and two passes for each pair and one more.
+fn new_node(alloc: Global, plan: Plan) -> Option<(Node, Vec<Pass>)> {
+    let seats = plan.pairs.saturating_mul(2).saturating_add(1);
+    Node::new(alloc, opening(alloc, plan.entries)?, seats).ok()
+}
+
+fn next_pair(passes: &mut Vec<Pass>) -> Option<Pair> {
+    let reader = passes.pop()?;
+    let writer = passes.pop()?;
+    Some(Pair { reader, writer })
+}
+
+fn paired(alloc: Global, passes: &mut Vec<Pass>, count: u32) -> Option<Vec<Pair>> {
+    let mut pairs = Vec::new(alloc);
+    for _ in 0..count {
+        pairs.push(next_pair(passes)?).ok()?;
+    }
+    Some(pairs)
+}
+
+/// All passes in one list.
+fn unpaired(mut passes: Vec<Pass>, pairs: Vec<Pair>) -> Option<Vec<Pass>> {
+    for pair in pairs {
+        passes.push(pair.reader).ok()?;
+        passes.push(pair.writer).ok()?;
+    }
+    Some(passes)
+}
+
+/// Opens so many links that nobody serves.
+fn open_idle<R: Wait>(rt: &R, node: &Node, pass: &mut Pass, links: u32) -> Option<()> {
+    for challenge in 0..links {
+        pass.call(node, rt, Event::Opened(challenge)).ok()?;
+    }
+    Some(())
+}
+
+/// What `accept_links` tells.
+#[derive(Clone, Copy, Debug, PartialEq, Eq)]
+struct Seen {
+    served: usize,
+    end: AcceptEnd,
+}
+
+/// Serves the connections of the plan.
+fn accept<R: Threads + Wait + Sync>(
+    rt: &R,
+    alloc: Global,
+    node: &Node,
+    pairs: Vec<Pair>,
+    plan: Plan,
+    heard: &Heard,
+) -> Accepted {
+    let mut door = Callers {
+        left: plan.connections,
+        waits: plan.waits,
+        fails: plan.fails,
+        heard,
+    };
+    let mut source = ChallengeSource::new(ChaCha20Rng::from_seed([0; 32]));
+    accept_links(rt, alloc, node, pairs, &mut door, &mut source, heard)
+}
+
+/// The same on a new node, which then closes with all passes.
+fn serve<R: Threads + Wait + Sync>(
+    rt: &R,
+    alloc: Global,
+    plan: Plan,
+    heard: &Heard,
+) -> Option<Seen> {
+    let (node, mut passes) = new_node(alloc, plan)?;
+    let pairs = paired(alloc, &mut passes, plan.pairs)?;
+    open_idle(rt, &node, passes.first_mut()?, plan.opened)?;
+    let Accepted { pairs, served, end } = accept(rt, alloc, &node, pairs, plan, heard);
+    node.close(unpaired(passes, pairs)?).ok()?;
+    Some(Seen { served, end })
+}
+
+const TWO: Plan = Plan {
+    entries: 1000,
+    pairs: 3,
+    opened: 0,
+    connections: 2,
+    waits: false,
+    fails: false,
+};
+
+#[test]
+fn readers_run_at_once(rt: HostRuntime) {
+    let heard = Heard::new();
+    let plan = Plan { waits: true, ..TWO };
+    let wanted = Seen {
+        served: 2,
+        end: AcceptEnd::NoMore,
+    };
+    assert_eq!(rt; serve(&rt, rt.alloc(), plan, &heard), Some(wanted));
+    assert_eq!(rt; heard.missed.load(Ordering::SeqCst), 0);
+    assert_eq!(rt; heard.hung_up.load(Ordering::SeqCst), 2);
+}
+
+#[test]
+fn ends_where_no_more_are_taken(rt: HostRuntime) {
+    let plans = [
+        (TWO, 2, AcceptEnd::NoMore),
+        (Plan { fails: true, ..TWO }, 2, AcceptEnd::DoorFault),
+        (Plan { pairs: 1, ..TWO }, 1, AcceptEnd::PassesUsed),
+        (Plan { pairs: 2, ..TWO }, 2, AcceptEnd::PassesUsed),
+        (Plan { pairs: 0, ..TWO }, 0, AcceptEnd::PassesUsed),
+        (Plan { entries: 1, ..TWO }, 1, AcceptEnd::EntriesFull),
+        (Plan { opened: 64, ..TWO }, 0, AcceptEnd::NoMore),
+    ];
+    for (plan, served, end) in plans {
+        let heard = Heard::new();
+        let wanted = Seen { served, end };
+        assert_eq!(rt; serve(&rt, rt.alloc(), plan, &heard), Some(wanted));
+    }
+}
