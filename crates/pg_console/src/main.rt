@@ -1,22 +1,17 @@
 //! Plays scripts on a node of process groups.
 #![tactic(auto)]
 
-mod console;
-mod laws;
 mod options;
 mod pair;
-mod script;
-#[cfg(test)]
-mod tests;
 mod world;
 
 use clap::ArgMatches;
 use clap::error::{Error as LineError, ErrorKind as LineFault};
 use options::{command, opening};
 use pair::{PairEnd, pair};
+use pg_script::RunFault;
 use pg_text::{diagnose, without_feed};
 use policy_audit::Opening;
-use script::RunFault;
 use std::alloc::{AllocError, Global};
 use std::fmt::Display;
 use std::io::{self, BufReader, ErrorKind};
@@ -146,7 +141,7 @@ fn play<R: AllocGlobal + Input + Print + Eprint>(rt: &R, opening: Opening) -> Ex
     };
     let mut line = Vec::new(rt.alloc());
     let mut writer = io::writer(rt);
-    match script::play(rt.alloc(), opening, &mut reader, &mut line, &mut writer) {
+    match pg_script::play(rt.alloc(), opening, &mut reader, &mut line, &mut writer) {
         Ok(()) => ExitCode::SUCCESS,
         Err(RunFault::Script(number)) => misread(rt, number, without_feed(line.as_slice())),
         Err(fault) => match format!(in rt.alloc(); "error: {fault}") {

@@ -1,5 +1,5 @@
 //! Scripts of world steps: several nodes and their wires.
-use crate::script::{RunFault, TURNS, read_line, send, tell_fault};
+use pg_script::{RunFault, TURNS, read_line, send, tell_fault};
 use pg_text::without_feed;
 use std::alloc::Global;
 use std::io::{BufRead, Write};

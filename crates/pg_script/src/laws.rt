@@ -2,7 +2,7 @@
 ghost use Rattle.std.specs.Prelude.{◌≡◌, Bool, List, ℕ, [], false};
 ghost use Rattle.std.specs.List.{list_any};
 ghost use Rattle.policy_audit.specs.declared.opening.Opening.{Opening};
-ghost use Rattle.pg_console.specs.Transcript.{text};
+ghost use Rattle.pg_script.specs.Transcript.{text};
 
 use policy_audit::Opening;
 

@@ -7,13 +7,13 @@ use Rattle.std.specs.Prelude.{◌⊎◌}
 use Rattle.std.specs.Io.KnownBytes.{Appends}
 use Rattle.std.specs.Io.BufRead.{take_through, drop_through, strip_last}
 use Rattle.policy_audit.specs.declared.opening.Opening.{Opening}
-use Rattle.pg_console.specs.Playing.{Playing, opened_with}
+use Rattle.pg_script.specs.Playing.{Playing, opened_with}
 use Rattle.pg_text.specs.Answers.{fault_line}
 use Rattle.pg_text.specs.Lines.{lines_of}
-use Rattle.pg_console.specs.Transcript.{text_from, fault_in, fault_from, line_text, line_left, is_fault, owed_line}
-use Rattle.pg_console.specs.declared.script.RunFault.{RunFault}
-use Rattle.pg_console.specs.declared.script.RunFault.TheVariants as faults
-use Rattle.pg_console.specs.Runs.{Writes, Begins, RunsAs}
+use Rattle.pg_script.specs.Transcript.{text_from, fault_in, fault_from, line_text, line_left, is_fault, owed_line}
+use Rattle.pg_script.specs.declared.script.RunFault.{RunFault}
+use Rattle.pg_script.specs.declared.script.RunFault.TheVariants as faults
+use Rattle.pg_script.specs.Runs.{Writes, Begins, RunsAs}
 use Rattle.pg_text.proofs.LineLemmas.{lines_step}
 
 -- the writer holds the answers to the lines before line k, and what is left of the script gives the others

@@ -1,6 +1,6 @@
 //! Scripts over memory that ask the node for no event, command lines, and streams that fail.
-use crate::script::{RunFault, run};
 use dist_types::{Cookie, NodeName};
+use pg_script::{RunFault, run};
 use policy_audit::Opening;
 use std::io::{BufRead, Write};
 use std::test::Fail;

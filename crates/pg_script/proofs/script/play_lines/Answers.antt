@@ -1,9 +1,9 @@
 use Rattle.std.proofs.Common.{◌<◌, length, Err, refl, rules, ap, ◌∙◌, inl, inr}
 use Rattle.std.specs.Io.BufRead.{drop_through, strip_last}
 use Rattle.std.proofs.lemmas.Result.{err_from_is_err_and}
-use Rattle.pg_console.specs.Transcript.{line_text}
-use Rattle.pg_console.proofs.Played.{played_start, played_next, played_told, played_end, played_part, weaken, came, if_known}
-use Rattle.pg_console.proofs.script.play_lines.Goals as goal
+use Rattle.pg_script.specs.Transcript.{line_text}
+use Rattle.pg_script.proofs.Played.{played_start, played_next, played_told, played_end, played_part, weaken, came, if_known}
+use Rattle.pg_script.proofs.script.play_lines.Goals as goal
 
 pub loop-turn-init : goal.loop-turn-init
 loop-turn-init g c = λ o opened. if_known (g.R.Read.remaining c.args.reader.now)

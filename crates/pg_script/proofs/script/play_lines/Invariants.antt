@@ -1,8 +1,8 @@
 use Rattle.std.proofs.Common.{◌≡◌, ℕ, ◌+◌, List, Some, IfSome}
 use Rattle.policy_audit.specs.declared.opening.Opening.{Opening}
-use Rattle.pg_console.specs.Playing.{opened_with}
-use Rattle.pg_console.proofs.Played.{Played}
-use Rattle.pg_console.proofs.script.play_lines.Given as goal
+use Rattle.pg_script.specs.Playing.{opened_with}
+use Rattle.pg_script.proofs.Played.{Played}
+use Rattle.pg_script.proofs.script.play_lines.Given as goal
 
 -- on a new node, where the reader tells its bytes, the lines so far are answered
 abbrev pub invariant-loop-turn : goal.invariant-loop-turn

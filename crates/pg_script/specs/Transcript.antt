@@ -6,7 +6,7 @@ use Rattle.policy_audit.specs.Policy.{verdict, after, is_full}
 use Rattle.policy_audit.specs.Log.{entry_at}
 use Rattle.pg_text.specs.declared.command.Command.{Command}
 use Rattle.pg_text.specs.declared.command.Command.TheVariants as command
-use Rattle.pg_console.specs.Playing.{Playing, opened_with}
+use Rattle.pg_script.specs.Playing.{Playing, opened_with}
 use Rattle.pg_text.specs.Lines.{lines_of, is_quiet}
 use Rattle.pg_text.specs.Commands.{said_by}
 use Rattle.pg_text.specs.Answers.{verdict_line, memory_line, seat_line, size_line, entry_line, fault_line}

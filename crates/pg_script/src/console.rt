@@ -1,7 +1,7 @@
 //! A node as the lines of a script see it.
 ghost use Rattle.std.specs.Prelude.{◌≡◌, ◌++◌, ◌↔◌, ◌⊎◌, ◌<◌, Bool, true, false, IfOk, IfErr, OnOk, Err};
-ghost use Rattle.pg_console.specs.Playing.{opened_with};
-ghost use Rattle.pg_console.specs.Transcript.{answer_to, left_by, line_text, line_left, is_fault};
+ghost use Rattle.pg_script.specs.Playing.{opened_with};
+ghost use Rattle.pg_script.specs.Transcript.{answer_to, left_by, line_text, line_left, is_fault};
 ghost use Rattle.pg_text.specs.declared.command.LineFault.TheVariants as faults;
 ghost use Rattle.node_core.specs.declared.fault.OpenFault.TheVariants as opens;
 
@@ -21,7 +21,7 @@ pub struct Console {
 }
 
 impl Model for Console {
-    ghost use Rattle.pg_console.specs.Playing.{Playing};
+    ghost use Rattle.pg_script.specs.Playing.{Playing};
 
     ghost Value = { Playing };
 

@@ -1,6 +1,6 @@
 use Rattle.std.proofs.Common.{◌≤◌, length, take}
 use Rattle.std.specs.Io.KnownBytes.{Appends}
-use Rattle.pg_console.proofs.script.send.Given as goal
+use Rattle.pg_script.proofs.script.send.Given as goal
 
 -- the first bytes are sent
 abbrev pub invariant-loop : goal.invariant-loop

@@ -7,9 +7,9 @@ use Rattle.node_core.specs.declared.fault.CoreFault.{CoreFault}
 use Rattle.node_core.specs.declared.fault.CoreFault.TheVariants as faults
 use Rattle.node_core.specs.Step.{IsStepped}
 use Rattle.pg_text.specs.declared.command.Command.TheVariants as command
-use Rattle.pg_console.specs.Playing.{Playing, opened_with}
+use Rattle.pg_script.specs.Playing.{Playing, opened_with}
 use Rattle.pg_text.specs.Answers.{verdict_line, step_line, fault_line}
-use Rattle.pg_console.specs.Transcript.{answer_to, left_by, text, text_from, is_fault, line_text, line_left}
+use Rattle.pg_script.specs.Transcript.{answer_to, left_by, text, text_from, is_fault, line_text, line_left}
 use Rattle.std.specs.List.{list_any}
 use Rattle.policy_audit.specs.declared.opening.Opening.{Opening}
 use Rattle.pg_text.specs.Lines.{lines_of}

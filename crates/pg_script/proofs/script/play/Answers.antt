@@ -1,5 +1,5 @@
-use Rattle.pg_console.proofs.Played.{played_start, played_part, if_known}
-use Rattle.pg_console.proofs.script.play.Goals as goal
+use Rattle.pg_script.proofs.Played.{played_start, played_part, if_known}
+use Rattle.pg_script.proofs.script.play.Goals as goal
 
 pub returns-in-Ok-clause-text : goal.returns-in-Ok-clause-text
 returns-in-Ok-clause-text g c = λ positive. c.play_lines.ensures.text c.args.opening c.in-Ok.ensures.ok

@@ -5,11 +5,11 @@ ghost use Rattle.std.specs.Io.BufRead.{take_through, drop_through};
 ghost use Rattle.std.specs.IoError.{error_kind};
 ghost use Rattle.std.specs.declared.io.ErrorKind.TheVariants as kinds;
 ghost use Rattle.pg_text.specs.Answers.{fault_line};
-ghost use Rattle.pg_console.specs.Playing.{opened_with};
-ghost use Rattle.pg_console.specs.Runs.{RunsAs};
-ghost use Rattle.pg_console.specs.Transcript.{is_fault, line_text, line_left, owed_line};
+ghost use Rattle.pg_script.specs.Playing.{opened_with};
+ghost use Rattle.pg_script.specs.Runs.{RunsAs};
+ghost use Rattle.pg_script.specs.Transcript.{is_fault, line_text, line_left, owed_line};
 ghost use Rattle.policy_audit.specs.declared.opening.Opening.{Opening};
-ghost use Rattle.pg_console.specs.declared.script.RunFault.TheVariants as faults;
+ghost use Rattle.pg_script.specs.declared.script.RunFault.TheVariants as faults;
 
 use crate::console::Console;
 use node_core::OpenFault;
@@ -35,7 +35,7 @@ pub enum RunFault {
 }
 
 /// The most lines that are read, and the most writes of one answer.
-pub(crate) const TURNS: u64 = 1 << 32;
+pub const TURNS: u64 = 1 << 32;
 
 /// Plays a script on a new node: one answer line for each command, up to the first line that can't be read. Each answer
 /// is written and flushed before the next line is read.
@@ -98,7 +98,7 @@ fn play_lines<R: BufRead, W: Write>(
 }
 
 /// Reads the next line, with its line feed, over the last. At the end of the script there is none.
-pub(crate) fn read_line<R: BufRead>(line: &mut Vec<u8>, reader: &mut R) -> Result<bool, RunFault>
+pub fn read_line<R: BufRead>(line: &mut Vec<u8>, reader: &mut R) -> Result<bool, RunFault>
     ensures read { OnOk result (IfSome (R.remaining reader.old) (λ rest.
         (line.new.items ≡ take_through 10 rest) × (R.remaining reader.new ≡ Some (drop_through 10 rest)))) }
     ensures found { IfOk result (λ found. found ≡ true → 0 < length line.new.items) }
@@ -140,7 +140,7 @@ fn answer_line<W: Write>(
 }
 
 /// Writes the last line of a script that can't be read further, and says what the run ends with.
-pub(crate) fn tell_fault<W: Write>(line: u64, out: &mut Vec<u8>, writer: &mut W) -> RunFault
+pub fn tell_fault<W: Write>(line: u64, out: &mut Vec<u8>, writer: &mut W) -> RunFault
     ensures ended { (result ≡ faults.Script line) ⊎ (result ≡ faults.Memory) ⊎ (result ≡ faults.Write) }
     ensures told { result ≡ faults.Script line → Appends (W.contents writer.old) (W.contents writer.new) (fault_line line) }
     ensures untold { result ≡ faults.Memory → writer.new ≡ writer.old }
@@ -170,7 +170,7 @@ fn read_fault(error: Error) -> RunFault
 }
 
 /// Writes all bytes, and sees that they go out. After a fault a beginning of them was written.
-pub(crate) fn send<W: Write>(bytes: &[u8], writer: &mut W) -> Result<(), RunFault>
+pub fn send<W: Write>(bytes: &[u8], writer: &mut W) -> Result<(), RunFault>
     ensures ok { OnOk result (Appends (W.contents writer.old) (W.contents writer.new) bytes.now) }
     ensures err { IfErr result (λ fault. fault ≡ faults.Write) }
     ensures begun { OnErr result ((n : ℕ) × Appends (W.contents writer.old) (W.contents writer.new) (take n bytes.now)) }

@@ -1,6 +1,6 @@
 //! A reader and a writer that fail in mid-stream.
 use super::{NINE, ended};
-use crate::script::RunFault;
+use pg_script::RunFault;
 use std::io::{self, BufReader, Error, ErrorKind, Read, Write};
 use std::test::Fail;
 

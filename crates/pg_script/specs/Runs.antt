@@ -3,9 +3,9 @@ use Rattle.std.specs.Prelude.{◌≡◌, ℕ, Bool, List, ◌++◌, Option, Some
 use Rattle.std.specs.declared.result.Result.{Result}
 use Rattle.std.specs.Io.KnownBytes.{Appends}
 use Rattle.policy_audit.specs.declared.opening.Opening.{Opening}
-use Rattle.pg_console.specs.declared.script.RunFault.{RunFault}
-use Rattle.pg_console.specs.declared.script.RunFault.TheVariants as faults
-use Rattle.pg_console.specs.Transcript.{text, fault_in}
+use Rattle.pg_script.specs.declared.script.RunFault.{RunFault}
+use Rattle.pg_script.specs.declared.script.RunFault.TheVariants as faults
+use Rattle.pg_script.specs.Transcript.{text, fault_in}
 
 -- the whole text is written, for some lack of memory in steps
 pub record Writes (o : Opening) (script : List ℕ) (old new : Option (List ℕ)) : Type 0 where

@@ -6,7 +6,7 @@ use Rattle.hex.proofs.OnLiterals.{hex_on_literals}
 use Rattle.handshake_frames.specs.Reading.{name_frame, challenge_frame, reply_frame, ack_frame, status_of}
 use Rattle.link_frames.specs.Reading.{message as read_message}
 use Rattle.policy_audit.specs.declared.opening.Opening.{Opening}
-use Rattle.pg_console.specs.Transcript.{text}
+use Rattle.pg_script.specs.Transcript.{text}
 
 -- the node of these scripts
 abbrev node : Opening
