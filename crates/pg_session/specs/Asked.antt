@@ -10,6 +10,9 @@ use Rattle.pg_text.specs.declared.command.Command.TheVariants as command
 use Rattle.pg_text.specs.Commands.{said_by}
 use Rattle.pg_session.specs.declared.request.Request.{Request}
 use Rattle.pg_session.specs.declared.request.Request.TheVariants as request
+use Rattle.pg_session.specs.declared.session.Next.{Next}
+use Rattle.pg_session.specs.declared.session.Next.TheVariants as next
+use Rattle.pg_text.specs.Lines.{is_quiet}
 
 -- a connection may make this call by a line: it speaks for no link, ends no life of the node, and isn't asked unasked or without an entry
 abbrev pub is_call : Event → Bool
@@ -57,3 +60,12 @@ asked_by line =
     (cond (bytes_eq line (codes "help")) (Some request.Help)
     (cond (bytes_eq line (codes "quit")) (Some request.Quit)
     (option_and_then asked_of (said_by line))))
+
+-- the program ends behind `quit`, and goes on behind each other request
+abbrev pub next_after : Option Request → Next
+next_after (Some request.Quit) = next.Quit
+next_after r = next.Line
+
+-- and behind an empty line or a comment
+abbrev pub next_behind : List ℕ → Next
+next_behind line = cond (is_quiet line) next.Line (next_after (asked_by line))

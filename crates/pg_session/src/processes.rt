@@ -76,6 +76,7 @@ impl Processes {
     /// Takes one out, if there is one.
     pub fn take(&mut self) -> Option<Pid>
         ensures taken { IfSome result (λ pid. has self.old pid ≡ true) }
+        ensures none { IfNone result ((self.old ≡ []) × (self.new ≡ self.old)) }
         ensures left { (q : Pid) → has self.new q ≡ true → has self.old q ≡ true }
     {
         self.live.pop()

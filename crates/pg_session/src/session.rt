@@ -1,12 +1,14 @@
 //! The seat of one connection: what it asks, and what it has of the node.
 ghost use Rattle.std.specs.Prelude.{◌≡◌, ◌⊎◌, ◌<◌, [], false, true, vec_len, vec_capacity, IfOk, OnOk, OnErr, Some};
 ghost use Rattle.pg_text.specs.Lines.{is_quiet};
-ghost use Rattle.pg_session.specs.Asked.{is_call, asked_by, IsAsked};
+ghost use Rattle.pg_session.specs.Asked.{is_call, asked_by, next_after, next_behind, IsAsked};
 ghost use Rattle.pg_session.specs.Answers.{Answers, Makes};
-ghost use Rattle.pg_session.specs.Processes.{exited_by, spawned};
+ghost use Rattle.dist_types.specs.declared.pid.Pid.{Pid};
+ghost use Rattle.pg_session.specs.Processes.{has, exited_by, spawned};
 ghost use Rattle.pg_session.specs.Calls.{Seat, GoesOn, IsCalled, AnswersCall, may_call};
 ghost use Rattle.pg_session.specs.Outcomes.{Kept};
 ghost use Rattle.pg_session.specs.Notices.{Tells, TellsOthers};
+ghost use Rattle.policy_audit.specs.declared.event.Event.TheVariants as events;
 ghost use Rattle.pg_session.specs.declared.request.Request.TheVariants as requests;
 
 use crate::caller::{Caller, Outcome};
@@ -123,6 +125,7 @@ impl Session {
     ) -> Result<Next, OutOfMemory>
         ensures quiet { is_quiet line.now ≡ true → (self.new ≡ self.old) × (out.new ≡ out.old) }
         ensures ok { OnOk result (is_quiet line.now ≡ false → Answers (asked_by line.now) self.old out.old.items self.new out.new.items) }
+        ensures next { IfOk result (λ next. next ≡ next_behind line.now) }
         ensures once { Makes (asked_by line.now) self.old self.new }
     {
         if is_quiet(line) {
@@ -148,6 +151,7 @@ impl Session {
     ) -> Result<Next, OutOfMemory>
         requires { IsAsked request }
         ensures ok { OnOk result (Answers (Some request) self.old out.old.items self.new out.new.items) }
+        ensures next { IfOk result (λ next. next ≡ next_after (Some request)) }
         ensures once { Makes (Some request) self.old self.new }
     {
         match request {
@@ -245,14 +249,17 @@ impl Session {
     }
 
     /// Ends one thing that the connection has, a process or a monitor: whether there was one. If not, the seat is free.
-    pub fn leave_one<R: Wait>(&mut self, rt: &R, alloc: Global, node: &Node) -> bool {
+    pub fn leave_one<R: Wait>(&mut self, rt: &R, alloc: Global, node: &Node) -> bool
+        ensures goes { GoesOn self.old.pass self.new.pass }
+        ensures fewer { (p : Pid) → has self.new.own p ≡ true → has self.old.own p ≡ true }
+        ensures free { result ≡ false → (self.old.own ≡ []) × (self.new ≡ self.old) }
+    {
         if let Some(pid) = self.processes.take() {
-            end(&mut self.caller, rt, alloc, node, &Event::Exit(pid));
+            end_process(&mut self.caller, rt, alloc, node, &pid);
             return true;
         }
         if let Some(watch) = self.watches.pop() {
-            let event = Event::Demonitor(watch.number);
-            end(&mut self.caller, rt, alloc, node, &event);
+            end_watch(&mut self.caller, rt, node, watch.number);
             return true;
         }
         self.is_open = false;
@@ -368,25 +375,36 @@ fn keep_watch(watches: &mut Vec<Watch>, outcome: &Outcome, ends: Option<u32>, wa
     }
 }
 
-/// Makes a call that ends something, unless memory is wanting for long.
-fn end<R: Wait>(caller: &mut Caller, rt: &R, alloc: Global, node: &Node, event: &Event)
-    requires { may_call (spawned caller.old.calls) event.now ≡ true }
+/// Makes a process exit, unless memory is wanting for long.
+fn end_process<R: Wait>(caller: &mut Caller, rt: &R, alloc: Global, node: &Node, pid: &Pid)
+    requires { may_call (spawned caller.old.calls) (events.Exit pid.now) ≡ true }
     ensures { GoesOn caller.old caller.new }
 {
     for _ in 0..TRIES {
-        if try_end(caller, rt, alloc, node, event) {
+        if try_exit(caller, rt, alloc, node, pid) {
             return;
         }
     }
 }
 
-/// Makes a call that ends something: whether it was made. Where memory is wanting, it wasn't.
-fn try_end<R: Wait>(caller: &mut Caller, rt: &R, alloc: Global, node: &Node, event: &Event) -> bool
-    requires { may_call (spawned caller.old.calls) event.now ≡ true }
-    ensures { IsCalled caller.old event.now caller.new ⊎ (caller.new ≡ caller.old) }
+/// Makes a process exit: whether the call was made. Where memory is wanting, it wasn't.
+fn try_exit<R: Wait>(caller: &mut Caller, rt: &R, alloc: Global, node: &Node, pid: &Pid) -> bool
+    requires { may_call (spawned caller.old.calls) (events.Exit pid.now) ≡ true }
+    ensures { IsCalled caller.old (events.Exit pid.now) caller.new ⊎ (caller.new ≡ caller.old) }
 {
-    match event.try_clone(alloc) {
-        Ok(copy) => caller.end(rt, node, copy),
+    match pid.try_clone(alloc) {
+        Ok(copy) => caller.end(rt, node, Event::Exit(copy)),
         Err(_) => false,
+    }
+}
+
+/// Ends a monitor, unless memory is wanting for long.
+fn end_watch<R: Wait>(caller: &mut Caller, rt: &R, node: &Node, number: u32)
+    ensures { GoesOn caller.old caller.new }
+{
+    for _ in 0..TRIES {
+        if caller.end(rt, node, Event::Demonitor(number)) {
+            return;
+        }
     }
 }
