@@ -53,15 +53,6 @@ impl Gate for Open {
     fn answered(&self, _link: u32) {}
 }
 
-/// A node with a process in the group, and its caller.
-#[derive(Drop)]
-struct Member {
-    node: Node,
-    caller: Pass,
-    reader: Pass,
-    writer: Pass,
-}
-
 /// An end of the link: its number, the passes of its workers, and the socket of each.
 #[derive(Drop)]
 struct End {
@@ -72,36 +63,32 @@ struct End {
     output: TcpStream,
 }
 
+/// A node with a process in the group, its caller, and its end of the link.
+#[derive(Drop)]
+struct Member {
+    node: Node,
+    caller: Pass,
+    end: End,
+}
+
 /// Whether each node has listed both processes.
 fn meet<R, W>(rt: &R, alloc: Global, writer: &mut W) -> Result<bool>
 where
     R: Net<Listener = TcpListener, Stream = TcpStream> + Threads + Wait + Clock + Sync,
     W: Write,
 {
-    let dialler = start(rt, alloc, b"a@h")?;
-    let acceptor = start(rt, alloc, b"b@h")?;
-    let listener = TcpListener::bind(rt, "127.0.0.1:0")?;
-    let out = TcpStream::connect(rt, listener.local_addr()?)?;
-    let (back, _) = listener.accept()?;
-    let hook = out.try_clone()?;
-    // The same challenges in each run: nobody else speaks on this link.
-    let mut source = ChallengeSource::new(ChaCha20Rng::from_seed([0; 32]));
+    let (dialler, acceptor, hook) = linked(rt, alloc)?;
     let Member {
         node: a,
         caller: mut first,
-        reader,
-        writer: sender,
+        end: near,
     } = dialler;
-    let dial = Event::Dial(NodeName::parse(alloc, b"b@h")?, source.draw());
-    let near = open_link(rt, &a, dial, reader, sender, out)?;
     let Member {
         node: b,
         caller: mut second,
-        reader,
-        writer: sender,
+        end: far,
     } = acceptor;
-    let far = open_link(rt, &b, Event::Opened(source.draw()), reader, sender, back)?;
-    let (served, seen) = thread::join(
+    let ((near, far), seen) = thread::join(
         rt,
         || serve_both(rt, alloc, (&a, near), (&b, far)),
         || {
@@ -111,45 +98,78 @@ where
             seen
         },
     );
-    let (near, far) = served;
-    let Some((at_a, at_b)) = seen? else {
-        writer.write_all(b"late\n")?;
+    if !tell_seen(alloc, writer, seen?)? {
         return Ok(false);
-    };
-    sees(alloc, writer, b"a@h", &at_a)?;
-    sees(alloc, writer, b"b@h", &at_b)?;
+    }
     close(alloc, writer, b"a@h", a, first, near)?;
     close(alloc, writer, b"b@h", b, second, far)?;
     Ok(true)
 }
 
-/// A node of that name with a process in the group.
-fn start<R: Wait + Sync>(rt: &R, alloc: Global, name: &[u8]) -> Result<Member> {
-    let opening = Opening {
+/// Two members at both ends of a socket, and what cuts it.
+fn linked<R>(rt: &R, alloc: Global) -> Result<(Member, Member, TcpStream)>
+where
+    R: Net<Listener = TcpListener, Stream = TcpStream> + Wait + Sync,
+{
+    let (out, back) = connected(rt)?;
+    let hook = out.try_clone()?;
+    // The same challenges in each run: nobody else speaks on this link.
+    let mut source = ChallengeSource::new(ChaCha20Rng::from_seed([0; 32]));
+    let dial = Event::Dial(NodeName::parse(alloc, b"b@h")?, source.draw());
+    let dialler = start(rt, alloc, b"a@h", dial, out)?;
+    let acceptor = start(rt, alloc, b"b@h", Event::Opened(source.draw()), back)?;
+    Ok((dialler, acceptor, hook))
+}
+
+/// Both ends of a connection over the loopback.
+fn connected<R>(rt: &R) -> Result<(TcpStream, TcpStream)>
+where
+    R: Net<Listener = TcpListener, Stream = TcpStream>,
+{
+    let listener = TcpListener::bind(rt, "127.0.0.1:0")?;
+    let out = TcpStream::connect(rt, listener.local_addr()?)?;
+    let (back, _) = listener.accept()?;
+    Ok((out, back))
+}
+
+/// A node of that name with a process in the group, whose link this event opens.
+fn start<R: Wait + Sync>(
+    rt: &R,
+    alloc: Global,
+    name: &[u8],
+    event: Event,
+    socket: TcpStream,
+) -> Result<Member> {
+    let (node, mut passes) = Node::new(alloc, opening(alloc, name)?, 3)?;
+    let (Some(writer), Some(reader), Some(mut caller)) = (passes.pop(), passes.pop(), passes.pop())
+    else {
+        bail!("a node without passes");
+    };
+    join(rt, alloc, &node, &mut caller)?;
+    let end = open_link(rt, &node, event, reader, writer, socket)?;
+    Ok(Member { node, caller, end })
+}
+
+fn opening(alloc: Global, name: &[u8]) -> Result<Opening> {
+    Ok(Opening {
         name: NodeName::parse(alloc, name)?,
         cookie: Cookie::parse(alloc, b"password")?,
         hidden: false,
         creation: 1,
         entries: 1_000_000,
-    };
-    let (node, mut passes) = Node::new(alloc, opening, 3)?;
-    let (Some(writer), Some(reader), Some(mut caller)) = (passes.pop(), passes.pop(), passes.pop())
-    else {
-        bail!("a node without passes");
-    };
-    caller.call(&node, rt, Event::StartScope(scope(alloc)?))?;
-    let pid = match caller.call(&node, rt, Event::Spawn)? {
+    })
+}
+
+/// Spawns a process, which joins the group.
+fn join<R: Wait + Sync>(rt: &R, alloc: Global, node: &Node, caller: &mut Pass) -> Result<()> {
+    caller.call(node, rt, Event::StartScope(scope(alloc)?))?;
+    let pid = match caller.call(node, rt, Event::Spawn)? {
         Reply::Pid(pid) => pid.try_clone(alloc)?,
         _ => bail!("no process"),
     };
     let pids = Items::of(vec![in alloc; pid]?);
-    caller.call(&node, rt, Event::Join(scope(alloc)?, group(alloc)?, pids))?;
-    Ok(Member {
-        node,
-        caller,
-        reader,
-        writer,
-    })
+    caller.call(node, rt, Event::Join(scope(alloc)?, group(alloc)?, pids))?;
+    Ok(())
 }
 
 /// The link that the event opens, over this socket.
@@ -234,6 +254,21 @@ fn both_at<R: Wait + Clock + Sync>(
         thread::sleep(rt, Duration::from_millis(PAUSE));
     }
     Ok(None)
+}
+
+/// Writes whom each node has seen, or that one didn't see both in time: whether both did.
+fn tell_seen<W: Write>(
+    alloc: Global,
+    writer: &mut W,
+    seen: Option<(Members, Members)>,
+) -> Result<bool> {
+    let Some((at_a, at_b)) = seen else {
+        writer.write_all(b"late\n")?;
+        return Ok(false);
+    };
+    sees(alloc, writer, b"a@h", &at_a)?;
+    sees(alloc, writer, b"b@h", &at_b)?;
+    Ok(true)
 }
 
 /// Writes whom a node has seen.
