@@ -1,16 +1,15 @@
 -- The bodies of a stream and its rest, for a length of any width that is read as it was written.
-use Rattle.std.proofs.Common.{◌≡◌, ℕ, zero, suc, ◌+◌, ◌-◌, ◌<◌, ◌^◌, List, [], ◌∷◌, ◌++◌, length, take, drop, Option, Some, None, refl, sym, ap, ◌∙◌, arith, append_assoc, append-nil, length-append, inl, inr}
+use Rattle.std.proofs.Common.{◌≡◌, ℕ, zero, suc, ◌+◌, ◌<◌, ◌^◌, List, [], ◌∷◌, ◌++◌, length, take, Option, Some, None, refl, sym, ap, ◌∙◌, arith, append_assoc, append-nil, length-append}
 use Rattle.std.specs.Int.{Width, w16, byte_len, to_be_bytes, from_be_bytes, bytes_high_first}
 use Rattle.std.specs.List.{flat_map}
 use Rattle.std.specs.Option.{option_to_list}
-use Rattle.std.proofs.Math.Seq.{take-append-add, take-length}
-use Rattle.std.proofs.lemmas.Bool.{cases_lt}
+use Rattle.std.proofs.Math.Seq.{take-length}
 use Rattle.std.proofs.lemmas.Grind.{flat_map-append}
 use Rattle.std.proofs.lemmas.Nat.{from_be_bytes-to_be_bytes_2}
-use Rattle.std.proofs.lemmas.List.{take-append-le, take-append-drop, take_at, append_cancel_left}
+use Rattle.std.proofs.lemmas.List.{take_at, append_cancel_left}
 use Rattle.std.proofs.lemmas.List.Elements.{All-nil, All-cons, All-tail, All-append}
 use Rattle.handshake_frames.specs.Spelling.{counted}
-use Rattle.handshake_frames.specs.Stream.{FitsLength, IsPartial, Splits, EndsBody, IsFed, Call, AreFed, stream_of, bodies_of}
+use Rattle.handshake_frames.specs.Stream.{FitsLength, IsPartial, Splits, IsFed, Call, AreFed, stream_of, bodies_of}
 
 length-bytes_high_first : (k n : ℕ) → length (bytes_high_first k n) ≡ k
 length-bytes_high_first zero n = refl
@@ -18,35 +17,6 @@ length-bytes_high_first (suc k) n = ap suc (length-bytes_high_first k n)
 
 pub length-counted : (w : Width) (body : List ℕ) → length (counted w body) ≡ byte_len w + length body
 length-counted w body = length-append (to_be_bytes w (length body)) body ∙ ap (λ n. n + length body) (length-bytes_high_first (byte_len w) (length body))
-
--- ---- one body
-
--- a rest that is no whole body ends before the body that it begins
-pub ends_behind : (w : Width) (rest piece body later : List ℕ) → IsPartial w rest → FitsLength w body → rest ++ piece ≡ counted w body ++ later → length rest < length (counted w body)
-ends_behind w rest piece body later partial fits whole =
-    elim (cases_lt (length rest) (length (counted w body))) [
-      | inl before ↦ before
-      | inr behind ↦
-          let n = length (counted w body) in
-          let front : take n rest ≡ counted w body = sym (take-append-le n rest piece behind) ∙ ap (take n) whole ∙ take_at (counted w body) later n refl in
-          absurd (partial body (drop n rest) fits (sym (take-append-drop n rest) ∙ ap (λ xs. xs ++ drop n rest) front))
-    ]
-
--- what is used of the piece makes the rest a body
-pub ends_body : (w : Width) (rest piece body later : List ℕ) → IsPartial w rest → FitsLength w body → rest ++ piece ≡ counted w body ++ later → EndsBody w rest piece (byte_len w + length body - length rest) body []
-ends_body w rest piece body later partial fits whole =
-    let n = byte_len w + length body - length rest in
-    let long = length-counted w body in
-    let behind = ends_behind w rest piece body later partial fits whole in
-    let sum : length rest + n ≡ length (counted w body) = omega arith in
-    let lengths : length rest + length piece ≡ length (counted w body) + length later = sym (length-append rest piece) ∙ ap length whole ∙ length-append (counted w body) later in
-    record {
-      onward = omega arith;
-      within = omega arith;
-      fits = fits;
-      whole = sym (take-append-add rest piece n) ∙ ap (λ k. take k (rest ++ piece)) sum ∙ ap (take (length (counted w body))) whole ∙ take_at (counted w body) later _ refl;
-      empty = refl;
-    }
 
 -- ---- a stream
 

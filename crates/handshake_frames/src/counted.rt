@@ -1,4 +1,4 @@
-//! Bytes behind their length, as a name in a frame and a body in a stream.
+//! Bytes behind their length, as a name in a frame.
 ghost use Rattle.std.specs.Prelude.{◌≡◌, ◌<◌, ◌^◌, ◌++◌, length, ℕ, List, IfSome, IsSomeAnd};
 ghost use Rattle.std.specs.Int.{w16};
 ghost use Rattle.handshake_frames.specs.Spelling.{counted};

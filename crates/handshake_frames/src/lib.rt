@@ -7,7 +7,9 @@ mod decoding;
 mod encoding;
 mod fault;
 mod frame;
+mod held;
 mod laws;
+mod part_body;
 mod reader;
 mod status;
 
@@ -16,4 +18,5 @@ pub use encoding::encode;
 pub use fault::BadFrame;
 pub use frame::{AckFrame, ChallengeFrame, HsFrame, NameFrame, ReplyFrame, StatusWord};
 pub use laws::{any_cut, one_frame, readers, round_trip};
+pub use part_body::PartBody;
 pub use reader::{Fed, HsReader};

@@ -4,13 +4,10 @@ ghost use Rattle.std.specs.Prelude.{◌≡◌, [], IfOk, OnErr};
 ghost use Rattle.std.specs.Int.{w16};
 ghost use Rattle.handshake_frames.specs.Stream.{IsFed};
 
-use crate::counted::counted_at;
+use crate::held::Held;
 use dist_types::{Body, OutOfMemory};
 use std::alloc::Global;
 use std::marker::Model;
-
-/// The bytes of the length before a body.
-const LENGTH_LEN: usize = 2;
 
 /// What a piece brought: how many of its bytes were used, and the body that ended there, if one did.
 #[derive(Debug, Drop)]
@@ -22,20 +19,19 @@ pub struct Fed {
 /// Cuts a stream into bodies. Contracts see it as the bytes that it has used since its last body.
 #[derive(Debug, Drop)]
 pub struct HsReader {
-    /// The bytes used since the last body: less than a whole one behind its length.
-    held: Vec<u8>,
+    alloc: Global,
+    held: Held,
 }
 
 impl Model for HsReader {
     ghost use Rattle.std.specs.Prelude.{List, ℕ};
-    ghost use Rattle.std.specs.Int.{w16};
-    ghost use Rattle.handshake_frames.specs.Stream.{IsPartial};
+    ghost use Rattle.handshake_frames.specs.Held.{held_bytes, IsHeld};
 
     ghost Value = { List ℕ };
 
-    ghost view = { λ reader. reader.held.items };
+    ghost view = { λ reader. held_bytes reader.held };
 
-    ghost invariant = { λ reader. IsPartial w16 reader.held.items };
+    ghost invariant = { λ reader. IsHeld reader.held };
 }
 
 impl HsReader {
@@ -43,7 +39,8 @@ impl HsReader {
         ensures { result ≡ [] }
     {
         HsReader {
-            held: Vec::new(alloc),
+            alloc,
+            held: Held::Length(None),
         }
     }
 
@@ -52,22 +49,10 @@ impl HsReader {
         ensures ok { IfOk result (λ fed. IsFed w16 self.old piece.now fed.used fed.body self.new) }
         ensures same { OnErr result (self.new ≡ self.old) }
     {
-        let before = self.held.len();
-        self.held.extend_from_slice(piece)?;
-        let Some(front) = counted_at(&self.held) else {
-            return Ok(Fed {
-                used: piece.len(),
-                body: None,
-            });
-        };
-        let Ok(body) = Vec::from_slice(*self.held.allocator(), front) else {
-            self.held.truncate(before);
-            return Err(OutOfMemory);
-        };
-        self.held.clear();
+        let used = self.held.take(self.alloc, piece)?;
         Ok(Fed {
-            used: LENGTH_LEN + body.len() - before,
-            body: Some(Body::of(body)),
+            used,
+            body: self.held.take_whole(),
         })
     }
 }

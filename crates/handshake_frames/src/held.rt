@@ -1,0 +1,71 @@
+//! What a reader holds between two pieces.
+ghost use Rattle.std.specs.Prelude.{◌≡◌, ◌+◌, ◌<◌, ◌++◌, ◌∷◌, [], length, option_to_list, IfOk, IfSome, IfNone, OnErr};
+ghost use Rattle.std.specs.Int.{w16, to_be_bytes};
+ghost use Rattle.handshake_frames.specs.Held.{IsHeld, Takes, Gives};
+
+use crate::part_body::PartBody;
+use dist_types::{Body, OutOfMemory};
+use std::alloc::Global;
+
+/// What was used of a stream since its last body.
+#[derive(Debug, Drop)]
+pub enum Held {
+    /// Nothing, or the first byte of a length.
+    Length(Option<u8>),
+    Body(PartBody),
+}
+
+impl Held {
+    /// Takes bytes of the piece up to the end of one body at most: how many.
+    pub fn take(&mut self, alloc: Global, piece: &[u8]) -> Result<usize, OutOfMemory>
+        requires { IsHeld self.old }
+        ensures ok { IfOk result (λ used. Takes self.old piece.now used self.new) }
+        ensures same { OnErr result (self.new ≡ self.old) }
+    {
+        match self {
+            Held::Body(part) => part.take(piece),
+            Held::Length(first) => {
+                let Some((len, behind)) = length_at(*first, piece) else {
+                    *first = first.or(piece.first().copied());
+                    return Ok(piece.len());
+                };
+                let mut part = PartBody::new(alloc, len as usize);
+                let taken = part.take(behind)?;
+                *self = Held::Body(part);
+                Ok(piece.len() - behind.len() + taken)
+            }
+        }
+    }
+
+    /// Hands a body out if it is whole, and holds nothing then.
+    pub fn take_whole(&mut self) -> Option<Body>
+        ensures { Gives self.old result self.new }
+    {
+        let Held::Body(part) = self else {
+            return None;
+        };
+        let body = part.take_whole()?;
+        *self = Held::Length(None);
+        Some(body)
+    }
+}
+
+/// The length that the first byte, if there is one, and the piece begin, and what stands behind it.
+fn length_at(first: Option<u8>, piece: &[u8]) -> Option<(u16, &[u8])>
+    ensures found { IfSome result (λ read. option_to_list first ++ piece.now ≡ to_be_bytes w16 read.0 ++ read.1.now) }
+    ensures short { IfNone result (length (option_to_list first) + length piece.now < 2) }
+{
+    let Some(high) = first else {
+        let (high, rest) = piece.split_first()?;
+        return length_behind(*high, rest);
+    };
+    length_behind(high, piece)
+}
+
+fn length_behind(high: u8, piece: &[u8]) -> Option<(u16, &[u8])>
+    ensures found { IfSome result (λ read. high ∷ piece.now ≡ to_be_bytes w16 read.0 ++ read.1.now) }
+    ensures short { IfNone result (piece.now ≡ []) }
+{
+    let (low, behind) = piece.split_first()?;
+    Some((u16::from_be_bytes([high, *low]), behind))
+}
