@@ -16,7 +16,7 @@ abbrev pub part_bytes : Width → Part → List ℕ
 part_bytes w part = to_be_bytes w (part_len part) ++ part.bytes
 
 -- the bytes used of a piece are added to the body; all are used where some are missing still
-pub record Takes (old : Part) (piece : List ℕ) (used : ℕ) (new : Part) : Type 0 where
+pub record Adds (old : Part) (piece : List ℕ) (used : ℕ) (new : Part) : Type 0 where
   pub within : used ≤ length piece
   pub bytes : new.bytes ≡ old.bytes ++ take used piece
   pub missing : used + new.missing ≡ old.missing

@@ -1,6 +1,6 @@
 //! A body as its bytes come.
 ghost use Rattle.std.specs.Prelude.{◌≡◌, ◌<◌, [], IfOk, OnErr, MatchOption};
-ghost use Rattle.handshake_frames.specs.Part.{Takes};
+ghost use Rattle.handshake_frames.specs.Part.{Adds};
 
 use dist_types::{Body, OutOfMemory};
 use std::alloc::Global;
@@ -36,7 +36,7 @@ impl PartBody {
 
     /// Takes bytes of the piece up to the body's end: how many.
     pub fn take(&mut self, piece: &[u8]) -> Result<usize, OutOfMemory>
-        ensures ok { IfOk result (λ used. Takes self.old piece.now used self.new) }
+        ensures ok { IfOk result (λ used. Adds self.old piece.now used self.new) }
         ensures same { OnErr result (self.new ≡ self.old) }
     {
         let used = piece.len().min(self.missing);

@@ -6,7 +6,7 @@ use Rattle.link_frames.proofs.Words.{take_at, drop_at, take-append-drop, length-
 use Rattle.link_frames.proofs.Words.{All-replicate, All-head, All-tail, counted, FitsLength, IsPartial, Splits, Call, stream_of, bodies_of, max_body}
 use Rattle.link_frames.proofs.Words.{ticks, BeginsTooLong, IsRest, EndsBody, IsFed, EndsNone, ComesTooLong, is_body, SplitsLink, AreFed}
 use Rattle.std.proofs.Math.Seq.{take-append-add, take-length}
-use Rattle.handshake_frames.proofs.StreamLemmas.{Reads, length-counted, ends_behind, IsPartial-empty, one_reading}
+use Rattle.handshake_frames.proofs.StreamLemmas.{Reads, length-counted, IsPartial-empty, one_reading}
 
 pub reads_32 : Reads w32
 reads_32 = record { wide = omega arith; back = from_be_bytes-to_be_bytes_4 }
@@ -30,41 +30,6 @@ ticks_are_no_bodies : (n : ℕ) → filter is_body (tick_frames n) ≡ []
 unfolding tick_frames
 ticks_are_no_bodies zero = refl
 ticks_are_no_bodies (suc n) = ticks_are_no_bodies n
-
--- ---- one call
-
--- what stands at the front of the rest and the piece ends in the piece
-ends_at : (rest piece front later : List ℕ) → rest ++ piece ≡ front ++ later → length rest < length front → rest ++ take (length front - length rest) piece ≡ front
-ends_at rest piece front later whole behind =
-    let n = length front - length rest in
-    let sum : length rest + n ≡ length front = omega arith in
-    sym (take-append-add rest piece n) ∙ ap (λ k. take k (rest ++ piece)) sum ∙ ap (take (length front)) whole ∙ take_at front later _ refl
-
--- a rest that is no whole body, and no tick, ends before the body behind the ticks
-rest_is_short : (rest piece : List ℕ) (n : ℕ) (body later : List ℕ) → IsPartial w32 rest → FitsLength w32 body → rest ++ piece ≡ ticks n ++ (counted w32 body ++ later) → length rest < length (ticks n ++ counted w32 body)
-rest_is_short rest piece zero body later partial fits whole = ends_behind w32 rest piece body later partial fits whole
-rest_is_short rest piece (suc n) body later partial fits whole =
-    let first : length rest < 4 = ends_behind w32 rest piece [] (ticks n ++ (counted w32 body ++ later)) partial (omega arith) whole in
-    omega arith
-
--- a body behind ticks ends in the piece, before what stands behind it
-pub gives_body : (rest piece left : List ℕ) (n : ℕ) (body later : List ℕ) → IsPartial w32 rest → 0 < length body → length body ≤ max_body → rest ++ piece ≡ ticks n ++ left → left ≡ counted w32 body ++ later → EndsBody rest piece (length piece - length later) body []
-gives_body rest piece left n body later partial some fits ticked found =
-    let front = ticks n ++ counted w32 body in
-    let split : rest ++ piece ≡ ticks n ++ (counted w32 body ++ later) = ticked ∙ ap (λ xs. ticks n ++ xs) found in
-    let short = rest_is_short rest piece n body later partial (omega arith) split in
-    let whole : rest ++ piece ≡ front ++ later = split ∙ sym (append_assoc (ticks n) (counted w32 body) later) in
-    let lengths : length rest + length piece ≡ length front + length later = sym (length-append rest piece) ∙ ap length whole ∙ length-append front later in
-    let used : length front - length rest ≡ length piece - length later = omega arith in
-    record {
-      onward = omega arith;
-      within = omega arith;
-      skipped = n;
-      whole = ap (λ k. rest ++ take k piece) (sym used) ∙ ends_at rest piece front later whole short;
-      some = some;
-      fits = fits;
-      empty = refl;
-    }
 
 -- ---- a length above the limit
 
@@ -100,6 +65,20 @@ pub not_too_long : (rest piece bytes : List ℕ) (n : ℕ) → rest ++ piece ≡
 not_too_long rest piece bytes n split free short long =
     short (subst BeginsTooLong (sym (behind_ticks n long.skipped bytes long.bytes free (too_long_is_tickless long.bytes long.begins) (sym split ∙ long.behind))) long.begins)
 
+-- nor where the first length that is none of a tick is within the limit
+pub length_not_too_long : (rest piece behind : List ℕ) (n len : ℕ) → rest ++ piece ≡ ticks n ++ (to_be_bytes w32 len ++ behind) → 0 < len → len ≤ max_body → ¬ ComesTooLong rest piece
+length_not_too_long rest piece behind n len split some fits =
+    not_too_long rest piece _ n split (tickless_length len behind some (omega (arith, fits))) (short_length len behind fits)
+
+-- and where that length is above the limit, one comes
+pub length_too_long : (rest piece behind : List ℕ) (n len : ℕ) → rest ++ piece ≡ ticks n ++ (to_be_bytes w32 len ++ behind) → max_body < len → len < 2 ^ 32 → ComesTooLong rest piece
+length_too_long rest piece behind n len split above fits = record {
+  skipped = n;
+  bytes = to_be_bytes w32 len ++ behind;
+  behind = split;
+  begins = record { long = len; later = behind; above = above; fits = fits; begins = refl };
+}
+
 -- where a reader is fed, no length above the limit came before
 pub fed_not_too_long : (rest piece : List ℕ) (used : ℕ) (body : Option (List ℕ)) (new : List ℕ) → IsFed rest piece used body new → ¬ ComesTooLong rest piece
 fed_not_too_long rest piece used (Some body) new fed =
@@ -108,81 +87,6 @@ fed_not_too_long rest piece used (Some body) new fed =
     ap (λ xs. rest ++ xs) (sym (take-append-drop used piece)) ∙ sym (append_assoc rest (take used piece) later) ∙ ap (λ xs. xs ++ later) fed.whole ∙ simp append_assoc in
     not_too_long rest piece _ fed.skipped split (tickless_length (length body) (body ++ later) fed.some (omega (arith, fed.fits))) (short_length (length body) (body ++ later) fed.fits)
 fed_not_too_long rest piece used None new fed = not_too_long rest piece new fed.skipped fed.kept (tickless_rest new fed.left.partial) fed.left.short
-
--- ---- a body of which some bytes are held
-
--- the length stands at the front
-abbrev pub BeginsWith : ℕ → List ℕ → Type 0
-BeginsWith n bytes = bytes ≡ to_be_bytes w32 n ++ drop 4 bytes
-
-first_bytes : (n : ℕ) (bytes : List ℕ) → BeginsWith n bytes → 4 + n ≤ length bytes → (length (take n (drop 4 bytes)) ≡ n) × (bytes ≡ counted w32 (take n (drop 4 bytes)) ++ drop n (drop 4 bytes))
-first_bytes n bytes begins whole =
-    let long : length (take n (drop 4 bytes)) ≡ n = length-take n (drop 4 bytes) ∙ omega (arith, length-drop 4 bytes) in
-    (long, begins ∙ ap (λ xs. to_be_bytes w32 n ++ xs) (sym (take-append-drop n (drop 4 bytes))) ∙ rw long (sym (append_assoc (to_be_bytes w32 n) (take n (drop 4 bytes)) (drop n (drop 4 bytes)))))
-
--- a rest ends before the body that it begins
-pub held_short : (rest piece : List ℕ) (n : ℕ) → IsPartial w32 rest → n ≤ max_body → BeginsWith n (rest ++ piece) → length rest < 4 + n
-held_short rest piece n partial fits begins =
-    elim (cases_lt (length rest) (4 + n)) [
-      | inl short ↦ short
-      | inr long ↦
-          let first = first_bytes n (rest ++ piece) begins (omega (arith, long, length-append rest piece)) in
-          let behind = ends_behind w32 rest piece _ _ partial (omega (arith, first.0, fits)) first.1 in
-          omega (arith, behind, first.0)
-    ]
-
--- no length above the limit comes where one within it stands
-pub begins_not_too_long : (rest piece : List ℕ) (n : ℕ) → 0 < n → n ≤ max_body → BeginsWith n (rest ++ piece) → ¬ ComesTooLong rest piece
-begins_not_too_long rest piece n some fits begins =
-    not_too_long rest piece _ 0 begins (tickless_length n _ some (omega (arith, fits))) (short_length n _ fits)
-
--- a length above the limit that stands at the front comes
-pub begins_too_long : (rest piece : List ℕ) (n : ℕ) → max_body < n → n < 2 ^ 32 → BeginsWith n (rest ++ piece) → ComesTooLong rest piece
-begins_too_long rest piece n above fits begins = record {
-  skipped = 0;
-  bytes = rest ++ piece;
-  behind = refl;
-  begins = record { long = n; later = drop 4 (rest ++ piece); above = above; fits = fits; begins = begins };
-}
-
--- the body ends in the piece
-pub ends_whole : (rest piece : List ℕ) (n : ℕ) → IsPartial w32 rest → 0 < n → n ≤ max_body → BeginsWith n (rest ++ piece) → 4 + n ≤ length rest + length piece
-    → EndsBody rest piece (4 + n - length rest) (drop 4 (rest ++ take (4 + n - length rest) piece)) []
-ends_whole rest piece n partial some fits begins whole =
-    let bytes = rest ++ piece in
-    let first = first_bytes n bytes begins (omega (arith, whole, length-append rest piece)) in
-    let later = drop n (drop 4 bytes) in
-    let ends = gives_body rest piece bytes 0 (take n (drop 4 bytes)) later partial (omega (arith, some, first.0)) (omega (arith, fits, first.0)) refl first.1 in
-    let used : length piece - length later ≡ 4 + n - length rest = omega (arith, length-append rest piece, length-drop n (drop 4 bytes), length-drop 4 bytes) in
-    let front = counted w32 (take n (drop 4 bytes)) in
-    let long : length front ≡ 4 + n = length-counted w32 (take n (drop 4 bytes)) ∙ ap (λ k. 4 + k) first.0 in
-    let at : rest ++ take (length front - length rest) piece ≡ front = ends_at rest piece front later first.1 (omega (arith, long, held_short rest piece n partial fits begins)) in
-    let body : take n (drop 4 bytes) ≡ drop 4 (rest ++ take (4 + n - length rest) piece) = sym (ap (drop 4) at) ∙ ap (λ k. drop 4 (rest ++ take (k - length rest) piece)) long in
-    subst (λ body. EndsBody rest piece (4 + n - length rest) body []) body (subst (λ used. EndsBody rest piece used (take n (drop 4 bytes)) []) used ends)
-
--- the piece is used up before the body ends
-pub ends_later : (rest piece : List ℕ) (n : ℕ) → n ≤ max_body → BeginsWith n (rest ++ piece) → length rest + length piece < 4 + n → EndsNone rest piece (length piece) (rest ++ piece)
-ends_later rest piece n fits begins short = record {
-  whole = refl;
-  skipped = 0;
-  kept = refl;
-  left = record {
-    partial = λ body later is same.
-        let split : rest ++ piece ≡ to_be_bytes w32 (length body) ++ (body ++ later) = same ∙ append_assoc (to_be_bytes w32 (length body)) body later in
-        let lengths : n ≡ length body = one_length n (length body) _ _ (omega (arith, fits)) is (sym begins ∙ split) in
-        omega (arith, lengths, short, length-append rest piece, ap length split, length-append body later);
-    short = subst (λ xs. ¬ BeginsTooLong xs) (sym begins) (short_length n _ fits);
-  };
-}
-
--- a tick that ends in the piece, and those behind it
-pub behind_tick : (rest piece left : List ℕ) (n : ℕ) → length rest < 4 → BeginsWith 0 (rest ++ piece) → drop (4 - length rest) piece ≡ ticks n ++ left → rest ++ piece ≡ ticks (suc n) ++ left
-behind_tick rest piece left n short begins split =
-    let k = 4 - length rest in
-    let whole : rest ++ piece ≡ (rest ++ take k piece) ++ drop k piece = ap (λ xs. rest ++ xs) (sym (take-append-drop k piece)) ∙ sym (append_assoc rest (take k piece) (drop k piece)) in
-    let long : length (rest ++ take k piece) ≡ 4 = omega (arith, short, length-append rest (take k piece), length-take k piece, ap length begins, length-append rest piece) in
-    let later : drop 4 (rest ++ piece) ≡ ticks n ++ left = ap (drop 4) whole ∙ drop_at (rest ++ take k piece) (drop k piece) 4 long ∙ split in
-    begins ∙ ap (λ (xs : List ℕ). 0 ∷ 0 ∷ 0 ∷ 0 ∷ xs) later
 
 -- ---- a stream
 

@@ -61,10 +61,10 @@ impl<T: Drop> From<AllocFailed<T>> for MessageFault {
     }
 }
 
-impl From<AllocError> for FeedFault {
+impl From<OutOfMemory> for FeedFault {
     ghost from_gives = { λ _ fault. fault ≡ feed_faults.OutOfMemory };
 
-    fn from(_error: AllocError) -> FeedFault {
+    fn from(_error: OutOfMemory) -> FeedFault {
         FeedFault::OutOfMemory
     }
 }

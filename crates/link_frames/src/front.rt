@@ -1,22 +1,37 @@
-//! What stands at the front of a stream.
-ghost use Rattle.std.specs.Prelude.{◌≡◌, ◌≢◌, ◌≤◌, ◌<◌, ◌+◌, ◌∷◌, ◌++◌, ℕ, List, length, drop, IfOk, IfErr, IfSome, IfNone};
+//! The length at the front of a stream, behind ticks.
+ghost use Rattle.std.specs.Prelude.{◌≡◌, ◌<◌, ◌+◌, ◌++◌, ℕ, List, length, IfOk, IfErr, IfSome, IfNone};
 ghost use Rattle.std.specs.Int.{w32, to_be_bytes};
-ghost use Rattle.handshake_frames.specs.Spelling.{counted};
-ghost use Rattle.link_frames.specs.declared.fault.FeedFault.TheVariants as faults;
-ghost use Rattle.link_frames.specs.Stream.{max_body, ticks, BeginsTooLong, IsRest};
+ghost use Rattle.link_frames.specs.Stream.{ticks};
 
-use crate::fault::FeedFault;
-use dist_types::{bytes_at, u32_at};
+use crate::length_bytes::LengthBytes;
 
 /// The bytes of the length before a body.
-pub const LENGTH_LEN: usize = 4;
+const LENGTH_LEN: usize = 4;
 
-/// The most bytes of a body.
-pub const MAX_BODY: u32 = 4_194_304;
+/// The length behind ticks, and what stands behind it; where it isn't whole, its bytes. Some bytes may be held before the
+/// piece.
+pub fn length_at<'a>(held: &[u8], piece: &'a [u8]) -> Result<(u32, &'a [u8]), LengthBytes>
+    requires { length held.now < 4 }
+    ensures found { IfOk result (λ read. (0 < read.0) × ((n : ℕ) × (held.now ++ piece.now ≡ ticks n ++ (to_be_bytes w32 read.0 ++ read.1.now)))) }
+    ensures onward { IfOk result (λ read. length read.1.now < length piece.now) }
+    ensures short { IfErr result (λ rest. (length rest < 4) × ((n : ℕ) × (held.now ++ piece.now ≡ ticks n ++ rest))) }
+{
+    let mut front = held;
+    let mut rest = piece;
+    while let Some((len, behind)) = length_across(front, rest) {
+        if len > 0 {
+            return Ok((len, behind));
+        }
+        front = &[];
+        rest = behind;
+    }
+    Err(LengthBytes::of(front, rest))
+}
 
-/// The length at the front of what is held and the piece behind it, where its bytes are there.
-pub fn length_across(held: &[u8], piece: &[u8]) -> Option<u32>
-    ensures found { IfSome result (λ len. held.now ++ piece.now ≡ to_be_bytes w32 len ++ drop 4 (held.now ++ piece.now)) }
+/// The length at the front of what is held and the piece behind it, where its bytes are there, and what stands behind it.
+fn length_across<'a>(held: &[u8], piece: &'a [u8]) -> Option<(u32, &'a [u8])>
+    requires { length held.now < 4 }
+    ensures found { IfSome result (λ read. held.now ++ piece.now ≡ to_be_bytes w32 read.0 ++ read.1.now) }
     ensures short { IfNone result (length held.now + length piece.now < 4) }
 {
     let mut bytes = held.iter().chain(piece);
@@ -26,34 +41,5 @@ pub fn length_across(held: &[u8], piece: &[u8]) -> Option<u32>
         *bytes.next()?,
         *bytes.next()?,
     ];
-    Some(u32::from_be_bytes(front))
-}
-
-/// What stands behind the ticks at the front.
-pub fn after_ticks(bytes: &[u8]) -> &[u8]
-    ensures skipped { (n : ℕ) × (bytes.now ≡ ticks n ++ result.now) }
-    ensures only { (later : List ℕ) → result.now ≢ 0 ∷ 0 ∷ 0 ∷ 0 ∷ later }
-{
-    let mut rest = bytes;
-    while let Some((0, behind)) = u32_at(rest) {
-        rest = behind;
-    }
-    rest
-}
-
-/// The body at the front, if it is whole, and what stands behind it.
-pub fn body_at(bytes: &[u8]) -> Result<Option<(&[u8], &[u8])>, FeedFault>
-    requires { (later : List ℕ) → bytes.now ≢ 0 ∷ 0 ∷ 0 ∷ 0 ∷ later }
-    ensures found { IfOk result (λ front. IfSome front (λ read. (0 < length read.0.now) × (length read.0.now ≤ max_body) ×
-        (bytes.now ≡ counted w32 read.0.now ++ read.1.now))) }
-    ensures partial { IfOk result (λ front. IfNone front (IsRest bytes.now)) }
-    ensures refused { IfErr result (λ fault. (fault ≡ faults.TooLong) × BeginsTooLong bytes.now) }
-{
-    let Some((len, rest)) = u32_at(bytes) else {
-        return Ok(None);
-    };
-    if len > MAX_BODY {
-        return Err(FeedFault::TooLong);
-    }
-    Ok(bytes_at(len as usize, rest))
+    Some((u32::from_be_bytes(front), &piece[LENGTH_LEN - held.len()..]))
 }

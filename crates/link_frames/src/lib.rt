@@ -6,7 +6,9 @@ mod encoding;
 mod fault;
 mod fields;
 mod front;
+mod held;
 mod laws;
+mod length_bytes;
 mod message;
 mod reader;
 

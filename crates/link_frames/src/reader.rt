@@ -1,12 +1,11 @@
 //! Streams of bodies after the handshake, each behind its length of 4 bytes, with ticks between them (Distribution
 //! Protocol, Protocol between Connected Nodes).
-ghost use Rattle.std.specs.Prelude.{◌≡◌, ◌≢◌, ◌+◌, ◌<◌, ◌++◌, ◌∷◌, [], ℕ, List, length, drop, false, IfOk, IfErr};
-ghost use Rattle.std.specs.Int.{w32, to_be_bytes};
-ghost use Rattle.link_frames.specs.Stream.{ticks, Feeds, IsFeedFault};
+ghost use Rattle.std.specs.Prelude.{◌≡◌, [], false, IfOk, IfErr};
+ghost use Rattle.link_frames.specs.Stream.{Feeds, IsFeedFault};
 
 use crate::fault::FeedFault;
-use crate::front::{LENGTH_LEN, MAX_BODY, after_ticks, body_at, length_across};
-use dist_types::Body;
+use crate::held::Held;
+use crate::length_bytes::LengthBytes;
 use handshake_frames::Fed;
 use std::alloc::Global;
 use std::marker::Model;
@@ -15,19 +14,20 @@ use std::marker::Model;
 /// ticks at their front, and the mark that it has answered `TooLong`.
 #[derive(Debug, Drop)]
 pub struct LinkReader {
-    /// The bytes used since the last body, without ticks at their front: less than a whole one behind its length.
-    held: Vec<u8>,
+    alloc: Global,
+    held: Held,
     too_long: bool,
 }
 
 impl Model for LinkReader {
-    ghost use Rattle.link_frames.specs.Stream.{Progress, IsRest};
+    ghost use Rattle.link_frames.specs.Stream.{Progress};
+    ghost use Rattle.link_frames.specs.Held.{held_bytes, IsHeld};
 
     ghost Value = { Progress };
 
-    ghost view = { λ reader. record { rest = reader.held.items; too_long = reader.too_long } };
+    ghost view = { λ reader. record { rest = held_bytes reader.held; too_long = reader.too_long } };
 
-    ghost invariant = { λ reader. IsRest reader.held.items };
+    ghost invariant = { λ reader. IsHeld reader.held };
 }
 
 impl LinkReader {
@@ -35,7 +35,8 @@ impl LinkReader {
         ensures { result ≡ record { rest = []; too_long = false } }
     {
         LinkReader {
-            held: Vec::new(alloc),
+            alloc,
+            held: Held::Length(LengthBytes::new()),
             too_long: false,
         }
     }
@@ -49,89 +50,15 @@ impl LinkReader {
         if self.too_long {
             return Err(FeedFault::TooLong);
         }
-        let held = self.held.len();
-        if held == 0 {
-            return self.cut(piece, after_ticks(piece));
+        match self.held.take(self.alloc, piece) {
+            Ok(used) => Ok(Fed {
+                used,
+                body: self.held.take_whole(),
+            }),
+            Err(fault) => {
+                self.too_long = matches!(fault, FeedFault::TooLong);
+                Err(fault)
+            }
         }
-        match length_across(&self.held, piece) {
-            None => self.keep(piece),
-            Some(0) => self.cut(piece, after_ticks(&piece[LENGTH_LEN - held..])),
-            Some(len) => self.feed_on(piece, len),
-        }
-    }
-
-    /// Cuts what is left of the piece behind ticks. Bodies are copied out of the piece, so that many small ones in it are
-    /// copied once each.
-    fn cut(&mut self, piece: &[u8], left: &[u8]) -> Result<Fed, FeedFault>
-        requires going { self.old.too_long ≡ false }
-        requires skipped { (n : ℕ) × (self.old.rest ++ piece.now ≡ ticks n ++ left.now) }
-        requires tickless { (later : List ℕ) → left.now ≢ 0 ∷ 0 ∷ 0 ∷ 0 ∷ later }
-        ensures ok { IfOk result (λ fed. Feeds self.old piece.now fed.used fed.body self.new) }
-        ensures refused { IfErr result (λ fault. IsFeedFault fault self.old piece.now self.new) }
-    {
-        let Ok(front) = body_at(left) else {
-            self.too_long = true;
-            return Err(FeedFault::TooLong);
-        };
-        let Some((body, behind)) = front else {
-            let before = self.held.len();
-            self.held.extend_from_slice(left)?;
-            self.held.drain(..before);
-            return Ok(Fed {
-                used: piece.len(),
-                body: None,
-            });
-        };
-        let body = Vec::from_slice(*self.held.allocator(), body)?;
-        self.held.clear();
-        Ok(Fed {
-            used: piece.len() - behind.len(),
-            body: Some(Body::of(body)),
-        })
-    }
-
-    /// Holds a piece with which the length isn't whole.
-    fn keep(&mut self, piece: &[u8]) -> Result<Fed, FeedFault>
-        requires going { self.old.too_long ≡ false }
-        requires short { length self.old.rest + length piece.now < 4 }
-        ensures ok { IfOk result (λ fed. Feeds self.old piece.now fed.used fed.body self.new) }
-        ensures refused { IfErr result (λ fault. IsFeedFault fault self.old piece.now self.new) }
-    {
-        self.held.extend_from_slice(piece)?;
-        Ok(Fed {
-            used: piece.len(),
-            body: None,
-        })
-    }
-
-    /// Goes on with a body of that length, of which some bytes are held. The length is judged before anything grows.
-    #[tactic(auto, using(crate::proofs::LinkLemmas::begins_too_long))]
-    fn feed_on(&mut self, piece: &[u8], len: u32) -> Result<Fed, FeedFault>
-        requires going { self.old.too_long ≡ false }
-        requires some { 0 < len }
-        requires begins { self.old.rest ++ piece.now ≡ to_be_bytes w32 len ++ drop 4 (self.old.rest ++ piece.now) }
-        ensures ok { IfOk result (λ fed. Feeds self.old piece.now fed.used fed.body self.new) }
-        ensures refused { IfErr result (λ fault. IsFeedFault fault self.old piece.now self.new) }
-    {
-        if len > MAX_BODY {
-            self.too_long = true;
-            return Err(FeedFault::TooLong);
-        }
-        let before = self.held.len();
-        let whole = LENGTH_LEN + len as usize;
-        let used = piece.len().min(whole - before);
-        self.held.extend_from_slice(&piece[..used])?;
-        if self.held.len() < whole {
-            return Ok(Fed { used, body: None });
-        }
-        let Ok(body) = Vec::from_slice(*self.held.allocator(), &self.held[LENGTH_LEN..]) else {
-            self.held.truncate(before);
-            return Err(FeedFault::OutOfMemory);
-        };
-        self.held.clear();
-        Ok(Fed {
-            used,
-            body: Some(Body::of(body)),
-        })
     }
 }
