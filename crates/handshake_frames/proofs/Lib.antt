@@ -1,4 +1,5 @@
 pub mod FoundFrames
+pub mod HeldLemmas
 pub mod ReadingLemmas
 pub mod StandardFacts
 pub mod StreamLemmas

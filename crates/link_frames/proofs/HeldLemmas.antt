@@ -1,8 +1,9 @@
 -- What a call makes of what a reader holds.
 use Rattle.link_frames.proofs.Words.{◌≡◌, ◌<◌, ◌≤◌, ◌+◌, ◌-◌, ◌++◌, ℕ, List, [], length, take, ap, sym, refl, ◌∙◌, arith}
-use Rattle.link_frames.proofs.Words.{append_assoc, length-append, length-take, w32, to_be_bytes, max_body, ticks, ComesTooLong}
+use Rattle.link_frames.proofs.Words.{append_assoc, w32, to_be_bytes, max_body, ticks, ComesTooLong}
 use Rattle.link_frames.proofs.LinkLemmas.{length_not_too_long}
-use Rattle.std.proofs.Math.Seq.{take-append-add, take-length}
+use Rattle.std.proofs.Math.Seq.{take-length}
+use Rattle.handshake_frames.proofs.HeldLemmas.{same_len, used_behind}
 use Rattle.handshake_frames.specs.Part.{Part, part_len, part_bytes, Adds}
 use Rattle.link_frames.specs.Held.{held_bytes, IsHeld, Takes}
 use Rattle.link_frames.specs.declared.held.Held.{Held}
@@ -11,7 +12,7 @@ use Rattle.link_frames.specs.declared.held.Held.TheVariants.{Length, Body}
 -- a body goes on
 pub body_goes_on : (old new : Part) (piece : List ℕ) (used : ℕ) → IsHeld (Body old) → Adds old piece used new → Takes (Body old) piece used (Body new)
 body_goes_on old new piece used held adds =
-    let long : part_len new ≡ part_len old = omega (arith, adds.missing, adds.within, ap length adds.bytes, length-append old.bytes (take used piece), length-take used piece) in
+    let long : part_len new ≡ part_len old = same_len old new piece used adds in
     record {
       within = adds.within;
       skipped = 0;
@@ -26,15 +27,12 @@ pub body_begins : (old : Held) (piece behind : List ℕ) (n len used : ℕ) (par
     → Adds (record { bytes = []; missing = len }) behind used part → Takes old piece (length piece - length behind + used) (Body part)
 body_begins old piece behind n len used part found last some fits adds =
     let front = ticks n ++ to_be_bytes w32 len in
-    let k = length piece - length behind + used in
-    let long : part_len part ≡ len = omega (arith, adds.missing, adds.within, ap length adds.bytes, length-take used behind) in
     let whole : held_bytes old ++ piece ≡ front ++ behind = found ∙ sym (append_assoc (ticks n) (to_be_bytes w32 len) behind) in
-    let lengths : length (held_bytes old) + length piece ≡ length front + length behind = sym (length-append (held_bytes old) piece) ∙ ap length whole ∙ length-append front behind in
-    let sum : length (held_bytes old) + k ≡ length front + used = omega (arith, lengths, last) in
+    let long : part_len part ≡ len = omega (arith, same_len (record { bytes = []; missing = len }) part behind used adds) in
     record {
       within = omega (arith, last, adds.within);
       skipped = n;
-      bytes = sym (take-append-add (held_bytes old) piece k) ∙ ap (λ j. take j (held_bytes old ++ piece)) sum ∙ ap (take (length front + used)) whole ∙ take-append-add front behind used ∙ append_assoc (ticks n) (to_be_bytes w32 len) (take used behind) ∙ cc (long, adds.bytes);
+      bytes = used_behind (held_bytes old) piece front behind used whole (omega (arith, last)) ∙ append_assoc (ticks n) (to_be_bytes w32 len) (take used behind) ∙ cc (long, adds.bytes);
       fits = (omega (arith, long, some), omega (arith, long, fits));
       onward = λ none. absurd (omega (arith, none, last));
       all = λ missing. omega (arith, last, adds.all missing);

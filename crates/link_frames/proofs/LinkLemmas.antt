@@ -1,11 +1,11 @@
 -- Ticks and bodies of a stream, and its rest, however it is cut.
-use Rattle.link_frames.proofs.Words.{◌≡◌, ◌≢◌, ℕ, zero, suc, ◌+◌, ◌-◌, ◌<◌, ◌≤◌, ◌^◌, List, [], ◌∷◌, ◌++◌, length, take, drop, filter, replicate, All}
-use Rattle.link_frames.proofs.Words.{Option, Some, None, refl, sym, ap, ◌∙◌, subst, arith, inl, inr, append_assoc, append-nil, length-append, w32}
-use Rattle.link_frames.proofs.Words.{to_be_bytes, from_be_bytes, flat_map, option_to_list, cases_lt, flat_map-append, from_be_bytes-to_be_bytes_4}
-use Rattle.link_frames.proofs.Words.{take_at, drop_at, take-append-drop, length-take, length-drop, filter-append, All-append, All-nil, All-cons}
+use Rattle.link_frames.proofs.Words.{◌≡◌, ◌≢◌, ℕ, zero, suc, ◌+◌, ◌<◌, ◌≤◌, ◌^◌, List, [], ◌∷◌, ◌++◌, length, take, drop, filter, replicate, All}
+use Rattle.link_frames.proofs.Words.{Option, Some, None, refl, sym, ap, ◌∙◌, subst, arith, append_assoc, append-nil, w32}
+use Rattle.link_frames.proofs.Words.{to_be_bytes, from_be_bytes, flat_map, option_to_list, flat_map-append, from_be_bytes-to_be_bytes_4}
+use Rattle.link_frames.proofs.Words.{drop_at, take-append-drop, filter-append, All-append, All-nil, All-cons}
 use Rattle.link_frames.proofs.Words.{All-replicate, All-head, All-tail, counted, FitsLength, IsPartial, Splits, Call, stream_of, bodies_of, max_body}
-use Rattle.link_frames.proofs.Words.{ticks, BeginsTooLong, IsRest, EndsBody, IsFed, EndsNone, ComesTooLong, is_body, SplitsLink, AreFed}
-use Rattle.std.proofs.Math.Seq.{take-append-add, take-length}
+use Rattle.link_frames.proofs.Words.{ticks, BeginsTooLong, IsRest, IsFed, ComesTooLong, is_body, SplitsLink, AreFed}
+use Rattle.std.proofs.Math.Seq.{take-length}
 use Rattle.handshake_frames.proofs.StreamLemmas.{Reads, length-counted, IsPartial-empty, one_reading}
 
 pub reads_32 : Reads w32
