@@ -68,3 +68,11 @@ impl From<OutOfMemory> for FeedFault {
         FeedFault::OutOfMemory
     }
 }
+
+impl From<AllocError> for FeedFault {
+    ghost from_gives = { λ _ fault. fault ≡ feed_faults.OutOfMemory };
+
+    fn from(_error: AllocError) -> FeedFault {
+        FeedFault::OutOfMemory
+    }
+}
