@@ -45,9 +45,10 @@ impl PartBody {
         Ok(used)
     }
 
-    /// Hands the body out if it is whole.
+    /// Hands the body out if it is whole, and is one without bytes then.
     pub fn take_whole(&mut self) -> Option<Body>
-        ensures { MatchOption result ((0 < self.old.missing) × (self.new ≡ self.old)) (λ body. (self.old.missing ≡ 0) × (body ≡ self.old.bytes)) }
+        ensures { MatchOption result ((0 < self.old.missing) × (self.new ≡ self.old)) (λ body.
+            (self.old ≡ record { bytes = body; missing = 0 }) × (self.new ≡ record { bytes = []; missing = 0 })) }
     {
         if self.missing > 0 {
             return None;

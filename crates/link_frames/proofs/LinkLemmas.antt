@@ -61,7 +61,7 @@ short_length : (n : ℕ) (xs : List ℕ) → n ≤ max_body → ¬ BeginsTooLong
 short_length n xs fits long = let same : n ≡ long.long = one_length n long.long xs long.later (omega (arith, fits)) long.fits long.begins in omega (arith, fits, long.above)
 
 -- where bytes without a tick or a length above the limit stand behind ticks, none comes
-pub not_too_long : (rest piece bytes : List ℕ) (n : ℕ) → rest ++ piece ≡ ticks n ++ bytes → IsTickless bytes → ¬ BeginsTooLong bytes → ¬ ComesTooLong rest piece
+not_too_long : (rest piece bytes : List ℕ) (n : ℕ) → rest ++ piece ≡ ticks n ++ bytes → IsTickless bytes → ¬ BeginsTooLong bytes → ¬ ComesTooLong rest piece
 not_too_long rest piece bytes n split free short long =
     short (subst BeginsTooLong (sym (behind_ticks n long.skipped bytes long.bytes free (too_long_is_tickless long.bytes long.begins) (sym split ∙ long.behind))) long.begins)
 
@@ -69,15 +69,6 @@ not_too_long rest piece bytes n split free short long =
 pub length_not_too_long : (rest piece behind : List ℕ) (n len : ℕ) → rest ++ piece ≡ ticks n ++ (to_be_bytes w32 len ++ behind) → 0 < len → len ≤ max_body → ¬ ComesTooLong rest piece
 length_not_too_long rest piece behind n len split some fits =
     not_too_long rest piece _ n split (tickless_length len behind some (omega (arith, fits))) (short_length len behind fits)
-
--- and where that length is above the limit, one comes
-pub length_too_long : (rest piece behind : List ℕ) (n len : ℕ) → rest ++ piece ≡ ticks n ++ (to_be_bytes w32 len ++ behind) → max_body < len → len < 2 ^ 32 → ComesTooLong rest piece
-length_too_long rest piece behind n len split above fits = record {
-  skipped = n;
-  bytes = to_be_bytes w32 len ++ behind;
-  behind = split;
-  begins = record { long = len; later = behind; above = above; fits = fits; begins = refl };
-}
 
 -- where a reader is fed, no length above the limit came before
 pub fed_not_too_long : (rest piece : List ℕ) (used : ℕ) (body : Option (List ℕ)) (new : List ℕ) → IsFed rest piece used body new → ¬ ComesTooLong rest piece

@@ -3,10 +3,10 @@ pub use Rattle.std.specs.Prelude.{All, List, [], length, ◌*◌, ◌∷◌, ◌
 pub use Rattle.std.proofs.Common.{Bool, Err, IsTrue, None, Ok, Option, Result, Some, ap, append-nil, append_assoc, arith, codes, cond, drop, false}
 pub use Rattle.std.proofs.Common.{filter, get_or, inl, inr, length-append, nat_le, nat_lt, refl, replicate, rules, subst, suc, sym, take, true, zero}
 pub use Rattle.std.proofs.Common.{ℕ, ◌&&◌, ◌++◌, ◌+◌, ◌-◌, ◌<◌, ◌==◌, ◌^◌, ◌↔◌, ◌∙◌, ◌≡◌, ◌≢◌}
-pub use Rattle.std.proofs.lemmas.Bool.{and_from, and_parts, cases_lt}
+pub use Rattle.std.proofs.lemmas.Bool.{and_from, and_parts}
 pub use Rattle.std.proofs.lemmas.Bool.Decides.{Decides-and, Decides-by_and, Decides-eqb}
 pub use Rattle.std.proofs.lemmas.Grind.{flat_map-append}
-pub use Rattle.std.proofs.lemmas.List.{append_cancel_left, drop_all, drop_at, flat_map_more, length-drop, length-take, length_push, nil_from_length}
+pub use Rattle.std.proofs.lemmas.List.{append_cancel_left, drop_all, drop_at, flat_map_more, length_push, nil_from_length}
 pub use Rattle.std.proofs.lemmas.List.{take-append-drop, take_all, take_at, take_more}
 pub use Rattle.std.proofs.lemmas.List.Elements.{All-append, All-cons, All-head, All-nil, All-push, All-replicate, All-same, All-tail, filter-append}
 pub use Rattle.std.proofs.lemmas.Nat.{from_be_bytes-to_be_bytes_2, from_be_bytes-to_be_bytes_4, from_be_bytes-to_be_bytes_8}
@@ -20,5 +20,5 @@ pub use Rattle.link_frames.specs.Reading.{are_rows, behind_name, behind_text, co
 pub use Rattle.link_frames.specs.Reading.{rows_in, text_in}
 unfoldable pub use Rattle.link_frames.specs.Reading.{message}
 pub use Rattle.link_frames.specs.Spelling.{AreRows, IsMessage, IsRow, SpellsMessage, message_bytes, row_bytes, rows_bytes, text_bytes}
-pub use Rattle.link_frames.specs.Stream.{AreFed, BeginsTooLong, ComesTooLong, EndsBody, EndsNone, IsFed, IsRest, SplitsLink, is_body, max_body, ticks}
+pub use Rattle.link_frames.specs.Stream.{AreFed, BeginsTooLong, ComesTooLong, IsFed, IsRest, SplitsLink, is_body, max_body, ticks}
 pub use Rattle.link_frames.specs.declared.message.Message.{Message}
