@@ -14,6 +14,7 @@ use crate::link::Link;
 use dist_types::{NodeName, OutOfMemory, TryClone};
 use link_frames::Message;
 use link_states::{Names, Pending};
+use policy_audit::OutFrame;
 use std::alloc::Global;
 
 /// The most links that are kept.
@@ -106,7 +107,8 @@ pub fn shown(alloc: Global, links: &[Link]) -> Result<Vec<u32>, OutOfMemory>
     Ok(numbers)
 }
 
-/// Prepares a message for the links of these numbers. Where memory is wanting, what was prepared before is dropped, too.
+/// Prepares a message for the links of these numbers, and spells it once. Where memory is wanting, what was prepared before is dropped,
+/// too.
 pub fn prepare(
     alloc: Global,
     links: &mut Vec<Link>,
@@ -117,12 +119,32 @@ pub fn prepare(
     ensures ok { OnOk result (map unroomed links.new.items ≡ map (λ x. unroomed (prepared_for numbers.now (wide message.now) x)) links.old.items) }
     ensures forgot { OnErr result (map unroomed links.new.items ≡ map (λ x. unroomed (with_prepared x [])) links.old.items) }
 {
+    if numbers.is_empty() {
+        return Ok(());
+    }
+    let Ok(frame) = frame_of(alloc, message) else {
+        forget(links);
+        return Err(OutOfMemory);
+    };
+    prepare_frame(alloc, links, numbers, &frame)
+}
+
+/// Prepares a copy of a frame for each of these links.
+fn prepare_frame(
+    alloc: Global,
+    links: &mut Vec<Link>,
+    numbers: &[u32],
+    frame: &OutFrame,
+) -> Result<(), OutOfMemory>
+    ensures ok { OnOk result (map unroomed links.new.items ≡ map (λ x. unroomed (prepared_for numbers.now frame.now x)) links.old.items) }
+    ensures forgot { OnErr result (map unroomed links.new.items ≡ map (λ x. unroomed (with_prepared x [])) links.old.items) }
+{
     for place in 0..links.len() {
         if !numbers.contains(&links[place].number()) {
             continue;
         }
-        let prepared = match frame_of(alloc, message) {
-            Ok(frame) => links[place].prepare(frame),
+        let prepared = match frame.try_clone(alloc) {
+            Ok(copy) => links[place].prepare(copy),
             Err(fault) => Err(fault),
         };
         if prepared.is_err() {
