@@ -82,12 +82,8 @@ impl Monitors {
         ensures refused { IfErr result (λ fault. IsUpdatesFault fault (monitor_of self.now seat number)) }
     {
         let monitor = self.find(seat, number)?;
-        let entries = audit.after(0).as_slice();
-        let updates = told_by(
-            *self.monitors.allocator(),
-            monitor,
-            &entries[monitor.place..],
-        )?;
+        let later = audit.after(monitor.place);
+        let updates = told_by(*self.monitors.allocator(), monitor, later)?;
         Ok(Updates::of(updates)?)
     }
 

@@ -7,16 +7,16 @@ ghost use Rattle.group_monitors.specs.Monitors.{target};
 
 use crate::monitor::Monitor;
 use dist_types::{Group, GroupChange, OutOfMemory, Pids, TryClone};
-use policy_audit::{Change, Entry, Update};
+use policy_audit::{Change, Later, Update};
 use std::alloc::Global;
 
 /// What the entries tell the monitor, in their order.
 pub fn told_by(
     alloc: Global,
     monitor: &Monitor,
-    entries: &[Entry],
+    entries: Later<'_>,
 ) -> Result<Vec<Update>, OutOfMemory>
-    ensures { IfOk result (λ updates. updates.items ≡ flat_map (λ e. updates_of (target monitor.now) e.change) entries.now) }
+    ensures { IfOk result (λ updates. updates.items ≡ flat_map (λ e. updates_of (target monitor.now) e.change) entries) }
 {
     let mut updates = Vec::new(alloc);
     for entry in entries {

@@ -5,15 +5,14 @@ ghost use Rattle.pg_session.specs.Notices.{TellsOthers, notice_line, up, down};
 use dist_types::{NodeName, OutOfMemory, TryClone};
 use node_core::NodeCore;
 use pg_text::{put_bytes, put_number, put_numbered_line, put_word};
-use policy_audit::{Entry, Reply, Verdict};
+use policy_audit::{Entry, Later, Reply, Verdict};
 use std::alloc::Global;
-use std::slice;
 
 /// How far a connection has been told: which life of the node, and how many of its entries.
 #[derive(Clone, Copy, Debug, PartialEq, Eq)]
 pub struct Seen {
     creation: u32,
-    entries: u32,
+    entries: usize,
 }
 
 impl Seen {
@@ -21,7 +20,7 @@ impl Seen {
     pub fn of(core: &NodeCore) -> Seen {
         Seen {
             creation: core.creation(),
-            entries: u32::try_from(core.audit().len()).unwrap_or(u32::MAX),
+            entries: core.audit().len(),
         }
     }
 }
@@ -83,7 +82,7 @@ impl News {
     }
 
     /// The entries that it hasn't been told of.
-    pub fn unseen<'a>(&self, core: &'a NodeCore) -> slice::Iter<'a, Entry> {
+    pub fn unseen<'a>(&self, core: &'a NodeCore) -> Later<'a> {
         core.audit().after(self.seen.entries)
     }
 
@@ -109,7 +108,7 @@ impl News {
 fn put_coming(
     peers: &mut Vec<NodeName>,
     alloc: Global,
-    entries: slice::Iter<'_, Entry>,
+    entries: Later<'_>,
     out: &mut Vec<u8>,
 ) -> Result<(), OutOfMemory>
     ensures { OnOk result (TellsOthers out.old.items out.new.items) }

@@ -21,11 +21,10 @@ use dist_types::{OutOfMemory, Pid, TryClone};
 use node_core::NodeCore;
 use node_threads::Node;
 use pg_text::{LineFault, is_quiet, moved_pids, put_word};
-use policy_audit::{Entry, Event};
+use policy_audit::{Event, Later};
 use std::alloc::Global;
 use std::marker::Model;
 use std::mem::replace;
-use std::slice;
 use std::sync::Wait;
 
 /// How often a call is tried that ends what a connection had.
@@ -268,7 +267,7 @@ impl Session {
 }
 
 /// Notes which monitors have something to tell of these entries.
-fn note_all(watches: &mut Vec<Watch>, entries: slice::Iter<'_, Entry>) {
+fn note_all(watches: &mut Vec<Watch>, entries: Later<'_>) {
     for entry in entries {
         for watch in watches.iter_mut() {
             watch.note(entry);

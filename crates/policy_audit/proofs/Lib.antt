@@ -1,4 +1,5 @@
 pub mod Words
+pub mod InPages
 pub mod Lines
 mod Played
 pub mod Accepted

@@ -2,6 +2,7 @@ pub mod Rules
 pub mod OutFrame
 pub mod Wire
 pub mod Log
+pub mod Pages
 pub mod History
 pub mod Admission
 pub mod Own

@@ -1,8 +1,6 @@
 //! The list of all entries of a node.
 ghost use Rattle.std.specs.Prelude.{◌≡◌, ◌+◌, ◌<◌, ◌≤◌, ◌^◌, List, [], ◌∷◌, true, false, OnOk, OnErr, IfErr, length};
 ghost use Rattle.std.specs.Option.{option_copied};
-ghost use Rattle.std.specs.Iterator.Adapters.{IterYieldsInOrder};
-ghost use Rattle.std.specs.Slice.Iter.{iter_rest};
 ghost use Rattle.policy_audit.specs.declared.entry.Entry.{Entry};
 ghost use Rattle.policy_audit.specs.declared.audit.AuditFault.TheVariants as faults;
 ghost use Rattle.policy_audit.specs.Log.{Log, entry_at, later_than, IsAuditFault};
@@ -10,9 +8,10 @@ ghost use Rattle.policy_audit.specs.Log.{Log, entry_at, later_than, IsAuditFault
 use crate::change::Changes;
 use crate::entry::{Entry, Verdict};
 use crate::event::Event;
-use std::alloc::{AllocError, AllocFailed, Global};
+use crate::later::Later;
+use crate::page::{PAGE_SIZE, Page, push_last};
+use std::alloc::{AllocError, Global};
 use std::marker::Model;
-use std::slice;
 use thiserror::Error;
 
 /// Why the audit takes no further entry.
@@ -28,22 +27,22 @@ pub enum AuditFault {
 #[derive(Debug, Drop)]
 pub struct Audit {
     limit: u32,
-    entries: Vec<Entry>,
+    /// How many entries there are.
+    count: u32,
+    /// All but the last are full.
+    pages: Vec<Page>,
 }
 
 impl Model for Audit {
-    ghost use Rattle.std.specs.Prelude.{reverse, length, nat_lt, vec_len, vec_capacity, ◌≤◌};
+    ghost use Rattle.std.specs.Prelude.{◌≡◌, ◌≤◌, ◌<◌, ◌^◌, length};
     ghost use Rattle.policy_audit.specs.Log.{Log};
+    ghost use Rattle.policy_audit.specs.Pages.{IsPaged, entries_in, log_of};
 
     ghost Value = { Log };
 
-    ghost view = { λ audit. record {
-      limit = audit.limit;
-      entries = reverse audit.entries.items;
-      has_room = nat_lt (vec_len audit.entries) (vec_capacity audit.entries);
-    } };
+    ghost view = { λ audit. log_of audit.limit audit.pages.items };
 
-    ghost invariant = { λ audit. length (reverse audit.entries.items) ≤ audit.limit };
+    ghost invariant = { λ audit. IsPaged audit.pages.items × (length (entries_in audit.pages.items) ≡ audit.count) × (audit.count ≤ audit.limit) × (audit.limit < 2 ^ 32) };
 }
 
 impl Audit {
@@ -54,14 +53,15 @@ impl Audit {
     {
         Audit {
             limit,
-            entries: Vec::new(alloc),
+            count: 0,
+            pages: Vec::new(alloc),
         }
     }
 
     pub fn len(&self) -> usize
         ensures { result ≡ length self.now.entries }
     {
-        self.entries.len()
+        self.count as usize
     }
 
     /// Makes room for one more entry.
@@ -73,7 +73,11 @@ impl Audit {
         if self.is_full() {
             return Err(AuditFault::EntriesFull);
         }
-        self.entries.reserve(1)?;
+        if !self.has_room() {
+            self.pages.reserve(1)?;
+            let page = Page::new(*self.pages.allocator())?;
+            self.pages.push_reserved(page);
+        }
         Ok(())
     }
 
@@ -91,7 +95,7 @@ impl Audit {
         ensures same { OnErr result (self.new ≡ self.old) }
     {
         let entry = Entry {
-            number: (self.entries.len() as u32).wrapping_add(1),
+            number: self.count.wrapping_add(1),
             seat,
             event,
             verdict,
@@ -102,7 +106,8 @@ impl Audit {
             drop(entry);
             return Err(fault);
         }
-        self.entries.push_reserved(entry);
+        push_last(&mut self.pages, entry);
+        self.count += 1;
         Ok(())
     }
 
@@ -110,25 +115,31 @@ impl Audit {
     pub fn get(&self, number: u32) -> Option<&Entry>
         ensures { option_copied result ≡ entry_at number self.now.entries }
     {
-        let place = number.checked_sub(1)?;
-        self.entries.get(place as usize)
+        let place = number.checked_sub(1)? as usize;
+        let page = self.pages.as_slice().get(place / PAGE_SIZE)?;
+        page.as_slice().get(place % PAGE_SIZE)
     }
 
     /// The entries behind that number, in their order.
-    pub fn after(&self, number: u32) -> slice::Iter<'_, Entry>
-        ensures rest { iter_rest result ≡ later_than number self.now.entries }
-        ensures bound { length (iter_rest result) < 2 ^ 64 }
-        ensures runs { IterYieldsInOrder Entry }
+    pub fn after(&self, number: usize) -> Later<'_>
+        ensures rest { result ≡ later_than number self.now.entries }
+        ensures bound { length result < 2 ^ 64 }
     {
-        let later = self.entries.get(number as usize..).unwrap_or(&[]);
-        later.iter()
+        Later::new(self.pages.as_slice(), number)
     }
 
     fn is_full(&self) -> bool
         ensures full { result ≡ true → self.now.limit ≤ length self.now.entries }
         ensures room { result ≡ false → length self.now.entries < self.now.limit }
     {
-        self.entries.len() >= self.limit as usize
+        self.count >= self.limit
+    }
+
+    /// Whether the last page has room for one more entry.
+    fn has_room(&self) -> bool
+        ensures { result ≡ self.now.has_room }
+    {
+        self.len() / PAGE_SIZE < self.pages.len()
     }
 }
 

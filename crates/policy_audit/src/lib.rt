@@ -5,9 +5,11 @@ mod audit;
 mod change;
 mod entry;
 mod event;
+mod later;
 mod laws;
 mod opening;
 mod out_frame;
+mod page;
 mod reply;
 mod rule;
 
@@ -15,6 +17,7 @@ pub use audit::{Audit, AuditFault};
 pub use change::{Change, Changes};
 pub use entry::{Entry, Verdict};
 pub use event::{Event, NodeNames};
+pub use later::Later;
 pub use laws::{
     admitted, equal_values, goes_on, left_alone, lists_ascend, one_link_up, own_counts,
     refusal_leaves, rows_after, rows_after_messages, up_by_events,

@@ -1,6 +1,5 @@
 use Rattle.std.proofs.Common.{◌≡◌, ◌↔◌, map}
 use Rattle.std.specs.List.{filter}
-use Rattle.std.specs.Slice.Iter.{iter_rest}
 use Rattle.node_threads.specs.Calls.{of, call_of, calls_of}
 use Rattle.node_threads.proofs.close.is_own.Given as goal
 
@@ -9,4 +8,4 @@ abbrev pub invariant-loop-entry : goal.invariant-loop-entry
 invariant-loop-entry l =
     (goal.iterator-loop-entry).can_next l.entry-iterator
     × (goal.iterator-loop-entry).is_finite l.entry-iterator
-    × ((l.calls ≡ calls_of l.seat l.audit.entries) ↔ (l.rest ≡ map call_of (filter (of l.seat) (iter_rest l.entry-iterator))))
+    × ((l.calls ≡ calls_of l.seat l.audit.entries) ↔ (l.rest ≡ map call_of (filter (of l.seat) l.entry-iterator)))

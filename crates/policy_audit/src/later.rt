@@ -1,0 +1,72 @@
+//! Going over the entries of an audit.
+ghost use Rattle.std.specs.Prelude.{◌≡◌, drop};
+ghost use Rattle.std.specs.Iterator.{YieldsFirstRef, item_count};
+ghost use Rattle.policy_audit.specs.Pages.{entries_in, IsPaged};
+
+use crate::entry::Entry;
+use crate::page::{PAGE_SIZE, Page};
+use std::marker::Model;
+
+/// Entries of an audit in their order, up to its end. Contracts see it as the list of those that are left.
+#[derive(Debug, Drop)]
+pub struct Later<'a> {
+    /// What is left of the page that it has reached.
+    page: &'a [Entry],
+    /// Those behind that page.
+    pages: &'a [Page],
+}
+
+impl<'a> Model for Later<'a> {
+    ghost use Rattle.std.specs.Prelude.{List, ◌++◌};
+    ghost use Rattle.policy_audit.specs.declared.entry.Entry.{Entry};
+    ghost use Rattle.policy_audit.specs.Pages.{entries_in};
+
+    ghost Value = { List Entry };
+
+    ghost view = { λ later. later.page.now ++ entries_in later.pages.now };
+}
+
+impl<'a> Later<'a> {
+    /// The entries behind the first of these pages, as many as the number says.
+    pub(crate) fn new(pages: &'a [Page], number: usize) -> Later<'a>
+        requires { IsPaged pages.now }
+        ensures { result ≡ drop number (entries_in pages.now) }
+    {
+        match behind(pages, number / PAGE_SIZE).split_first() {
+            Some((page, pages)) => Later {
+                page: behind(page.as_slice(), number % PAGE_SIZE),
+                pages,
+            },
+            None => Later {
+                page: &[],
+                pages: &[],
+            },
+        }
+    }
+}
+
+/// The items behind the first, as many as the number says.
+fn behind<T>(items: &[T], number: usize) -> &[T]
+    ensures { result.now ≡ drop number items.now }
+{
+    items.get(number..).unwrap_or(&[])
+}
+
+impl<'a> Iterator for Later<'a> {
+    type Item = &'a Entry;
+
+    ghost next_gives = { YieldsFirstRef (λ later. later) };
+
+    ghost remaining = { item_count (λ later. later) };
+
+    fn next(&mut self) -> Option<&'a Entry> {
+        while self.page.is_empty() {
+            let (page, pages) = self.pages.split_first()?;
+            self.page = page.as_slice();
+            self.pages = pages;
+        }
+        let (entry, page) = self.page.split_first()?;
+        self.page = page;
+        Some(entry)
+    }
+}
