@@ -16,7 +16,7 @@ pub fn told_by(
     monitor: &Monitor,
     entries: Later<'_>,
 ) -> Result<Vec<Update>, OutOfMemory>
-    ensures { IfOk result (λ updates. updates.items ≡ flat_map (λ e. updates_of (target monitor.now) e.change) entries) }
+    ensures { IfOk result (λ updates. updates.items ≡ flat_map (λ e. updates_of (target monitor.now) e.change) entries.entry) }
 {
     let mut updates = Vec::new(alloc);
     for entry in entries {

@@ -198,6 +198,64 @@ fn counts_both(alloc: Global, audit: &mut Audit) -> Result<(), Fail> {
     )
 }
 
+#[test]
+fn goes_on_past_the_end_of_a_page(rt: HostRuntime) -> Result<(), Fail> {
+    let mut audit = Audit::new(rt.alloc(), 600);
+    let went_on = goes_on(rt.alloc(), &mut audit);
+    drop(audit);
+    went_on
+}
+
+fn goes_on(alloc: Global, audit: &mut Audit) -> Result<(), Fail> {
+    enter_many(alloc, audit, 256)?;
+    expect("a whole page", audit.len() == 256)?;
+    expect("the last of a page", found(audit, 256) == Some((256, 256)))?;
+    expect("none on the next page", found(audit, 257).is_none())?;
+    expect("no later one yet", audit.after(256).count() == 0)?;
+    enter_many(alloc, audit, 257)?;
+    expect("two pages and one", audit.len() == 513)?;
+    finds_at_borders(audit)?;
+    goes_over_borders(audit)
+}
+
+/// Enters so many refusals, each of a seat with the entry's number.
+fn enter_many(alloc: Global, audit: &mut Audit, count: u32) -> Result<(), Fail> {
+    for _ in 0..count {
+        let seat = u32::try_from(audit.len()).unwrap_or(0).wrapping_add(1);
+        enter(alloc, audit, seat)?;
+    }
+    Ok(())
+}
+
+fn finds_at_borders(audit: &Audit) -> Result<(), Fail> {
+    for number in [1, 255, 256, 257, 258, 511, 512, 513] {
+        expect(
+            "the entry of that number",
+            found(audit, number) == Some((number, number)),
+        )?;
+    }
+    expect("none behind the last", found(audit, 514).is_none())
+}
+
+fn goes_over_borders(audit: &Audit) -> Result<(), Fail> {
+    for number in [0, 1, 255, 256, 257, 511, 512, 513, 514, 1024] {
+        expect("those behind it", lists_behind(audit, number))?;
+    }
+    Ok(())
+}
+
+/// Whether the entries behind that number are the later ones, each once and in their order.
+fn lists_behind(audit: &Audit, number: usize) -> bool {
+    let mut next = number;
+    for entry in audit.after(number) {
+        next = next.wrapping_add(1);
+        if usize::try_from(entry.number) != Ok(next) {
+            return false;
+        }
+    }
+    next == audit.len().max(number)
+}
+
 /// One process of a@h.
 fn process(alloc: Global) -> Result<Pids, Fail> {
     let node = NodeName::parse(alloc, b"a@h")?;
