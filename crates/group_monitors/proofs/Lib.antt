@@ -1,4 +1,5 @@
 pub mod Words
+pub mod Unchanged
 pub mod Fetched
 pub mod FetchedAll
 pub mod Found

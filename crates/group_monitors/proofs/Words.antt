@@ -30,7 +30,7 @@ pub use Rattle.indexmap.proofs.CallerLemmas.{filter-RetainsPairs, insert_entry-n
 pub use Rattle.policy_audit.specs.Contents.{contents, groups, members}
 pub use Rattle.policy_audit.specs.History.{History, Moment, is_accepted, is_restart, past, present}
 pub use Rattle.policy_audit.specs.Listed.{listed}
-pub use Rattle.policy_audit.specs.Log.{entry_at, later_than}
+pub use Rattle.policy_audit.specs.Log.{changes_rows, entry_at, later_than}
 pub use Rattle.policy_audit.specs.Monitors.{Target, group_updates, is_fetch, is_watched, monitor, monitor_after, monitor_in, updates, updates_of}
 pub use Rattle.policy_audit.specs.Monitors.{updates_since, watched}
 pub use Rattle.policy_audit.specs.Policy.{IsLegal, IsLegalIn, IsNext, answer, next_number, with_entry}

@@ -19,7 +19,7 @@ pub fn told_by(
     ensures { IfOk result (λ updates. updates.items ≡ flat_map (λ e. updates_of (target monitor.now) e.change) entries.entry) }
 {
     let mut updates = Vec::new(alloc);
-    for entry in entries {
+    for entry in entries.changing() {
         tell_changes(alloc, &mut updates, monitor, entry.change.as_slice())?;
     }
     Ok(updates)

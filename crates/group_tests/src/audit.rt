@@ -256,6 +256,31 @@ fn lists_behind(audit: &Audit, number: usize) -> bool {
     next == audit.len().max(number)
 }
 
+#[test]
+fn finds_changes_behind_pages_without_one(rt: HostRuntime) -> Result<(), Fail> {
+    let mut audit = Audit::new(rt.alloc(), 600);
+    let found = finds_one_change(rt.alloc(), &mut audit);
+    drop(audit);
+    found
+}
+
+fn finds_one_change(alloc: Global, audit: &mut Audit) -> Result<(), Fail> {
+    enter_many(alloc, audit, 300)?;
+    expect("no change yet", audit.after(0).changing().count() == 0)?;
+    enter_change(alloc, audit)?;
+    enter_many(alloc, audit, 250)?;
+    expect("the change", audit.after(0).changing().count() == 1)?;
+    expect("behind its page", audit.after(300).changing().count() == 1)?;
+    expect("not behind it", audit.after(301).changing().count() == 0)
+}
+
+/// Enters a refusal, as if it had changed rows.
+fn enter_change(alloc: Global, audit: &mut Audit) -> Result<(), Fail> {
+    let changed = Items::of(Vec::from_array(alloc, [change(alloc)?])?);
+    let refused = Verdict::Refused(Rule::PidsFull);
+    Ok(audit.push(7, Event::Spawn, refused, changed)?)
+}
+
 /// One process of a@h.
 fn process(alloc: Global) -> Result<Pids, Fail> {
     let node = NodeName::parse(alloc, b"a@h")?;

@@ -1,10 +1,12 @@
 -- Where the entries of pages stand.
-use Rattle.std.proofs.Common.{◌≡◌, refl, arith, ℕ, zero, suc, ◌+◌, ◌*◌, ◌<◌, ◌≤◌, List, reverse, true, [], ◌∷◌, ◌++◌, length, get_or, set, drop, ◌/◌, ◌%◌, None}
+use Rattle.std.proofs.Common.{◌≡◌, refl, arith, ℕ, zero, suc, ◌+◌, ◌*◌, ◌<◌, ◌≤◌, List, reverse, true, false, [], ◌∷◌, ◌++◌, length, get_or, set, drop, ◌/◌, ◌%◌, None}
 use Rattle.std.proofs.lemmas.Grind.{common_steps}
 use Rattle.std.proofs.lemmas.Option.{slice_get_past}
 use Rattle.std.proofs.lemmas.List.{length-append, length-set, append-nil, drop-append-le, drop_all}
+use Rattle.std.proofs.lemmas.List.Elements.{filter-append}
 use Rattle.std.proofs.Math.Seq.{drop-append-add}
-use Rattle.std.specs.List.{slice_get}
+use Rattle.std.specs.List.{slice_get, list_any, filter}
+use Rattle.policy_audit.specs.Log.{changes_rows}
 use Rattle.policy_audit.specs.declared.entry.Entry.{Entry}
 use Rattle.policy_audit.specs.Pages.{page_size, entries_in, log_of, IsPaged}
 
@@ -113,3 +115,14 @@ new_page (page ∷ next ∷ later) paged full =
 pub with_page : (limit : ℕ) (pages : List (List Entry)) → IsPaged pages
     → log_of limit (pages ++ [] ∷ []) ≡ record { limit = limit; entries = reverse (entries_in pages); has_room = true }
 with_page limit pages paged = grind (arith, common_steps, at_most pages paged)
+
+-- ---- changes
+
+-- of entries that changed no rows none is left
+unchanged : (es : List Entry) → list_any changes_rows es ≡ false → filter changes_rows es ≡ []
+unchanged [] none = refl
+unchanged (e ∷ es) none = grind (arith, unchanged es)
+
+-- so a page of these has no part in what is left
+pub skipped : (page : List Entry) (later : List (List Entry)) → list_any changes_rows page ≡ false → filter changes_rows (entries_in (page ∷ later)) ≡ filter changes_rows (entries_in later)
+skipped page later none = grind (arith, filter-append changes_rows page (entries_in later), unchanged page)

@@ -1,5 +1,6 @@
 -- The audit as contracts see it, and why it takes no further entry.
-use Rattle.std.specs.Prelude.{◌≡◌, ℕ, ◌-◌, ◌≤◌, ◌<◌, ◌==◌, Bool, false, cond, List, reverse, length, Option, None, slice_get, drop}
+use Rattle.std.specs.Prelude.{◌≡◌, ℕ, ◌-◌, ◌≤◌, ◌<◌, ◌==◌, Bool, false, cond, List, reverse, length, Option, None, not, slice_get, drop}
+use Rattle.dist_types.specs.Difference.{is_empty}
 use Rattle.policy_audit.specs.declared.entry.Entry.{Entry}
 use Rattle.policy_audit.specs.declared.audit.AuditFault.{AuditFault}
 use Rattle.policy_audit.specs.declared.audit.AuditFault.TheVariants as faults
@@ -17,6 +18,10 @@ entry_at number entries = cond (number == 0) None (slice_get (reverse entries) (
 -- the entries behind that number, the oldest first
 abbrev pub later_than : ℕ → List Entry → List Entry
 later_than number entries = drop number (reverse entries)
+
+-- the entry changed rows
+abbrev pub changes_rows : Entry → Bool
+changes_rows e = not (is_empty e.change)
 
 -- why no entry is taken. Want of memory comes last, and not where there is room.
 abbrev pub IsAuditFault : AuditFault → Log → Type 0

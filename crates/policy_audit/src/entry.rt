@@ -1,4 +1,7 @@
 //! What the audit keeps of an event.
+ghost use Rattle.std.specs.Prelude.{◌≡◌};
+ghost use Rattle.policy_audit.specs.Log.{changes_rows};
+
 use crate::change::Changes;
 use crate::event::Event;
 use crate::reply::Reply;
@@ -34,4 +37,12 @@ pub struct Entry {
     pub verdict: Verdict,
     /// What the entry changed in all listings.
     pub change: Changes,
+}
+
+impl Entry {
+    pub fn has_changes(&self) -> bool
+        ensures { result ≡ changes_rows self.now }
+    {
+        !self.change.as_slice().is_empty()
+    }
 }

@@ -1,8 +1,11 @@
 //! Going over the entries of an audit.
-ghost use Rattle.std.specs.Prelude.{◌≡◌, drop};
+ghost use Rattle.std.specs.Prelude.{◌≡◌, ◌≤◌, drop, length};
+ghost use Rattle.std.specs.List.{filter};
 ghost use Rattle.std.specs.Iterator.{YieldsFirstRef, item_count};
+ghost use Rattle.policy_audit.specs.Log.{changes_rows};
 ghost use Rattle.policy_audit.specs.Pages.{entries_in, IsPaged};
 
+use crate::changing::Changing;
 use crate::entry::Entry;
 use crate::page::{PAGE_SIZE, Page};
 use std::marker::Model;
@@ -43,13 +46,29 @@ impl<'a> Later<'a> {
             },
         }
     }
-}
 
-/// The items behind the first, as many as the number says.
-fn behind<T>(items: &[T], number: usize) -> &[T]
-    ensures { result.now ≡ drop number items.now }
-{
-    items.get(number..).unwrap_or(&[])
+    /// Only those that changed rows. It passes over whole pages without one.
+    pub fn changing(self) -> Changing<'a>
+        ensures { result ≡ filter changes_rows self.entry }
+    {
+        Changing::new(self)
+    }
+
+    /// Passes over whole pages in which no entry changed rows.
+    pub(crate) fn skip_unchanged(&mut self)
+        ensures rows { filter changes_rows self.new ≡ filter changes_rows self.old }
+        ensures bound { length self.new ≤ length self.old }
+    {
+        if !self.page.is_empty() {
+            return;
+        }
+        while let Some((page, pages)) = self.pages.split_first() {
+            if page.has_changes() {
+                return;
+            }
+            self.pages = pages;
+        }
+    }
 }
 
 impl<'a> Iterator for Later<'a> {
@@ -69,4 +88,11 @@ impl<'a> Iterator for Later<'a> {
         self.page = page;
         Some(entry)
     }
+}
+
+/// The items behind the first, as many as the number says.
+fn behind<T>(items: &[T], number: usize) -> &[T]
+    ensures { result.now ≡ drop number items.now }
+{
+    items.get(number..).unwrap_or(&[])
 }

@@ -3,6 +3,7 @@
 
 mod audit;
 mod change;
+mod changing;
 mod entry;
 mod event;
 mod later;
@@ -15,6 +16,7 @@ mod rule;
 
 pub use audit::{Audit, AuditFault};
 pub use change::{Change, Changes};
+pub use changing::Changing;
 pub use entry::{Entry, Verdict};
 pub use event::{Event, NodeNames};
 pub use later::Later;

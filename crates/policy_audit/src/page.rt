@@ -1,5 +1,7 @@
 //! A page of an audit.
 ghost use Rattle.std.specs.Prelude.{◌≡◌, ◌*◌, ◌<◌, ◌∷◌, ◌++◌, [], length, IfOk};
+ghost use Rattle.std.specs.List.{list_any};
+ghost use Rattle.policy_audit.specs.Log.{changes_rows};
 ghost use Rattle.policy_audit.specs.Pages.{page_size, entries_in, IsPaged};
 
 use crate::entry::Entry;
@@ -13,18 +15,22 @@ pub const PAGE_SIZE: usize = 256;
 #[derive(Debug, Drop)]
 pub struct Page {
     entries: Vec<Entry>,
+    /// Whether one of them changed rows.
+    changed: bool,
 }
 
 impl Model for Page {
-    ghost use Rattle.std.specs.Prelude.{List, ◌≤◌, vec_capacity};
+    ghost use Rattle.std.specs.Prelude.{List, ◌≡◌, ◌≤◌, vec_capacity};
+    ghost use Rattle.std.specs.List.{list_any};
     ghost use Rattle.policy_audit.specs.declared.entry.Entry.{Entry};
+    ghost use Rattle.policy_audit.specs.Log.{changes_rows};
     ghost use Rattle.policy_audit.specs.Pages.{page_size};
 
     ghost Value = { List Entry };
 
     ghost view = { λ page. page.entries.items };
 
-    ghost invariant = { λ page. page_size ≤ vec_capacity page.entries };
+    ghost invariant = { λ page. (page_size ≤ vec_capacity page.entries) × (page.changed ≡ list_any changes_rows page.entries.items) };
 }
 
 impl Page {
@@ -32,7 +38,10 @@ impl Page {
         ensures { IfOk result (λ page. page ≡ []) }
     {
         let entries = Vec::with_capacity(alloc, PAGE_SIZE)?;
-        Ok(Page { entries })
+        Ok(Page {
+            entries,
+            changed: false,
+        })
     }
 
     pub fn as_slice(&self) -> &[Entry]
@@ -41,11 +50,19 @@ impl Page {
         self.entries.as_slice()
     }
 
+    /// Whether one of its entries changed rows.
+    pub fn has_changes(&self) -> bool
+        ensures { result ≡ list_any changes_rows self.now }
+    {
+        self.changed
+    }
+
     /// Appends an entry. It takes no memory.
     pub fn push(&mut self, entry: Entry)
         requires { length self.old < page_size }
         ensures { self.new ≡ self.old ++ entry ∷ [] }
     {
+        self.changed = self.changed || entry.has_changes();
         self.entries.push_reserved(entry);
     }
 }
