@@ -10,3 +10,6 @@ pub mod Between
 pub mod Members
 pub mod Lower
 pub mod RowEdits
+pub mod NodeLists
+pub mod GroupNodes
+pub mod Indexed

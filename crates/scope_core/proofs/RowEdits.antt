@@ -127,7 +127,7 @@ pub taken_total : (g node : List ℕ) (q : Pid) (b : Bool) (old new : List Count
 taken_total g node q true old new t = grind arith
 taken_total g node q false old new t = grind arith
 
-tally_append : (test : Row → Bool) (xs ys : List Counted) → tally test (xs ++ ys) ≡ tally test xs + tally test ys
+pub tally_append : (test : Row → Bool) (xs ys : List Counted) → tally test (xs ++ ys) ≡ tally test xs + tally test ys
 tally_append test xs ys = grind (arith, total_is, sum_by-append)
 
 -- what is taken from the end of a list, and what stays

@@ -104,7 +104,7 @@ fn take_each(rows: &mut Vec<Counted>, group: &Group, pids: &[Pid], node: &NodeNa
 }
 
 /// Takes one away, if the process is in the group. Answers whether it is.
-fn take(rows: &mut Vec<Counted>, group: &Group, pid: &Pid) -> bool
+pub fn take(rows: &mut Vec<Counted>, group: &Group, pid: &Pid) -> bool
     requires { IsKept rows.old.items }
     ensures taken { Takes result (row_in group.now pid.now) rows.old.items rows.new.items }
     ensures kept { IsKept rows.new.items }

@@ -1,0 +1,308 @@
+-- The nodes of each group, and the rows.
+use Rattle.scope_core.proofs.Words.{◌≡◌, ℕ, ◌≤◌, ◌<◌, ◌&&◌, ◌||◌, ◌+◌, Bool, true, false, cond, not, nat_lt, List, [], ◌∷◌, ◌++◌, refl, sym, ap, ◌∙◌, arith}
+use Rattle.scope_core.proofs.Words.{filter, list_any, length, same, same_decides, GroupChange, Joins, Adds, how_many, Result, take, get_or, take_more, zero, suc, Row, Counted, tally}
+use Rattle.scope_core.proofs.Words.{AllByRecursion, is_in, is_of_node, ◌==◌}
+use Rattle.scope_core.proofs.NodeLists.{node_tally}
+use Rattle.scope_core.specs.NodeLists.{of_node, IsNodeList}
+use Rattle.scope_core.specs.Indexed.{is_there, has_members, is_named, Covers, is_row_of, has_others}
+use Rattle.scope_core.proofs.Words.{OnOk, Ok, Err, Pid, same_pid, same_pid_decides, list_all, mentions, how_many_append, is_row, total, IsDifference}
+use Rattle.std.specs.Result.{is_err, OnErr}
+use Rattle.scope_core.proofs.Words.{without_node, All, all_from, subst, ◌≤◌}
+use Rattle.scope_core.proofs.Rising.{tally_none, tally_all, tally-filter_le}
+
+named_append : (g : List ℕ) (xs ys : List GroupChange) → is_named g (xs ++ ys) ≡ (is_named g xs || is_named g ys)
+named_append g [] ys = refl
+named_append g (x ∷ xs) ys = grind (arith, named_append g xs ys)
+
+pub named_more : (g : List ℕ) (cs : List GroupChange) (i : ℕ) (x : GroupChange) → i < length cs → x ≡ get_or cs i x → is_named g (take (i + 1) cs) ≡ (is_named g (take i cs) || same x.group g)
+named_more g cs i x l e = simp (take_more cs i x l, ← e) (named_append g (take i cs) (x ∷ []) ∙ by)
+  where
+    by : (is_named g (take i cs) || is_named g (x ∷ [])) ≡ (is_named g (take i cs) || same x.group g)
+    by = grind arith
+
+pub named_part : (g : List ℕ) (i : ℕ) (cs : List GroupChange) → is_named g (take i cs) ≡ true → is_named g cs ≡ true
+named_part g zero cs e = grind arith
+named_part g (suc i) [] e = e
+named_part g (suc i) (x ∷ cs) e = grind (arith, named_part g i cs)
+
+-- no row of the group stands in a list of the node's rows
+none_there : (g n : List ℕ) (rows : List Counted) → AllByRecursion (λ c. c.row.pid.node ≡ n) rows → AllByRecursion (λ c. 0 < c.count) rows → (length (filter (is_in g) rows) ≡ 0 → tally (is_there g n) rows ≡ 0) × (tally (is_there g n) rows ≡ 0 → length (filter (is_in g) rows) ≡ 0)
+none_there g n [] own some = ((λ e. refl), (λ e. refl))
+none_there g n (c ∷ cs) own some =
+    let rest = none_there g n cs own.1 some.1 in
+    ((λ e. grind (arith, rest.0, same_decides c.row.pid.node n)), (λ e. grind (arith, rest.1, same_decides c.row.pid.node n)))
+
+there_of_node : (g n : List ℕ) (r : Row) → is_of_node n r ≡ false → is_there g n r ≡ false
+there_of_node g n r e = grind arith
+
+-- so the node has no process in it
+pub empty_is : (g n : List ℕ) (rows list : List Counted) (len : ℕ) → list ≡ of_node n rows → IsNodeList n list → len ≡ length (filter (is_in g) list) → (len ≡ 0 → has_members g n rows ≡ false) × (has_members g n rows ≡ false → len ≡ 0)
+empty_is g n rows list len is node at =
+    let all = node_tally n (is_there g n) (there_of_node g n) rows ∙ ap (tally (is_there g n)) (sym is) in
+    let none = none_there g n list node.own node.kept.counted in
+    ((λ e. grind (arith, all, none.0 (sym at ∙ e))), (λ e. let z : tally (is_there g n) rows ≡ 0 = grind arith in at ∙ none.1 (sym all ∙ z)))
+
+module _ (group node : List ℕ) (rows : List Counted) (was now : List ℕ → List ℕ → ℕ) where
+  pub settled_take : has_members group node rows ≡ false → ((g n : List ℕ) → now g n ≡ cond (same group g && same node n) 0 (was g n)) → (g n : List ℕ) → now g n ≡ cond ((same group g && same node n) && not (has_members g n rows)) 0 (was g n)
+  settled_take none took g n = grind (arith, same_decides group g, same_decides node n, none, took g n)
+
+  pub settled_keep : has_members group node rows ≡ true → (g n : List ℕ) → was g n ≡ cond ((same group g && same node n) && not (has_members g n rows)) 0 (was g n)
+  settled_keep some g n = grind (arith, same_decides group g, same_decides node n, some)
+
+pub empty_at : (len : ℕ) → (len == 0) ≡ true → len ≡ 0
+empty_at len e = grind arith
+
+pub not_empty_at : (len : ℕ) (h : Bool) → (len == 0) ≡ false → (h ≡ false → len ≡ 0) → h ≡ true
+not_empty_at len true e f = refl
+not_empty_at len false e f = grind (arith, f refl)
+
+module _ (changes : List GroupChange) (i : ℕ) (x : GroupChange) (l : i < length changes) (at : x ≡ get_or changes i x) (node : List ℕ) where
+  -- one group more
+  pub put_more : (first old new : List ℕ → List ℕ → ℕ) → ((g n : List ℕ) → old g n ≡ cond (same node n && is_named g (take i changes)) 1 (first g n)) → ((g n : List ℕ) → new g n ≡ cond (same x.group g && same node n) 1 (old g n))
+      → (g n : List ℕ) → new g n ≡ cond (same node n && is_named g (take (i + 1) changes)) 1 (first g n)
+  put_more first old new so_far put g n = grind (arith, so_far g n, put g n, named_more g changes i x l at)
+
+  pub settle_more : (rows : List Counted) (first old new : List ℕ → List ℕ → ℕ) → ((g n : List ℕ) → old g n ≡ cond ((is_named g (take i changes) && same node n) && not (has_members g n rows)) 0 (first g n))
+      → ((g n : List ℕ) → new g n ≡ cond ((same x.group g && same node n) && not (has_members g n rows)) 0 (old g n))
+      → (g n : List ℕ) → new g n ≡ cond ((is_named g (take (i + 1) changes) && same node n) && not (has_members g n rows)) 0 (first g n)
+  settle_more rows first old new so_far settled g n = grind (arith, so_far g n, settled g n, named_more g changes i x l at)
+
+-- where a growth is refused, some of them are put in
+pub put_some : (changes : List GroupChange) (i : ℕ) (node : List ℕ) (first old new : List ℕ → List ℕ → ℕ) → ((g n : List ℕ) → old g n ≡ cond (same node n && is_named g (take i changes)) 1 (first g n)) → ((g n : List ℕ) → new g n ≡ old g n)
+    → (g n : List ℕ) → (b : Bool) × (new g n ≡ cond (b && (same node n && is_named g changes)) 1 (first g n))
+put_some changes i node first old new so_far same_still g n = (is_named g (take i changes), grind (arith, so_far g n, same_still g n, named_part g i changes))
+
+pub err_is : {T E P : Type 0} (r : Result T E) → is_err r ≡ true → OnErr r P → P
+err_is (Ok x) e p = grind arith
+err_is (Err x) e p = p
+
+pub err_not : {T E P : Type 0} (r : Result T E) → is_err r ≡ false → OnOk r P → P
+err_not (Ok x) e p = p
+err_not (Err x) e p = grind arith
+
+module _ (changes : List GroupChange) (node : List ℕ) where
+  -- what of them was put in is settled again
+  pub unsettled : (rows : List Counted) (old mid new : List ℕ → List ℕ → ℕ) → ((g n : List ℕ) → old g n ≡ cond (has_members g n rows) 1 0)
+      → ((g n : List ℕ) → (b : Bool) × (mid g n ≡ cond (b && (same node n && is_named g changes)) 1 (old g n)))
+      → ((g n : List ℕ) → new g n ≡ cond ((is_named g changes && same node n) && not (has_members g n rows)) 0 (mid g n))
+      → (g n : List ℕ) → new g n ≡ cond (has_members g n rows) 1 0
+  unsettled rows old mid new was some settled g n = grind (arith, was g n, (some g n).1, settled g n)
+
+  -- what changed is settled, and what didn't is as it was
+  pub settled : (was now : List Counted) (old mid new : List ℕ → List ℕ → ℕ) → ((g n : List ℕ) → old g n ≡ cond (has_members g n was) 1 0)
+      → ((g n : List ℕ) → mid g n ≡ cond (same node n && is_named g changes) 1 (old g n))
+      → ((g n : List ℕ) → new g n ≡ cond ((is_named g changes && same node n) && not (has_members g n now)) 0 (mid g n))
+      → Covers changes node was now → ((n : List ℕ) → same node n ≡ false → (g : List ℕ) → tally (is_there g n) now ≡ tally (is_there g n) was)
+      → (g n : List ℕ) → new g n ≡ cond (has_members g n now) 1 0
+  settled was now old mid new indexed put settle covers others g n = grind (arith, indexed g n, put g n, settle g n, covers g, others n, same_decides node n)
+
+-- rows of a node aren't rows of another
+pub not_there : (node g n : List ℕ) (rows : List Counted) → AllByRecursion (λ c. c.row.pid.node ≡ node) rows → same node n ≡ false → tally (is_there g n) rows ≡ 0
+not_there node g n [] a e = refl
+not_there node g n (c ∷ cs) a e = grind (arith, not_there node g n cs a.1 e)
+
+pub joined_others : (node : List ℕ) (more old new : List Counted) → AllByRecursion (λ c. c.row.pid.node ≡ node) more → Joins more old new → (n : List ℕ) → same node n ≡ false → (g : List ℕ) → tally (is_there g n) new ≡ tally (is_there g n) old
+joined_others node more old new own joins n e g = grind (arith, joins (is_there g n), not_there node g n more own e)
+
+-- the same where a call answers whether it changed the rows
+pub step_settled : {T E : Type 0} (r : Result T E) (changes : List GroupChange) (node : List ℕ) (was now : List Counted) (old mid new : List ℕ → List ℕ → ℕ)
+    → ((g n : List ℕ) → old g n ≡ cond (has_members g n was) 1 0)
+    → ((g n : List ℕ) → mid g n ≡ cond (same node n && is_named g changes) 1 (old g n))
+    → ((g n : List ℕ) → new g n ≡ cond ((is_named g changes && same node n) && not (has_members g n now)) 0 (mid g n))
+    → OnOk r (Covers changes node was now × ((n : List ℕ) → same node n ≡ false → (g : List ℕ) → tally (is_there g n) now ≡ tally (is_there g n) was)) → OnErr r (now ≡ was)
+    → (g n : List ℕ) → new g n ≡ cond (has_members g n now) 1 0
+step_settled (Ok x) changes node was now old mid new indexed put settle ok err = settled changes node was now old mid new indexed put settle ok.0 ok.1
+step_settled (Err x) changes node was now old mid new indexed put settle ok err =
+    unsettled changes node now old mid new (λ g n. indexed g n ∙ ap (λ rows. cond (has_members g n rows) 1 0) (sym err)) (λ g n. (true, put g n)) settle
+
+pub covers_joined : (changes : List GroupChange) (node : List ℕ) (more was now : List Counted) → Covers changes node [] more → Joins more was now → Covers changes node was now
+covers_joined changes node more was now covers joins g e = grind (arith, joins (is_there g node), covers g e)
+
+-- a node's rows stand in the place of those that it had
+module _ (node : List ℕ) (rows was now : List Counted) (joins : Joins rows (without_node node was) now) where
+  none_left : (g : List ℕ) → tally (is_there g node) (without_node node was) ≡ 0
+  none_left g = tally_none (λ c. not (is_of_node node c.row)) (is_there g node) (λ c e. grind arith) was
+
+  pub covers_replaced : (changes : List GroupChange) → Covers changes node was rows → Covers changes node was now
+  covers_replaced changes covers g e =
+      let t : tally (is_there g node) now ≡ tally (is_there g node) rows = omega (arith, joins (is_there g node), none_left g) in
+      ap (nat_lt 0) t ∙ covers g e
+
+  pub replaced_others : AllByRecursion (λ c. c.row.pid.node ≡ node) rows → (n : List ℕ) → same node n ≡ false → (g : List ℕ) → tally (is_there g n) now ≡ tally (is_there g n) was
+  replaced_others own n e g =
+      let stay = tally_all (λ c. not (is_of_node node c.row)) (is_there g n) (λ c h. grind (arith, same_decides c.row.pid.node node)) was in
+      omega (arith, joins (is_there g n), stay, not_there node g n rows own e)
+
+-- fewer rows of the changed groups
+pub settled_less : (changes : List GroupChange) (node : List ℕ) (was now : List Counted) (old new : List ℕ → List ℕ → ℕ) → ((g n : List ℕ) → old g n ≡ cond (has_members g n was) 1 0)
+    → ((g n : List ℕ) → new g n ≡ cond ((is_named g changes && same node n) && not (has_members g n now)) 0 (old g n))
+    → ((g n : List ℕ) → tally (is_there g n) now ≤ tally (is_there g n) was)
+    → Covers changes node was now → ((n : List ℕ) → same node n ≡ false → (g : List ℕ) → tally (is_there g n) now ≡ tally (is_there g n) was)
+    → (g n : List ℕ) → new g n ≡ cond (has_members g n now) 1 0
+settled_less changes node was now old new indexed settle less covers others g n = grind (arith, indexed g n, settle g n, less g n, covers g, others n, same_decides node n)
+
+none_gone_there : (node g n : List ℕ) (gone : List Row) → AllByRecursion (λ r. r.pid.node ≡ node) gone → same node n ≡ false → how_many (is_there g n) gone ≡ 0
+none_gone_there node g n [] a e = refl
+none_gone_there node g n (r ∷ rs) a e = grind (arith, none_gone_there node g n rs a.1 e)
+
+module _ (node : List ℕ) (gone : List Row) (was now : List Counted) (adds : Adds gone now was) where
+  pub taken_less : (g n : List ℕ) → tally (is_there g n) now ≤ tally (is_there g n) was
+  taken_less g n = omega (arith, adds (is_there g n))
+
+  pub covers_taken : (changes : List GroupChange) → ((g : List ℕ) → is_named g changes ≡ false → how_many (is_there g node) gone ≡ 0) → Covers changes node was now
+  covers_taken changes none g e = let t : tally (is_there g node) now ≡ tally (is_there g node) was = omega (arith, adds (is_there g node), none g e) in ap (nat_lt 0) t
+
+  pub taken_others : All (λ r. r.pid.node ≡ node) gone → (n : List ℕ) → same node n ≡ false → (g : List ℕ) → tally (is_there g n) now ≡ tally (is_there g n) was
+  taken_others own n e g = omega (arith, adds (is_there g n), none_gone_there node g n gone (all_from (λ r. r.pid.node ≡ node) gone (λ k d l h. own k d h)) e)
+
+-- ---- a node that goes
+
+any_append : (g : List ℕ) (xs ys : List Counted) → list_any (is_in g) (xs ++ ys) ≡ (list_any (is_in g) xs || list_any (is_in g) ys)
+any_append g [] ys = refl
+any_append g (x ∷ xs) ys = grind (arith, any_append g xs ys)
+
+pub unname_more : (rows : List Counted) (i : ℕ) (x : Counted) → i < length rows → x ≡ get_or rows i x → (node : List ℕ) (first old new : List ℕ → List ℕ → ℕ)
+    → ((g n : List ℕ) → old g n ≡ cond (list_any (is_in g) (take i rows) && same node n) 0 (first g n)) → ((g n : List ℕ) → new g n ≡ cond (same x.row.group g && same node n) 0 (old g n))
+    → (g n : List ℕ) → new g n ≡ cond (list_any (is_in g) (take (i + 1) rows) && same node n) 0 (first g n)
+unname_more rows i x l at node first old new so_far took g n = grind (arith, so_far g n, took g n, more)
+  where
+    more : list_any (is_in g) (take (i + 1) rows) ≡ (list_any (is_in g) (take i rows) || same x.row.group g)
+    more = simp (take_more rows i x l, ← at) (any_append g (take i rows) (x ∷ []) ∙ grind arith)
+
+not_any : (g node : List ℕ) (rows : List Counted) → list_any (is_in g) rows ≡ false → tally (is_there g node) rows ≡ 0
+not_any g node [] e = refl
+not_any g node (c ∷ cs) e = grind (arith, not_any g node cs)
+
+pub dropped : (node : List ℕ) (was list : List Counted) (old new : List ℕ → List ℕ → ℕ) → list ≡ of_node node was → ((g n : List ℕ) → old g n ≡ cond (has_members g n was) 1 0)
+    → ((g n : List ℕ) → new g n ≡ cond (list_any (is_in g) list && same node n) 0 (old g n))
+    → (g n : List ℕ) → new g n ≡ cond (has_members g n (without_node node was)) 1 0
+dropped node was list old new is indexed took g n =
+    let none = tally_none (λ c. not (is_of_node node c.row)) (is_there g node) (λ c e. grind arith) was in
+    let stay = λ (h : same node n ≡ false). tally_all (λ c. not (is_of_node node c.row)) (is_there g n) (λ c e. grind (arith, same_decides c.row.pid.node node)) was in
+    let mine = node_tally node (is_there g node) (there_of_node g node) was ∙ ap (tally (is_there g node)) (sym is) in
+    grind (arith, indexed g n, took g n, none, stay, mine, not_any g node list, same_decides node n)
+
+-- ---- a process that goes
+
+pub others_in : (g : List ℕ) (p : Pid) (rows : List Counted) → list_all (λ c. same_pid c.row.pid p) (filter (is_in g) rows) ≡ not (has_others g p rows)
+others_in g p [] = refl
+others_in g p (c ∷ cs) = grind (arith, others_in g p cs)
+
+row_of_append : (g : List ℕ) (p : Pid) (xs ys : List Counted) → list_any (is_row_of g p) (xs ++ ys) ≡ (list_any (is_row_of g p) xs || list_any (is_row_of g p) ys)
+row_of_append g p [] ys = refl
+row_of_append g p (x ∷ xs) ys = grind (arith, row_of_append g p xs ys)
+
+pub unname_more_rows : (rows some : List Counted) (i : ℕ) (x : Counted) → i < length rows → x ≡ get_or rows i x → (p : Pid) (first old new : List ℕ → List ℕ → ℕ)
+    → ((g n : List ℕ) → old g n ≡ cond ((list_any (is_row_of g p) (take i rows) && same p.node n) && not (has_others g p some)) 0 (first g n))
+    → ((g n : List ℕ) → new g n ≡ cond ((is_row_of g p x && same p.node n) && not (has_others g p some)) 0 (old g n))
+    → (g n : List ℕ) → new g n ≡ cond ((list_any (is_row_of g p) (take (i + 1) rows) && same p.node n) && not (has_others g p some)) 0 (first g n)
+unname_more_rows rows some i x l at p first old new so_far took g n = grind (arith, so_far g n, took g n, more)
+  where
+    more : list_any (is_row_of g p) (take (i + 1) rows) ≡ (list_any (is_row_of g p) (take i rows) || is_row_of g p x)
+    more = simp (take_more rows i x l, ← at) (row_of_append g p (take i rows) (x ∷ []) ∙ grind arith)
+
+-- who is left of the node in the group
+left_there : (g n : List ℕ) (p : Pid) (rows : List Counted) → AllByRecursion (λ c. c.row.pid.node ≡ n) rows → AllByRecursion (λ c. 0 < c.count) rows
+    → nat_lt 0 (tally (is_there g n) (filter (λ c. not (same_pid c.row.pid p)) rows)) ≡ has_others g p rows
+left_there g n p [] own some = refl
+left_there g n p (c ∷ cs) own some = grind (arith, left_there g n p cs own.1 some.1, same_decides c.row.pid.node n)
+
+none_of : (g n : List ℕ) (p : Pid) (rows : List Counted) → list_any (is_row_of g p) rows ≡ false → tally (is_there g n) (filter (λ c. not (same_pid c.row.pid p)) rows) ≡ tally (is_there g n) rows
+none_of g n p [] e = refl
+none_of g n p (c ∷ cs) e = grind (arith, none_of g n p cs)
+
+filters_swap : (keep test : Counted → Bool) (rows : List Counted) → filter test (filter keep rows) ≡ filter keep (filter test rows)
+filters_swap keep test [] = refl
+filters_swap keep test (c ∷ cs) = grind (arith, filters_swap keep test cs)
+
+exit_cases : (was now any own others : Bool) (old new : ℕ) → own ≡ true → old ≡ cond was 1 0 → new ≡ cond ((any && own) && not others) 0 old → now ≡ others → (any ≡ false → others ≡ was) → (now ≡ true → was ≡ true) → new ≡ cond now 1 0
+exit_cases was now any own others old new o w n l s m = grind arith
+
+pub exited : (p : Pid) (was list : List Counted) (old new : List ℕ → List ℕ → ℕ) → list ≡ of_node p.node was → IsNodeList p.node list → ((g n : List ℕ) → old g n ≡ cond (has_members g n was) 1 0)
+    → ((g n : List ℕ) → new g n ≡ cond ((list_any (is_row_of g p) list && same p.node n) && not (has_others g p list)) 0 (old g n))
+    → (g n : List ℕ) → new g n ≡ cond (has_members g n (filter (λ c. not (same_pid c.row.pid p)) was)) 1 0
+exited p was list old new is node indexed took g n = by (same p.node n) refl
+  where
+    keep : Counted → Bool
+    keep c = not (same_pid c.row.pid p)
+
+    mine : new g p.node ≡ cond (has_members g p.node (filter keep was)) 1 0
+    mine =
+        let all = node_tally p.node (is_there g p.node) (there_of_node g p.node) was ∙ ap (tally (is_there g p.node)) (sym is) in
+        let after = node_tally p.node (is_there g p.node) (there_of_node g p.node) (filter keep was) ∙ ap (tally (is_there g p.node)) (filters_swap keep (λ c. is_of_node p.node c.row) was ∙ ap (filter keep) (sym is)) in
+        let left = ap (nat_lt 0) after ∙ left_there g p.node p list node.own node.kept.counted in
+        let same_left = λ (e : list_any (is_row_of g p) list ≡ false). sym (left_there g p.node p list node.own node.kept.counted) ∙ ap (nat_lt 0) (none_of g p.node p list e ∙ sym all) in
+        exit_cases (has_members g p.node was) (has_members g p.node (filter keep was)) (list_any (is_row_of g p) list) (same p.node p.node) (has_others g p list) (old g p.node) (new g p.node)
+        ((same_decides p.node p.node).1 refl) (indexed g p.node) (took g p.node) left same_left (λ h. let le = tally-filter_le keep (is_there g p.node) was in grind (arith, le, h))
+
+    by : (b : Bool) → same p.node n ≡ b → new g n ≡ cond (has_members g n (filter keep was)) 1 0
+    by true h = subst (λ k. new g k ≡ cond (has_members g k (filter keep was)) 1 0) ((same_decides p.node n).0 h) mine
+    by false h =
+        let stay = tally_all keep (is_there g n) (λ c e. grind (arith, same_decides c.row.pid.node n, same_decides p.node n, same_pid_decides c.row.pid p)) was in
+        grind (arith, indexed g n, took g n, stay, h)
+
+-- ---- the processes of a group
+
+names_append : (n : List ℕ) (xs ys : List (List ℕ)) → how_many (λ m. same m n) (xs ++ ys) ≡ how_many (λ m. same m n) xs + how_many (λ m. same m n) ys
+names_append n xs ys = how_many_append (λ m. same m n) xs ys
+
+names_part : (n : List ℕ) (i : ℕ) (ns : List (List ℕ)) → how_many (λ m. same m n) (take i ns) ≤ how_many (λ m. same m n) ns
+names_part n zero ns = omega arith
+names_part n (suc i) [] = omega arith
+names_part n (suc i) (m ∷ ns) = grind (arith, names_part n i ns)
+
+pub gather_more : (nodes : List (List ℕ)) (i : ℕ) (x : List ℕ) → i < length nodes → x ≡ get_or nodes i x → ((n : List ℕ) → how_many (λ m. same m n) nodes ≤ 1) → (g : List ℕ) (rows : List Counted) (pids more : List Pid)
+    → ((p : Pid) → mentions p pids ≡ cond (nat_lt 0 (how_many (λ m. same m p.node) (take i nodes))) (tally (is_row g p) rows) 0)
+    → ((p : Pid) → mentions p more ≡ cond (same x p.node) (tally (is_row g p) rows) 0)
+    → (p : Pid) → mentions p (pids ++ more) ≡ cond (nat_lt 0 (how_many (λ m. same m p.node) (take (i + 1) nodes))) (tally (is_row g p) rows) 0
+gather_more nodes i x l at once g rows pids more so_far next p = grind (arith, so_far p, next p, how_many_append (λ y. same_pid y p) pids more, step, names_part p.node (i + 1) nodes, once p.node)
+  where
+    step : how_many (λ m. same m p.node) (take (i + 1) nodes) ≡ how_many (λ m. same m p.node) (take i nodes) + cond (same x p.node) 1 0
+    step = simp (take_more nodes i x l, ← at) (names_append p.node (take i nodes) (x ∷ []) ∙ grind arith)
+
+row_there : (g : List ℕ) (p : Pid) (rows : List Counted) → tally (is_row g p) rows ≤ tally (is_there g p.node) rows
+row_there g p [] = omega arith
+row_there g p (c ∷ cs) = grind (arith, row_there g p cs)
+
+-- nobody is missing: where no node is named there is no row
+pub all_gathered : (g : List ℕ) (p : Pid) (rows : List Counted) (named : ℕ) → named ≡ cond (has_members g p.node rows) 1 0 → cond (nat_lt 0 named) (tally (is_row g p) rows) 0 ≡ tally (is_row g p) rows
+all_gathered g p rows named is = grind (arith, is, row_there g p rows)
+
+-- ---- groups that an answer doesn't name
+
+named_total : (part : GroupChange → List Pid) (g : List ℕ) (p : Pid) (changes : List GroupChange) → is_named g changes ≡ false → total (λ c. cond (same c.group g) (mentions p (part c)) 0) changes ≡ 0
+named_total part g p [] e = refl
+named_total part g p (c ∷ cs) e = grind (arith, named_total part g p cs)
+
+-- in a group that isn't named as many processes are counted after as before
+pub unnamed_same : (before after : List ℕ → Pid → ℕ) (changes : List GroupChange) → IsDifference before after changes → (g : List ℕ) → is_named g changes ≡ false → (p : Pid) → before g p ≡ after g p
+unnamed_same before after changes d g e p =
+    let left = named_total (λ c. c.left) g p changes e in
+    let joined = named_total (λ c. c.joined) g p changes e in
+    omega (arith, d.left g p, d.joined g p, left, joined)
+
+-- who is counted somewhere is counted by name
+some_row : (g n : List ℕ) (rows : List Counted) → 0 < tally (is_there g n) rows → (p : Pid) × (p.node ≡ n) × (0 < tally (is_row g p) rows)
+some_row g n [] l = grind arith
+some_row g n (c ∷ cs) l = by (is_there g n c.row) (nat_lt 0 c.count) refl refl (some_row g n cs)
+  where
+    by : (b s : Bool) → is_there g n c.row ≡ b → nat_lt 0 c.count ≡ s → (0 < tally (is_there g n) cs → (p : Pid) × (p.node ≡ n) × (0 < tally (is_row g p) cs)) → (p : Pid) × (p.node ≡ n) × (0 < tally (is_row g p) (c ∷ cs))
+    by true true e s rest = (c.row.pid, grind (arith, e, same_decides c.row.pid.node n), grind (arith, e, s, same_pid_decides c.row.pid c.row.pid))
+    by true false e s rest = let r = rest (grind (arith, e, s, l)) in (r.0, r.1, grind (arith, r.2))
+    by false s e t rest = let r = rest (grind (arith, e, l)) in (r.0, r.1, grind (arith, r.2))
+
+-- rows with the same count of each process have processes in the same groups
+some_more : (g n : List ℕ) (xs ys : List Counted) → ((p : Pid) → p.node ≡ n → tally (is_row g p) xs ≡ tally (is_row g p) ys) → has_members g n xs ≡ true → has_members g n ys ≡ true
+some_more g n xs ys e h =
+    let there = some_row g n xs (grind (arith, h)) in
+    let le = row_there g there.0 ys in
+    let has : has_members g there.0.node ys ≡ true = grind (arith, le, e there.0 there.1, there.2) in
+    subst (λ m. has_members g m ys ≡ true) there.1 has
+
+pub same_members : (g n : List ℕ) (xs ys : List Counted) → ((p : Pid) → p.node ≡ n → tally (is_row g p) xs ≡ tally (is_row g p) ys) → has_members g n xs ≡ has_members g n ys
+same_members g n xs ys e = by (has_members g n xs) (has_members g n ys) (some_more g n xs ys e) (some_more g n ys xs (λ p m. sym (e p m)))
+  where
+    by : (a b : Bool) → (a ≡ true → b ≡ true) → (b ≡ true → a ≡ true) → a ≡ b
+    by true b f h = sym (f refl)
+    by false true f h = h refl
+    by false false f h = refl

@@ -1,0 +1,24 @@
+use Rattle.scope_core.proofs.Words.{◌≡◌, ◌∙◌, sym, ap, cond, same, List, ℕ, Some, arith}
+use Rattle.scope_core.proofs.GroupNodes.{set_times, set_once, named_is, times_of}
+use Rattle.scope_core.specs.GroupNodes.{times_named}
+use Rattle.std.specs.Map.{lookup}
+use Rattle.scope_core.proofs.group_nodes.GroupNodes.begin.Goals as goal
+
+pub invariant_of-self-2 : goal.invariant_of-self-2
+invariant_of-self-2 c =
+    let es = c.self.inside.nodes.entries in
+    let w = c.in_ok-nodes.nodes in
+    let up : (q : List ℕ) → lookup (same q) c.insert.new.self.entries ≡ cond (same c.args.group.now q) (Some w) (lookup (same q) es) =
+    λ q. c.in_ok-insert.ensures.updates.0 q ∙ ap (λ (k : List ℕ). cond (same k q) (Some w) (lookup (same q) es)) c.in_ok-group.ensures in
+    set_once es c.insert.new.self.entries c.args.group.now (Some w) up (λ n. rw c.in_ok-nodes.ensures (grind arith)) c.self.invariant
+
+pub returns-clause-ok : goal.returns-clause-ok
+returns-clause-ok c =
+    let es = c.self.inside.nodes.entries in
+    let w = c.in_ok-nodes.nodes in
+    let group = c.args.group.now in
+    let up : (q : List ℕ) → lookup (same q) c.insert.new.self.entries ≡ cond (same group q) (Some w) (lookup (same q) es) =
+    λ q. c.in_ok-insert.ensures.updates.0 q ∙ ap (λ (k : List ℕ). cond (same k q) (Some w) (lookup (same q) es)) c.in_ok-group.ensures in
+    let none : (n : List ℕ) → times_of (lookup (same group) es) n ≡ 0 =
+    λ n. sym (named_is es group n) ∙ ap (λ index. times_named index group n) c.self.view_is ∙ c.requires n in
+    λ g n. rw (← c.self.view_is) (set_times es c.insert.new.self.entries group (Some w) up c.args.node.now 1 (λ m. rw c.in_ok-nodes.ensures (grind (arith, none m))) g n)

@@ -1,0 +1,8 @@
+use Rattle.scope_core.proofs.Words.{◌≡◌, ◌&&◌, cond, same, take, List, ℕ}
+use Rattle.scope_core.specs.GroupNodes.{times_named}
+use Rattle.scope_core.specs.Indexed.{is_named}
+use Rattle.scope_core.proofs.indexing.put_all.Given as goal
+
+-- the node is one of each so far
+abbrev pub invariant-loop-change : goal.invariant-loop-change
+invariant-loop-change l = (g n : List ℕ) → times_named l.index g n ≡ cond (same l.node n && is_named g (take l.change-index l.changes)) 1 (times_named l.fn.index g n)

@@ -1,0 +1,8 @@
+use Rattle.scope_core.proofs.Words.{◌≡◌, ◌&&◌, cond, not, same, take, List, ℕ}
+use Rattle.scope_core.specs.GroupNodes.{times_named}
+use Rattle.scope_core.specs.Indexed.{has_members, is_named}
+use Rattle.scope_core.proofs.indexing.settle_all.Given as goal
+
+-- those so far are settled
+abbrev pub invariant-loop-change : goal.invariant-loop-change
+invariant-loop-change l = (g n : List ℕ) → times_named l.index g n ≡ cond ((is_named g (take l.change-index l.changes) && same l.node n) && not (has_members g n l.lists)) 0 (times_named l.fn.index g n)

@@ -1,0 +1,28 @@
+use Rattle.scope_core.proofs.Words.{ap, sym, subst, ◌∙◌, ◌≡◌, tally, not, is_of_node, without_node}
+use Rattle.scope_core.proofs.Calls.{ok_then}
+use Rattle.scope_core.proofs.NodeLists.{no_list, none_filtered, node_others, lists_set, set_replaces}
+use Rattle.scope_core.specs.NodeLists.{all_rows, AreNodeLists}
+use Rattle.scope_core.proofs.node_lists.NodeLists.replace.Goals as goal
+
+pub begin-requires-clause-first : goal.begin-requires-clause-first
+begin-requires-clause-first c =
+    rw c.get_mut.follows.holds-at-none (no_list c.args.node.now c.self.inside.lists.entries c.self.invariant (sym c.in_default.ensures.value))
+
+pub returns-in_default-clause-ok : goal.returns-in_default-clause-ok
+returns-in_default-clause-ok c =
+    let n = c.args.node.now in
+    let es = c.self.inside.lists.entries in
+    let stay = none_filtered n (λ x. not (is_of_node n x.row)) (node_others n) es c.self.invariant (sym c.in_default.ensures.value) in
+    let was : all_rows c.get_mut.follows.lender-at-none.entries ≡ without_node n c.args.self.now =
+    ap (λ (m : _). all_rows m.entries) c.get_mut.follows.holds-at-none ∙ stay ∙ ap (without_node n) c.self.view_is in
+    ok_then c.begin.result (λ joins test. rw was at (joins test)) c.begin.ensures.ok
+
+pub invariant_of-self-2 : goal.invariant_of-self-2
+invariant_of-self-2 c =
+    subst AreNodeLists (sym (c.get_mut.follows.holds c.args.rows).0) (lists_set c.args.node.now c.self.inside.lists.entries c.args.rows c.self.invariant c.requires.list)
+
+pub returns-clause-ok : goal.returns-clause-ok
+returns-clause-ok c = λ test.
+    let es = c.self.inside.lists.entries in
+    let puts = set_replaces c.args.node.now es c.in-Some.list.now (sym c.in-Some.ensures.value) c.args.rows c.self.invariant test in
+    rw (← c.self.view_is) (ap (λ ls. tally test (all_rows ls)) (c.get_mut.follows.holds c.args.rows).0 ∙ puts)

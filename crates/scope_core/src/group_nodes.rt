@@ -1,0 +1,134 @@
+//! The nodes whose processes are in each group.
+ghost use Rattle.std.specs.Prelude.{◌≡◌, ◌≤◌, ◌&&◌, ℕ, List, [], cond, IfOk, OnOk, OnErr, ◌∷◌};
+ghost use Rattle.dist_types.specs.Listing.{same, how_many};
+ghost use Rattle.scope_core.specs.GroupNodes.{times_named};
+
+use dist_types::{Group, NodeName, OutOfMemory, TryClone};
+use indexmap::IndexMap;
+use std::alloc::Global;
+use std::marker::Model;
+
+/// For each group a list of nodes, in the order of their names.
+#[derive(Debug, Drop)]
+pub struct GroupNodes {
+    alloc: Global,
+    nodes: IndexMap<Group, Vec<NodeName>>,
+}
+
+impl Model for GroupNodes {
+    ghost use Rattle.std.specs.Prelude.{List, ℕ};
+    ghost use Rattle.scope_core.specs.GroupNodes.{node_names, AreNamedOnce};
+
+    ghost Value = { List (List ℕ × List (List ℕ)) };
+
+    ghost view = { λ index. node_names index.nodes.entries };
+
+    ghost invariant = { λ index. AreNamedOnce (node_names index.nodes.entries) };
+}
+
+impl GroupNodes {
+    /// No nodes.
+    pub fn new(alloc: Global) -> GroupNodes
+        ensures { (g n : List ℕ) → times_named result g n ≡ 0 }
+    {
+        GroupNodes {
+            alloc,
+            nodes: IndexMap::new(alloc),
+        }
+    }
+
+    /// The nodes of a group.
+    pub fn of(&self, group: &Group) -> &[NodeName]
+        ensures nodes { (n : List ℕ) → how_many (λ m. same m n) result.now ≡ times_named self.now group.now n }
+        ensures once { (n : List ℕ) → how_many (λ m. same m n) result.now ≤ 1 }
+    {
+        match self.nodes.get(group) {
+            Some(nodes) => nodes,
+            None => &[],
+        }
+    }
+
+    /// The node is one of the group's.
+    pub fn put(&mut self, group: &Group, node: &NodeName) -> Result<(), OutOfMemory>
+        ensures ok { OnOk result ((g n : List ℕ) → times_named self.new g n ≡ cond (same group.now g && same node.now n) 1 (times_named self.old g n)) }
+        ensures same { OnErr result ((g n : List ℕ) → times_named self.new g n ≡ times_named self.old g n) }
+    {
+        let alloc = self.alloc;
+        let Some(nodes) = self.nodes.get_mut(group) else {
+            return self.begin(group, node);
+        };
+        add(alloc, nodes, node)
+    }
+
+    /// The first node of a group.
+    fn begin(&mut self, group: &Group, node: &NodeName) -> Result<(), OutOfMemory>
+        requires { (n : List ℕ) → times_named self.old group.now n ≡ 0 }
+        ensures ok { OnOk result ((g n : List ℕ) → times_named self.new g n ≡ cond (same group.now g && same node.now n) 1 (times_named self.old g n)) }
+        ensures same { OnErr result ((g n : List ℕ) → times_named self.new g n ≡ times_named self.old g n) }
+    {
+        let nodes = only(self.alloc, node)?;
+        let group = group.try_clone(self.alloc)?;
+        self.nodes.insert(group, nodes)?;
+        Ok(())
+    }
+
+    /// The node is none of the group's.
+    pub fn take(&mut self, group: &Group, node: &NodeName)
+        ensures { (g n : List ℕ) → times_named self.new g n ≡ cond (same group.now g && same node.now n) 0 (times_named self.old g n) }
+    {
+        let Some(nodes) = self.nodes.get_mut(group) else {
+            return;
+        };
+        remove(nodes, node);
+        if nodes.is_empty() {
+            self.forget(group);
+        }
+    }
+
+    /// A group without nodes goes.
+    fn forget(&mut self, group: &Group)
+        requires { (n : List ℕ) → times_named self.old group.now n ≡ 0 }
+        ensures { (g n : List ℕ) → times_named self.new g n ≡ times_named self.old g n }
+    {
+        self.nodes.swap_remove(group);
+    }
+
+    /// No nodes any more.
+    pub fn clear(&mut self)
+        ensures { (g n : List ℕ) → times_named self.new g n ≡ 0 }
+    {
+        self.nodes.clear();
+    }
+}
+
+/// A list of this node.
+fn only(alloc: Global, node: &NodeName) -> Result<Vec<NodeName>, OutOfMemory>
+    ensures { IfOk result (λ nodes. nodes.items ≡ node.now ∷ []) }
+{
+    let mut nodes = Vec::with_capacity(alloc, 1)?;
+    nodes.push(node.try_clone(alloc)?)?;
+    Ok(nodes)
+}
+
+/// Puts a node into the list, unless it stands there, at its place in the order of names.
+fn add(alloc: Global, nodes: &mut Vec<NodeName>, node: &NodeName) -> Result<(), OutOfMemory>
+    requires { (n : List ℕ) → how_many (λ m. same m n) nodes.old.items ≤ 1 }
+    ensures ok { OnOk result ((n : List ℕ) → how_many (λ m. same m n) nodes.new.items ≡ cond (same node.now n) 1 (how_many (λ m. same m n) nodes.old.items)) }
+    ensures same { OnErr result (nodes.new.items ≡ nodes.old.items) }
+    ensures once { (n : List ℕ) → how_many (λ m. same m n) nodes.new.items ≤ 1 }
+{
+    if nodes.contains(node) {
+        return Ok(());
+    }
+    let name = node.try_clone(alloc)?;
+    let at = nodes.partition_point(|other| *other < *node);
+    nodes.insert(at, name)?;
+    Ok(())
+}
+
+/// Takes a node out of the list.
+fn remove(nodes: &mut Vec<NodeName>, node: &NodeName)
+    ensures { (n : List ℕ) → how_many (λ m. same m n) nodes.new.items ≡ cond (same node.now n) 0 (how_many (λ m. same m n) nodes.old.items) }
+{
+    nodes.retain(|other| *other != *node);
+}

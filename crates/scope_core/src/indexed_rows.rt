@@ -1,0 +1,187 @@
+//! The rows of a scope, in a list for each node, and the nodes of each group.
+ghost use Rattle.std.specs.Prelude.{◌≡◌, ◌+◌, ◌≤◌, false, not, ℕ, List, [], All, IsTrue, IfOk, OnOk, OnErr};
+ghost use Rattle.std.specs.List.{filter};
+ghost use Rattle.dist_types.specs.Listing.{how_many, same_pid, IsPidListing};
+ghost use Rattle.scope_core.specs.Table.{tally, is_row, is_of_node, max_rows};
+ghost use Rattle.scope_core.specs.Added.{row_in, without_node, are_all_in, Adds, Joins, Takes, Leaves, HasRoomFor};
+ghost use Rattle.scope_core.specs.NodeLists.{of_node, IsNodeList};
+ghost use Rattle.scope_core.specs.Indexed.{is_there, is_named, Covers};
+
+use crate::counted::Counted;
+use crate::group_nodes::GroupNodes;
+use crate::indexing::{gathered, put_all, settle, settle_all, unname, unname_process};
+use crate::node_lists::NodeLists;
+use crate::reads::count_at;
+use dist_types::{Group, GroupChange, NodeName, OutOfMemory, Pid, Row};
+use std::alloc::Global;
+use std::marker::Model;
+
+/// Rows, with an index of the nodes that have rows of each group.
+#[derive(Debug, Drop)]
+pub struct IndexedRows {
+    lists: NodeLists,
+    index: GroupNodes,
+}
+
+impl Model for IndexedRows {
+    ghost use Rattle.std.specs.Prelude.{List};
+    ghost use Rattle.scope_core.specs.declared.counted.Counted.{Counted};
+    ghost use Rattle.scope_core.specs.Indexed.{IsIndexed};
+
+    ghost Value = { List Counted };
+
+    ghost view = { λ rows. rows.lists };
+
+    ghost invariant = { λ rows. IsIndexed rows.lists rows.index };
+}
+
+impl IndexedRows {
+    /// No rows.
+    pub fn new(alloc: Global) -> IndexedRows
+        ensures { result ≡ [] }
+    {
+        IndexedRows {
+            lists: NodeLists::new(alloc),
+            index: GroupNodes::new(alloc),
+        }
+    }
+
+    /// The rows of a node, in their order.
+    pub fn of_node(&self, node: &NodeName) -> &[Counted]
+        ensures rows { result.now ≡ of_node node.now self.now }
+        ensures list { IsNodeList node.now result.now }
+        ensures few { (n : List ℕ) → tally (is_of_node n) self.now ≤ max_rows }
+    {
+        self.lists.of_node(node)
+    }
+
+    /// How often a process is in a group.
+    pub fn count_of(&self, group: &Group, pid: &Pid) -> u32
+        ensures { result ≡ tally (is_row group.now pid.now) self.now }
+    {
+        let mut first = 0;
+        count_at(self.lists.of_node(&pid.node), &mut first, group, pid)
+    }
+
+    /// The processes of a group, in order, each as often as it is counted.
+    pub fn members(&self, alloc: Global, group: &Group) -> Result<Vec<Pid>, OutOfMemory>
+        ensures { IfOk result (λ pids. IsPidListing (λ p. tally (is_row group.now p) self.now) pids.items) }
+    {
+        let mut pids = gathered(alloc, &self.lists, self.index.of(group), group)?;
+        pids.sort_unstable();
+        Ok(pids)
+    }
+
+    /// Puts rows of a node in. Only these groups change.
+    pub fn join(
+        &mut self,
+        node: &NodeName,
+        more: Vec<Counted>,
+        changes: &[GroupChange],
+    ) -> Result<(), OutOfMemory>
+        requires list { IsNodeList node.now more.items }
+        requires few { tally (is_of_node node.now) self.old + tally (is_of_node node.now) more.items ≤ max_rows }
+        requires changes { Covers changes.now node.now [] more.items }
+        ensures ok { OnOk result (Joins more.items self.old self.new) }
+        ensures same { OnErr result (self.new ≡ self.old) }
+    {
+        if put_all(&mut self.index, changes, node).is_err() {
+            settle_all(&self.lists, &mut self.index, changes, node);
+            return Err(OutOfMemory);
+        }
+        let joined = self.lists.join(node, more);
+        settle_all(&self.lists, &mut self.index, changes, node);
+        joined
+    }
+
+    /// Puts rows in place of those of a node. Only these groups change.
+    pub fn replace(
+        &mut self,
+        node: &NodeName,
+        rows: Vec<Counted>,
+        changes: &[GroupChange],
+    ) -> Result<(), OutOfMemory>
+        requires list { IsNodeList node.now rows.items }
+        requires changes { Covers changes.now node.now self.old rows.items }
+        ensures ok { OnOk result (Joins rows.items (without_node node.now self.old) self.new) }
+        ensures same { OnErr result (self.new ≡ self.old) }
+    {
+        if put_all(&mut self.index, changes, node).is_err() {
+            settle_all(&self.lists, &mut self.index, changes, node);
+            return Err(OutOfMemory);
+        }
+        let replaced = self.lists.replace(node, rows);
+        settle_all(&self.lists, &mut self.index, changes, node);
+        replaced
+    }
+
+    /// Whether each of a node's rows stands among these at most as often as it is counted.
+    pub fn are_all_in(&mut self, node: &NodeName, gone: &[Row]) -> bool
+        requires { All (λ r. r.pid.node ≡ node.now) gone.now }
+        ensures value { result ≡ are_all_in self.old gone.now }
+        ensures fit { IsTrue result → HasRoomFor gone.now [] }
+        ensures same { self.new ≡ self.old }
+    {
+        self.lists.are_all_in(node, gone)
+    }
+
+    /// One less for each of a node's rows. Only these groups change.
+    pub fn take_rows(&mut self, node: &NodeName, gone: &[Row], changes: &[GroupChange])
+        requires own { All (λ r. r.pid.node ≡ node.now) gone.now }
+        requires counted { IsTrue (are_all_in self.old gone.now) }
+        requires changes { (g : List ℕ) → is_named g changes.now ≡ false → how_many (is_there g node.now) gone.now ≡ 0 }
+        ensures { Adds gone.now self.new self.old }
+    {
+        self.lists.take_rows(node, gone);
+        settle_all(&self.lists, &mut self.index, changes, node);
+    }
+
+    /// One less, if the process is in the group. Answers whether it is.
+    pub fn leave_one(&mut self, group: &Group, pid: &Pid) -> bool
+        ensures taken { Takes result (row_in group.now pid.now) self.old self.new }
+        ensures few { (n : List ℕ) → tally (is_of_node n) self.old ≤ max_rows }
+    {
+        let taken = self.lists.leave_one(group, pid);
+        settle(&self.lists, &mut self.index, group, &pid.node);
+        taken
+    }
+
+    /// One less in the group for each mention of a process, as far as it is there. Answers how many the node loses.
+    #[tactic(auto, using(crate::proofs::RowEdits::taken_counts, crate::proofs::RowEdits::taken_total))]
+    pub fn leave(&mut self, group: &Group, pids: &[Pid], node: &NodeName) -> usize
+        requires { tally (is_of_node node.now) self.old ≤ max_rows }
+        ensures counts { Leaves group.now pids.now self.old self.new }
+        ensures total { tally (is_of_node node.now) self.new + result ≡ tally (is_of_node node.now) self.old }
+    {
+        let mut lost = 0;
+        for pid in pids {
+            let of_node = pid.node == *node;
+            lost += usize::from(self.leave_one(group, pid) & of_node);
+        }
+        lost
+    }
+
+    /// Takes all rows of a process away.
+    pub fn remove_process(&mut self, pid: &Pid)
+        ensures { self.new ≡ filter (λ c. not (same_pid c.row.pid pid.now)) self.old }
+    {
+        unname_process(self.lists.of_node(&pid.node), &mut self.index, pid);
+        self.lists.remove_process(pid);
+    }
+
+    /// Takes all rows of a node away.
+    pub fn remove_node(&mut self, node: &NodeName)
+        ensures { self.new ≡ without_node node.now self.old }
+    {
+        unname(self.lists.of_node(node), &mut self.index, node);
+        self.lists.remove_node(node);
+    }
+
+    /// Takes all rows away.
+    pub fn clear(&mut self)
+        ensures { self.new ≡ [] }
+    {
+        self.lists.clear();
+        self.index.clear();
+    }
+}
