@@ -5,8 +5,10 @@ use Rattle.scope_core.proofs.Words.{same_pid_decides, same_sym, all_from, how_ma
 use Rattle.scope_core.proofs.Words.{mentions, same, same_pid, GroupChange, Pid, Row, Adds, HasRoomFor, Joins, row_in, without_node, Counts}
 use Rattle.scope_core.proofs.Words.{IsAddFault, IsSyncFault, count_after_add, count_after_sync, Tells, IsKept, Table, is_of_node, is_row, local_count}
 use Rattle.scope_core.proofs.Words.{local_total, tally, Counted, TableFault, NotJoined, NotListed, OutOfMemory, RowsFull}
-use Rattle.scope_core.proofs.Rising.{row_is, all_map, none_pass, tally_none, tally_all, filter_kept, gone_counts}
+use Rattle.scope_core.proofs.Words.{not, sym, ◌∙◌, Covers, IsNodeList, is_named, is_there, of_node}
+use Rattle.scope_core.proofs.Rising.{row_is, all_map, none_pass, tally_none, tally_all, gone_counts, own_from_tally}
 use Rattle.scope_core.proofs.Shares.{fewer_rows}
+use Rattle.scope_core.proofs.Unnamed.{unnamed_same, same_members}
 
 -- no more rows than one node may have
 pub alone_fit : (rows : List Row) → length rows ≤ 4096 → HasRoomFor rows []
@@ -28,11 +30,11 @@ module _ (n : List ℕ) where
   own_left own cs m is = grind (arith, same_decides, not-true, tally_none, not-false, tally_all)
 
   -- where a node has no rows, none of its rows is counted
-  none_counted : (test : Row → Bool) → ((r : Row) → test r ≡ true → is_of_node n r ≡ true) → (cs : List Counted) → list_any (λ c. is_of_node n c.row) cs ≡ false → tally test cs ≡ 0
+  none_counted : (test : Row → Bool) → ((r : Row) → test r ≡ true → is_of_node n r ≡ true) → (cs : List Counted) → length (of_node n cs) ≡ 0 → tally test cs ≡ 0
   none_counted test h [] e = refl
   none_counted test h (c ∷ cs) e = grind (arith, none_counted test h cs, h c.row)
 
-  pub first_fault : (t : Table) (rows : List Row) (fault : TableFault) → list_any (λ c. is_of_node n c.row) t.rows ≡ false → IsAddFault t n rows fault → IsSyncFault rows fault
+  pub first_fault : (t : Table) (rows : List Row) (fault : TableFault) → length (of_node n t.rows) ≡ 0 → IsAddFault t n rows fault → IsSyncFault rows fault
   first_fault t rows RowsFull none h = grind (arith, none_counted)
   first_fault t rows NotJoined none h = h
   first_fault t rows NotListed none h = h
@@ -46,37 +48,65 @@ module _ (n : List ℕ) (rows : List Row) (own : All (λ r. r.pid.node ≡ n) ro
   pub all_or_none : (node : List ℕ) → how_many (is_of_node node) rows ≡ cond (same n node) (length rows) 0
   all_or_none node = rows_of_one n node rows all_of_one
 
-  -- they have room where the node has
-  pub rows_fit : (old : List Counted) → ((node : List ℕ) → tally (is_of_node node) old ≤ 4096) → tally (is_of_node n) old + length rows ≤ 4096 → HasRoomFor rows old
-  rows_fit old few l node = grind (arith, few node, all_or_none node, same_decides n node)
+  -- none is of a process of another node
+  pub no_others : (g : List ℕ) (p : Pid) → same p.node n ≡ false → how_many (is_row g p) rows ≡ 0
+  no_others g p e = rows_of_none n g p rows all_of_one e
 
-  -- and in place of those of the node
-  pub sync_fit : (cs : List Counted) → IsKept cs → length rows ≤ 4096 → HasRoomFor rows (without_node n cs)
-  sync_fit cs kept l = grind (arith, not-true, tally_none, filter_kept, rows_fit)
+  -- all that are counted of them are of the node
+  pub counted_own : (counted : List Counted) → Adds rows [] counted → IsKept counted → IsNodeList n counted
+  counted_own counted adds kept = record {
+    kept = kept;
+    own = let none : tally (λ r. not (is_of_node n r)) counted ≡ 0 = omega (arith, adds (λ r. not (is_of_node n r)), none_other rows all_of_one) in own_from_tally n counted kept.counted none;
+  }
+    where
+      none_other : (rs : List Row) → AllByRecursion (λ r. r.pid.node ≡ n) rs → how_many (λ r. not (is_of_node n r)) rs ≡ 0
+      none_other [] a = refl
+      none_other (r ∷ rs) a = grind (arith, none_other rs a.1, same_decides r.pid.node n)
 
   -- what is counted with them in place of those of the node
   pub sync_counts : (cs counted new : List Counted) → Adds rows [] counted → Joins counted (without_node n cs) new → (g : List ℕ) (p : Pid)
       → tally (is_row g p) new ≡ cond (same p.node n) (how_many (is_row g p) rows) (tally (is_row g p) cs)
   sync_counts cs counted new counts joins g p =
-      grind (arith, counts (is_row g p), joins (is_row g p), gone_counts (λ q. same q.node n) g p cs, rows_of_none n g p rows all_of_one)
+      grind (arith, counts (is_row g p), joins (is_row g p), gone_counts (λ q. same q.node n) g p cs, no_others g p)
 
   -- where the node has no rows, they are put in the place of none
-  pub first_counts : (t new : Table) → list_any (λ c. is_of_node n c.row) t.rows ≡ false → Counts t new (count_after_add t rows) → Counts t new (count_after_sync t n rows)
+  pub first_counts : (t new : Table) → length (of_node n t.rows) ≡ 0 → Counts t new (count_after_add t rows) → Counts t new (count_after_sync t n rows)
   first_counts t new none added = record {
     own = added.own;
     counts = λ g p.
         let old = λ (e : same p.node n ≡ true). none_counted n (is_row g p) (λ r f. grind (arith, row_is g p r f, e)) t.rows none in
-        grind (arith, added.counts g p, old, rows_of_none n g p rows all_of_one);
+        grind (arith, added.counts g p, old, no_others g p);
   }
 
+  -- where they replace those of the node, a group whose difference isn't told has processes of the node as before
+  pub sync_covered : (cs counted : List Counted) (changes : List GroupChange) → Adds rows [] counted → (after : List ℕ → Pid → ℕ)
+      → ((g : List ℕ) (p : Pid) → after g p ≡ cond (same p.node n) (how_many (is_row g p) rows) (tally (is_row g p) cs))
+      → IsDifference (λ g p. tally (is_row g p) cs) after changes → Covers changes n cs counted
+  sync_covered cs counted changes counts after is d g e =
+      same_members g n counted cs (λ p m. grind (arith, unnamed_same _ after changes d g e p, is g p, counts (is_row g p), same_decides p.node n))
+
+  -- the groups that are not told of have none of the rows
+  pub none_untold : (counted : List Counted) (changes : List GroupChange) → Adds rows [] counted → Tells counted [] changes → (g : List ℕ) → is_named g changes ≡ false → how_many (is_there g n) rows ≡ 0
+  none_untold counted changes counts told g e =
+      let d = told (λ h p. tally (is_row h p) counted) (λ h p. 0) (λ h p. omega arith) (λ h p. omega arith) in
+      let none = same_members g n counted [] (λ p m. unnamed_same _ _ changes d g e p) in
+      grind (arith, none, counts (is_there g n))
+
 -- the change where rows are added
-pub added_change : (rows : List Row) (cs counted new : List Counted) (changes : List GroupChange) → Tells (λ c. c.count) [] counted changes → Adds rows [] counted → Joins counted cs new
+pub added_change : (rows : List Row) (cs counted new : List Counted) (changes : List GroupChange) → Tells [] counted changes → Adds rows [] counted → Joins counted cs new
     → IsDifference (λ g p. tally (is_row g p) cs) (λ g p. tally (is_row g p) new) changes
 added_change rows cs counted new changes told counts joins =
     told _ _ (λ g p. grind (arith, joins (is_row g p))) (λ g p. grind (arith, joins (is_row g p), counts (is_row g p)))
 
+-- where they are told, they cover what changes
+pub told_covered : (n : List ℕ) (counted : List Counted) (changes : List GroupChange) → IsDifference (λ g p. 0) (λ g p. tally (is_row g p) counted) changes → Covers changes n [] counted
+told_covered n counted changes d g e = same_members g n counted [] (λ p m. sym (unnamed_same _ _ changes d g e p))
+
+pub added_covered : (n : List ℕ) (counted : List Counted) (changes : List GroupChange) → Tells [] counted changes → Covers changes n [] counted
+added_covered n counted changes told = told_covered n counted changes (told _ _ (λ g p. omega arith) (λ g p. omega arith))
+
 -- the change where rows are taken
-pub taken_change : (rows : List Row) (cs counted new : List Counted) (changes : List GroupChange) → Tells (λ c. c.count) counted [] changes → Adds rows [] counted → Adds rows new cs
+pub taken_change : (rows : List Row) (cs counted new : List Counted) (changes : List GroupChange) → Tells counted [] changes → Adds rows [] counted → Adds rows new cs
     → IsDifference (λ g p. tally (is_row g p) cs) (λ g p. tally (is_row g p) new) changes
 taken_change rows cs counted new changes told counts taken =
     told _ _ (λ g p. grind (arith, taken (is_row g p), counts (is_row g p))) (λ g p. grind (arith, taken (is_row g p)))

@@ -1,9 +1,13 @@
 -- A node more in the list of a group, or one less.
 use Rattle.scope_core.proofs.Words.{◌≡◌, ℕ, ◌≤◌, ◌&&◌, ◌+◌, Bool, true, false, cond, not, List, [], ◌∷◌, Option, None, Some, refl, sym, ap, arith}
-use Rattle.scope_core.proofs.Words.{filter, insert, list_any, same, same_decides, how_many, zero, suc}
-use Rattle.scope_core.specs.GroupNodes.{node_names, times_named, AreNamedOnce}
+use Rattle.scope_core.proofs.Words.{filter, insert, list_any, same, same_decides, how_many, zero, suc, ◌<◌, ◌∙◌, nat_lt, subst, same_sym, is_gt, Less}
+use Rattle.scope_core.proofs.Words.{AllByRecursion, text_cmp, occurrences, is_among, Ascends, Rises, named_groups, node_names, times_named}
+use Rattle.scope_core.proofs.Groups.{below, among_counts}
+use Rattle.scope_core.specs.GroupNodes.{AreNamedOnce}
+use Rattle.dist_types.specs.Listing.{IsListing}
+use Rattle.std.specs.List.{IsDistinct}
 use Rattle.std.specs.Prelude.{Vec, Result, Ok, Err, OnErr}
-use Rattle.std.specs.Map.{lookup}
+use Rattle.std.specs.Map.{lookup, keys_of}
 use Rattle.std.specs.declared.alloc.Global.{Global}
 
 abbrev Named : Type 0
@@ -89,3 +93,58 @@ fewer b was now e l = grind arith
 pub set_none : (es new : Named) (group : List ℕ) (w : Vec (List ℕ) Global) → ((q : List ℕ) → lookup (same q) new ≡ cond (same group q) (Some w) (lookup (same q) es)) → w.items ≡ []
     → (n : List ℕ) → times_named (node_names new) group n ≡ 0
 set_none es new group w up e n = grind (arith, named_is new group n, up group, empty_times w e n, same_decides group group)
+
+-- ---- the groups in order
+
+abbrev names : Named → List (List ℕ)
+names es = named_groups (node_names es)
+
+absent_names : (k : List ℕ) (es : Named) → AllByRecursion (λ j. same k j ≡ false) (keys_of es) → occurrences same k (names es) ≡ 0
+absent_names k [] a = refl
+absent_names k (e ∷ es) a = grind (arith, absent_names k es a.1, same_sym e.0 k)
+
+rest_absent : (e : List ℕ × Vec (List ℕ) Global) (es : Named) → IsDistinct same (keys_of (e ∷ es)) → occurrences same e.0 (names es) ≡ 0
+unfolding IsDistinct
+rest_absent e es d = absent_names e.0 es d.0
+
+rest_apart : (e : List ℕ × Vec (List ℕ) Global) (es : Named) → IsDistinct same (keys_of (e ∷ es)) → IsDistinct same (keys_of es)
+unfolding IsDistinct
+rest_apart e es d = d.1
+
+-- no group stands among them twice
+pub names_apart : (es : Named) → IsDistinct same (keys_of es) → (g : List ℕ) → occurrences same g (names es) ≤ 1
+names_apart [] d g = omega arith
+names_apart (e ∷ es) d g =
+    let none = λ (h : same e.0 g ≡ true). subst (λ k. occurrences same k (names es) ≡ 0) ((same_decides e.0 g).0 h) (rest_absent e es d) in
+    grind (arith, names_apart es (rest_apart e es d) g, none)
+
+pub found_name : (es : Named) → IsDistinct same (keys_of es) → (g : List ℕ) → is_among g (names es) ≡ true → (n : List ℕ) × (0 < times_named (node_names es) g n)
+found_name [] d g h = grind arith
+found_name (e ∷ es) d g h = by (same g e.0) e.1.items refl refl (found_name es (rest_apart e es d) g)
+  where
+    by : (b : Bool) (ns : List (List ℕ)) → same g e.0 ≡ b → e.1.items ≡ ns → (is_among g (names es) ≡ true → (n : List ℕ) × (0 < times_named (node_names es) g n)) → (n : List ℕ) × (0 < times_named (node_names (e ∷ es)) g n)
+    by true (m ∷ ns) s i rest = (m, grind (arith, s, i, same_decides m m))
+    by true [] s i rest =
+        let none = subst (λ k. occurrences same k (names es) ≡ 0) (sym ((same_decides g e.0).0 s)) (rest_absent e es d) in
+        grind (arith, h, i, none, among_counts g (names es))
+    by false ns s i rest = let there = rest (grind (arith, h, s, same_sym g e.0)) in (there.0, grind (arith, there.1, s))
+
+pub only_name : (es : Named) (g n : List ℕ) → 0 < times_named (node_names es) g n → is_among g (names es) ≡ true
+only_name [] g n l = grind arith
+only_name (e ∷ es) g n l = by e.1.items refl (only_name es g n)
+  where
+    by : (ns : List (List ℕ)) → e.1.items ≡ ns → (0 < times_named (node_names es) g n → is_among g (names es) ≡ true) → is_among g (names (e ∷ es)) ≡ true
+    by [] i rest = grind (arith, i, l, rest, same_sym g e.0)
+    by (m ∷ ns) i rest = grind (arith, i, l, rest, same_sym g e.0)
+
+-- names that ascend, each once, rise
+all_above : (g : List ℕ) (gs : List (List ℕ)) → AllByRecursion (λ h. is_gt (text_cmp g h) ≡ false) gs → occurrences same g gs ≡ 0 → AllByRecursion (λ h. text_cmp g h ≡ Less) gs
+all_above g [] a o = tt
+all_above g (h ∷ gs) a o = (below g h a.0 (grind (arith, o, same_sym g h)), all_above g gs a.1 (grind (arith, o)))
+
+pub names_rise : (gs : List (List ℕ)) → Ascends text_cmp gs → ((g : List ℕ) → occurrences same g gs ≤ 1) → Rises text_cmp gs
+names_rise [] a once = tt
+names_rise (g ∷ gs) a once = (all_above g gs a.0 (grind (arith, once g, same_decides g g)), names_rise gs a.1 (λ k. grind (arith, once k)))
+
+pub still_among : (xs ys : List (List ℕ)) → IsListing text_cmp same (λ g. occurrences same g xs) ys → (g : List ℕ) → is_among g ys ≡ is_among g xs
+still_among xs ys listing g = among_counts g ys ∙ ap (nat_lt 0) (listing.counts g) ∙ sym (among_counts g xs)

@@ -1,13 +1,13 @@
 -- The nodes of each group, and the rows.
 use Rattle.scope_core.proofs.Words.{◌≡◌, ℕ, ◌≤◌, ◌<◌, ◌&&◌, ◌||◌, ◌+◌, Bool, true, false, cond, not, nat_lt, List, [], ◌∷◌, ◌++◌, refl, sym, ap, ◌∙◌, arith}
 use Rattle.scope_core.proofs.Words.{filter, list_any, length, same, same_decides, GroupChange, Joins, Adds, how_many, Result, take, get_or, take_more, zero, suc, Row, Counted, tally}
-use Rattle.scope_core.proofs.Words.{AllByRecursion, is_in, is_of_node, ◌==◌}
+use Rattle.scope_core.proofs.Words.{AllByRecursion, is_in, is_of_node, ◌==◌, of_node, IsNodeList, is_there, has_members, is_named, Covers, is_row_of, has_others}
 use Rattle.scope_core.proofs.NodeLists.{node_tally}
-use Rattle.scope_core.specs.NodeLists.{of_node, IsNodeList}
-use Rattle.scope_core.specs.Indexed.{is_there, has_members, is_named, Covers, is_row_of, has_others}
-use Rattle.scope_core.proofs.Words.{OnOk, Ok, Err, Pid, same_pid, same_pid_decides, list_all, mentions, how_many_append, is_row, total, IsDifference}
+use Rattle.scope_core.proofs.Words.{OnOk, Ok, Err, Pid, same_pid, same_pid_decides, list_all, mentions, how_many_append, is_row, Leaves, is_of_one}
+use Rattle.scope_core.proofs.Words.{same_sym}
+use Rattle.scope_core.proofs.Unnamed.{row_there, some_row, some_more, same_members}
 use Rattle.std.specs.Result.{is_err, OnErr}
-use Rattle.scope_core.proofs.Words.{without_node, All, all_from, subst, ◌≤◌}
+use Rattle.scope_core.proofs.Words.{without_node, All, all_from, subst}
 use Rattle.scope_core.proofs.Rising.{tally_none, tally_all, tally-filter_le}
 
 named_append : (g : List ℕ) (xs ys : List GroupChange) → is_named g (xs ++ ys) ≡ (is_named g xs || is_named g ys)
@@ -260,49 +260,54 @@ gather_more nodes i x l at once g rows pids more so_far next p = grind (arith, s
     step : how_many (λ m. same m p.node) (take (i + 1) nodes) ≡ how_many (λ m. same m p.node) (take i nodes) + cond (same x p.node) 1 0
     step = simp (take_more nodes i x l, ← at) (names_append p.node (take i nodes) (x ∷ []) ∙ grind arith)
 
-row_there : (g : List ℕ) (p : Pid) (rows : List Counted) → tally (is_row g p) rows ≤ tally (is_there g p.node) rows
-row_there g p [] = omega arith
-row_there g p (c ∷ cs) = grind (arith, row_there g p cs)
-
 -- nobody is missing: where no node is named there is no row
 pub all_gathered : (g : List ℕ) (p : Pid) (rows : List Counted) (named : ℕ) → named ≡ cond (has_members g p.node rows) 1 0 → cond (nat_lt 0 named) (tally (is_row g p) rows) 0 ≡ tally (is_row g p) rows
 all_gathered g p rows named is = grind (arith, is, row_there g p rows)
 
--- ---- groups that an answer doesn't name
+-- who a node's being named stands for
+pub named_member : (g n : List ℕ) (rows : List Counted) (named : ℕ) → named ≡ cond (has_members g n rows) 1 0 → 0 < named → (p : Pid) × (0 < tally (is_row g p) rows)
+named_member g n rows named is some = let there = some_row g n rows (grind (arith, is, some)) in (there.0, there.2)
 
-named_total : (part : GroupChange → List Pid) (g : List ℕ) (p : Pid) (changes : List GroupChange) → is_named g changes ≡ false → total (λ c. cond (same c.group g) (mentions p (part c)) 0) changes ≡ 0
-named_total part g p [] e = refl
-named_total part g p (c ∷ cs) e = grind (arith, named_total part g p cs)
+pub member_named : (g : List ℕ) (p : Pid) (rows : List Counted) (named : ℕ) → named ≡ cond (has_members g p.node rows) 1 0 → 0 < tally (is_row g p) rows → 0 < named
+member_named g p rows named is some = grind (arith, is, row_there g p rows)
 
--- in a group that isn't named as many processes are counted after as before
-pub unnamed_same : (before after : List ℕ → Pid → ℕ) (changes : List GroupChange) → IsDifference before after changes → (g : List ℕ) → is_named g changes ≡ false → (p : Pid) → before g p ≡ after g p
-unnamed_same before after changes d g e p =
-    let left = named_total (λ c. c.left) g p changes e in
-    let joined = named_total (λ c. c.joined) g p changes e in
-    omega (arith, d.left g p, d.joined g p, left, joined)
+-- ---- processes that leave one group
 
--- who is counted somewhere is counted by name
-some_row : (g n : List ℕ) (rows : List Counted) → 0 < tally (is_there g n) rows → (p : Pid) × (p.node ≡ n) × (0 < tally (is_row g p) rows)
-some_row g n [] l = grind arith
-some_row g n (c ∷ cs) l = by (is_there g n c.row) (nat_lt 0 c.count) refl refl (some_row g n cs)
-  where
-    by : (b s : Bool) → is_there g n c.row ≡ b → nat_lt 0 c.count ≡ s → (0 < tally (is_there g n) cs → (p : Pid) × (p.node ≡ n) × (0 < tally (is_row g p) cs)) → (p : Pid) × (p.node ≡ n) × (0 < tally (is_row g p) (c ∷ cs))
-    by true true e s rest = (c.row.pid, grind (arith, e, same_decides c.row.pid.node n), grind (arith, e, s, same_pid_decides c.row.pid c.row.pid))
-    by true false e s rest = let r = rest (grind (arith, e, s, l)) in (r.0, r.1, grind (arith, r.2))
-    by false s e t rest = let r = rest (grind (arith, e, l)) in (r.0, r.1, grind (arith, r.2))
+of_one_append : (n : List ℕ) (ps qs : List Pid) → is_of_one n (ps ++ qs) ≡ (is_of_one n ps || is_of_one n qs)
+of_one_append n [] qs = refl
+of_one_append n (p ∷ ps) qs = grind (arith, of_one_append n ps qs)
 
--- rows with the same count of each process have processes in the same groups
-some_more : (g n : List ℕ) (xs ys : List Counted) → ((p : Pid) → p.node ≡ n → tally (is_row g p) xs ≡ tally (is_row g p) ys) → has_members g n xs ≡ true → has_members g n ys ≡ true
-some_more g n xs ys e h =
-    let there = some_row g n xs (grind (arith, h)) in
-    let le = row_there g there.0 ys in
-    let has : has_members g there.0.node ys ≡ true = grind (arith, le, e there.0 there.1, there.2) in
-    subst (λ m. has_members g m ys ≡ true) there.1 has
+module _ (group : List ℕ) (pids : List Pid) (node : List ℕ) where
+  -- whether the group's node is settled, where these processes' nodes are, and the one
+  abbrev pub settles : List ℕ → List ℕ → List Pid → List Counted → Bool
+  settles g n ps rows = (same group g && (same node n || is_of_one n ps)) && not (has_members g n rows)
 
-pub same_members : (g n : List ℕ) (xs ys : List Counted) → ((p : Pid) → p.node ≡ n → tally (is_row g p) xs ≡ tally (is_row g p) ys) → has_members g n xs ≡ has_members g n ys
-same_members g n xs ys e = by (has_members g n xs) (has_members g n ys) (some_more g n xs ys e) (some_more g n ys xs (λ p m. sym (e p m)))
-  where
-    by : (a b : Bool) → (a ≡ true → b ≡ true) → (b ≡ true → a ≡ true) → a ≡ b
-    by true b f h = sym (f refl)
-    by false true f h = h refl
-    by false false f h = refl
+  -- one process on
+  pub settle_next : (i : ℕ) (q : Pid) → i < length pids → q ≡ get_or pids i q → (rows : List Counted) (first old new : List ℕ → List ℕ → ℕ)
+      → ((g n : List ℕ) → old g n ≡ cond (settles g n (take i pids) rows) 0 (first g n))
+      → (same q.node node ≡ true → (g n : List ℕ) → new g n ≡ old g n)
+      → (same q.node node ≡ false → (g n : List ℕ) → new g n ≡ cond ((same group g && same q.node n) && not (has_members g n rows)) 0 (old g n))
+      → (g n : List ℕ) → new g n ≡ cond (settles g n (take (i + 1) pids) rows) 0 (first g n)
+  settle_next i q l at rows first old new so_far own other g n = by (same q.node node) refl
+    where
+      more : is_of_one n (take (i + 1) pids) ≡ (is_of_one n (take i pids) || same q.node n)
+      more = simp (take_more pids i q l, ← at) (of_one_append n (take i pids) (q ∷ []) ∙ grind arith)
+
+      by : (b : Bool) → same q.node node ≡ b → new g n ≡ cond (settles g n (take (i + 1) pids) rows) 0 (first g n)
+      by true e = grind (arith, own e g n, so_far g n, more, same_decides q.node node)
+      by false e = grind (arith, other e g n, so_far g n, more)
+
+  unmentioned : (n : List ℕ) (p : Pid) (ps : List Pid) → p.node ≡ n → is_of_one n ps ≡ false → mentions p ps ≡ 0
+  unmentioned n p [] m e = refl
+  unmentioned n p (q ∷ ps) m e = grind (arith, unmentioned n p ps m, same_pid_decides q p, same_decides q.node n)
+
+  left_cases : (a here was now : Bool) (old new : ℕ) → old ≡ cond was 1 0 → new ≡ cond ((a && here) && not now) 0 old → (now ≡ true → was ≡ true) → ((a && here) ≡ false → now ≡ was) → new ≡ cond now 1 0
+  left_cases a here was now old new o s l k = grind arith
+
+  -- the others have the members that they had
+  pub left_settled : (was now : List Counted) (old new : List ℕ → List ℕ → ℕ) → ((g n : List ℕ) → old g n ≡ cond (has_members g n was) 1 0) → ((g n : List ℕ) → new g n ≡ cond (settles g n pids now) 0 (old g n)) → Leaves group pids was now
+      → (g n : List ℕ) → new g n ≡ cond (has_members g n now) 1 0
+  left_settled was now old new indexed settle leaves g n =
+      let less = some_more g n now was (λ p m. omega (arith, leaves g p)) in
+      let stay = λ (e : (same group g && (same node n || is_of_one n pids)) ≡ false). same_members g n now was (λ p m. grind (arith, leaves g p, same_sym g group, unmentioned n p pids m)) in
+      left_cases (same group g) (same node n || is_of_one n pids) (has_members g n was) (has_members g n now) (old g n) (new g n) (indexed g n) (settle g n) less stay

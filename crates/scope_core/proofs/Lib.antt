@@ -1,8 +1,9 @@
 pub mod Words
+pub mod Rising
 pub mod Shares
 pub mod Runs
 pub mod Groups
-pub mod Rising
+pub mod Unnamed
 pub mod Mentioned
 pub mod Places
 pub mod Calls

@@ -3,7 +3,7 @@ use Rattle.scope_core.proofs.Words.{◌≡◌, ℕ, ◌+◌, ◌≤◌, Bool, tr
 use Rattle.scope_core.proofs.Words.{arith, filter, AllByRecursion, Counted, Row, Pid, same, same_pid, same_decides, same_sym, tally, IsKept, is_of_node}
 use Rattle.scope_core.proofs.Words.{without_node, Joins, HasRoomBeside, same_pid_decides, is_row, same_row, occurrences, mentions, nat_le, list_all, ◌&&◌}
 use Rattle.scope_core.proofs.Words.{are_all_in, Adds, Takes, Leaves, All, all_from, ◌-◌, cond, row_in, take, get_or, how_many_append, take_more, length, ◌<◌, ◌==◌}
-use Rattle.scope_core.proofs.Rising.{all_unmapped, filter_kept, all_filter, tally_all}
+use Rattle.scope_core.proofs.Rising.{all_unmapped, filter_kept, all_filter, tally_all, own_from_tally}
 use Rattle.scope_core.proofs.RowEdits.{tally_append}
 use Rattle.scope_core.proofs.Lower.{itself_passes}
 use Rattle.scope_core.specs.NodeLists.{all_rows, of_node, IsNodeList, AreNodeLists, LeavesOf}
@@ -197,10 +197,6 @@ module _ (node : List ℕ) where
   own_tally [] a = refl
   own_tally (c ∷ cs) a = grind (arith, own_tally cs a.1, same_decides c.row.pid.node node)
 
-  own_from_tally : (rows : List Counted) → AllByRecursion (λ c. 0 < c.count) rows → tally (λ r. not (is_of_node node r)) rows ≡ 0 → AllByRecursion (λ c. c.row.pid.node ≡ node) rows
-  own_from_tally [] a e = tt
-  own_from_tally (c ∷ cs) a e = grind (arith, own_from_tally cs a.1, same_decides c.row.pid.node node)
-
   lone_tally : (other : List ℕ) (rows : List Counted) → AllByRecursion (λ c. c.row.pid.node ≡ node) rows → same node other ≡ false → tally (is_of_node other) rows ≡ 0
   lone_tally other [] a e = refl
   lone_tally other (c ∷ cs) a e = grind (arith, lone_tally other cs a.1 e)
@@ -208,7 +204,7 @@ module _ (node : List ℕ) where
   pub joined_list : (old more new : List Counted) → IsNodeList node old → IsNodeList node more → Joins more old new → IsKept new → IsNodeList node new
   joined_list old more new is and joins kept = record {
     kept = kept;
-    own = own_from_tally new kept.counted (joins (λ r. not (is_of_node node r)) ∙ (λ j. own_tally old is.own j + own_tally more and.own j));
+    own = own_from_tally node new kept.counted (joins (λ r. not (is_of_node node r)) ∙ (λ j. own_tally old is.own j + own_tally more and.own j));
   }
 
   pub filtered_list : (keep : Counted → Bool) (rows : List Counted) → IsNodeList node rows → IsNodeList node (filter keep rows)
@@ -283,7 +279,7 @@ module _ (node : List ℕ) where
   pub lessened_list : (old new : List Counted) → IsNodeList node old → ((test : Row → Bool) → tally test new ≤ tally test old) → IsKept new → IsNodeList node new
   lessened_list old new is less kept = record {
     kept = kept;
-    own = let e : tally (λ r. not (is_of_node node r)) new ≡ 0 = omega (arith, less (λ r. not (is_of_node node r)), own_tally old is.own) in own_from_tally new kept.counted e;
+    own = let e : tally (λ r. not (is_of_node node r)) new ≡ 0 = omega (arith, less (λ r. not (is_of_node node r)), own_tally old is.own) in own_from_tally node new kept.counted e;
   }
 
   -- a tally of no row of the list stays none, where each row is counted no more often

@@ -4,9 +4,8 @@ use Rattle.scope_core.proofs.Words.{is_ok, ap, ◌∙◌, sym, arith, get_or, ad
 use Rattle.scope_core.proofs.Words.{AllByRecursion, IsBinarySearchResult, IsSortedBy, IsNonDecreasingBy, lt-ltb, ltb-true, and_from, tied_itself}
 use Rattle.scope_core.proofs.Words.{searchable_from_sorted, get_or-le-sum_by, Pid, Row, row_cmp, Rises, Counted, is_row, tally, counted_cmp, row_in}
 use Rattle.scope_core.proofs.Words.{IsGap, rows_total, exact_rows, same_decides, same_pid_decides, total_is, all_from}
-use Rattle.scope_core.proofs.Rising.{row_is, once}
+use Rattle.scope_core.proofs.Rising.{row_is, once, tally_absent}
 use Rattle.scope_core.proofs.Runs.{all_at}
-use Rattle.scope_core.proofs.Shares.{share_absent}
 
 -- rows that rise can be searched
 rising_next : (cs : List Counted) → Rises counted_cmp cs → (k : ℕ) (d : Counted) → suc k < length cs → is_lt (row_cmp (get_or cs (suc k) d).row (get_or cs k d).row) ≡ false
@@ -59,27 +58,14 @@ none_is cs g p i l gap = grind (arith, ltb-true, other, all_from)
 
 -- and it isn't counted
 pub absent : (cs : List Counted) (g : List ℕ) (p : Pid) (i : ℕ) → i ≤ length cs → IsGap (row_in g p) cs i → tally (is_row g p) cs ≡ 0
-absent cs g p i l gap = share_absent (λ c. c.count) g p cs (none_is cs g p i l gap)
-
--- where a row stands, it is counted
-pub present : (cs : List Counted) (g : List ℕ) (p : Pid) (i : ℕ) → i < length cs → AllByRecursion (λ c. 0 < c.count) cs → HoldsAt (λ c. c.row ≡ row_in g p) cs i → 0 < tally (is_row g p) cs
-present cs g p i l counted at =
-    let d : Counted = record { row = row_in g p; count = 0 } in
-    let f = λ (c : Counted). cond (is_row g p c.row) c.count 0 in
-    let some = all_at (λ c. 0 < c.count) cs i d counted l in
-    grind (arith, some, at d, itself g p, get_or-le-sum_by f cs i d l, total_is f cs)
+absent cs g p i l gap = tally_absent g p cs (none_is cs g p i l gap)
 
 -- where a row stands, its count is what is counted
 pub found_counts : (cs : List Counted) (g : List ℕ) (p : Pid) (i : ℕ) (d : Counted) → i < length cs → Rises counted_cmp cs → HoldsAt (λ c. c.row ≡ row_in g p) cs i → (get_or cs i d).count ≡ tally (is_row g p) cs
 found_counts [] g p i d l r at = grind arith
 found_counts (c ∷ cs) g p zero d l r at =
     let e = ap (is_row g p) (at c) ∙ itself g p in
-    grind (arith, e, share_absent (λ x. x.count) g p cs (once g p c cs e r.0))
+    grind (arith, e, tally_absent g p cs (once g p c cs e r.0))
 found_counts (c ∷ cs) g p (suc i) d l r at =
     let below = all_at (λ x. counted_cmp c x ≡ Less) cs i c r.0 (omega (arith, l)) in
     grind (arith, found_counts cs g p i d (omega (arith, l)) r.1 at, below, at c, other g p c.row)
-
-pub joined_is : (cs : List Counted) (g : List ℕ) (p : Pid) (r : Result ℕ ℕ) → AllByRecursion (λ c. 0 < c.count) cs
-    → IfOk r (λ i. i < length cs) → IfOk r (HoldsAt (λ c. c.row ≡ row_in g p) cs) → IfErr r (λ i. i ≤ length cs) → IfErr r (IsGap (row_in g p) cs) → is_ok r ≡ nat_lt 0 (tally (is_row g p) cs)
-joined_is cs g p (Ok i) counted bound found end gap = sym (lt-ltb 0 (tally (is_row g p) cs) (present cs g p i bound counted found))
-joined_is cs g p (Err i) counted bound found end gap = grind (arith, absent cs g p i end gap)

@@ -1,7 +1,7 @@
 -- Rows that rise: what is filtered from them rises and is counted, and a row stands in them once.
 use Rattle.scope_core.proofs.Words.{◌≡◌, ℕ, Bool, true, false, List, [], ◌∷◌, Ordering, Less, is_gt, filter, AllByRecursion, and_parts, tied_itself}
 use Rattle.scope_core.proofs.Words.{Pid, Row, text_cmp, pid_cmp, Counted, Rises, is_row, counted_cmp, is_in, same_decides, same_pid_decides}
-use Rattle.scope_core.proofs.Words.{rows_total, in_one_group, arith, refl, how_many, ◌≤◌, cond, not, tally, IsKept, map}
+use Rattle.scope_core.proofs.Words.{rows_total, in_one_group, arith, refl, how_many, ◌≤◌, ◌<◌, cond, not, tally, IsKept, is_of_node, of_node, same, same_pid, map}
 
 module _ {A : Type 0} (P : A → Type 0) (keep : A → Bool) where
   pub all_filter : (xs : List A) → AllByRecursion P xs → AllByRecursion P (filter keep xs)
@@ -74,3 +74,22 @@ module _ (keep : Counted → Bool) where
 pub gone_counts : (hits : Pid → Bool) (g : List ℕ) (p : Pid) (cs : List Counted) → tally (is_row g p) (filter (λ c. not (hits c.row.pid)) cs) ≡ cond (hits p) 0 (tally (is_row g p) cs)
 gone_counts hits g p [] = grind arith
 gone_counts hits g p (c ∷ cs) = grind (arith, gone_counts hits g p cs, same_pid_decides c.row.pid p)
+
+-- and what is counted where no others stay
+pub kept_counts : (hits : Pid → Bool) (g : List ℕ) (p : Pid) (cs : List Counted) → tally (is_row g p) (filter (λ c. hits c.row.pid) cs) ≡ cond (hits p) (tally (is_row g p) cs) 0
+kept_counts hits g p [] = grind arith
+kept_counts hits g p (c ∷ cs) = grind (arith, kept_counts hits g p cs, same_pid_decides c.row.pid p)
+
+-- as those of one process, of the rows of its node
+pub process_counts : (q : Pid) (g : List ℕ) (p : Pid) (cs : List Counted) → tally (is_row g p) (filter (λ c. same_pid c.row.pid q) (of_node q.node cs)) ≡ cond (same_pid p q) (tally (is_row g p) cs) 0
+process_counts q g p cs = grind (arith, kept_counts (λ r. same_pid r q) g p (of_node q.node cs), kept_counts (λ r. same r.node q.node) g p cs)
+
+-- where none of the rows is this one, it isn't counted
+pub tally_absent : (g : List ℕ) (p : Pid) (cs : List Counted) → AllByRecursion (λ c. is_row g p c.row ≡ false) cs → tally (is_row g p) cs ≡ 0
+tally_absent g p [] a = refl
+tally_absent g p (c ∷ cs) a = grind (arith, tally_absent g p cs a.1)
+
+-- where nothing is counted of other nodes, all rows are of the node
+pub own_from_tally : (node : List ℕ) (cs : List Counted) → AllByRecursion (λ c. 0 < c.count) cs → tally (λ r. not (is_of_node node r)) cs ≡ 0 → AllByRecursion (λ c. c.row.pid.node ≡ node) cs
+own_from_tally node [] a e = tt
+own_from_tally node (c ∷ cs) a e = grind (arith, own_from_tally node cs a.1, same_decides c.row.pid.node node)

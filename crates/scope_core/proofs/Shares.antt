@@ -1,88 +1,71 @@
--- What part of a count is listed.
-use Rattle.scope_core.proofs.Words.{◌≡◌, ℕ, ◌≤◌, Bool, true, false, cond, List, [], ◌∷◌, length, refl, ◌∙◌, sym, arith, filter, AllByRecursion, Pid}
-use Rattle.scope_core.proofs.Words.{Row, pid_cmp, row_cmp, Counted, occurrences, same, same_pid, same_row, total, Rises, IsPidListing, IsRowListing}
-use Rattle.scope_core.proofs.Words.{spread, Table, is_row, tally, counted_cmp, count_of, node_total, local_count, local_total, is_in, share}
-use Rattle.scope_core.proofs.Words.{pids_total, rows_total, same_row_decides, total_filter, spread_ascends, spread_counts, length-spread, same_length}
-use Rattle.scope_core.proofs.Words.{fewer_length}
-use Rattle.scope_core.proofs.Rising.{in_group_rises, row_is, once}
-
-pub share_absent : (times : Counted → ℕ) (g : List ℕ) (p : Pid) (cs : List Counted) → AllByRecursion (λ c. is_row g p c.row ≡ false) cs → share times g p cs ≡ 0
-share_absent times g p [] a = refl
-share_absent times g p (c ∷ cs) a = grind (arith, share_absent times g p cs a.1)
-
--- f takes nothing where there is nothing
-abbrev pub IsPart : (Pid → ℕ → ℕ) → Type 0
-IsPart f = (p : Pid) → f p 0 ≡ 0
-
--- where f is taken of each row's count, f is taken of the count
-pub share_is : (f : Pid → ℕ → ℕ) → IsPart f → (g : List ℕ) (p : Pid) (cs : List Counted) → Rises counted_cmp cs → share (λ c. f c.row.pid c.count) g p cs ≡ f p (tally (is_row g p) cs)
-share_is f none g p [] r = sym (none p)
-share_is f none g p (c ∷ cs) r =
-    let listed = λ (e : is_row g p c.row ≡ true). share_absent (λ d. f d.row.pid d.count) g p cs (once g p c cs e r.0) in
-    let counted = λ (e : is_row g p c.row ≡ true). share_absent (λ d. d.count) g p cs (once g p c cs e r.0) in
-    grind (arith, share_is f none g p cs r.1, listed, counted, row_is g p c.row)
-
--- how many of a row's count belong to a process that is hit
-abbrev pub part : (Pid → Bool) → Counted → ℕ
-part hit c = cond (hit c.row.pid) c.count 0
-
-pub part_shared : (hit : Pid → Bool) (g : List ℕ) (p : Pid) (cs : List Counted) → Rises counted_cmp cs → share (part hit) g p cs ≡ cond (hit p) (tally (is_row g p) cs) 0
-part_shared hit g p cs r = share_is (λ q n. cond (hit q) n 0) (λ q. grind arith) g p cs r
+-- What is counted is listed.
+use Rattle.scope_core.proofs.Words.{◌≡◌, ℕ, ◌≤◌, cond, List, [], ◌∷◌, length, refl, ◌∙◌, sym, arith, filter, Pid, Row, pid_cmp, row_cmp, Counted}
+use Rattle.scope_core.proofs.Words.{occurrences, same, same_pid, same_row, total, Rises, IsPidListing, IsRowListing, spread, Table, is_row, is_of_node}
+use Rattle.scope_core.proofs.Words.{tally, counted_cmp, count_of, node_total, local_count, local_total, is_in, pids_in, of_node, pids_total, rows_total}
+use Rattle.scope_core.proofs.Words.{same_row_decides, total_filter, spread_ascends, spread_counts, length-spread, same_length, fewer_length}
+use Rattle.scope_core.proofs.Rising.{in_group_rises, kept_counts}
 
 -- the processes of the rows of a group
-pub shares_listing : (times : Counted → ℕ) (g : List ℕ) (cs : List Counted) → Rises counted_cmp cs → IsPidListing (λ p. share times g p cs) (spread (λ c. c.row.pid) times (filter (is_in g) cs))
-shares_listing times g cs r = record {
-  ascends = spread_ascends pid_cmp pids_total (λ c. c.row.pid) times (filter (is_in g) cs) (in_group_rises g cs r);
+pub pids_listing : (g : List ℕ) (cs : List Counted) → Rises counted_cmp cs → IsPidListing (λ p. tally (is_row g p) cs) (pids_in g cs)
+pids_listing g cs r = record {
+  ascends = spread_ascends pid_cmp pids_total (λ c. c.row.pid) (λ c. c.count) (filter (is_in g) cs) (in_group_rises g cs r);
   counts = λ p.
-      spread_counts same_pid (λ c. c.row.pid) times p (filter (is_in g) cs)
-      ∙ total_filter (is_in g) (λ c. same_pid c.row.pid p) times cs;
+      spread_counts same_pid (λ c. c.row.pid) (λ c. c.count) p (filter (is_in g) cs)
+      ∙ total_filter (is_in g) (λ c. same_pid c.row.pid p) (λ c. c.count) cs;
 }
-
-pub pids_listing : (hit : Pid → Bool) (g : List ℕ) (cs : List Counted) → Rises counted_cmp cs → IsPidListing (λ p. cond (hit p) (tally (is_row g p) cs) 0) (spread (λ c. c.row.pid) (part hit) (filter (is_in g) cs))
-pids_listing hit g cs r = grind (arith, shares_listing, part_shared)
 
 -- the rows themselves
-pub rows_listing : (hit : Pid → Bool) (cs : List Counted) → Rises counted_cmp cs → IsRowListing (λ g p. cond (hit p) (tally (is_row g p) cs) 0) (spread (λ c. c.row) (part hit) cs)
-rows_listing hit cs r = record {
-  ascends = spread_ascends row_cmp rows_total (λ c. c.row) (part hit) cs r;
-  counts = λ x. spread_counts same_row (λ c. c.row) (part hit) x cs ∙ part_shared hit x.group x.pid cs r;
+pub rows_listing : (cs : List Counted) → Rises counted_cmp cs → IsRowListing (λ g p. tally (is_row g p) cs) (spread (λ c. c.row) (λ c. c.count) cs)
+rows_listing cs r = record {
+  ascends = spread_ascends row_cmp rows_total (λ c. c.row) (λ c. c.count) cs r;
+  counts = λ x. spread_counts same_row (λ c. c.row) (λ c. c.count) x cs;
 }
 
-pub total_filter_le : {A : Type 0} (keep : A → Bool) (f : A → ℕ) (xs : List A) → total f (filter keep xs) ≤ total f xs
-total_filter_le keep f [] = omega arith
-total_filter_le keep f (x ∷ xs) = grind (arith, total_filter_le keep f xs)
+-- those of one node
+pub node_pids : (n g : List ℕ) (cs : List Counted) → Rises counted_cmp (of_node n cs) → IsPidListing (λ p. cond (same p.node n) (tally (is_row g p) cs) 0) (pids_in g (of_node n cs))
+node_pids n g cs r = let all = pids_listing g (of_node n cs) r in record { ascends = all.ascends; counts = λ p. all.counts p ∙ kept_counts (λ q. same q.node n) g p cs }
+
+pub node_listing : (n : List ℕ) (cs : List Counted) → Rises counted_cmp (of_node n cs) → IsRowListing (λ g p. cond (same p.node n) (tally (is_row g p) cs) 0) (spread (λ c. c.row) (λ c. c.count) (of_node n cs))
+node_listing n cs r = let all = rows_listing (of_node n cs) r in record { ascends = all.ascends; counts = λ x. all.counts x ∙ kept_counts (λ q. same q.node n) x.group x.pid cs }
+
+-- how many rows a node has
+pub node_rows : (node : List ℕ) (cs : List Counted) → total (λ c. c.count) (of_node node cs) ≡ tally (is_of_node node) cs
+node_rows node [] = refl
+node_rows node (c ∷ cs) = grind (arith, node_rows node cs)
+
+in_group_le : (g : List ℕ) (cs : List Counted) → total (λ c. c.count) (filter (is_in g) cs) ≤ total (λ c. c.count) cs
+in_group_le g [] = omega arith
+in_group_le g (c ∷ cs) = grind (arith, in_group_le g cs)
 
 -- a list is as long as what its rows have
-pub few_rows : (times : Counted → ℕ) (cs : List Counted) → total times cs ≤ 4096 → length (spread (λ c. c.row) times cs) ≤ 4096
-few_rows times cs l = omega (arith, l, length-spread (λ c. c.row) times cs)
+pub few_rows : (cs : List Counted) → total (λ c. c.count) cs ≤ 4096 → length (spread (λ c. c.row) (λ c. c.count) cs) ≤ 4096
+few_rows cs l = omega (arith, l, length-spread (λ (c : Counted). c.row) (λ c. c.count) cs)
 
-pub few_pids : (times : Counted → ℕ) (g : List ℕ) (cs : List Counted) → total times cs ≤ 4096 → length (spread (λ c. c.row.pid) times (filter (is_in g) cs)) ≤ 4096
-few_pids times g cs l = omega (arith, l, length-spread (λ c. c.row.pid) times (filter (is_in g) cs), total_filter_le (is_in g) times cs)
-
--- what the processes of a node share, also where rows repeat
-node_share : (node g : List ℕ) (p : Pid) (cs : List Counted) → share (part (λ q. same q.node node)) g p cs ≡ cond (same p.node node) (tally (is_row g p) cs) 0
-node_share node g p [] = grind arith
-node_share node g p (c ∷ cs) = grind (arith, node_share node g p cs, row_is g p c.row)
-
--- how often a row stands among those of a node, also where rows repeat
-pub node_flat : (node : List ℕ) (t : Table) (r : Row) → occurrences same_row r (spread (λ c. c.row) (part (λ q. same q.node node)) t.rows) ≡ cond (same r.pid.node node) (count_of t r.group r.pid) 0
-node_flat node t r = grind (arith, spread_counts, node_share)
+pub few_pids : (g : List ℕ) (cs : List Counted) → total (λ c. c.count) cs ≤ 4096 → length (pids_in g cs) ≤ 4096
+few_pids g cs l = omega (arith, l, length-spread (λ (c : Counted). c.row.pid) (λ c. c.count) (filter (is_in g) cs), in_group_le g cs)
 
 module _ (node : List ℕ) (t : Table) (rows : List Row) where
   abbrev listed : List Row
-  listed = spread (λ (c : Counted). c.row) (part (λ q. same q.node node)) t.rows
+  listed = spread (λ (c : Counted). c.row) (λ c. c.count) (of_node node t.rows)
+
+  -- how often a row stands among those of a node
+  listed_counts : (r : Row) → occurrences same_row r listed ≡ cond (same r.pid.node node) (count_of t r.group r.pid) 0
+  listed_counts r =
+      spread_counts same_row (λ (c : Counted). c.row) (λ c. c.count) r (of_node node t.rows)
+      ∙ kept_counts (λ q. same q.node node) r.group r.pid t.rows
+
+  length_listed : length listed ≡ node_total t node
+  length_listed = length-spread (λ (c : Counted). c.row) (λ c. c.count) (of_node node t.rows) ∙ node_rows node t.rows
 
   -- rows of a node, listed no more often than they are counted, are no more than it has
   pub fewer_rows : ((r : Row) → occurrences same_row r rows ≤ cond (same r.pid.node node) (count_of t r.group r.pid) 0) → length rows ≤ node_total t node
   fewer_rows few =
-      let l = fewer_length same_row same_row_decides rows listed (λ r. grind (arith, few r, node_flat node t r)) in
-      omega (arith, l, length-spread (λ (c : Counted). c.row) (part (λ q. same q.node node)) t.rows)
+      let l = fewer_length same_row same_row_decides rows listed (λ r. grind (arith, few r, listed_counts r)) in
+      omega (arith, l, length_listed)
 
   -- and listed just as often, as many
   pub same_rows : ((r : Row) → occurrences same_row r rows ≡ cond (same r.pid.node node) (count_of t r.group r.pid) 0) → length rows ≡ node_total t node
-  same_rows is =
-      same_length same_row same_row_decides rows listed (λ r. is r ∙ sym (node_flat node t r))
-      ∙ length-spread (λ (c : Counted). c.row) (part (λ q. same q.node node)) t.rows
+  same_rows is = same_length same_row same_row_decides rows listed (λ r. is r ∙ sym (listed_counts r)) ∙ length_listed
 
 -- the own rows, listed, are as many as the own node has
 pub length_local_rows : (t : Table) (rows : List Row) → IsRowListing (local_count t) rows → length rows ≡ local_total t

@@ -38,8 +38,10 @@ pub use Rattle.scope_core.specs.Added.{rows_left, without_node}
 pub use Rattle.scope_core.specs.Beyond.{picked, times_beyond}
 pub use Rattle.scope_core.specs.Calls.{Counts, IsAddFault, IsSyncFault, are_counted, count_after_add, count_after_drop, count_after_exit}
 pub use Rattle.scope_core.specs.Calls.{count_after_join, count_after_sync, is_any_joined, no_count}
-pub use Rattle.scope_core.specs.Listed.{IsUnion, Tells, differs, heads, is_in, last_of, moving, share}
-pub use Rattle.scope_core.specs.Part.{times_of}
+pub use Rattle.scope_core.specs.GroupNodes.{named_groups, node_names, times_named}
+pub use Rattle.scope_core.specs.Indexed.{Covers, has_members, has_others, is_named, is_of_one, is_row_of, is_there}
+pub use Rattle.scope_core.specs.Listed.{IsEmptied, IsUnion, Tells, differs, heads, is_in, last_of, moving, pids_in}
+pub use Rattle.scope_core.specs.NodeLists.{IsNodeList, of_node}
 pub use Rattle.scope_core.specs.Table.{AreCounted, IsKept, Table, count_of, counted_cmp, is_of_node, is_row, local_count, local_total, max_rows}
 pub use Rattle.scope_core.specs.Table.{node_total, tally}
 pub use Rattle.scope_core.specs.declared.counted.Counted.{Counted}

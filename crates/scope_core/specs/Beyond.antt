@@ -1,13 +1,12 @@
 -- Rows that are counted more often than among others.
 use Rattle.std.specs.Prelude.{ℕ, ◌-◌, cond, nat_lt, List, [], ◌∷◌}
 use Rattle.std.specs.List.{flat_map}
-use Rattle.dist_types.specs.Listing.{same}
 use Rattle.scope_core.specs.declared.counted.Counted.{Counted}
 use Rattle.scope_core.specs.Table.{is_row, tally}
 
--- how much more often a row of the node is counted than among the others
-abbrev pub times_beyond : List ℕ → List Counted → Counted → ℕ
-times_beyond node others c = cond (same c.row.pid.node node) (c.count - tally (is_row c.row.group c.row.pid) others) 0
+-- how much more often a row is counted than among the others
+abbrev pub times_beyond : List Counted → Counted → ℕ
+times_beyond others c = c.count - tally (is_row c.row.group c.row.pid) others
 
 -- the rows, each as often as times says, if at all
 abbrev pub picked : (Counted → ℕ) → List Counted → List Counted

@@ -29,6 +29,10 @@ is_named g changes = list_any (λ c. same c.group g) changes
 abbrev pub Covers : List GroupChange → List ℕ → List Counted → List Counted → Type 0
 Covers changes node old new = (g : List ℕ) → is_named g changes ≡ false → has_members g node new ≡ has_members g node old
 
+-- whether one of the processes is of the node
+abbrev pub is_of_one : List ℕ → List Pid → Bool
+is_of_one n ps = list_any (λ p. same p.node n) ps
+
 -- whether it is the row of the process in the group
 abbrev pub is_row_of : List ℕ → Pid → Counted → Bool
 is_row_of g p c = same c.row.group g && same_pid c.row.pid p

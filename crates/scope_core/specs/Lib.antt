@@ -1,5 +1,4 @@
 pub mod Table
-pub mod Part
 pub mod Listed
 pub mod Added
 pub mod Beyond

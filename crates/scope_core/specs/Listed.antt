@@ -5,7 +5,7 @@ use Rattle.dist_types.specs.declared.change.GroupChange.{GroupChange}
 use Rattle.scope_core.specs.declared.counted.Counted.{Counted}
 use Rattle.dist_types.specs.declared.pid.Pid.{Pid}
 use Rattle.dist_types.specs.Order.{text_cmp}
-use Rattle.dist_types.specs.Listing.{same, is_among, total, spread, Rises}
+use Rattle.dist_types.specs.Listing.{same, is_among, spread, Rises, IsPidListing}
 use Rattle.dist_types.specs.Difference.{IsDifference}
 use Rattle.scope_core.specs.Table.{is_row, tally}
 
@@ -23,30 +23,31 @@ abbrev pub last_of : List (List ℕ) → Option (List ℕ)
 last_of gs = slice_get gs (length gs - 1)
 
 -- the groups of the rows that are counted, each where it differs from the last
-abbrev pub heads : (Counted → ℕ) → Option (List ℕ) → List Counted → List (List ℕ)
-heads times last [] = []
-heads times last (c ∷ cs) = cond (nat_lt 0 (times c) && differs last c.row.group) (c.row.group ∷ heads times (Some c.row.group) cs) (heads times last cs)
-
--- how often p is in g among the rows, where times says how often each row is
-abbrev pub share : (Counted → ℕ) → List ℕ → Pid → List Counted → ℕ
-share times g p rows = total (λ c. cond (is_row g p c.row) (times c) 0) rows
+abbrev pub heads : Option (List ℕ) → List Counted → List (List ℕ)
+heads last [] = []
+heads last (c ∷ cs) = cond (nat_lt 0 c.count && differs last c.row.group) (c.row.group ∷ heads (Some c.row.group) cs) (heads last cs)
 
 -- these are the groups of either list, ascending, each once
 pub record IsUnion (gs hs union : List (List ℕ)) : Type 0 where
   pub rises : Rises text_cmp union
   pub either : (g : List ℕ) → is_among g union ≡ (is_among g gs || is_among g hs)
 
--- what leaves the group g, where times says how many of each row leave, and what joins it
-abbrev pub moving : (Counted → ℕ) → List Counted → List Counted → List ℕ → GroupChange
-moving times rows joined g = record {
-  group = g;
-  left = spread (λ c. c.row.pid) times (filter (is_in g) rows);
-  joined = spread (λ c. c.row.pid) (λ c. c.count) (filter (is_in g) joined);
-}
+-- the processes of the rows of the group g, each as often as it is counted
+abbrev pub pids_in : List ℕ → List Counted → List Pid
+pids_in g rows = spread (λ c. c.row.pid) (λ c. c.count) (filter (is_in g) rows)
 
--- the changes are each difference in which as many of the rows leave as times says, and the others join
-abbrev pub Tells : (Counted → ℕ) → List Counted → List Counted → List GroupChange → Type 0
-Tells times rows joined changes = (before after : List ℕ → Pid → ℕ)
-    → ((g : List ℕ) (p : Pid) → before g p - after g p ≡ share times g p rows)
+-- what changes in the group g where some rows leave, and others join
+abbrev pub moving : List Counted → List Counted → List ℕ → GroupChange
+moving gone joined g = record { group = g; left = pids_in g gone; joined = pids_in g joined }
+
+-- the changes are each difference in which some rows leave, and others join
+abbrev pub Tells : List Counted → List Counted → List GroupChange → Type 0
+Tells gone joined changes = (before after : List ℕ → Pid → ℕ)
+    → ((g : List ℕ) (p : Pid) → before g p - after g p ≡ tally (is_row g p) gone)
     → ((g : List ℕ) (p : Pid) → after g p - before g p ≡ tally (is_row g p) joined)
     → IsDifference before after changes
+
+-- all processes of the group leave it
+pub record IsEmptied (rows : List Counted) (change : GroupChange) : Type 0 where
+  pub left : IsPidListing (λ p. tally (is_row change.group p) rows) change.left
+  pub none : change.joined ≡ []

@@ -59,7 +59,7 @@ pub record IsKept (rows : List Counted) : Type 0 where
   pub counted : AllByRecursion (λ c. 0 < c.count) rows
   pub few : (node : List ℕ) → tally (is_of_node node) rows ≤ max_rows
 
--- the rows are kept, and total is how many the own processes have
+-- total is how many rows the own processes have, and no more than they may
 pub record IsHeld (own : List ℕ) (total_rows : ℕ) (rows : List Counted) : Type 0 where
-  pub kept : IsKept rows
+  pub few : total_rows ≤ max_rows
   pub total : total_rows ≡ tally (is_of_node own) rows

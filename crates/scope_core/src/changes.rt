@@ -3,12 +3,10 @@ ghost use Rattle.std.specs.Prelude.{◌≡◌, IfOk, None, map};
 ghost use Rattle.dist_types.specs.Listing.{Rises, mentions, IsPidListing};
 ghost use Rattle.scope_core.specs.Added.{row_in};
 ghost use Rattle.scope_core.specs.Table.{counted_cmp};
-ghost use Rattle.scope_core.specs.Part.{times_of};
 ghost use Rattle.dist_types.specs.Difference.{change_unless_empty};
 ghost use Rattle.scope_core.specs.Listed.{heads, moving, IsUnion, Tells};
 
 use crate::counted::Counted;
-use crate::part::Part;
 use crate::reads::{groups_of, in_group, pids_of};
 use dist_types::{Group, GroupChange, Items, OutOfMemory, Pid, Row, TryClone};
 use std::alloc::Global;
@@ -34,56 +32,53 @@ pub fn one_change(
     Ok(changes)
 }
 
-/// The changes where the memberships of the part left, and these rows joined.
+/// The changes where some rows leave, and others join.
 pub fn changes_of(
     alloc: Global,
-    rows: &[Counted],
-    part: Part<'_>,
+    gone: &[Counted],
     joined: &[Counted],
 ) -> Result<Vec<GroupChange>, OutOfMemory>
-    requires left { Rises counted_cmp rows.now }
+    requires gone { Rises counted_cmp gone.now }
     requires joined { Rises counted_cmp joined.now }
-    ensures { IfOk result (λ changes. Tells (times_of part.entry) rows.now joined.now changes.items) }
+    ensures { IfOk result (λ changes. Tells gone.now joined.now changes.items) }
 {
-    let groups = groups_moved(alloc, rows, part, joined)?;
+    let groups = groups_moved(alloc, gone, joined)?;
     let mut changes = Vec::with_capacity(alloc, groups.len())?;
     for group in &groups {
-        changes.push(change_in(alloc, group, rows, part, joined)?)?;
+        changes.push(change_in(alloc, group, gone, joined)?)?;
     }
     Ok(changes)
 }
 
-/// The groups that processes left or joined.
+/// The groups that processes leave or join.
 fn groups_moved(
     alloc: Global,
-    rows: &[Counted],
-    part: Part<'_>,
+    gone: &[Counted],
     joined: &[Counted],
 ) -> Result<Vec<Group>, OutOfMemory>
-    ensures { IfOk result (λ groups. IsUnion (heads (times_of part.entry) None rows.now) (heads (λ c. c.count) None joined.now) groups.items) }
+    ensures { IfOk result (λ groups. IsUnion (heads None gone.now) (heads None joined.now) groups.items) }
 {
-    let mut groups = groups_of(alloc, rows, part)?;
-    let mut more = groups_of(alloc, joined, Part::All)?;
+    let mut groups = groups_of(alloc, gone)?;
+    let mut more = groups_of(alloc, joined)?;
     groups.append(&mut more)?;
     groups.sort_unstable();
     groups.dedup();
     Ok(groups)
 }
 
-/// The processes that left and joined a group.
+/// The processes that leave and join a group.
 fn change_in(
     alloc: Global,
     group: &Group,
-    rows: &[Counted],
-    part: Part<'_>,
+    gone: &[Counted],
     joined: &[Counted],
 ) -> Result<GroupChange, OutOfMemory>
-    requires left { Rises counted_cmp rows.now }
+    requires gone { Rises counted_cmp gone.now }
     requires joined { Rises counted_cmp joined.now }
-    ensures { IfOk result (λ change. change ≡ moving (times_of part.entry) rows.now joined.now group.now) }
+    ensures { IfOk result (λ change. change ≡ moving gone.now joined.now group.now) }
 {
-    let left = pids_of(alloc, in_group(rows, group), part)?;
-    let joined = pids_of(alloc, in_group(joined, group), Part::All)?;
+    let left = pids_of(alloc, in_group(gone, group))?;
+    let joined = pids_of(alloc, in_group(joined, group))?;
     Ok(GroupChange {
         group: group.try_clone(alloc)?,
         left: Items::of(left),

@@ -4,12 +4,12 @@ ghost use Rattle.std.specs.List.{filter, HoldsAt};
 ghost use Rattle.dist_types.specs.declared.row.Row.{Row};
 ghost use Rattle.dist_types.specs.Listing.{same_pid};
 ghost use Rattle.scope_core.specs.Table.{tally, is_row, is_of_node, IsKept, AreCounted};
-ghost use Rattle.scope_core.specs.Added.{row_in, without_node, Adds, Joins, Takes, Leaves, HasRoomFor, HasRoomBeside};
+ghost use Rattle.scope_core.specs.Added.{row_in, Adds, Joins, Takes, Leaves, HasRoomFor, HasRoomBeside};
 
 use crate::counted::Counted;
 use crate::lowered::{lower_all, sweep};
 use crate::merged::merge;
-use crate::reads::place_of;
+use crate::reads::{is_same, place_of};
 use dist_types::{Group, NodeName, Pid, Row};
 
 /// Where rows are merged, or taken in one pass, all rows of the table are moved. So fewer than these go one by one.
@@ -19,36 +19,7 @@ pub const FEW: usize = 32;
 pub fn remove_pid(rows: &mut Vec<Counted>, pid: &Pid)
     ensures { rows.new.items ≡ filter (λ c. not (same_pid c.row.pid pid.now)) rows.old.items }
 {
-    rows.retain(|counted| counted.row.pid != *pid);
-}
-
-/// Takes all rows of a node's processes away.
-pub fn remove_node(rows: &mut Vec<Counted>, node: &NodeName)
-    ensures items { rows.new.items ≡ without_node node.now rows.old.items }
-    ensures room { vec_len rows.new ≤ vec_len rows.old }
-    ensures capacity { vec_capacity rows.new ≡ vec_capacity rows.old }
-{
-    rows.retain(|counted| counted.row.pid.node != *node);
-}
-
-/// Puts rows in place of those of a node's processes.
-#[tactic(auto, using(crate::proofs::Rising::filter_kept))]
-pub fn replace_node(
-    rows: &mut Vec<Counted>,
-    node: &NodeName,
-    more: Vec<Counted>,
-    spare: Vec<Counted>,
-)
-    requires room { vec_len rows.old + vec_len more ≤ vec_capacity rows.old }
-    requires empty { spare.items ≡ [] }
-    requires kept { IsKept rows.old.items }
-    requires more { IsKept more.items }
-    requires few { HasRoomBeside more.items (without_node node.now rows.old.items) }
-    ensures added { Joins more.items (without_node node.now rows.old.items) rows.new.items }
-    ensures kept { IsKept rows.new.items }
-{
-    remove_node(rows, node);
-    put_in(rows, more, spare);
+    rows.retain(|counted| !is_same(&counted.row.pid, pid));
 }
 
 /// Puts rows in, into the room that there is: by a merge, where there is spare room for all. Where there are no others, they

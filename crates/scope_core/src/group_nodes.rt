@@ -1,7 +1,10 @@
 //! The nodes whose processes are in each group.
-ghost use Rattle.std.specs.Prelude.{◌≡◌, ◌≤◌, ◌&&◌, ℕ, List, [], cond, IfOk, OnOk, OnErr, ◌∷◌};
-ghost use Rattle.dist_types.specs.Listing.{same, how_many};
-ghost use Rattle.scope_core.specs.GroupNodes.{times_named};
+ghost use Rattle.std.specs.Prelude.{◌≡◌, ◌≤◌, ◌<◌, ◌&&◌, ℕ, List, [], cond, IsTrue, IfOk, OnOk, OnErr, ◌∷◌};
+ghost use Rattle.std.specs.List.{IsDistinct};
+ghost use Rattle.std.specs.Map.{keys_of};
+ghost use Rattle.dist_types.specs.Order.{text_cmp};
+ghost use Rattle.dist_types.specs.Listing.{same, how_many, is_among, Rises};
+ghost use Rattle.scope_core.specs.GroupNodes.{times_named, node_names, named_groups};
 
 use dist_types::{Group, NodeName, OutOfMemory, TryClone};
 use indexmap::IndexMap;
@@ -46,6 +49,17 @@ impl GroupNodes {
             Some(nodes) => nodes,
             None => &[],
         }
+    }
+
+    /// The groups with a node, in their order.
+    pub fn groups(&self, alloc: Global) -> Result<Vec<Group>, OutOfMemory>
+        ensures rises { IfOk result (λ groups. Rises text_cmp groups.items) }
+        ensures found { IfOk result (λ groups. (g : List ℕ) → IsTrue (is_among g groups.items) → (n : List ℕ) × (0 < times_named self.now g n)) }
+        ensures only { IfOk result (λ groups. (g n : List ℕ) → 0 < times_named self.now g n → IsTrue (is_among g groups.items)) }
+    {
+        let mut groups = named(alloc, &self.nodes)?;
+        groups.sort_unstable();
+        Ok(groups)
     }
 
     /// The node is one of the group's.
@@ -99,6 +113,23 @@ impl GroupNodes {
     {
         self.nodes.clear();
     }
+}
+
+/// The groups of which a node is named.
+fn named(
+    alloc: Global,
+    nodes: &IndexMap<Group, Vec<NodeName>>,
+) -> Result<Vec<Group>, OutOfMemory>
+    ensures groups { IfOk result (λ groups. groups.items ≡ named_groups (node_names nodes.now.entries)) }
+    ensures apart { IsDistinct same (keys_of nodes.now.entries) }
+{
+    let mut groups = Vec::with_capacity(alloc, nodes.len())?;
+    for (group, names) in nodes.iter() {
+        if !names.is_empty() {
+            groups.push(group.try_clone(alloc)?)?;
+        }
+    }
+    Ok(groups)
 }
 
 /// A list of this node.

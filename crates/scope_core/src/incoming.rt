@@ -10,7 +10,7 @@ use crate::changes::copies_of;
 use crate::counted::Counted;
 use crate::edits::{FEW, add_all};
 use crate::reads::count_at;
-use dist_types::{NodeName, OutOfMemory, Row, TryClone};
+use dist_types::{OutOfMemory, Row, TryClone};
 use std::alloc::Global;
 
 /// The rows in order, each with its count.
@@ -61,20 +61,19 @@ fn falling(rows: Vec<Row>) -> Vec<Row>
     falling
 }
 
-/// The rows of a node that are counted more often than among the others, and how much more often.
+/// The rows that are counted more often than among the others, and how much more often.
 pub fn beyond(
     alloc: Global,
     rows: &[Counted],
-    node: &NodeName,
     others: &[Counted],
 ) -> Result<Vec<Counted>, OutOfMemory>
     requires { Rises counted_cmp others.now }
-    ensures { IfOk result (λ more. more.items ≡ picked (times_beyond node.now others.now) rows.now) }
+    ensures { IfOk result (λ more. more.items ≡ picked (times_beyond others.now) rows.now) }
 {
     let mut more = Vec::new(alloc);
     let mut next = 0;
     for counted in rows {
-        let count = count_beyond(counted, node, others, &mut next);
+        let count = count_beyond(counted, others, &mut next);
         if count > 0 {
             let row = counted.row.try_clone(alloc)?;
             more.push(Counted { row, count })?;
@@ -83,17 +82,13 @@ pub fn beyond(
     Ok(more)
 }
 
-/// How much more often a row of the node is counted than among the others.
-fn count_beyond(counted: &Counted, node: &NodeName, others: &[Counted], next: &mut usize) -> u32
+/// How much more often a row is counted than among the others.
+fn count_beyond(counted: &Counted, others: &[Counted], next: &mut usize) -> u32
     requires { Rises counted_cmp others.now }
-    ensures { result ≡ times_beyond node.now others.now counted.now }
+    ensures { result ≡ times_beyond others.now counted.now }
 {
-    if counted.row.pid.node == *node {
-        let row = &counted.row;
-        counted
-            .count
-            .saturating_sub(count_at(others, next, &row.group, &row.pid))
-    } else {
-        0
-    }
+    let row = &counted.row;
+    counted
+        .count
+        .saturating_sub(count_at(others, next, &row.group, &row.pid))
 }

@@ -1,17 +1,17 @@
 //! The rows of a scope, in a list for each node, and the nodes of each group.
-ghost use Rattle.std.specs.Prelude.{◌≡◌, ◌+◌, ◌≤◌, false, not, ℕ, List, [], All, IsTrue, IfOk, OnOk, OnErr};
-ghost use Rattle.std.specs.List.{filter};
-ghost use Rattle.dist_types.specs.Listing.{how_many, same_pid, IsPidListing};
+ghost use Rattle.std.specs.Prelude.{◌≡◌, ◌+◌, ◌≤◌, false, not, nat_lt, ℕ, List, [], All, IsTrue, IfOk, OnOk, OnErr};
+ghost use Rattle.std.specs.List.{filter, list_any};
+ghost use Rattle.dist_types.specs.Listing.{how_many, same_pid, IsPidListing, IsGroupListing};
 ghost use Rattle.scope_core.specs.Table.{tally, is_row, is_of_node, max_rows};
-ghost use Rattle.scope_core.specs.Added.{row_in, without_node, are_all_in, Adds, Joins, Takes, Leaves, HasRoomFor};
+ghost use Rattle.scope_core.specs.Added.{without_node, are_all_in, Adds, Joins, Leaves, HasRoomFor};
 ghost use Rattle.scope_core.specs.NodeLists.{of_node, IsNodeList};
 ghost use Rattle.scope_core.specs.Indexed.{is_there, is_named, Covers};
 
 use crate::counted::Counted;
 use crate::group_nodes::GroupNodes;
-use crate::indexing::{gathered, put_all, settle, settle_all, unname, unname_process};
+use crate::indexing::{gathered, put_all, settle_all, settle_nodes, unname, unname_process};
 use crate::node_lists::NodeLists;
-use crate::reads::count_at;
+use crate::reads::{count_at, total_of};
 use dist_types::{Group, GroupChange, NodeName, OutOfMemory, Pid, Row};
 use std::alloc::Global;
 use std::marker::Model;
@@ -55,12 +55,42 @@ impl IndexedRows {
         self.lists.of_node(node)
     }
 
-    /// How often a process is in a group.
-    pub fn count_of(&self, group: &Group, pid: &Pid) -> u32
+    /// How many rows a node has, each as often as it is counted.
+    pub fn total_of(&self, node: &NodeName) -> usize
+        ensures total { result ≡ tally (is_of_node node.now) self.now }
+        ensures few { result ≤ max_rows }
+    {
+        total_of(self.lists.of_node(node))
+    }
+
+    /// How often a process is in a group, for processes that are asked for in their order.
+    pub fn count_next(&self, next: &mut usize, group: &Group, pid: &Pid) -> u32
         ensures { result ≡ tally (is_row group.now pid.now) self.now }
     {
+        count_at(self.lists.of_node(&pid.node), next, group, pid)
+    }
+
+    /// Whether one of the processes is in the group.
+    pub fn is_any_in(&self, group: &Group, pids: &[Pid]) -> bool
+        ensures { result ≡ list_any (λ p. nat_lt 0 (tally (is_row group.now p) self.now)) pids.now }
+    {
+        pids.iter().any(|pid| self.is_in(group, pid))
+    }
+
+    /// Whether the process is in the group.
+    fn is_in(&self, group: &Group, pid: &Pid) -> bool
+        ensures { result ≡ nat_lt 0 (tally (is_row group.now pid.now) self.now) }
+    {
         let mut first = 0;
-        count_at(self.lists.of_node(&pid.node), &mut first, group, pid)
+        self.count_next(&mut first, group, pid) > 0
+    }
+
+    /// The groups with a process, in their order.
+    pub fn groups(&self, alloc: Global) -> Result<Vec<Group>, OutOfMemory>
+        ensures { IfOk result (λ groups. IsGroupListing (λ g p. tally (is_row g p) self.now) groups.items) }
+    {
+        let groups = self.index.groups(alloc)?;
+        Ok(groups)
     }
 
     /// The processes of a group, in order, each as often as it is counted.
@@ -136,28 +166,14 @@ impl IndexedRows {
         settle_all(&self.lists, &mut self.index, changes, node);
     }
 
-    /// One less, if the process is in the group. Answers whether it is.
-    pub fn leave_one(&mut self, group: &Group, pid: &Pid) -> bool
-        ensures taken { Takes result (row_in group.now pid.now) self.old self.new }
-        ensures few { (n : List ℕ) → tally (is_of_node n) self.old ≤ max_rows }
-    {
-        let taken = self.lists.leave_one(group, pid);
-        settle(&self.lists, &mut self.index, group, &pid.node);
-        taken
-    }
-
-    /// One less in the group for each mention of a process, as far as it is there. Answers how many the node loses.
-    #[tactic(auto, using(crate::proofs::RowEdits::taken_counts, crate::proofs::RowEdits::taken_total))]
+    /// One less in the group for each mention of a process, as far as it is there. Answers how many the node loses, whose processes
+    /// most of them are.
     pub fn leave(&mut self, group: &Group, pids: &[Pid], node: &NodeName) -> usize
-        requires { tally (is_of_node node.now) self.old ≤ max_rows }
         ensures counts { Leaves group.now pids.now self.old self.new }
         ensures total { tally (is_of_node node.now) self.new + result ≡ tally (is_of_node node.now) self.old }
     {
-        let mut lost = 0;
-        for pid in pids {
-            let of_node = pid.node == *node;
-            lost += usize::from(self.leave_one(group, pid) & of_node);
-        }
+        let lost = self.lists.leave(group, pids, node);
+        settle_nodes(&self.lists, &mut self.index, group, pids, node);
         lost
     }
 

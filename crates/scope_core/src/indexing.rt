@@ -1,20 +1,18 @@
 //! What keeps the nodes of each group as the rows have them.
-ghost use Rattle.std.specs.Prelude.{◌≡◌, ◌≤◌, ◌&&◌, ℕ, Bool, List, not, cond, nat_lt, IfOk, OnOk, OnErr};
-ghost use Rattle.dist_types.specs.Listing.{same, same_pid, how_many, mentions};
+ghost use Rattle.std.specs.Prelude.{◌≡◌, ◌≤◌, ◌&&◌, ◌||◌, ℕ, Bool, false, List, not, cond, nat_lt, IsTrue, IfOk, OnOk, OnErr};
+ghost use Rattle.dist_types.specs.Listing.{same, same_pid, how_many, mentions, Rises};
 ghost use Rattle.dist_types.specs.declared.pid.Pid.{Pid};
 ghost use Rattle.std.specs.List.{list_any, list_all};
 ghost use Rattle.scope_core.specs.Listed.{is_in};
 ghost use Rattle.scope_core.specs.GroupNodes.{times_named};
-ghost use Rattle.dist_types.specs.Listing.{Rises};
 ghost use Rattle.scope_core.specs.Table.{counted_cmp, tally, is_row};
 ghost use Rattle.scope_core.specs.NodeLists.{IsNodeList};
-ghost use Rattle.scope_core.specs.Indexed.{has_members, is_named, is_row_of, has_others};
+ghost use Rattle.scope_core.specs.Indexed.{has_members, is_named, is_of_one, is_row_of, has_others};
 
 use crate::counted::Counted;
 use crate::group_nodes::GroupNodes;
 use crate::node_lists::NodeLists;
-use crate::part::Part;
-use crate::reads::{in_group, pids_of};
+use crate::reads::{in_group, is_same, pids_of};
 use dist_types::{Group, GroupChange, NodeName, OutOfMemory, Pid};
 use std::alloc::Global;
 
@@ -56,6 +54,38 @@ pub fn settle_all(
     }
 }
 
+/// The same for one group, and the node and those of the processes.
+pub fn settle_nodes(
+    lists: &NodeLists,
+    index: &mut GroupNodes,
+    group: &Group,
+    pids: &[Pid],
+    node: &NodeName,
+)
+    ensures { (g n : List ℕ) → times_named index.new g n ≡ cond ((same group.now g && (same node.now n || is_of_one n pids.now)) && not (has_members g n lists.now)) 0 (times_named index.old g n) }
+{
+    settle(lists, index, group, node);
+    for pid in pids {
+        settle_other(lists, index, group, pid, node);
+    }
+}
+
+/// The same for the node of one process, unless it is this one, which is settled.
+fn settle_other(
+    lists: &NodeLists,
+    index: &mut GroupNodes,
+    group: &Group,
+    pid: &Pid,
+    node: &NodeName,
+)
+    ensures own { IsTrue (same pid.now.node node.now) → (g n : List ℕ) → times_named index.new g n ≡ times_named index.old g n }
+    ensures other { same pid.now.node node.now ≡ false → (g n : List ℕ) → times_named index.new g n ≡ cond ((same group.now g && same pid.now.node n) && not (has_members g n lists.now)) 0 (times_named index.old g n) }
+{
+    if pid.node != *node {
+        settle(lists, index, group, &pid.node);
+    }
+}
+
 /// The node is no group's in which it has one of its rows, which these are.
 pub fn unname(rows: &[Counted], index: &mut GroupNodes, node: &NodeName)
     ensures { (g n : List ℕ) → times_named index.new g n ≡ cond (list_any (is_in g) rows.now && same node.now n) 0 (times_named index.old g n) }
@@ -81,7 +111,7 @@ fn unname_row(rows: &[Counted], index: &mut GroupNodes, counted: &Counted, pid: 
     ensures { (g n : List ℕ) → times_named index.new g n ≡ cond ((is_row_of g pid.now counted.now && same pid.now.node n) && not (has_others g pid.now rows.now)) 0 (times_named index.old g n) }
 {
     let group = &counted.row.group;
-    if counted.row.pid == *pid && is_alone(rows, group, pid) {
+    if is_same(&counted.row.pid, pid) && is_alone(rows, group, pid) {
         index.take(group, &pid.node);
     }
 }
@@ -98,7 +128,7 @@ fn is_alone(rows: &[Counted], group: &Group, pid: &Pid) -> bool
 fn are_all_of(rows: &[Counted], pid: &Pid) -> bool
     ensures { result ≡ list_all (λ c. same_pid c.row.pid pid.now) rows.now }
 {
-    rows.iter().all(|counted| counted.row.pid == *pid)
+    rows.iter().all(|counted| is_same(&counted.row.pid, pid))
 }
 
 /// The processes of a group, those of a node beside one another.
@@ -128,6 +158,6 @@ fn members_of(
 ) -> Result<Vec<Pid>, OutOfMemory>
     ensures { IfOk result (λ pids. (p : Pid) → mentions p pids.items ≡ cond (same node.now p.node) (tally (is_row group.now p) lists.now) 0) }
 {
-    let pids = pids_of(alloc, in_group(lists.of_node(node), group), Part::All)?;
+    let pids = pids_of(alloc, in_group(lists.of_node(node), group))?;
     Ok(pids)
 }

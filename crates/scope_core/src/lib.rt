@@ -14,7 +14,6 @@ mod leaving;
 mod lowered;
 mod merged;
 mod node_lists;
-mod part;
 mod reads;
 mod table;
 

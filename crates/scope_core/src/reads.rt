@@ -1,16 +1,14 @@
 //! What is read off the sorted rows.
-ghost use Rattle.std.specs.Prelude.{◌≡◌, ◌++◌, ℕ, ◌<◌, ◌≤◌, IfOk, IfErr, IsTrue, OnOk, None, length, replicate, ◌&&◌, nat_lt};
-ghost use Rattle.std.specs.List.{filter, list_any, HoldsAt};
+ghost use Rattle.std.specs.Prelude.{◌≡◌, ◌++◌, ◌<◌, ◌≤◌, IfOk, IfErr, IsTrue, OnOk, None, length, replicate, ◌&&◌, nat_lt};
+ghost use Rattle.std.specs.List.{filter, HoldsAt};
 ghost use Rattle.dist_types.specs.Order.{row_cmp};
-ghost use Rattle.dist_types.specs.Listing.{Rises, spread};
-ghost use Rattle.scope_core.specs.Table.{tally, counted_cmp, is_row, is_of_node, max_rows, IsKept};
+ghost use Rattle.dist_types.specs.Listing.{same_pid, total, Rises, spread};
+ghost use Rattle.scope_core.specs.Table.{tally, counted_cmp, is_row, max_rows};
 ghost use Rattle.scope_core.specs.Added.{row_in, IsGap};
-ghost use Rattle.scope_core.specs.Part.{times_of};
 ghost use Rattle.scope_core.specs.Listed.{is_in, differs, last_of, heads};
 
 use crate::counted::Counted;
-use crate::part::{Part, times};
-use dist_types::{Group, NodeName, OutOfMemory, Pid, Row, TryClone};
+use dist_types::{Group, OutOfMemory, Pid, Row, TryClone};
 use std::alloc::Global;
 use std::cmp::Ordering;
 
@@ -26,68 +24,78 @@ pub fn in_group<'a>(rows: &'a [Counted], group: &Group) -> &'a [Counted]
     run
 }
 
-/// How many rows the processes of a node have, each as often as it is counted.
-pub fn total_of(rows: &[Counted], node: &NodeName) -> usize
-    requires { tally (is_of_node node.now) rows.now ≤ max_rows }
-    ensures { result ≡ tally (is_of_node node.now) rows.now }
+/// How many rows there are, each as often as it is counted.
+pub fn total_of(rows: &[Counted]) -> usize
+    requires { total (λ c. c.count) rows.now ≤ max_rows }
+    ensures { result ≡ total (λ c. c.count) rows.now }
 {
     let mut total = 0;
     for counted in rows {
-        total += times(Part::Node(node), counted) as usize;
+        total += counted.count as usize;
     }
     total
 }
 
-/// Whether a process of the node has a row.
-pub fn has_rows(rows: &[Counted], node: &NodeName) -> bool
-    ensures { result ≡ list_any (λ c. is_of_node node.now c.row) rows.now }
-{
-    rows.iter().any(|counted| counted.row.pid.node == *node)
-}
-
-/// The processes of the rows, each as often as it belongs to the part.
-pub fn pids_of(alloc: Global, rows: &[Counted], part: Part<'_>) -> Result<Vec<Pid>, OutOfMemory>
-    ensures { IfOk result (λ pids. pids.items ≡ spread (λ c. c.row.pid) (times_of part.entry) rows.now) }
+/// The processes of the rows, each as often as it is counted.
+pub fn pids_of(alloc: Global, rows: &[Counted]) -> Result<Vec<Pid>, OutOfMemory>
+    ensures { IfOk result (λ pids. pids.items ≡ spread (λ c. c.row.pid) (λ c. c.count) rows.now) }
 {
     let mut pids = Vec::new(alloc);
     for counted in rows {
-        let times = times(part, counted) as usize;
-        push_copies(alloc, &mut pids, &counted.row.pid, times)?;
+        push_copies(alloc, &mut pids, &counted.row.pid, counted.count as usize)?;
     }
     Ok(pids)
 }
 
-/// The rows, each as often as it belongs to the part.
-pub fn rows_of(alloc: Global, rows: &[Counted], part: Part<'_>) -> Result<Vec<Row>, OutOfMemory>
-    ensures { IfOk result (λ copies. copies.items ≡ spread (λ c. c.row) (times_of part.entry) rows.now) }
+/// The rows, each as often as it is counted.
+pub fn rows_of(alloc: Global, rows: &[Counted]) -> Result<Vec<Row>, OutOfMemory>
+    ensures { IfOk result (λ copies. copies.items ≡ spread (λ c. c.row) (λ c. c.count) rows.now) }
 {
     let mut copies = Vec::new(alloc);
     for counted in rows {
-        let times = times(part, counted) as usize;
-        push_copies(alloc, &mut copies, &counted.row, times)?;
+        push_copies(alloc, &mut copies, &counted.row, counted.count as usize)?;
     }
     Ok(copies)
 }
 
-/// The groups of the rows of which some belong to the part.
+/// The rows of a process.
+pub fn rows_of_process(
+    alloc: Global,
+    rows: &[Counted],
+    pid: &Pid,
+) -> Result<Vec<Counted>, OutOfMemory>
+    ensures { IfOk result (λ copies. copies.items ≡ filter (λ c. same_pid c.row.pid pid.now) rows.now) }
+{
+    let mut copies = Vec::new(alloc);
+    for counted in rows {
+        if is_same(&counted.row.pid, pid) {
+            let row = counted.row.try_clone(alloc)?;
+            let count = counted.count;
+            copies.push(Counted { row, count })?;
+        }
+    }
+    Ok(copies)
+}
+
+/// The groups of the rows that are counted.
 #[tactic(auto, using(crate::proofs::Groups::heads_yes, crate::proofs::Groups::heads_no))]
-pub fn groups_of(alloc: Global, rows: &[Counted], part: Part<'_>) -> Result<Vec<Group>, OutOfMemory>
-    ensures { IfOk result (λ groups. groups.items ≡ heads (times_of part.entry) None rows.now) }
+pub fn groups_of(alloc: Global, rows: &[Counted]) -> Result<Vec<Group>, OutOfMemory>
+    ensures { IfOk result (λ groups. groups.items ≡ heads None rows.now) }
 {
     let mut groups = Vec::new(alloc);
     for counted in rows {
-        if begins_group(counted, part, &groups) {
+        if begins_group(counted, &groups) {
             groups.push(counted.row.group.try_clone(alloc)?)?;
         }
     }
     Ok(groups)
 }
 
-/// Whether the row belongs to the part, and its group isn't the last of these.
-fn begins_group(counted: &Counted, part: Part<'_>, groups: &[Group]) -> bool
-    ensures { result ≡ (nat_lt 0 (times_of part.entry counted.now) && differs (last_of groups.now) counted.now.row.group) }
+/// Whether the row is counted, and its group isn't the last of these.
+fn begins_group(counted: &Counted, groups: &[Group]) -> bool
+    ensures { result ≡ (nat_lt 0 counted.now.count && differs (last_of groups.now) counted.now.row.group) }
 {
-    times(part, counted) > 0 && groups.last() != Some(&counted.row.group)
+    counted.count > 0 && groups.last() != Some(&counted.row.group)
 }
 
 /// Puts copies of an item at the end.
@@ -103,23 +111,6 @@ pub fn push_copies<T: TryClone + Drop>(
         items.push(item.try_clone(alloc)?)?;
     }
     Ok(())
-}
-
-/// Whether one of the processes is in the group.
-pub fn is_any_joined(rows: &[Counted], group: &Group, pids: &[Pid]) -> bool
-    requires { IsKept rows.now }
-    ensures { result ≡ list_any (λ p. nat_lt 0 (tally (is_row group.now p) rows.now)) pids.now }
-{
-    pids.iter().any(|pid| is_joined(rows, group, pid))
-}
-
-/// Whether the process is in the group.
-#[tactic(auto, using(crate::proofs::Places::joined_is))]
-fn is_joined(rows: &[Counted], group: &Group, pid: &Pid) -> bool
-    requires { IsKept rows.now }
-    ensures { result ≡ nat_lt 0 (tally (is_row group.now pid.now) rows.now) }
-{
-    place_of(rows, group, pid).is_ok()
 }
 
 /// Where the row of a group and a process is, or where it goes.
@@ -184,14 +175,18 @@ fn is_at(rows: &[Counted], at: usize, group: &Group, pid: &Pid) -> bool
     }
 }
 
-/// Whether it is the row of a group and a process. Numbers come first: they differ the most, and are compared the soonest.
+/// Whether it is the row of a group and a process.
 fn is_row(row: &Row, group: &Group, pid: &Pid) -> bool
     ensures { result ≡ is_row group.now pid.now row.now }
 {
-    row.pid.number == pid.number
-        && row.pid.creation == pid.creation
-        && row.group == *group
-        && row.pid.node == pid.node
+    is_same(&row.pid, pid) && row.group == *group
+}
+
+/// Whether two processes are the same. Numbers come first: they differ the most, and are compared the soonest.
+pub fn is_same(pid: &Pid, other: &Pid) -> bool
+    ensures { result ≡ same_pid pid.now other.now }
+{
+    pid.number == other.number && pid.creation == other.creation && pid.node == other.node
 }
 
 /// Whether the row of a group and a process goes behind all others, as each does where rows come in order.

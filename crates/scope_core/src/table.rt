@@ -7,14 +7,11 @@ ghost use Rattle.scope_core.specs.Table.{count_of, local_count, local_total, nod
 ghost use Rattle.scope_core.specs.Calls.{Counts, is_any_joined, no_count, count_after_join, count_after_leave, count_after_exit, count_after_drop, count_after_sync, count_after_add, count_after_take, are_counted, IsChange, IsJoinFault, IsLeaveFault, IsSyncFault, IsAddFault, IsTakeFault};
 
 use crate::changes::{changes_of, in_order, one_change, rows_in};
-use crate::counted::Counted;
-use crate::edits::{put_in, remove_node, remove_pid, replace_node, take_all};
 use crate::fault::TableFault;
-use crate::incoming::{beyond, counted_of, counted_rows, room_for};
-use crate::leaving::gone_of;
-use crate::lowered::{are_all_in, take_rows};
-use crate::part::Part;
-use crate::reads::{groups_of, has_rows, in_group, is_any_joined, pids_of, rows_of, total_of};
+use crate::incoming::{beyond, counted_of, counted_rows};
+use crate::indexed_rows::IndexedRows;
+use crate::leaving::{all_gone, gone_of};
+use crate::reads::{groups_of, in_group, pids_of, rows_of, rows_of_process};
 use dist_types::{Group, GroupChange, NodeName, OutOfMemory, Pid, Row};
 use std::alloc::Global;
 use std::marker::Model;
@@ -24,7 +21,7 @@ use std::marker::Model;
 pub struct ScopeTable {
     alloc: Global,
     own: NodeName,
-    rows: Vec<Counted>,
+    rows: IndexedRows,
     /// How many rows the own processes have, repeats included.
     own_rows: usize,
 }
@@ -34,9 +31,9 @@ impl Model for ScopeTable {
 
     ghost Value = { Table };
 
-    ghost view = { λ table. record { own = table.own; rows = table.rows.items } };
+    ghost view = { λ table. record { own = table.own; rows = table.rows } };
 
-    ghost invariant = { λ table. IsHeld table.own table.own_rows table.rows.items };
+    ghost invariant = { λ table. IsHeld table.own table.own_rows table.rows };
 }
 
 impl ScopeTable {
@@ -51,7 +48,7 @@ impl ScopeTable {
         ScopeTable {
             alloc,
             own,
-            rows: Vec::new(alloc),
+            rows: IndexedRows::new(alloc),
             own_rows: 0,
         }
     }
@@ -76,8 +73,7 @@ impl ScopeTable {
         let counted = counted_of(self.alloc, fresh)?;
         let sorted = in_order(self.alloc, pids)?;
         let changes = one_change(self.alloc, group, Vec::new(self.alloc), sorted)?;
-        let spare = room_for(self.alloc, &mut self.rows, counted.len())?;
-        put_in(&mut self.rows, counted, spare);
+        self.rows.join(&self.own, counted, &changes)?;
         self.own_rows += pids.len();
         Ok(changes)
     }
@@ -94,12 +90,12 @@ impl ScopeTable {
         ensures only { OnOk result (IsTrue (is_any_joined self.old group.now pids.now)) }
         ensures same { OnErr result (self.new ≡ self.old) }
     {
-        if !is_any_joined(&self.rows, group, pids) {
+        if !self.rows.is_any_in(group, pids) {
             return Err(TableFault::NotJoined);
         }
         let left = gone_of(self.alloc, &self.rows, group, pids)?;
         let changes = one_change(self.alloc, group, left, Vec::new(self.alloc))?;
-        self.own_rows -= take_all(&mut self.rows, group, pids, &self.own);
+        self.own_rows -= self.rows.leave(group, pids, &self.own);
         Ok(changes)
     }
 
@@ -113,22 +109,22 @@ impl ScopeTable {
         ensures limits { OnOk result (length rows.now ≤ max_rows) }
         ensures same { OnErr result (self.new ≡ self.old) }
     {
+        let held = self.rows.of_node(peer);
         // Where there are none to replace, they only join.
-        if !has_rows(&self.rows, peer) {
+        if held.is_empty() {
             return self.join_remote(peer, rows);
         }
         if rows.len() > ScopeTable::MAX_ROWS {
             return Err(TableFault::RowsFull);
         }
         let counted = counted_rows(self.alloc, rows)?;
-        let left = beyond(self.alloc, &self.rows, peer, &counted)?;
-        let joined = beyond(self.alloc, &counted, peer, &self.rows)?;
-        let changes = changes_of(self.alloc, &left, Part::All, &joined)?;
+        let left = beyond(self.alloc, held, &counted)?;
+        let joined = beyond(self.alloc, &counted, held)?;
+        let changes = changes_of(self.alloc, &left, &joined)?;
         if changes.is_empty() {
             return Ok(changes);
         }
-        let spare = room_for(self.alloc, &mut self.rows, counted.len())?;
-        replace_node(&mut self.rows, peer, counted, spare);
+        self.rows.replace(peer, counted, &changes)?;
         self.own_rows -= share_of(&self.own, peer, self.own_rows);
         self.own_rows += share_of(&self.own, peer, rows.len());
         Ok(changes)
@@ -148,13 +144,12 @@ impl ScopeTable {
         ensures limits { OnOk result (node_total self.old peer.now + length rows.now ≤ max_rows) }
         ensures same { OnErr result (self.new ≡ self.old) }
     {
-        if rows.len() > ScopeTable::MAX_ROWS - total_of(&self.rows, peer) {
+        if rows.len() > ScopeTable::MAX_ROWS - self.rows.total_of(peer) {
             return Err(TableFault::RowsFull);
         }
         let counted = counted_rows(self.alloc, rows)?;
-        let changes = changes_of(self.alloc, &[], Part::All, &counted)?;
-        let spare = room_for(self.alloc, &mut self.rows, counted.len())?;
-        put_in(&mut self.rows, counted, spare);
+        let changes = changes_of(self.alloc, &[], &counted)?;
+        self.rows.join(peer, counted, &changes)?;
         self.own_rows += share_of(&self.own, peer, rows.len());
         Ok(changes)
     }
@@ -172,24 +167,22 @@ impl ScopeTable {
         ensures only { OnOk result (IsTrue (are_counted self.old rows.now)) }
         ensures same { OnErr result (self.new ≡ self.old) }
     {
-        if !are_all_in(&mut self.rows, rows) {
+        if !self.rows.are_all_in(peer, rows) {
             return Err(TableFault::NotListed);
         }
         let counted = counted_rows(self.alloc, rows)?;
-        let changes = changes_of(self.alloc, &counted, Part::All, &[])?;
-        take_rows(&mut self.rows, rows);
+        let changes = changes_of(self.alloc, &counted, &[])?;
+        self.rows.take_rows(peer, rows, &changes);
         self.own_rows -= share_of(&self.own, peer, rows.len());
         Ok(changes)
     }
 
     /// The process leaves all groups.
-    #[tactic(auto, using(crate::proofs::Rising::filter_kept))]
     pub fn exit(&mut self, pid: &Pid)
         ensures { Counts self.old self.new (count_after_exit self.old pid.now) }
     {
-        remove_pid(&mut self.rows, pid);
-        let own = &self.own;
-        self.own_rows = total_of(&self.rows, own);
+        self.rows.remove_process(pid);
+        self.own_rows = self.rows.total_of(&self.own);
     }
 
     /// What `exit` will change.
@@ -197,16 +190,17 @@ impl ScopeTable {
         ensures change { IfOk result (λ changes. IsDifference (count_of self.now) (count_after_exit self.now pid.now) changes.items) }
         ensures limits { local_total self.now ≤ max_rows }
     {
-        let changes = changes_of(self.alloc, &self.rows, Part::Process(pid), &[])?;
+        let rows = rows_of_process(self.alloc, self.rows.of_node(&pid.node), pid)?;
+        let changes = changes_of(self.alloc, &rows, &[])?;
         Ok(changes)
     }
 
     /// The processes of another node leave all groups.
-    #[tactic(auto, using(crate::proofs::Rising::filter_kept, crate::proofs::Calls::own_left))]
+    #[tactic(auto, using(crate::proofs::Calls::own_left))]
     pub fn drop_peer(&mut self, peer: &NodeName)
         ensures { Counts self.old self.new (count_after_drop self.old peer.now) }
     {
-        remove_node(&mut self.rows, peer);
+        self.rows.remove_node(peer);
         self.own_rows -= share_of(&self.own, peer, self.own_rows);
     }
 
@@ -214,7 +208,7 @@ impl ScopeTable {
     pub fn drop_change(&self, peer: &NodeName) -> Result<Vec<GroupChange>, OutOfMemory>
         ensures { IfOk result (λ changes. IsDifference (count_of self.now) (count_after_drop self.now peer.now) changes.items) }
     {
-        let changes = changes_of(self.alloc, &self.rows, Part::Node(peer), &[])?;
+        let changes = changes_of(self.alloc, self.rows.of_node(peer), &[])?;
         Ok(changes)
     }
 
@@ -230,7 +224,7 @@ impl ScopeTable {
     pub fn clear_change(&self) -> Result<Vec<GroupChange>, OutOfMemory>
         ensures { IfOk result (λ changes. IsDifference (count_of self.now) no_count changes.items) }
     {
-        let changes = changes_of(self.alloc, &self.rows, Part::All, &[])?;
+        let changes = all_gone(self.alloc, &self.rows)?;
         Ok(changes)
     }
 
@@ -238,7 +232,7 @@ impl ScopeTable {
     pub fn members(&self, group: &Group) -> Result<Vec<Pid>, OutOfMemory>
         ensures { IfOk result (λ pids. IsPidListing (count_of self.now group.now) pids.items) }
     {
-        let pids = pids_of(self.alloc, in_group(&self.rows, group), Part::All)?;
+        let pids = self.rows.members(self.alloc, group)?;
         Ok(pids)
     }
 
@@ -247,11 +241,8 @@ impl ScopeTable {
         ensures value { IfOk result (λ pids. IsPidListing (local_count self.now group.now) pids.items) }
         ensures limits { IfOk result (λ pids. length pids.items ≤ max_rows) }
     {
-        let pids = pids_of(
-            self.alloc,
-            in_group(&self.rows, group),
-            Part::Node(&self.own),
-        )?;
+        let own = self.rows.of_node(&self.own);
+        let pids = pids_of(self.alloc, in_group(own, group))?;
         Ok(pids)
     }
 
@@ -269,7 +260,7 @@ impl ScopeTable {
     pub fn groups(&self) -> Result<Vec<Group>, OutOfMemory>
         ensures { IfOk result (λ groups. IsGroupListing (count_of self.now) groups.items) }
     {
-        let groups = groups_of(self.alloc, &self.rows, Part::All)?;
+        let groups = self.rows.groups(self.alloc)?;
         Ok(groups)
     }
 
@@ -277,7 +268,7 @@ impl ScopeTable {
     pub fn local_groups(&self) -> Result<Vec<Group>, OutOfMemory>
         ensures { IfOk result (λ groups. IsGroupListing (local_count self.now) groups.items) }
     {
-        let groups = groups_of(self.alloc, &self.rows, Part::Node(&self.own))?;
+        let groups = groups_of(self.alloc, self.rows.of_node(&self.own))?;
         Ok(groups)
     }
 
@@ -286,7 +277,7 @@ impl ScopeTable {
         ensures value { IfOk result (λ rows. IsRowListing (local_count self.now) rows.items) }
         ensures limits { IfOk result (λ rows. length rows.items ≤ max_rows) }
     {
-        let rows = rows_of(self.alloc, &self.rows, Part::Node(&self.own))?;
+        let rows = rows_of(self.alloc, self.rows.of_node(&self.own))?;
         Ok(rows)
     }
 }

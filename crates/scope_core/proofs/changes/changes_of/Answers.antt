@@ -1,12 +1,11 @@
-use Rattle.scope_core.proofs.Words.{map, ap, ◌∙◌, sym, subst, take_all, times_of, moving, Tells}
+use Rattle.scope_core.proofs.Words.{map, ap, ◌∙◌, sym, subst, take_all, moving, Tells}
 use Rattle.scope_core.proofs.Between.{tells}
 use Rattle.scope_core.proofs.changes.changes_of.Goals as goal
 
 pub returns : goal.returns
 returns c =
-    let times = times_of c.args.part in
-    let cs = c.args.rows.now in
+    let cs = c.args.gone.now in
     let ds = c.args.joined.now in
     let named = take_all c.loop-group.group-index c.deref-group-items.result.now c.loop-group-test.false ∙ c.deref-group-items.ensures.value in
-    subst (Tells times cs ds) (sym (c.loop-group.invariant ∙ ap (map (moving times cs ds)) named))
-    (tells times cs ds c.requires.left c.requires.joined c.in_ok-groups.groups.items c.in_ok-groups.ensures)
+    subst (Tells cs ds) (sym (c.loop-group.invariant ∙ ap (map (moving cs ds)) named))
+    (tells cs ds c.requires.gone c.requires.joined c.in_ok-groups.groups.items c.in_ok-groups.ensures)

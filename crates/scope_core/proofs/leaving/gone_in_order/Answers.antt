@@ -15,7 +15,7 @@ loop-pid-preserved c =
     (record {
       order = ascends_on q n ps run gone c.min.result (omega (arith, c.min.ensures)) (subst (λ xs. Ascends pid_cmp (gone ++ xs)) first c.loop-pid.invariant.order);
       counts = λ p.
-          counts_on q n ps run c.run_of-again.ensures.all count gone c.min.result (c.min.ensures ∙ ap (λ k. min k (n + 1)) c.count_at-count.ensures) p
+          counts_on q n ps run c.run_of-again.ensures.all count gone c.min.result (c.min.ensures ∙ ap (λ k. min k (n + 1)) c.count_next-count.ensures) p
           ∙ ap (λ xs. mentions p gone + min (mentions p xs) (count p)) (sym first)
           ∙ c.loop-pid.invariant.counts p;
     })

@@ -1,6 +1,6 @@
-use Rattle.scope_core.proofs.Words.{◌≡◌, ◌++◌, drop, None, times_of, heads, last_of}
+use Rattle.scope_core.proofs.Words.{◌≡◌, ◌++◌, drop, None, heads, last_of}
 use Rattle.scope_core.proofs.reads.groups_of.Given as goal
 
 -- the groups so far, and those of the rows to come, are all
 abbrev pub invariant-loop-counted : goal.invariant-loop-counted
-invariant-loop-counted l = l.groups.items ++ heads (times_of l.part) (last_of l.groups.items) (drop l.counted-index l.rows) ≡ heads (times_of l.part) None l.rows
+invariant-loop-counted l = l.groups.items ++ heads (last_of l.groups.items) (drop l.counted-index l.rows) ≡ heads None l.rows

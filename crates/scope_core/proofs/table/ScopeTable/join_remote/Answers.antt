@@ -1,21 +1,29 @@
 use Rattle.scope_core.proofs.Words.{arith, same_decides, is_of_node}
-use Rattle.scope_core.proofs.Calls.{all_or_none, added_change}
+use Rattle.scope_core.proofs.Calls.{all_or_none, counted_own, added_covered, added_change}
 use Rattle.scope_core.proofs.table.ScopeTable.join_remote.Goals as goal
 
-pub put_in-requires-clause-few : goal.put_in-requires-clause-few
-put_in-requires-clause-few c = λ node.
+pub join-requires-clause-list : goal.join-requires-clause-list
+join-requires-clause-list c = counted_own c.args.peer.now c.args.rows.now c.requires c.in_ok-counted.counted.items c.in_ok-counted.ensures.added c.in_ok-counted.ensures.kept
+
+pub join-requires-clause-few : goal.join-requires-clause-few
+join-requires-clause-few c =
     let n = c.args.peer.now in
-    let few = c.self.invariant.kept.few n in
-    grind (arith, few, all_or_none n c.args.rows.now c.requires node, c.in_ok-counted.ensures.added (is_of_node node), c.self.invariant.kept.few node, same_decides n node)
+    grind (arith, all_or_none n c.args.rows.now c.requires n, c.in_ok-counted.ensures.added (is_of_node n), c.total_of.ensures.total, c.total_of.ensures.few, same_decides n n)
+
+pub join-requires-clause-changes : goal.join-requires-clause-changes
+join-requires-clause-changes c =
+    rw c.deref-2.ensures.value (added_covered c.args.peer.now c.in_ok-counted.counted.items _ (rw c.deref.ensures.value at c.in_ok-changes.ensures))
 
 pub returns-clause-change : goal.returns-clause-change
 returns-clause-change c =
     rw (← c.self.view_is)
-    (added_change c.args.rows.now c.self.inside.rows.items c.in_ok-counted.counted.items c.put_in.new.rows.items c.in_ok-changes.changes.items (rw c.deref-2.ensures.value at c.in_ok-changes.ensures)
-    c.in_ok-counted.ensures.added (rw c.in_ok-spare.ensures.same at c.put_in.ensures.added))
+    (added_change c.args.rows.now c.self.inside.rows c.in_ok-counted.counted.items c.join.new.self c.in_ok-changes.changes.items (rw c.deref.ensures.value at c.in_ok-changes.ensures) c.in_ok-counted.ensures.added c.in_ok-join.ensures.ok)
 
 pub invariant_of-self-2 : goal.invariant_of-self-2
 invariant_of-self-2 c =
     let own = c.self.inside.own in
     let share = all_or_none c.args.peer.now c.args.rows.now c.requires own in
-    record { kept = c.put_in.ensures.kept; total = grind (arith, share, c.in_ok-counted.ensures.added (is_of_node own), c.put_in.ensures.added (is_of_node own), c.self.invariant.total) }
+    record {
+      few = grind (arith, c.share_of.ensures, c.total_of.ensures.total, c.total_of.ensures.few, same_decides c.args.peer.now own, c.self.invariant.few, c.self.invariant.total);
+      total = grind (arith, share, c.in_ok-counted.ensures.added (is_of_node own), c.in_ok-join.ensures.ok (is_of_node own), c.self.invariant.total);
+    }

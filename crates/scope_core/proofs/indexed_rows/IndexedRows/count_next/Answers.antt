@@ -1,6 +1,6 @@
 use Rattle.scope_core.proofs.Words.{ap, sym, ◌∙◌, refl, tally, is_row}
 use Rattle.scope_core.proofs.NodeLists.{row_tally}
-use Rattle.scope_core.proofs.indexed_rows.IndexedRows.count_of.Goals as goal
+use Rattle.scope_core.proofs.indexed_rows.IndexedRows.count_next.Goals as goal
 
 pub returns : goal.returns
 returns c =

@@ -1,6 +1,0 @@
-use Rattle.scope_core.proofs.Words.{true}
-use Rattle.scope_core.proofs.Groups.{groups_listing}
-use Rattle.scope_core.proofs.table.ScopeTable.groups.Goals as goal
-
-pub returns : goal.returns
-returns c = rw (c.in_ok-groups.ensures, c.deref.ensures.value, ← c.self.view_is) (groups_listing (λ p. true) c.self.inside.rows.items c.self.invariant.kept.rises)
