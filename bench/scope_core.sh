@@ -10,7 +10,7 @@ cp -r "$root"/crates/{dist_types,scope_core} "$folder/crates/"
 mkdir -p "$folder/crates/scope_speed/src"
 cp "$root/bench/scope_core/main.rt.txt" "$folder/crates/scope_speed/src/main.rt"
 cp "$root/HANDLES" "$folder/"
-printf '%s\n' 'dist_types: thiserror' 'scope_core: dist_types thiserror' \
+printf '%s\n' 'dist_types: thiserror' 'scope_core: dist_types indexmap thiserror' \
   'scope_speed: scope_core dist_types anyhow' >"$folder/crates.txt"
 cd "$folder/crates/scope_speed"
 rt run --jobs 2 2>"$folder/log" || { tail -n 20 "$folder/log" >&2; exit 1; }

@@ -1,11 +1,11 @@
 -- What the calls of a table change, and when there is room: for rows of one node, and for own processes.
 use Rattle.scope_core.proofs.Words.{All, Bool, Err, IfErr, List, Ok, OnOk, Result, [], cond, false, length, map, min, true, ℕ, ◌+◌, ◌∷◌, ◌≡◌, ◌≤◌}
-use Rattle.scope_core.proofs.Words.{arith, refl, not-false, not-true, length-map, All-map, AllByRecursion, list_any, one_difference, same_decides}
+use Rattle.scope_core.proofs.Words.{arith, refl, not-false, not-true, length-map, All-map, AllByRecursion, one_difference, same_decides}
 use Rattle.scope_core.proofs.Words.{same_pid_decides, same_sym, all_from, how_many_le, IsDifference, change_unless_empty, IsPidListing, how_many}
 use Rattle.scope_core.proofs.Words.{mentions, same, same_pid, GroupChange, Pid, Row, Adds, HasRoomFor, Joins, row_in, without_node, Counts}
 use Rattle.scope_core.proofs.Words.{IsAddFault, IsSyncFault, count_after_add, count_after_sync, Tells, IsKept, Table, is_of_node, is_row, local_count}
 use Rattle.scope_core.proofs.Words.{local_total, tally, Counted, TableFault, NotJoined, NotListed, OutOfMemory, RowsFull}
-use Rattle.scope_core.proofs.Words.{not, sym, ◌∙◌, Covers, IsNodeList, is_named, is_there, of_node}
+use Rattle.scope_core.proofs.Words.{not, sym, Covers, IsNodeList, is_named, is_there, of_node}
 use Rattle.scope_core.proofs.Rising.{row_is, all_map, none_pass, tally_none, tally_all, gone_counts, own_from_tally}
 use Rattle.scope_core.proofs.Shares.{fewer_rows}
 use Rattle.scope_core.proofs.Unnamed.{unnamed_same, same_members}

@@ -10,16 +10,6 @@ use Rattle.std.specs.Result.{is_err, OnErr}
 use Rattle.scope_core.proofs.Words.{without_node, All, all_from, subst}
 use Rattle.scope_core.proofs.Rising.{tally_none, tally_all, tally-filter_le}
 
-named_append : (g : List ℕ) (xs ys : List GroupChange) → is_named g (xs ++ ys) ≡ (is_named g xs || is_named g ys)
-named_append g [] ys = refl
-named_append g (x ∷ xs) ys = grind (arith, named_append g xs ys)
-
-pub named_more : (g : List ℕ) (cs : List GroupChange) (i : ℕ) (x : GroupChange) → i < length cs → x ≡ get_or cs i x → is_named g (take (i + 1) cs) ≡ (is_named g (take i cs) || same x.group g)
-named_more g cs i x l e = simp (take_more cs i x l, ← e) (named_append g (take i cs) (x ∷ []) ∙ by)
-  where
-    by : (is_named g (take i cs) || is_named g (x ∷ [])) ≡ (is_named g (take i cs) || same x.group g)
-    by = grind arith
-
 pub named_part : (g : List ℕ) (i : ℕ) (cs : List GroupChange) → is_named g (take i cs) ≡ true → is_named g cs ≡ true
 named_part g zero cs e = grind arith
 named_part g (suc i) [] e = e
@@ -55,17 +45,6 @@ empty_at len e = grind arith
 pub not_empty_at : (len : ℕ) (h : Bool) → (len == 0) ≡ false → (h ≡ false → len ≡ 0) → h ≡ true
 not_empty_at len true e f = refl
 not_empty_at len false e f = grind (arith, f refl)
-
-module _ (changes : List GroupChange) (i : ℕ) (x : GroupChange) (l : i < length changes) (at : x ≡ get_or changes i x) (node : List ℕ) where
-  -- one group more
-  pub put_more : (first old new : List ℕ → List ℕ → ℕ) → ((g n : List ℕ) → old g n ≡ cond (same node n && is_named g (take i changes)) 1 (first g n)) → ((g n : List ℕ) → new g n ≡ cond (same x.group g && same node n) 1 (old g n))
-      → (g n : List ℕ) → new g n ≡ cond (same node n && is_named g (take (i + 1) changes)) 1 (first g n)
-  put_more first old new so_far put g n = grind (arith, so_far g n, put g n, named_more g changes i x l at)
-
-  pub settle_more : (rows : List Counted) (first old new : List ℕ → List ℕ → ℕ) → ((g n : List ℕ) → old g n ≡ cond ((is_named g (take i changes) && same node n) && not (has_members g n rows)) 0 (first g n))
-      → ((g n : List ℕ) → new g n ≡ cond ((same x.group g && same node n) && not (has_members g n rows)) 0 (old g n))
-      → (g n : List ℕ) → new g n ≡ cond ((is_named g (take (i + 1) changes) && same node n) && not (has_members g n rows)) 0 (first g n)
-  settle_more rows first old new so_far settled g n = grind (arith, so_far g n, settled g n, named_more g changes i x l at)
 
 -- where a growth is refused, some of them are put in
 pub put_some : (changes : List GroupChange) (i : ℕ) (node : List ℕ) (first old new : List ℕ → List ℕ → ℕ) → ((g n : List ℕ) → old g n ≡ cond (same node n && is_named g (take i changes)) 1 (first g n)) → ((g n : List ℕ) → new g n ≡ old g n)
@@ -156,18 +135,6 @@ module _ (node : List ℕ) (gone : List Row) (was now : List Counted) (adds : Ad
   taken_others own n e g = omega (arith, adds (is_there g n), none_gone_there node g n gone (all_from (λ r. r.pid.node ≡ node) gone (λ k d l h. own k d h)) e)
 
 -- ---- a node that goes
-
-any_append : (g : List ℕ) (xs ys : List Counted) → list_any (is_in g) (xs ++ ys) ≡ (list_any (is_in g) xs || list_any (is_in g) ys)
-any_append g [] ys = refl
-any_append g (x ∷ xs) ys = grind (arith, any_append g xs ys)
-
-pub unname_more : (rows : List Counted) (i : ℕ) (x : Counted) → i < length rows → x ≡ get_or rows i x → (node : List ℕ) (first old new : List ℕ → List ℕ → ℕ)
-    → ((g n : List ℕ) → old g n ≡ cond (list_any (is_in g) (take i rows) && same node n) 0 (first g n)) → ((g n : List ℕ) → new g n ≡ cond (same x.row.group g && same node n) 0 (old g n))
-    → (g n : List ℕ) → new g n ≡ cond (list_any (is_in g) (take (i + 1) rows) && same node n) 0 (first g n)
-unname_more rows i x l at node first old new so_far took g n = grind (arith, so_far g n, took g n, more)
-  where
-    more : list_any (is_in g) (take (i + 1) rows) ≡ (list_any (is_in g) (take i rows) || same x.row.group g)
-    more = simp (take_more rows i x l, ← at) (any_append g (take i rows) (x ∷ []) ∙ grind arith)
 
 not_any : (g node : List ℕ) (rows : List Counted) → list_any (is_in g) rows ≡ false → tally (is_there g node) rows ≡ 0
 not_any g node [] e = refl

@@ -1,9 +1,9 @@
 -- Where a row is among rows that rise, and what is counted there.
-use Rattle.scope_core.proofs.Words.{◌≡◌, ℕ, zero, suc, ◌<◌, ◌≤◌, true, false, cond, nat_lt, List, [], ◌∷◌, length, Result, Ok, Err, IfOk, IfErr}
-use Rattle.scope_core.proofs.Words.{is_ok, ap, ◌∙◌, sym, arith, get_or, add-one, Ordering, Less, Equal, is_lt, ordering_index, HoldsAt}
-use Rattle.scope_core.proofs.Words.{AllByRecursion, IsBinarySearchResult, IsSortedBy, IsNonDecreasingBy, lt-ltb, ltb-true, and_from, tied_itself}
-use Rattle.scope_core.proofs.Words.{searchable_from_sorted, get_or-le-sum_by, Pid, Row, row_cmp, Rises, Counted, is_row, tally, counted_cmp, row_in}
-use Rattle.scope_core.proofs.Words.{IsGap, rows_total, exact_rows, same_decides, same_pid_decides, total_is, all_from}
+use Rattle.scope_core.proofs.Words.{◌≡◌, ℕ, zero, suc, ◌<◌, ◌≤◌, true, false, List, [], ◌∷◌, length, Result, Ok, Err, IfOk, IfErr}
+use Rattle.scope_core.proofs.Words.{ap, ◌∙◌, arith, get_or, add-one, Ordering, Less, Equal, is_lt, ordering_index, HoldsAt}
+use Rattle.scope_core.proofs.Words.{AllByRecursion, IsBinarySearchResult, IsSortedBy, IsNonDecreasingBy, ltb-true, and_from, tied_itself}
+use Rattle.scope_core.proofs.Words.{searchable_from_sorted, Pid, Row, row_cmp, Rises, Counted, is_row, tally, counted_cmp, row_in}
+use Rattle.scope_core.proofs.Words.{IsGap, rows_total, exact_rows, same_decides, same_pid_decides, all_from}
 use Rattle.scope_core.proofs.Rising.{row_is, once, tally_absent}
 use Rattle.scope_core.proofs.Runs.{all_at}
 

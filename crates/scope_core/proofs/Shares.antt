@@ -1,5 +1,5 @@
 -- What is counted is listed.
-use Rattle.scope_core.proofs.Words.{◌≡◌, ℕ, ◌≤◌, cond, List, [], ◌∷◌, length, refl, ◌∙◌, sym, arith, filter, Pid, Row, pid_cmp, row_cmp, Counted}
+use Rattle.scope_core.proofs.Words.{◌≡◌, ℕ, ◌≤◌, cond, List, [], ◌∷◌, length, refl, ◌∙◌, sym, arith, filter, Row, pid_cmp, row_cmp, Counted}
 use Rattle.scope_core.proofs.Words.{occurrences, same, same_pid, same_row, total, Rises, IsPidListing, IsRowListing, spread, Table, is_row, is_of_node}
 use Rattle.scope_core.proofs.Words.{tally, counted_cmp, count_of, node_total, local_count, local_total, is_in, pids_in, of_node, pids_total, rows_total}
 use Rattle.scope_core.proofs.Words.{same_row_decides, total_filter, spread_ascends, spread_counts, length-spread, same_length, fewer_length}

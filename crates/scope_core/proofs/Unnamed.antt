@@ -1,5 +1,5 @@
 -- Groups that an answer doesn't name have the members that they had.
-use Rattle.scope_core.proofs.Words.{◌≡◌, ℕ, ◌<◌, ◌≤◌, Bool, true, false, cond, nat_lt, List, [], ◌∷◌, refl, sym, ap, subst, arith, Pid, Counted}
+use Rattle.scope_core.proofs.Words.{◌≡◌, ℕ, ◌<◌, ◌≤◌, Bool, true, false, cond, nat_lt, List, [], ◌∷◌, refl, sym, subst, arith, Pid, Counted}
 use Rattle.scope_core.proofs.Words.{GroupChange, IsDifference, same, same_decides, same_pid_decides, mentions, total, tally, is_row, is_there}
 use Rattle.scope_core.proofs.Words.{has_members, is_named}
 

@@ -36,8 +36,8 @@ pub use Rattle.dist_types.specs.declared.row.Row.{Row}
 pub use Rattle.scope_core.specs.Added.{Adds, HasRoomBeside, HasRoomFor, IsGap, Joins, Leaves, Takes, are_all_in, bare_rows, row_in, rows_joined}
 pub use Rattle.scope_core.specs.Added.{rows_left, without_node}
 pub use Rattle.scope_core.specs.Beyond.{picked, times_beyond}
-pub use Rattle.scope_core.specs.Calls.{Counts, IsAddFault, IsSyncFault, are_counted, count_after_add, count_after_drop, count_after_exit}
-pub use Rattle.scope_core.specs.Calls.{count_after_join, count_after_sync, is_any_joined, no_count}
+pub use Rattle.scope_core.specs.Calls.{Counts, IsAddFault, IsSyncFault, count_after_add}
+pub use Rattle.scope_core.specs.Calls.{count_after_sync, no_count}
 pub use Rattle.scope_core.specs.GroupNodes.{named_groups, node_names, times_named}
 pub use Rattle.scope_core.specs.Indexed.{Covers, has_members, has_others, is_named, is_of_one, is_row_of, is_there}
 pub use Rattle.scope_core.specs.Listed.{IsEmptied, IsUnion, Tells, differs, heads, is_in, last_of, moving, pids_in}

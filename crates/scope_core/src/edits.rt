@@ -12,7 +12,7 @@ use crate::merged::merge;
 use crate::reads::{is_same, place_of};
 use dist_types::{Group, NodeName, Pid, Row};
 
-/// Where rows are merged, or taken in one pass, all rows of the table are moved. So fewer than these go one by one.
+/// Where rows are merged, or taken in one pass, all rows of the list are moved. So fewer than these go one by one.
 pub const FEW: usize = 32;
 
 /// Takes all rows of a process away.

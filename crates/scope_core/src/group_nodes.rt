@@ -116,10 +116,7 @@ impl GroupNodes {
 }
 
 /// The groups of which a node is named.
-fn named(
-    alloc: Global,
-    nodes: &IndexMap<Group, Vec<NodeName>>,
-) -> Result<Vec<Group>, OutOfMemory>
+fn named(alloc: Global, nodes: &IndexMap<Group, Vec<NodeName>>) -> Result<Vec<Group>, OutOfMemory>
     ensures groups { IfOk result (λ groups. groups.items ≡ named_groups (node_names nodes.now.entries)) }
     ensures apart { IsDistinct same (keys_of nodes.now.entries) }
 {

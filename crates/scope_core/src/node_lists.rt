@@ -135,9 +135,8 @@ impl NodeLists {
     }
 
     /// One less, if the process is in the group. Answers whether it is.
-    pub fn leave_one(&mut self, group: &Group, pid: &Pid) -> bool
-        ensures taken { Takes result (row_in group.now pid.now) self.old self.new }
-        ensures few { (n : List ℕ) → tally (is_of_node n) self.old ≤ max_rows }
+    fn leave_one(&mut self, group: &Group, pid: &Pid) -> bool
+        ensures { Takes result (row_in group.now pid.now) self.old self.new }
     {
         let Some(rows) = self.lists.get_mut(&pid.node) else {
             return false;

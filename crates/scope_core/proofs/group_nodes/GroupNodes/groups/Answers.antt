@@ -1,4 +1,4 @@
-use Rattle.scope_core.proofs.Words.{sym, ◌∙◌, ap, subst, arith, text_cmp, same, texts_total, sorted_listing, is_among, occurrences, List, ℕ, ◌≡◌, ◌≤◌}
+use Rattle.scope_core.proofs.Words.{sym, ◌∙◌, ap, arith, text_cmp, same, texts_total, sorted_listing, is_among, occurrences}
 use Rattle.scope_core.proofs.GroupNodes.{names_apart, names_rise, found_name, only_name, still_among}
 use Rattle.scope_core.proofs.group_nodes.GroupNodes.groups.Goals as goal
 

@@ -1,4 +1,4 @@
-use Rattle.scope_core.proofs.Words.{arith, ap, sym, ◌∙◌, total, Counted}
+use Rattle.scope_core.proofs.Words.{arith, ap, ◌∙◌, total, Counted}
 use Rattle.scope_core.proofs.Shares.{node_rows}
 use Rattle.scope_core.proofs.indexed_rows.IndexedRows.total_of.Goals as goal
 

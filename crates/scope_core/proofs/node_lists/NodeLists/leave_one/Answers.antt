@@ -1,11 +1,11 @@
 use Rattle.scope_core.proofs.Words.{ap, sym, subst, ◌∙◌, refl, tally, is_row, row_in}
-use Rattle.scope_core.proofs.NodeLists.{no_list, row_tally, list_found, lists_set, lessened_list, set_takes_one, list_few}
+use Rattle.scope_core.proofs.NodeLists.{no_list, row_tally, list_found, lists_set, lessened_list, set_takes_one}
 use Rattle.scope_core.proofs.Lower.{takes_less}
 use Rattle.scope_core.specs.NodeLists.{all_rows, AreNodeLists}
 use Rattle.scope_core.proofs.node_lists.NodeLists.leave_one.Goals as goal
 
-pub returns-in_default-clause-taken : goal.returns-in_default-clause-taken
-returns-in_default-clause-taken c =
+pub returns-in_default : goal.returns-in_default
+returns-in_default c =
     let p = c.args.pid.now in
     let es = c.self.inside.lists.entries in
     rw (c.get_mut.follows.holds-at-none, ← c.self.view_is)
@@ -24,16 +24,10 @@ invariant_of-self-2 c =
     let list = lessened_list n v.items w.items (list_found n es v c.self.invariant (sym c.in-Some.ensures.value)) less c.take.ensures.kept in
     subst AreNodeLists (sym (c.get_mut.follows.holds w).0) (lists_set n es w c.self.invariant list)
 
-pub returns-clause-taken : goal.returns-clause-taken
-returns-clause-taken c =
+pub returns : goal.returns
+returns c =
     let p = c.args.pid.now in
     let es = c.self.inside.lists.entries in
     let w = c.take.new.rows in
     rw (← c.self.view_is, (c.get_mut.follows.holds w).0)
     (set_takes_one p.node es c.in-Some.rows.now w (sym c.in-Some.ensures.value) c.take.result (row_in c.args.group.now p) refl c.self.invariant c.take.ensures.taken)
-
-pub returns-in_default-clause-few : goal.returns-in_default-clause-few
-returns-in_default-clause-few c = λ n. rw (← c.self.view_is) (list_few n c.self.inside.lists.entries c.self.invariant)
-
-pub returns-clause-few : goal.returns-clause-few
-returns-clause-few c = λ n. rw (← c.self.view_is) (list_few n c.self.inside.lists.entries c.self.invariant)

@@ -1,4 +1,4 @@
-use Rattle.scope_core.proofs.Words.{◌+◌, cond, All, List, ℕ, Pid, ◌≡◌, refl, arith, same, mentions, same_decides, how_many_le, length-map, All-map, is_row, is_of_node, row_in, tally}
+use Rattle.scope_core.proofs.Words.{All, ◌≡◌, refl, arith, same_decides, how_many_le, length-map, All-map, is_row, is_of_node, row_in, tally}
 use Rattle.scope_core.proofs.Calls.{own_rows, mentions_in, joined_change, counted_own, told_covered}
 use Rattle.scope_core.proofs.table.ScopeTable.join_local.Goals as goal
 
