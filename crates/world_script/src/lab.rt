@@ -1,4 +1,12 @@
 //! A world as the lines of a script see it.
+ghost use Rattle.std.specs.Prelude.{◌≡◌, ◌++◌, ◌∷◌, [], List, ℕ, None, Some, IsTrue, IsFalse, IfOk, OnOk};
+ghost use Rattle.policy_audit.specs.History.{past};
+ghost use Rattle.pg_text.specs.Lines.{is_quiet};
+ghost use Rattle.world_script.specs.declared.world_line.WorldLine.{WorldLine as Line};
+ghost use Rattle.world_script.specs.WorldLines.{asked_by};
+ghost use Rattle.world_script.specs.StepLines.{step_in};
+ghost use Rattle.world_script.specs.Following.{MakesAsked, Follows, AddsNode, AsksWorld, Plays, seated, begun};
+
 use crate::answers::put_answer;
 use crate::named_world::NamedWorld;
 use crate::reading::read_world_line;
@@ -11,6 +19,7 @@ use node_core::{NodeCore, OpenFault};
 use pg_text::{LineFault, is_quiet, put_word};
 use policy_audit::Opening;
 use std::alloc::{AllocFailed, Global};
+use std::marker::Model;
 use std::mem;
 
 /// Why a line has no answer.
@@ -64,9 +73,19 @@ pub struct Lab {
     seat: u32,
 }
 
+impl Model for Lab {
+    ghost use Rattle.world_script.specs.Following.{Playing};
+
+    ghost Value = { Playing };
+
+    ghost view = { λ lab. record { nodes = lab.nodes.items; world = lab.world; seat = lab.seat } };
+}
+
 impl Lab {
     /// Without nodes, asked by seat 0.
-    pub fn new(alloc: Global) -> Lab {
+    pub fn new(alloc: Global) -> Lab
+        ensures { result ≡ record { nodes = []; world = None; seat = 0 } }
+    {
         Lab {
             alloc,
             nodes: Vec::new(alloc),
@@ -76,7 +95,11 @@ impl Lab {
     }
 
     /// Adds the answer to a line. After a fault nothing more is asked.
-    pub fn answer(&mut self, line: &[u8], out: &mut Vec<u8>) -> Result<(), LabFault> {
+    pub fn answer(&mut self, line: &[u8], out: &mut Vec<u8>) -> Result<(), LabFault>
+        ensures quiet { OnOk result (IsTrue (is_quiet line.now) → (self.new ≡ self.old) × (out.new.items ≡ out.old.items)) }
+        ensures ok { OnOk result (IsFalse (is_quiet line.now) → (asked : Line) × (said : List ℕ) × (asked_by line.now ≡ Some asked)
+            × (out.new.items ≡ out.old.items ++ said) × Plays self.old asked self.new said) }
+    {
         if is_quiet(line) {
             return Ok(());
         }
@@ -87,7 +110,9 @@ impl Lab {
     }
 
     /// One more node, where the world hasn't begun.
-    fn add(&mut self, opening: Opening, out: &mut Vec<u8>) -> Result<(), LabFault> {
+    fn add(&mut self, opening: Opening, out: &mut Vec<u8>) -> Result<(), LabFault>
+        ensures { OnOk result ((said : List ℕ) × (out.new.items ≡ out.old.items ++ said) × AddsNode self.old opening self.new said) }
+    {
         if self.world.is_some() {
             return Err(LabFault::Script);
         }
@@ -101,7 +126,9 @@ impl Lab {
     }
 
     /// Asks the world, which begins with the first line that isn't a node.
-    fn follow(&mut self, asked: WorldLine, out: &mut Vec<u8>) -> Result<(), LabFault> {
+    fn follow(&mut self, asked: WorldLine, out: &mut Vec<u8>) -> Result<(), LabFault>
+        ensures { OnOk result ((said : List ℕ) × (out.new.items ≡ out.old.items ++ said) × AsksWorld self.old asked self.new said) }
+    {
         let mut world = self.take_world()?;
         let followed = follow(self.alloc, &mut world, &mut self.seat, asked, out);
         self.world = Some(world);
@@ -109,7 +136,10 @@ impl Lab {
     }
 
     /// The world, to be put back.
-    fn take_world(&mut self) -> Result<NamedWorld, LabFault> {
+    fn take_world(&mut self) -> Result<NamedWorld, LabFault>
+        ensures world { IfOk result (λ w. w ≡ begun self.old) }
+        ensures seat { self.new.seat ≡ self.old.seat }
+    {
         match self.world.take() {
             Some(world) => Ok(world),
             None => {
@@ -127,7 +157,10 @@ pub fn follow(
     seat: &mut u32,
     asked: WorldLine,
     out: &mut Vec<u8>,
-) -> Result<(), LabFault> {
+) -> Result<(), LabFault>
+    ensures { OnOk result ((said : List ℕ) × (out.new.items ≡ out.old.items ++ said)
+        × Follows (seated world.old seat.old) asked (seated world.new seat.new) said) }
+{
     match asked {
         WorldLine::Seat(number) => {
             *seat = number;
@@ -135,12 +168,25 @@ pub fn follow(
         }
         WorldLine::Settle => put_settled(settle(world, *seat), out)?,
         WorldLine::Show(scope, group) => put_shown(alloc, world, &scope, &group, out)?,
-        asked => {
-            let Some(step) = step_of(world, *seat, asked) else {
-                return Err(LabFault::Script);
-            };
-            put_answer(alloc, &world.step(step), out)?;
-        }
+        asked => make(alloc, world, *seat, asked, out)?,
     }
+    Ok(())
+}
+
+/// Makes the step that is asked for, and adds its answer.
+fn make(
+    alloc: Global,
+    world: &mut NamedWorld,
+    seat: u32,
+    asked: WorldLine,
+    out: &mut Vec<u8>,
+) -> Result<(), LabFault>
+    ensures { OnOk result ((said : List ℕ) × (out.new.items ≡ out.old.items ++ said)
+        × MakesAsked world.old (step_in seat world.old.nodes asked) world.new said) }
+{
+    let Some(step) = step_of(world, seat, asked) else {
+        return Err(LabFault::Script);
+    };
+    put_answer(alloc, &world.step(step), out)?;
     Ok(())
 }

@@ -1,4 +1,7 @@
 //! Frames go and come on all wires, until none moves.
+ghost use Rattle.std.specs.Prelude.{◌≡◌, ◌++◌, ℕ, IfOk, OnOk, OnErr, if◌then◌else◌};
+ghost use Rattle.world_script.specs.Settling.{Settles, has_come, settled_line};
+
 use crate::named_world::NamedWorld;
 use dist_types::OutOfMemory;
 use node_core::CoreFault;
@@ -20,7 +23,10 @@ struct Moved {
 
 /// Takes turns at the sides of all wires, in their order, until none moves a frame, or for `TURNS` turns. Tells how many frames
 /// came. Without memory for a step it stops there.
-pub fn settle(world: &mut NamedWorld, seat: u32) -> Result<u32, OutOfMemory> {
+pub fn settle(world: &mut NamedWorld, seat: u32) -> Result<u32, OutOfMemory>
+    ensures ok { IfOk result (λ came. Settles seat world.old came world.new) }
+    ensures memory { OnErr result ((came : ℕ) × Settles seat world.old came world.new) }
+{
     let mut came = 0_u32;
     let mut quiet = 0_usize;
     for turn in 0..TURNS {
@@ -41,10 +47,9 @@ pub fn settle(world: &mut NamedWorld, seat: u32) -> Result<u32, OutOfMemory> {
 }
 
 /// Adds the line for how many frames came, or that a step found no memory.
-pub fn put_settled(
-    settled: Result<u32, OutOfMemory>,
-    out: &mut Vec<u8>,
-) -> Result<(), OutOfMemory> {
+pub fn put_settled(settled: Result<u32, OutOfMemory>, out: &mut Vec<u8>) -> Result<(), OutOfMemory>
+    ensures { OnOk result (out.new.items ≡ out.old.items ++ settled_line settled) }
+{
     match settled {
         Ok(came) => put_numbered_line("settled ", u64::from(came), out),
         Err(OutOfMemory) => put_unanswered(CoreFault::OutOfMemory, out),
@@ -66,14 +71,19 @@ fn take_turn(
     wire: usize,
     side: Side,
     seat: u32,
-) -> Result<Moved, OutOfMemory> {
+) -> Result<Moved, OutOfMemory>
+    ensures ok { IfOk result (λ moved. Settles seat world.old (if moved.came then 1 else 0) world.new) }
+    ensures memory { OnErr result (Settles seat world.old 0 world.new) }
+{
     let handed = hand(world, wire, side, seat)?;
     let came = deliver(world, wire, side, seat)?;
     Ok(Moved { handed, came })
 }
 
 /// Whether frames waited. They are under way.
-fn hand(world: &mut NamedWorld, wire: usize, side: Side, seat: u32) -> Result<bool, OutOfMemory> {
+fn hand(world: &mut NamedWorld, wire: usize, side: Side, seat: u32) -> Result<bool, OutOfMemory>
+    ensures { Settles seat world.old 0 world.new }
+{
     match world.step(WorldStep::Hand { wire, side, seat }) {
         Ok(WorldReply::Handed(count)) => Ok(count > 0),
         Err(WorldFault::Core(CoreFault::OutOfMemory)) => Err(OutOfMemory),
@@ -82,16 +92,24 @@ fn hand(world: &mut NamedWorld, wire: usize, side: Side, seat: u32) -> Result<bo
 }
 
 /// Whether a frame was under way. It has come, also where the node refused it, unless the audit is full.
-fn deliver(
-    world: &mut NamedWorld,
-    wire: usize,
-    side: Side,
-    seat: u32,
-) -> Result<bool, OutOfMemory> {
+fn deliver(world: &mut NamedWorld, wire: usize, side: Side, seat: u32) -> Result<bool, OutOfMemory>
+    ensures ok { IfOk result (λ came. Settles seat world.old (if came then 1 else 0) world.new) }
+    ensures memory { OnErr result (Settles seat world.old 0 world.new) }
+{
     match world.step(WorldStep::Deliver { wire, side, seat }) {
-        Ok(_) => Ok(true),
         Err(WorldFault::Core(CoreFault::OutOfMemory)) => Err(OutOfMemory),
-        Err(WorldFault::Core(CoreFault::Refused(rule))) => Ok(rule != Rule::EntriesFull),
-        Err(_) => Ok(false),
+        answer => Ok(has_come(&answer)),
+    }
+}
+
+/// Whether a frame came in a delivery that was answered so.
+fn has_come(answer: &Result<WorldReply, WorldFault>) -> bool
+    ensures { result ≡ has_come answer.now }
+{
+    match answer {
+        Ok(_) => true,
+        Err(WorldFault::Core(CoreFault::Refused(Rule::EntriesFull))) => false,
+        Err(WorldFault::Core(CoreFault::Refused(_))) => true,
+        Err(_) => false,
     }
 }

@@ -1,4 +1,8 @@
 //! Who lists whom in a group.
+ghost use Rattle.std.specs.Prelude.{◌≡◌, ◌++◌, [], OnOk, slice_get};
+ghost use Rattle.std.specs.Option.{option_copied, option_map_or};
+ghost use Rattle.world_script.specs.Showing.{pids_in, node_text, shown_text, shown_line};
+
 use crate::named_world::NamedWorld;
 use dist_types::{Group, OutOfMemory, Pid, Scope};
 use node_core::{CoreFault, NodeCore, Query};
@@ -13,14 +17,30 @@ pub fn put_shown(
     scope: &Scope,
     group: &Group,
     out: &mut Vec<u8>,
-) -> Result<(), OutOfMemory> {
+) -> Result<(), OutOfMemory>
+    ensures { OnOk result (out.new.items ≡ out.old.items ++ shown_line scope.now group.now world.now.nodes) }
+{
     put_word("show", out)?;
     for place in 0..world.nodes() {
-        if let Some(node) = world.node(place) {
-            put_node(alloc, node, scope, group, out)?;
-        }
+        put_place(alloc, world.node(place), scope, group, out)?;
     }
     put_word("\n", out)
+}
+
+/// Adds the node at a place, if there is one.
+fn put_place(
+    alloc: Global,
+    found: Option<&NodeCore>,
+    scope: &Scope,
+    group: &Group,
+    out: &mut Vec<u8>,
+) -> Result<(), OutOfMemory>
+    ensures { OnOk result (out.new.items ≡ out.old.items ++ option_map_or (shown_text scope.now group.now) (option_copied found.entry) []) }
+{
+    match found {
+        Some(node) => put_node(alloc, node, scope, group, out),
+        None => Ok(()),
+    }
 }
 
 /// Adds a node, how many processes it lists, and each. Where the scope doesn't run it lists none.
@@ -30,11 +50,23 @@ fn put_node(
     scope: &Scope,
     group: &Group,
     out: &mut Vec<u8>,
-) -> Result<(), OutOfMemory> {
+) -> Result<(), OutOfMemory>
+    ensures { OnOk result (out.new.items ≡ out.old.items ++ shown_text scope.now group.now node.now) }
+{
     match node.look(scope, Query::Members(group)) {
-        Ok(Reply::Pids(pids)) => put_listed(alloc, node, pids.as_slice(), out),
+        Ok(reply) => put_listed(alloc, node, pids_in(&reply), out),
+        Err(CoreFault::Refused(_)) => put_listed(alloc, node, &[], out),
         Err(CoreFault::OutOfMemory) => Err(OutOfMemory),
-        _ => put_listed(alloc, node, &[], out),
+    }
+}
+
+/// The processes of an answer.
+fn pids_in(reply: &Reply) -> &[Pid]
+    ensures { result.now ≡ pids_in reply.now }
+{
+    match reply {
+        Reply::Pids(pids) => pids.as_slice(),
+        _ => &[],
     }
 }
 
@@ -44,7 +76,9 @@ fn put_listed(
     node: &NodeCore,
     pids: &[Pid],
     out: &mut Vec<u8>,
-) -> Result<(), OutOfMemory> {
+) -> Result<(), OutOfMemory>
+    ensures { OnOk result (out.new.items ≡ out.old.items ++ node_text node.now.opening.name pids.now) }
+{
     put_word(" ", out)?;
     put_bytes(node.name().as_bytes(), out)?;
     put_number(": ", pids.len() as u64, out)?;

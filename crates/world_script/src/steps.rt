@@ -1,10 +1,15 @@
 //! The step of a world that a line asks for.
+ghost use Rattle.std.specs.Prelude.{◌≡◌};
+ghost use Rattle.world_script.specs.StepLines.{step_in};
+
 use crate::named_world::NamedWorld;
 use crate::world_line::WorldLine;
 use pg_world::WorldStep;
 
 /// The step that a line asks for, if it asks for one.
-pub fn step_of(world: &NamedWorld, seat: u32, asked: WorldLine) -> Option<WorldStep> {
+pub fn step_of(world: &NamedWorld, seat: u32, asked: WorldLine) -> Option<WorldStep>
+    ensures { result ≡ step_in seat world.now.nodes asked }
+{
     Some(match asked {
         WorldLine::At { node, event } => WorldStep::Call {
             node: world.place(&node),

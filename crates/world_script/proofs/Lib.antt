@@ -1,0 +1,5 @@
+mod Places
+mod Counted
+mod Settled
+mod Shown
+mod Followed
