@@ -1,5 +1,5 @@
 //! Frames go and come on all wires, until none moves.
-ghost use Rattle.std.specs.Prelude.{◌≡◌, ◌++◌, ℕ, IfOk, OnOk, OnErr, if◌then◌else◌};
+ghost use Rattle.std.specs.Prelude.{◌≡◌, ◌++◌, ℕ, false, IfOk, OnOk, OnErr, if◌then◌else◌};
 ghost use Rattle.world_script.specs.Settling.{Settles, has_come, settled_line};
 
 use crate::named_world::NamedWorld;
@@ -96,20 +96,19 @@ fn deliver(world: &mut NamedWorld, wire: usize, side: Side, seat: u32) -> Result
     ensures ok { IfOk result (λ came. Settles seat world.old (if came then 1 else 0) world.new) }
     ensures memory { OnErr result (Settles seat world.old 0 world.new) }
 {
-    match world.step(WorldStep::Deliver { wire, side, seat }) {
-        Err(WorldFault::Core(CoreFault::OutOfMemory)) => Err(OutOfMemory),
-        answer => Ok(has_come(&answer)),
-    }
+    has_come(&world.step(WorldStep::Deliver { wire, side, seat }))
 }
 
-/// Whether a frame came in a delivery that was answered so.
-fn has_come(answer: &Result<WorldReply, WorldFault>) -> bool
-    ensures { result ≡ has_come answer.now }
+/// Whether a frame came in a delivery that was answered so, unless that found no memory.
+fn has_come(answer: &Result<WorldReply, WorldFault>) -> Result<bool, OutOfMemory>
+    ensures ok { IfOk result (λ came. came ≡ has_come answer.now) }
+    ensures memory { OnErr result (has_come answer.now ≡ false) }
 {
     match answer {
-        Ok(_) => true,
-        Err(WorldFault::Core(CoreFault::Refused(Rule::EntriesFull))) => false,
-        Err(WorldFault::Core(CoreFault::Refused(_))) => true,
-        Err(_) => false,
+        Ok(_) => Ok(true),
+        Err(WorldFault::Core(CoreFault::Refused(Rule::EntriesFull))) => Ok(false),
+        Err(WorldFault::Core(CoreFault::Refused(_))) => Ok(true),
+        Err(WorldFault::Core(CoreFault::OutOfMemory)) => Err(OutOfMemory),
+        Err(_) => Ok(false),
     }
 }
