@@ -1,5 +1,5 @@
 -- The nodes so far, and what a node lists.
-use Rattle.std.proofs.Common.{◌≡◌, ℕ, ◌+◌, ◌<◌, ◌∙◌, Bool, true, false, List, [], ◌∷◌, ◌++◌, Option, Some, None, Ok, Err, cond, not, refl, length, take, get_or, sym, ap}
+use Rattle.std.proofs.Common.{◌≡◌, ℕ, ◌+◌, ◌<◌, ◌∙◌, Bool, true, false, List, [], ◌∷◌, ◌++◌, Option, Some, None, Ok, Err, cond, not, refl, length, take, get_or, sym, ap, append_assoc}
 use Rattle.std.specs.Prelude.{slice_get}
 use Rattle.std.specs.List.{flat_map}
 use Rattle.std.specs.Option.{option_map_or}
@@ -41,3 +41,11 @@ module _ (h : History) (s g : List ℕ) where
       by : (b : Bool) → is_running h s ≡ b → listed_by s g h ≡ []
       by true q = absurd (let kept : None ≡ Some rule = sym (ap (λ b. cond (not b) (Some Rule.NoScope) None) q) ∙ is 0 in cc)
       by false q = ap (λ b. cond b (members h s g) []) q
+
+-- the text of the nodes so far, and of one more
+pub shows_on : (f : History → List ℕ) (hs : List History) (k : ℕ) (old head now new : List ℕ) → k < length hs → now ≡ old ++ head ++ flat_map f (take k hs)
+    → new ≡ now ++ option_map_or f (slice_get hs k) [] → new ≡ old ++ head ++ flat_map f (take (k + 1) hs)
+shows_on f hs k old head now new low is more =
+    let so_far = flat_map f (take k hs) in
+    let next = option_map_or f (slice_get hs k) [] in
+    more ∙ ap (λ t. t ++ next) is ∙ append_assoc (old ++ head) so_far next ∙ ap (λ t. old ++ head ++ t) (sym (one_more f hs k low))
