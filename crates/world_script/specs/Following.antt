@@ -32,7 +32,7 @@ MakesAsked old None new said = ⊥
 pub record IsSettled (old : Nodes) (seat : ℕ) (new : Nodes) (said : List ℕ) : Type 0 where
   pub came : ℕ
   pub settles : Settles seat old came new
-  pub line : (said ≡ settled_line (Ok came)) ⊎ (said ≡ memory_line)
+  pub line : (said ≡ settled_line came) ⊎ (said ≡ memory_line)
 
 -- a world, and the seat that asks
 pub record Seated : Type 0 where

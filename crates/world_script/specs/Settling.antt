@@ -49,7 +49,11 @@ pub record Settles (seat : ℕ) (old : Nodes) (came : ℕ) (new : Nodes) : Type 
   pub moves : AllByRecursion (λ m. MovesFrames seat m.step) made
   pub count : came ≡ total (λ m. came_in m.step m.answer) made
 
--- the line for how many frames came, or that a step found no memory
-abbrev pub settled_line : {E : Type 0} → Result ℕ E → List ℕ
-settled_line (Ok came) = codes "settled " ++ decimal came ++ codes "\n"
-settled_line (Err e) = memory_line
+-- the line for how many frames came
+abbrev pub settled_line : ℕ → List ℕ
+settled_line came = codes "settled " ++ decimal came ++ codes "\n"
+
+-- the same, or that a step found no memory
+abbrev pub ended_line : {E : Type 0} → Result ℕ E → List ℕ
+ended_line (Ok came) = settled_line came
+ended_line (Err e) = memory_line

@@ -1,6 +1,6 @@
 //! Frames go and come on all wires, until none moves.
 ghost use Rattle.std.specs.Prelude.{◌≡◌, ◌++◌, ℕ, false, IfOk, OnOk, OnErr, if◌then◌else◌};
-ghost use Rattle.world_script.specs.Settling.{Settles, has_come, settled_line};
+ghost use Rattle.world_script.specs.Settling.{Settles, has_come, ended_line};
 
 use crate::named_world::NamedWorld;
 use dist_types::OutOfMemory;
@@ -48,7 +48,7 @@ pub fn settle(world: &mut NamedWorld, seat: u32) -> Result<u32, OutOfMemory>
 
 /// Adds the line for how many frames came, or that a step found no memory.
 pub fn put_settled(settled: Result<u32, OutOfMemory>, out: &mut Vec<u8>) -> Result<(), OutOfMemory>
-    ensures { OnOk result (out.new.items ≡ out.old.items ++ settled_line settled) }
+    ensures { OnOk result (out.new.items ≡ out.old.items ++ ended_line settled) }
 {
     match settled {
         Ok(came) => put_numbered_line("settled ", u64::from(came), out),
