@@ -2,4 +2,3 @@ mod Places
 mod Counted
 mod Settled
 mod Shown
-mod Followed

@@ -4,3 +4,4 @@ pub mod StepLines
 pub mod Settling
 pub mod Showing
 pub mod Following
+pub mod Faults

@@ -1,8 +1,11 @@
 //! A world as the lines of a script see it.
-ghost use Rattle.std.specs.Prelude.{◌≡◌, ◌++◌, ◌∷◌, [], List, ℕ, None, Some, IsTrue, IsFalse, IfOk, OnOk};
+ghost use Rattle.std.specs.Prelude.{◌≡◌, ◌++◌, ◌∷◌, [], List, ℕ, None, Some, IsTrue, IsFalse, IfOk, IfErr, OnOk};
 ghost use Rattle.policy_audit.specs.History.{past};
 ghost use Rattle.pg_text.specs.Lines.{is_quiet};
 ghost use Rattle.world_script.specs.declared.world_line.WorldLine.{WorldLine as Line};
+ghost use Rattle.world_script.specs.declared.world_line.WorldLine.TheVariants as lines;
+ghost use Rattle.world_script.specs.declared.lab.LabFault.TheVariants as faults;
+ghost use Rattle.world_script.specs.Faults.{IsNoNode, IsMisplaced};
 ghost use Rattle.world_script.specs.WorldLines.{asked_by};
 ghost use Rattle.world_script.specs.StepLines.{step_in};
 ghost use Rattle.world_script.specs.Following.{MakesAsked, Follows, AddsNode, AsksWorld, Plays, seated, begun};
@@ -33,6 +36,10 @@ pub enum LabFault {
 }
 
 impl From<LineFault> for LabFault {
+    ghost use Rattle.world_script.specs.Faults.{line_fault};
+
+    ghost from_gives = { λ unread fault. fault ≡ line_fault unread };
+
     fn from(fault: LineFault) -> LabFault {
         match fault {
             LineFault::Script => LabFault::Script,
@@ -42,18 +49,30 @@ impl From<LineFault> for LabFault {
 }
 
 impl From<OutOfMemory> for LabFault {
+    ghost use Rattle.world_script.specs.declared.lab.LabFault.TheVariants as faults;
+
+    ghost from_gives = { λ _ fault. fault ≡ faults.Memory };
+
     fn from(_fault: OutOfMemory) -> LabFault {
         LabFault::Memory
     }
 }
 
 impl<T: Drop> From<AllocFailed<T>> for LabFault {
+    ghost use Rattle.world_script.specs.declared.lab.LabFault.TheVariants as faults;
+
+    ghost from_gives = { λ _ fault. fault ≡ faults.Memory };
+
     fn from(_fault: AllocFailed<T>) -> LabFault {
         LabFault::Memory
     }
 }
 
 impl From<OpenFault> for LabFault {
+    ghost use Rattle.world_script.specs.Faults.{open_fault};
+
+    ghost from_gives = { λ opened fault. fault ≡ open_fault opened };
+
     fn from(fault: OpenFault) -> LabFault {
         match fault {
             OpenFault::BadLimit => LabFault::Script,
@@ -99,6 +118,7 @@ impl Lab {
         ensures quiet { OnOk result (IsTrue (is_quiet line.now) → (self.new ≡ self.old) × (out.new.items ≡ out.old.items)) }
         ensures ok { OnOk result (IsFalse (is_quiet line.now) → (asked : Line) × (said : List ℕ) × (asked_by line.now ≡ Some asked)
             × (out.new.items ≡ out.old.items ++ said) × Plays self.old asked self.new said) }
+        ensures fault { IfErr result (λ fault. fault ≡ faults.Script → IsMisplaced self.old (asked_by line.now)) }
     {
         if is_quiet(line) {
             return Ok(());
@@ -111,7 +131,8 @@ impl Lab {
 
     /// One more node, where the world hasn't begun.
     fn add(&mut self, opening: Opening, out: &mut Vec<u8>) -> Result<(), LabFault>
-        ensures { OnOk result ((said : List ℕ) × (out.new.items ≡ out.old.items ++ said) × AddsNode self.old opening self.new said) }
+        ensures ok { OnOk result ((said : List ℕ) × (out.new.items ≡ out.old.items ++ said) × AddsNode self.old opening self.new said) }
+        ensures fault { IfErr result (λ fault. fault ≡ faults.Script → IsNoNode self.old opening) }
     {
         if self.world.is_some() {
             return Err(LabFault::Script);
@@ -127,7 +148,8 @@ impl Lab {
 
     /// Asks the world, which begins with the first line that isn't a node.
     fn follow(&mut self, asked: WorldLine, out: &mut Vec<u8>) -> Result<(), LabFault>
-        ensures { OnOk result ((said : List ℕ) × (out.new.items ≡ out.old.items ++ said) × AsksWorld self.old asked self.new said) }
+        ensures ok { OnOk result ((said : List ℕ) × (out.new.items ≡ out.old.items ++ said) × AsksWorld self.old asked self.new said) }
+        ensures fault { IfErr result (λ fault. fault ≡ faults.Script → (o : Opening) × (asked ≡ lines.Node o)) }
     {
         let mut world = self.take_world()?;
         let followed = follow(self.alloc, &mut world, &mut self.seat, asked, out);
@@ -139,6 +161,7 @@ impl Lab {
     fn take_world(&mut self) -> Result<NamedWorld, LabFault>
         ensures world { IfOk result (λ w. w ≡ begun self.old) }
         ensures seat { self.new.seat ≡ self.old.seat }
+        ensures fault { IfErr result (λ fault. fault ≡ faults.SameName) }
     {
         match self.world.take() {
             Some(world) => Ok(world),
@@ -158,8 +181,9 @@ pub fn follow(
     asked: WorldLine,
     out: &mut Vec<u8>,
 ) -> Result<(), LabFault>
-    ensures { OnOk result ((said : List ℕ) × (out.new.items ≡ out.old.items ++ said)
+    ensures ok { OnOk result ((said : List ℕ) × (out.new.items ≡ out.old.items ++ said)
         × Follows (seated world.old seat.old) asked (seated world.new seat.new) said) }
+    ensures fault { IfErr result (λ fault. fault ≡ faults.Script → (o : Opening) × (asked ≡ lines.Node o)) }
 {
     match asked {
         WorldLine::Seat(number) => {
@@ -181,8 +205,9 @@ fn make(
     asked: WorldLine,
     out: &mut Vec<u8>,
 ) -> Result<(), LabFault>
-    ensures { OnOk result ((said : List ℕ) × (out.new.items ≡ out.old.items ++ said)
+    ensures ok { OnOk result ((said : List ℕ) × (out.new.items ≡ out.old.items ++ said)
         × MakesAsked world.old (step_in seat world.old.nodes asked) world.new said) }
+    ensures fault { IfErr result (λ fault. fault ≡ faults.Script → step_in seat world.old.nodes asked ≡ None) }
 {
     let Some(step) = step_of(world, seat, asked) else {
         return Err(LabFault::Script);
