@@ -1,5 +1,5 @@
 -- A step of a world keeps the number of its nodes.
-use Rattle.std.proofs.Common.{◌≡◌, ℕ, ◌∙◌, length, ap, length-set}
+use Rattle.std.proofs.Common.{◌≡◌, ◌∙◌, length, ap, length-set}
 use Rattle.std.specs.declared.result.Result.{Result}
 use Rattle.pg_world.specs.declared.world_step.WorldStep.{WorldStep}
 use Rattle.pg_world.specs.declared.world_step.WorldReply.{WorldReply}

@@ -1,5 +1,5 @@
 -- Why a line has no answer.
-use Rattle.std.specs.Prelude.{◌≡◌, ℕ, List, Option, Some, None, IsSome, ◌⊎◌}
+use Rattle.std.specs.Prelude.{◌≡◌, Option, Some, None, IsSome, ◌⊎◌}
 use Rattle.policy_audit.specs.declared.opening.Opening.{Opening}
 use Rattle.node_core.specs.declared.fault.OpenFault.{OpenFault}
 use Rattle.node_core.specs.declared.fault.OpenFault.TheVariants as open_faults

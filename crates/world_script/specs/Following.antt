@@ -1,5 +1,5 @@
 -- What a line makes of a world and of the seat that asks, and how it is answered.
-use Rattle.std.specs.Prelude.{◌≡◌, ℕ, List, [], ◌∷◌, ◌++◌, Option, Some, None, Ok, ◌⊎◌}
+use Rattle.std.specs.Prelude.{◌≡◌, ℕ, List, [], ◌∷◌, ◌++◌, Option, Some, None, ◌⊎◌}
 use Rattle.std.specs.declared.result.Result.{Result}
 use Rattle.policy_audit.specs.declared.opening.Opening.{Opening}
 use Rattle.policy_audit.specs.History.{History, past}
