@@ -1,7 +1,9 @@
-//! Worked cases of the audit and of the monitors of groups.
+//! Worked cases of the audit, of the monitors of groups, and of the table of a scope.
 #![tactic(auto)]
 
 #[cfg(test)]
 mod audit;
 #[cfg(test)]
 mod monitors;
+#[cfg(test)]
+mod tables;

@@ -22,6 +22,3 @@ pub use laws::{
     part_of_all_own_rows, part_of_own_rows, rows_of_difference, total_of_counts, total_of_members,
 };
 pub use table::ScopeTable;
-
-#[cfg(test)]
-mod tests;

@@ -1,5 +1,5 @@
-use Rattle.scope_core.proofs.Words.{◌≡◌, All, codes}
-use Rattle.scope_core.proofs.tests.own_rows.crowd_of.Given as goal
+use Rattle.std.specs.Prelude.{◌≡◌, All, codes}
+use Rattle.group_tests.proofs.tables.own_rows.crowd_of.Given as goal
 
 -- the processes so far are of the node
 abbrev pub invariant-loop-digit : goal.invariant-loop-digit

@@ -1,7 +1,7 @@
 ghost use Rattle.std.specs.Prelude.{◌≡◌, IfOk, All, codes};
 
-use super::*;
 use dist_types::{Group, GroupChange, NodeName, OutOfMemory, Pid, Row, TryClone};
+use scope_core::*;
 use std::alloc::Global;
 use std::test::Fail;
 

@@ -1,5 +1,5 @@
-use Rattle.scope_core.proofs.Words.{◌≡◌, All}
-use Rattle.scope_core.proofs.tests.peer_rows.rows_of.Given as goal
+use Rattle.std.specs.Prelude.{◌≡◌, All}
+use Rattle.group_tests.proofs.tables.peer_rows.rows_of.Given as goal
 
 -- the rows so far are of the peer
 abbrev pub invariant-loop-group : goal.invariant-loop-group
