@@ -6,7 +6,6 @@ use std::io::{BufRead, Write};
 use std::test::Fail;
 
 mod faults;
-mod transcripts;
 
 // What holds a node, a script or its answers has few ways out, since a check follows the end of a value along each; the assertions
 // stand in the tests, which hold texts alone.
