@@ -10,7 +10,7 @@ use crate::turn::{LaneMaker, begin, copy, finish, turn};
 use anyhow::{Result, anyhow, bail};
 use node_net::Lane;
 use pg_session::Seen;
-use policy_audit::Opening;
+use policy_audit::{Event, Opening};
 use rand_chacha::ChaCha20Rng;
 use std::alloc::Global;
 use std::fs::{self, Files};
@@ -33,6 +33,33 @@ struct Plan<'a> {
     maker: LaneMaker,
 }
 
+impl<'a> Plan<'a> {
+    /// What the options say of each life, and what the first one is told.
+    fn of(
+        alloc: Global,
+        options: Options<'a>,
+        words: ChaCha20Rng,
+    ) -> Result<(Plan<'a>, Vec<Event>)> {
+        let Options {
+            opening,
+            targets,
+            limits,
+            allowed,
+            cookies,
+            audit,
+            ..
+        } = options;
+        let plan = Plan {
+            opening,
+            links: Links { targets, limits },
+            addr: None,
+            audit,
+            maker: LaneMaker::new(words),
+        };
+        Ok((plan, given(alloc, allowed, cookies)?))
+    }
+}
+
 /// Runs a node until the end of standard input, or until `quit`.
 pub fn run<R>(
     rt: &R,
@@ -51,38 +78,15 @@ where
         + Eprint
         + Sync,
 {
-    let Options {
-        opening,
-        listen,
-        targets,
-        limits,
-        allowed,
-        cookies,
-        control,
-        audit,
-    } = options;
-    let mut plan = Plan {
-        opening: copy(alloc, &opening)?,
-        links: Links { targets, limits },
-        addr: None,
-        audit,
-        maker: LaneMaker::new(words),
-    };
-    let number = opening.creation;
-    let settings = given(alloc, allowed, cookies)?;
+    let number = options.opening.creation;
+    let (listen, control, audit) = (options.listen, options.control, options.audit);
+    let (mut plan, settings) = Plan::of(alloc, options, words)?;
+    let opening = copy(alloc, &plan.opening)?;
     let (hub, lanes) = begin(rt, alloc, opening, settings, &mut plan.maker)?;
     let listener = listen_at(rt, listen, &mut plan)?;
     let door = open_door(rt, alloc, control, number)?;
-    let ended = serve(
-        rt,
-        alloc,
-        &hub,
-        &mut plan,
-        listener,
-        lanes,
-        door.as_ref(),
-        lines,
-    );
+    let door = door.as_ref();
+    let ended = serve(rt, alloc, &hub, &mut plan, listener, lanes, door, lines);
     if let Some(path) = control {
         // The path is gone where somebody else has taken it away.
         fs::remove_file(rt, path).ok();
