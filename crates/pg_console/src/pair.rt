@@ -53,6 +53,15 @@ impl Gate for Open {
     fn answered(&self, _link: u32) {}
 }
 
+/// A node with a process in the group, and its caller.
+#[derive(Drop)]
+struct Member {
+    node: Node,
+    caller: Pass,
+    reader: Pass,
+    writer: Pass,
+}
+
 /// An end of the link: its number, the passes of its workers, and the socket of each.
 #[derive(Drop)]
 struct End {
@@ -63,9 +72,9 @@ struct End {
     output: TcpStream,
 }
 
-/// A node with a process in the group, its caller, and its end of the link.
+/// A node, its caller, and its end of the link.
 #[derive(Drop)]
-struct Member {
+struct Linked {
     node: Node,
     caller: Pass,
     end: End,
@@ -77,17 +86,17 @@ where
     R: Net<Listener = TcpListener, Stream = TcpStream> + Threads + Wait + Clock + Sync,
     W: Write,
 {
-    let (dialler, acceptor, hook) = linked(rt, alloc)?;
-    let Member {
+    let (near, far, hook) = link_both(rt, alloc)?;
+    let Linked {
         node: a,
         caller: mut first,
         end: near,
-    } = dialler;
-    let Member {
+    } = near;
+    let Linked {
         node: b,
         caller: mut second,
         end: far,
-    } = acceptor;
+    } = far;
     let ((near, far), seen) = thread::join(
         rt,
         || serve_both(rt, alloc, (&a, near), (&b, far)),
@@ -107,18 +116,20 @@ where
 }
 
 /// Two members at both ends of a socket, and what cuts it.
-fn linked<R>(rt: &R, alloc: Global) -> Result<(Member, Member, TcpStream)>
+fn link_both<R>(rt: &R, alloc: Global) -> Result<(Linked, Linked, TcpStream)>
 where
     R: Net<Listener = TcpListener, Stream = TcpStream> + Wait + Sync,
 {
+    let dialler = start(rt, alloc, b"a@h")?;
+    let acceptor = start(rt, alloc, b"b@h")?;
     let (out, back) = connected(rt)?;
     let hook = out.try_clone()?;
     // The same challenges in each run: nobody else speaks on this link.
     let mut source = ChallengeSource::new(ChaCha20Rng::from_seed([0; 32]));
     let dial = Event::Dial(NodeName::parse(alloc, b"b@h")?, source.draw());
-    let dialler = start(rt, alloc, b"a@h", dial, out)?;
-    let acceptor = start(rt, alloc, b"b@h", Event::Opened(source.draw()), back)?;
-    Ok((dialler, acceptor, hook))
+    let near = link(rt, dialler, dial, out)?;
+    let far = link(rt, acceptor, Event::Opened(source.draw()), back)?;
+    Ok((near, far, hook))
 }
 
 /// Both ends of a connection over the loopback.
@@ -132,22 +143,20 @@ where
     Ok((out, back))
 }
 
-/// A node of that name with a process in the group, whose link this event opens.
-fn start<R: Wait + Sync>(
-    rt: &R,
-    alloc: Global,
-    name: &[u8],
-    event: Event,
-    socket: TcpStream,
-) -> Result<Member> {
+/// A node of that name with a process in the group.
+fn start<R: Wait + Sync>(rt: &R, alloc: Global, name: &[u8]) -> Result<Member> {
     let (node, mut passes) = Node::new(alloc, opening(alloc, name)?, 3)?;
     let (Some(writer), Some(reader), Some(mut caller)) = (passes.pop(), passes.pop(), passes.pop())
     else {
         bail!("a node without passes");
     };
     join(rt, alloc, &node, &mut caller)?;
-    let end = open_link(rt, &node, event, reader, writer, socket)?;
-    Ok(Member { node, caller, end })
+    Ok(Member {
+        node,
+        caller,
+        reader,
+        writer,
+    })
 }
 
 fn opening(alloc: Global, name: &[u8]) -> Result<Opening> {
@@ -170,6 +179,18 @@ fn join<R: Wait + Sync>(rt: &R, alloc: Global, node: &Node, caller: &mut Pass) -
     let pids = Items::of(vec![in alloc; pid]?);
     caller.call(node, rt, Event::Join(scope(alloc)?, group(alloc)?, pids))?;
     Ok(())
+}
+
+/// The member, at an end of the link that the event opens over this socket.
+fn link<R: Wait + Sync>(rt: &R, member: Member, event: Event, socket: TcpStream) -> Result<Linked> {
+    let Member {
+        node,
+        caller,
+        reader,
+        writer,
+    } = member;
+    let end = open_link(rt, &node, event, reader, writer, socket)?;
+    Ok(Linked { node, caller, end })
 }
 
 /// The link that the event opens, over this socket.
