@@ -2,7 +2,7 @@
 """What a call of one row costs on a node with one peer of 64 rows, and on a full one: 60 peers, each with 4,096 rows in 4,096 groups of one scope.
 
 bench/full_node.py [PROGRAM]. Processor time of `pg_console run`, the reading of lines and the writing of answers in it, in microseconds an
-operation: the least of 5 rounds of 1,000."""
+operation: the least of 5 rounds, of 1,000 changes, 20 lists of groups and 200 of members."""
 
 import os
 import struct
