@@ -51,7 +51,7 @@ impl<T> Items<T> {
 
 impl<T: TryClone + Drop> TryClone for Items<T> {
     fn try_clone(&self, alloc: Global) -> Result<Items<T>, OutOfMemory> {
-        let mut copies = Vec::new(alloc);
+        let mut copies = Vec::with_capacity(alloc, self.items.len())?;
         for item in self.as_slice() {
             copies.push(item.try_clone(alloc)?)?;
         }

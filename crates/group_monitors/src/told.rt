@@ -22,6 +22,7 @@ pub fn told_by(
     for entry in entries.changing() {
         tell_changes(alloc, &mut updates, monitor, entry.change.as_slice())?;
     }
+    updates.shrink_to_fit();
     Ok(updates)
 }
 

@@ -69,6 +69,7 @@ pub fn changes_of(
             })?;
         }
     }
+    changes.shrink_to_fit();
     Ok(changes)
 }
 
@@ -121,8 +122,7 @@ impl ChangeRoom {
     pub fn new(alloc: Global, scope: Scope) -> Result<ChangeRoom, OutOfMemory>
         ensures { IfOk result (λ room. room ≡ scope) }
     {
-        let mut changes = Vec::new(alloc);
-        changes.reserve(1)?;
+        let changes = Vec::with_capacity(alloc, 1)?;
         Ok(ChangeRoom { scope, changes })
     }
 

@@ -225,7 +225,7 @@ fn cut_link(scopes: &mut Vec<Running>, link: &Link)
 fn copies_of(alloc: Global, frames: &[OutFrame]) -> Result<OutFrames, OutOfMemory>
     ensures { IfOk result (λ copies. copies ≡ frames.now) }
 {
-    let mut copies = Vec::new(alloc);
+    let mut copies = Vec::with_capacity(alloc, frames.len())?;
     for frame in frames {
         copies.push(frame.try_clone(alloc)?)?;
     }

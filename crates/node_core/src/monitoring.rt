@@ -175,8 +175,9 @@ fn contents_of(alloc: Global, running: &Running) -> Result<Contents, OutOfMemory
     ensures groups { IfOk result (λ contents. IsGroupListing (count_of running.now.table) (map (λ c. c.group) contents)) }
     ensures pids { IfOk result (λ contents. AllByRecursion (λ c. IsPidListing (count_of running.now.table c.group) c.pids) contents) }
 {
-    let mut contents = Vec::new(alloc);
-    for group in running.table.groups()? {
+    let groups = running.table.groups()?;
+    let mut contents = Vec::with_capacity(alloc, groups.len())?;
+    for group in groups {
         let pids = Pids::of(running.table.members(&group)?);
         contents.push(GroupPids { group, pids })?;
     }

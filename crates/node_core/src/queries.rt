@@ -11,7 +11,7 @@ ghost use Rattle.node_core.specs.Reading.{event_of, IsAnswer};
 use crate::entering::{accept, make_ready, reject};
 use crate::fault::CoreFault;
 use crate::node::NodeCore;
-use crate::running::{Running, find};
+use crate::running::{Running, find, place_of};
 use dist_types::{Group, Scope};
 use policy_audit::{Event, Groups, Members, Reply, Rule};
 
@@ -145,8 +145,20 @@ impl NodeCore {
         requires { is_full self.old ≡ false }
         ensures { Steps self.old seat (Event.Members scope group) self.new result }
     {
-        let answer = self.look(&scope, Query::Members(&group));
+        let answer = self.list_members(&scope, &group);
         self.enter(seat, Event::Members(scope, group), answer)
+    }
+
+    /// Answers as `look` does, with a list of the processes that is made once until the group changes.
+    fn list_members(&mut self, scope: &Scope, group: &Group) -> Result<Reply, CoreFault>
+        ensures answer { IsAnswer self.old (Event.Members scope.now group.now) result }
+        ensures same { self.new ≡ self.old }
+    {
+        let Some(place) = place_of(&self.scopes, scope) else {
+            return Err(CoreFault::Refused(Rule::NoScope));
+        };
+        let pids = self.scopes[place].table.listing(group)?;
+        Ok(Reply::Pids(pids))
     }
 
     /// The own processes of a group.

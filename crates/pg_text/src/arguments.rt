@@ -60,6 +60,7 @@ pub fn each<A: Argument + Drop>(alloc: Global, words: Option<&[u8]>) -> Result<I
         items.push(A::of_word(alloc, word)?)?;
         rest = behind;
     }
+    items.shrink_to_fit();
     Ok(Items::of(items))
 }
 

@@ -2,12 +2,12 @@
 use Rattle.scope_core.proofs.Words.{◌≡◌, ℕ, ◌≤◌, ◌<◌, ◌&&◌, ◌||◌, ◌+◌, Bool, true, false, cond, not, nat_lt, List, [], ◌∷◌, ◌++◌, refl, sym, ap, ◌∙◌, arith}
 use Rattle.scope_core.proofs.Words.{filter, list_any, length, same, same_decides, GroupChange, Joins, Adds, how_many, Result, take, get_or, take_more, zero, suc, Row, Counted, tally}
 use Rattle.scope_core.proofs.Words.{AllByRecursion, is_in, is_of_node, ◌==◌, of_node, IsNodeList, is_there, has_members, is_named, Covers, is_row_of, has_others}
-use Rattle.scope_core.proofs.NodeLists.{node_tally}
+use Rattle.scope_core.proofs.NodeLists.{node_tally, lone_row}
 use Rattle.scope_core.proofs.Words.{OnOk, Ok, Err, Pid, same_pid, same_pid_decides, list_all, mentions, how_many_append, is_row, Leaves, is_of_one}
 use Rattle.scope_core.proofs.Words.{same_sym}
-use Rattle.scope_core.proofs.Unnamed.{row_there, some_row, some_more, same_members}
+use Rattle.scope_core.proofs.Unnamed.{named_moves, row_there, some_row, some_more, same_members}
 use Rattle.std.specs.Result.{is_err, OnErr}
-use Rattle.scope_core.proofs.Words.{without_node, All, all_from, subst}
+use Rattle.scope_core.proofs.Words.{without_node, All, all_from, subst, IsDifference, Tells}
 use Rattle.scope_core.proofs.Rising.{tally_none, tally_all, tally-filter_le}
 
 pub named_part : (g : List ℕ) (i : ℕ) (cs : List GroupChange) → is_named g (take i cs) ≡ true → is_named g cs ≡ true
@@ -94,8 +94,29 @@ step_settled (Ok x) changes node was now old mid new indexed put settle ok err =
 step_settled (Err x) changes node was now old mid new indexed put settle ok err =
     unsettled changes node now old mid new (λ g n. indexed g n ∙ ap (λ rows. cond (has_members g n rows) 1 0) (sym err)) (λ g n. (true, put g n)) settle
 
-pub covers_joined : (changes : List GroupChange) (node : List ℕ) (more was now : List Counted) → Covers changes node [] more → Joins more was now → Covers changes node was now
-covers_joined changes node more was now covers joins g e = grind (arith, joins (is_there g node), covers g e)
+-- where rows are told that come, the groups that are named have rows of the node
+pub told_named : (n : List ℕ) (counted : List Counted) (changes : List GroupChange) → AllByRecursion (λ c. c.row.pid.node ≡ n) counted → IsDifference (λ g p. 0) (λ g p. tally (is_row g p) counted) changes
+    → (g : List ℕ) → is_named g changes ≡ true → has_members g n counted ≡ true
+told_named n counted changes own d g e =
+    let moves = named_moves g changes d.proper e in
+    let p = moves.0 in
+    let some : 0 < tally (is_row g p) counted = omega (arith, moves.1, d.left g p, d.joined g p) in
+    let other = λ (h : same p.node n ≡ false). lone_row n g p h counted own in
+    let mine : p.node ≡ n = grind (arith, other, some, same_decides p.node n) in
+    let has : has_members g p.node counted ≡ true = grind (arith, row_there g p counted, some) in
+    subst (λ m. has_members g m counted ≡ true) mine has
+
+pub added_named : (n : List ℕ) (counted : List Counted) (changes : List GroupChange) → AllByRecursion (λ c. c.row.pid.node ≡ n) counted → Tells [] counted changes → (g : List ℕ) → is_named g changes ≡ true → has_members g n counted ≡ true
+added_named n counted changes own told = told_named n counted changes own (told _ _ (λ g p. omega arith) (λ g p. omega arith))
+
+-- so the groups of rows that came are as they are to be, once they are put in
+pub joined_settled : (changes : List GroupChange) (node : List ℕ) (more was now : List Counted) (old mid : List ℕ → List ℕ → ℕ) → ((g n : List ℕ) → old g n ≡ cond (has_members g n was) 1 0)
+    → ((g n : List ℕ) → mid g n ≡ cond (same node n && is_named g changes) 1 (old g n)) → Covers changes node [] more → ((g : List ℕ) → is_named g changes ≡ true → has_members g node more ≡ true)
+    → AllByRecursion (λ c. c.row.pid.node ≡ node) more → Joins more was now → (g n : List ℕ) → mid g n ≡ cond (has_members g n now) 1 0
+joined_settled changes node more was now old mid indexed put covers named own joins g n =
+    let here = joins (is_there g node) in
+    let others = λ (h : same node n ≡ false). joined_others node more was now own joins n h g in
+    grind (arith, indexed g n, put g n, here, others, named g, covers g, same_decides node n)
 
 -- a node's rows stand in the place of those that it had
 module _ (node : List ℕ) (rows was now : List Counted) (joins : Joins rows (without_node node was) now) where

@@ -3,6 +3,7 @@ pub mod Rising
 pub mod Shares
 pub mod Runs
 pub mod Groups
+pub mod Summed
 pub mod Unnamed
 pub mod Mentioned
 pub mod Places
@@ -14,3 +15,4 @@ pub mod RowEdits
 pub mod NodeLists
 pub mod GroupNodes
 pub mod Indexed
+pub mod Kept

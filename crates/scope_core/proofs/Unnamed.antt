@@ -1,7 +1,8 @@
 -- Groups that an answer doesn't name have the members that they had.
-use Rattle.scope_core.proofs.Words.{◌≡◌, ℕ, ◌<◌, ◌≤◌, Bool, true, false, cond, nat_lt, List, [], ◌∷◌, refl, sym, subst, arith, Pid, Counted}
+use Rattle.scope_core.proofs.Words.{◌≡◌, ℕ, ◌<◌, ◌≤◌, ◌+◌, ◌&&◌, Bool, true, false, cond, nat_lt, List, [], ◌∷◌, refl, sym, subst, arith, Pid, Counted}
 use Rattle.scope_core.proofs.Words.{GroupChange, IsDifference, same, same_decides, same_pid_decides, mentions, total, tally, is_row, is_there}
-use Rattle.scope_core.proofs.Words.{has_members, is_named}
+use Rattle.scope_core.proofs.Words.{has_members, is_named, is_empty, AllByRecursion, IsProper}
+use Rattle.dist_types.specs.Difference.{times_left, times_joined}
 
 named_total : (part : GroupChange → List Pid) (g : List ℕ) (p : Pid) (changes : List GroupChange) → is_named g changes ≡ false → total (λ c. cond (same c.group g) (mentions p (part c)) 0) changes ≡ 0
 named_total part g p [] e = refl
@@ -13,6 +14,18 @@ unnamed_same before after changes d g e p =
     let left = named_total (λ c. c.left) g p changes e in
     let joined = named_total (λ c. c.joined) g p changes e in
     omega (arith, d.left g p, d.joined g p, left, joined)
+
+-- in a group that is named somebody leaves or joins
+pub named_moves : (g : List ℕ) (cs : List GroupChange) → AllByRecursion IsProper cs → is_named g cs ≡ true → (p : Pid) × (0 < times_left g p cs + times_joined g p cs)
+named_moves g [] a e = grind arith
+named_moves g (c ∷ cs) a e = by (same c.group g) c.left c.joined refl refl refl a.0.some (named_moves g cs a.1)
+  where
+    by : (b : Bool) (l j : List Pid) → same c.group g ≡ b → c.left ≡ l → c.joined ≡ j → (is_empty l && is_empty j) ≡ false → (is_named g cs ≡ true → (p : Pid) × (0 < times_left g p cs + times_joined g p cs))
+        → (p : Pid) × (0 < times_left g p (c ∷ cs) + times_joined g p (c ∷ cs))
+    by true (q ∷ l) j s x y m rest = (q, grind (arith, s, x, same_pid_decides q q))
+    by true [] (q ∷ j) s x y m rest = (q, grind (arith, s, y, same_pid_decides q q))
+    by true [] [] s x y m rest = grind arith
+    by false l j s x y m rest = let r = rest (grind (arith, s, e)) in (r.0, grind (arith, s, r.1))
 
 pub row_there : (g : List ℕ) (p : Pid) (rows : List Counted) → tally (is_row g p) rows ≤ tally (is_there g p.node) rows
 row_there g p [] = omega arith

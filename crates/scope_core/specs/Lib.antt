@@ -1,3 +1,4 @@
+pub mod Kept
 pub mod Table
 pub mod Listed
 pub mod Added

@@ -20,15 +20,15 @@ pub fn one_change(
 ) -> Result<Vec<GroupChange>, OutOfMemory>
     ensures { IfOk result (λ changes. changes.items ≡ change_unless_empty group.now left.items joined.items) }
 {
-    let mut changes = Vec::new(alloc);
-    if !left.is_empty() || !joined.is_empty() {
-        let group = group.try_clone(alloc)?;
-        changes.push(GroupChange {
-            group,
-            left: Items::of(left),
-            joined: Items::of(joined),
-        })?;
+    if left.is_empty() && joined.is_empty() {
+        return Ok(Vec::new(alloc));
     }
+    let mut changes = Vec::with_capacity(alloc, 1)?;
+    changes.push(GroupChange {
+        group: group.try_clone(alloc)?,
+        left: Items::of(left),
+        joined: Items::of(joined),
+    })?;
     Ok(changes)
 }
 

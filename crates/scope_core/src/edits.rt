@@ -1,19 +1,23 @@
 //! What is done to the sorted rows.
-ghost use Rattle.std.specs.Prelude.{◌≡◌, ◌+◌, ◌<◌, ◌≤◌, true, [], ◌∷◌, not, vec_len, vec_capacity};
+ghost use Rattle.std.specs.Prelude.{◌≡◌, ◌+◌, ◌<◌, ◌≤◌, IsTrue, true, [], ◌∷◌, not, vec_len, vec_capacity};
 ghost use Rattle.std.specs.List.{filter, HoldsAt};
 ghost use Rattle.dist_types.specs.declared.row.Row.{Row};
 ghost use Rattle.dist_types.specs.Listing.{same_pid};
 ghost use Rattle.scope_core.specs.Table.{tally, is_row, is_of_node, IsKept, AreCounted};
-ghost use Rattle.scope_core.specs.Added.{row_in, Adds, Joins, Takes, Leaves, HasRoomFor, HasRoomBeside};
+ghost use Rattle.scope_core.specs.Added.{row_in, are_all_in, Adds, Joins, Takes, Leaves, HasRoomFor, HasRoomBeside};
 
 use crate::counted::Counted;
-use crate::lowered::{lower_all, sweep};
+use crate::lowered::{lower_all, lower_rows, sweep};
 use crate::merged::merge;
 use crate::reads::{is_same, place_of};
 use dist_types::{Group, NodeName, Pid, Row};
 
-/// Where rows are merged, or taken in one pass, all rows of the list are moved. So fewer than these go one by one.
-pub const FEW: usize = 32;
+/// Where rows are merged, all rows of the list are moved, one after the other. So fewer than these are put in one by one.
+pub const FEW: usize = 64;
+
+/// A row that is taken out alone moves those behind it. One pass over the list costs as much as a few of these moves, so only
+/// fewer than these are taken one by one.
+const SINGLES: usize = 4;
 
 /// Takes all rows of a process away.
 pub fn remove_pid(rows: &mut Vec<Counted>, pid: &Pid)
@@ -49,7 +53,7 @@ pub fn take_all(rows: &mut Vec<Counted>, group: &Group, pids: &[Pid], node: &Nod
     ensures total { tally (is_of_node node.now) rows.new.items + result ≡ tally (is_of_node node.now) rows.old.items }
     ensures kept { IsKept rows.new.items }
 {
-    if pids.len() < FEW {
+    if pids.len() < SINGLES {
         take_each(rows, group, pids, node)
     } else {
         let lost = lower_all(rows, group, pids, node);
@@ -72,6 +76,33 @@ fn take_each(rows: &mut Vec<Counted>, group: &Group, pids: &[Pid], node: &NodeNa
         lost += usize::from(take(rows, group, pid) & of_node);
     }
     lost
+}
+
+/// One less for each row.
+pub fn take_rows(rows: &mut Vec<Counted>, gone: &[Row])
+    requires kept { IsKept rows.old.items }
+    requires counted { IsTrue (are_all_in rows.old.items gone.now) }
+    ensures taken { Adds gone.now rows.new.items rows.old.items }
+    ensures kept { IsKept rows.new.items }
+{
+    if gone.len() < SINGLES {
+        take_each_row(rows, gone);
+    } else {
+        lower_rows(rows, gone);
+        sweep(rows);
+    }
+}
+
+/// What `take_rows` does, row by row.
+fn take_each_row(rows: &mut Vec<Counted>, gone: &[Row])
+    requires kept { IsKept rows.old.items }
+    requires counted { IsTrue (are_all_in rows.old.items gone.now) }
+    ensures taken { Adds gone.now rows.new.items rows.old.items }
+    ensures kept { IsKept rows.new.items }
+{
+    for row in gone {
+        take(rows, &row.group, &row.pid);
+    }
 }
 
 /// Takes one away, if the process is in the group. Answers whether it is.

@@ -1,17 +1,17 @@
 //! The rows of a scope, in a list for each node, and the nodes of each group.
-ghost use Rattle.std.specs.Prelude.{◌≡◌, ◌+◌, ◌≤◌, false, not, nat_lt, ℕ, List, [], All, IsTrue, IfOk, OnOk, OnErr};
+ghost use Rattle.std.specs.Prelude.{◌≡◌, ◌+◌, ◌≤◌, true, false, not, nat_lt, ℕ, List, [], All, IsTrue, IfOk, OnOk, OnErr};
 ghost use Rattle.std.specs.List.{filter, list_any};
 ghost use Rattle.dist_types.specs.Listing.{how_many, same_pid, IsPidListing, IsGroupListing};
 ghost use Rattle.scope_core.specs.Table.{tally, is_row, is_of_node, max_rows};
 ghost use Rattle.scope_core.specs.Added.{without_node, are_all_in, Adds, Joins, Leaves, HasRoomFor};
 ghost use Rattle.scope_core.specs.NodeLists.{of_node, IsNodeList};
-ghost use Rattle.scope_core.specs.Indexed.{is_there, is_named, Covers};
+ghost use Rattle.scope_core.specs.Indexed.{has_members, is_there, is_named, Covers};
 
 use crate::counted::Counted;
 use crate::group_nodes::GroupNodes;
 use crate::indexing::{gathered, put_all, settle_all, settle_nodes, unname, unname_process};
 use crate::node_lists::NodeLists;
-use crate::reads::{count_at, total_of};
+use crate::reads::count_at;
 use dist_types::{Group, GroupChange, NodeName, OutOfMemory, Pid, Row};
 use std::alloc::Global;
 use std::marker::Model;
@@ -60,7 +60,7 @@ impl IndexedRows {
         ensures total { result ≡ tally (is_of_node node.now) self.now }
         ensures few { result ≤ max_rows }
     {
-        total_of(self.lists.of_node(node))
+        self.lists.total_of(node)
     }
 
     /// How often a process is in a group, for processes that are asked for in their order.
@@ -102,7 +102,7 @@ impl IndexedRows {
         Ok(pids)
     }
 
-    /// Puts rows of a node in. Only these groups change.
+    /// Puts rows of a node in. These groups change, and no other.
     pub fn join(
         &mut self,
         node: &NodeName,
@@ -112,6 +112,7 @@ impl IndexedRows {
         requires list { IsNodeList node.now more.items }
         requires few { tally (is_of_node node.now) self.old + tally (is_of_node node.now) more.items ≤ max_rows }
         requires changes { Covers changes.now node.now [] more.items }
+        requires named { (g : List ℕ) → is_named g changes.now ≡ true → has_members g node.now more.items ≡ true }
         ensures ok { OnOk result (Joins more.items self.old self.new) }
         ensures same { OnErr result (self.new ≡ self.old) }
     {
@@ -120,7 +121,10 @@ impl IndexedRows {
             return Err(OutOfMemory);
         }
         let joined = self.lists.join(node, more);
-        settle_all(&self.lists, &mut self.index, changes, node);
+        // The rows that came in are all there.
+        if joined.is_err() {
+            settle_all(&self.lists, &mut self.index, changes, node);
+        }
         joined
     }
 

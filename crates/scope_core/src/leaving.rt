@@ -38,7 +38,7 @@ fn gone_in_order(
     requires { Ascends pid_cmp sorted.now }
     ensures { IfOk result (λ gone. IsPidListing (λ p. min (mentions p sorted.now) (tally (is_row group.now p) rows.now)) gone.items) }
 {
-    let mut gone = Vec::new(alloc);
+    let mut gone = Vec::with_capacity(alloc, sorted.len())?;
     let mut rest = sorted;
     let mut next = 0;
     while let Some((pid, others)) = rest.split_first() {
@@ -47,6 +47,7 @@ fn gone_in_order(
         push_copies(alloc, &mut gone, pid, count.min(again + 1))?;
         (_, rest) = others.split_at(again);
     }
+    gone.shrink_to_fit();
     Ok(gone)
 }
 

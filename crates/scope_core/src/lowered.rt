@@ -28,14 +28,13 @@ pub fn are_all_in(rows: &mut Vec<Counted>, gone: &[Row]) -> bool
 
 /// One less for each row.
 #[tactic(auto, using(crate::proofs::Lower::still_rises))]
-pub fn take_rows(rows: &mut Vec<Counted>, gone: &[Row])
+pub fn lower_rows(rows: &mut Vec<Counted>, gone: &[Row])
     requires kept { IsKept rows.old.items }
     requires counted { IsTrue (are_all_in rows.old.items gone.now) }
     ensures taken { Adds gone.now rows.new.items rows.old.items }
-    ensures kept { IsKept rows.new.items }
+    ensures rises { Rises counted_cmp rows.new.items }
 {
     lower(rows, gone);
-    sweep(rows);
 }
 
 /// One less for each mention of a process, as far as it is in the group. Answers how many the node loses.

@@ -7,9 +7,7 @@ ghost use Rattle.scope_core.specs.Added.{row_in, without_node, are_all_in, Adds,
 ghost use Rattle.scope_core.specs.NodeLists.{of_node, IsNodeList, LeavesOf};
 
 use crate::counted::Counted;
-use crate::edits::{put_in, remove_pid, take, take_all};
-use crate::incoming::room_for;
-use crate::lowered::{are_all_in, take_rows};
+use crate::node_list::NodeList;
 use dist_types::{Group, NodeName, OutOfMemory, Pid, Row, TryClone};
 use indexmap::IndexMap;
 use std::alloc::Global;
@@ -20,7 +18,7 @@ use std::marker::Model;
 #[derive(Debug, Drop)]
 pub struct NodeLists {
     alloc: Global,
-    lists: IndexMap<NodeName, Vec<Counted>>,
+    lists: IndexMap<NodeName, NodeList>,
 }
 
 impl Model for NodeLists {
@@ -53,8 +51,19 @@ impl NodeLists {
         ensures few { (n : List ℕ) → tally (is_of_node n) self.now ≤ max_rows }
     {
         match self.lists.get(node) {
-            Some(rows) => rows,
+            Some(list) => list.as_slice(),
             None => &[],
+        }
+    }
+
+    /// How many rows a node has, each as often as it is counted.
+    pub fn total_of(&self, node: &NodeName) -> usize
+        ensures total { result ≡ tally (is_of_node node.now) self.now }
+        ensures few { result ≤ max_rows }
+    {
+        match self.lists.get(node) {
+            Some(list) => list.total(),
+            None => 0,
         }
     }
 
@@ -66,12 +75,10 @@ impl NodeLists {
         ensures same { OnErr result (self.new ≡ self.old) }
     {
         let alloc = self.alloc;
-        let Some(rows) = self.lists.get_mut(node) else {
+        let Some(list) = self.lists.get_mut(node) else {
             return self.begin(node, more);
         };
-        let spare = room_for(alloc, rows, more.len())?;
-        put_in(rows, more, spare);
-        Ok(())
+        list.join(alloc, more)
     }
 
     /// Puts rows in place of those of a node.
@@ -83,7 +90,7 @@ impl NodeLists {
         let Some(list) = self.lists.get_mut(node) else {
             return self.begin(node, rows);
         };
-        *list = rows;
+        list.replace(rows);
         Ok(())
     }
 
@@ -95,7 +102,7 @@ impl NodeLists {
         ensures same { OnErr result (self.new ≡ self.old) }
     {
         let name = node.try_clone(self.alloc)?;
-        self.lists.insert(name, rows)?;
+        self.lists.insert(name, NodeList::of(rows))?;
         Ok(())
     }
 
@@ -128,20 +135,20 @@ impl NodeLists {
         ensures counts { LeavesOf node.now group.now pids.now self.old self.new }
         ensures total { tally (is_of_node node.now) self.new + result ≡ tally (is_of_node node.now) self.old }
     {
-        let Some(rows) = self.lists.get_mut(node) else {
+        let Some(list) = self.lists.get_mut(node) else {
             return 0;
         };
-        take_all(rows, group, pids, node)
+        list.leave(group, pids, node)
     }
 
     /// One less, if the process is in the group. Answers whether it is.
     fn leave_one(&mut self, group: &Group, pid: &Pid) -> bool
         ensures { Takes result (row_in group.now pid.now) self.old self.new }
     {
-        let Some(rows) = self.lists.get_mut(&pid.node) else {
+        let Some(list) = self.lists.get_mut(&pid.node) else {
             return false;
         };
-        take(rows, group, pid)
+        list.take(group, pid)
     }
 
     /// Whether each of a node's rows stands among these at most as often as it is counted.
@@ -151,10 +158,10 @@ impl NodeLists {
         ensures fit { IsTrue result → HasRoomFor gone.now [] }
         ensures same { self.new ≡ self.old }
     {
-        let Some(rows) = self.lists.get_mut(node) else {
+        let Some(list) = self.lists.get_mut(node) else {
             return gone.is_empty();
         };
-        are_all_in(rows, gone)
+        list.are_all_in(gone)
     }
 
     /// One less for each of a node's rows.
@@ -163,20 +170,20 @@ impl NodeLists {
         requires counted { IsTrue (are_all_in self.old gone.now) }
         ensures { Adds gone.now self.new self.old }
     {
-        let Some(rows) = self.lists.get_mut(node) else {
+        let Some(list) = self.lists.get_mut(node) else {
             return;
         };
-        take_rows(rows, gone);
+        list.take_rows(gone);
     }
 
     /// Takes all rows of a process away.
     pub fn remove_process(&mut self, pid: &Pid)
         ensures { self.new ≡ filter (λ c. not (same_pid c.row.pid pid.now)) self.old }
     {
-        let Some(rows) = self.lists.get_mut(&pid.node) else {
+        let Some(list) = self.lists.get_mut(&pid.node) else {
             return;
         };
-        remove_pid(rows, pid);
+        list.remove_process(pid);
     }
 
     /// Takes all rows of a node away.

@@ -40,7 +40,7 @@ pub fn total_of(rows: &[Counted]) -> usize
 pub fn pids_of(alloc: Global, rows: &[Counted]) -> Result<Vec<Pid>, OutOfMemory>
     ensures { IfOk result (λ pids. pids.items ≡ spread (λ c. c.row.pid) (λ c. c.count) rows.now) }
 {
-    let mut pids = Vec::new(alloc);
+    let mut pids = Vec::with_capacity(alloc, rows.len())?;
     for counted in rows {
         push_copies(alloc, &mut pids, &counted.row.pid, counted.count as usize)?;
     }
@@ -51,7 +51,7 @@ pub fn pids_of(alloc: Global, rows: &[Counted]) -> Result<Vec<Pid>, OutOfMemory>
 pub fn rows_of(alloc: Global, rows: &[Counted]) -> Result<Vec<Row>, OutOfMemory>
     ensures { IfOk result (λ copies. copies.items ≡ spread (λ c. c.row) (λ c. c.count) rows.now) }
 {
-    let mut copies = Vec::new(alloc);
+    let mut copies = Vec::with_capacity(alloc, rows.len())?;
     for counted in rows {
         push_copies(alloc, &mut copies, &counted.row, counted.count as usize)?;
     }

@@ -11,8 +11,9 @@ use crate::fault::TableFault;
 use crate::incoming::{beyond, counted_of, counted_rows};
 use crate::indexed_rows::IndexedRows;
 use crate::leaving::{all_gone, gone_of};
+use crate::listings::Listings;
 use crate::reads::{groups_of, in_group, pids_of, rows_of, rows_of_process};
-use dist_types::{Group, GroupChange, NodeName, OutOfMemory, Pid, Row};
+use dist_types::{Group, GroupChange, NodeName, OutOfMemory, Pid, Row, Shared, TryClone};
 use std::alloc::Global;
 use std::marker::Model;
 
@@ -24,6 +25,8 @@ pub struct ScopeTable {
     rows: IndexedRows,
     /// How many rows the own processes have, repeats included.
     own_rows: usize,
+    /// What was answered of groups that didn't change since.
+    listings: Listings,
 }
 
 impl Model for ScopeTable {
@@ -33,7 +36,7 @@ impl Model for ScopeTable {
 
     ghost view = { λ table. record { own = table.own; rows = table.rows } };
 
-    ghost invariant = { λ table. IsHeld table.own table.own_rows table.rows };
+    ghost invariant = { λ table. IsHeld table.own table.own_rows table.rows table.listings };
 }
 
 impl ScopeTable {
@@ -50,6 +53,7 @@ impl ScopeTable {
             own,
             rows: IndexedRows::new(alloc),
             own_rows: 0,
+            listings: Listings::new(alloc),
         }
     }
 
@@ -74,6 +78,7 @@ impl ScopeTable {
         let sorted = in_order(self.alloc, pids)?;
         let changes = one_change(self.alloc, group, Vec::new(self.alloc), sorted)?;
         self.rows.join(&self.own, counted, &changes)?;
+        self.listings.forget_changed(&changes);
         self.own_rows += pids.len();
         Ok(changes)
     }
@@ -96,6 +101,7 @@ impl ScopeTable {
         let left = gone_of(self.alloc, &self.rows, group, pids)?;
         let changes = one_change(self.alloc, group, left, Vec::new(self.alloc))?;
         self.own_rows -= self.rows.leave(group, pids, &self.own);
+        self.listings.forget_changed(&changes);
         Ok(changes)
     }
 
@@ -125,6 +131,7 @@ impl ScopeTable {
             return Ok(changes);
         }
         self.rows.replace(peer, counted, &changes)?;
+        self.listings.forget_changed(&changes);
         self.own_rows -= share_of(&self.own, peer, self.own_rows);
         self.own_rows += share_of(&self.own, peer, rows.len());
         Ok(changes)
@@ -150,6 +157,7 @@ impl ScopeTable {
         let counted = counted_rows(self.alloc, rows)?;
         let changes = changes_of(self.alloc, &[], &counted)?;
         self.rows.join(peer, counted, &changes)?;
+        self.listings.forget_changed(&changes);
         self.own_rows += share_of(&self.own, peer, rows.len());
         Ok(changes)
     }
@@ -173,6 +181,7 @@ impl ScopeTable {
         let counted = counted_rows(self.alloc, rows)?;
         let changes = changes_of(self.alloc, &counted, &[])?;
         self.rows.take_rows(peer, rows, &changes);
+        self.listings.forget_changed(&changes);
         self.own_rows -= share_of(&self.own, peer, rows.len());
         Ok(changes)
     }
@@ -181,6 +190,8 @@ impl ScopeTable {
     pub fn exit(&mut self, pid: &Pid)
         ensures { Counts self.old self.new (count_after_exit self.old pid.now) }
     {
+        self.listings
+            .forget_process(self.rows.of_node(&pid.node), pid);
         self.rows.remove_process(pid);
         self.own_rows = self.rows.total_of(&self.own);
     }
@@ -200,6 +211,7 @@ impl ScopeTable {
     pub fn drop_peer(&mut self, peer: &NodeName)
         ensures { Counts self.old self.new (count_after_drop self.old peer.now) }
     {
+        self.listings.forget_rows(self.rows.of_node(peer));
         self.rows.remove_node(peer);
         self.own_rows -= share_of(&self.own, peer, self.own_rows);
     }
@@ -217,6 +229,7 @@ impl ScopeTable {
         ensures { Counts self.old self.new no_count }
     {
         self.rows.clear();
+        self.listings.clear();
         self.own_rows = 0;
     }
 
@@ -233,6 +246,22 @@ impl ScopeTable {
         ensures { IfOk result (λ pids. IsPidListing (count_of self.now group.now) pids.items) }
     {
         let pids = self.rows.members(self.alloc, group)?;
+        Ok(pids)
+    }
+
+    /// The processes of a group, in a list that is made once for all who ask until the group changes.
+    pub fn listing(&mut self, group: &Group) -> Result<Shared<Pid>, OutOfMemory>
+        ensures value { IfOk result (λ pids. IsPidListing (count_of self.old group.now) pids) }
+        ensures same { self.new ≡ self.old }
+    {
+        if let Some(pids) = self.listings.get(group) {
+            return pids.try_clone(self.alloc);
+        }
+        let pids = Shared::of(self.rows.members(self.alloc, group)?)?;
+        // A group that doesn't exist isn't kept: whoever asks for many of those takes no memory.
+        if !pids.as_slice().is_empty() {
+            self.listings.keep(self.alloc, group, &pids);
+        }
         Ok(pids)
     }
 

@@ -1,6 +1,5 @@
 use Rattle.scope_core.proofs.Words.{sym, ◌∙◌}
-use Rattle.scope_core.proofs.Calls.{ok_then}
-use Rattle.scope_core.proofs.Indexed.{err_is, err_not, unsettled, step_settled, covers_joined, joined_others}
+use Rattle.scope_core.proofs.Indexed.{err_is, err_not, unsettled, joined_settled}
 use Rattle.scope_core.specs.GroupNodes.{times_named}
 use Rattle.scope_core.proofs.indexed_rows.IndexedRows.join.Goals as goal
 
@@ -9,11 +8,9 @@ invariant_of-self c =
     let some = err_is c.put_all.result (sym c.is_err.ensures.value ∙ c.if-is_err.true) c.put_all.ensures.some in
     unsettled c.args.changes.now c.args.node.now c.self.inside.lists (times_named c.self.inside.index) (times_named c.put_all.new.index) (times_named c.settle_all.new.index) c.self.invariant some c.settle_all.ensures
 
-pub invariant_of-self-2 : goal.invariant_of-self-2
-invariant_of-self-2 c =
-    let n = c.args.node.now in
-    let cs = c.args.changes.now in
-    let was = c.self.inside.lists in
+pub invariant_of-self-else-is_err-2 : goal.invariant_of-self-else-is_err-2
+invariant_of-self-else-is_err-2 c =
     let put = err_not c.put_all.result (sym c.is_err.ensures.value ∙ c.if-is_err.false) c.put_all.ensures.ok in
-    step_settled c.join-joined.result cs n was c.join-joined.new.self (times_named c.self.inside.index) (times_named c.put_all.new.index) (times_named c.settle_all-2.new.index) c.self.invariant put c.settle_all-2.ensures
-    (ok_then c.join-joined.result (λ joins. (covers_joined cs n c.args.more.items was c.join-joined.new.self c.requires.changes joins, joined_others n c.args.more.items was c.join-joined.new.self c.requires.list.own joins)) c.join-joined.ensures.ok) c.join-joined.ensures.same
+    let joins = err_not c.join-joined.result (sym c.is_err-2.ensures.value ∙ c.if-is_err-2.false) c.join-joined.ensures.ok in
+    joined_settled c.args.changes.now c.args.node.now c.args.more.items c.self.inside.lists c.join-joined.new.self (times_named c.self.inside.index) (times_named c.put_all.new.index) c.self.invariant put
+    c.requires.changes c.requires.named c.requires.list.own joins

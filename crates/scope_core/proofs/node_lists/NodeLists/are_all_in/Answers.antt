@@ -11,27 +11,27 @@ returns-in_default-clause-value c =
     (c.is_empty.ensures ∙ sym (all_in_list n c.args.gone.now c.requires (all_rows es) _ (no_list n es c.self.invariant (sym c.in_default.ensures.value)) ∙ none_in c.args.gone.now))
 
 pub are_all_in-requires : goal.are_all_in-requires
-are_all_in-requires c = (list_found c.args.node.now c.self.inside.lists.entries c.in-Some.rows.now c.self.invariant (sym c.in-Some.ensures.value)).kept
+are_all_in-requires c = (list_found c.args.node.now c.self.inside.lists.entries c.in-Some.list.now c.self.invariant (sym c.in-Some.ensures.value)).kept
 
 pub invariant_of-self-2 : goal.invariant_of-self-2
 invariant_of-self-2 c =
     let n = c.args.node.now in
     let es = c.self.inside.lists.entries in
-    let w = c.are_all_in.new.rows in
-    let list = list_found n es c.in-Some.rows.now c.self.invariant (sym c.in-Some.ensures.value) in
+    let w = c.are_all_in.new.self in
+    let list = list_found n es c.in-Some.list.now c.self.invariant (sym c.in-Some.ensures.value) in
     subst AreNodeLists (sym (c.get_mut.follows.holds w).0) (lists_set n es w c.self.invariant (subst (IsNodeList n) (sym c.are_all_in.ensures.same) list))
 
 pub returns-clause-value : goal.returns-clause-value
 returns-clause-value c =
     let n = c.args.node.now in
     let es = c.self.inside.lists.entries in
-    let v = c.in-Some.rows.now in
+    let v = c.in-Some.list.now in
     rw (← c.self.view_is)
-    (c.are_all_in.ensures.value ∙ sym (all_in_list n c.args.gone.now c.requires (all_rows es) v.items (own_list n es v c.self.invariant (sym c.in-Some.ensures.value))))
+    (c.are_all_in.ensures.value ∙ sym (all_in_list n c.args.gone.now c.requires (all_rows es) v (own_list n es v c.self.invariant (sym c.in-Some.ensures.value))))
 
 pub returns-clause-same : goal.returns-clause-same
 returns-clause-same c =
-    let w = c.are_all_in.new.rows in
+    let w = c.are_all_in.new.self in
     ap all_rows (c.get_mut.follows.holds w).0
-    ∙ set_same c.args.node.now c.self.inside.lists.entries c.in-Some.rows.now w (sym c.in-Some.ensures.value) c.are_all_in.ensures.same
+    ∙ set_same c.args.node.now c.self.inside.lists.entries c.in-Some.list.now w (sym c.in-Some.ensures.value) c.are_all_in.ensures.same
     ∙ c.self.view_is

@@ -12,22 +12,22 @@ returns-in_default c =
     (refl, row_tally p.node c.args.group.now p refl (all_rows es) ∙ ap (tally (is_row c.args.group.now p)) (no_list p.node es c.self.invariant (sym c.in_default.ensures.value)))
 
 pub take-requires : goal.take-requires
-take-requires c = (list_found c.args.pid.now.node c.self.inside.lists.entries c.in-Some.rows.now c.self.invariant (sym c.in-Some.ensures.value)).kept
+take-requires c = (list_found c.args.pid.now.node c.self.inside.lists.entries c.in-Some.list.now c.self.invariant (sym c.in-Some.ensures.value)).kept
 
 pub invariant_of-self-2 : goal.invariant_of-self-2
 invariant_of-self-2 c =
     let n = c.args.pid.now.node in
     let es = c.self.inside.lists.entries in
-    let v = c.in-Some.rows.now in
-    let w = c.take.new.rows in
-    let less = takes_less c.take.result (row_in c.args.group.now c.args.pid.now) v.items w.items c.take.ensures.taken in
-    let list = lessened_list n v.items w.items (list_found n es v c.self.invariant (sym c.in-Some.ensures.value)) less c.take.ensures.kept in
+    let v = c.in-Some.list.now in
+    let w = c.take.new.self in
+    let less = takes_less c.take.result (row_in c.args.group.now c.args.pid.now) v w c.take.ensures.taken in
+    let list = lessened_list n v w (list_found n es v c.self.invariant (sym c.in-Some.ensures.value)) less c.take.ensures.kept in
     subst AreNodeLists (sym (c.get_mut.follows.holds w).0) (lists_set n es w c.self.invariant list)
 
 pub returns : goal.returns
 returns c =
     let p = c.args.pid.now in
     let es = c.self.inside.lists.entries in
-    let w = c.take.new.rows in
+    let w = c.take.new.self in
     rw (← c.self.view_is, (c.get_mut.follows.holds w).0)
-    (set_takes_one p.node es c.in-Some.rows.now w (sym c.in-Some.ensures.value) c.take.result (row_in c.args.group.now p) refl c.self.invariant c.take.ensures.taken)
+    (set_takes_one p.node es c.in-Some.list.now w (sym c.in-Some.ensures.value) c.take.result (row_in c.args.group.now p) refl c.self.invariant c.take.ensures.taken)

@@ -5,11 +5,11 @@ use Rattle.scope_core.proofs.node_lists.NodeLists.of_node.Goals as goal
 pub returns-in-Some-clause-rows : goal.returns-in-Some-clause-rows
 returns-in-Some-clause-rows c =
     rw (← c.self.view_is)
-    (c.deref.ensures.value ∙ sym (own_list c.args.node.now c.self.inside.lists.entries c.in-Some.rows.now c.self.invariant (sym c.in-Some.ensures.value)))
+    (c.as_slice.ensures ∙ sym (own_list c.args.node.now c.self.inside.lists.entries c.in-Some.list.now c.self.invariant (sym c.in-Some.ensures.value)))
 
 pub returns-in-Some-clause-list : goal.returns-in-Some-clause-list
 returns-in-Some-clause-list c =
-    rw (c.deref.ensures.value) (list_found c.args.node.now c.self.inside.lists.entries c.in-Some.rows.now c.self.invariant (sym c.in-Some.ensures.value))
+    rw (c.as_slice.ensures) (list_found c.args.node.now c.self.inside.lists.entries c.in-Some.list.now c.self.invariant (sym c.in-Some.ensures.value))
 
 pub returns-in-None-clause-rows : goal.returns-in-None-clause-rows
 returns-in-None-clause-rows c = rw (← c.self.view_is) (sym (no_list c.args.node.now c.self.inside.lists.entries c.self.invariant (sym c.in-None.ensures.value)))

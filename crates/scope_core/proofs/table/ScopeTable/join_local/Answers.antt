@@ -1,5 +1,7 @@
 use Rattle.scope_core.proofs.Words.{All, ◌≡◌, refl, arith, same_decides, how_many_le, length-map, All-map, is_row, is_of_node, row_in, tally}
 use Rattle.scope_core.proofs.Calls.{own_rows, mentions_in, joined_change, counted_own, told_covered}
+use Rattle.scope_core.proofs.Indexed.{told_named}
+use Rattle.scope_core.proofs.Kept.{changed_listed}
 use Rattle.scope_core.proofs.table.ScopeTable.join_local.Goals as goal
 
 pub counted_of-requires : goal.counted_of-requires
@@ -23,6 +25,15 @@ join-requires-clause-changes c =
     let change = joined_change c.args.group.now c.args.pids.now c.in_ok-sorted.sorted.items (λ h p. 0) (λ h p. tally (is_row h p) counted) c.in_ok-sorted.ensures (λ h p. grind (arith, mentions_in, c.in_ok-counted.ensures.added (is_row h p))) in
     rw (c.deref.ensures.value, c.in_ok-changes.ensures, c.new.ensures.items) (told_covered c.self.inside.own counted _ change)
 
+pub join-requires-clause-named : goal.join-requires-clause-named
+join-requires-clause-named c =
+    let own = c.self.inside.own in
+    let counted = c.in_ok-counted.counted.items in
+    let all : All (λ r. r.pid.node ≡ own) c.in_ok-fresh.fresh.items = rw c.in_ok-fresh.ensures (All-map (λ r. r.pid.node ≡ own) (row_in c.args.group.now) c.args.pids.now (rw (← c.self.view_is) at c.requires)) in
+    let list = counted_own own c.in_ok-fresh.fresh.items all counted c.in_ok-counted.ensures.added c.in_ok-counted.ensures.kept in
+    let change = joined_change c.args.group.now c.args.pids.now c.in_ok-sorted.sorted.items (λ h p. 0) (λ h p. tally (is_row h p) counted) c.in_ok-sorted.ensures (λ h p. grind (arith, mentions_in, c.in_ok-counted.ensures.added (is_row h p))) in
+    rw (c.deref.ensures.value, c.in_ok-changes.ensures, c.new.ensures.items) (told_named own counted _ list.own change)
+
 pub returns-clause-ok : goal.returns-clause-ok
 returns-clause-ok c = rw (← c.self.view_is) (record {
   own = refl;
@@ -42,4 +53,8 @@ invariant_of-self-2 c =
     record {
       few = omega (arith, c.if-pids-self.false, c.self.invariant.few);
       total = grind (arith, rows, c.in_ok-counted.ensures.added (is_of_node own), c.in_ok-join.ensures.ok (is_of_node own), c.self.invariant.total, same_decides own own);
+      listed =
+          changed_listed c.self.inside.listings c.forget_changed.new.self _ _ c.self.invariant.listed c.in_ok-changes.changes.items (rw c.deref-2.ensures.value at c.forget_changed.ensures)
+          (rw (c.in_ok-changes.ensures, c.new.ensures.items) (joined_change c.args.group.now c.args.pids.now c.in_ok-sorted.sorted.items (λ h p. tally (is_row h p) c.self.inside.rows) (λ h p. tally (is_row h p) c.join.new.self) c.in_ok-sorted.ensures
+          (λ h p. grind (arith, mentions_in, c.in_ok-counted.ensures.added (is_row h p), c.in_ok-join.ensures.ok (is_row h p)))));
     }

@@ -1,5 +1,7 @@
 use Rattle.scope_core.proofs.Words.{arith, same_decides, is_of_node}
 use Rattle.scope_core.proofs.Calls.{all_or_none, counted_own, added_covered, added_change}
+use Rattle.scope_core.proofs.Indexed.{added_named}
+use Rattle.scope_core.proofs.Kept.{changed_listed}
 use Rattle.scope_core.proofs.table.ScopeTable.join_remote.Goals as goal
 
 pub join-requires-clause-list : goal.join-requires-clause-list
@@ -14,6 +16,11 @@ pub join-requires-clause-changes : goal.join-requires-clause-changes
 join-requires-clause-changes c =
     rw c.deref-2.ensures.value (added_covered c.args.peer.now c.in_ok-counted.counted.items _ (rw c.deref.ensures.value at c.in_ok-changes.ensures))
 
+pub join-requires-clause-named : goal.join-requires-clause-named
+join-requires-clause-named c =
+    let list = counted_own c.args.peer.now c.args.rows.now c.requires c.in_ok-counted.counted.items c.in_ok-counted.ensures.added c.in_ok-counted.ensures.kept in
+    rw c.deref-2.ensures.value (added_named c.args.peer.now c.in_ok-counted.counted.items _ list.own (rw c.deref.ensures.value at c.in_ok-changes.ensures))
+
 pub returns-clause-change : goal.returns-clause-change
 returns-clause-change c =
     rw (← c.self.view_is)
@@ -26,4 +33,7 @@ invariant_of-self-2 c =
     record {
       few = grind (arith, c.share_of.ensures, c.total_of.ensures.total, c.total_of.ensures.few, same_decides c.args.peer.now own, c.self.invariant.few, c.self.invariant.total);
       total = grind (arith, share, c.in_ok-counted.ensures.added (is_of_node own), c.in_ok-join.ensures.ok (is_of_node own), c.self.invariant.total);
+      listed =
+          changed_listed c.self.inside.listings c.forget_changed.new.self _ _ c.self.invariant.listed c.in_ok-changes.changes.items (rw c.deref-3.ensures.value at c.forget_changed.ensures)
+          (added_change c.args.rows.now c.self.inside.rows c.in_ok-counted.counted.items c.join.new.self c.in_ok-changes.changes.items (rw c.deref.ensures.value at c.in_ok-changes.ensures) c.in_ok-counted.ensures.added c.in_ok-join.ensures.ok);
     }

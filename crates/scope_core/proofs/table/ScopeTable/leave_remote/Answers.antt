@@ -1,5 +1,6 @@
 use Rattle.scope_core.proofs.Words.{rules, arith, sym, ◌∙◌, is_of_node}
 use Rattle.scope_core.proofs.Calls.{all_or_none, none_untold, taken_change}
+use Rattle.scope_core.proofs.Kept.{changed_listed}
 use Rattle.scope_core.proofs.table.ScopeTable.leave_remote.Goals as goal
 
 pub returns-in_err-counted-clause-refused : goal.returns-in_err-counted-clause-refused
@@ -29,4 +30,7 @@ invariant_of-self-2 c =
     record {
       few = omega (arith, c.self.invariant.few);
       total = grind (arith, share, c.take_rows.ensures (is_of_node own), c.are_all_in.ensures.same, c.self.invariant.total);
+      listed =
+          changed_listed c.self.inside.listings c.forget_changed.new.self _ _ c.self.invariant.listed c.in_ok-changes.changes.items (rw c.deref-3.ensures.value at c.forget_changed.ensures)
+          (taken_change c.args.rows.now c.self.inside.rows c.in_ok-counted.counted.items c.take_rows.new.self c.in_ok-changes.changes.items (rw c.deref.ensures.value at c.in_ok-changes.ensures) c.in_ok-counted.ensures.added (rw c.are_all_in.ensures.same at c.take_rows.ensures));
     }

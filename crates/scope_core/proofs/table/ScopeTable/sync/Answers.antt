@@ -2,6 +2,7 @@ use Rattle.scope_core.proofs.Words.{List, cond, length, vec_len, ℕ, ◌≡◌,
 use Rattle.scope_core.proofs.Calls.{all_or_none, counted_own, no_others, sync_counts, sync_covered, own_left, first_counts, first_fault, ok_then, err_then}
 use Rattle.scope_core.proofs.Between.{synced_change, unchanged}
 use Rattle.scope_core.proofs.Indexed.{empty_at}
+use Rattle.scope_core.proofs.Kept.{changed_listed}
 use Rattle.scope_core.proofs.table.ScopeTable.sync.Goals as goal
 
 pub replace-requires-clause-list : goal.replace-requires-clause-list
@@ -60,12 +61,24 @@ returns-then-is_empty-2-clause-ok c =
 
 pub invariant_of-self-2 : goal.invariant_of-self-2
 invariant_of-self-2 c =
+    let n = c.args.peer.now in
+    let rows = c.args.rows.now in
+    let cs = c.self.inside.rows in
+    let counted = c.in_ok-counted.counted.items in
+    let rises = subst (Rises counted_cmp) c.of_node-held.ensures.rows c.of_node-held.ensures.list.kept.rises in
+    let gone = rw (c.of_node-held.ensures.rows, c.deref.ensures.value) at c.in_ok-left.ensures in
+    let joined = rw (c.of_node-held.ensures.rows, c.deref-2.ensures.value) at c.in_ok-joined.ensures in
+    let told = rw (c.deref-3.ensures.value, c.deref-4.ensures.value, gone, joined) at c.in_ok-changes.ensures in
     let own = c.self.inside.own in
     let share = all_or_none c.args.peer.now c.args.rows.now c.requires own in
     let left = own_left c.args.peer.now own c.self.inside.rows c.self.inside.own_rows c.self.invariant.total in
     record {
       few = grind (arith, c.share_of.ensures, c.share_of-2.ensures, c.self.invariant.few, c.if-rows-gt-MAX_ROWS.false);
       total = grind (arith, share, left, c.in_ok-counted.ensures.added (is_of_node own), c.in_ok-replace.ensures.ok (is_of_node own));
+      listed =
+          changed_listed c.self.inside.listings c.forget_changed.new.self _ _ c.self.invariant.listed c.in_ok-changes.changes.items (rw c.deref-6.ensures.value at c.forget_changed.ensures)
+          (synced_change n rows cs counted c.in_ok-changes.changes.items rises c.in_ok-counted.ensures.kept.rises c.in_ok-counted.ensures.added told (no_others n rows c.requires) (λ g p. tally (is_row g p) c.replace.new.self)
+          (sync_counts n rows c.requires cs counted c.replace.new.self c.in_ok-counted.ensures.added c.in_ok-replace.ensures.ok));
     }
 
 pub returns-then-is_empty-clause-ok : goal.returns-then-is_empty-clause-ok

@@ -1,0 +1,12 @@
+use Rattle.scope_core.proofs.Words.{subst, tally, is_row, IsPidListing}
+use Rattle.scope_core.proofs.Kept.{kept_listed}
+use Rattle.scope_core.proofs.table.ScopeTable.listing.Goals as goal
+
+pub invariant_of-self : goal.invariant_of-self
+invariant_of-self c =
+    let g = c.args.group.now in
+    record {
+      few = c.self.invariant.few;
+      total = c.self.invariant.total;
+      listed = kept_listed (λ h p. tally (is_row h p) c.self.inside.rows) c.self.inside.listings c.keep.new.self g c.in_ok-pids.pids c.self.invariant.listed (rw c.in_ok-pids.ensures c.in_ok-members.ensures) c.keep.ensures;
+    }
