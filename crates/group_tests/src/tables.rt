@@ -1,11 +1,12 @@
 ghost use Rattle.std.specs.Prelude.{◌≡◌, IfOk, All, codes};
 
-use dist_types::{Group, GroupChange, NodeName, OutOfMemory, Pid, Row, TryClone};
+use dist_types::{Group, GroupChange, NodeName, OutOfMemory, Pid, Row, Shared, TryClone};
 use scope_core::*;
 use std::alloc::Global;
 use std::test::Fail;
 
 mod leaves;
+mod listed;
 mod own_rows;
 mod peer_rows;
 mod peers;
@@ -66,6 +67,8 @@ enum Members {
     All,
     Own,
     Count,
+    /// All, in the list that is kept.
+    Kept,
 }
 
 #[derive(Clone, Copy)]

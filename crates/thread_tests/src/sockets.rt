@@ -3,7 +3,7 @@ use cookie_digest::{ChallengeSource, digest};
 use dist_types::{Cookie, Group, Items, NodeName, Scope, TryClone};
 use handshake_frames::decode_challenge;
 use node_net::*;
-use node_threads::{Node, Pass};
+use node_threads::{CloseFault, CloseRule, Closed, Node, Pass};
 use policy_audit::{Event, Opening, Reply};
 use rand_chacha::ChaCha20Rng;
 use rand_core::SeedableRng;
@@ -76,17 +76,32 @@ fn closed(alloc: Global, site: Site) -> Result<usize, Fail> {
         lanes,
         listener: _,
     } = site;
+    let passes = all_passes(alloc, caller, lanes)?;
+    entries_of(&node.close(passes))
+}
+
+/// The caller's pass, and those of the lanes.
+fn all_passes(alloc: Global, caller: Pass, lanes: Lanes) -> Result<Vec<Pass>, Fail> {
     let mut passes = Vec::new(alloc);
     passes.push(caller)?;
     for lane in lanes.into_lanes() {
-        let (reader, writer) = lane.into_passes();
-        passes.push(reader)?;
-        passes.push(writer)?;
+        put_both(lane, &mut passes)?;
     }
-    match node.close(passes) {
+    Ok(passes)
+}
+
+fn put_both(lane: Lane, passes: &mut Vec<Pass>) -> Result<(), Fail> {
+    let (reader, writer) = lane.into_passes();
+    passes.push(reader)?;
+    passes.push(writer)?;
+    Ok(())
+}
+
+fn entries_of(end: &Result<Closed, CloseFault>) -> Result<usize, Fail> {
+    match end {
         Ok(closed) => Ok(closed.core.audit().len()),
         Err(fault) => Err(Fail::from(match fault.rule {
-            node_threads::CloseRule::MissingPass => "a pass is missing",
+            CloseRule::MissingPass => "a pass is missing",
             _ => "not closed",
         })),
     }

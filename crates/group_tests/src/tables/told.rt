@@ -32,6 +32,10 @@ pub fn pids(pids: Vec<Pid>) -> u64 {
     then_pids(0, &pids)
 }
 
+fn shared_pids(pids: Shared<Pid>) -> u64 {
+    then_pids(0, pids.as_slice())
+}
+
 fn then_pids(digits: u64, pids: &[Pid]) -> u64 {
     let mut digits = digits;
     for pid in pids {
@@ -115,18 +119,24 @@ fn all_in(table: &ScopeTable, groups: &[Group]) -> Result<u64, OutOfMemory> {
 }
 
 impl Own {
-    pub fn members(&self, alloc: Global, group: &[u8], members: Members) -> Result<Answer, Fail> {
+    pub fn members(
+        &mut self,
+        alloc: Global,
+        group: &[u8],
+        members: Members,
+    ) -> Result<Answer, Fail> {
         let group = Group::parse(alloc, group)?;
         let told = self.members_in(&group, members);
         drop(group);
         Ok(Ok(told?))
     }
 
-    fn members_in(&self, group: &Group, members: Members) -> Result<u64, OutOfMemory> {
+    fn members_in(&mut self, group: &Group, members: Members) -> Result<u64, OutOfMemory> {
         match members {
             Members::All => self.table.members(group).map(pids),
             Members::Own => self.table.local_members(group).map(pids),
             Members::Count => self.table.members(group).map(count_of_pids),
+            Members::Kept => self.table.listing(group).map(shared_pids),
         }
     }
 

@@ -9,8 +9,13 @@ use std::sync::Wait;
 fn lacks_a_pass(alloc: Global) -> Option<CloseRule> {
     let (node, mut passes) = new_node(alloc, 100, 2)?;
     let second = passes.pop()?;
-    match node.close(passes) {
-        Err(fault) => closed_with(fault, second),
+    closed_later(node.close(passes), second)
+}
+
+/// Why the node wasn't closed, if it is with one pass more.
+fn closed_later(end: Result<Closed, CloseFault>, pass: Pass) -> Option<CloseRule> {
+    match end {
+        Err(fault) => closed_with(fault, pass),
         Ok(_) => None,
     }
 }
