@@ -1,6 +1,8 @@
 /* Refuses allocations of a program that it is loaded before: the call of number REFUSED_CALL, or that and all later ones where
-   REFUSED_ON is set. Where the program ends it tells on standard error how many calls there were. */
+   REFUSED_ON is set. Where the program ends it tells on standard error how many calls there were, and how many of the refused ones
+   would have given back the spare room of a block. */
 
+#include <malloc.h>
 #include <stdio.h>
 #include <stdlib.h>
 #include <sys/syscall.h>
@@ -10,7 +12,7 @@ extern void *__libc_malloc(size_t size);
 extern void *__libc_calloc(size_t count, size_t size);
 extern void *__libc_realloc(void *old, size_t size);
 
-static long calls, first = -1, is_on;
+static long calls, shrinks, first = -1, is_on;
 
 static int is_refused(void) {
   if (first < 0) {
@@ -26,11 +28,17 @@ void *malloc(size_t size) { return is_refused() ? NULL : __libc_malloc(size); }
 
 void *calloc(size_t count, size_t size) { return is_refused() ? NULL : __libc_calloc(count, size); }
 
-void *realloc(void *old, size_t size) { return is_refused() ? NULL : __libc_realloc(old, size); }
+void *realloc(void *old, size_t size) {
+  if (!is_refused())
+    return __libc_realloc(old, size);
+  if (old && size <= malloc_usable_size(old))
+    __atomic_add_fetch(&shrinks, 1, __ATOMIC_RELAXED);
+  return NULL;
+}
 
 static int tell(void) {
-  char line[32];
-  int length = snprintf(line, sizeof line, "calls %ld\n", calls);
+  char line[64];
+  int length = snprintf(line, sizeof line, "calls %ld shrinks %ld\n", calls, shrinks);
   return length > 0 && write(2, line, (size_t)length) == length;
 }
 

@@ -1,6 +1,7 @@
 """Runs a program while its allocations are refused. Needs cc, and a program that is linked with the C library at the run."""
 
 import os
+import re
 import subprocess
 from pathlib import Path
 
@@ -21,4 +22,9 @@ def without_memory(library, call, is_on=False):
 
 def allocations(told):
     """How many allocations there were, by what was told on standard error."""
-    return int(told.split()[-1])
+    return int(re.search(r'^calls (\d+)', told, re.MULTILINE).group(1))
+
+
+def only_kept_room(told):
+    """Whether what was refused was to give back spare room, which stays then, and which nobody needs to tell of."""
+    return bool(re.search(r'^calls \d+ shrinks [1-9]', told, re.MULTILINE))
