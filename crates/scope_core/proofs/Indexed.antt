@@ -2,7 +2,10 @@
 use Rattle.scope_core.proofs.Words.{◌≡◌, ℕ, ◌≤◌, ◌<◌, ◌&&◌, ◌||◌, ◌+◌, Bool, true, false, cond, not, nat_lt, List, [], ◌∷◌, ◌++◌, refl, sym, ap, ◌∙◌, arith}
 use Rattle.scope_core.proofs.Words.{filter, list_any, length, same, same_decides, GroupChange, Joins, Adds, how_many, Result, take, get_or, take_more, zero, suc, Row, Counted, tally}
 use Rattle.scope_core.proofs.Words.{AllByRecursion, is_in, is_of_node, ◌==◌, of_node, IsNodeList, is_there, has_members, is_named, Covers, is_row_of, has_others}
-use Rattle.scope_core.proofs.NodeLists.{node_tally, lone_row}
+use Rattle.scope_core.proofs.Words.{drop, take-append-drop}
+use Rattle.scope_core.proofs.RowEdits.{tally_append}
+use Rattle.scope_core.proofs.Summed.{tally_le}
+use Rattle.scope_core.proofs.NodeLists.{node_tally, lone_row, own_total}
 use Rattle.scope_core.proofs.Words.{OnOk, Ok, Err, Pid, same_pid, same_pid_decides, list_all, mentions, how_many_append, is_row, Leaves, is_of_one}
 use Rattle.scope_core.proofs.Words.{same_sym}
 use Rattle.scope_core.proofs.Unnamed.{named_moves, row_there, some_row, some_more, same_members}
@@ -188,6 +191,20 @@ unname_more_rows rows some i x l at p first old new so_far took g n = grind (ari
   where
     more : list_any (is_row_of g p) (take (i + 1) rows) ≡ (list_any (is_row_of g p) (take i rows) || is_row_of g p x)
     more = simp (take_more rows i x l, ← at) (row_of_append g p (take i rows) (x ∷ []) ∙ grind arith)
+
+-- how many rows of a process there are up to here
+pub gone_more : (p : Pid) (rows : List Counted) (i : ℕ) (x : Counted) → i < length rows → x ≡ get_or rows i x
+    → tally (λ r. same_pid r.pid p) (take (i + 1) rows) ≡ tally (λ r. same_pid r.pid p) (take i rows) + cond (same_pid x.row.pid p) x.count 0
+gone_more p rows i x l at = simp (take_more rows i x l, ← at) (tally_append (λ r. same_pid r.pid p) (take i rows) (x ∷ []) ∙ grind arith)
+
+-- they are no more than the node has
+pub gone_fits : (p : Pid) (rows : List Counted) (i : ℕ) (x : Counted) → i < length rows → x ≡ get_or rows i x → IsNodeList p.node rows
+    → tally (λ r. same_pid r.pid p) (take i rows) + cond (same_pid x.row.pid p) x.count 0 ≤ 4096
+gone_fits p rows i x l at is =
+    let mine = λ (r : Row). same_pid r.pid p in
+    let all = tally_append mine (take (i + 1) rows) (drop (i + 1) rows) in
+    let part = ap (tally mine) (take-append-drop (i + 1) rows) in
+    omega (arith, gone_more p rows i x l at, all, part, tally_le mine rows, own_total p.node rows is, is.kept.few p.node)
 
 -- who is left of the node in the group
 left_there : (g n : List ℕ) (p : Pid) (rows : List Counted) → AllByRecursion (λ c. c.row.pid.node ≡ n) rows → AllByRecursion (λ c. 0 < c.count) rows

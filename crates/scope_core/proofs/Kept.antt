@@ -1,35 +1,77 @@
 -- What is kept of groups that stay as they are.
-use Rattle.scope_core.proofs.Words.{◌≡◌, ◌∙◌, ◌&&◌, ℕ, Bool, true, false, cond, not, nat_lt, List, [], ◌∷◌, Option, None, Some, refl, sym, ap, arith}
-use Rattle.scope_core.proofs.Words.{GroupChange, IsDifference, IsPidListing, Counted, Pid, list_any, same, same_decides, same_pid, same_pid_decides, tally, is_row, is_in, is_named, is_row_of, filter, of_node, without_node}
+use Rattle.scope_core.proofs.Words.{◌≡◌, ◌∙◌, ◌||◌, ◌+◌, ◌<◌, ◌++◌, ℕ, Bool, true, false, cond, not, List, [], ◌∷◌, Some, refl, sym, ap, arith, length, take, get_or, take_more}
+use Rattle.scope_core.proofs.Words.{GroupChange, IsDifference, IsPidListing, IsGroupListing, Counted, Pid, list_any, same, same_decides, same_pid, same_pid_decides, tally, is_row, is_in, is_named, is_row_of, filter, of_node, without_node}
 use Rattle.scope_core.proofs.Rising.{gone_counts, kept_counts}
 use Rattle.scope_core.proofs.Unnamed.{unnamed_same}
-use Rattle.scope_core.specs.Kept.{kept_of, AreListings}
+use Rattle.std.specs.Map.{lookup}
+use Rattle.scope_core.specs.Kept.{KeptLists, kept_of, AreListings, Forgets}
 
 -- a listing is one of each count that is the same
 still_listing : (before after : Pid → ℕ) (ps : List Pid) → ((p : Pid) → before p ≡ after p) → IsPidListing before ps → IsPidListing after ps
 still_listing before after ps is l = record { ascends = l.ascends; counts = λ p. l.counts p ∙ is p }
 
-module _ (was now : List (List ℕ × List Pid)) (before after : List ℕ → Pid → ℕ) (listed : AreListings before was) where
+-- so is one of the groups
+still_groups : (before after : List ℕ → Pid → ℕ) (gs : List (List ℕ)) → ((g : List ℕ) (p : Pid) → before g p ≡ after g p) → IsGroupListing before gs → IsGroupListing after gs
+still_groups before after gs is l = record {
+  rises = l.rises;
+  found = λ g h. let there = l.found g h in (there.0, grind (arith, there.1, is g there.0));
+  only = λ g p h. l.only g p (grind (arith, h, is g p));
+}
+
+module _ (was now : KeptLists) (before after : List ℕ → Pid → ℕ) (listed : AreListings before was) where
   -- those that are forgotten may have changed
-  pub still_listed : (gone : List ℕ → Bool) → ((g : List ℕ) → kept_of now g ≡ cond (gone g) None (kept_of was g)) → ((g : List ℕ) → gone g ≡ false → (p : Pid) → before g p ≡ after g p) → AreListings after now
-  still_listed gone forgot stays g ps e = by (gone g) refl
+  pub still_listed : (gone : List ℕ → Bool) → Forgets gone was now → ((g : List ℕ) → gone g ≡ false → (p : Pid) → before g p ≡ after g p) → AreListings after now
+  still_listed gone forgot stays = record { pids = pids; groups = groups }
     where
-      by : (b : Bool) → gone g ≡ b → IsPidListing (after g) ps
-      by true h = grind (arith, forgot g, e, h)
-      by false h = still_listing (before g) (after g) ps (stays g h) (listed g ps (grind (arith, forgot g, e, h)))
+      pids : (g : List ℕ) (ps : List Pid) → kept_of now g ≡ Some ps → IsPidListing (after g) ps
+      pids g ps e = by (gone g) refl
+        where
+          by : (b : Bool) → gone g ≡ b → IsPidListing (after g) ps
+          by true h = grind (arith, forgot.pids g, e, h)
+          by false h = still_listing (before g) (after g) ps (stays g h) (listed.pids g ps (grind (arith, forgot.pids g, e, h)))
+
+      groups : (gs : List (List ℕ)) → now.groups ≡ Some gs → IsGroupListing after gs
+      groups gs e = let kept = forgot.groups gs e in still_groups before after gs (λ g. stays g (kept.1 g)) (listed.groups gs kept.0)
 
   -- those that changed are forgotten
-  pub changed_listed : (changes : List GroupChange) → ((g : List ℕ) → kept_of now g ≡ cond (is_named g changes) None (kept_of was g)) → IsDifference before after changes → AreListings after now
+  pub changed_listed : (changes : List GroupChange) → Forgets (λ g. is_named g changes) was now → IsDifference before after changes → AreListings after now
   changed_listed changes forgot d = still_listed (λ g. is_named g changes) forgot (unnamed_same before after changes d)
 
--- nothing is kept
-pub none_listed : (count : List ℕ → Pid → ℕ) (kept : List (List ℕ × List Pid)) → ((g : List ℕ) → kept_of kept g ≡ None) → AreListings count kept
-none_listed count kept none g ps e = grind (arith, none g, e)
+module _ (count : List ℕ → Pid → ℕ) (was now : KeptLists) (listed : AreListings count was) where
+  -- one more is kept
+  pub kept_listed : (group : List ℕ) (pids : List Pid) → IsPidListing (count group) pids
+      → ((g : List ℕ) → kept_of now g ≡ cond (same group g) (Some pids) (kept_of was g)) → now.groups ≡ was.groups → AreListings count now
+  kept_listed group pids listing keeps groups = record {
+    pids = λ g ps e. grind (arith, keeps g, e, listed.pids g ps, listing, same_decides group g);
+    groups = λ gs e. listed.groups gs (sym groups ∙ e);
+  }
 
--- one more is kept, or it isn't
-pub kept_listed : (count : List ℕ → Pid → ℕ) (was now : List (List ℕ × List Pid)) (group : List ℕ) (pids : List Pid) → AreListings count was → IsPidListing (count group) pids
-    → (b : Bool) × ((g : List ℕ) → kept_of now g ≡ cond (b && same group g) (Some pids) (kept_of was g)) → AreListings count now
-kept_listed count was now group pids listed listing keeps g ps e = grind (arith, keeps.1 g, e, listed g ps, listing, same_decides group g)
+  -- that of the groups is kept
+  pub kept_groups : (groups : List (List ℕ)) → IsGroupListing count groups → now.pids ≡ was.pids → now.groups ≡ Some groups → AreListings count now
+  kept_groups groups listing pids keeps = record {
+    pids = λ g ps e. listed.pids g ps (sym (ap (lookup (same g)) pids) ∙ e);
+    groups = λ gs e. grind (arith, keeps, e, listing);
+  }
+
+-- ---- what is forgotten one by one
+
+any_append : {A : Type 0} (test : A → Bool) (xs ys : List A) → list_any test (xs ++ ys) ≡ (list_any test xs || list_any test ys)
+any_append test [] ys = refl
+any_append test (x ∷ xs) ys = grind (arith, any_append test xs ys)
+
+-- one more
+pub forgets_more : {A : Type 0} (test : List ℕ → A → Bool) (xs : List A) (i : ℕ) (x : A) → i < length xs → x ≡ get_or xs i x → (was then now : KeptLists) → Forgets (λ g. list_any (test g) (take i xs)) was then → Forgets (λ g. test g x) then now
+    → Forgets (λ g. list_any (test g) (take (i + 1) xs)) was now
+forgets_more test xs i x l at was then now first second = record {
+  pids = λ g. grind (arith, first.pids g, second.pids g, more g);
+  groups = λ gs e.
+      let after = second.groups gs e in
+      let begun = first.groups gs after.0 in
+      (begun.0, λ g. grind (arith, more g, begun.1 g, after.1 g));
+}
+  where
+    more : (g : List ℕ) → list_any (test g) (take (i + 1) xs) ≡ (list_any (test g) (take i xs) || test g x)
+    more g = simp (take_more xs i x l, ← at) (any_append (test g) (take i xs) (x ∷ []) ∙ grind arith)
 
 -- ---- a process that goes
 

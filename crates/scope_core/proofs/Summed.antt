@@ -1,6 +1,6 @@
 -- How many rows a list has, each as often as it is counted.
 use Rattle.scope_core.proofs.Words.{◌≡◌, ℕ, ◌+◌, ◌≤◌, Bool, true, false, cond, List, [], ◌∷◌, length, arith, refl, filter, Row, Counted, total, tally}
-use Rattle.scope_core.proofs.Words.{how_many, Adds, Joins, Takes}
+use Rattle.scope_core.proofs.Words.{how_many, Adds, Joins, Takes, Pid, not, same_pid}
 
 abbrev pub rows_total_of : List Counted → ℕ
 rows_total_of cs = total (λ c. c.count) cs
@@ -9,9 +9,10 @@ pub tally_le : (test : Row → Bool) (cs : List Counted) → tally test cs ≤ r
 tally_le test [] = omega arith
 tally_le test (c ∷ cs) = grind (arith, tally_le test cs)
 
-pub filtered_le : (keep : Counted → Bool) (cs : List Counted) → rows_total_of (filter keep cs) ≤ rows_total_of cs
-filtered_le keep [] = omega arith
-filtered_le keep (c ∷ cs) = grind (arith, filtered_le keep cs)
+-- the rows of a process, and those that stay when it goes
+pub parted_total : (p : Pid) (cs : List Counted) → rows_total_of (filter (λ c. not (same_pid c.row.pid p)) cs) + tally (λ r. same_pid r.pid p) cs ≡ rows_total_of cs
+parted_total p [] = refl
+parted_total p (c ∷ cs) = grind (arith, parted_total p cs)
 
 all_pass : (rows : List Row) → how_many (λ r. true) rows ≡ length rows
 all_pass [] = refl

@@ -7,7 +7,7 @@ use Rattle.dist_types.specs.declared.row.Row.{Row}
 use Rattle.dist_types.specs.Order.{row_cmp}
 use Rattle.scope_core.specs.declared.counted.Counted.{Counted}
 use Rattle.dist_types.specs.Listing.{same, same_pid, total, Rises}
-use Rattle.scope_core.specs.Kept.{AreListings}
+use Rattle.scope_core.specs.Kept.{KeptLists, AreListings}
 
 -- the name of the own node, and the counted rows in some order
 pub record Table : Type 0 where
@@ -60,8 +60,8 @@ pub record IsKept (rows : List Counted) : Type 0 where
   pub counted : AllByRecursion (λ c. 0 < c.count) rows
   pub few : (node : List ℕ) → tally (is_of_node node) rows ≤ max_rows
 
--- total is how many rows the own processes have, and no more than they may; each listing that is kept is that of its group
-pub record IsHeld (own : List ℕ) (total_rows : ℕ) (rows : List Counted) (kept : List (List ℕ × List Pid)) : Type 0 where
+-- total is how many rows the own processes have, and no more than they may; each listing that is kept is right
+pub record IsHeld (own : List ℕ) (total_rows : ℕ) (rows : List Counted) (kept : KeptLists) : Type 0 where
   pub few : total_rows ≤ max_rows
   pub total : total_rows ≡ tally (is_of_node own) rows
   pub listed : AreListings (λ g p. tally (is_row g p) rows) kept

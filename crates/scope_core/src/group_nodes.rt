@@ -1,5 +1,5 @@
 //! The nodes whose processes are in each group.
-ghost use Rattle.std.specs.Prelude.{◌≡◌, ◌≤◌, ◌<◌, ◌&&◌, ℕ, List, [], cond, IsTrue, IfOk, OnOk, OnErr, ◌∷◌};
+ghost use Rattle.std.specs.Prelude.{◌≡◌, ◌≤◌, ◌<◌, ◌&&◌, ℕ, List, [], cond, IsTrue, IfSome, IfOk, OnOk, OnErr, ◌∷◌};
 ghost use Rattle.std.specs.List.{IsDistinct};
 ghost use Rattle.std.specs.Map.{keys_of};
 ghost use Rattle.dist_types.specs.Order.{text_cmp};
@@ -49,6 +49,14 @@ impl GroupNodes {
             Some(nodes) => nodes,
             None => &[],
         }
+    }
+
+    /// The group's name as it is kept here, so that whoever has an equal one can share it.
+    pub fn stored(&self, group: &Group) -> Option<&Group>
+        ensures { IfSome result (λ stored. stored.now ≡ group.now) }
+    {
+        let (stored, _) = self.nodes.get_key_value(group)?;
+        Some(stored)
     }
 
     /// The groups with a node, in their order.

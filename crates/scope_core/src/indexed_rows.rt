@@ -1,5 +1,5 @@
 //! The rows of a scope, in a list for each node, and the nodes of each group.
-ghost use Rattle.std.specs.Prelude.{◌≡◌, ◌+◌, ◌≤◌, true, false, not, nat_lt, ℕ, List, [], All, IsTrue, IfOk, OnOk, OnErr};
+ghost use Rattle.std.specs.Prelude.{◌≡◌, ◌+◌, ◌≤◌, true, false, not, nat_lt, ℕ, List, [], All, IsTrue, IfSome, IfOk, OnOk, OnErr};
 ghost use Rattle.std.specs.List.{filter, list_any};
 ghost use Rattle.dist_types.specs.Listing.{how_many, same_pid, IsPidListing, IsGroupListing};
 ghost use Rattle.scope_core.specs.Table.{tally, is_row, is_of_node, max_rows};
@@ -53,6 +53,13 @@ impl IndexedRows {
         ensures few { (n : List ℕ) → tally (is_of_node n) self.now ≤ max_rows }
     {
         self.lists.of_node(node)
+    }
+
+    /// The group's name as it is kept here.
+    pub fn stored(&self, group: &Group) -> Option<&Group>
+        ensures { IfSome result (λ stored. stored.now ≡ group.now) }
+    {
+        self.index.stored(group)
     }
 
     /// How many rows a node has, each as often as it is counted.
@@ -185,8 +192,8 @@ impl IndexedRows {
     pub fn remove_process(&mut self, pid: &Pid)
         ensures { self.new ≡ filter (λ c. not (same_pid c.row.pid pid.now)) self.old }
     {
-        unname_process(self.lists.of_node(&pid.node), &mut self.index, pid);
-        self.lists.remove_process(pid);
+        let gone = unname_process(self.lists.of_node(&pid.node), &mut self.index, pid);
+        self.lists.remove_process(pid, gone);
     }
 
     /// Takes all rows of a node away.

@@ -95,25 +95,33 @@ pub fn unname(rows: &[Counted], index: &mut GroupNodes, node: &NodeName)
     }
 }
 
-/// The node of a process is no group's in which it has no other process. These are its rows.
-pub fn unname_process(rows: &[Counted], index: &mut GroupNodes, pid: &Pid)
+/// The node of a process is no group's in which it has no other process. These are its rows. Answers how many the process has.
+pub fn unname_process(rows: &[Counted], index: &mut GroupNodes, pid: &Pid) -> usize
     requires { IsNodeList pid.now.node rows.now }
-    ensures { (g n : List ℕ) → times_named index.new g n ≡ cond ((list_any (is_row_of g pid.now) rows.now && same pid.now.node n) && not (has_others g pid.now rows.now)) 0 (times_named index.old g n) }
+    ensures gone { result ≡ tally (λ r. same_pid r.pid pid.now) rows.now }
+    ensures unnamed { (g n : List ℕ) → times_named index.new g n ≡ cond ((list_any (is_row_of g pid.now) rows.now && same pid.now.node n) && not (has_others g pid.now rows.now)) 0 (times_named index.old g n) }
 {
+    let mut gone = 0;
     for counted in rows {
-        unname_row(rows, index, counted, pid);
+        gone += unname_row(rows, index, counted, pid);
     }
+    gone
 }
 
 /// The same for one of the rows.
-fn unname_row(rows: &[Counted], index: &mut GroupNodes, counted: &Counted, pid: &Pid)
+fn unname_row(rows: &[Counted], index: &mut GroupNodes, counted: &Counted, pid: &Pid) -> usize
     requires { IsNodeList pid.now.node rows.now }
-    ensures { (g n : List ℕ) → times_named index.new g n ≡ cond ((is_row_of g pid.now counted.now && same pid.now.node n) && not (has_others g pid.now rows.now)) 0 (times_named index.old g n) }
+    ensures gone { result ≡ cond (same_pid counted.now.row.pid pid.now) counted.now.count 0 }
+    ensures unnamed { (g n : List ℕ) → times_named index.new g n ≡ cond ((is_row_of g pid.now counted.now && same pid.now.node n) && not (has_others g pid.now rows.now)) 0 (times_named index.old g n) }
 {
+    if !is_same(&counted.row.pid, pid) {
+        return 0;
+    }
     let group = &counted.row.group;
-    if is_same(&counted.row.pid, pid) && is_alone(rows, group, pid) {
+    if is_alone(rows, group, pid) {
         index.take(group, &pid.node);
     }
+    counted.count as usize
 }
 
 /// Whether only the process has a row of the group.

@@ -1,9 +1,9 @@
 //! What was answered of groups, kept until they change.
-ghost use Rattle.std.specs.Prelude.{◌≡◌, ◌&&◌, ℕ, Bool, List, None, Some, cond};
+ghost use Rattle.std.specs.Prelude.{◌≡◌, ℕ, List, None, Some, IsTrue, OnOk, OnErr, cond};
 ghost use Rattle.std.specs.List.{list_any};
 ghost use Rattle.std.specs.Option.{option_copied};
 ghost use Rattle.dist_types.specs.Listing.{same};
-ghost use Rattle.scope_core.specs.Kept.{kept_of};
+ghost use Rattle.scope_core.specs.Kept.{kept_of, Forgets};
 ghost use Rattle.scope_core.specs.Listed.{is_in};
 ghost use Rattle.scope_core.specs.Indexed.{is_named, is_row_of};
 
@@ -14,28 +14,30 @@ use indexmap::IndexMap;
 use std::alloc::Global;
 use std::marker::Model;
 
-/// For some groups the list of their processes.
+/// For some groups the list of their processes, and perhaps the list of the groups.
 #[derive(Debug, Drop)]
 pub struct Listings {
     kept: IndexMap<Group, Shared<Pid>>,
+    groups: Option<Shared<Group>>,
 }
 
 impl Model for Listings {
-    ghost use Rattle.std.specs.Prelude.{List, ℕ};
-    ghost use Rattle.dist_types.specs.declared.pid.Pid.{Pid};
+    ghost use Rattle.scope_core.specs.Kept.{KeptLists};
 
-    ghost Value = { List (List ℕ × List Pid) };
+    ghost Value = { KeptLists };
 
-    ghost view = { λ listings. listings.kept.entries };
+    ghost view = { λ listings. record { pids = listings.kept.entries; groups = listings.groups } };
 }
 
 impl Listings {
     /// No lists.
     pub fn new(alloc: Global) -> Listings
-        ensures { (g : List ℕ) → kept_of result g ≡ None }
+        ensures pids { (g : List ℕ) → kept_of result g ≡ None }
+        ensures groups { result.groups ≡ None }
     {
         Listings {
             kept: IndexMap::new(alloc),
+            groups: None,
         }
     }
 
@@ -46,21 +48,23 @@ impl Listings {
         self.kept.get(group)
     }
 
-    /// Keeps the list of a group, unless memory is wanting.
-    pub fn keep(&mut self, alloc: Global, group: &Group, pids: &Shared<Pid>)
-        ensures { (b : Bool) × ((g : List ℕ) → kept_of self.new g ≡ cond (b && same group.now g) (Some pids.now) (kept_of self.old g)) }
+    /// The list of the groups, where it is kept.
+    pub fn groups(&self) -> Option<&Shared<Group>>
+        ensures { option_copied result ≡ self.now.groups }
     {
-        let _ = self.try_keep(alloc, group, pids);
+        self.groups.as_ref()
     }
 
     /// Keeps the list of a group.
-    fn try_keep(
+    pub fn keep(
         &mut self,
         alloc: Global,
         group: &Group,
         pids: &Shared<Pid>,
     ) -> Result<(), OutOfMemory>
-        ensures { (b : Bool) × ((g : List ℕ) → kept_of self.new g ≡ cond (b && same group.now g) (Some pids.now) (kept_of self.old g)) }
+        ensures pids { OnOk result ((g : List ℕ) → kept_of self.new g ≡ cond (same group.now g) (Some pids.now) (kept_of self.old g)) }
+        ensures groups { OnOk result (self.new.groups ≡ self.old.groups) }
+        ensures same { OnErr result (self.new ≡ self.old) }
     {
         let group = group.try_clone(alloc)?;
         let pids = pids.try_clone(alloc)?;
@@ -68,18 +72,36 @@ impl Listings {
         Ok(())
     }
 
-    /// Keeps no list of the group.
-    fn forget(&mut self, group: &Group)
-        ensures { (g : List ℕ) → kept_of self.new g ≡ cond (same group.now g) None (kept_of self.old g) }
+    /// Keeps the list of the groups.
+    pub fn keep_groups(&mut self, groups: Shared<Group>)
+        ensures pids { self.new.pids ≡ self.old.pids }
+        ensures groups { self.new.groups ≡ Some groups }
     {
-        self.kept.swap_remove(group);
+        self.groups = Some(groups);
     }
 
-    /// Keeps no list of a group that changed.
-    pub fn forget_changed(&mut self, changes: &[GroupChange])
-        ensures { (g : List ℕ) → kept_of self.new g ≡ cond (is_named g changes.now) None (kept_of self.old g) }
+    /// Keeps no list of the group, nor of the groups.
+    fn forget(&mut self, group: &Group)
+        ensures { Forgets (λ g. same group.now g) self.old self.new }
     {
-        if self.kept.is_empty() {
+        self.kept.swap_remove(group);
+        self.groups = None;
+    }
+
+    /// Whether no list is kept.
+    fn is_empty(&self) -> bool
+        ensures pids { IsTrue result → (g : List ℕ) → kept_of self.now g ≡ None }
+        ensures groups { IsTrue result → self.now.groups ≡ None }
+    {
+        self.kept.is_empty() && self.groups.is_none()
+    }
+
+    /// Keeps no list of a group that changed, nor of the groups if one did.
+    #[tactic(auto, using(crate::proofs::Kept::forgets_more))]
+    pub fn forget_changed(&mut self, changes: &[GroupChange])
+        ensures { Forgets (λ g. is_named g changes.now) self.old self.new }
+    {
+        if self.is_empty() {
             return;
         }
         for change in changes {
@@ -87,11 +109,12 @@ impl Listings {
         }
     }
 
-    /// Keeps no list of a group of these rows.
+    /// Keeps no list of a group of these rows, nor of the groups if there are rows.
+    #[tactic(auto, using(crate::proofs::Kept::forgets_more))]
     pub fn forget_rows(&mut self, rows: &[Counted])
-        ensures { (g : List ℕ) → kept_of self.new g ≡ cond (list_any (is_in g) rows.now) None (kept_of self.old g) }
+        ensures { Forgets (λ g. list_any (is_in g) rows.now) self.old self.new }
     {
-        if self.kept.is_empty() {
+        if self.is_empty() {
             return;
         }
         for counted in rows {
@@ -99,24 +122,34 @@ impl Listings {
         }
     }
 
-    /// Keeps no list of a group in which the process has one of these rows.
+    /// Keeps no list of a group in which the process has one of these rows, nor of the groups if it has one.
+    #[tactic(auto, using(crate::proofs::Kept::forgets_more))]
     pub fn forget_process(&mut self, rows: &[Counted], pid: &Pid)
-        ensures { (g : List ℕ) → kept_of self.new g ≡ cond (list_any (is_row_of g pid.now) rows.now) None (kept_of self.old g) }
+        ensures { Forgets (λ g. list_any (is_row_of g pid.now) rows.now) self.old self.new }
     {
-        if self.kept.is_empty() {
+        if self.is_empty() {
             return;
         }
         for counted in rows {
-            if is_same(&counted.row.pid, pid) {
-                self.forget(&counted.row.group);
-            }
+            self.forget_row(counted, pid);
+        }
+    }
+
+    /// The same for one of the rows.
+    fn forget_row(&mut self, counted: &Counted, pid: &Pid)
+        ensures { Forgets (λ g. is_row_of g pid.now counted.now) self.old self.new }
+    {
+        if is_same(&counted.row.pid, pid) {
+            self.forget(&counted.row.group);
         }
     }
 
     /// Keeps no list.
     pub fn clear(&mut self)
-        ensures { (g : List ℕ) → kept_of self.new g ≡ None }
+        ensures pids { (g : List ℕ) → kept_of self.new g ≡ None }
+        ensures groups { self.new.groups ≡ None }
     {
         self.kept.clear();
+        self.groups = None;
     }
 }

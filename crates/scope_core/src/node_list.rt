@@ -129,12 +129,12 @@ impl NodeList {
         self.total -= gone.len();
     }
 
-    /// Takes all rows of a process away.
-    pub fn remove_process(&mut self, pid: &Pid)
-        requires { total (λ c. c.count) self.old ≤ max_rows }
+    /// Takes all rows of a process away, which are so many.
+    pub fn remove_process(&mut self, pid: &Pid, gone: usize)
+        requires { gone ≡ tally (λ r. same_pid r.pid pid.now) self.old }
         ensures { self.new ≡ filter (λ c. not (same_pid c.row.pid pid.now)) self.old }
     {
         remove_pid(&mut self.rows, pid);
-        self.total = total_of(&self.rows);
+        self.total -= gone;
     }
 }

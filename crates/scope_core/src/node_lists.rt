@@ -176,14 +176,15 @@ impl NodeLists {
         list.take_rows(gone);
     }
 
-    /// Takes all rows of a process away.
-    pub fn remove_process(&mut self, pid: &Pid)
+    /// Takes all rows of a process away, which are so many.
+    pub fn remove_process(&mut self, pid: &Pid, gone: usize)
+        requires { gone ≡ tally (λ r. same_pid r.pid pid.now) (of_node pid.now.node self.old) }
         ensures { self.new ≡ filter (λ c. not (same_pid c.row.pid pid.now)) self.old }
     {
         let Some(list) = self.lists.get_mut(&pid.node) else {
             return;
         };
-        list.remove_process(pid);
+        list.remove_process(pid, gone);
     }
 
     /// Takes all rows of a node away.

@@ -1,5 +1,5 @@
 //! The table of one scope.
-ghost use Rattle.std.specs.Prelude.{◌≡◌, ℕ, ◌+◌, ◌≤◌, min, cond, IsTrue, IfOk, IfErr, OnErr, OnOk, List, length, All};
+ghost use Rattle.std.specs.Prelude.{◌≡◌, ℕ, ◌+◌, ◌≤◌, min, cond, IsTrue, IfSome, IfOk, IfErr, OnErr, OnOk, List, length, All};
 ghost use Rattle.dist_types.specs.declared.pid.Pid.{Pid};
 ghost use Rattle.dist_types.specs.Listing.{same, mentions, IsPidListing, IsRowListing, IsGroupListing};
 ghost use Rattle.dist_types.specs.Difference.{IsDifference};
@@ -260,9 +260,16 @@ impl ScopeTable {
         let pids = Shared::of(self.rows.members(self.alloc, group)?)?;
         // A group that doesn't exist isn't kept: whoever asks for many of those takes no memory.
         if !pids.as_slice().is_empty() {
-            self.listings.keep(self.alloc, group, &pids);
+            self.listings.keep(self.alloc, group, &pids)?;
         }
         Ok(pids)
+    }
+
+    /// A group's name as the table keeps it, so that whoever has an equal one can share it.
+    pub fn stored_group(&self, group: &Group) -> Option<&Group>
+        ensures { IfSome result (λ stored. stored.now ≡ group.now) }
+    {
+        self.rows.stored(group)
     }
 
     /// The own processes of a group.
@@ -290,6 +297,19 @@ impl ScopeTable {
         ensures { IfOk result (λ groups. IsGroupListing (count_of self.now) groups.items) }
     {
         let groups = self.rows.groups(self.alloc)?;
+        Ok(groups)
+    }
+
+    /// The groups with a process, in a list that is made once for all who ask until rows of the table change.
+    pub fn group_listing(&mut self) -> Result<Shared<Group>, OutOfMemory>
+        ensures value { IfOk result (λ groups. IsGroupListing (count_of self.old) groups) }
+        ensures same { self.new ≡ self.old }
+    {
+        if let Some(groups) = self.listings.groups() {
+            return groups.try_clone(self.alloc);
+        }
+        let groups = Shared::of(self.rows.groups(self.alloc)?)?;
+        self.listings.keep_groups(groups.try_clone(self.alloc)?);
         Ok(groups)
     }
 

@@ -1,7 +1,7 @@
-use Rattle.scope_core.proofs.Words.{◌≡◌, cond, None, take, list_any, is_row_of, List, ℕ}
-use Rattle.scope_core.specs.Kept.{kept_of}
+use Rattle.scope_core.proofs.Words.{take, list_any, is_row_of}
+use Rattle.scope_core.specs.Kept.{Forgets}
 use Rattle.scope_core.proofs.listings.Listings.forget_process.Given as goal
 
 -- no list of the process's rows so far is kept
 abbrev pub invariant-loop-counted : goal.invariant-loop-counted
-invariant-loop-counted l = (g : List ℕ) → kept_of l.self g ≡ cond (list_any (is_row_of g l.pid) (take l.counted-index l.rows)) None (kept_of l.fn.self g)
+invariant-loop-counted l = Forgets (λ g. list_any (is_row_of g l.pid) (take l.counted-index l.rows)) l.fn.self l.self

@@ -1,5 +1,5 @@
-use Rattle.scope_core.proofs.Words.{arith, ap, sym, subst, ◌∙◌, not, same_pid}
-use Rattle.scope_core.proofs.NodeLists.{own_total, none_filtered, process_others, list_found, filtered_list, lists_set, set_filtered}
+use Rattle.scope_core.proofs.Words.{ap, sym, subst, ◌∙◌, not, same_pid, tally, of_node}
+use Rattle.scope_core.proofs.NodeLists.{own_list, none_filtered, process_others, list_found, filtered_list, lists_set, set_filtered}
 use Rattle.scope_core.specs.NodeLists.{all_rows, IsNodeList, AreNodeLists}
 use Rattle.scope_core.proofs.node_lists.NodeLists.remove_process.Goals as goal
 
@@ -11,9 +11,10 @@ returns-in_default c =
 
 pub remove_process-requires : goal.remove_process-requires
 remove_process-requires c =
-    let n = c.args.pid.now.node in
-    let list = list_found n c.self.inside.lists.entries c.in-Some.list.now c.self.invariant (sym c.in-Some.ensures.value) in
-    omega (arith, own_total n c.in-Some.list.now list, list.kept.few n)
+    let p = c.args.pid.now in
+    let es = c.self.inside.lists.entries in
+    let list = ap (of_node p.node) (sym c.self.view_is) ∙ own_list p.node es c.in-Some.list.now c.self.invariant (sym c.in-Some.ensures.value) in
+    c.requires ∙ ap (tally (λ r. same_pid r.pid p)) list
 
 pub invariant_of-self-2 : goal.invariant_of-self-2
 invariant_of-self-2 c =

@@ -1,4 +1,4 @@
-use Rattle.scope_core.proofs.Words.{subst, tally, is_row, IsPidListing}
+use Rattle.scope_core.proofs.Words.{tally, is_row}
 use Rattle.scope_core.proofs.Kept.{kept_listed}
 use Rattle.scope_core.proofs.table.ScopeTable.listing.Goals as goal
 
@@ -8,5 +8,5 @@ invariant_of-self c =
     record {
       few = c.self.invariant.few;
       total = c.self.invariant.total;
-      listed = kept_listed (λ h p. tally (is_row h p) c.self.inside.rows) c.self.inside.listings c.keep.new.self g c.in_ok-pids.pids c.self.invariant.listed (rw c.in_ok-pids.ensures c.in_ok-members.ensures) c.keep.ensures;
+      listed = kept_listed (λ h p. tally (is_row h p) c.self.inside.rows) c.self.inside.listings c.keep.new.self c.self.invariant.listed g c.in_ok-pids.pids (rw c.in_ok-pids.ensures c.in_ok-members.ensures) c.in_ok-keep.ensures.pids c.in_ok-keep.ensures.groups;
     }
