@@ -30,6 +30,9 @@ full_step old seat e full = (
 )
 
 -- the event is what a handler was called for
+pub handed : (old new : History) (seat : ℕ) (e its : Event) (result : Result Reply CoreFault) → e ≡ its → Steps old seat its new result → Steps old seat e new result
+handed old new seat e its result is x = subst (λ v. Steps old seat v new result) (sym is) x
+
 pub handled : (old new : History) (seat : ℕ) (e its : Event) (result : Result Reply CoreFault) → e ≡ its → is_full old ≡ false → Steps old seat its new result → IsStepped old seat e new result
 handled old new seat e its result is space x = subst (λ v. IsStepped old seat v new result) (sym is) (steps_is old new seat its result space x)
 

@@ -1,11 +1,13 @@
 //! Entries of the audit.
-ghost use Rattle.std.specs.Prelude.{◌≡◌, ◌<◌, ◌+◌, ◌∷◌, [], true, length, IfOk, IfErr, OnOk, OnErr};
+ghost use Rattle.std.specs.Prelude.{◌≡◌, ◌<◌, ◌≤◌, ◌+◌, ◌∷◌, [], true, length, IfOk, IfErr, OnOk, OnErr};
 ghost use Rattle.policy_audit.specs.declared.entry.Verdict.TheVariants.{Accepted, Refused};
 ghost use Rattle.policy_audit.specs.declared.entry.Entry.{Entry};
 ghost use Rattle.node_core.specs.declared.fault.CoreFault.TheVariants.{OutOfMemory};
+ghost use Rattle.node_core.specs.Links.{with_room};
 
 use crate::changes::ChangeRoom;
 use crate::fault::CoreFault;
+use crate::link::Link;
 use dist_types::{Scope, TryClone};
 use policy_audit::{Audit, Change, Changes, Event, Reply, Rule, Verdict};
 use std::alloc::Global;
@@ -35,6 +37,20 @@ pub fn room_for_change(
     let room = ChangeRoom::new(alloc, scope)?;
     audit.make_room()?;
     Ok(room)
+}
+
+/// Makes room for an entry, and for so many frames more on a link.
+pub fn room_for_frames(audit: &mut Audit, link: &mut Link, frames: usize) -> Result<(), CoreFault>
+    requires { link.old.prepared ≡ [] }
+    ensures fits { OnOk result (frames ≤ link.new.room) }
+    ensures roomy { link.new ≡ with_room link.old link.new.room }
+    ensures room { OnOk result (audit.new ≡ record { limit = audit.old.limit; entries = audit.old.entries; has_room = true }) }
+    ensures memory { IfErr result (λ fault. fault ≡ OutOfMemory) }
+    ensures unentered { OnErr result ((audit.new.entries ≡ audit.old.entries) × (audit.new.limit ≡ audit.old.limit)) }
+{
+    link.make_room(frames)?;
+    audit.make_room()?;
+    Ok(())
 }
 
 /// Enters an event, into the room that there is.

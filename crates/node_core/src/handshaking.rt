@@ -15,7 +15,7 @@ ghost use Rattle.node_core.specs.Parting.{IsCutOff};
 ghost use Rattle.node_core.specs.Step.{Steps};
 
 use crate::changes::{Part, changes_of, end_link};
-use crate::entering::{accept, reject};
+use crate::entering::{accept, reject, room_for_frames};
 use crate::fault::CoreFault;
 use crate::frames::discover_frame;
 use crate::hearing::{Heard, hear, hear_last};
@@ -76,8 +76,7 @@ impl NodeCore {
             unreachable!()
         };
         let pending = pending_of(self.alloc, &self.links)?;
-        self.links[place].make_room(MOST_OWED)?;
-        self.audit.make_room()?;
+        room_for_frames(&mut self.audit, &mut self.links[place], MOST_OWED)?;
         let state = self.links[place].replace(LinkState::Ended);
         let bytes = body.as_slice();
         let heard = hear(self.alloc, state, bytes, &self.admission, &pending);
@@ -119,8 +118,11 @@ impl NodeCore {
         let Some(place) = place_of(&self.links, number) else {
             unreachable!()
         };
-        self.links[place].make_room(MOST_OWED + self.scopes.len())?;
-        self.audit.make_room()?;
+        room_for_frames(
+            &mut self.audit,
+            &mut self.links[place],
+            MOST_OWED + self.scopes.len(),
+        )?;
         let arrival = arrival_of(self.alloc, &self.links[place], &self.scopes)?;
         let state = self.links[place].replace(LinkState::Ended);
         match hear_last(self.alloc, state, body.as_slice(), &self.admission) {

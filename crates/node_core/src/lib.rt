@@ -23,6 +23,7 @@ mod queries;
 mod readers;
 mod running;
 mod scoping;
+mod sharing;
 mod telling;
 
 pub use awaiting::{Awaiting, Frame};

@@ -108,8 +108,8 @@ impl NodeCore {
         let Some(place) = place_of(&self.links, number) else {
             return self.refuse(seat, Event::Take(number), Rule::NoSuchLink);
         };
-        let kept = copies_of(self.alloc, self.links[place].frames())?;
         self.audit.make_room()?;
+        let kept = copies_of(self.alloc, self.links[place].frames())?;
         let frames = self.links[place].hand_over(self.alloc);
         drop_ended(&mut self.links, place);
         accept(
@@ -131,8 +131,8 @@ impl NodeCore {
         let Some(place) = place_of(&self.links, number) else {
             return self.refuse(seat, Event::Lost(number), Rule::NoSuchLink);
         };
-        let changes = changes_without(self.alloc, &self.scopes, &self.links[place])?;
         self.audit.make_room()?;
+        let changes = changes_without(self.alloc, &self.scopes, &self.links[place])?;
         cut_link(&mut self.scopes, &self.links[place]);
         remove(&mut self.links, number);
         accept(
@@ -155,8 +155,8 @@ impl NodeCore {
             return self.refuse(seat, Event::Disconnect(peer), Rule::NoLinkTo);
         };
         let number = self.links[place].number();
-        let changes = changes_without(self.alloc, &self.scopes, &self.links[place])?;
         self.audit.make_room()?;
+        let changes = changes_without(self.alloc, &self.scopes, &self.links[place])?;
         cut_link(&mut self.scopes, &self.links[place]);
         remove(&mut self.links, number);
         accept(

@@ -1,16 +1,16 @@
 //! Messages of linked nodes.
-ghost use Rattle.std.specs.Prelude.{◌≡◌, ◌<◌, ◌≤◌, ◌+◌, ◌==◌, ◌&&◌, false, true, cond, Some, None, vec_len, vec_capacity, nat_eq, length, position, All, IsTrue, IfOk, IfErr, OnOk, OnErr};
+ghost use Rattle.std.specs.Prelude.{◌≡◌, ◌<◌, ◌≤◌, ◌+◌, ◌==◌, ◌&&◌, [], false, true, cond, Some, None, vec_len, vec_capacity, nat_eq, length, position, All, IsTrue, IfOk, IfErr, OnOk, OnErr};
 ghost use Rattle.std.specs.List.{list_all};
 ghost use Rattle.dist_types.specs.Listing.{same};
-ghost use Rattle.dist_types.specs.Difference.{IsDifference};
 ghost use Rattle.scope_core.specs.Table.{count_of, node_total, max_rows};
-ghost use Rattle.scope_core.specs.Calls.{count_after_sync, count_after_add, count_after_take, are_counted};
+ghost use Rattle.scope_core.specs.Calls.{count_after_sync, count_after_add, count_after_take, count_after_drop, are_counted};
 ghost use Rattle.policy_audit.specs.Policy.{is_full};
 ghost use Rattle.policy_audit.specs.Links.{is_up};
 ghost use Rattle.policy_audit.specs.Hearing.{message_taken};
 ghost use Rattle.policy_audit.specs.Checks.{first_broken};
 ghost use Rattle.node_core.specs.Step.{Steps};
-ghost use Rattle.node_core.specs.Links.{are_of_peer};
+ghost use Rattle.node_core.specs.declared.fault.CoreFault.TheVariants as faults;
+ghost use Rattle.node_core.specs.Links.{are_of_peer, with_room};
 ghost use Rattle.node_core.specs.Messages.{scope_in, refusal};
 ghost use Rattle.node_core.specs.MessageRules.{early_checks, HasBecome, IsChangeIn, IsAddRefusal, IsTakeRefusal, AnswersDiscover, IsSyncFrame};
 ghost use Rattle.node_core.specs.ScopeFacts.{is_number, with_number};
@@ -25,7 +25,7 @@ use crate::links;
 use crate::membership::fault_of;
 use crate::node::NodeCore;
 use crate::running::{Running, place_of};
-use dist_types::{Body, GroupChange, NodeName, OutOfMemory, Row, Scope, TryClone};
+use dist_types::{Body, NodeName, OutOfMemory, Row, Scope, TryClone};
 use link_frames::{Message, MessageFault, Rows, decode};
 use link_states::Up;
 use policy_audit::{Audit, Change, Event, OutFrame, Reply, Rule};
@@ -86,10 +86,14 @@ impl NodeCore {
         ensures { Steps self.old seat (Event.Frame number body) self.new result }
     {
         let (place, at) = places(&self.links, &self.scopes, number, &scope);
-        let frames = answer_to_discover(self.alloc, &self.scopes[at], number, &scope)?;
-        self.audit.make_room()?;
-        self.links[place].make_room(frames.len())?;
-        tell(&mut self.scopes[at], number)?;
+        let frames = ready_to_answer(
+            self.alloc,
+            &mut self.audit,
+            &mut self.links[place],
+            &mut self.scopes[at],
+            number,
+            &scope,
+        )?;
         self.links[place].owe(frames);
         let event = Event::Frame(number, body);
         accept(
@@ -120,19 +124,20 @@ impl NodeCore {
         ensures { Steps self.old seat (Event.Frame number body) self.new result }
     {
         let (place, at) = places(&self.links, &self.scopes, number, &scope);
-        let room = room_for_change(self.alloc, &mut self.audit, scope)?;
         let Some(peer) = self.links[place].up_peer() else {
             unreachable!()
         };
-        let groups = hear_rows(&mut self.scopes[at], number, peer, rows)?;
-        let event = Event::Frame(number, body);
-        accept(
+        let changes = hear_rows(
+            self.alloc,
             &mut self.audit,
-            seat,
-            event,
-            Reply::Done,
-            room.filled(groups),
-        );
+            &mut self.scopes[at],
+            number,
+            scope,
+            peer,
+            rows,
+        )?;
+        let event = Event::Frame(number, body);
+        accept(&mut self.audit, seat, event, Reply::Done, changes);
         Ok(Reply::Done)
     }
 
@@ -228,20 +233,13 @@ impl NodeCore {
         ensures { Steps self.old seat (Event.Frame number body) self.new result }
     {
         let (place, at) = places(&self.links, &self.scopes, number, &scope);
-        let room = room_for_change(self.alloc, &mut self.audit, scope)?;
         let Some(peer) = self.links[place].up_peer() else {
             unreachable!()
         };
-        let groups = self.scopes[at].table.drop_change(peer)?;
+        let changes = drop_change(self.alloc, &mut self.audit, &self.scopes[at], scope, peer)?;
         cut_off(&mut self.scopes[at], number, peer);
         let event = Event::Frame(number, body);
-        accept(
-            &mut self.audit,
-            seat,
-            event,
-            Reply::Done,
-            room.filled(groups),
-        );
+        accept(&mut self.audit, seat, event, Reply::Done, changes);
         Ok(Reply::Done)
     }
 }
@@ -260,6 +258,32 @@ fn places(links: &[Link], scopes: &[Running], number: u32, scope: &Scope) -> (us
         unreachable!()
     };
     (place, at)
+}
+
+/// What answers a Discover, with room for it on the link, and room for an entry. The link of this number is told from now on.
+fn ready_to_answer(
+    alloc: Global,
+    audit: &mut Audit,
+    link: &mut Link,
+    running: &mut Running,
+    number: u32,
+    scope: &Scope,
+) -> Result<Vec<OutFrame>, CoreFault>
+    requires { link.old.prepared ≡ [] }
+    ensures frames { IfOk result (λ frames. AnswersDiscover running.old number scope.now frames.items) }
+    ensures fits { IfOk result (λ frames. length frames.items ≤ link.new.room) }
+    ensures roomy { link.new ≡ with_room link.old link.new.room }
+    ensures told { OnOk result (HasBecome running.old running.new (count_of running.old.table) running.old.heard.items (with_number number running.old.told.items)) }
+    ensures room { OnOk result (audit.new ≡ record { limit = audit.old.limit; entries = audit.old.entries; has_room = true }) }
+    ensures memory { IfErr result (λ fault. fault ≡ faults.OutOfMemory) }
+    ensures same { OnErr result (HasBecome running.old running.new (count_of running.old.table) running.old.heard.items running.old.told.items) }
+    ensures unentered { OnErr result ((audit.new.entries ≡ audit.old.entries) × (audit.new.limit ≡ audit.old.limit)) }
+{
+    let frames = answer_to_discover(alloc, running, number, scope)?;
+    audit.make_room()?;
+    link.make_room(frames.len())?;
+    tell(running, number)?;
+    Ok(frames)
 }
 
 /// All own rows, and a Discover where the link of this number isn't heard.
@@ -298,25 +322,32 @@ fn tell(running: &mut Running, number: u32) -> Result<(), OutOfMemory>
     Ok(())
 }
 
-/// The peer's rows are replaced, and it is heard over this link from now on.
+/// Makes room for an entry; the peer's rows are replaced, and it is heard over this link from now on.
 fn hear_rows(
+    alloc: Global,
+    audit: &mut Audit,
     running: &mut Running,
     number: u32,
+    scope: Scope,
     peer: &NodeName,
     rows: Rows,
-) -> Result<Vec<GroupChange>, OutOfMemory>
+) -> Result<Vec<Change>, CoreFault>
     requires of_peer { All (λ r. r.pid.node ≡ peer.now) rows }
     requires few { length rows ≤ max_rows }
     ensures ok { OnOk result (HasBecome running.old running.new (count_after_sync running.old.table peer.now rows) (with_number number running.old.heard.items) running.old.told.items) }
-    ensures change { IfOk result (λ groups. IsDifference (count_of running.old.table) (count_of running.new.table) groups.items) }
+    ensures change { IfOk result (λ changes. IsChangeIn scope (count_of running.old.table) (count_of running.new.table) changes.items) }
+    ensures room { OnOk result (audit.new ≡ record { limit = audit.old.limit; entries = audit.old.entries; has_room = true }) }
+    ensures memory { IfErr result (λ fault. fault ≡ faults.OutOfMemory) }
     ensures same { OnErr result (HasBecome running.old running.new (count_of running.old.table) running.old.heard.items running.old.told.items) }
+    ensures unentered { OnErr result ((audit.new.entries ≡ audit.old.entries) × (audit.new.limit ≡ audit.old.limit)) }
 {
+    let room = room_for_change(alloc, audit, scope)?;
     running.heard.reserve(1)?;
     let Ok(groups) = running.table.sync(peer, rows.as_slice()) else {
-        return Err(OutOfMemory);
+        return Err(CoreFault::OutOfMemory);
     };
     note(&mut running.heard, number);
-    Ok(groups)
+    Ok(room.filled(groups))
 }
 
 /// Makes room for an entry, and rows are added to the peer's.
@@ -367,6 +398,24 @@ fn take_rows(
         Ok(groups) => Ok(room.filled(groups)),
         Err(fault) => Err(fault_of(fault)),
     }
+}
+
+/// Makes room for an entry, and what the scope loses with all rows of a peer.
+fn drop_change(
+    alloc: Global,
+    audit: &mut Audit,
+    running: &Running,
+    scope: Scope,
+    peer: &NodeName,
+) -> Result<Vec<Change>, CoreFault>
+    ensures change { IfOk result (λ changes. IsChangeIn scope (count_of running.now.table) (count_after_drop running.now.table peer.now) changes.items) }
+    ensures room { OnOk result (audit.new ≡ record { limit = audit.old.limit; entries = audit.old.entries; has_room = true }) }
+    ensures memory { IfErr result (λ fault. fault ≡ faults.OutOfMemory) }
+    ensures unentered { OnErr result ((audit.new.entries ≡ audit.old.entries) × (audit.new.limit ≡ audit.old.limit)) }
+{
+    let room = room_for_change(alloc, audit, scope)?;
+    let groups = running.table.drop_change(peer)?;
+    Ok(room.filled(groups))
 }
 
 /// The scope that a message is about.

@@ -1,5 +1,5 @@
 //! Monitors of groups and scopes.
-ghost use Rattle.std.specs.Prelude.{◌≡◌, ◌++◌, ◌∷◌, [], Some, true, false, map, IfOk, OnOk, OnErr};
+ghost use Rattle.std.specs.Prelude.{◌≡◌, ◌++◌, ◌∷◌, [], Some, None, true, false, map, IfOk, IfErr, OnOk, OnErr};
 ghost use Rattle.group_monitors.specs.Monitors.{IsFree};
 ghost use Rattle.policy_audit.specs.Own.{is_running};
 ghost use Rattle.policy_audit.specs.Contents.{members, contents};
@@ -8,14 +8,15 @@ ghost use Rattle.dist_types.specs.Listing.{IsPidListing, IsGroupListing};
 ghost use Rattle.scope_core.specs.Table.{count_of};
 ghost use Rattle.policy_audit.specs.Policy.{is_full};
 ghost use Rattle.node_core.specs.Step.{Steps};
+ghost use Rattle.node_core.specs.declared.fault.CoreFault.TheVariants as faults;
 
-use crate::entering::accept;
+use crate::entering::{accept, make_ready};
 use crate::fault::CoreFault;
 use crate::node::NodeCore;
 use crate::running::Running;
 use dist_types::{Group, OutOfMemory, Pids, Scope, TryClone};
 use group_monitors::{Monitors, NoMonitor, UpdatesFault};
-use policy_audit::{Contents, Event, GroupPids, Members, Reply, Rule};
+use policy_audit::{Audit, Contents, Event, GroupPids, Members, Reply, Rule};
 use std::alloc::Global;
 
 impl NodeCore {
@@ -52,17 +53,20 @@ impl NodeCore {
         ensures { Steps self.old seat (Event.Monitor scope group) self.new result }
     {
         let number = self.next_number();
-        self.audit.make_room()?;
-        let told = pids.try_clone(self.alloc)?;
-        add_group(self.alloc, &mut self.monitors, seat, number, &scope, &group)?;
-        accept(
+        let reply = Reply::Ref { number, pids };
+        let kept = add_group(
+            self.alloc,
             &mut self.audit,
+            &mut self.monitors,
             seat,
-            Event::Monitor(scope, group),
-            Reply::Ref { number, pids: told },
-            Vec::new(self.alloc),
-        );
-        Ok(Reply::Ref { number, pids })
+            number,
+            &scope,
+            &group,
+            &reply,
+        )?;
+        let event = Event::Monitor(scope, group);
+        accept(&mut self.audit, seat, event, kept, Vec::new(self.alloc));
+        Ok(reply)
     }
 
     /// The seat watches all groups of a scope from now on.
@@ -87,21 +91,19 @@ impl NodeCore {
         ensures { Steps self.old seat (Event.MonitorScope scope) self.new result }
     {
         let number = self.next_number();
-        self.audit.make_room()?;
-        let told = groups.try_clone(self.alloc)?;
-        let watched = scope.try_clone(self.alloc)?;
-        self.monitors.add_scope(seat, number, watched)?;
-        accept(
+        let reply = Reply::ScopeRef { number, groups };
+        let kept = add_scope(
+            self.alloc,
             &mut self.audit,
+            &mut self.monitors,
             seat,
-            Event::MonitorScope(scope),
-            Reply::ScopeRef {
-                number,
-                groups: told,
-            },
-            Vec::new(self.alloc),
-        );
-        Ok(Reply::ScopeRef { number, groups })
+            number,
+            &scope,
+            &reply,
+        )?;
+        let event = Event::MonitorScope(scope);
+        accept(&mut self.audit, seat, event, kept, Vec::new(self.alloc));
+        Ok(reply)
     }
 
     /// The end of a monitor.
@@ -137,8 +139,8 @@ impl NodeCore {
             }
             Err(UpdatesFault::OutOfMemory) => return Err(CoreFault::OutOfMemory),
         };
-        let told = updates.try_clone(self.alloc)?;
         self.audit.make_room()?;
+        let told = updates.try_clone(self.alloc)?;
         accept(
             &mut self.audit,
             seat,
@@ -152,22 +154,54 @@ impl NodeCore {
     }
 }
 
-/// Adds a monitor of a group, that has seen the entries up to its number.
+/// Makes room for an entry with a copy of the reply, and adds a monitor of a group that has seen the entries up to its number.
 fn add_group(
     alloc: Global,
+    audit: &mut Audit,
     monitors: &mut Monitors,
     seat: u32,
     number: u32,
     scope: &Scope,
     group: &Group,
-) -> Result<(), OutOfMemory>
+    reply: &Reply,
+) -> Result<Reply, CoreFault>
     requires { IsFree number monitors.old }
+    ensures copy { IfOk result (λ kept. kept ≡ reply.now) }
     ensures ok { OnOk result (monitors.new ≡ monitors.old ++ (number, record { seat = seat; scope = scope.now; group = Some group.now; place = number }) ∷ []) }
+    ensures room { OnOk result (audit.new ≡ record { limit = audit.old.limit; entries = audit.old.entries; has_room = true }) }
+    ensures memory { IfErr result (λ fault. fault ≡ faults.OutOfMemory) }
     ensures same { OnErr result (monitors.new ≡ monitors.old) }
+    ensures unentered { OnErr result ((audit.new.entries ≡ audit.old.entries) × (audit.new.limit ≡ audit.old.limit)) }
 {
     let scope = scope.try_clone(alloc)?;
     let group = group.try_clone(alloc)?;
-    monitors.add_group(seat, number, scope, group)
+    let kept = make_ready(alloc, audit, reply)?;
+    monitors.add_group(seat, number, scope, group)?;
+    Ok(kept)
+}
+
+/// Makes room for an entry with a copy of the reply, and adds a monitor of a scope that has seen the entries up to its number.
+fn add_scope(
+    alloc: Global,
+    audit: &mut Audit,
+    monitors: &mut Monitors,
+    seat: u32,
+    number: u32,
+    scope: &Scope,
+    reply: &Reply,
+) -> Result<Reply, CoreFault>
+    requires { IsFree number monitors.old }
+    ensures copy { IfOk result (λ kept. kept ≡ reply.now) }
+    ensures ok { OnOk result (monitors.new ≡ monitors.old ++ (number, record { seat = seat; scope = scope.now; group = None; place = number }) ∷ []) }
+    ensures room { OnOk result (audit.new ≡ record { limit = audit.old.limit; entries = audit.old.entries; has_room = true }) }
+    ensures memory { IfErr result (λ fault. fault ≡ faults.OutOfMemory) }
+    ensures same { OnErr result (monitors.new ≡ monitors.old) }
+    ensures unentered { OnErr result ((audit.new.entries ≡ audit.old.entries) × (audit.new.limit ≡ audit.old.limit)) }
+{
+    let scope = scope.try_clone(alloc)?;
+    let kept = make_ready(alloc, audit, reply)?;
+    monitors.add_scope(seat, number, scope)?;
+    Ok(kept)
 }
 
 /// The groups of a scope with their members.

@@ -7,7 +7,7 @@ ghost use Rattle.policy_audit.specs.Own.{is_running};
 ghost use Rattle.policy_audit.specs.Listed.{listed};
 ghost use Rattle.policy_audit.specs.Owed.{waiting, is_kept};
 ghost use Rattle.policy_audit.specs.Policy.{is_full, next_number, IsLegal};
-ghost use Rattle.node_core.specs.Step.{IsOpenFault, IsStepped};
+ghost use Rattle.node_core.specs.Step.{IsOpenFault, IsStepped, Steps};
 
 use crate::fault::{CoreFault, OpenFault};
 use crate::link::Link;
@@ -158,6 +158,15 @@ impl NodeCore {
             drop(event);
             return Err(CoreFault::Refused(Rule::EntriesFull));
         }
+        let event = self.shared(event);
+        self.handle(seat, event)
+    }
+
+    /// Hands an event to what answers its kind.
+    fn handle(&mut self, seat: u32, event: Event) -> Result<Reply, CoreFault>
+        requires { is_full self.old ≡ false }
+        ensures { Steps self.old seat event self.new result }
+    {
         match event {
             Event::Restart => self.restart(seat),
             Event::SetCookie(cookie) => self.set_cookie(seat, cookie),

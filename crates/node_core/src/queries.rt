@@ -182,8 +182,20 @@ impl NodeCore {
         requires { is_full self.old ≡ false }
         ensures { Steps self.old seat (Event.Groups scope) self.new result }
     {
-        let answer = self.look(&scope, Query::Groups);
+        let answer = self.list_groups(&scope);
         self.enter(seat, Event::Groups(scope), answer)
+    }
+
+    /// Answers as `look` does, with a list of the groups that is made once until rows change.
+    fn list_groups(&mut self, scope: &Scope) -> Result<Reply, CoreFault>
+        ensures answer { IsAnswer self.old (Event.Groups scope.now) result }
+        ensures same { self.new ≡ self.old }
+    {
+        let Some(place) = place_of(&self.scopes, scope) else {
+            return Err(CoreFault::Refused(Rule::NoScope));
+        };
+        let groups = self.scopes[place].table.group_listing()?;
+        Ok(Reply::Groups(groups))
     }
 
     /// The groups with an own process.

@@ -69,9 +69,14 @@ impl NodeCore {
         if self.scopes.len() >= MAX_SCOPES {
             return self.refuse(seat, Event::StartScope(scope), Rule::ScopesFull);
         }
-        self.scopes.reserve(1)?;
-        self.audit.make_room()?;
-        let running = asked_scope(self.alloc, &mut self.links, &self.opening.name, &scope)?;
+        let running = asked_scope(
+            self.alloc,
+            &mut self.audit,
+            &mut self.links,
+            &mut self.scopes,
+            &self.opening.name,
+            &scope,
+        )?;
         put_in(&mut self.scopes, running);
         let nothing = Vec::new(self.alloc);
         let event = Event::StartScope(scope);
@@ -114,29 +119,38 @@ impl NodeCore {
     }
 }
 
-/// A scope with no rows, of which the peers on the links that are up and visible are asked for theirs. Where memory is wanting,
-/// nothing has changed.
+/// Makes room for an entry and for a scope, and a scope with no rows, of which the peers on the links that are up and visible
+/// are asked for theirs. Where memory is wanting, nothing but room has changed.
 fn asked_scope(
     alloc: Global,
+    audit: &mut Audit,
     links: &mut Vec<Link>,
+    scopes: &mut Vec<Running>,
     own: &NodeName,
     scope: &Scope,
-) -> Result<Running, OutOfMemory>
+) -> Result<Running, CoreFault>
     requires { AreIdle links.old.items }
     ensures scope { IfOk result (λ r. r.scope ≡ scope.now) }
     ensures own { IfOk result (λ r. r.table.own ≡ own.now) }
     ensures rows { IfOk result (λ r. (g : List ℕ) (p : Pid) → count_of r.table g p ≡ 0) }
     ensures links { IfOk result (λ r. (r.heard.items ≡ []) × (r.told.items ≡ [])) }
     ensures told { OnOk result (AreTold (if_among (shown_numbers links.old.items) (wide (Message.Discover scope.now))) links.old.items links.new.items) }
+    ensures items { scopes.new.items ≡ scopes.old.items }
+    ensures place { OnOk result (vec_len scopes.new < vec_capacity scopes.new) }
+    ensures room { OnOk result (audit.new ≡ record { limit = audit.old.limit; entries = audit.old.entries; has_room = true }) }
+    ensures memory { IfErr result (λ fault. fault ≡ faults.OutOfMemory) }
     ensures same { OnErr result (Alike links.old.items links.new.items) }
+    ensures unentered { OnErr result ((audit.new.entries ≡ audit.old.entries) × (audit.new.limit ≡ audit.old.limit)) }
 {
+    scopes.reserve(1)?;
+    audit.make_room()?;
     let name = scope.try_clone(alloc)?;
     let running = new_scope(alloc, own, scope)?;
     match tell_shown(alloc, links, Message::Discover(name)) {
         Ok(()) => Ok(running),
         Err(fault) => {
             drop(running);
-            Err(fault)
+            Err(CoreFault::from(fault))
         }
     }
 }

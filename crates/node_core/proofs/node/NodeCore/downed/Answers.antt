@@ -20,15 +20,18 @@ up_at c = up_here (seen c.self.view_is c.self.invariant) c.args.number c.require
 pub unreachable-requires : goal.unreachable-requires
 unreachable-requires c = has_peer (up_at (goal.at.unreachable-requires c).After-index) c.in_default.ensures
 
+pub invariant_of-self : goal.invariant_of-self
+invariant_of-self c = rw (c.in_err-changes.ensures.unentered.0, c.in_err-changes.ensures.unentered.1) c.self.invariant
+
 pub invariant_of-self-2 : goal.invariant_of-self-2
-invariant_of-self-2 c = rw (c.accept.ensures.entries, c.accept.ensures.limit, c.in_ok-room.ensures.room, c.filled.ensures, c.in_ok-room.ensures.scope) (
+invariant_of-self-2 c = rw (c.accept.ensures.entries, c.accept.ensures.limit, c.in_ok-changes.ensures.room, c.in_ok-changes.ensures.change.changes) (
     downed c.self.invariant c.args.seat c.args.number c.args.body (rw (← c.self.view_is) at c.requires.space) (rw (← c.self.view_is) at c.requires.up)
     (rw c.deref.ensures.value at c.places-place.ensures.link) c.index.ensures c.args.scope c.cut_off.new.running (rw c.deref-2.ensures.value at c.places-place.ensures.scope) c.index_mut.ensures.value c.in-Some.ensures
-    c.requires.says (rw (← c.self.view_is) at c.requires.holds) c.in_ok-groups.groups.items c.cut_off.ensures c.index-2.ensures c.in_ok-groups.ensures).1
+    c.requires.says (rw (← c.self.view_is) at c.requires.holds) c.in_ok-changes.ensures.change.groups c.cut_off.ensures c.index-2.ensures c.in_ok-changes.ensures.change.difference).1
 
 pub returns : goal.returns
 returns c = steps_on c.self.view_is _ _ _ _ (
     downed c.self.invariant c.args.seat c.args.number c.args.body (rw (← c.self.view_is) at c.requires.space) (rw (← c.self.view_is) at c.requires.up)
     (rw c.deref.ensures.value at c.places-place.ensures.link) c.index.ensures c.args.scope c.cut_off.new.running (rw c.deref-2.ensures.value at c.places-place.ensures.scope) c.index_mut.ensures.value c.in-Some.ensures
-    c.requires.says (rw (← c.self.view_is) at c.requires.holds) c.in_ok-groups.groups.items c.cut_off.ensures c.index-2.ensures c.in_ok-groups.ensures).0
-    (rw (c.in_ok-room.ensures.room, c.filled.ensures, c.in_ok-room.ensures.scope) at c.accept.ensures.entries)
+    c.requires.says (rw (← c.self.view_is) at c.requires.holds) c.in_ok-changes.ensures.change.groups c.cut_off.ensures c.index-2.ensures c.in_ok-changes.ensures.change.difference).0
+    (rw (c.in_ok-changes.ensures.room, c.in_ok-changes.ensures.change.changes) at c.accept.ensures.entries)

@@ -8,13 +8,13 @@ use Rattle.node_core.proofs.node.NodeCore.early_frame.Goals.{After-replace-state
 
 -- the link at its place, with room and without its state
 held : (c : After-replace-state) → IsHeld (past c.self.inside.opening c.self.inside.audit.entries) c.self.inside.links.items c.args.number c.in-Some.place
-    c.index_mut.result.now c.make_room.new.self c.index_mut-2.result.now c.replace-state.new.self c.replace-state.result
+    c.index_mut.result.now c.room_for_frames.new.link c.index_mut-2.result.now c.replace-state.new.self c.replace-state.result
 held c = record {
   space = rw (← c.self.view_is) at c.requires.space;
   opens = rw (← c.self.view_is) at c.requires.opens;
   at = rw c.deref.ensures.value at (sym c.place_of.ensures ∙ c.in-Some.is);
   first = c.index_mut.ensures.value;
-  roomy = c.make_room.ensures.same;
+  roomy = c.room_for_frames.ensures.roomy;
   then = c.index_mut-2.ensures.value;
   emptied = c.replace-state.ensures.new;
   state = c.replace-state.ensures.old;
@@ -24,11 +24,8 @@ pub unreachable-requires : goal.unreachable-requires
 unreachable-requires c = lie (sym c.requires.opens ∙ closed_here (seen c.self.view_is c.self.invariant) c.args.number (rw c.deref.ensures.value at (sym c.place_of.ensures ∙ c.in_default.is)))
 
 pub invariant_of-self : goal.invariant_of-self
-invariant_of-self c = room_follows c.self.invariant c.args.number (rw c.deref.ensures.value at (sym c.place_of.ensures ∙ c.in-Some.is)) c.index_mut.ensures.value c.make_room.ensures.same
-
-pub invariant_of-self-in_err-make_room-2 : goal.invariant_of-self-in_err-make_room-2
-invariant_of-self-in_err-make_room-2 c = rw c.in_err-make_room-2.ensures.same
-    (room_follows c.self.invariant c.args.number (rw c.deref.ensures.value at (sym c.place_of.ensures ∙ c.in-Some.is)) c.index_mut.ensures.value c.make_room.ensures.same)
+invariant_of-self c = rw (c.in_err-room_for_frames.ensures.unentered.0, c.in_err-room_for_frames.ensures.unentered.1)
+    (room_follows c.self.invariant c.args.number (rw c.deref.ensures.value at (sym c.place_of.ensures ∙ c.in-Some.is)) c.index_mut.ensures.value c.room_for_frames.ensures.roomy)
 
 pub hear-heard-requires : goal.hear-heard-requires
 hear-heard-requires c = handshakes c.self.invariant c.args.seat c.args.body (held (goal.at.hear-heard-requires c).After-replace-state)
@@ -39,10 +36,10 @@ go_on-requires c =
     let few : length c.in-On.frames ≤ 2 = early_few c.self.invariant c.args.seat c.args.body (held (goal.at.go_on-requires c).After-replace-state)
     (rw (← c.self.view_is) at c.requires.unwhole) (rw (← c.self.view_is) at c.requires.early) c.deref-2.ensures.value c.in_ok-pending.pending c.in_ok-pending.ensures.up c.in_ok-pending.ensures.dials
     c.in-On.state c.in-On.frames c.in-On.gives_up (rw c.as_slice-bytes.ensures at c.in-On.ensures) in
-    held_ready c.self.invariant (held (goal.at.go_on-requires c).After-replace-state) (length c.in-On.frames) (omega (arith, few, c.in_ok-make_room.ensures.ok))
+    held_ready c.self.invariant (held (goal.at.go_on-requires c).After-replace-state) (length c.in-On.frames) (omega (arith, few, c.in_ok-room_for_frames.ensures.fits))
 
 pub invariant_of-self-in-On : goal.invariant_of-self-in-On
-invariant_of-self-in-On c = rw (c.accept.ensures.entries, c.accept.ensures.limit, c.in_ok-make_room-2.ensures.ok.1, c.new-nothing.ensures.items) (
+invariant_of-self-in-On c = rw (c.accept.ensures.entries, c.accept.ensures.limit, c.in_ok-room_for_frames.ensures.room, c.new-nothing.ensures.items) (
     early_went_on c.self.invariant c.args.seat c.args.body (held (goal.at.invariant_of-self-in-On c).After-replace-state)
     (rw (← c.self.view_is) at c.requires.unwhole) (rw (← c.self.view_is) at c.requires.early) c.deref-2.ensures.value c.in_ok-pending.pending c.in_ok-pending.ensures.up c.in_ok-pending.ensures.dials
     c.in-On.state c.in-On.frames c.in-On.gives_up (rw c.as_slice-bytes.ensures at c.in-On.ensures) c.go_on.new.links.items c.go_on.ensures).1
@@ -52,16 +49,16 @@ end-requires c =
     let few : length c.in-Ended.frames ≤ 2 = early_few_ended c.self.invariant c.args.seat c.args.body (held (goal.at.end-requires c).After-replace-state)
     (rw (← c.self.view_is) at c.requires.unwhole) (rw (← c.self.view_is) at c.requires.early) c.deref-2.ensures.value c.in_ok-pending.pending c.in_ok-pending.ensures.up c.in_ok-pending.ensures.dials
     c.in-Ended.rule c.in-Ended.frames (rw c.as_slice-bytes.ensures at c.in-Ended.ensures) in
-    held_ready c.self.invariant (held (goal.at.end-requires c).After-replace-state) (length c.in-Ended.frames) (omega (arith, few, c.in_ok-make_room.ensures.ok))
+    held_ready c.self.invariant (held (goal.at.end-requires c).After-replace-state) (length c.in-Ended.frames) (omega (arith, few, c.in_ok-room_for_frames.ensures.fits))
 
 pub invariant_of-self-in-Ended : goal.invariant_of-self-in-Ended
-invariant_of-self-in-Ended c = rw (c.reject.ensures.entries, c.reject.ensures.limit, c.in_ok-make_room-2.ensures.ok.1) (
+invariant_of-self-in-Ended c = rw (c.reject.ensures.entries, c.reject.ensures.limit, c.in_ok-room_for_frames.ensures.room) (
     early_broke c.self.invariant c.args.seat c.args.body (held (goal.at.invariant_of-self-in-Ended c).After-replace-state)
     (rw (← c.self.view_is) at c.requires.unwhole) (rw (← c.self.view_is) at c.requires.early) c.deref-2.ensures.value c.in_ok-pending.pending c.in_ok-pending.ensures.up c.in_ok-pending.ensures.dials
     c.in-Ended.rule c.in-Ended.frames (rw c.as_slice-bytes.ensures at c.in-Ended.ensures) c.end.new.links.items c.end.ensures).1
 
 pub invariant_of-self-in-OutOfMemory-1 : goal.invariant_of-self-in-OutOfMemory-1
-invariant_of-self-in-OutOfMemory-1 c = rw c.in_ok-make_room-2.ensures.ok.1 (held_restored c.self.invariant (held (goal.at.invariant_of-self-in-OutOfMemory-1 c).After-replace-state)
+invariant_of-self-in-OutOfMemory-1 c = rw c.in_ok-room_for_frames.ensures.room (held_restored c.self.invariant (held (goal.at.invariant_of-self-in-OutOfMemory-1 c).After-replace-state)
     c.index_mut-in-OutOfMemory.ensures.value c.in-OutOfMemory.ensures c.set_state.ensures)
 
 pub unreachable-requires-in-Up : goal.unreachable-requires-in-Up
@@ -74,11 +71,11 @@ returns-in-On c = steps_on c.self.view_is _ _ _ _ (
     early_went_on c.self.invariant c.args.seat c.args.body (held (goal.at.returns-in-On c).After-replace-state)
     (rw (← c.self.view_is) at c.requires.unwhole) (rw (← c.self.view_is) at c.requires.early) c.deref-2.ensures.value c.in_ok-pending.pending c.in_ok-pending.ensures.up c.in_ok-pending.ensures.dials
     c.in-On.state c.in-On.frames c.in-On.gives_up (rw c.as_slice-bytes.ensures at c.in-On.ensures) c.go_on.new.links.items c.go_on.ensures).0
-    (rw (c.in_ok-make_room-2.ensures.ok.1, c.new-nothing.ensures.items) at c.accept.ensures.entries)
+    (rw (c.in_ok-room_for_frames.ensures.room, c.new-nothing.ensures.items) at c.accept.ensures.entries)
 
 pub returns-in-Ended : goal.returns-in-Ended
 returns-in-Ended c = steps_refused c.self.view_is _ _ _ _ (
     early_broke c.self.invariant c.args.seat c.args.body (held (goal.at.returns-in-Ended c).After-replace-state)
     (rw (← c.self.view_is) at c.requires.unwhole) (rw (← c.self.view_is) at c.requires.early) c.deref-2.ensures.value c.in_ok-pending.pending c.in_ok-pending.ensures.up c.in_ok-pending.ensures.dials
     c.in-Ended.rule c.in-Ended.frames (rw c.as_slice-bytes.ensures at c.in-Ended.ensures) c.end.new.links.items c.end.ensures).0
-    (rw c.in_ok-make_room-2.ensures.ok.1 at c.reject.ensures.entries)
+    (rw c.in_ok-room_for_frames.ensures.room at c.reject.ensures.entries)

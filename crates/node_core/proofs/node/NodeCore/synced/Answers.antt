@@ -26,19 +26,19 @@ hear_rows-requires-clause-of_peer c =
     let here = up_at (goal.at.hear_rows-requires-clause-of_peer c).After-index in
     rw (peer_is here c.in-Some.ensures) (all_of_peer here c.args.rows (rows_from c.args.self.now c.args.number c.args.scope c.args.rows c.requires.holds))
 
-pub invariant_of-self-in_err-groups : goal.invariant_of-self-in_err-groups
-invariant_of-self-in_err-groups c = rw c.in_ok-room.ensures.room (follows_with c.self.invariant
-    (same_scope c.self.invariant c.args.scope (rw c.deref-2.ensures.value at c.places-place.ensures.scope) c.index_mut.ensures.value c.in_err-groups.ensures.same) c.self.invariant.links)
+pub invariant_of-self : goal.invariant_of-self
+invariant_of-self c = rw (c.in_err-changes.ensures.unentered.0, c.in_err-changes.ensures.unentered.1) (follows_with c.self.invariant
+    (same_scope c.self.invariant c.args.scope (rw c.deref-2.ensures.value at c.places-place.ensures.scope) c.index_mut.ensures.value c.in_err-changes.ensures.same) c.self.invariant.links)
 
 pub invariant_of-self-2 : goal.invariant_of-self-2
-invariant_of-self-2 c = rw (c.accept.ensures.entries, c.accept.ensures.limit, c.in_ok-room.ensures.room, c.filled.ensures, c.in_ok-room.ensures.scope) (
+invariant_of-self-2 c = rw (c.accept.ensures.entries, c.accept.ensures.limit, c.in_ok-changes.ensures.room, c.in_ok-changes.ensures.change.changes) (
     synced c.self.invariant c.args.seat c.args.number c.args.body (rw (← c.self.view_is) at c.requires.space) (rw (← c.self.view_is) at c.requires.up)
     (rw c.deref.ensures.value at c.places-place.ensures.link) c.index.ensures c.args.scope c.hear_rows.new.running (rw c.deref-2.ensures.value at c.places-place.ensures.scope) c.index_mut.ensures.value c.in-Some.ensures
-    c.args.rows c.requires.says (rw (← c.self.view_is) at c.requires.holds) c.in_ok-groups.groups.items c.in_ok-groups.ensures.ok c.in_ok-groups.ensures.change).1
+    c.args.rows c.requires.says (rw (← c.self.view_is) at c.requires.holds) c.in_ok-changes.ensures.change.groups c.in_ok-changes.ensures.ok c.in_ok-changes.ensures.change.difference).1
 
 pub returns : goal.returns
 returns c = steps_on c.self.view_is _ _ _ _ (
     synced c.self.invariant c.args.seat c.args.number c.args.body (rw (← c.self.view_is) at c.requires.space) (rw (← c.self.view_is) at c.requires.up)
     (rw c.deref.ensures.value at c.places-place.ensures.link) c.index.ensures c.args.scope c.hear_rows.new.running (rw c.deref-2.ensures.value at c.places-place.ensures.scope) c.index_mut.ensures.value c.in-Some.ensures
-    c.args.rows c.requires.says (rw (← c.self.view_is) at c.requires.holds) c.in_ok-groups.groups.items c.in_ok-groups.ensures.ok c.in_ok-groups.ensures.change).0
-    (rw (c.in_ok-room.ensures.room, c.filled.ensures, c.in_ok-room.ensures.scope) at c.accept.ensures.entries)
+    c.args.rows c.requires.says (rw (← c.self.view_is) at c.requires.holds) c.in_ok-changes.ensures.change.groups c.in_ok-changes.ensures.ok c.in_ok-changes.ensures.change.difference).0
+    (rw (c.in_ok-changes.ensures.room, c.in_ok-changes.ensures.change.changes) at c.accept.ensures.entries)

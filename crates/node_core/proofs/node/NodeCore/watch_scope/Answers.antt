@@ -8,6 +8,9 @@ add_scope-requires c =
     let number = rw (← c.self.view_is) at c.next_number-number.ensures in
     subst (λ n. IsFree n c.self.inside.monitors) (sym number) (follows_free (past c.self.inside.opening c.self.inside.audit.entries) c.self.inside.monitors c.self.invariant.monitors)
 
+pub invariant_of-self : goal.invariant_of-self
+invariant_of-self c = rw (c.in_err-kept.ensures.unentered.0, c.in_err-kept.ensures.unentered.1, c.in_err-kept.ensures.same) c.self.invariant
+
 pub invariant_of-self-2 : goal.invariant_of-self-2
 invariant_of-self-2 c =
     let space = rw (← c.self.view_is) at c.requires.space in
@@ -15,5 +18,5 @@ invariant_of-self-2 c =
     let number = rw (← c.self.view_is) at c.next_number-number.ensures in
     let all = rw (← c.self.view_is) at c.requires.contents in
     let next = quiet_next (past c.self.inside.opening c.self.inside.audit.entries) c.args.seat (Reply.ScopeRef c.next_number-number.result c.args.groups) (Event.MonitorScope c.args.scope) space (ap (λ b. cond (not b) (Some Rule.NoScope) None) runs) (sym (λ i. Reply.ScopeRef (number i) (all i))) refl in
-    rw (c.accept.ensures.entries, c.accept.ensures.limit, c.in_ok-make_room.ensures.ok.1, c.new.ensures.items, c.in_ok-told.ensures, c.in_ok-add_scope.ensures.ok, c.in_ok-watched.ensures)
+    rw (c.accept.ensures.entries, c.accept.ensures.limit, c.in_ok-kept.ensures.room, c.new.ensures.items, c.in_ok-kept.ensures.copy, c.in_ok-kept.ensures.ok)
     (scope_watched (past c.self.inside.opening c.self.inside.audit.entries) c.args.seat (Reply.ScopeRef c.next_number-number.result c.args.groups) _ c.self.invariant c.args.scope c.next_number-number.result number next)
