@@ -8,7 +8,7 @@ use link_frames::{FeedFault, LinkReader};
 use std::alloc::Global;
 
 /// The reader of a link's bytes, which changes at the frame that is answered `Up`.
-#[derive(Debug, Drop)]
+#[derive(Drop)]
 pub(crate) enum Cutter {
     Handshake(HsReader),
     Messages(LinkReader),
@@ -41,7 +41,10 @@ impl Cutter {
         ensures { IfOk result (λ fed. CutsOff self.old piece.now fed.used fed.body self.new) }
     {
         match self {
-            Cutter::Handshake(reader) => reader.feed(piece).map_err(|_| FeedFault::OutOfMemory),
+            Cutter::Handshake(reader) => match reader.feed(piece) {
+                Ok(fed) => Ok(fed),
+                Err(_) => Err(FeedFault::OutOfMemory),
+            },
             Cutter::Messages(reader) => reader.feed(piece),
         }
     }

@@ -8,7 +8,7 @@ use crate::shared::Shared;
 use dist_types::OutOfMemory;
 use node_core::{NodeCore, OpenFault};
 use policy_audit::Opening;
-use std::alloc::{AllocError, Global};
+use std::alloc::Global;
 use std::sync::{Condvar, Mutex, Wait};
 
 /// A node for many threads.
@@ -66,9 +66,7 @@ fn new_passes(alloc: Global, seats: u32) -> Result<Vec<Pass>, OutOfMemory>
 {
     let mut passes = Vec::new(alloc);
     for seat in 0..seats {
-        passes
-            .push(Pass::new(alloc, seat))
-            .map_err(AllocError::from)?;
+        passes.push(Pass::new(alloc, seat))?;
     }
     Ok(passes)
 }

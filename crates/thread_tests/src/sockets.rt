@@ -1,10 +1,11 @@
 //! Lanes over the loopback. A raw peer writes the frames of a handshake by hand.
+use crate::threads::{cookie_of, group_of, name_of, opening, pids_of, scope_of};
 use cookie_digest::{ChallengeSource, digest};
-use dist_types::{Cookie, Group, Items, NodeName, Scope, TryClone};
+use dist_types::{Pid, TryClone};
 use handshake_frames::decode_challenge;
 use node_net::*;
 use node_threads::{CloseFault, CloseRule, Closed, Node, Pass};
-use policy_audit::{Event, Opening, Reply};
+use policy_audit::{Event, Reply};
 use rand_chacha::ChaCha20Rng;
 use rand_core::SeedableRng;
 use std::alloc::Global;
@@ -33,39 +34,44 @@ struct Site {
     listener: TcpListener,
 }
 
-fn new_site<R>(rt: &R, alloc: Global, name: &[u8], limits: Limits) -> Result<Site, Fail>
+fn new_site<R>(rt: &R, alloc: Global, name: &[u8; 3], limits: Limits) -> Result<Site, Fail>
 where
     R: Net<Listener = TcpListener, Stream = TcpStream>,
 {
-    let opening = Opening {
-        name: NodeName::parse(alloc, name)?,
-        cookie: Cookie::parse(alloc, b"password")?,
-        hidden: false,
-        creation: 1,
-        entries: 1_000,
-    };
-    let (node, mut passes) = Node::new(alloc, opening, 7)?;
-    let mut lanes = Vec::new(alloc);
-    for number in 0..3u8 {
-        let writer = passes.pop().ok_or("no pass")?;
-        let reader = passes.pop().ok_or("no pass")?;
-        let mut key = [number; 32];
-        key[31] = name[0];
-        let source = ChallengeSource::new(ChaCha20Rng::from_seed(key));
-        match Lane::new(reader, writer, source) {
-            Ok(lane) => lanes.push(lane)?,
-            Err(_) => return Err(Fail::from("used passes")),
-        }
-    }
-    let caller = passes.pop().ok_or("no pass")?;
-    let lanes = Lanes::new(alloc, lanes, 1, limits);
     let listener = TcpListener::bind(rt, "127.0.0.1:0")?;
+    let opening = opening(alloc, name, 1, 1_000).ok_or("no opening")?;
+    let (node, passes) = Node::new(alloc, opening, 7)?;
+    let (caller, lanes) = shared_out(alloc, passes, name[0])?;
+    let lanes = Lanes::new(alloc, lanes, 1, limits);
     Ok(Site {
         node,
         caller,
         lanes,
         listener,
     })
+}
+
+/// The caller's pass, and three lanes with the others.
+fn shared_out(alloc: Global, mut passes: Vec<Pass>, name: u8) -> Result<(Pass, Vec<Lane>), Fail> {
+    let mut lanes = Vec::new(alloc);
+    for number in 0..3u8 {
+        lanes.push(next_lane(&mut passes, number, name)?)?;
+    }
+    let caller = passes.pop().ok_or("no pass")?;
+    Ok((caller, lanes))
+}
+
+/// A lane with the last two passes.
+fn next_lane(passes: &mut Vec<Pass>, number: u8, name: u8) -> Result<Lane, Fail> {
+    let writer = passes.pop().ok_or("no pass")?;
+    let reader = passes.pop().ok_or("no pass")?;
+    let mut key = [number; 32];
+    key[31] = name;
+    let source = ChallengeSource::new(ChaCha20Rng::from_seed(key));
+    match Lane::new(reader, writer, source) {
+        Ok(lane) => Ok(lane),
+        Err(_) => Err(Fail::from("used passes")),
+    }
 }
 
 /// Closes the node with all its passes: how many entries it has.
@@ -114,26 +120,50 @@ fn short(setup: u64, tick: u64) -> Limits {
     }
 }
 
-fn scope_name(alloc: Global) -> Result<Scope, Fail> {
-    Ok(Scope::parse(alloc, b"pg")?)
-}
-
-fn group_name(alloc: Global) -> Result<Group, Fail> {
-    Ok(Group::parse(alloc, b"g")?)
-}
-
 /// Joins the group with a process.
 fn join<R: Wait + Sync>(rt: &R, alloc: Global, site: &mut Site) -> Result<(), Fail> {
-    site.caller
-        .call(&site.node, rt, Event::StartScope(scope_name(alloc)?))?;
-    let pid = match site.caller.call(&site.node, rt, Event::Spawn)? {
-        Reply::Pid(pid) => pid.try_clone(alloc)?,
-        _ => return Err(Fail::from("no process")),
-    };
-    let pids = Items::of(vec![in alloc; pid]?);
-    let event = Event::Join(scope_name(alloc)?, group_name(alloc)?, pids);
+    let scope = scope_of(alloc, b"pg").ok_or("no scope")?;
+    ask(rt, site, Event::StartScope(scope))?;
+    let pid = spawned(rt, alloc, site, Event::Spawn)?;
+    let join = joining(alloc, pid)?;
+    ask(rt, site, join)
+}
+
+// What calls has no contract and is given the event, so that a check doesn't compute the policy's verdict on it.
+fn ask<R: Wait + Sync>(rt: &R, site: &mut Site, event: Event) -> Result<(), Fail> {
     site.caller.call(&site.node, rt, event)?;
     Ok(())
+}
+
+/// The process that the event makes.
+fn spawned<R: Wait + Sync>(
+    rt: &R,
+    alloc: Global,
+    site: &mut Site,
+    event: Event,
+) -> Result<Pid, Fail> {
+    match site.caller.call(&site.node, rt, event)? {
+        Reply::Pid(pid) => Ok(pid.try_clone(alloc)?),
+        _ => Err(Fail::from("no process")),
+    }
+}
+
+/// The Join of a process.
+fn joining(alloc: Global, pid: Pid) -> Result<Event, Fail> {
+    let pids = pids_of(alloc, pid)?;
+    let scope = scope_of(alloc, b"pg").ok_or("no scope")?;
+    let group = group_of(alloc, b"g").ok_or("no group")?;
+    Ok(Event::Join(scope, group, pids))
+}
+
+/// A site with one member.
+fn new_member<R>(rt: &R, alloc: Global, name: &[u8; 3]) -> Result<Site, Fail>
+where
+    R: Net<Listener = TcpListener, Stream = TcpStream> + Wait + Sync,
+{
+    let mut site = new_site(rt, alloc, name, Limits::default())?;
+    join(rt, alloc, &mut site)?;
+    Ok(site)
 }
 
 /// How many processes a reply lists.
@@ -146,10 +176,10 @@ fn pids_in(reply: &Reply) -> usize {
 
 /// How many members a node sees, once there are two; else in the end.
 fn members<R: Wait + Clock>(rt: &R, alloc: Global, node: &Node) -> usize {
-    let Ok(scope) = Scope::parse(alloc, b"pg") else {
+    let Some(scope) = scope_of(alloc, b"pg") else {
         return 0;
     };
-    let Ok(group) = Group::parse(alloc, b"g") else {
+    let Some(group) = group_of(alloc, b"g") else {
         return 0;
     };
     let mut seen = 0;
@@ -213,9 +243,10 @@ fn challenged(stream: &mut TcpStream) -> Option<u32> {
     if !fill(stream, &mut owed) {
         return None;
     }
-    decode_challenge(&owed[7..])
-        .ok()
-        .map(|frame| frame.challenge)
+    match decode_challenge(&owed[7..]) {
+        Ok(frame) => Some(frame.challenge),
+        Err(_) => None,
+    }
 }
 
 /// Comes up as c@h with the challenge 5.
@@ -223,7 +254,7 @@ fn come_up(alloc: Global, stream: &mut TcpStream) -> bool {
     let Some(challenge) = challenged(stream) else {
         return false;
     };
-    let Ok(cookie) = Cookie::parse(alloc, b"password") else {
+    let Some(cookie) = cookie_of(alloc, b"password") else {
         return false;
     };
     let mut reply = [0u8; 23];
@@ -282,8 +313,18 @@ where
     }
 }
 
-/// Links two nodes, with a stranger that is silent beside them: how many members each sees.
-fn meet<R>(rt: &R, alloc: Global, near: &Site, far: &Site, target: &Target) -> (usize, usize)
+/// Links the node b@h to the node a@h: how many members each sees.
+fn meet<R>(rt: &R, alloc: Global, near: &Site, far: &Site) -> Result<(usize, usize), Fail>
+where
+    R: Net<Listener = TcpListener, Stream = TcpStream> + Threads + Wait + Clock + Sync,
+{
+    let addr = near.listener.local_addr()?;
+    let peer = name_of(alloc, b"a@h").ok_or("no name")?;
+    Ok(meet_at(rt, alloc, near, far, &Target { peer, addr }))
+}
+
+/// The same at the near one's address, with a stranger that is silent beside them.
+fn meet_at<R>(rt: &R, alloc: Global, near: &Site, far: &Site, target: &Target) -> (usize, usize)
 where
     R: Net<Listener = TcpListener, Stream = TcpStream> + Threads + Wait + Clock + Sync,
 {
@@ -308,15 +349,9 @@ where
 #[test]
 fn both_kinds_of_lanes_serve_a_link(rt: HostRuntime) -> Result<(), Fail> {
     let alloc: Global = rt.alloc();
-    let mut near = new_site(&rt, alloc, b"a@h", Limits::default())?;
-    let mut far = new_site(&rt, alloc, b"b@h", Limits::default())?;
-    join(&rt, alloc, &mut near)?;
-    join(&rt, alloc, &mut far)?;
-    let target = Target {
-        peer: NodeName::parse(alloc, b"a@h")?,
-        addr: near.listener.local_addr()?,
-    };
-    assert_eq!(rt; meet(&rt, alloc, &near, &far, &target), (2, 2));
+    let near = new_member(&rt, alloc, b"a@h")?;
+    let far = new_member(&rt, alloc, b"b@h")?;
+    assert_eq!(rt; meet(&rt, alloc, &near, &far)?, (2, 2));
     closed(alloc, near)?;
     closed(alloc, far)?;
     Ok(())
@@ -397,16 +432,22 @@ where
     })
 }
 
+/// The same at a door of its own.
+fn sees_reflection<R>(rt: &R, alloc: Global, near: &Site) -> Result<bool, Fail>
+where
+    R: Net<Listener = TcpListener, Stream = TcpStream> + Threads + Wait + Clock + Sync,
+{
+    let door = TcpListener::bind(rt, "127.0.0.1:0")?;
+    let addr = door.local_addr()?;
+    let peer = name_of(alloc, b"b@h").ok_or("no name")?;
+    Ok(see_reflection(rt, alloc, near, &door, &Target { peer, addr }))
+}
+
 #[test]
 fn a_challenge_that_comes_back_ends_its_link(rt: HostRuntime) -> Result<(), Fail> {
     let alloc: Global = rt.alloc();
     let near = new_site(&rt, alloc, b"a@h", Limits::default())?;
-    let door = TcpListener::bind(&rt, "127.0.0.1:0")?;
-    let target = Target {
-        peer: NodeName::parse(alloc, b"b@h")?,
-        addr: door.local_addr()?,
-    };
-    assert!(rt; see_reflection(&rt, alloc, &near, &door, &target));
+    assert!(rt; sees_reflection(&rt, alloc, &near)?);
     assert_eq!(rt; near.lanes.reflections(), 1);
     closed(alloc, near)?;
     Ok(())

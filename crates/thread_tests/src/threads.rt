@@ -24,28 +24,29 @@ pub(super) fn cookie_of(alloc: Global, text: &[u8]) -> Option<Cookie> {
     Cookie::parse(alloc, text).ok()
 }
 
-fn scope_of(alloc: Global, text: &[u8]) -> Option<Scope> {
+pub(super) fn scope_of(alloc: Global, text: &[u8]) -> Option<Scope> {
     Scope::parse(alloc, text).ok()
 }
 
-fn group_of(alloc: Global, text: &[u8]) -> Option<Group> {
+pub(super) fn group_of(alloc: Global, text: &[u8]) -> Option<Group> {
     Group::parse(alloc, text).ok()
 }
 
-pub(super) fn opening(alloc: Global, entries: u32) -> Option<Opening> {
-    let name = name_of(alloc, b"a@h")?;
+/// A node of that name, which isn't hidden.
+pub(super) fn opening(alloc: Global, name: &[u8], creation: u32, entries: u32) -> Option<Opening> {
+    let name = name_of(alloc, name)?;
     let cookie = cookie_of(alloc, b"password")?;
     Some(Opening {
         name,
         cookie,
         hidden: false,
-        creation: 1,
+        creation,
         entries,
     })
 }
 
 pub(super) fn new_node(alloc: Global, entries: u32, seats: u32) -> Option<(Node, Vec<Pass>)> {
-    Node::new(alloc, opening(alloc, entries)?, seats).ok()
+    Node::new(alloc, opening(alloc, b"a@h", 1, entries)?, seats).ok()
 }
 
 /// How many entries a node has that these passes close.
@@ -92,6 +93,13 @@ fn pid_of(alloc: Global, number: u64) -> Option<Pid> {
     })
 }
 
+/// This process alone.
+pub(super) fn pids_of(alloc: Global, pid: Pid) -> Result<Pids, OutOfMemory> {
+    let mut pids = Vec::new(alloc);
+    pids.push(pid)?;
+    Ok(Items::of(pids))
+}
+
 /// The process of that number, and the group `g` of the scope `pg`.
 pub(super) fn member_of(alloc: Global, number: u64) -> Option<Member> {
     let scope = scope_of(alloc, b"pg")?;
@@ -124,16 +132,10 @@ struct Place {
 }
 
 impl Member {
-    fn pids(&self) -> Result<Pids, OutOfMemory> {
-        let mut pids = Vec::new(self.alloc);
-        pids.push(self.pid.try_clone(self.alloc)?)?;
-        Ok(Items::of(pids))
-    }
-
     fn place(&self) -> Result<Place, OutOfMemory> {
         let scope = self.scope.try_clone(self.alloc)?;
         let group = self.group.try_clone(self.alloc)?;
-        let pids = self.pids()?;
+        let pids = pids_of(self.alloc, self.pid.try_clone(self.alloc)?)?;
         Ok(Place { scope, group, pids })
     }
 
@@ -460,11 +462,18 @@ fn start_and_work<R: Threads + Wait + Sync>(
     passes: &mut [Pass],
     rounds: u32,
 ) -> Option<u64> {
-    let scope = scope_of(alloc, b"pg")?;
-    if is_done(rt, node, passes.first_mut()?, Event::StartScope(scope)) {
+    if starts(rt, alloc, node, passes.first_mut()?) {
         Some(work_all(rt, alloc, node, passes, rounds))
     } else {
         None
+    }
+}
+
+/// Whether the scope `pg` is started.
+fn starts<R: Wait>(rt: &R, alloc: Global, node: &Node, pass: &mut Pass) -> bool {
+    match scope_of(alloc, b"pg") {
+        Some(scope) => is_done(rt, node, pass, Event::StartScope(scope)),
+        None => false,
     }
 }
 

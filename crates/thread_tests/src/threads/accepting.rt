@@ -1,8 +1,8 @@
 //! Connections of a door in memory.
+use super::{closed, is_done, opening};
 use cookie_digest::ChallengeSource;
-use dist_types::{Cookie, NodeName};
 use node_threads::*;
-use policy_audit::{Event, Opening};
+use policy_audit::Event;
 use rand_chacha::ChaCha20Rng;
 use rand_core::SeedableRng;
 use std::alloc::Global;
@@ -147,22 +147,10 @@ struct Plan {
     fails: bool,
 }
 
-fn opening(alloc: Global, entries: u32) -> Option<Opening> {
-    let name = NodeName::parse(alloc, b"b@h").ok()?;
-    let cookie = Cookie::parse(alloc, b"password").ok()?;
-    Some(Opening {
-        name,
-        cookie,
-        hidden: false,
-        creation: 4,
-        entries,
-    })
-}
-
 /// The node b@h, and two passes for each pair and one more.
 fn new_node(alloc: Global, plan: Plan) -> Option<(Node, Vec<Pass>)> {
     let seats = plan.pairs.saturating_mul(2).saturating_add(1);
-    Node::new(alloc, opening(alloc, plan.entries)?, seats).ok()
+    Node::new(alloc, opening(alloc, b"b@h", 4, plan.entries)?, seats).ok()
 }
 
 fn next_pair(passes: &mut Vec<Pass>) -> Option<Pair> {
@@ -179,19 +167,21 @@ fn paired(alloc: Global, passes: &mut Vec<Pass>, count: u32) -> Option<Vec<Pair>
     Some(pairs)
 }
 
-/// All passes in one list.
-fn unpaired(mut passes: Vec<Pass>, pairs: Vec<Pair>) -> Option<Vec<Pass>> {
+/// Puts the pairs back behind the passes.
+fn unpair(passes: &mut Vec<Pass>, pairs: Vec<Pair>) -> Option<()> {
     for pair in pairs {
         passes.push(pair.reader).ok()?;
         passes.push(pair.writer).ok()?;
     }
-    Some(passes)
+    Some(())
 }
 
 /// Opens so many links that nobody serves.
 fn open_idle<R: Wait>(rt: &R, node: &Node, pass: &mut Pass, links: u32) -> Option<()> {
     for challenge in 0..links {
-        pass.call(node, rt, Event::Opened(challenge)).ok()?;
+        if !is_done(rt, node, pass, Event::Opened(challenge)) {
+            return None;
+        }
     }
     Some(())
 }
@@ -230,10 +220,24 @@ fn serve<R: Threads + Wait + Sync>(
     heard: &Heard,
 ) -> Option<Seen> {
     let (node, mut passes) = new_node(alloc, plan)?;
-    let pairs = paired(alloc, &mut passes, plan.pairs)?;
-    open_idle(rt, &node, passes.first_mut()?, plan.opened)?;
-    let Accepted { pairs, served, end } = accept(rt, alloc, &node, pairs, plan, heard);
-    node.close(unpaired(passes, pairs)?).ok()?;
+    let seen = serve_on(rt, alloc, &node, &mut passes, plan, heard);
+    closed(node, passes)?;
+    seen
+}
+
+/// The same on this node, whose passes are all there again in the end.
+fn serve_on<R: Threads + Wait + Sync>(
+    rt: &R,
+    alloc: Global,
+    node: &Node,
+    passes: &mut Vec<Pass>,
+    plan: Plan,
+    heard: &Heard,
+) -> Option<Seen> {
+    open_idle(rt, node, passes.first_mut()?, plan.opened)?;
+    let pairs = paired(alloc, passes, plan.pairs)?;
+    let Accepted { pairs, served, end } = accept(rt, alloc, node, pairs, plan, heard);
+    unpair(passes, pairs)?;
     Some(Seen { served, end })
 }
 

@@ -9,15 +9,7 @@ use std::sync::Wait;
 fn lacks_a_pass(alloc: Global) -> Option<CloseRule> {
     let (node, mut passes) = new_node(alloc, 100, 2)?;
     let second = passes.pop()?;
-    closed_later(node.close(passes), second)
-}
-
-/// Why the node wasn't closed, if it is with one pass more.
-fn closed_later(end: Result<Closed, CloseFault>, pass: Pass) -> Option<CloseRule> {
-    match end {
-        Err(fault) => closed_with(fault, pass),
-        Ok(_) => None,
-    }
+    closed_with(node.close(passes).err()?, second)
 }
 
 /// Why a node wasn't closed; with one pass more it is.
@@ -35,10 +27,16 @@ fn closed_with(fault: CloseFault, pass: Pass) -> Option<CloseRule> {
 /// A pass that has spawned a process on a node of its own.
 fn stranger<R: Wait>(rt: &R, alloc: Global) -> Option<Pass> {
     let (node, mut passes) = new_node(alloc, 100, 1)?;
-    if !is_done(rt, &node, passes.first_mut()?, Event::Spawn) {
-        return None;
+    used(rt, &node, passes.pop()?, Event::Spawn)
+}
+
+/// The pass, once the node has answered its call.
+fn used<R: Wait>(rt: &R, node: &Node, mut pass: Pass, event: Event) -> Option<Pass> {
+    if is_done(rt, node, &mut pass, event) {
+        Some(pass)
+    } else {
+        None
     }
-    passes.pop()
 }
 
 /// What a strange pass is told by a new node, and why the node isn't closed with both passes, nor with the strange one.
@@ -51,34 +49,44 @@ struct Meeting {
 
 fn meets_a_stranger<R: Wait>(rt: &R, alloc: Global) -> Option<Meeting> {
     let mut strange = stranger(rt, alloc)?;
-    let (node, mut passes) = new_node(alloc, 100, 1)?;
+    let (node, passes) = new_node(alloc, 100, 1)?;
     let told = fault_of(rt, &node, &mut strange, Event::Spawn);
-    passes.push(strange).ok()?;
-    match node.close(passes) {
-        Err(fault) => met(told, fault),
-        Ok(_) => None,
-    }
+    met(told, unclosed(node, passes, strange)?)
 }
 
-/// Takes the own pass away, and puts it back for the strange one.
+/// The fault of a close with one pass more.
+fn unclosed(node: Node, mut passes: Vec<Pass>, pass: Pass) -> Option<CloseFault> {
+    passes.push(pass).ok()?;
+    node.close(passes).err()
+}
+
 fn met(told: Option<CallFault>, fault: CloseFault) -> Option<Meeting> {
-    let CloseFault {
-        rule: both,
-        node,
-        mut passes,
-    } = fault;
-    let strange = passes.pop()?;
-    let own = passes.pop()?;
-    passes.push(strange).ok()?;
-    let strange = match node.close(passes) {
-        Err(fault) => alone(fault, own)?,
-        Ok(_) => return None,
-    };
+    let both = fault.rule;
+    let strange = strange_alone(fault)?;
     Some(Meeting {
         told,
         both,
         strange,
     })
+}
+
+/// Why the node isn't closed with the strange pass, its last; with its own pass it is.
+fn strange_alone(fault: CloseFault) -> Option<CloseRule> {
+    let CloseFault {
+        rule: _,
+        node,
+        mut passes,
+    } = fault;
+    let own = take_own(&mut passes)?;
+    alone(node.close(passes).err()?, own)
+}
+
+/// Takes away the pass before the last.
+fn take_own(passes: &mut Vec<Pass>) -> Option<Pass> {
+    let strange = passes.pop()?;
+    let own = passes.pop()?;
+    passes.push(strange).ok()?;
+    Some(own)
 }
 
 /// Why a node wasn't closed; with this pass alone it is.
@@ -143,7 +151,7 @@ fn opens(alloc: Global, seats: u32) -> bool {
 
 /// Why there is no node of that many seats and entries.
 fn refused_node(alloc: Global, seats: u32, entries: u32) -> Option<NewFault> {
-    Node::new(alloc, opening(alloc, entries)?, seats).err()
+    Node::new(alloc, opening(alloc, b"a@h", 1, entries)?, seats).err()
 }
 
 #[test]

@@ -35,22 +35,33 @@ fn insist<R: Wait>(
 }
 
 /// Whether want of memory changed nothing, at one event of each kind.
-fn insist_on_all<R: Wait>(rt: &R, alloc: Global, node: &Node, pass: &mut Pass) -> Option<bool> {
-    let member = member_of(alloc, 1)?;
-    for way in [Way::Call, Way::Lock] {
-        for what in [Ask::Start, Ask::Spawn, Ask::Join, Ask::Members, Ask::Leave] {
-            if !insist(rt, node, pass, &member, way, what) {
-                return Some(false);
-            }
+fn insist_on_each<R: Wait>(
+    rt: &R,
+    node: &Node,
+    pass: &mut Pass,
+    member: &Member,
+    way: Way,
+) -> bool {
+    for what in [Ask::Start, Ask::Spawn, Ask::Join, Ask::Members, Ask::Leave] {
+        if !insist(rt, node, pass, member, way, what) {
+            return false;
         }
     }
-    Some(true)
+    true
+}
+
+/// The same by the first pass, in both ways.
+fn insist_on_all<R: Wait>(rt: &R, alloc: Global, node: &Node, passes: &mut [Pass]) -> Option<bool> {
+    let pass = passes.first_mut()?;
+    let member = member_of(alloc, 1)?;
+    let called = insist_on_each(rt, node, pass, &member, Way::Call);
+    Some(called && insist_on_each(rt, node, pass, &member, Way::Lock))
 }
 
 /// How many entries a node has after one event of each kind, whatever allocation is refused.
 fn insisted<R: Wait>(rt: &R, alloc: Global) -> Option<(bool, usize)> {
     let (node, mut passes) = new_node(alloc, 100, 1)?;
-    let same = insist_on_all(rt, alloc, &node, passes.first_mut()?);
+    let same = insist_on_all(rt, alloc, &node, passes.as_mut_slice());
     let entries = closed(node, passes);
     Some((same?, entries?))
 }

@@ -1,7 +1,7 @@
 //! The workers of a link over bytes in memory: the name frame and the reply of a@h, and what b@h owes to them.
-use super::{closed, cookie_of, is_done, name_of};
+use super::{closed, is_done, opening};
 use node_threads::*;
-use policy_audit::{Event, Opening, Reply};
+use policy_audit::{Event, Reply};
 use std::alloc::Global;
 use std::io;
 use std::io::{ErrorKind, Read, Write};
@@ -182,31 +182,37 @@ impl Gate for Holding<'_> {
     fn answered(&self, _link: u32) {}
 }
 
-fn opening(alloc: Global, entries: u32) -> Option<Opening> {
-    let name = name_of(alloc, b"b@h")?;
-    let cookie = cookie_of(alloc, b"password")?;
-    Some(Opening {
-        name,
-        cookie,
-        hidden: false,
-        creation: 4,
-        entries,
-    })
-}
-
 /// The node b@h with link 1 open, the pass of its reader, and that of its writer.
 fn with_link<R: Wait>(rt: &R, alloc: Global, entries: u32) -> Option<(Node, Vec<Pass>)> {
-    let (node, mut passes) = Node::new(alloc, opening(alloc, entries)?, 2).ok()?;
-    if opens_link(rt, &node, passes.first_mut()?, Event::Opened(123)) {
+    let (node, mut passes) = Node::new(alloc, opening(alloc, b"b@h", 4, entries)?, 2).ok()?;
+    if opens_link(rt, &node, passes.as_mut_slice(), Event::Opened(123)) {
         Some((node, passes))
     } else {
         None
     }
 }
 
+/// Whether the first pass opens link 1.
+fn opens_link<R: Wait>(rt: &R, node: &Node, passes: &mut [Pass], event: Event) -> bool {
+    match passes.first_mut() {
+        Some(reader) => is_link_1_made(rt, node, reader, event),
+        None => false,
+    }
+}
+
 // What calls has no contract and is given the event, so that a check doesn't compute the policy's verdict on it.
-fn opens_link<R: Wait>(rt: &R, node: &Node, reader: &mut Pass, event: Event) -> bool {
-    matches!(reader.call(node, rt, event), Ok(Reply::Link(1)))
+fn is_link_1_made<R: Wait>(rt: &R, node: &Node, reader: &mut Pass, event: Event) -> bool {
+    match reader.call(node, rt, event) {
+        Ok(reply) => is_link_1(reply),
+        Err(_) => false,
+    }
+}
+
+fn is_link_1(reply: &Reply) -> bool {
+    match reply {
+        Reply::Link(link) => *link == 1,
+        _ => false,
+    }
 }
 
 /// How many frames and how many losses a pass has called behind its first entry, if it has called nothing else.
@@ -244,18 +250,20 @@ struct Seen {
 /// Reads what was sent.
 fn read<R: Wait>(rt: &R, alloc: Global, entries: u32, sent: &mut Sent) -> Option<Seen> {
     let (node, mut passes) = with_link(rt, alloc, entries)?;
-    let seen = read_by(rt, alloc, &node, passes.first_mut()?, sent);
+    let seen = read_by(rt, alloc, &node, passes.as_mut_slice(), sent);
     closed(node, passes)?;
     seen
 }
 
+/// Reads by the first pass.
 fn read_by<R: Wait>(
     rt: &R,
     alloc: Global,
     node: &Node,
-    reader: &mut Pass,
+    passes: &mut [Pass],
     sent: &mut Sent,
 ) -> Option<Seen> {
+    let reader = passes.first_mut()?;
     let end = read_link(rt, alloc, node, reader, 1, sent, &Open);
     let (frames, lost) = calls_of(reader)?;
     Some(Seen { end, frames, lost })
@@ -350,7 +358,7 @@ fn work_late<R: Wait>(rt: &R, alloc: Global, node: &Node, passes: &mut [Pass]) -
     if !is_done(rt, node, passes.last_mut()?, Event::Lost(1)) {
         return None;
     }
-    let read = read_by(rt, alloc, node, passes.first_mut()?, &mut Sent::by(4096))?;
+    let read = read_by(rt, alloc, node, passes, &mut Sent::by(4096))?;
     let written = write_by(rt, alloc, node, passes.last_mut()?);
     Some(Late { read, written })
 }
@@ -450,7 +458,10 @@ fn both_workers_serve_a_link(rt: HostRuntime) {
 }
 
 /// Whether a writer whose write of that number failed did what it should.
-fn gave_up(ends: Ends, told: &Told, fails_at: u32) -> bool {
+fn gave_up(ends: Option<Ends>, told: &Told, fails_at: u32) -> bool {
+    let Some(ends) = ends else {
+        return false;
+    };
     ends.written == WriteEnd::WriteFault
         && (ends.read == ReadEnd::Closed || ends.read == ReadEnd::Gone)
         && told.late.load(Ordering::SeqCst) == 0
@@ -463,9 +474,6 @@ fn a_write_that_fails_ends_the_link(rt: HostRuntime) {
     for fails_at in 1..49 {
         let told = Told::new();
         let ends = serve(&rt, rt.alloc(), &told, 1, fails_at);
-        assert!(rt;
-            ends.is_some_and(|ends| gave_up(ends, &told, fails_at)),
-            "write {fails_at}"
-        );
+        assert!(rt; gave_up(ends, &told, fails_at), "write {fails_at}");
     }
 }
