@@ -13,6 +13,7 @@ use pg_script::RunFault;
 use pg_text::{diagnose, without_feed};
 use policy_audit::Opening;
 use std::alloc::{AllocError, Global};
+use std::env::Env;
 use std::fmt::Display;
 use std::io::{self, BufReader, ErrorKind};
 use std::net::{Net, TcpListener, TcpStream};
@@ -27,29 +28,42 @@ const OUT_OF_MEMORY: &str = "error: out of memory";
 
 /// Status 0 at the end of a script, 1 at a fault of the script, of a stream or of memory, 2 at one of the command line.
 fn main(rt: HostRuntime) -> ExitCode {
-    let alloc = rt.alloc();
-    let words = match std::env::args(&rt) {
-        Ok(words) => words.collect(alloc),
-        Err(error) if error.kind() == ErrorKind::InvalidData => {
-            return failed(
-                &rt,
-                2,
-                "error: the command line has a word that is not UTF-8",
-            );
-        }
-        Err(_) => return failed(&rt, 1, OUT_OF_MEMORY),
-    };
-    let words: Vec<String> = match words {
+    let words = match words(&rt) {
         Ok(words) => words,
-        Err(_) => return failed(&rt, 1, OUT_OF_MEMORY),
+        Err(status) => return status,
     };
-    let Ok(command) = command(alloc) else {
-        return failed(&rt, 1, OUT_OF_MEMORY);
-    };
-    match command.try_get_matches_from(words.as_slice()) {
+    match matches(&rt, words.as_slice()) {
         Ok(matches) => follow(&rt, &matches),
-        Err(error) => unmatched(&rt, &error),
+        Err(status) => status,
     }
+}
+
+/// The words of the command line, or the status of a program that can't have them.
+fn words<R: AllocGlobal + Env + Eprint>(rt: &R) -> Result<Vec<String>, ExitCode> {
+    match std::env::args(rt) {
+        Ok(words) => words
+            .collect(rt.alloc())
+            .map_err(|_| failed(rt, 1, OUT_OF_MEMORY)),
+        Err(error) if error.kind() == ErrorKind::InvalidData => Err(failed(
+            rt,
+            2,
+            "error: the command line has a word that is not UTF-8",
+        )),
+        Err(_) => Err(failed(rt, 1, OUT_OF_MEMORY)),
+    }
+}
+
+/// What the words of the command line say, or the status of a program that has nothing else to do.
+fn matches<'a, R: AllocGlobal + Print + Eprint>(
+    rt: &R,
+    words: &'a [String],
+) -> Result<ArgMatches<'a>, ExitCode> {
+    let Ok(command) = command(rt.alloc()) else {
+        return Err(failed(rt, 1, OUT_OF_MEMORY));
+    };
+    command
+        .try_get_matches_from(words)
+        .map_err(|error| unmatched(rt, &error))
 }
 
 /// Ends a program whose command line has no matches: it is refused, or it asks for a text, as `--help` does.

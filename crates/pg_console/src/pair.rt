@@ -1,14 +1,14 @@
 //! Two nodes in one process, linked over the loopback: each has a process in one group, and lists that of the other.
 use anyhow::{Result, bail};
 use cookie_digest::ChallengeSource;
-use dist_types::{Cookie, Group, Items, NodeName, Scope, TryClone};
+use dist_types::{Cookie, Group, Items, NodeName, OutOfMemory, Pid, Scope, TextFault, TryClone};
 use node_threads::{Gate, Node, Pass, Served, serve_link};
 use pg_text::Printed;
 use policy_audit::{Event, Members, Opening, Reply};
 use rand_chacha::ChaCha20Rng;
 use rand_core::SeedableRng;
 use std::alloc::Global;
-use std::io::Write;
+use std::io::{self, Write};
 use std::net::{Net, Shutdown, TcpListener, TcpStream};
 use std::sync::Wait;
 use std::thread;
@@ -80,6 +80,21 @@ struct Linked {
     end: End,
 }
 
+impl Linked {
+    fn into_parts(self) -> (Node, Pass, End) {
+        let Linked { node, caller, end } = self;
+        (node, caller, end)
+    }
+}
+
+/// A node whose link has ended, and its caller.
+#[derive(Drop)]
+struct Parted {
+    node: Node,
+    caller: Pass,
+    served: Served,
+}
+
 /// Whether each node has listed both processes.
 fn meet<R, W>(rt: &R, alloc: Global, writer: &mut W) -> Result<bool>
 where
@@ -87,32 +102,54 @@ where
     W: Write,
 {
     let (near, far, hook) = link_both(rt, alloc)?;
-    let Linked {
-        node: a,
-        caller: mut first,
-        end: near,
-    } = near;
-    let Linked {
-        node: b,
-        caller: mut second,
-        end: far,
-    } = far;
+    let (near, far, seen) = run_both(rt, alloc, near, far, &hook);
+    match tell_seen(alloc, writer, seen) {
+        Ok(true) => close_both(alloc, writer, near, far),
+        told => told,
+    }
+}
+
+/// Serves both ends of the link, until each node has listed both processes or one didn't in time.
+fn run_both<R: Threads + Wait + Clock + Sync>(
+    rt: &R,
+    alloc: Global,
+    near: Linked,
+    far: Linked,
+    hook: &TcpStream,
+) -> (Parted, Parted, Result<Option<(Members, Members)>>) {
+    let (a, mut first, near) = near.into_parts();
+    let (b, mut second, far) = far.into_parts();
     let ((near, far), seen) = thread::join(
         rt,
         || serve_both(rt, alloc, (&a, near), (&b, far)),
-        || {
-            let seen = watch(rt, alloc, (&a, &mut first), (&b, &mut second));
-            // Both workers of both nodes end with the socket, whatever was seen.
-            hook.shutdown(Shutdown::Both).ok();
-            seen
-        },
+        || watch_and_cut(rt, alloc, (&a, &mut first), (&b, &mut second), hook),
     );
-    if !tell_seen(alloc, writer, seen?)? {
-        return Ok(false);
-    }
-    close(alloc, writer, b"a@h", a, first, near)?;
-    close(alloc, writer, b"b@h", b, second, far)?;
-    Ok(true)
+    (
+        Parted {
+            node: a,
+            caller: first,
+            served: near,
+        },
+        Parted {
+            node: b,
+            caller: second,
+            served: far,
+        },
+        seen,
+    )
+}
+
+fn watch_and_cut<R: Wait + Clock + Sync>(
+    rt: &R,
+    alloc: Global,
+    first: (&Node, &mut Pass),
+    second: (&Node, &mut Pass),
+    hook: &TcpStream,
+) -> Result<Option<(Members, Members)>> {
+    let seen = watch(rt, alloc, first, second);
+    // Both workers of both nodes end with the socket, whatever was seen.
+    hook.shutdown(Shutdown::Both).ok();
+    seen
 }
 
 /// Two members at both ends of a socket, and what cuts it.
@@ -120,20 +157,38 @@ fn link_both<R>(rt: &R, alloc: Global) -> Result<(Linked, Linked, TcpStream)>
 where
     R: Net<Listener = TcpListener, Stream = TcpStream> + Wait + Sync,
 {
-    let dialler = start(rt, alloc, b"a@h")?;
-    let acceptor = start(rt, alloc, b"b@h")?;
-    let (out, back) = connected(rt)?;
-    let hook = out.try_clone()?;
-    // The same challenges in each run: nobody else speaks on this link.
-    let mut source = ChallengeSource::new(ChaCha20Rng::from_seed([0; 32]));
-    let dial = Event::Dial(NodeName::parse(alloc, b"b@h")?, source.draw());
+    let (dialler, acceptor) = start_both(rt, alloc)?;
+    let (out, back, hook) = connected(rt)?;
+    let (dial, opened) = openings(alloc)?;
     let near = link(rt, dialler, dial, out)?;
-    let far = link(rt, acceptor, Event::Opened(source.draw()), back)?;
+    let far = link(rt, acceptor, opened, back)?;
     Ok((near, far, hook))
 }
 
-/// Both ends of a connection over the loopback.
-fn connected<R>(rt: &R) -> Result<(TcpStream, TcpStream)>
+fn start_both<R: Wait + Sync>(rt: &R, alloc: Global) -> Result<(Member, Member)> {
+    let dialler = start(rt, alloc, b"a@h")?;
+    Ok((dialler, start(rt, alloc, b"b@h")?))
+}
+
+/// The events that open the link at either end. The challenges are the same in each run: nobody else speaks on this link.
+fn openings(alloc: Global) -> Result<(Event, Event), TextFault> {
+    let peer = NodeName::parse(alloc, b"b@h")?;
+    let mut source = ChallengeSource::new(ChaCha20Rng::from_seed([0; 32]));
+    let dial = Event::Dial(peer, source.draw());
+    Ok((dial, Event::Opened(source.draw())))
+}
+
+/// Both ends of a connection over the loopback, and what cuts it.
+fn connected<R>(rt: &R) -> Result<(TcpStream, TcpStream, TcpStream)>
+where
+    R: Net<Listener = TcpListener, Stream = TcpStream>,
+{
+    let (out, back) = both_ends(rt)?;
+    let hook = out.try_clone()?;
+    Ok((out, back, hook))
+}
+
+fn both_ends<R>(rt: &R) -> io::Result<(TcpStream, TcpStream)>
 where
     R: Net<Listener = TcpListener, Stream = TcpStream>,
 {
@@ -145,13 +200,17 @@ where
 
 /// A node of that name with a process in the group.
 fn start<R: Wait + Sync>(rt: &R, alloc: Global, name: &[u8]) -> Result<Member> {
-    let (node, mut passes) = Node::new(alloc, opening(alloc, name)?, 3)?;
-    let (Some(writer), Some(reader), Some(mut caller)) = (passes.pop(), passes.pop(), passes.pop())
-    else {
+    let (node, passes) = Node::new(alloc, opening(alloc, name)?, 3)?;
+    let Some(mut member) = member_of(node, passes) else {
         bail!("a node without passes");
     };
-    join(rt, alloc, &node, &mut caller)?;
-    Ok(Member {
+    join(rt, alloc, &member.node, &mut member.caller)?;
+    Ok(member)
+}
+
+fn member_of(node: Node, passes: Vec<Pass>) -> Option<Member> {
+    let (caller, reader, writer) = three_of(passes)?;
+    Some(Member {
         node,
         caller,
         reader,
@@ -159,7 +218,14 @@ fn start<R: Wait + Sync>(rt: &R, alloc: Global, name: &[u8]) -> Result<Member> {
     })
 }
 
-fn opening(alloc: Global, name: &[u8]) -> Result<Opening> {
+fn three_of(passes: Vec<Pass>) -> Option<(Pass, Pass, Pass)> {
+    let mut passes = passes;
+    let writer = passes.pop()?;
+    let reader = passes.pop()?;
+    Some((passes.pop()?, reader, writer))
+}
+
+fn opening(alloc: Global, name: &[u8]) -> Result<Opening, TextFault> {
     Ok(Opening {
         name: NodeName::parse(alloc, name)?,
         cookie: Cookie::parse(alloc, b"password")?,
@@ -172,49 +238,56 @@ fn opening(alloc: Global, name: &[u8]) -> Result<Opening> {
 /// Spawns a process, which joins the group.
 fn join<R: Wait + Sync>(rt: &R, alloc: Global, node: &Node, caller: &mut Pass) -> Result<()> {
     caller.call(node, rt, Event::StartScope(scope(alloc)?))?;
-    let pid = match caller.call(node, rt, Event::Spawn)? {
-        Reply::Pid(pid) => pid.try_clone(alloc)?,
-        _ => bail!("no process"),
-    };
-    let pids = Items::of(vec![in alloc; pid]?);
-    caller.call(node, rt, Event::Join(scope(alloc)?, group(alloc)?, pids))?;
+    let pid = spawn(rt, alloc, node, caller)?;
+    let event = join_of(alloc, Items::of(vec![in alloc; pid]?))?;
+    caller.call(node, rt, event)?;
     Ok(())
 }
 
+fn spawn<R: Wait + Sync>(rt: &R, alloc: Global, node: &Node, caller: &mut Pass) -> Result<Pid> {
+    match caller.call(node, rt, Event::Spawn)? {
+        Reply::Pid(pid) => Ok(pid.try_clone(alloc)?),
+        _ => bail!("no process"),
+    }
+}
+
+fn join_of(alloc: Global, pids: Items<Pid>) -> Result<Event, TextFault> {
+    let scope = scope(alloc)?;
+    Ok(Event::Join(scope, group(alloc)?, pids))
+}
+
 /// The member, at an end of the link that the event opens over this socket.
-fn link<R: Wait + Sync>(rt: &R, member: Member, event: Event, socket: TcpStream) -> Result<Linked> {
+fn link<R: Wait + Sync>(rt: &R, member: Member, event: Event, input: TcpStream) -> Result<Linked> {
+    let output = second_of(&input)?;
     let Member {
         node,
         caller,
-        reader,
+        mut reader,
         writer,
     } = member;
-    let end = open_link(rt, &node, event, reader, writer, socket)?;
-    Ok(Linked { node, caller, end })
-}
-
-/// The link that the event opens, over this socket.
-fn open_link<R: Wait + Sync>(
-    rt: &R,
-    node: &Node,
-    event: Event,
-    mut reader: Pass,
-    writer: Pass,
-    input: TcpStream,
-) -> Result<End> {
-    input.set_nodelay(true)?;
-    let output = input.try_clone()?;
-    let link = match reader.call(node, rt, event)? {
-        Reply::Link(link) => *link,
-        _ => bail!("no link"),
-    };
-    Ok(End {
+    let link = open_link(rt, &node, &mut reader, event)?;
+    let end = End {
         link,
         reader,
         writer,
         input,
         output,
-    })
+    };
+    Ok(Linked { node, caller, end })
+}
+
+/// A second handle of this socket, which sends without delay.
+fn second_of(socket: &TcpStream) -> io::Result<TcpStream> {
+    socket.set_nodelay(true)?;
+    socket.try_clone()
+}
+
+/// The number of the link that the event opens.
+fn open_link<R: Wait + Sync>(rt: &R, node: &Node, reader: &mut Pass, event: Event) -> Result<u32> {
+    match reader.call(node, rt, event)? {
+        Reply::Link(link) => Ok(*link),
+        _ => bail!("no link"),
+    }
 }
 
 fn serve<R: Threads + Wait + Sync>(rt: &R, alloc: Global, node: &Node, end: End) -> Served {
@@ -253,9 +326,15 @@ fn watch<R: Wait + Clock + Sync>(
     let at_a = both_at(rt, alloc, a, caller)?;
     let at_b = both_at(rt, alloc, second.0, second.1)?;
     if at_a.is_some() {
-        caller.call(a, rt, Event::Disconnect(NodeName::parse(alloc, b"b@h")?))?;
+        part(rt, alloc, a, caller)?;
     }
     Ok(at_a.zip(at_b))
+}
+
+fn part<R: Wait + Sync>(rt: &R, alloc: Global, node: &Node, caller: &mut Pass) -> Result<()> {
+    let peer = NodeName::parse(alloc, b"b@h")?;
+    caller.call(node, rt, Event::Disconnect(peer))?;
+    Ok(())
 }
 
 /// The members of the group, once there are two.
@@ -266,24 +345,41 @@ fn both_at<R: Wait + Clock + Sync>(
     caller: &mut Pass,
 ) -> Result<Option<Members>> {
     for _ in 0..TRIES {
-        let event = Event::Members(scope(alloc)?, group(alloc)?);
-        if let Reply::Pids(pids) = caller.call(node, rt, event)?
-            && pids.as_slice().len() == 2
-        {
-            return Ok(Some(pids.try_clone(alloc)?));
+        let found = two_at(rt, alloc, node, caller)?;
+        if found.is_some() {
+            return Ok(found);
         }
         thread::sleep(rt, Duration::from_millis(PAUSE));
     }
     Ok(None)
 }
 
+/// The members of the group, if there are two.
+fn two_at<R: Wait + Sync>(
+    rt: &R,
+    alloc: Global,
+    node: &Node,
+    caller: &mut Pass,
+) -> Result<Option<Members>> {
+    let event = members_of(alloc)?;
+    match caller.call(node, rt, event)? {
+        Reply::Pids(pids) if pids.as_slice().len() == 2 => Ok(Some(pids.try_clone(alloc)?)),
+        _ => Ok(None),
+    }
+}
+
+fn members_of(alloc: Global) -> Result<Event, TextFault> {
+    let scope = scope(alloc)?;
+    Ok(Event::Members(scope, group(alloc)?))
+}
+
 /// Writes whom each node has seen, or that one didn't see both in time: whether both did.
 fn tell_seen<W: Write>(
     alloc: Global,
     writer: &mut W,
-    seen: Option<(Members, Members)>,
+    seen: Result<Option<(Members, Members)>>,
 ) -> Result<bool> {
-    let Some((at_a, at_b)) = seen else {
+    let Some((at_a, at_b)) = seen? else {
         writer.write_all(b"late\n")?;
         return Ok(false);
     };
@@ -294,6 +390,12 @@ fn tell_seen<W: Write>(
 
 /// Writes whom a node has seen.
 fn sees<W: Write>(alloc: Global, writer: &mut W, name: &[u8], pids: &Members) -> Result<()> {
+    let line = seen_line(alloc, name, pids)?;
+    writer.write_all(line.as_slice())?;
+    Ok(())
+}
+
+fn seen_line(alloc: Global, name: &[u8], pids: &Members) -> Result<Vec<u8>, OutOfMemory> {
     let mut line = Vec::from_slice(alloc, name)?;
     line.extend_from_slice(b" sees")?;
     for pid in pids.as_slice() {
@@ -301,23 +403,24 @@ fn sees<W: Write>(alloc: Global, writer: &mut W, name: &[u8], pids: &Members) ->
         pid.put(alloc, &mut line)?;
     }
     line.push(b'\n')?;
-    writer.write_all(line.as_slice())?;
-    Ok(())
+    Ok(line)
+}
+
+/// Closes both nodes.
+fn close_both<W: Write>(alloc: Global, writer: &mut W, near: Parted, far: Parted) -> Result<bool> {
+    close(alloc, writer, b"a@h", near)?;
+    close(alloc, writer, b"b@h", far)?;
+    Ok(true)
 }
 
 /// Closes a node with all its passes, and writes that.
-fn close<W: Write>(
-    alloc: Global,
-    writer: &mut W,
-    name: &[u8],
-    node: Node,
-    caller: Pass,
-    served: Served,
-) -> Result<()> {
-    let mut passes = Vec::new(alloc);
-    passes.push(caller)?;
-    passes.push(served.reader)?;
-    passes.push(served.writer)?;
+fn close<W: Write>(alloc: Global, writer: &mut W, name: &[u8], parted: Parted) -> Result<()> {
+    let Parted {
+        node,
+        caller,
+        served,
+    } = parted;
+    let passes = vec![in alloc; caller, served.reader, served.writer]?;
     if let Err(fault) = node.close(passes) {
         bail!("the node is not closed: {}", fault.rule);
     }
@@ -326,10 +429,10 @@ fn close<W: Write>(
     Ok(())
 }
 
-fn scope(alloc: Global) -> Result<Scope> {
-    Ok(Scope::parse(alloc, b"pg")?)
+fn scope(alloc: Global) -> Result<Scope, TextFault> {
+    Scope::parse(alloc, b"pg")
 }
 
-fn group(alloc: Global) -> Result<Group> {
-    Ok(Group::parse(alloc, b"g")?)
+fn group(alloc: Global) -> Result<Group, TextFault> {
+    Group::parse(alloc, b"g")
 }

@@ -23,13 +23,24 @@ use std::alloc::{AllocError, Global};
 use std::env::Env;
 use std::fs::Files;
 use std::io::ErrorKind;
-use std::net::Net;
+use std::net::{Net, TcpListener, TcpStream};
 use std::process::ExitCode;
 use std::random::RandomSource;
-use std::sync::Arc;
+use std::sync::{Arc, Wait};
 use std::thread;
+use std::thread::Threads;
+use std::time::Clock;
 
 const OUT_OF_MEMORY: &str = "error: out of memory";
+
+/// The options, a generator that nobody can foresee, and the lines of standard input for the run and for the thread that reads them.
+#[derive(Drop)]
+struct Start<'a> {
+    options: Options<'a>,
+    source: ChaCha20Rng,
+    lines: Arc<LineQueue>,
+    theirs: Arc<LineQueue>,
+}
 
 /// Status 0 at the end of standard input or at `quit`, 1 at a fault of a file, a socket or standard output, or for want of memory,
 /// 2 at one of the command line.
@@ -43,21 +54,48 @@ fn main(rt: HostRuntime) -> ExitCode {
         Ok(matches) => matches,
         Err(status) => return status,
     };
-    let (options, source) = match prepare(&rt, alloc, &matches) {
-        Ok(prepared) => prepared,
+    let start = match prepare(&rt, alloc, &matches) {
+        Ok(start) => start,
         Err(fault) => return told(&rt, fault.status, &fault.reason),
     };
-    let Ok((lines, theirs)) = line_queue(alloc) else {
-        return failed(&rt, 1, OUT_OF_MEMORY);
-    };
+    let Start {
+        options,
+        source,
+        lines,
+        theirs,
+    } = start;
     // Nothing can end a read of standard input, so its thread may outlive the run, and isn't joined.
     let own = rt;
-    if thread::spawn(&rt, move || read_input(&own, alloc, &theirs)).is_err() {
-        return failed(&rt, 1, "error: no thread can be made");
+    let is_read = thread::spawn(&rt, move || read_input(&own, alloc, &theirs)).is_ok();
+    serve(&rt, alloc, options, source, &lines, is_read)
+}
+
+/// Runs a node with these options, if standard input is read.
+fn serve<R>(
+    rt: &R,
+    alloc: Global,
+    options: Options<'_>,
+    source: ChaCha20Rng,
+    lines: &LineQueue,
+    is_read: bool,
+) -> ExitCode
+where
+    R: AllocGlobal
+        + Net<Listener = TcpListener, Stream = TcpStream>
+        + Threads
+        + Wait
+        + Clock
+        + Files
+        + Print
+        + Eprint
+        + Sync,
+{
+    if !is_read {
+        return failed(rt, 1, "error: no thread can be made");
     }
-    match run(&rt, alloc, options, source, &lines) {
+    match run(rt, alloc, options, source, lines) {
         Ok(()) => ExitCode::SUCCESS,
-        Err(reason) => told(&rt, 1, &reason),
+        Err(reason) => told(rt, 1, &reason),
     }
 }
 
@@ -96,8 +134,25 @@ fn line_queue(alloc: Global) -> Result<(Arc<LineQueue>, Arc<LineQueue>), AllocEr
     Ok((lines, theirs))
 }
 
-/// The options, and a generator that nobody can foresee.
+/// What the program runs with.
 fn prepare<'a, R: RandomSource + Files + Net>(
+    rt: &R,
+    alloc: Global,
+    matches: &ArgMatches<'a>,
+) -> Result<Start<'a>, Fault> {
+    let (options, source) = options_and_source(rt, alloc, matches)?;
+    match line_queue(alloc) {
+        Ok((lines, theirs)) => Ok(Start {
+            options,
+            source,
+            lines,
+            theirs,
+        }),
+        Err(_) => Err(Fault::of_memory()),
+    }
+}
+
+fn options_and_source<'a, R: RandomSource + Files + Net>(
     rt: &R,
     alloc: Global,
     matches: &ArgMatches<'a>,

@@ -7,6 +7,7 @@ use policy_audit::Opening;
 use rand::Rng;
 use std::alloc::{AllocFailed, Global};
 use std::fs::{self, Files};
+use std::io;
 use std::net::{Net, SocketAddr, ToSocketAddrs};
 use std::os::unix::fs::PermissionsExt;
 use std::time::Duration;
@@ -64,11 +65,15 @@ impl Fault {
     pub fn of_system(error: std::io::Error) -> Fault {
         failed(anyhow!("{error}"))
     }
+
+    pub fn of_memory() -> Fault {
+        failed(anyhow!("out of memory"))
+    }
 }
 
 impl<T: Drop> From<AllocFailed<T>> for Fault {
     fn from(_error: AllocFailed<T>) -> Fault {
-        failed(anyhow!("out of memory"))
+        Fault::of_memory()
     }
 }
 
@@ -92,90 +97,68 @@ pub fn command<'a>(alloc: Global) -> Result<Command<'a>, ClapError> {
         .arg(name)?;
     let command = peer_arguments(alloc, command)?;
     let command = node_arguments(alloc, command)?;
-    let command = link_arguments(alloc, command)?;
-    Ok(command)
+    link_arguments(alloc, command)
+}
+
+/// The command with one more argument. A function of its own, so that a check meets the clauses of `arg` once.
+fn with<'a>(command: Command<'a>, arg: Arg<'a>) -> Result<Command<'a>, ClapError> {
+    Ok(command.arg(arg)?)
 }
 
 fn peer_arguments<'a>(alloc: Global, command: Command<'a>) -> Result<Command<'a>, ClapError> {
-    Ok(
-        command
-            .arg(text(
-                alloc,
-                "cookie-file",
-                "FILE",
-                "A file with the secret that the node shares with its peers",
-            ))?
-            .arg(text(
-                alloc,
-                "cookie",
-                "TEXT",
-                "The secret itself, which others can see on the command line",
-            ))?
-            .arg(texts(
-                alloc,
-                "cookie-for",
-                "NAME=FILE",
-                "A file with the secret for one peer",
-            ))?
-            .arg(texts(
-                alloc,
-                "allow",
-                "NAME",
-                "A peer that may connect; all may, where none is given",
-            ))?,
-    )
+    let file = "A file with the secret that the node shares with its peers";
+    let command = with(command, text(alloc, "cookie-file", "FILE", file))?;
+    let shown = "The secret itself, which others can see on the command line";
+    let command = with(command, text(alloc, "cookie", "TEXT", shown))?;
+    let files = "A file with the secret for one peer";
+    let command = with(command, texts(alloc, "cookie-for", "NAME=FILE", files))?;
+    let peers = "A peer that may connect; all may, where none is given";
+    with(command, texts(alloc, "allow", "NAME", peers))
 }
 
 fn node_arguments<'a>(alloc: Global, command: Command<'a>) -> Result<Command<'a>, ClapError> {
-    let hidden = Arg::new(alloc, "hidden")
+    let command = with(command, hidden(alloc))?;
+    let command = with(command, creation(alloc))?;
+    let command = with(command, entries(alloc))?;
+    let audit = "Where audits that have ended are written";
+    with(command, text(alloc, "audit", "FILE", audit))
+}
+
+fn hidden<'a>(alloc: Global) -> Arg<'a> {
+    Arg::new(alloc, "hidden")
         .long("hidden")
         .help("Makes each link a hidden one")
-        .action(ArgAction::SetTrue);
-    let creation = Arg::new(alloc, "creation")
+        .action(ArgAction::SetTrue)
+}
+
+fn creation<'a>(alloc: Global) -> Arg<'a> {
+    Arg::new(alloc, "creation")
         .long("creation")
         .value_name("N")
         .help("The node's creation, at least 1; drawn where it isn't given")
-        .value_parser(value_parser!(u32).range(1..));
-    let entries = Arg::new(alloc, "entries")
+        .value_parser(value_parser!(u32).range(1..))
+}
+
+fn entries<'a>(alloc: Global) -> Arg<'a> {
+    Arg::new(alloc, "entries")
         .long("entries")
         .value_name("N")
         .help("The most entries of an audit, at least 64; the node begins anew before it is full")
         .value_parser(value_parser!(u32).range(64..))
-        .default_value("1000000");
-    let audit = text(
-        alloc,
-        "audit",
-        "FILE",
-        "Where audits that have ended are written",
-    );
-    Ok(
-        command
-            .arg(hidden)?
-            .arg(creation)?
-            .arg(entries)?
-            .arg(audit)?,
-    )
+        .default_value("1000000")
 }
 
 fn link_arguments<'a>(alloc: Global, command: Command<'a>) -> Result<Command<'a>, ClapError> {
-    Ok(
-        command
-            .arg(text(
-                alloc,
-                "listen",
-                "ADDR:PORT",
-                "Where peers connect; port 0 is a free one",
-            ))?
-            .arg(texts(alloc, "dial", "NAME=HOST:PORT", "A peer to keep a link to"))?
-            .arg(text(alloc, "control", "PATH", "A Unix socket for commands"))?
-            .arg(millis(alloc, "setuptime", "For a whole handshake").default_value("7000"))?
-            .arg(millis(
-                alloc,
-                "ticktime",
-                "A link is lost that is silent for so long",
-            )
-            .default_value("60000"))?,
-    )
+    let listen = "Where peers connect; port 0 is a free one";
+    let command = with(command, text(alloc, "listen", "ADDR:PORT", listen))?;
+    let dial = "A peer to keep a link to";
+    let command = with(command, texts(alloc, "dial", "NAME=HOST:PORT", dial))?;
+    let control = "A Unix socket for commands";
+    let command = with(command, text(alloc, "control", "PATH", control))?;
+    let setup = "For a whole handshake";
+    let command = with(command, millis(alloc, "setuptime", "7000", setup))?;
+    let tick = "A link is lost that is silent for so long";
+    with(command, millis(alloc, "ticktime", "60000", tick))
 }
 
 fn text<'a>(alloc: Global, name: &'a str, value: &'a str, help: &'a str) -> Arg<'a> {
@@ -189,8 +172,10 @@ fn texts<'a>(alloc: Global, name: &'a str, value: &'a str, help: &'a str) -> Arg
     text(alloc, name, value, help).action(ArgAction::Append)
 }
 
-fn millis<'a>(alloc: Global, name: &'a str, help: &'a str) -> Arg<'a> {
-    text(alloc, name, "MS", help).value_parser(value_parser!(u32).range(8..))
+fn millis<'a>(alloc: Global, name: &'a str, usual: &'a str, help: &'a str) -> Arg<'a> {
+    text(alloc, name, "MS", help)
+        .value_parser(value_parser!(u32).range(8..))
+        .default_value(usual)
 }
 
 /// What the program runs with. Files with cookies are read, and names of hosts are looked up.
@@ -200,16 +185,38 @@ pub fn read_options<'a, R: Files + Net>(
     words: &mut impl Rng,
     matches: &ArgMatches<'a>,
 ) -> Result<Options<'a>, Fault> {
+    let (opening, listen) = node_options(rt, alloc, words, matches)?;
+    let (targets, allowed, cookies) = peer_options(rt, alloc, matches)?;
     Ok(Options {
-        opening: opening(rt, alloc, words, matches)?,
-        listen: listen(matches)?,
-        targets: targets(rt, alloc, matches)?,
+        opening,
+        listen,
+        targets,
         limits: limits(matches),
-        allowed: allowed(alloc, matches)?,
-        cookies: cookies(rt, alloc, matches)?,
+        allowed,
+        cookies,
         control: matches.get_str("control"),
         audit: matches.get_str("audit"),
     })
+}
+
+fn node_options<R: Files>(
+    rt: &R,
+    alloc: Global,
+    words: &mut impl Rng,
+    matches: &ArgMatches<'_>,
+) -> Result<(Opening, Option<SocketAddr>), Fault> {
+    let opening = opening(rt, alloc, words, matches)?;
+    Ok((opening, listen(matches)?))
+}
+
+fn peer_options<R: Files + Net>(
+    rt: &R,
+    alloc: Global,
+    matches: &ArgMatches<'_>,
+) -> Result<(Vec<Target>, Vec<NodeName>, Vec<(NodeName, Cookie)>), Fault> {
+    let targets = targets(rt, alloc, matches)?;
+    let allowed = allowed(alloc, matches)?;
+    Ok((targets, allowed, cookies(rt, alloc, matches)?))
 }
 
 fn opening<R: Files>(
@@ -253,15 +260,28 @@ fn own_cookie<R: Files>(rt: &R, alloc: Global, matches: &ArgMatches<'_>) -> Resu
 
 /// The cookie in a file, which ends with its first line. Others than the owner may have no right to the file.
 fn read_cookie<R: Files>(rt: &R, alloc: Global, path: &str) -> Result<Cookie, Fault> {
-    let unread = |error: std::io::Error| failed(anyhow!("{path:.80}: {error}"));
-    let mode = fs::metadata(rt, path).map_err(unread)?.permissions().mode();
+    let mode = mode_of(rt, path).map_err(|error| unread(path, error))?;
     if mode & OTHERS != 0 {
         return Err(failed(anyhow!(
             "{path:.60}: others can read this file of a cookie (chmod 600)"
         )));
     }
-    let text = fs::read(&(rt, alloc), path).map_err(unread)?;
-    Cookie::parse(alloc, first_line(text.as_slice())).map_err(|fault| failed(anyhow!(
+    match fs::read(&(rt, alloc), path) {
+        Ok(text) => parse_cookie(alloc, path, text.as_slice()),
+        Err(error) => Err(unread(path, error)),
+    }
+}
+
+fn mode_of<R: Files>(rt: &R, path: &str) -> io::Result<u32> {
+    Ok(fs::metadata(rt, path)?.permissions().mode())
+}
+
+fn unread(path: &str, error: io::Error) -> Fault {
+    failed(anyhow!("{path:.80}: {error}"))
+}
+
+fn parse_cookie(alloc: Global, path: &str, text: &[u8]) -> Result<Cookie, Fault> {
+    Cookie::parse(alloc, first_line(text)).map_err(|fault| failed(anyhow!(
         "{path:.60}: the cookie: {fault}"
     )))
 }
@@ -282,15 +302,17 @@ fn cookies<R: Files>(
 ) -> Result<Vec<(NodeName, Cookie)>, Fault> {
     let mut cookies = Vec::new(alloc);
     for word in matches.get_strs("cookie-for").unwrap_or(&[]) {
-        let Some((peer, path)) = word.split_once('=') else {
-            return Err(misused(anyhow!("--cookie-for: no NAME=FILE: {word:.60}")));
-        };
-        cookies.push((
-            name(alloc, "--cookie-for", peer)?,
-            read_cookie(rt, alloc, path)?,
-        ))?;
+        cookies.push(cookie_for(rt, alloc, word)?)?;
     }
     Ok(cookies)
+}
+
+fn cookie_for<R: Files>(rt: &R, alloc: Global, word: &str) -> Result<(NodeName, Cookie), Fault> {
+    let Some((peer, path)) = word.split_once('=') else {
+        return Err(misused(anyhow!("--cookie-for: no NAME=FILE: {word:.60}")));
+    };
+    let peer = name(alloc, "--cookie-for", peer)?;
+    Ok((peer, read_cookie(rt, alloc, path)?))
 }
 
 fn allowed(alloc: Global, matches: &ArgMatches<'_>) -> Result<Vec<NodeName>, Fault> {
@@ -313,19 +335,25 @@ fn listen(matches: &ArgMatches<'_>) -> Result<Option<SocketAddr>, Fault> {
 
 fn targets<R: Net>(rt: &R, alloc: Global, matches: &ArgMatches<'_>) -> Result<Vec<Target>, Fault> {
     let mut targets = Vec::new(alloc);
+    let own = matches.get_str("NAME");
     for word in matches.get_strs("dial").unwrap_or(&[]) {
-        let Some((peer, place)) = word.split_once('=') else {
-            return Err(misused(anyhow!("--dial: no NAME=HOST:PORT: {word:.60}")));
-        };
-        if Some(peer) == matches.get_str("NAME") {
-            return Err(misused(anyhow!("--dial: the node's own name: {word:.60}")));
-        }
-        targets.push(Target {
-            peer: name(alloc, "--dial", peer)?,
-            addr: look_up(rt, place)?,
-        })?;
+        targets.push(target(rt, alloc, own, word)?)?;
     }
     Ok(targets)
+}
+
+fn target<R: Net>(rt: &R, alloc: Global, own: Option<&str>, word: &str) -> Result<Target, Fault> {
+    let Some((peer, place)) = word.split_once('=') else {
+        return Err(misused(anyhow!("--dial: no NAME=HOST:PORT: {word:.60}")));
+    };
+    if Some(peer) == own {
+        return Err(misused(anyhow!("--dial: the node's own name: {word:.60}")));
+    }
+    let peer = name(alloc, "--dial", peer)?;
+    Ok(Target {
+        peer,
+        addr: look_up(rt, place)?,
+    })
 }
 
 /// The first address of a host and port.

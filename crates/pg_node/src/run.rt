@@ -6,7 +6,7 @@ use crate::lines::LineQueue;
 use crate::operator::Operator;
 use crate::options::Options;
 use crate::settings::given;
-use crate::turn::{LaneMaker, begin, copy, finish, turn};
+use crate::turn::{LaneMaker, begin, finish, turn};
 use anyhow::{Result, anyhow, bail};
 use node_net::Lane;
 use pg_session::Seen;
@@ -26,8 +26,12 @@ use std::time::Clock;
 struct Plan<'a> {
     opening: Opening,
     links: Links,
+    /// Where peers are to connect.
+    listen: Option<SocketAddr>,
     /// Where peers connect, with the port that was got.
     addr: Option<SocketAddr>,
+    /// The path of the control socket.
+    control: Option<&'a str>,
     /// The path of the file for audits that have ended.
     audit: Option<&'a str>,
     maker: LaneMaker,
@@ -42,17 +46,20 @@ impl<'a> Plan<'a> {
     ) -> Result<(Plan<'a>, Vec<Event>)> {
         let Options {
             opening,
+            listen,
             targets,
             limits,
             allowed,
             cookies,
+            control,
             audit,
-            ..
         } = options;
         let plan = Plan {
             opening,
             links: Links { targets, limits },
+            listen,
             addr: None,
+            control,
             audit,
             maker: LaneMaker::new(words),
         };
@@ -78,32 +85,80 @@ where
         + Eprint
         + Sync,
 {
-    let number = options.opening.creation;
-    let (listen, control, audit) = (options.listen, options.control, options.audit);
     let (mut plan, settings) = Plan::of(alloc, options, words)?;
-    let opening = copy(alloc, &plan.opening)?;
-    let (hub, lanes) = begin(rt, alloc, opening, settings, &mut plan.maker)?;
-    let listener = listen_at(rt, listen, &mut plan)?;
-    let door = open_door(rt, alloc, control, number)?;
-    let door = door.as_ref();
-    let ended = serve(rt, alloc, &hub, &mut plan, listener, lanes, door, lines);
-    if let Some(path) = control {
+    run_plan(rt, alloc, &mut plan, settings, lines)
+}
+
+fn run_plan<R>(
+    rt: &R,
+    alloc: Global,
+    plan: &mut Plan<'_>,
+    settings: Vec<Event>,
+    lines: &LineQueue,
+) -> Result<()>
+where
+    R: Net<Listener = TcpListener, Stream = TcpStream>
+        + Threads
+        + Wait
+        + Clock
+        + Files
+        + Print
+        + Eprint
+        + Sync,
+{
+    let (hub, lanes) = begin(rt, alloc, &plan.opening, settings, &mut plan.maker)?;
+    let ended = open_and_serve(rt, alloc, &hub, plan, lanes, lines)?;
+    finish(rt, alloc, hub, ended, plan.audit)
+}
+
+/// Serves all connections and links at the addresses of the plan. The lanes come back.
+fn open_and_serve<R>(
+    rt: &R,
+    alloc: Global,
+    hub: &Hub,
+    plan: &mut Plan<'_>,
+    lanes: Vec<Lane>,
+    lines: &LineQueue,
+) -> Result<Vec<Lane>>
+where
+    R: Net<Listener = TcpListener, Stream = TcpStream>
+        + Threads
+        + Wait
+        + Clock
+        + Files
+        + Print
+        + Eprint
+        + Sync,
+{
+    let (listener, door) = open(rt, alloc, plan)?;
+    let ended = serve(rt, alloc, hub, plan, listener, lanes, door.as_ref(), lines);
+    if let Some(path) = plan.control {
         // The path is gone where somebody else has taken it away.
         fs::remove_file(rt, path).ok();
     }
-    finish(rt, alloc, hub, ended?, audit)
+    ended
+}
+
+/// Opens the addresses where peers and clients connect, if there are any.
+fn open<R>(
+    rt: &R,
+    alloc: Global,
+    plan: &mut Plan<'_>,
+) -> Result<(Option<TcpListener>, Option<UnixListener>)>
+where
+    R: Net<Listener = TcpListener, Stream = TcpStream> + Files + Print + Eprint,
+{
+    let listener = listen_at(rt, plan)?;
+    let door = open_door(rt, alloc, plan.control, plan.opening.creation)?;
+    Ok((listener, door))
 }
 
 /// Opens the address where peers connect, if there is one.
-fn listen_at<R>(
-    rt: &R,
-    addr: Option<SocketAddr>,
-    plan: &mut Plan<'_>,
-) -> Result<Option<TcpListener>>
+fn listen_at<R>(rt: &R, plan: &mut Plan<'_>) -> Result<Option<TcpListener>>
 where
     R: Net<Listener = TcpListener, Stream = TcpStream> + Print + Eprint,
 {
-    let Some(addr) = addr else {
+    let Some(addr) = plan.listen else {
         return Ok(None);
     };
     let listener = bind(rt, addr)?;
@@ -212,25 +267,33 @@ where
     let mut listener = listener;
     let mut lanes = lanes;
     for _ in rt.forever() {
-        lanes = live(rt, alloc, hub, &plan.links, listener, lanes);
+        let ended = live(rt, alloc, hub, &plan.links, listener, lanes);
         if hub.is_quitting() {
-            return Ok(lanes);
+            return Ok(ended);
         }
-        lanes = turn(
-            rt,
-            alloc,
-            hub,
-            lanes,
-            &mut plan.maker,
-            plan.audit,
-            &mut plan.opening,
-        )?;
-        listener = match plan.addr {
-            Some(addr) => Some(bind(rt, addr)?),
-            None => None,
-        };
+        (listener, lanes) = live_again(rt, alloc, hub, plan, ended)?;
     }
     unreachable!()
+}
+
+/// What the next life is begun with.
+fn live_again<R>(
+    rt: &R,
+    alloc: Global,
+    hub: &Hub,
+    plan: &mut Plan<'_>,
+    ended: Vec<Lane>,
+) -> Result<(Option<TcpListener>, Vec<Lane>)>
+where
+    R: Net<Listener = TcpListener, Stream = TcpStream> + Wait + Files,
+{
+    let (maker, opening) = (&mut plan.maker, &mut plan.opening);
+    let lanes = turn(rt, alloc, hub, ended, maker, plan.audit, opening)?;
+    let listener = match plan.addr {
+        Some(addr) => Some(bind(rt, addr)?),
+        None => None,
+    };
+    Ok((listener, lanes))
 }
 
 /// Starts the threads for commands: whether all could be made.

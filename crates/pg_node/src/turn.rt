@@ -6,6 +6,7 @@ use crate::settings::held;
 use anyhow::{Result, bail};
 use cookie_digest::ChallengeSource;
 use dist_types::TryClone;
+use node_core::NodeCore;
 use node_net::Lane;
 use node_threads::{Node, Pass};
 use pg_session::{Caller, Session};
@@ -43,10 +44,15 @@ impl LaneMaker {
         }
     }
 
-    fn make_all(&mut self, alloc: Global, mut passes: vec::IntoIter<Pass>) -> Result<Vec<Lane>> {
+    fn make_next(&mut self, passes: &mut vec::IntoIter<Pass>) -> Result<Lane> {
+        let reader = next_pass(passes)?;
+        self.make(reader, next_pass(passes)?)
+    }
+
+    fn make_all(&mut self, alloc: Global, passes: &mut vec::IntoIter<Pass>) -> Result<Vec<Lane>> {
         let mut lanes = Vec::new(alloc);
         for _ in 0..LANES {
-            lanes.push(self.make(next_pass(&mut passes)?, next_pass(&mut passes)?)?)?;
+            lanes.push(self.make_next(passes)?)?;
         }
         Ok(lanes)
     }
@@ -70,21 +76,48 @@ fn next_caller(passes: &mut vec::IntoIter<Pass>) -> Result<Caller> {
 pub fn begin<R: Wait>(
     rt: &R,
     alloc: Global,
-    opening: Opening,
+    opening: &Opening,
     settings: Vec<Event>,
     maker: &mut LaneMaker,
 ) -> Result<(Hub, Vec<Lane>)> {
-    let entries = opening.entries;
-    let (node, passes) = Node::new(alloc, opening, PASSES)?;
+    let (node, passes) = Node::new(alloc, copy(alloc, opening)?, PASSES)?;
     let mut passes = passes.into_iter();
-    let mut keeper = next_pass(&mut passes)?;
-    set_up(rt, &node, &mut keeper, settings)?;
+    let (house, lanes) = settle_in(rt, alloc, &node, &mut passes, settings, maker)?;
+    Ok((Hub::new(node, house, opening.entries), lanes))
+}
+
+/// Gives all passes of a new node away.
+fn settle_in<R: Wait>(
+    rt: &R,
+    alloc: Global,
+    node: &Node,
+    passes: &mut vec::IntoIter<Pass>,
+    settings: Vec<Event>,
+    maker: &mut LaneMaker,
+) -> Result<(House, Vec<Lane>)> {
+    let keeper = new_keeper(rt, node, passes, settings)?;
+    let sessions = new_sessions(alloc, passes)?;
+    let house = House { keeper, sessions };
+    Ok((house, maker.make_all(alloc, passes)?))
+}
+
+fn new_keeper<R: Wait>(
+    rt: &R,
+    node: &Node,
+    passes: &mut vec::IntoIter<Pass>,
+    settings: Vec<Event>,
+) -> Result<Pass> {
+    let mut keeper = next_pass(passes)?;
+    set_up(rt, node, &mut keeper, settings)?;
+    Ok(keeper)
+}
+
+fn new_sessions(alloc: Global, passes: &mut vec::IntoIter<Pass>) -> Result<Vec<Session>> {
     let mut sessions = Vec::new(alloc);
     for _ in 0..SEATS {
-        sessions.push(Session::new(alloc, next_caller(&mut passes)?))?;
+        sessions.push(Session::new(alloc, next_caller(passes)?))?;
     }
-    let lanes = maker.make_all(alloc, passes)?;
-    Ok((Hub::new(node, House { keeper, sessions }, entries), lanes))
+    Ok(sessions)
 }
 
 /// Says what holds before the first link.
@@ -110,19 +143,69 @@ pub fn turn<R: Wait + Files>(
     opening.creation = opening.creation.wrapping_add(1).max(1);
     let (ended, passes) = Node::new(alloc, copy(alloc, opening)?, PASSES)?;
     let mut passes = passes.into_iter();
+    turn_with(rt, alloc, hub, ended, &mut passes, lanes, file)?;
+    maker.make_all(alloc, &mut passes)
+}
+
+/// Begins the life of a new node, and ends that of the old one in its place.
+fn turn_with<R: Wait + Files>(
+    rt: &R,
+    alloc: Global,
+    hub: &Hub,
+    node: Node,
+    passes: &mut vec::IntoIter<Pass>,
+    lanes: Vec<Lane>,
+    file: Option<&str>,
+) -> Result<()> {
     let mut old = passes_of(alloc, lanes)?;
-    let mut house = hub.house.lock(rt);
-    swap(&mut *hub.node.shared.lock(rt), &mut *ended.shared.lock(rt));
-    let settings = held(alloc, ended.shared.lock(rt).core())?;
-    change_passes(rt, hub, &mut house, &mut passes, &mut old)?;
-    set_up(rt, &hub.node, &mut house.keeper, settings)?;
-    drop(house);
+    change_lives(rt, alloc, hub, &node, passes, &mut old)?;
+    close(rt, alloc, node, old, file)
+}
+
+/// Puts a new life into the hub, and the old one into this node.
+fn change_lives<R: Wait>(
+    rt: &R,
+    alloc: Global,
+    hub: &Hub,
+    node: &Node,
+    passes: &mut vec::IntoIter<Pass>,
+    old: &mut Vec<Pass>,
+) -> Result<()> {
+    change_house(rt, alloc, hub, node, passes, old)?;
     hub.wake(rt);
     if hub.is_nearly_full(hub.node.shared.lock(rt).core()) {
         bail!("--entries: too few for the cookies, names and scopes that were set");
     }
-    close(rt, alloc, ended, old, file)?;
-    maker.make_all(alloc, passes)
+    Ok(())
+}
+
+/// The same under the lock of the house.
+fn change_house<R: Wait>(
+    rt: &R,
+    alloc: Global,
+    hub: &Hub,
+    ended: &Node,
+    passes: &mut vec::IntoIter<Pass>,
+    old: &mut Vec<Pass>,
+) -> Result<()> {
+    let mut house = hub.house.lock(rt);
+    swap(&mut *hub.node.shared.lock(rt), &mut *ended.shared.lock(rt));
+    begin_anew(rt, alloc, hub, ended, &mut house, passes, old)
+}
+
+/// Gives the house the passes of the new life, which is told what held at the end of the old one.
+fn begin_anew<R: Wait>(
+    rt: &R,
+    alloc: Global,
+    hub: &Hub,
+    ended: &Node,
+    house: &mut House,
+    passes: &mut vec::IntoIter<Pass>,
+    old: &mut Vec<Pass>,
+) -> Result<()> {
+    let settings = held(alloc, ended.shared.lock(rt).core())?;
+    change_passes(rt, hub, house, passes, old)?;
+    set_up(rt, &hub.node, &mut house.keeper, settings)
 }
 
 /// Gives the keeper and all sessions the passes of the new life, and takes those of the old one.
@@ -137,15 +220,24 @@ fn change_passes<R: Wait>(
     swap(&mut house.keeper, &mut keeper);
     old.push(keeper)?;
     let shared = hub.node.shared.lock(rt);
-    for session in house.sessions.iter_mut() {
-        let ended = session.begin_anew(next_caller(passes)?, shared.core());
+    change_callers(shared.core(), &mut house.sessions, passes, old)
+}
+
+fn change_callers(
+    core: &NodeCore,
+    sessions: &mut Vec<Session>,
+    passes: &mut vec::IntoIter<Pass>,
+    old: &mut Vec<Pass>,
+) -> Result<()> {
+    for session in sessions.iter_mut() {
+        let ended = session.begin_anew(next_caller(passes)?, core);
         old.push(ended.into_pass())?;
     }
     Ok(())
 }
 
 /// A copy of an opening.
-pub fn copy(alloc: Global, opening: &Opening) -> Result<Opening> {
+fn copy(alloc: Global, opening: &Opening) -> Result<Opening> {
     Ok(Opening {
         name: opening.name.try_clone(alloc)?,
         cookie: opening.cookie.try_clone(alloc)?,
@@ -174,13 +266,23 @@ pub fn finish<R: Wait + Files>(
     file: Option<&str>,
 ) -> Result<()> {
     let (node, house) = hub.into_parts();
-    let House { keeper, sessions } = house;
+    let passes = all_passes(alloc, lanes, house)?;
+    close(rt, alloc, node, passes, file)
+}
+
+fn all_passes(alloc: Global, lanes: Vec<Lane>, house: House) -> Result<Vec<Pass>> {
     let mut passes = passes_of(alloc, lanes)?;
+    let House { keeper, sessions } = house;
     passes.push(keeper)?;
+    add_sessions(sessions, &mut passes)?;
+    Ok(passes)
+}
+
+fn add_sessions(sessions: Vec<Session>, passes: &mut Vec<Pass>) -> Result<()> {
     for session in sessions {
         passes.push(session.into_caller().into_pass())?;
     }
-    close(rt, alloc, node, passes, file)
+    Ok(())
 }
 
 /// Settles all passes of a life that has ended, and writes its audit.
