@@ -156,11 +156,16 @@ fn put_call<R: Wait, S: Subject>(
     subject: &S,
     deed: S::Deed,
 ) -> Result<(), OutOfMemory> {
-    if writeln!(out, "{number} {deed:?}").is_err() {
-        return Err(OutOfMemory);
-    }
+    put_deed(number, &deed, out)?;
     subject.tell(rt, out)?;
     put_state(rt, out, subject)
+}
+
+fn put_deed<D: Debug>(number: u32, deed: &D, out: &mut Vec<u8>) -> Result<(), OutOfMemory> {
+    match writeln!(out, "{number} {deed:?}") {
+        Ok(()) => Ok(()),
+        Err(_) => Err(OutOfMemory),
+    }
 }
 
 fn put_state<R: Wait, S: Subject>(

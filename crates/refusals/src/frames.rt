@@ -7,7 +7,7 @@ use dist_types::{
 };
 use handshake_frames::{Fed, HsFrame, HsReader, StatusWord};
 use link_frames::{FeedFault, LinkReader, Message, MessageFault};
-use policy_audit::OutFrame;
+use policy_audit::{Event, OutFrame};
 use std::alloc::Global;
 use std::io::Write;
 use std::sync::Wait;
@@ -115,20 +115,7 @@ impl Subject for Desk {
     type Deed = Deed;
 
     fn make<R: Wait>(&mut self, _rt: &R, deed: Deed) -> Result<(), OutOfMemory> {
-        self.answer = match deed {
-            Deed::Name(text) => parsed(NodeName::parse(self.alloc, text))?,
-            Deed::Cookie(text) => parsed(Cookie::parse(self.alloc, text))?,
-            Deed::Scope(text) => parsed(Scope::parse(self.alloc, text))?,
-            Deed::Group(text) => parsed(Group::parse(self.alloc, text))?,
-            Deed::Share => shared(self.alloc)?,
-            Deed::Copy(line) => copied(self.alloc, line)?,
-            Deed::Handshake(piece) => Answer::Fed(self.handshake.feed(piece)?),
-            Deed::Messages(piece) => self.feed(piece)?,
-            Deed::Read(body) => read(self.alloc, body)?,
-            Deed::Write(body) => self.write(body)?,
-            Deed::WriteStatus => self.write_status()?,
-            Deed::Wire(wide, body) => self.wire(wide, body)?,
-        };
+        self.answer = self.answer_to(deed)?;
         Ok(())
     }
 
@@ -156,27 +143,48 @@ fn parsed<T: Drop>(text: Result<T, TextFault>) -> Result<Answer, OutOfMemory> {
 }
 
 fn shared(alloc: Global) -> Result<Answer, OutOfMemory> {
-    let Ok(node) = NodeName::parse(alloc, b"a@h") else {
-        return Err(OutOfMemory);
-    };
-    let mut pids = Vec::new(alloc);
-    for number in [1, 2] {
-        pids.push(Pid {
-            node: node.try_clone(alloc)?,
-            creation: 1,
-            number,
-        })?;
-    }
-    let list = Shared::of(pids)?;
+    let list = Shared::of(pids(alloc)?)?;
     let copy = list.try_clone(alloc)?;
     Ok(Answer::Shared(list, copy))
 }
 
-/// Whether a copy of the event is the event.
+fn pids(alloc: Global) -> Result<Vec<Pid>, OutOfMemory> {
+    match NodeName::parse(alloc, b"a@h") {
+        Ok(node) => pids_of(alloc, &node),
+        Err(_) => Err(OutOfMemory),
+    }
+}
+
+/// The first two processes of a node.
+fn pids_of(alloc: Global, node: &NodeName) -> Result<Vec<Pid>, OutOfMemory> {
+    let mut pids = Vec::new(alloc);
+    for number in [1, 2] {
+        pids.push(pid(alloc, node, number)?)?;
+    }
+    Ok(pids)
+}
+
+fn pid(alloc: Global, node: &NodeName, number: u64) -> Result<Pid, OutOfMemory> {
+    Ok(Pid {
+        node: node.try_clone(alloc)?,
+        creation: 1,
+        number,
+    })
+}
+
 fn copied(alloc: Global, line: &str) -> Result<Answer, OutOfMemory> {
     let event = step_of(alloc, line.as_bytes())?;
+    compared(alloc, &event)
+}
+
+/// Whether a copy of the event is the event.
+fn compared(alloc: Global, event: &Event) -> Result<Answer, OutOfMemory> {
     let copy = event.try_clone(alloc)?;
-    Ok(Answer::Copied(event == copy))
+    Ok(Answer::Copied(is_same(event, &copy)))
+}
+
+fn is_same(event: &Event, copy: &Event) -> bool {
+    *event == *copy
 }
 
 fn read(alloc: Global, body: &[u8]) -> Result<Answer, OutOfMemory> {
@@ -188,6 +196,27 @@ fn read(alloc: Global, body: &[u8]) -> Result<Answer, OutOfMemory> {
 }
 
 impl Desk {
+    fn answer_to(&mut self, deed: Deed) -> Result<Answer, OutOfMemory> {
+        match deed {
+            Deed::Name(text) => parsed(NodeName::parse(self.alloc, text)),
+            Deed::Cookie(text) => parsed(Cookie::parse(self.alloc, text)),
+            Deed::Scope(text) => parsed(Scope::parse(self.alloc, text)),
+            Deed::Group(text) => parsed(Group::parse(self.alloc, text)),
+            Deed::Share => shared(self.alloc),
+            Deed::Copy(line) => copied(self.alloc, line),
+            Deed::Handshake(piece) => self.shake(piece),
+            Deed::Messages(piece) => self.feed(piece),
+            Deed::Read(body) => read(self.alloc, body),
+            Deed::Write(body) => self.write(body),
+            Deed::WriteStatus => self.write_status(),
+            Deed::Wire(wide, body) => self.wire(wide, body),
+        }
+    }
+
+    fn shake(&mut self, piece: &[u8]) -> Result<Answer, OutOfMemory> {
+        Ok(Answer::Fed(self.handshake.feed(piece)?))
+    }
+
     fn feed(&mut self, piece: &[u8]) -> Result<Answer, OutOfMemory> {
         match self.messages.feed(piece) {
             Ok(fed) => Ok(Answer::Fed(fed)),

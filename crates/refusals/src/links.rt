@@ -1,7 +1,7 @@
 //! The workers of a link over a reader and a writer that fail: why each stopped, and what its pass has called.
 use crate::calls::{Log, insisted};
 use crate::failing::{Giving, Open, Taking};
-use crate::nodes::opening;
+use crate::nodes::{close_node, new_node};
 use crate::rows::{put_hex, put_judged, step_of};
 use anyhow::{Result, bail};
 use dist_types::{Body, OutOfMemory};
@@ -50,7 +50,7 @@ pub fn read_once<R: Print + Eprint + Wait + Sync>(
     log: &mut Log,
     text: &str,
 ) -> Result<()> {
-    let scene = insisted(rt, "scene", || scene_of(alloc, text))?;
+    let scene = set_scene(rt, alloc, text)?;
     read(rt, alloc, log, &scene, usize::MAX)
 }
 
@@ -75,39 +75,79 @@ pub fn write_once<R: Print + Eprint + Wait + Sync>(
     log: &mut Log,
     text: &str,
 ) -> Result<()> {
-    let scene = insisted(rt, "scene", || scene_of(alloc, text))?;
+    let scene = set_scene(rt, alloc, text)?;
     let fails_at = scene.bytes.as_slice().len().saturating_sub(1);
     write(rt, alloc, log, &scene, fails_at)
+}
+
+fn set_scene<'a, R: Eprint>(rt: &R, alloc: Global, text: &'a str) -> Result<Scene<'a>> {
+    insisted(rt, "scene", || scene_of(alloc, text))
 }
 
 /// What a text says: a frame with the link and the bytes, and the lines of a script.
 fn scene_of<'a>(alloc: Global, text: &'a str) -> Result<Scene<'a>, OutOfMemory> {
     let (first, script) = text.split_once('\n').unwrap_or((text, ""));
-    match step_of(alloc, first.as_bytes())? {
-        Event::Frame(link, bytes) => Ok(Scene {
-            link,
-            bytes,
-            script,
-        }),
-        _ => Err(OutOfMemory),
+    let Some((link, bytes)) = frame_of(step_of(alloc, first.as_bytes())?) else {
+        return Err(OutOfMemory);
+    };
+    Ok(Scene {
+        link,
+        bytes,
+        script,
+    })
+}
+
+fn frame_of(event: Event) -> Option<(u32, Body)> {
+    match event {
+        Event::Frame(link, bytes) => Some((link, bytes)),
+        _ => None,
     }
 }
 
 /// A new node that has played the script.
-fn set_stage<R: Wait + Sync>(rt: &R, alloc: Global, script: &str) -> Result<Stage, OutOfMemory> {
-    let Ok((node, mut passes)) = Node::new(alloc, opening(alloc)?, 2) else {
-        return Err(OutOfMemory);
-    };
-    let Some(caller) = passes.first_mut() else {
+fn set_stage<R: Eprint + Wait + Sync>(rt: &R, alloc: Global, script: &str) -> Result<Stage> {
+    insisted(rt, "stage", || stage_of(rt, alloc, script))
+}
+
+fn stage_of<R: Wait + Sync>(rt: &R, alloc: Global, script: &str) -> Result<Stage, OutOfMemory> {
+    let mut stage = new_stage(alloc)?;
+    call_lines(rt, alloc, &mut stage, script)?;
+    Ok(stage)
+}
+
+fn new_stage(alloc: Global) -> Result<Stage, OutOfMemory> {
+    let (node, passes) = new_node(alloc)?;
+    Ok(Stage { node, passes })
+}
+
+/// Calls each line's event by the first pass.
+fn call_lines<R: Wait + Sync>(
+    rt: &R,
+    alloc: Global,
+    stage: &mut Stage,
+    script: &str,
+) -> Result<(), OutOfMemory> {
+    let Some(caller) = stage.passes.first_mut() else {
         return Err(OutOfMemory);
     };
     for line in script.lines() {
-        let event = step_of(alloc, line.as_bytes())?;
-        if let Err(CallFault::Core(CoreFault::OutOfMemory)) = node.call(rt, caller, event) {
-            return Err(OutOfMemory);
-        }
+        call_line(rt, alloc, &stage.node, caller, line)?;
     }
-    Ok(Stage { node, passes })
+    Ok(())
+}
+
+fn call_line<R: Wait + Sync>(
+    rt: &R,
+    alloc: Global,
+    node: &Node,
+    caller: &mut Pass,
+    line: &str,
+) -> Result<(), OutOfMemory> {
+    let event = step_of(alloc, line.as_bytes())?;
+    match node.call(rt, caller, event) {
+        Err(CallFault::Core(CoreFault::OutOfMemory)) => Err(OutOfMemory),
+        _ => Ok(()),
+    }
 }
 
 fn read<R: Print + Eprint + Wait + Sync>(
@@ -117,7 +157,44 @@ fn read<R: Print + Eprint + Wait + Sync>(
     scene: &Scene<'_>,
     fails_at: usize,
 ) -> Result<()> {
-    let mut stage = insisted(rt, "stage", || set_stage(rt, alloc, scene.script))?;
+    let mut stage = set_stage(rt, alloc, scene.script)?;
+    let told = tell_read(rt, alloc, log, &mut stage, scene, fails_at);
+    settle(stage, told)
+}
+
+fn write<R: Print + Eprint + Wait + Sync>(
+    rt: &R,
+    alloc: Global,
+    log: &mut Log,
+    scene: &Scene<'_>,
+    fails_at: usize,
+) -> Result<()> {
+    let mut stage = set_stage(rt, alloc, scene.script)?;
+    let told = tell_write(rt, alloc, log, &mut stage, scene.link, fails_at);
+    settle(stage, told)
+}
+
+/// Reads, and prints how that ended.
+fn tell_read<R: Print + Wait + Sync>(
+    rt: &R,
+    alloc: Global,
+    log: &mut Log,
+    stage: &mut Stage,
+    scene: &Scene<'_>,
+    fails_at: usize,
+) -> Result<()> {
+    put_read(rt, alloc, stage, scene, fails_at, log.begin())?;
+    log.print(rt)
+}
+
+fn put_read<R: Wait + Sync>(
+    rt: &R,
+    alloc: Global,
+    stage: &mut Stage,
+    scene: &Scene<'_>,
+    fails_at: usize,
+    out: &mut Vec<u8>,
+) -> Result<()> {
     let mut input = Giving {
         bytes: scene.bytes.as_slice(),
         at: 0,
@@ -135,30 +212,46 @@ fn read<R: Print + Eprint + Wait + Sync>(
         &mut input,
         &Open,
     );
-    let out = log.begin();
     put_number("read ", input.at as u64, out)?;
     put_worked(&end, worker, out)?;
     put_word("\n", out)?;
-    log.print(rt)?;
-    settle(stage)
+    Ok(())
 }
 
-fn write<R: Print + Eprint + Wait + Sync>(
+/// Writes, and prints how that ended.
+fn tell_write<R: Print + Eprint + Wait + Sync>(
     rt: &R,
     alloc: Global,
     log: &mut Log,
-    scene: &Scene<'_>,
+    stage: &mut Stage,
+    link: u32,
     fails_at: usize,
 ) -> Result<()> {
-    let mut stage = insisted(rt, "stage", || set_stage(rt, alloc, scene.script))?;
     let mut output = insisted(rt, "output", || Taking::new(alloc, fails_at))?;
+    put_written(rt, alloc, stage, link, &mut output, log.begin())?;
+    log.print(rt)
+}
+
+fn put_written<R: Wait + Sync>(
+    rt: &R,
+    alloc: Global,
+    stage: &mut Stage,
+    link: u32,
+    output: &mut Taking,
+    out: &mut Vec<u8>,
+) -> Result<()> {
     let Some(worker) = stage.passes.last_mut() else {
         bail!("a node without passes");
     };
-    let end = write_link(rt, alloc, &stage.node, worker, scene.link, &mut output);
-    let out = log.begin();
+    let end = write_link(rt, alloc, &stage.node, worker, link, output);
     put_number("written ", output.taken.len() as u64, out)?;
     put_worked(&end, worker, out)?;
+    put_output(output, out)?;
+    Ok(())
+}
+
+/// Adds what was taken, and how it ended.
+fn put_output(output: &Taking, out: &mut Vec<u8>) -> Result<(), OutOfMemory> {
     put_word("; ", out)?;
     put_hex(output.taken.as_slice(), out)?;
     put_word(
@@ -170,14 +263,17 @@ fn write<R: Print + Eprint + Wait + Sync>(
         out,
     )?;
     put_number(" late ", u64::from(output.late), out)?;
-    put_word("\n", out)?;
-    log.print(rt)?;
-    settle(stage)
+    put_word("\n", out)
 }
 
 /// Adds why a worker stopped, and what its pass has called.
 fn put_worked<E: Debug>(end: &E, worker: &Pass, out: &mut Vec<u8>) -> Result<()> {
     write!(out, " {end:?}")?;
+    put_calls(worker, out)?;
+    Ok(())
+}
+
+fn put_calls(worker: &Pass, out: &mut Vec<u8>) -> Result<(), OutOfMemory> {
     for call in worker.calls() {
         put_word("; ", out)?;
         put_judged(&call.event, &call.verdict, out)?;
@@ -185,10 +281,11 @@ fn put_worked<E: Debug>(end: &E, worker: &Pass, out: &mut Vec<u8>) -> Result<()>
     Ok(())
 }
 
-/// Closes the node.
-fn settle(stage: Stage) -> Result<()> {
+/// Closes the node, where it was told what came of it.
+fn settle(stage: Stage, told: Result<()>) -> Result<()> {
+    told?;
     let Stage { node, passes } = stage;
-    if node.close(passes).is_err() {
+    if close_node(node, passes).is_none() {
         bail!("the node is not closed");
     }
     Ok(())

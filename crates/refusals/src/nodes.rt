@@ -3,7 +3,7 @@ use crate::calls::{Log, Subject, begin, insisted, play};
 use crate::rows::command_of;
 use anyhow::Result;
 use dist_types::{Cookie, Group, NodeName, OutOfMemory, Scope};
-use node_core::{CoreFault, NodeCore, Query};
+use node_core::{Awaiting, CoreFault, NodeCore, Query};
 use node_threads::{CallFault, CloseFault, Closed, Node, Pass};
 use pg_text::{
     Command, is_quiet, put_accepted, put_bytes, put_entry, put_number, put_numbered_line, put_step,
@@ -61,16 +61,21 @@ pub fn play_script<R: Print + Eprint + Wait>(
     text: &str,
 ) -> Result<()> {
     let mut room = insisted(rt, "node", || Room::new(alloc, text))?;
-    begin(rt, log, &room)?;
+    play_lines(rt, log, &mut room)?;
+    put_closed(room.close(), log.begin())?;
+    log.print(rt)
+}
+
+fn play_lines<R: Print + Eprint + Wait>(rt: &R, log: &mut Log, room: &mut Room<'_>) -> Result<()> {
+    begin(rt, log, room)?;
     let script = room.script;
     for (place, line) in script.lines().enumerate() {
         if !is_quiet(line.as_bytes()) {
             let way = way_of(place);
-            play(rt, log, &mut room, Said { way, line })?;
+            play(rt, log, room, Said { way, line })?;
         }
     }
-    put_closed(&room.close(), log.begin())?;
-    log.print(rt)
+    Ok(())
 }
 
 fn way_of(place: usize) -> Way {
@@ -81,7 +86,7 @@ fn way_of(place: usize) -> Way {
     }
 }
 
-pub fn opening(alloc: Global) -> Result<Opening, OutOfMemory> {
+fn opening(alloc: Global) -> Result<Opening, OutOfMemory> {
     let (Ok(name), Ok(cookie)) = (
         NodeName::parse(alloc, b"b@h"),
         Cookie::parse(alloc, b"password"),
@@ -108,15 +113,27 @@ fn scopes(alloc: Global) -> Result<Vec<Scope>, OutOfMemory> {
     Ok(scopes)
 }
 
+/// What is looked up behind each call: the scopes, and a group of each.
+fn looked_up(alloc: Global) -> Result<(Vec<Scope>, Group), OutOfMemory> {
+    let scopes = scopes(alloc)?;
+    match Group::parse(alloc, b"g") {
+        Ok(group) => Ok((scopes, group)),
+        Err(_) => Err(OutOfMemory),
+    }
+}
+
+/// A node for two seats, with their passes.
+pub fn new_node(alloc: Global) -> Result<(Node, Vec<Pass>), OutOfMemory> {
+    match Node::new(alloc, opening(alloc)?, 2) {
+        Ok(made) => Ok(made),
+        Err(_) => Err(OutOfMemory),
+    }
+}
+
 impl<'t> Room<'t> {
     pub fn new(alloc: Global, script: &'t str) -> Result<Room<'t>, OutOfMemory> {
-        let scopes = scopes(alloc)?;
-        let Ok(group) = Group::parse(alloc, b"g") else {
-            return Err(OutOfMemory);
-        };
-        let Ok((node, passes)) = Node::new(alloc, opening(alloc)?, 2) else {
-            return Err(OutOfMemory);
-        };
+        let (scopes, group) = looked_up(alloc)?;
+        let (node, passes) = new_node(alloc)?;
         Ok(Room {
             script,
             alloc,
@@ -129,9 +146,26 @@ impl<'t> Room<'t> {
         })
     }
 
-    fn close(self) -> Result<Closed, CloseFault> {
+    fn close(self) -> Option<usize> {
         let Room { node, passes, .. } = self;
-        node.close(passes)
+        close_node(node, passes)
+    }
+
+    fn told_of<R: Wait>(
+        &mut self,
+        rt: &R,
+        way: Way,
+        command: Command,
+    ) -> Result<Told, OutOfMemory> {
+        match command {
+            Command::Step(event) => self.call(rt, way, event),
+            Command::Seat(seat) => {
+                self.seat = seat as usize;
+                Ok(Told::Seat)
+            }
+            Command::Size => Ok(Told::Size),
+            Command::Audit(number) => Ok(Told::Audit(number)),
+        }
     }
 
     /// Calls the event for the seat that asks.
@@ -144,6 +178,22 @@ impl<'t> Room<'t> {
             Some(CallFault::Core(CoreFault::OutOfMemory)) => Err(OutOfMemory),
             Some(fault) => Ok(Told::Fault(fault)),
         }
+    }
+
+    fn put_size<R: Wait>(&self, rt: &R, out: &mut Vec<u8>) -> Result<(), OutOfMemory> {
+        let shared = self.node.shared.lock(rt);
+        put_numbered_line("size ", shared.core().audit().len() as u64, out)
+    }
+
+    /// Adds the entry with this number.
+    fn put_asked<R: Wait>(
+        &self,
+        rt: &R,
+        number: u32,
+        out: &mut Vec<u8>,
+    ) -> Result<(), OutOfMemory> {
+        let shared = self.node.shared.lock(rt);
+        put_entry(shared.core().audit().get(number), out)
     }
 
     fn put_reply(&self, out: &mut Vec<u8>) -> Result<(), OutOfMemory> {
@@ -186,15 +236,8 @@ impl<'t> Subject for Room<'t> {
     type Deed = Said<'t>;
 
     fn make<R: Wait>(&mut self, rt: &R, deed: Said<'t>) -> Result<(), OutOfMemory> {
-        self.told = match command_of(self.alloc, deed.line.as_bytes())? {
-            Command::Step(event) => self.call(rt, deed.way, event)?,
-            Command::Seat(seat) => {
-                self.seat = seat as usize;
-                Told::Seat
-            }
-            Command::Size => Told::Size,
-            Command::Audit(number) => Told::Audit(number),
-        };
+        let command = command_of(self.alloc, deed.line.as_bytes())?;
+        self.told = self.told_of(rt, deed.way, command)?;
         Ok(())
     }
 
@@ -204,14 +247,8 @@ impl<'t> Subject for Room<'t> {
             Told::Fault(CallFault::Core(fault)) => put_unanswered(fault, out),
             Told::Fault(CallFault::StrangePass) => put_word("strange pass\n", out),
             Told::Seat => put_word("ok\n", out),
-            Told::Size => {
-                let shared = self.node.shared.lock(rt);
-                put_numbered_line("size ", shared.core().audit().len() as u64, out)
-            }
-            Told::Audit(number) => {
-                let shared = self.node.shared.lock(rt);
-                put_entry(shared.core().audit().get(number), out)
-            }
+            Told::Size => self.put_size(rt, out),
+            Told::Audit(number) => self.put_asked(rt, number, out),
         }
     }
 
@@ -251,17 +288,17 @@ fn put_core(
 fn put_links(core: &NodeCore, out: &mut Vec<u8>) -> Result<(), OutOfMemory> {
     for kept in &core.links()? {
         let waiting = core.waiting(kept.link).unwrap_or(0);
-        if write!(
-            out,
-            ", {} awaits {:?}, {waiting} wait",
-            kept.link, kept.frame
-        )
-        .is_err()
-        {
-            return Err(OutOfMemory);
-        }
+        put_link(kept, waiting, out)?;
     }
     Ok(())
+}
+
+fn put_link(kept: &Awaiting, waiting: usize, out: &mut Vec<u8>) -> Result<(), OutOfMemory> {
+    let (link, frame) = (kept.link, &kept.frame);
+    match write!(out, ", {link} awaits {frame:?}, {waiting} wait") {
+        Ok(()) => Ok(()),
+        Err(_) => Err(OutOfMemory),
+    }
 }
 
 /// Adds a line for each query of a scope.
@@ -278,14 +315,32 @@ fn put_looks(
         Query::Groups,
         Query::LocalGroups,
     ] {
-        let looked = core.look(scope, query);
-        if looked == Err(CoreFault::OutOfMemory) {
-            return Err(OutOfMemory);
-        }
-        put_word("\n= ", out)?;
-        put_step(alloc, &looked, out)?;
-        trim(out);
+        put_look(alloc, core, scope, query, out)?;
     }
+    Ok(())
+}
+
+fn put_look(
+    alloc: Global,
+    core: &NodeCore,
+    scope: &Scope,
+    query: Query<'_>,
+    out: &mut Vec<u8>,
+) -> Result<(), OutOfMemory> {
+    put_looked(alloc, &core.look(scope, query), out)
+}
+
+fn put_looked(
+    alloc: Global,
+    looked: &Result<Reply, CoreFault>,
+    out: &mut Vec<u8>,
+) -> Result<(), OutOfMemory> {
+    if let Err(CoreFault::OutOfMemory) = looked {
+        return Err(OutOfMemory);
+    }
+    put_word("\n= ", out)?;
+    put_step(alloc, looked, out)?;
+    trim(out);
     Ok(())
 }
 
@@ -296,9 +351,21 @@ fn trim(out: &mut Vec<u8>) {
     }
 }
 
-fn put_closed(end: &Result<Closed, CloseFault>, out: &mut Vec<u8>) -> Result<(), OutOfMemory> {
+/// Closes a node: how many entries it has, if it is closed.
+pub fn close_node(node: Node, passes: Vec<Pass>) -> Option<usize> {
+    entries_of(&node.close(passes))
+}
+
+fn entries_of(end: &Result<Closed, CloseFault>) -> Option<usize> {
     match end {
-        Ok(closed) => put_numbered_line("closed ", closed.core.audit().len() as u64, out),
-        Err(_) => put_word("not closed\n", out),
+        Ok(closed) => Some(closed.core.audit().len()),
+        Err(_) => None,
+    }
+}
+
+fn put_closed(entries: Option<usize>, out: &mut Vec<u8>) -> Result<(), OutOfMemory> {
+    match entries {
+        Some(count) => put_numbered_line("closed ", count as u64, out),
+        None => put_word("not closed\n", out),
     }
 }

@@ -242,6 +242,23 @@ impl Own {
     }
 }
 
+impl Own {
+    fn put_group(&self, group: &Group, out: &mut Vec<u8>) -> Result<(), OutOfMemory> {
+        put_bytes(group.as_bytes(), out)?;
+        put_pids(self.alloc, "", &self.table.members(group)?, out)?;
+        let own = self.table.local_members(group)?.len();
+        put_number(" own ", own as u64, out)?;
+        put_word("; ", out)
+    }
+
+    fn put_own(&self, out: &mut Vec<u8>) -> Result<(), OutOfMemory> {
+        let groups = self.table.local_groups()?.len();
+        put_number("own groups ", groups as u64, out)?;
+        let rows = self.table.local_rows()?.len();
+        put_number(" own rows ", rows as u64, out)
+    }
+}
+
 fn changed(told: Result<Vec<GroupChange>, TableFault>) -> Result<Answer, OutOfMemory> {
     match told {
         Ok(changes) => Ok(Answer::Changes(changes)),
@@ -270,14 +287,9 @@ impl Subject for Own {
     /// Each group with its processes, and how many of them are own ones.
     fn show<R: Wait>(&self, _rt: &R, out: &mut Vec<u8>) -> Result<(), OutOfMemory> {
         for group in &self.table.groups()? {
-            put_bytes(group.as_bytes(), out)?;
-            put_pids(self.alloc, "", &self.table.members(group)?, out)?;
-            let own = self.table.local_members(group)?.len();
-            put_number(" own ", own as u64, out)?;
-            put_word("; ", out)?;
+            self.put_group(group, out)?;
         }
-        put_number("own groups ", self.table.local_groups()?.len() as u64, out)?;
-        put_number(" own rows ", self.table.local_rows()?.len() as u64, out)
+        self.put_own(out)
     }
 }
 
@@ -288,12 +300,16 @@ fn put_changes(
 ) -> Result<(), OutOfMemory> {
     put_word("changes", out)?;
     for change in changes {
-        put_word(" ", out)?;
-        put_bytes(change.group.as_bytes(), out)?;
-        put_pids(alloc, " left", change.left.as_slice(), out)?;
-        put_pids(alloc, " joined", change.joined.as_slice(), out)?;
+        put_change(alloc, change, out)?;
     }
     Ok(())
+}
+
+fn put_change(alloc: Global, change: &GroupChange, out: &mut Vec<u8>) -> Result<(), OutOfMemory> {
+    put_word(" ", out)?;
+    put_bytes(change.group.as_bytes(), out)?;
+    put_pids(alloc, " left", change.left.as_slice(), out)?;
+    put_pids(alloc, " joined", change.joined.as_slice(), out)
 }
 
 fn put_pids(alloc: Global, word: &str, pids: &[Pid], out: &mut Vec<u8>) -> Result<(), OutOfMemory> {

@@ -130,14 +130,12 @@ impl Subject for Field {
     type Deed = Move;
 
     fn make<R: Wait>(&mut self, _rt: &R, deed: Move) -> Result<(), OutOfMemory> {
-        let step = world_step(self.alloc, deed)?;
-        match self.world.step(step) {
-            Err(WorldFault::Core(CoreFault::OutOfMemory)) => Err(OutOfMemory),
-            answer => {
-                self.answer = answer;
-                Ok(())
-            }
+        let answer = self.world.step(world_step(self.alloc, deed)?);
+        if is_lack(&answer) {
+            return Err(OutOfMemory);
         }
+        self.answer = answer;
+        Ok(())
     }
 
     fn tell<R: Wait>(&self, _rt: &R, out: &mut Vec<u8>) -> Result<(), OutOfMemory> {
@@ -153,6 +151,14 @@ impl Subject for Field {
     /// A world is asked by its steps alone, so that what it has kept shows in what they are answered later.
     fn show<R: Wait>(&self, _rt: &R, _out: &mut Vec<u8>) -> Result<(), OutOfMemory> {
         Ok(())
+    }
+}
+
+/// Whether memory was wanting.
+fn is_lack(answer: &Result<WorldReply, WorldFault>) -> bool {
+    match answer {
+        Err(WorldFault::Core(CoreFault::OutOfMemory)) => true,
+        _ => false,
     }
 }
 

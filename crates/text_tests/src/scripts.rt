@@ -3,12 +3,13 @@ use dist_types::{Cookie, NodeName};
 use pg_script::{RunFault, run};
 use policy_audit::Opening;
 use std::io::{BufRead, Write};
+use std::process::Abort;
 use std::test::Fail;
 
 mod faults;
 
 // What holds a node, a script or its answers has few ways out, since a check follows the end of a value along each; the assertions
-// stand in the tests, which hold texts alone.
+// stand in functions that hold texts alone.
 
 /// How the node `b@h` with the cookie `password` begins.
 #[derive(Clone, Copy)]
@@ -56,6 +57,22 @@ fn played<'a>(rt: &impl AllocGlobal, start: Start, script: &'a [u8]) -> Result<P
     Ok((ended, writer, reader))
 }
 
+/// Sees that a script ends so, with these answers, and that this isn't read of it.
+fn plays<R: AllocGlobal + Abort>(
+    rt: &R,
+    start: Start,
+    script: &str,
+    end: Result<(), RunFault>,
+    answers: &str,
+    rest: &str,
+) -> Result<(), Fail> {
+    let (ended, answered, unread) = played(rt, start, script.as_bytes())?;
+    assert_eq!(rt; ended, end);
+    assert_eq!(rt; answered.as_slice(), answers.as_bytes());
+    assert_eq!(rt; unread, rest.as_bytes());
+    Ok(())
+}
+
 const NINE: Start = Start {
     entries: 9,
     ..START
@@ -63,38 +80,38 @@ const NINE: Start = Start {
 
 #[test]
 fn answers_for_the_console(rt: HostRuntime) -> Result<(), Fail> {
-    let script = b"size\nseat 4294967295\naudit 1\naudit 0\n# done\n\nseat 0";
-    let (ended, answers, _) = played(&rt, NINE, script)?;
-    assert_eq!(rt; ended, Ok(()));
-    assert_eq!(rt;
-        answers.as_slice(),
-        b"size 0\nok\nnone\nnone\nok\n".as_slice()
-    );
-    Ok(())
+    let script = "size\nseat 4294967295\naudit 1\naudit 0\n# done\n\nseat 0";
+    plays(
+        &rt,
+        NINE,
+        script,
+        Ok(()),
+        "size 0\nok\nnone\nnone\nok\n",
+        "",
+    )
 }
 
 /// A script with a fault on its fourth line, which counts the comment and the empty line.
 #[test]
 fn names_the_line_of_a_script_fault(rt: HostRuntime) -> Result<(), Fail> {
-    let script = b"# a script\n\nsize\nseat 01\nsize\n";
-    let (ended, answers, rest) = played(&rt, NINE, script)?;
-    assert_eq!(rt; ended, Err(RunFault::Script(4)));
-    assert_eq!(rt; answers.as_slice(), b"size 0\nfault line 4\n".as_slice());
-    assert_eq!(rt; rest, b"size\n".as_slice());
-    Ok(())
+    let script = "# a script\n\nsize\nseat 01\nsize\n";
+    let fault = Err(RunFault::Script(4));
+    plays(&rt, NINE, script, fault, "size 0\nfault line 4\n", "size\n")
 }
 
 /// Behind the answers to the lines before it, and nothing is read behind it.
 #[test]
 fn a_misspelt_command_ends_a_script(rt: HostRuntime) -> Result<(), Fail> {
-    let (ended, answers, rest) = played(&rt, START, b"spawn\nspwan\nspawn\n")?;
-    assert_eq!(rt; ended, Err(RunFault::Script(2)));
-    assert_eq!(rt;
-        answers.as_slice(),
-        b"pid b@h/4/1\nfault line 2\n".as_slice()
-    );
-    assert_eq!(rt; rest, b"spawn\n".as_slice());
-    Ok(())
+    let script = "spawn\nspwan\nspawn\n";
+    let fault = Err(RunFault::Script(2));
+    plays(
+        &rt,
+        START,
+        script,
+        fault,
+        "pid b@h/4/1\nfault line 2\n",
+        "spawn\n",
+    )
 }
 
 #[test]
@@ -103,9 +120,5 @@ fn a_bad_opening_reads_and_writes_nothing(rt: HostRuntime) -> Result<(), Fail> {
         entries: 0,
         ..START
     };
-    let (ended, answers, rest) = played(&rt, none, b"size\n")?;
-    assert_eq!(rt; ended, Err(RunFault::BadOpening));
-    assert_eq!(rt; rest, b"size\n".as_slice());
-    assert!(rt; answers.is_empty());
-    Ok(())
+    plays(&rt, none, "size\n", Err(RunFault::BadOpening), "", "size\n")
 }

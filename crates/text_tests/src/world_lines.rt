@@ -1,5 +1,6 @@
 //! Scripts and their answers, and lines that can't be read.
 use std::alloc::Global;
+use std::process::Abort;
 use world_script::{Lab, LabFault, read_world_line};
 
 /// A process joins, a link brings it to the other node, and a cut takes it away; then each fault of the world.
@@ -110,14 +111,24 @@ const UNREAD: [&str; 21] = [
 
 /// Whether a script is answered so.
 fn gives(alloc: Global, script: &str, wanted: &str) -> bool {
-    let mut lab = Lab::new(alloc);
     let mut out = Vec::new(alloc);
+    answers_all(alloc, script, &mut out) && out.as_slice() == wanted.as_bytes()
+}
+
+/// Adds the answer of each line, if each has one.
+fn answers_all(alloc: Global, script: &str, out: &mut Vec<u8>) -> bool {
+    let mut lab = Lab::new(alloc);
+    fault_of(&mut lab, script, out).is_none()
+}
+
+/// The first fault of a script.
+fn fault_of(lab: &mut Lab, script: &str, out: &mut Vec<u8>) -> Option<LabFault> {
     for line in script.lines() {
-        if lab.answer(line.as_bytes(), &mut out).is_err() {
-            return false;
+        if let Err(fault) = lab.answer(line.as_bytes(), out) {
+            return Some(fault);
         }
     }
-    out.as_slice() == wanted.as_bytes()
+    None
 }
 
 /// The first of these lines that asks for something.
@@ -134,10 +145,14 @@ fn first_read(alloc: Global, lines: &[&'static str]) -> Option<&'static str> {
 fn fault_behind(alloc: Global, lines: &[&str], line: &str) -> Option<LabFault> {
     let mut lab = Lab::new(alloc);
     let mut out = Vec::new(alloc);
+    fault_after(&mut lab, lines, line, &mut out)
+}
+
+fn fault_after(lab: &mut Lab, lines: &[&str], line: &str, out: &mut Vec<u8>) -> Option<LabFault> {
     for earlier in lines {
-        lab.answer(earlier.as_bytes(), &mut out).ok()?;
+        lab.answer(earlier.as_bytes(), out).ok()?;
     }
-    lab.answer(line.as_bytes(), &mut out).err()
+    lab.answer(line.as_bytes(), out).err()
 }
 
 #[test]
@@ -155,15 +170,13 @@ fn lines_that_ask_for_nothing(rt: HostRuntime) {
     assert_eq!(rt; first_read(rt.alloc(), &UNREAD), None);
 }
 
+/// Sees that a line behind these lines has this fault.
+fn faults<R: AllocGlobal + Abort>(rt: &R, lines: &[&str], line: &str, fault: LabFault) {
+    assert_eq!(rt; fault_behind(rt.alloc(), lines, line), Some(fault));
+}
+
 #[test]
 fn nodes_come_first_and_differ_in_name(rt: HostRuntime) {
-    let alloc = rt.alloc();
-    assert_eq!(rt;
-        fault_behind(alloc, &["seat 1"], "node a@h x"),
-        Some(LabFault::Script)
-    );
-    assert_eq!(rt;
-        fault_behind(alloc, &["node a@h x"], "node a@h y"),
-        Some(LabFault::SameName)
-    );
+    faults(&rt, &["seat 1"], "node a@h x", LabFault::Script);
+    faults(&rt, &["node a@h x"], "node a@h y", LabFault::SameName);
 }

@@ -146,9 +146,13 @@ fn node(alloc: Global, name: &[u8]) -> Option<NodeCore> {
 /// Two nodes of these names.
 fn two_nodes(alloc: Global, one: &[u8], other: &[u8]) -> Option<Vec<NodeCore>> {
     let mut nodes = Vec::new(alloc);
-    nodes.push(node(alloc, one)?).ok()?;
-    nodes.push(node(alloc, other)?).ok()?;
+    add_node(alloc, one, &mut nodes)?;
+    add_node(alloc, other, &mut nodes)?;
     Some(nodes)
+}
+
+fn add_node(alloc: Global, name: &[u8], nodes: &mut Vec<NodeCore>) -> Option<()> {
+    nodes.push(node(alloc, name)?).ok()
 }
 
 fn new_world(alloc: Global) -> Option<World> {
@@ -164,29 +168,60 @@ fn group(alloc: Global) -> Option<Group> {
 }
 
 /// The first process of `a@h`.
-fn process(alloc: Global) -> Option<Pids> {
+fn process(alloc: Global) -> Option<Pid> {
     let node = NodeName::parse(alloc, b"a@h").ok()?;
-    let mut pids = Vec::new(alloc);
-    pids.push(Pid {
+    Some(Pid {
         node,
         creation: 1,
         number: 1,
     })
-    .ok()?;
+}
+
+/// A list of that process alone.
+fn processes(alloc: Global) -> Option<Pids> {
+    let mut pids = Vec::new(alloc);
+    pids.push(process(alloc)?).ok()?;
     Some(Items::of(pids))
+}
+
+/// The scope, and the group in it.
+fn place(alloc: Global) -> Option<(Scope, Group)> {
+    let scope = scope(alloc)?;
+    Some((scope, group(alloc)?))
+}
+
+/// The scope, the group in it, and the list of the process.
+fn moved(alloc: Global) -> Option<(Scope, Group, Pids)> {
+    let (scope, group) = place(alloc)?;
+    Some((scope, group, processes(alloc)?))
 }
 
 /// The event of a call.
 fn event_of(alloc: Global, does: Move) -> Option<Event> {
-    Some(match does {
-        Move::Start(_) => Event::StartScope(scope(alloc)?),
-        Move::Stop(_) => Event::StopScope(scope(alloc)?),
-        Move::Join => Event::Join(scope(alloc)?, group(alloc)?, process(alloc)?),
-        Move::Leave => Event::Leave(scope(alloc)?, group(alloc)?, process(alloc)?),
-        Move::Members(_) => Event::Members(scope(alloc)?, group(alloc)?),
-        Move::Take => Event::Take(1),
-        _ => Event::Spawn,
-    })
+    match does {
+        Move::Start(_) => Some(Event::StartScope(scope(alloc)?)),
+        Move::Stop(_) => Some(Event::StopScope(scope(alloc)?)),
+        Move::Join => join(alloc),
+        Move::Leave => leave(alloc),
+        Move::Members(_) => members(alloc),
+        Move::Take => Some(Event::Take(1)),
+        _ => Some(Event::Spawn),
+    }
+}
+
+fn join(alloc: Global) -> Option<Event> {
+    let (scope, group, pids) = moved(alloc)?;
+    Some(Event::Join(scope, group, pids))
+}
+
+fn leave(alloc: Global) -> Option<Event> {
+    let (scope, group, pids) = moved(alloc)?;
+    Some(Event::Leave(scope, group, pids))
+}
+
+fn members(alloc: Global) -> Option<Event> {
+    let (scope, group) = place(alloc)?;
+    Some(Event::Members(scope, group))
 }
 
 /// The node of a call.
@@ -198,31 +233,48 @@ fn node_of(does: Move) -> usize {
 }
 
 fn step_of(alloc: Global, does: Move) -> Option<WorldStep> {
-    Some(match does {
-        Move::Dial(to) => WorldStep::Dial {
-            from: 0,
-            to,
-            seat: 0,
-            challenge: 7,
-        },
-        Move::Accept => WorldStep::Accept {
-            wire: 0,
-            seat: 0,
-            challenge: 9,
-        },
-        Move::Hand(side) => hand(side),
-        Move::Deliver(side) => deliver(side),
-        Move::Cut(side) => WorldStep::Cut {
-            wire: 0,
-            side,
-            seat: 0,
-        },
-        _ => WorldStep::Call {
-            node: node_of(does),
-            seat: 0,
-            event: event_of(alloc, does)?,
-        },
+    match does {
+        Move::Dial(to) => Some(dial(to)),
+        Move::Accept => Some(accept()),
+        Move::Hand(side) => Some(hand(side)),
+        Move::Deliver(side) => Some(deliver(side)),
+        Move::Cut(side) => Some(cut(side)),
+        _ => call(alloc, does),
+    }
+}
+
+fn call(alloc: Global, does: Move) -> Option<WorldStep> {
+    let event = event_of(alloc, does)?;
+    Some(WorldStep::Call {
+        node: node_of(does),
+        seat: 0,
+        event,
     })
+}
+
+fn dial(to: usize) -> WorldStep {
+    WorldStep::Dial {
+        from: 0,
+        to,
+        seat: 0,
+        challenge: 7,
+    }
+}
+
+fn accept() -> WorldStep {
+    WorldStep::Accept {
+        wire: 0,
+        seat: 0,
+        challenge: 9,
+    }
+}
+
+fn cut(side: Side) -> WorldStep {
+    WorldStep::Cut {
+        wire: 0,
+        side,
+        seat: 0,
+    }
 }
 
 fn hand(side: Side) -> WorldStep {
@@ -241,13 +293,17 @@ fn deliver(side: Side) -> WorldStep {
     }
 }
 
+fn stepped(world: &mut World, step: WorldStep) -> Gives {
+    given(&world.step(step))
+}
+
 /// What an answer says.
-fn given(answer: Result<WorldReply, WorldFault>) -> Gives {
+fn given(answer: &Result<WorldReply, WorldFault>) -> Gives {
     match answer {
-        Ok(WorldReply::Wire(wire)) => Gives::Wire(wire),
-        Ok(WorldReply::Handed(count)) => Gives::Handed(count),
-        Ok(WorldReply::Answer(reply)) => said(&reply),
-        Err(fault) => Gives::Fault(fault),
+        Ok(WorldReply::Wire(wire)) => Gives::Wire(*wire),
+        Ok(WorldReply::Handed(count)) => Gives::Handed(*count),
+        Ok(WorldReply::Answer(reply)) => said(reply),
+        Err(fault) => Gives::Fault(*fault),
     }
 }
 
@@ -272,7 +328,7 @@ fn settle(world: &mut World, most: usize) -> usize {
     let mut came = 0;
     for _ in 0..40u32 {
         for side in [Side::Dialler, Side::Acceptor] {
-            let _ = world.step(hand(side));
+            stepped(world, hand(side));
             if came < most && comes(world, side) {
                 came += 1;
             }
@@ -283,16 +339,20 @@ fn settle(world: &mut World, most: usize) -> usize {
 
 /// Whether a frame was under way to this side. It comes.
 fn comes(world: &mut World, side: Side) -> bool {
-    given(world.step(deliver(side))) != Gives::Fault(WorldFault::NothingUnderWay)
+    stepped(world, deliver(side)) != Gives::Fault(WorldFault::NothingUnderWay)
 }
 
 /// Plays a story, and tells the first row, from 1, that gave something else.
 fn first_wrong(alloc: Global, rows: &[Row]) -> Option<usize> {
-    let Some(mut world) = new_world(alloc) else {
-        return Some(0);
-    };
+    match new_world(alloc) {
+        Some(mut world) => first_wrong_in(alloc, &mut world, rows),
+        None => Some(0),
+    }
+}
+
+fn first_wrong_in(alloc: Global, world: &mut World, rows: &[Row]) -> Option<usize> {
     for (place, Row(does, gives)) in rows.iter().enumerate() {
-        if played(alloc, &mut world, *does) != Some(*gives) {
+        if played(alloc, world, *does) != Some(*gives) {
             return Some(place + 1);
         }
     }
@@ -304,20 +364,24 @@ fn played(alloc: Global, world: &mut World, does: Move) -> Option<Gives> {
         settle(world, 40);
         return Some(Gives::Done);
     }
-    Some(given(world.step(step_of(alloc, does)?)))
+    Some(stepped(world, step_of(alloc, does)?))
 }
 
 /// Plays the exchange until so many frames came, then cuts it at the acceptor's side and lets the rest come. Tells how often the
 /// process is listed there, and whether there were so many frames.
 fn cut_after(alloc: Global, frames: usize) -> Option<(Gives, bool)> {
     let mut world = new_world(alloc)?;
+    cut_in(alloc, &mut world, frames)
+}
+
+fn cut_in(alloc: Global, world: &mut World, frames: usize) -> Option<(Gives, bool)> {
     for Row(does, _) in EXCHANGE.iter().take(6) {
-        played(alloc, &mut world, *does)?;
+        played(alloc, world, *does)?;
     }
-    let came = settle(&mut world, frames);
-    played(alloc, &mut world, Move::Cut(Side::Acceptor))?;
-    settle(&mut world, 40);
-    Some((played(alloc, &mut world, Move::Members(1))?, came == frames))
+    let came = settle(world, frames);
+    played(alloc, world, Move::Cut(Side::Acceptor))?;
+    settle(world, 40);
+    Some((played(alloc, world, Move::Members(1))?, came == frames))
 }
 
 /// The first place in the exchange at which it may not be cut.
@@ -360,7 +424,11 @@ fn one_used(alloc: Global) -> Option<(NodesFault, usize)> {
 /// How many wires there are after a dial, and whether the second node is shown, and no third.
 fn shown(alloc: Global) -> Option<(usize, bool)> {
     let mut world = new_world(alloc)?;
-    played(alloc, &mut world, Move::Dial(1))?;
+    shown_in(alloc, &mut world)
+}
+
+fn shown_in(alloc: Global, world: &mut World) -> Option<(usize, bool)> {
+    played(alloc, world, Move::Dial(1))?;
     let second = world.node(1)?.name().as_bytes() == b"b@h".as_slice();
     Some((world.wires(), second && world.node(2).is_none()))
 }

@@ -10,16 +10,21 @@ use std::alloc::Global;
 use std::process::Abort;
 use std::test::Fail;
 
-/// Processes of a@h with creation 5 and these numbers.
+/// The process of a@h with creation 5 and this number.
+fn pid(alloc: Global, number: u64) -> Result<Pid, Fail> {
+    let node = NodeName::parse(alloc, b"a@h")?;
+    Ok(Pid {
+        node,
+        creation: 5,
+        number,
+    })
+}
+
+/// Such processes with these numbers.
 fn pids(alloc: Global, numbers: &[u64]) -> Result<Pids, Fail> {
     let mut pids = Vec::new(alloc);
     for number in numbers {
-        let node = NodeName::parse(alloc, b"a@h")?;
-        pids.push(Pid {
-            node,
-            creation: 5,
-            number: *number,
-        })?;
+        pids.push(pid(alloc, *number)?)?;
     }
     Ok(Items::of(pids))
 }
@@ -39,8 +44,12 @@ fn prints<R: AllocGlobal + Abort>(
     line: &str,
 ) -> Result<(), Fail> {
     let out = printed(rt.alloc(), stepped)?;
-    assert_eq!(rt; out.as_slice(), line.as_bytes(), "{line}");
+    is_line(rt, &out, line);
     Ok(())
+}
+
+fn is_line<R: Abort>(rt: &R, out: &[u8], line: &str) {
+    assert_eq!(rt; out, line.as_bytes(), "{line}");
 }
 
 /// The line of a step's answer.
@@ -54,17 +63,20 @@ fn line_of_step(alloc: Global, stepped: &Result<Reply, CoreFault>) -> Result<Vec
     Ok(out)
 }
 
+fn up(alloc: Global) -> Result<Reply, Fail> {
+    Ok(Reply::Up {
+        peer: NodeName::parse(alloc, b"a@h")?,
+        creation: 5,
+        visible: true,
+    })
+}
+
 #[test]
 fn prints_short_answers(rt: HostRuntime) -> Result<(), Fail> {
     let alloc = rt.alloc();
     prints(&rt, Ok(Reply::Done), "ok\n")?;
     prints(&rt, Ok(Reply::Link(7)), "link 7\n")?;
-    let up = Reply::Up {
-        peer: NodeName::parse(alloc, b"a@h")?,
-        creation: 5,
-        visible: true,
-    };
-    prints(&rt, Ok(up), "up a@h 5 visible\n")?;
+    prints(&rt, Ok(up(alloc)?), "up a@h 5 visible\n")?;
     let refused = CoreFault::Refused(Rule::CreationSpent);
     prints(&rt, Err(refused), "refused 32 CreationSpent\n")?;
     prints(&rt, Err(CoreFault::OutOfMemory), "memory\n")
@@ -73,61 +85,79 @@ fn prints_short_answers(rt: HostRuntime) -> Result<(), Fail> {
 #[test]
 fn prints_processes(rt: HostRuntime) -> Result<(), Fail> {
     let alloc = rt.alloc();
-    for pid in pids(alloc, &[u64::MAX])?.into_vec() {
-        prints(&rt, Ok(Reply::Pid(pid)), "pid a@h/5/18446744073709551615\n")?;
-    }
+    let last = Reply::Pid(pid(alloc, u64::MAX)?);
+    prints(&rt, Ok(last), "pid a@h/5/18446744073709551615\n")?;
     prints(&rt, Ok(Reply::Pids(members(alloc, &[])?)), "pids\n")?;
     let two = Reply::Pids(members(alloc, &[1, 2])?);
     prints(&rt, Ok(two), "pids a@h/5/1 a@h/5/2\n")?;
+    prints(&rt, Ok(watched(alloc)?), "ref 8 a@h/5/1 a@h/5/1\n")
+}
+
+/// The answer to a new monitor of a group.
+fn watched(alloc: Global) -> Result<Reply, Fail> {
     let pids = members(alloc, &[1, 1])?;
-    let watched = Reply::Ref { number: 8, pids };
-    prints(&rt, Ok(watched), "ref 8 a@h/5/1 a@h/5/1\n")
+    Ok(Reply::Ref { number: 8, pids })
+}
+
+/// The answer to a new monitor of a scope.
+fn scope_watched(alloc: Global) -> Result<Reply, Fail> {
+    let mut contents = Vec::new(alloc);
+    contents.push(content(alloc)?)?;
+    let groups = Contents::of(contents)?;
+    Ok(Reply::ScopeRef { number: 9, groups })
+}
+
+fn content(alloc: Global) -> Result<GroupPids, Fail> {
+    let pids = pids(alloc, &[1, 2])?;
+    let group = group(alloc)?;
+    Ok(GroupPids { group, pids })
+}
+
+fn groups(alloc: Global) -> Result<Reply, Fail> {
+    let mut groups = Vec::new(alloc);
+    groups.push(group(alloc)?)?;
+    groups.push(Group::parse(alloc, b"h")?)?;
+    Ok(Reply::Groups(Groups::of(groups)?))
 }
 
 #[test]
 fn prints_groups(rt: HostRuntime) -> Result<(), Fail> {
     let alloc = rt.alloc();
-    let mut groups = Vec::new(alloc);
-    groups.push(group(alloc)?)?;
-    groups.push(Group::parse(alloc, b"h")?)?;
-    prints(&rt, Ok(Reply::Groups(Groups::of(groups)?)), "groups g h\n")?;
-    let mut contents = Vec::new(alloc);
-    contents.push(GroupPids {
-        group: group(alloc)?,
-        pids: pids(alloc, &[1, 2])?,
-    })?;
-    let groups = Contents::of(contents)?;
-    let watched = Reply::ScopeRef { number: 9, groups };
-    prints(&rt, Ok(watched), "ref 9 g 2 a@h/5/1 a@h/5/2\n")
+    prints(&rt, Ok(groups(alloc)?), "groups g h\n")?;
+    prints(
+        &rt,
+        Ok(scope_watched(alloc)?),
+        "ref 9 g 2 a@h/5/1 a@h/5/2\n",
+    )
+}
+
+/// What the process 3 does.
+fn update(alloc: Global, leave: bool) -> Result<Update, Fail> {
+    let pids = pids(alloc, &[3])?;
+    let group = group(alloc)?;
+    Ok(Update { group, leave, pids })
+}
+
+fn updates(alloc: Global) -> Result<Reply, Fail> {
+    let mut updates = Vec::new(alloc);
+    for leave in [true, false] {
+        updates.push(update(alloc, leave)?)?;
+    }
+    Ok(Reply::Updates(Updates::of(updates)?))
 }
 
 #[test]
 fn prints_updates(rt: HostRuntime) -> Result<(), Fail> {
-    let alloc = rt.alloc();
-    let mut updates = Vec::new(alloc);
-    for leave in [true, false] {
-        updates.push(Update {
-            group: group(alloc)?,
-            leave,
-            pids: pids(alloc, &[3])?,
-        })?;
-    }
-    let told = Reply::Updates(Updates::of(updates)?);
     prints(
         &rt,
-        Ok(told),
+        Ok(updates(rt.alloc())?),
         "updates leave g 1 a@h/5/3 join g 1 a@h/5/3\n",
     )
 }
 
 /// The line of an update that is told to the monitor 7.
 fn told(alloc: Global, leave: bool) -> Result<Vec<u8>, Fail> {
-    let update = Update {
-        group: group(alloc)?,
-        leave,
-        pids: pids(alloc, &[3])?,
-    };
-    line_of_update(alloc, &update)
+    line_of_update(alloc, &update(alloc, leave)?)
 }
 
 fn line_of_update(alloc: Global, update: &Update) -> Result<Vec<u8>, Fail> {
@@ -139,9 +169,9 @@ fn line_of_update(alloc: Global, update: &Update) -> Result<Vec<u8>, Fail> {
 #[test]
 fn prints_updates_with_their_monitor(rt: HostRuntime) -> Result<(), Fail> {
     let joined = told(rt.alloc(), false)?;
-    assert_eq!(rt; joined.as_slice(), b"join 7 g 1 a@h/5/3".as_slice());
+    is_line(&rt, &joined, "join 7 g 1 a@h/5/3");
     let left = told(rt.alloc(), true)?;
-    assert_eq!(rt; left.as_slice(), b"leave 7 g 1 a@h/5/3".as_slice());
+    is_line(&rt, &left, "leave 7 g 1 a@h/5/3");
     Ok(())
 }
 
@@ -163,7 +193,7 @@ fn prints_frames(rt: HostRuntime) -> Result<(), Fail> {
 /// Sees that an entry has this line.
 fn prints_entry<R: AllocGlobal + Abort>(rt: &R, verdict: Verdict, line: &str) -> Result<(), Fail> {
     let out = entered(rt.alloc(), verdict)?;
-    assert_eq!(rt; out.as_slice(), line.as_bytes(), "{line}");
+    is_line(rt, &out, line);
     Ok(())
 }
 

@@ -114,9 +114,25 @@ pub const FAULTS: [&str; 72] = [
     "frame 1 4g",
 ];
 
-/// The kind of the event that a line is read as.
-fn kind_of(alloc: Global, line: &str) -> Option<&'static str> {
-    kind_in(&parse(alloc, line.as_bytes()))
+/// What is read of a line.
+#[derive(Drop)]
+struct Seen {
+    /// The kind of its event.
+    kind: Option<&'static str>,
+    is_fault: bool,
+    asked: Option<(bool, bool, usize)>,
+}
+
+fn see_line(alloc: Global, line: &str) -> Seen {
+    see(&parse(alloc, line.as_bytes()))
+}
+
+fn see(read: &Result<Command, LineFault>) -> Seen {
+    Seen {
+        kind: kind_in(read),
+        is_fault: is_fault(read),
+        asked: asked_by(read),
+    }
 }
 
 fn kind_in(read: &Result<Command, LineFault>) -> Option<&'static str> {
@@ -129,7 +145,7 @@ fn kind_in(read: &Result<Command, LineFault>) -> Option<&'static str> {
 /// The first line that is read as another command.
 fn misread(alloc: Global, commands: &[(&'static str, &str)]) -> Option<&'static str> {
     for (line, wanted) in commands {
-        if kind_of(alloc, line) != Some(*wanted) {
+        if see_line(alloc, line).kind != Some(*wanted) {
             return Some(*line);
         }
     }
@@ -139,10 +155,6 @@ fn misread(alloc: Global, commands: &[(&'static str, &str)]) -> Option<&'static 
 #[test]
 fn reads_each_command(rt: HostRuntime) {
     assert_eq!(rt; misread(rt.alloc(), &COMMANDS), None);
-}
-
-fn is_refused(alloc: Global, line: &str) -> bool {
-    is_fault(&parse(alloc, line.as_bytes()))
 }
 
 fn is_fault(read: &Result<Command, LineFault>) -> bool {
@@ -155,7 +167,7 @@ fn is_fault(read: &Result<Command, LineFault>) -> bool {
 /// The first line that isn't refused.
 fn let_in(alloc: Global, faults: &[&'static str]) -> Option<&'static str> {
     for line in faults {
-        if !is_refused(alloc, line) {
+        if !see_line(alloc, line).is_fault {
             return Some(*line);
         }
     }
@@ -208,10 +220,6 @@ fn asked_by(read: &Result<Command, LineFault>) -> Option<(bool, bool, usize)> {
     }
 }
 
-fn asked_in(alloc: Global, line: &str) -> Option<(bool, bool, usize)> {
-    asked_by(&parse(alloc, line.as_bytes()))
-}
-
 #[test]
 fn tells_what_commands_ask_for(rt: HostRuntime) {
     let cases = [
@@ -223,6 +231,6 @@ fn tells_what_commands_ask_for(rt: HostRuntime) {
         ("leave pg g b@h/4/1 b@h/4/1", (false, false, 2)),
     ];
     for (line, wanted) in cases {
-        assert_eq!(rt; asked_in(rt.alloc(), line), Some(wanted), "{line}");
+        assert_eq!(rt; see_line(rt.alloc(), line).asked, Some(wanted), "{line}");
     }
 }

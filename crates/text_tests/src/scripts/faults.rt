@@ -62,6 +62,15 @@ fn answers(rt: &impl AllocGlobal, count: usize) -> Result<Vec<u8>, Fail> {
     Ok(text)
 }
 
+/// Whether this is written, the answers to so many lines.
+fn is_answered(
+    rt: &impl AllocGlobal,
+    count: usize,
+    written: Option<Vec<u8>>,
+) -> Result<bool, Fail> {
+    Ok(written == Some(answers(rt, count)?))
+}
+
 /// What is written where so many bytes can be read, if the reader's failure ends it.
 fn written_of(rt: &impl AllocGlobal, most: usize) -> Result<Option<Vec<u8>>, Fail> {
     let failing = Failing { given: 0, most };
@@ -76,8 +85,8 @@ fn answers_each_line_before_the_next_is_read(rt: HostRuntime) -> Result<(), Fail
     for most in 0..SCRIPT.len() + 1 {
         let whole = SCRIPT[..most].iter().filter(|byte| **byte == b'\n').count();
         let answered = if whole < 3 { whole } else { whole - 1 };
-        let written = written_of(&rt, most)?;
-        assert!(rt; written == Some(answers(&rt, answered)?), "{most}");
+        let is_answered = is_answered(&rt, answered, written_of(&rt, most)?)?;
+        assert!(rt; is_answered, "{most}");
     }
     Ok(())
 }
@@ -94,8 +103,8 @@ fn written_in(rt: &impl AllocGlobal, most: usize) -> Result<Option<Vec<u8>>, Fai
 #[test]
 fn ends_at_a_closed_output(rt: HostRuntime) -> Result<(), Fail> {
     for most in 0..ANSWERS.len() {
-        let written = written_in(&rt, most)?;
-        assert!(rt; written == Some(answers(&rt, most)?), "{most}");
+        let is_answered = is_answered(&rt, most, written_in(&rt, most)?)?;
+        assert!(rt; is_answered, "{most}");
     }
     Ok(())
 }
