@@ -248,8 +248,8 @@ def never_reads(field):
         told += 2
         return a.untold("! down peer@h")
 
-    # (each is told by a quarter of a megabyte, and the kernel holds some of them)
-    until("the loss of a peer that doesn't read", tell_more, pause=0.1)
+    # (each is told by a quarter of a megabyte, and the kernel holds some of them: a busy machine needs a while to fill it)
+    until("the loss of a peer that doesn't read", tell_more, limit=150, pause=0.1)
     stopped.set()
     await_nodes(a, [])
     serves(field, a)
