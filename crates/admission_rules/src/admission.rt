@@ -13,7 +13,7 @@ use std::alloc::Global;
 use std::marker::Model;
 
 /// A node's own name, creation and cookie, the cookies of its peers, and the names that it allows.
-#[derive(Debug, Drop)]
+#[derive(Debug)]
 pub struct Admission {
     own: NodeName,
     cookie: Cookie,
@@ -22,6 +22,19 @@ pub struct Admission {
     /// Never the own name.
     peers: IndexMap<NodeName, Cookie>,
     allowed: IndexSet<NodeName>,
+}
+
+impl Drop for Admission {
+    fn drop(self) {
+        let Admission {
+            own: _,
+            cookie: _,
+            hidden: _,
+            creation: _,
+            peers: _,
+            allowed: _,
+        } = self;
+    }
 }
 
 impl Model for Admission {

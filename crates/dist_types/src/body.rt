@@ -9,9 +9,15 @@ use std::alloc::Global;
 use std::marker::Model;
 
 /// The bytes of a frame or a message of a link, without the length before them.
-#[derive(Debug, Drop)]
+#[derive(Debug)]
 pub struct Body {
     bytes: Vec<u8>,
+}
+
+impl Drop for Body {
+    fn drop(self) {
+        let Body { bytes: _ } = self;
+    }
 }
 
 impl Model for Body {
@@ -36,7 +42,8 @@ impl Body {
     pub fn into_vec(self) -> Vec<u8>
         ensures { result.items ≡ self }
     {
-        self.bytes
+        let Body { bytes } = self;
+        bytes
     }
 }
 

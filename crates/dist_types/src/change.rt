@@ -9,11 +9,21 @@ use std::alloc::Global;
 pub type Pids = Items<Pid>;
 
 /// The processes that left a group and those that joined it, each list ascending.
-#[derive(Debug, Drop, PartialEq, Eq)]
+#[derive(Debug, PartialEq, Eq)]
 pub struct GroupChange {
     pub group: Group,
     pub left: Pids,
     pub joined: Pids,
+}
+
+impl Drop for GroupChange {
+    fn drop(self) {
+        let GroupChange {
+            group: _,
+            left: _,
+            joined: _,
+        } = self;
+    }
 }
 
 impl TryClone for GroupChange {

@@ -11,9 +11,15 @@ use std::fmt;
 use std::marker::Model;
 
 /// The secret that two nodes share. `Debug` shows none of its bytes.
-#[derive(Drop, PartialEq, Eq, PartialOrd, Ord, Hash)]
+#[derive(PartialEq, Eq, PartialOrd, Ord, Hash)]
 pub struct Cookie {
     text: Text,
+}
+
+impl Drop for Cookie {
+    fn drop(self) {
+        let Cookie { text: _ } = self;
+    }
 }
 
 impl Model for Cookie {

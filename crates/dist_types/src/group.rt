@@ -10,9 +10,15 @@ use std::alloc::Global;
 use std::marker::Model;
 
 /// The name of a group of processes in a scope.
-#[derive(Debug, Drop, PartialEq, Eq, PartialOrd, Ord, Hash)]
+#[derive(Debug, PartialEq, Eq, PartialOrd, Ord, Hash)]
 pub struct Group {
     text: Text,
+}
+
+impl Drop for Group {
+    fn drop(self) {
+        let Group { text: _ } = self;
+    }
 }
 
 impl Model for Group {

@@ -11,9 +11,15 @@ use std::alloc::Global;
 use std::marker::Model;
 
 /// The name of a node, as `a@h`.
-#[derive(Debug, Drop, PartialEq, Eq, PartialOrd, Ord, Hash)]
+#[derive(Debug, PartialEq, Eq, PartialOrd, Ord, Hash)]
 pub struct NodeName {
     text: Text,
+}
+
+impl Drop for NodeName {
+    fn drop(self) {
+        let NodeName { text: _ } = self;
+    }
 }
 
 impl Model for NodeName {

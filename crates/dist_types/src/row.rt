@@ -6,10 +6,16 @@ use crate::pid::Pid;
 use std::alloc::Global;
 
 /// One membership of a process in a group.
-#[derive(Debug, Drop, PartialEq, Eq, PartialOrd, Ord, Hash)]
+#[derive(Debug, PartialEq, Eq, PartialOrd, Ord, Hash)]
 pub struct Row {
     pub group: Group,
     pub pid: Pid,
+}
+
+impl Drop for Row {
+    fn drop(self) {
+        let Row { group: _, pid: _ } = self;
+    }
 }
 
 impl TryClone for Row {

@@ -10,9 +10,15 @@ use std::alloc::Global;
 use std::marker::Model;
 
 /// The name of a scope, in which groups are kept apart from those of other scopes.
-#[derive(Debug, Drop, PartialEq, Eq, PartialOrd, Ord, Hash)]
+#[derive(Debug, PartialEq, Eq, PartialOrd, Ord, Hash)]
 pub struct Scope {
     text: Text,
+}
+
+impl Drop for Scope {
+    fn drop(self) {
+        let Scope { text: _ } = self;
+    }
 }
 
 impl Model for Scope {

@@ -10,9 +10,15 @@ use std::marker::Model;
 use std::sync::ArcSlice;
 
 /// A list that doesn't change, one for all its copies.
-#[derive(Debug, Drop)]
+#[derive(Debug)]
 pub struct Shared<T> {
     items: ArcSlice<T>,
+}
+
+impl<T: Drop> Drop for Shared<T> {
+    fn drop(self) {
+        let Shared { items: _ } = self;
+    }
 }
 
 impl<T> Model for Shared<T> {

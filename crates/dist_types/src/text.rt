@@ -19,9 +19,15 @@ use std::marker::Model;
 use std::sync::ArcSlice;
 
 /// 1 to 255 visible bytes of ASCII, shared by all copies.
-#[derive(Debug, Drop)]
+#[derive(Debug)]
 pub struct Text {
     bytes: ArcSlice<u8>,
+}
+
+impl Drop for Text {
+    fn drop(self) {
+        let Text { bytes: _ } = self;
+    }
 }
 
 impl Model for Text {

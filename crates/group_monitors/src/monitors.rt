@@ -14,9 +14,15 @@ use std::alloc::Global;
 use std::marker::Model;
 
 /// The monitors of all seats, in the order in which they were added.
-#[derive(Debug, Drop)]
+#[derive(Debug)]
 pub struct Monitors {
     monitors: IndexMap<u32, Monitor>,
+}
+
+impl Drop for Monitors {
+    fn drop(self) {
+        let Monitors { monitors: _ } = self;
+    }
 }
 
 impl Model for Monitors {

@@ -17,10 +17,16 @@ pub struct Fed {
 }
 
 /// Cuts a stream into bodies. Contracts see it as the bytes that it has used since its last body.
-#[derive(Debug, Drop)]
+#[derive(Debug)]
 pub struct HsReader {
     alloc: Global,
     held: Held,
+}
+
+impl Drop for HsReader {
+    fn drop(self) {
+        let HsReader { alloc: _, held: _ } = self;
+    }
 }
 
 impl Model for HsReader {

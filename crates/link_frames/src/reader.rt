@@ -12,11 +12,21 @@ use std::marker::Model;
 
 /// Cuts a stream into bodies and skips ticks. Contracts see it as the bytes that it has used since its last body, without
 /// ticks at their front, and the mark that it has answered `TooLong`.
-#[derive(Debug, Drop)]
+#[derive(Debug)]
 pub struct LinkReader {
     alloc: Global,
     held: Held,
     too_long: bool,
+}
+
+impl Drop for LinkReader {
+    fn drop(self) {
+        let LinkReader {
+            alloc: _,
+            held: _,
+            too_long: _,
+        } = self;
+    }
 }
 
 impl Model for LinkReader {

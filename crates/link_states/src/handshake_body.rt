@@ -6,9 +6,15 @@ use std::marker::Model;
 
 /// The bytes of a frame of the handshake, without the length before them, which has 2 bytes (Distribution Protocol,
 /// Distribution Handshake): at most 65,535.
-#[derive(Debug, Drop, PartialEq, Eq)]
+#[derive(Debug, PartialEq, Eq)]
 pub struct HandshakeBody {
     body: Body,
+}
+
+impl Drop for HandshakeBody {
+    fn drop(self) {
+        let HandshakeBody { body: _ } = self;
+    }
 }
 
 impl Model for HandshakeBody {
@@ -45,6 +51,7 @@ impl HandshakeBody {
         ensures value { result ≡ self }
         ensures limits { length self < 2 ^ 16 }
     {
-        self.body
+        let HandshakeBody { body } = self;
+        body
     }
 }

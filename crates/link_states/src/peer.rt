@@ -6,12 +6,22 @@ use admission_rules::Admission;
 use dist_types::{Flags, NodeName};
 
 /// Who the peer is, by its name frame or its challenge frame.
-#[derive(Debug, Drop)]
+#[derive(Debug)]
 pub struct Peer {
     pub name: NodeName,
     pub creation: u32,
     /// Neither end is hidden.
     pub visible: bool,
+}
+
+impl Drop for Peer {
+    fn drop(self) {
+        let Peer {
+            name: _,
+            creation: _,
+            visible: _,
+        } = self;
+    }
 }
 
 impl Peer {

@@ -7,12 +7,18 @@ use dist_types::{Items, NodeName};
 pub type Names = Items<NodeName>;
 
 /// What a node has of other links, when a frame comes.
-#[derive(Debug, Drop)]
+#[derive(Debug)]
 pub struct Pending {
     /// The peers of which a link is up.
     pub up: Names,
     /// The peers to which an own dial is unfinished.
     pub dials: Names,
+}
+
+impl Drop for Pending {
+    fn drop(self) {
+        let Pending { up: _, dials: _ } = self;
+    }
 }
 
 /// Whether the name is in the list.

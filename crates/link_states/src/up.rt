@@ -7,10 +7,16 @@ use dist_types::NodeName;
 use std::marker::Model;
 
 /// The peer has shown that it has the cookie.
-#[derive(Debug, Drop)]
+#[derive(Debug)]
 pub struct Up {
     peer: Peer,
     proof: Proof,
+}
+
+impl Drop for Up {
+    fn drop(self) {
+        let Up { peer: _, proof: _ } = self;
+    }
 }
 
 impl Model for Up {

@@ -24,7 +24,6 @@ use std::fmt;
 use std::marker::Model;
 
 /// A node. It does no input or output of its own.
-#[derive(Drop)]
 pub struct NodeCore {
     pub(crate) alloc: Global,
     pub(crate) opening: Opening,
@@ -36,6 +35,21 @@ pub struct NodeCore {
     /// Those that are kept, the oldest first.
     pub(crate) links: Vec<Link>,
     pub(crate) monitors: Monitors,
+}
+
+impl Drop for NodeCore {
+    fn drop(self) {
+        let NodeCore {
+            alloc: _,
+            opening: _,
+            audit: _,
+            admission: _,
+            processes: _,
+            scopes: _,
+            links: _,
+            monitors: _,
+        } = self;
+    }
 }
 
 /// Shows the node's name, and how many entries it has.

@@ -16,10 +16,15 @@ const FIRST_PAUSE: u64 = 1_000;
 const LONGEST_PAUSE: u64 = 30_000;
 
 /// Whom to dial, and where.
-#[derive(Drop)]
 pub struct Target {
     pub peer: NodeName,
     pub addr: SocketAddr,
+}
+
+impl Drop for Target {
+    fn drop(self) {
+        let Target { peer: _, addr: _ } = self;
+    }
 }
 
 /// Starts a thread that keeps a link to a peer: whether one could be made.

@@ -15,11 +15,20 @@ use std::thread::Threads;
 
 /// Two passes that serve one link after another, and a source of challenges. Whatever a peer sends, they only ever call Opened and
 /// Dial, and Frame, Take and Lost of the links that these opened.
-#[derive(Drop)]
 pub struct Lane {
     reader: Pass,
     writer: Pass,
     source: ChallengeSource<ChaCha20Rng>,
+}
+
+impl Drop for Lane {
+    fn drop(self) {
+        let Lane {
+            reader: _,
+            writer: _,
+            source: _,
+        } = self;
+    }
 }
 
 impl Model for Lane {
@@ -33,10 +42,19 @@ impl Model for Lane {
 }
 
 /// A pass that has made calls before can't be a lane's; both come back.
-#[derive(Debug, Drop)]
+#[derive(Debug)]
 pub struct UsedPass {
     pub reader: Pass,
     pub writer: Pass,
+}
+
+impl Drop for UsedPass {
+    fn drop(self) {
+        let UsedPass {
+            reader: _,
+            writer: _,
+        } = self;
+    }
 }
 
 impl Lane {

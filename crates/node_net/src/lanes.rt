@@ -27,7 +27,6 @@ struct State {
 }
 
 /// The lanes of a node. Each thread that serves a link takes one for that time.
-#[derive(Drop)]
 pub struct Lanes {
     state: Mutex<State>,
     /// Told of each lane that comes back, and of the stop.
@@ -37,6 +36,19 @@ pub struct Lanes {
     kept_for_dials: usize,
     limits: Limits,
     reflected: AtomicU64,
+}
+
+impl Drop for Lanes {
+    fn drop(self) {
+        let Lanes {
+            state: _,
+            freed: _,
+            stopped: _,
+            kept_for_dials: _,
+            limits: _,
+            reflected: _,
+        } = self;
+    }
 }
 
 impl Lanes {
@@ -60,7 +72,14 @@ impl Lanes {
 
     /// The lanes that have come back: all, once every thread that served links has ended.
     pub fn into_lanes(self) -> Vec<Lane> {
-        let Lanes { state, .. } = self;
+        let Lanes {
+            state,
+            freed: _,
+            stopped: _,
+            kept_for_dials: _,
+            limits: _,
+            reflected: _,
+        } = self;
         let State { free, .. } = state.into_inner();
         free
     }

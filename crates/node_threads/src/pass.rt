@@ -7,7 +7,7 @@ use std::alloc::Global;
 use std::marker::Model;
 
 /// A call that made an entry.
-#[derive(Debug, Drop)]
+#[derive(Debug)]
 pub struct Call {
     /// That of the entry.
     pub number: u32,
@@ -15,12 +15,28 @@ pub struct Call {
     pub verdict: Verdict,
 }
 
+impl Drop for Call {
+    fn drop(self) {
+        let Call {
+            number: _,
+            event: _,
+            verdict: _,
+        } = self;
+    }
+}
+
 /// The right to call a node for one seat, with all calls for that seat that made an entry. A node makes one for each seat, and
 /// there are no copies.
-#[derive(Debug, Drop)]
+#[derive(Debug)]
 pub struct Pass {
     pub(crate) seat: u32,
     pub(crate) calls: Vec<Call>,
+}
+
+impl Drop for Pass {
+    fn drop(self) {
+        let Pass { seat: _, calls: _ } = self;
+    }
 }
 
 impl Model for Pass {

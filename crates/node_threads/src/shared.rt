@@ -14,13 +14,23 @@ use std::alloc::Global;
 use std::marker::Model;
 
 /// A node, and how many entries each seat has.
-#[derive(Drop)]
 pub struct Shared {
     alloc: Global,
     core: NodeCore,
     counts: Vec<u32>,
     /// The writers of all links are to hang up. No contract rests on it.
     stuck: bool,
+}
+
+impl Drop for Shared {
+    fn drop(self) {
+        let Shared {
+            alloc: _,
+            core: _,
+            counts: _,
+            stuck: _,
+        } = self;
+    }
 }
 
 impl Model for Shared {

@@ -21,9 +21,14 @@ use std::sync::Wait;
 
 /// A pass that makes the calls of one connection: none that speaks for a link or ends a life of the node, and none that makes
 /// processes exit, join or leave but those that it has spawned.
-#[derive(Drop)]
 pub struct Caller {
     pass: Pass,
+}
+
+impl Drop for Caller {
+    fn drop(self) {
+        let Caller { pass: _ } = self;
+    }
 }
 
 /// What a call has come to.

@@ -31,13 +31,24 @@ use std::sync::Wait;
 const TRIES: u32 = 64;
 
 /// The seat of one connection.
-#[derive(Drop)]
 pub struct Session {
     caller: Caller,
     processes: Processes,
     watches: Vec<Watch>,
     news: News,
     is_open: bool,
+}
+
+impl Drop for Session {
+    fn drop(self) {
+        let Session {
+            caller: _,
+            processes: _,
+            watches: _,
+            news: _,
+            is_open: _,
+        } = self;
+    }
 }
 
 impl Model for Session {
@@ -99,7 +110,13 @@ impl Session {
     pub fn into_caller(self) -> Caller
         ensures { result ≡ self.pass }
     {
-        let Session { caller, .. } = self;
+        let Session {
+            caller,
+            processes: _,
+            watches: _,
+            news: _,
+            is_open: _,
+        } = self;
         caller
     }
 

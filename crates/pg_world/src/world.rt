@@ -18,11 +18,20 @@ use std::alloc::Global;
 use std::marker::Model;
 
 /// Several nodes, and the wires between them.
-#[derive(Drop)]
 pub struct World {
     alloc: Global,
     nodes: Vec<NodeCore>,
     wires: Vec<Wire>,
+}
+
+impl Drop for World {
+    fn drop(self) {
+        let World {
+            alloc: _,
+            nodes: _,
+            wires: _,
+        } = self;
+    }
 }
 
 impl Model for World {

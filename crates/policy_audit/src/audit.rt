@@ -24,13 +24,23 @@ pub enum AuditFault {
 }
 
 /// All entries of a node, in their order. None is ever changed or taken away.
-#[derive(Debug, Drop)]
+#[derive(Debug)]
 pub struct Audit {
     limit: u32,
     /// How many entries there are.
     count: u32,
     /// All but the last are full.
     pages: Vec<Page>,
+}
+
+impl Drop for Audit {
+    fn drop(self) {
+        let Audit {
+            limit: _,
+            count: _,
+            pages: _,
+        } = self;
+    }
 }
 
 impl Model for Audit {

@@ -6,10 +6,19 @@ use std::alloc::Global;
 pub type Changes = Items<Change>;
 
 /// What an entry changed in one scope: its groups ascending, only those that changed.
-#[derive(Debug, Drop, PartialEq, Eq)]
+#[derive(Debug, PartialEq, Eq)]
 pub struct Change {
     pub scope: Scope,
     pub groups: Items<GroupChange>,
+}
+
+impl Drop for Change {
+    fn drop(self) {
+        let Change {
+            scope: _,
+            groups: _,
+        } = self;
+    }
 }
 
 impl TryClone for Change {

@@ -2,7 +2,7 @@
 use dist_types::{Cookie, NodeName};
 
 /// What a node starts with, and comes back to with a restart, except for the creation.
-#[derive(Debug, Drop)]
+#[derive(Debug)]
 pub struct Opening {
     /// The node's own name.
     pub name: NodeName,
@@ -12,4 +12,16 @@ pub struct Opening {
     pub creation: u32,
     /// The most entries of the audit.
     pub entries: u32,
+}
+
+impl Drop for Opening {
+    fn drop(self) {
+        let Opening {
+            name: _,
+            cookie: _,
+            hidden: _,
+            creation: _,
+            entries: _,
+        } = self;
+    }
 }

@@ -11,10 +11,16 @@ pub type OutFrames = Items<OutFrame>;
 
 /// A frame to send, with the width of its length: 4 bytes where it is wide, as after the handshake, else 2. The length of its
 /// body fits that width.
-#[derive(Debug, Drop, PartialEq, Eq)]
+#[derive(Debug, PartialEq, Eq)]
 pub struct OutFrame {
     pub wide: bool,
     pub body: Body,
+}
+
+impl Drop for OutFrame {
+    fn drop(self) {
+        let OutFrame { wide: _, body: _ } = self;
+    }
 }
 
 impl Model for OutFrame {

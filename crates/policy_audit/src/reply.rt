@@ -16,19 +16,35 @@ pub type Contents = Shared<GroupPids>;
 pub type Updates = Shared<Update>;
 
 /// A group with its members, ascending, each as often as it joined.
-#[derive(Debug, Drop, PartialEq, Eq)]
+#[derive(Debug, PartialEq, Eq)]
 pub struct GroupPids {
     pub group: Group,
     pub pids: Pids,
 }
 
+impl Drop for GroupPids {
+    fn drop(self) {
+        let GroupPids { group: _, pids: _ } = self;
+    }
+}
+
 /// Processes, ascending, that left a group or joined it.
-#[derive(Debug, Drop, PartialEq, Eq)]
+#[derive(Debug, PartialEq, Eq)]
 pub struct Update {
     pub group: Group,
     /// Whether they left.
     pub leave: bool,
     pub pids: Pids,
+}
+
+impl Drop for Update {
+    fn drop(self) {
+        let Update {
+            group: _,
+            leave: _,
+            pids: _,
+        } = self;
+    }
 }
 
 /// What an accepted event is answered.

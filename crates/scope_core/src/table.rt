@@ -18,7 +18,7 @@ use std::alloc::Global;
 use std::marker::Model;
 
 /// How often each process is in each group of one scope.
-#[derive(Debug, Drop)]
+#[derive(Debug)]
 pub struct ScopeTable {
     alloc: Global,
     own: NodeName,
@@ -27,6 +27,18 @@ pub struct ScopeTable {
     own_rows: usize,
     /// What was answered of groups that didn't change since.
     listings: Listings,
+}
+
+impl Drop for ScopeTable {
+    fn drop(self) {
+        let ScopeTable {
+            alloc: _,
+            own: _,
+            rows: _,
+            own_rows: _,
+            listings: _,
+        } = self;
+    }
 }
 
 impl Model for ScopeTable {

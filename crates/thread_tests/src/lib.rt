@@ -1,7 +1,5 @@
-//! Threads over one node: callers, passes, link workers, and links over loopback.
+//! Threads over one node: callers, passes, and the workers of a link.
 #![tactic(auto)]
 
-#[cfg(test)]
-mod sockets;
 #[cfg(test)]
 mod threads;

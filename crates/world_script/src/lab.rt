@@ -82,7 +82,6 @@ impl From<OpenFault> for LabFault {
 }
 
 /// The world that a script is played on, and the seat that asks.
-#[derive(Drop)]
 pub struct Lab {
     alloc: Global,
     /// The nodes, until a line asks for something else than a node.
@@ -90,6 +89,17 @@ pub struct Lab {
     /// Their world, from then on.
     world: Option<NamedWorld>,
     seat: u32,
+}
+
+impl Drop for Lab {
+    fn drop(self) {
+        let Lab {
+            alloc: _,
+            nodes: _,
+            world: _,
+            seat: _,
+        } = self;
+    }
 }
 
 impl Model for Lab {

@@ -14,10 +14,15 @@ use std::alloc::Global;
 use std::marker::Model;
 
 /// A world, and how many nodes it has.
-#[derive(Drop)]
 pub struct NamedWorld {
     world: World,
     count: usize,
+}
+
+impl Drop for NamedWorld {
+    fn drop(self) {
+        let NamedWorld { world: _, count: _ } = self;
+    }
 }
 
 impl Model for NamedWorld {

@@ -1,5 +1,5 @@
 //! The workers of a link over bytes in memory: the name frame and the reply of a@h, and what b@h owes to them.
-use super::{closed, is_done, opening};
+use super::{closed, opening};
 use node_threads::*;
 use policy_audit::{Event, Reply};
 use std::alloc::Global;
@@ -24,15 +24,13 @@ const OWED: [u8; 48] = [
     0x4c,
 ];
 
-/// Gives the bytes of the peer, at most so many a read; each second read is interrupted first, and the one of that number fails.
+/// Gives the bytes of the peer, at most so many a read; where it interrupts, each read but for one.
 #[derive(Drop)]
 struct Sent {
     at: usize,
     step: usize,
     interrupts: bool,
     interrupted: bool,
-    reads: u32,
-    fails_at: u32,
 }
 
 impl Sent {
@@ -42,8 +40,6 @@ impl Sent {
             step,
             interrupts: false,
             interrupted: false,
-            reads: 0,
-            fails_at: 0,
         }
     }
 }
@@ -55,10 +51,6 @@ impl Read for Sent {
             return Err(io::Error::from(ErrorKind::Interrupted));
         }
         self.interrupted = false;
-        self.reads = self.reads.saturating_add(1);
-        if self.reads == self.fails_at {
-            return Err(io::Error::from(ErrorKind::ConnectionReset));
-        }
         let left = SENT.get(self.at..).unwrap_or(&[]);
         let count = left.len().min(self.step).min(buf.len());
         for place in 0..count {
@@ -69,13 +61,11 @@ impl Read for Sent {
     }
 }
 
-/// Takes so many bytes a write, until the write of that number, which fails.
+/// Takes so many bytes a write.
 #[derive(Drop)]
 struct Wire<'a> {
     taken: Vec<u8>,
     step: usize,
-    writes: u32,
-    fails_at: u32,
     told: &'a Told,
 }
 
@@ -85,8 +75,6 @@ struct Told {
     /// How many bytes were written, as they should be.
     right: AtomicU64,
     hung_up: AtomicU64,
-    /// How many writes came behind a failed one.
-    late: AtomicU64,
 }
 
 impl Told {
@@ -94,7 +82,6 @@ impl Told {
         Told {
             right: AtomicU64::new(0),
             hung_up: AtomicU64::new(0),
-            late: AtomicU64::new(0),
         }
     }
 
@@ -112,8 +99,6 @@ impl<'a> Wire<'a> {
         Wire {
             taken: Vec::new(alloc),
             step,
-            writes: 0,
-            fails_at: 0,
             told,
         }
     }
@@ -121,13 +106,6 @@ impl<'a> Wire<'a> {
 
 impl Write for Wire<'_> {
     fn write(&mut self, buf: &[u8]) -> io::Result<usize> {
-        self.writes = self.writes.saturating_add(1);
-        if self.fails_at > 0 && self.writes > self.fails_at {
-            self.told.late.fetch_add(1, Ordering::SeqCst);
-        }
-        if self.writes == self.fails_at {
-            return Err(io::Error::from(ErrorKind::BrokenPipe));
-        }
         let count = buf.len().min(self.step);
         if self.taken.extend_from_slice(&buf[..count]).is_err() {
             return Err(io::Error::from(ErrorKind::OutOfMemory));
@@ -285,35 +263,6 @@ fn reads_however_the_bytes_come(rt: HostRuntime) {
     }
 }
 
-/// How many frames have come before the read of that number, of one byte each.
-fn frames_before(read: u32) -> usize {
-    if read <= 20 {
-        0
-    } else if read <= 43 {
-        1
-    } else {
-        2
-    }
-}
-
-#[test]
-fn a_read_that_fails_ends_the_link(rt: HostRuntime) {
-    for fails_at in 1..45 {
-        let mut sent = Sent::by(1);
-        sent.fails_at = fails_at;
-        let wanted = Seen {
-            end: ReadEnd::ReadFault,
-            frames: frames_before(fails_at),
-            lost: 1,
-        };
-        assert_eq!(rt;
-            read(&rt, rt.alloc(), 100, &mut sent),
-            Some(wanted),
-            "read {fails_at}"
-        );
-    }
-}
-
 #[test]
 fn a_full_audit_ends_a_reader(rt: HostRuntime) {
     for entries in [1u32, 2, 3] {
@@ -329,66 +278,6 @@ fn a_full_audit_ends_a_reader(rt: HostRuntime) {
     }
 }
 
-/// Why a writer stopped, and whether it hung up.
-#[derive(Clone, Copy, Debug, PartialEq, Eq)]
-struct Stop {
-    end: WriteEnd,
-    hung_up: bool,
-}
-
-/// What the workers of a link see that was lost before; four entries were made.
-#[derive(Clone, Copy, Debug, PartialEq, Eq)]
-struct Late {
-    read: Seen,
-    written: Stop,
-}
-
-fn after_loss<R: Wait>(rt: &R, alloc: Global) -> Option<Late> {
-    let (node, mut passes) = with_link(rt, alloc, 100)?;
-    let late = work_late(rt, alloc, &node, passes.as_mut_slice());
-    if closed(node, passes) == Some(4) {
-        late
-    } else {
-        None
-    }
-}
-
-/// Loses the link by the pass of its writer, and runs both workers.
-fn work_late<R: Wait>(rt: &R, alloc: Global, node: &Node, passes: &mut [Pass]) -> Option<Late> {
-    if !is_done(rt, node, passes.last_mut()?, Event::Lost(1)) {
-        return None;
-    }
-    let read = read_by(rt, alloc, node, passes, &mut Sent::by(4096))?;
-    let written = write_by(rt, alloc, node, passes.last_mut()?);
-    Some(Late { read, written })
-}
-
-fn write_by<R: Wait>(rt: &R, alloc: Global, node: &Node, writer: &mut Pass) -> Stop {
-    let told = Told::new();
-    let mut wire = Wire::by(alloc, 4096, &told);
-    let end = write_link(rt, alloc, node, writer, 1, &mut wire);
-    Stop {
-        end,
-        hung_up: told.is_hung_up(),
-    }
-}
-
-#[test]
-fn a_link_that_was_lost_is_gone(rt: HostRuntime) {
-    let wanted = Late {
-        read: Seen {
-            end: ReadEnd::Gone,
-            frames: 1,
-            lost: 0,
-        },
-        written: Stop {
-            end: WriteEnd::Gone,
-            hung_up: true,
-        },
-    };
-    assert_eq!(rt; after_loss(&rt, rt.alloc()), Some(wanted));
-}
-
 /// Why both workers stopped.
 #[derive(Clone, Copy, Debug, PartialEq, Eq)]
 struct Ends {
@@ -396,19 +285,17 @@ struct Ends {
     written: WriteEnd,
 }
 
-/// Serves the link with both workers, over writes of so many bytes; the write of that number fails.
+/// Serves the link with both workers, over writes of so many bytes.
 fn serve<R: Threads + Wait + Sync>(
     rt: &R,
     alloc: Global,
     told: &Told,
     step: usize,
-    fails_at: u32,
 ) -> Option<Ends> {
     let (node, mut passes) = with_link(rt, alloc, 100)?;
     let writer = passes.pop()?;
     let reader = passes.pop()?;
-    let mut wire = Wire::by(alloc, step, told);
-    wire.fails_at = fails_at;
+    let wire = Wire::by(alloc, step, told);
     let served = serve_with(rt, alloc, &node, reader, writer, wire);
     ended(node, served, passes)
 }
@@ -451,29 +338,8 @@ fn both_workers_serve_a_link(rt: HostRuntime) {
     };
     for step in [4096, 7, 1] {
         let told = Told::new();
-        assert_eq!(rt; serve(&rt, rt.alloc(), &told, step, 0), Some(wanted));
+        assert_eq!(rt; serve(&rt, rt.alloc(), &told, step), Some(wanted));
         assert!(rt; told.has_all());
         assert!(rt; told.is_hung_up());
-    }
-}
-
-/// Whether a writer whose write of that number failed did what it should.
-fn gave_up(ends: Option<Ends>, told: &Told, fails_at: u32) -> bool {
-    let Some(ends) = ends else {
-        return false;
-    };
-    ends.written == WriteEnd::WriteFault
-        && (ends.read == ReadEnd::Closed || ends.read == ReadEnd::Gone)
-        && told.late.load(Ordering::SeqCst) == 0
-        && told.right.load(Ordering::SeqCst) == u64::from(fails_at).saturating_sub(1)
-        && told.is_hung_up()
-}
-
-#[test]
-fn a_write_that_fails_ends_the_link(rt: HostRuntime) {
-    for fails_at in 1..49 {
-        let told = Told::new();
-        let ends = serve(&rt, rt.alloc(), &told, 1, fails_at);
-        assert!(rt; gave_up(ends, &told, fails_at), "write {fails_at}");
     }
 }

@@ -1,5 +1,0 @@
-//! Lines that are read, and answers that are printed.
-
-mod diagnoses;
-mod printing;
-mod reading;
