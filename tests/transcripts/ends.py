@@ -6,7 +6,9 @@ import select
 import subprocess
 
 SECONDS = 60
-NO_REASON = 'the line can\'t be read\n'
+NO_REASON = 'error: the line can\'t be read'
+# What bin/pg_console says itself, where the program isn't proved.
+OF_THE_SCRIPT = 'pg_console: '
 
 # A line that says no command, and what is said of it.
 NO_COMMANDS = (
@@ -70,12 +72,18 @@ def tries(run):
 def ends_so(program, words, script, answers, said, status):
     """What is wrong with the end of a script, if something is. Where `said` is None, standard error has one line that gives some reason."""
     played = subprocess.run([program, *words], input=script.encode(), capture_output=True, timeout=SECONDS)
-    error = played.stderr.decode()
+    errors = lines_of(played.stderr)
     if played.stdout.decode() != answers or played.returncode != status:
         return f'{script[-40:]!r}: {played.stdout.decode()!r}, status {played.returncode}'
-    if error.count('\n') != 1 or error.endswith(NO_REASON) if said is None else not error.endswith(said):
-        return f'{script[-40:]!r}: standard error has {error!r}'
+    has_reason = len(errors) == 1 and errors != [NO_REASON]
+    if not has_reason if said is None else errors != said.splitlines():
+        return f'{script[-40:]!r}: standard error has {errors}'
     return None
+
+
+def lines_of(error):
+    """What the program wrote on standard error."""
+    return [line for line in error.decode().splitlines() if not line.startswith(OF_THE_SCRIPT)]
 
 
 def answers_at_once(program, words):
@@ -114,5 +122,5 @@ def unreadable_input(program, words):
 
 def failed(program, words, said, **streams):
     played = subprocess.run([program, *words], stderr=subprocess.PIPE, timeout=SECONDS, **streams)
-    is_so = played.returncode == 1 and played.stderr.decode().endswith(f'{said}\n')
+    is_so = played.returncode == 1 and lines_of(played.stderr) == [f'error: {said}']
     return None if is_so else f'status {played.returncode}, {played.stderr.decode()!r}'

@@ -24,7 +24,7 @@ const OWED: [u8; 48] = [
     0x4c,
 ];
 
-/// Gives the bytes of the peer, at most so many a read; where it interrupts, each read but for one.
+/// Gives the bytes of the peer, at most so many a read; where it interrupts, each read is interrupted once before it gives any.
 #[derive(Drop)]
 struct Sent {
     at: usize,
