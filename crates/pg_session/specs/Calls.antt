@@ -31,10 +31,11 @@ GoesOn pass pass' = (more : List Call) × Gains pass more pass'
 
 -- ---- the seat of a connection
 
--- its calls, and the processes that it has
+-- its calls, the processes that it has, and whether a connection sits there
 pub record Seat : Type 0 where
   pub pass : Record
   pub own : List Pid
+  pub taken : Bool
 
 -- it has spawned those that it has
 abbrev pub IsSeat : Seat → Type 0

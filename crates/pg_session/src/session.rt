@@ -56,9 +56,9 @@ impl Model for Session {
 
     ghost Value = { Seat };
 
-    ghost view = { λ session. record { pass = session.caller; own = session.processes } };
+    ghost view = { λ session. record { pass = session.caller; own = session.processes; taken = session.is_open } };
 
-    ghost invariant = { λ session. IsSeat (record { pass = session.caller; own = session.processes }) };
+    ghost invariant = { λ session. IsSeat (record { pass = session.caller; own = session.processes; taken = session.is_open }) };
 }
 
 /// Whether the program goes on behind a line.
@@ -71,7 +71,7 @@ pub enum Next {
 impl Session {
     /// A seat that nobody has.
     pub fn new(alloc: Global, caller: Caller) -> Session
-        ensures { result ≡ record { pass = caller; own = [] } }
+        ensures { result ≡ record { pass = caller; own = []; taken = false } }
     {
         Session {
             caller,
@@ -82,13 +82,17 @@ impl Session {
         }
     }
 
-    pub fn is_open(&self) -> bool {
+    /// Whether a connection has the seat.
+    pub fn is_open(&self) -> bool
+        ensures { result ≡ self.now.taken }
+    {
         self.is_open
     }
 
     /// Gives the seat to a connection, which is told what happens from now on.
     pub fn open(&mut self, core: &NodeCore) -> Result<Seen, OutOfMemory>
-        ensures { self.new ≡ self.old }
+        ensures ok { OnOk result (self.new ≡ record self.old { taken = true }) }
+        ensures same { OnErr result (self.new ≡ self.old) }
     {
         self.news.start(core)?;
         self.is_open = true;
@@ -98,7 +102,7 @@ impl Session {
     /// Takes the right to call the next life, and gives back that to call the last one. Processes and monitors of the last life are
     /// gone with it, which the connection is told.
     pub fn begin_anew(&mut self, caller: Caller, core: &NodeCore) -> Caller
-        ensures next { self.new ≡ record { pass = caller; own = [] } }
+        ensures next { self.new ≡ record { pass = caller; own = []; taken = self.old.taken } }
         ensures last { result ≡ self.old.pass }
     {
         self.processes.clear();
@@ -143,6 +147,7 @@ impl Session {
         ensures ok { OnOk result (is_quiet line.now ≡ false → Answers (asked_by line.now) self.old out.old.items self.new out.new.items) }
         ensures next { IfOk result (λ next. next ≡ next_behind line.now) }
         ensures once { Makes (asked_by line.now) self.old self.new }
+        ensures taken { self.new.taken ≡ self.old.taken }
     {
         if is_quiet(line) {
             return Ok(Next::Line);
@@ -169,6 +174,7 @@ impl Session {
         ensures ok { OnOk result (Answers (Some request) self.old out.old.items self.new out.new.items) }
         ensures next { IfOk result (λ next. next ≡ next_after (Some request)) }
         ensures once { Makes (Some request) self.old self.new }
+        ensures taken { self.new.taken ≡ self.old.taken }
     {
         match request {
             Request::Call(event) => self.call(rt, alloc, node, event, out)?,
@@ -197,6 +203,7 @@ impl Session {
         requires { is_call event ≡ true }
         ensures ok { OnOk result (Answers (Some (requests.Call event)) self.old out.old.items self.new out.new.items) }
         ensures once { Makes (Some (requests.Call event)) self.old self.new }
+        ensures taken { self.new.taken ≡ self.old.taken }
     {
         if !self.processes.has_all(moved_pids(&event)) {
             drop(event);
@@ -217,6 +224,7 @@ impl Session {
         requires { may_call (spawned self.old.pass.calls) event ≡ true }
         ensures ok { OnOk result (AnswersCall self.old event out.old.items self.new out.new.items) }
         ensures once { IsCalled self.old.pass event self.new.pass ⊎ (self.new ≡ self.old) }
+        ensures taken { self.new.taken ≡ self.old.taken }
     {
         let prepared = prepare(alloc, &mut self.processes, &mut self.watches, &event);
         let Ok(stake) = prepared else {
@@ -241,6 +249,7 @@ impl Session {
     ) -> Result<Seen, OutOfMemory>
         ensures told { OnOk result (Tells self.old.pass out.old.items self.new.pass out.new.items) }
         ensures own { self.new.own ≡ self.old.own }
+        ensures taken { self.new.taken ≡ self.old.taken }
     {
         self.news.put_restart(out)?;
         self.look(rt, alloc, node, out)?;
@@ -268,7 +277,8 @@ impl Session {
     pub fn leave_one<R: Wait>(&mut self, rt: &R, alloc: Global, node: &Node) -> bool
         ensures goes { GoesOn self.old.pass self.new.pass }
         ensures fewer { (p : Pid) → has self.new.own p ≡ true → has self.old.own p ≡ true }
-        ensures free { result ≡ false → (self.old.own ≡ []) × (self.new ≡ self.old) }
+        ensures free { result ≡ false → (self.old.own ≡ []) × (self.new ≡ record self.old { taken = false }) }
+        ensures taken { result ≡ true → self.new.taken ≡ self.old.taken }
     {
         if let Some(pid) = self.processes.take() {
             end_process(&mut self.caller, rt, alloc, node, &pid);
