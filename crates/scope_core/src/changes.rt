@@ -6,7 +6,7 @@ ghost use Rattle.scope_core.specs.Table.{counted_cmp};
 ghost use Rattle.dist_types.specs.Difference.{change_unless_empty};
 ghost use Rattle.scope_core.specs.Listed.{heads, moving, IsUnion, Tells};
 
-use crate::counted::Counted;
+use crate::counted::BoxedRow;
 use crate::reads::{groups_of, in_group, pids_of};
 use dist_types::{Group, GroupChange, Items, OutOfMemory, Pid, Row, TryClone};
 use std::alloc::Global;
@@ -35,8 +35,8 @@ pub fn one_change(
 /// The changes where some rows leave, and others join.
 pub fn changes_of(
     alloc: Global,
-    gone: &[Counted],
-    joined: &[Counted],
+    gone: &[BoxedRow],
+    joined: &[BoxedRow],
 ) -> Result<Vec<GroupChange>, OutOfMemory>
     requires gone { Rises counted_cmp gone.now }
     requires joined { Rises counted_cmp joined.now }
@@ -53,8 +53,8 @@ pub fn changes_of(
 /// The groups that processes leave or join.
 fn groups_moved(
     alloc: Global,
-    gone: &[Counted],
-    joined: &[Counted],
+    gone: &[BoxedRow],
+    joined: &[BoxedRow],
 ) -> Result<Vec<Group>, OutOfMemory>
     ensures { IfOk result (λ groups. IsUnion (heads None gone.now) (heads None joined.now) groups.items) }
 {
@@ -70,8 +70,8 @@ fn groups_moved(
 fn change_in(
     alloc: Global,
     group: &Group,
-    gone: &[Counted],
-    joined: &[Counted],
+    gone: &[BoxedRow],
+    joined: &[BoxedRow],
 ) -> Result<GroupChange, OutOfMemory>
     requires gone { Rises counted_cmp gone.now }
     requires joined { Rises counted_cmp joined.now }

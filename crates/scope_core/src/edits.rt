@@ -1,16 +1,17 @@
 //! What is done to the sorted rows.
-ghost use Rattle.std.specs.Prelude.{◌≡◌, ◌+◌, ◌<◌, ◌≤◌, IsTrue, true, [], ◌∷◌, not, vec_len, vec_capacity};
+ghost use Rattle.std.specs.Prelude.{◌≡◌, ◌+◌, ◌<◌, ◌≤◌, IsTrue, OnOk, true, [], ◌∷◌, not, vec_len, vec_capacity};
 ghost use Rattle.std.specs.List.{filter, HoldsAt};
 ghost use Rattle.dist_types.specs.declared.row.Row.{Row};
 ghost use Rattle.dist_types.specs.Listing.{same_pid};
 ghost use Rattle.scope_core.specs.Table.{tally, is_row, is_of_node, IsKept, AreCounted};
 ghost use Rattle.scope_core.specs.Added.{row_in, are_all_in, Adds, Joins, Takes, Leaves, HasRoomFor, HasRoomBeside};
 
-use crate::counted::Counted;
+use crate::counted::BoxedRow;
 use crate::lowered::{lower_all, lower_rows, sweep};
 use crate::merged::merge;
 use crate::reads::{is_same, place_of};
-use dist_types::{Group, NodeName, Pid, Row};
+use dist_types::{Group, NodeName, OutOfMemory, Pid, Row};
+use std::alloc::Global;
 
 /// Where rows are merged, all rows of the list are moved, one after the other. So fewer than these are put in one by one.
 pub const FEW: usize = 64;
@@ -20,15 +21,15 @@ pub const FEW: usize = 64;
 const SINGLES: usize = 4;
 
 /// Takes all rows of a process away.
-pub fn remove_pid(rows: &mut Vec<Counted>, pid: &Pid)
+pub fn remove_pid(rows: &mut Vec<BoxedRow>, pid: &Pid)
     ensures { rows.new.items ≡ filter (λ c. not (same_pid c.row.pid pid.now)) rows.old.items }
 {
-    rows.retain(|counted| !is_same(&counted.row.pid, pid));
+    rows.retain(|counted| !is_same(&counted.row().pid, pid));
 }
 
 /// Puts rows in, into the room that there is: by a merge, where there is spare room for all. Where there are no others, they
 /// need no merge.
-pub fn put_in(rows: &mut Vec<Counted>, more: Vec<Counted>, spare: Vec<Counted>)
+pub fn put_in(rows: &mut Vec<BoxedRow>, more: Vec<BoxedRow>, spare: Vec<BoxedRow>)
     requires room { vec_len rows.old + vec_len more ≤ vec_capacity rows.old }
     requires empty { spare.items ≡ [] }
     requires kept { IsKept rows.old.items }
@@ -47,7 +48,7 @@ pub fn put_in(rows: &mut Vec<Counted>, more: Vec<Counted>, spare: Vec<Counted>)
 }
 
 /// Takes one away for each mention of a process, as far as it is in the group. Answers how many the node loses.
-pub fn take_all(rows: &mut Vec<Counted>, group: &Group, pids: &[Pid], node: &NodeName) -> usize
+pub fn take_all(rows: &mut Vec<BoxedRow>, group: &Group, pids: &[Pid], node: &NodeName) -> usize
     requires { IsKept rows.old.items }
     ensures counts { Leaves group.now pids.now rows.old.items rows.new.items }
     ensures total { tally (is_of_node node.now) rows.new.items + result ≡ tally (is_of_node node.now) rows.old.items }
@@ -64,7 +65,7 @@ pub fn take_all(rows: &mut Vec<Counted>, group: &Group, pids: &[Pid], node: &Nod
 
 /// What `take_all` does, row by row.
 #[tactic(auto, using(crate::proofs::RowEdits::taken_counts, crate::proofs::RowEdits::taken_total))]
-fn take_each(rows: &mut Vec<Counted>, group: &Group, pids: &[Pid], node: &NodeName) -> usize
+fn take_each(rows: &mut Vec<BoxedRow>, group: &Group, pids: &[Pid], node: &NodeName) -> usize
     requires { IsKept rows.old.items }
     ensures counts { Leaves group.now pids.now rows.old.items rows.new.items }
     ensures total { tally (is_of_node node.now) rows.new.items + result ≡ tally (is_of_node node.now) rows.old.items }
@@ -79,7 +80,7 @@ fn take_each(rows: &mut Vec<Counted>, group: &Group, pids: &[Pid], node: &NodeNa
 }
 
 /// One less for each row.
-pub fn take_rows(rows: &mut Vec<Counted>, gone: &[Row])
+pub fn take_rows(rows: &mut Vec<BoxedRow>, gone: &[Row])
     requires kept { IsKept rows.old.items }
     requires counted { IsTrue (are_all_in rows.old.items gone.now) }
     ensures taken { Adds gone.now rows.new.items rows.old.items }
@@ -94,7 +95,7 @@ pub fn take_rows(rows: &mut Vec<Counted>, gone: &[Row])
 }
 
 /// What `take_rows` does, row by row.
-fn take_each_row(rows: &mut Vec<Counted>, gone: &[Row])
+fn take_each_row(rows: &mut Vec<BoxedRow>, gone: &[Row])
     requires kept { IsKept rows.old.items }
     requires counted { IsTrue (are_all_in rows.old.items gone.now) }
     ensures taken { Adds gone.now rows.new.items rows.old.items }
@@ -106,7 +107,7 @@ fn take_each_row(rows: &mut Vec<Counted>, gone: &[Row])
 }
 
 /// Takes one away, if the process is in the group. Answers whether it is.
-pub fn take(rows: &mut Vec<Counted>, group: &Group, pid: &Pid) -> bool
+pub fn take(rows: &mut Vec<BoxedRow>, group: &Group, pid: &Pid) -> bool
     requires { IsKept rows.old.items }
     ensures taken { Takes result (row_in group.now pid.now) rows.old.items rows.new.items }
     ensures kept { IsKept rows.new.items }
@@ -122,36 +123,38 @@ pub fn take(rows: &mut Vec<Counted>, group: &Group, pid: &Pid) -> bool
 
 /// One less at this place. The row goes with its last.
 #[tactic(auto, using(crate::proofs::RowEdits::lessens))]
-fn lessen(rows: &mut Vec<Counted>, at: usize)
+fn lessen(rows: &mut Vec<BoxedRow>, at: usize)
     requires bound { at < vec_len rows.old }
     requires kept { IsKept rows.old.items }
     ensures taken { (row : Row) → HoldsAt (λ c. c.row ≡ row) rows.old.items at → Takes true row rows.old.items rows.new.items }
     ensures kept { IsKept rows.new.items }
 {
-    if rows[at].count > 1 {
-        rows[at].count -= 1;
+    let count = rows[at].count();
+    if count > 1 {
+        rows[at].set_count(count - 1);
     } else {
         rows.remove(at);
     }
 }
 
-/// Puts rows in, into the room that there is.
-pub fn add_all(rows: &mut Vec<Counted>, fresh: Vec<Row>)
+/// Puts rows in, into the room that there is. Each takes a block; where there is no memory for one, those before it are in.
+pub fn add_all(alloc: Global, rows: &mut Vec<BoxedRow>, fresh: Vec<Row>) -> Result<(), OutOfMemory>
     requires room { vec_len rows.old + vec_len fresh ≤ vec_capacity rows.old }
     requires kept { IsKept rows.old.items }
     requires few { HasRoomFor fresh.items rows.old.items }
-    ensures added { Adds fresh.items rows.old.items rows.new.items }
+    ensures added { OnOk result (Adds fresh.items rows.old.items rows.new.items) }
     ensures kept { IsKept rows.new.items }
 {
     let mut left = fresh;
     while let Some(row) = left.pop() {
-        add(rows, Counted { row, count: 1 });
+        add(rows, BoxedRow::new(alloc, row, 1)?);
     }
+    Ok(())
 }
 
 /// Puts counted rows in, into the room that there is. The rows behind each are moved.
 #[tactic(auto, using(crate::proofs::RowEdits::last_tally, crate::proofs::RowEdits::last_counted))]
-fn add_each(rows: &mut Vec<Counted>, more: Vec<Counted>)
+fn add_each(rows: &mut Vec<BoxedRow>, more: Vec<BoxedRow>)
     requires room { vec_len rows.old + vec_len more ≤ vec_capacity rows.old }
     requires kept { IsKept rows.old.items }
     requires more { AreCounted more.items }
@@ -167,7 +170,7 @@ fn add_each(rows: &mut Vec<Counted>, more: Vec<Counted>)
 
 /// Puts a counted row in, into the room that there is.
 #[tactic(auto, using(crate::proofs::RowEdits::puts_in))]
-pub fn add(rows: &mut Vec<Counted>, fresh: Counted)
+pub fn add(rows: &mut Vec<BoxedRow>, fresh: BoxedRow)
     requires room { vec_len rows.old < vec_capacity rows.old }
     requires kept { IsKept rows.old.items }
     requires some { 0 < fresh.count }
@@ -177,8 +180,11 @@ pub fn add(rows: &mut Vec<Counted>, fresh: Counted)
     ensures room { vec_len rows.new ≤ vec_len rows.old + 1 }
     ensures capacity { vec_capacity rows.old ≤ vec_capacity rows.new }
 {
-    match place_of(rows, &fresh.row.group, &fresh.row.pid) {
-        Ok(at) => rows[at].count += fresh.count,
+    match place_of(rows, &fresh.row().group, &fresh.row().pid) {
+        Ok(at) => {
+            let count = rows[at].count() + fresh.count();
+            rows[at].set_count(count);
+        }
         Err(at) => {
             // This can't fail, since there is room.
             let _ = rows.insert(at, fresh);

@@ -7,14 +7,14 @@ ghost use Rattle.scope_core.specs.Added.{Adds, HasRoomFor};
 ghost use Rattle.scope_core.specs.Beyond.{times_beyond, picked};
 
 use crate::changes::copies_of;
-use crate::counted::Counted;
+use crate::counted::BoxedRow;
 use crate::edits::{FEW, add_all};
 use crate::reads::count_at;
 use dist_types::{OutOfMemory, Row, TryClone};
 use std::alloc::Global;
 
 /// The rows in order, each with its count.
-pub fn counted_rows(alloc: Global, rows: &[Row]) -> Result<Vec<Counted>, OutOfMemory>
+pub fn counted_rows(alloc: Global, rows: &[Row]) -> Result<Vec<BoxedRow>, OutOfMemory>
     requires { HasRoomFor rows.now [] }
     ensures added { IfOk result (λ counted. Adds rows.now [] counted.items) }
     ensures kept { IfOk result (λ counted. IsKept counted.items) }
@@ -25,22 +25,22 @@ pub fn counted_rows(alloc: Global, rows: &[Row]) -> Result<Vec<Counted>, OutOfMe
 }
 
 /// The same of rows that aren't needed any more.
-pub fn counted_of(alloc: Global, rows: Vec<Row>) -> Result<Vec<Counted>, OutOfMemory>
+pub fn counted_of(alloc: Global, rows: Vec<Row>) -> Result<Vec<BoxedRow>, OutOfMemory>
     requires { HasRoomFor rows.items [] }
     ensures added { IfOk result (λ counted. Adds rows.items [] counted.items) }
     ensures kept { IfOk result (λ counted. IsKept counted.items) }
 {
     let mut counted = Vec::with_capacity(alloc, rows.len())?;
-    add_all(&mut counted, falling(rows));
+    add_all(alloc, &mut counted, falling(rows))?;
     Ok(counted)
 }
 
 /// Room for so many more rows, and spare room to merge them, unless they are few.
 pub fn room_for(
     alloc: Global,
-    rows: &mut Vec<Counted>,
+    rows: &mut Vec<BoxedRow>,
     more: usize,
-) -> Result<Vec<Counted>, OutOfMemory>
+) -> Result<Vec<BoxedRow>, OutOfMemory>
     ensures same { rows.new.items ≡ rows.old.items }
     ensures room { OnOk result (vec_len rows.new + more ≤ vec_capacity rows.new) }
     ensures empty { IfOk result (λ spare. spare.items ≡ []) }
@@ -64,9 +64,9 @@ fn falling(rows: Vec<Row>) -> Vec<Row>
 /// The rows that are counted more often than among the others, and how much more often.
 pub fn beyond(
     alloc: Global,
-    rows: &[Counted],
-    others: &[Counted],
-) -> Result<Vec<Counted>, OutOfMemory>
+    rows: &[BoxedRow],
+    others: &[BoxedRow],
+) -> Result<Vec<BoxedRow>, OutOfMemory>
     requires { Rises counted_cmp others.now }
     ensures { IfOk result (λ more. more.items ≡ picked (times_beyond others.now) rows.now) }
 {
@@ -75,20 +75,20 @@ pub fn beyond(
     for counted in rows {
         let count = count_beyond(counted, others, &mut next);
         if count > 0 {
-            let row = counted.row.try_clone(alloc)?;
-            more.push(Counted { row, count })?;
+            let row = counted.row().try_clone(alloc)?;
+            more.push(BoxedRow::new(alloc, row, count)?)?;
         }
     }
     Ok(more)
 }
 
 /// How much more often a row is counted than among the others.
-fn count_beyond(counted: &Counted, others: &[Counted], next: &mut usize) -> u32
+fn count_beyond(counted: &BoxedRow, others: &[BoxedRow], next: &mut usize) -> u32
     requires { Rises counted_cmp others.now }
     ensures { result ≡ times_beyond others.now counted.now }
 {
-    let row = &counted.row;
+    let row = counted.row();
     counted
-        .count
+        .count()
         .saturating_sub(count_at(others, next, &row.group, &row.pid))
 }

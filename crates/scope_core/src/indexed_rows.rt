@@ -7,7 +7,7 @@ ghost use Rattle.scope_core.specs.Added.{without_node, are_all_in, Adds, Joins, 
 ghost use Rattle.scope_core.specs.NodeLists.{of_node, IsNodeList};
 ghost use Rattle.scope_core.specs.Indexed.{has_members, is_there, is_named, Covers};
 
-use crate::counted::Counted;
+use crate::counted::BoxedRow;
 use crate::group_nodes::GroupNodes;
 use crate::indexing::{gathered, put_all, settle_all, settle_nodes, unname, unname_process};
 use crate::node_lists::NodeLists;
@@ -47,7 +47,7 @@ impl IndexedRows {
     }
 
     /// The rows of a node, in their order.
-    pub fn of_node(&self, node: &NodeName) -> &[Counted]
+    pub fn of_node(&self, node: &NodeName) -> &[BoxedRow]
         ensures rows { result.now ≡ of_node node.now self.now }
         ensures list { IsNodeList node.now result.now }
         ensures few { (n : List ℕ) → tally (is_of_node n) self.now ≤ max_rows }
@@ -113,7 +113,7 @@ impl IndexedRows {
     pub fn join(
         &mut self,
         node: &NodeName,
-        more: Vec<Counted>,
+        more: Vec<BoxedRow>,
         changes: &[GroupChange],
     ) -> Result<(), OutOfMemory>
         requires list { IsNodeList node.now more.items }
@@ -139,7 +139,7 @@ impl IndexedRows {
     pub fn replace(
         &mut self,
         node: &NodeName,
-        rows: Vec<Counted>,
+        rows: Vec<BoxedRow>,
         changes: &[GroupChange],
     ) -> Result<(), OutOfMemory>
         requires list { IsNodeList node.now rows.items }

@@ -9,7 +9,7 @@ ghost use Rattle.scope_core.specs.Table.{counted_cmp, tally, is_row};
 ghost use Rattle.scope_core.specs.NodeLists.{IsNodeList};
 ghost use Rattle.scope_core.specs.Indexed.{has_members, is_named, is_of_one, is_row_of, has_others};
 
-use crate::counted::Counted;
+use crate::counted::BoxedRow;
 use crate::group_nodes::GroupNodes;
 use crate::node_lists::NodeLists;
 use crate::reads::{in_group, is_same, pids_of};
@@ -87,16 +87,16 @@ fn settle_other(
 }
 
 /// The node is no group's in which it has one of its rows, which these are.
-pub fn unname(rows: &[Counted], index: &mut GroupNodes, node: &NodeName)
+pub fn unname(rows: &[BoxedRow], index: &mut GroupNodes, node: &NodeName)
     ensures { (g n : List ℕ) → times_named index.new g n ≡ cond (list_any (is_in g) rows.now && same node.now n) 0 (times_named index.old g n) }
 {
     for counted in rows {
-        index.take(&counted.row.group, node);
+        index.take(&counted.row().group, node);
     }
 }
 
 /// The node of a process is no group's in which it has no other process. These are its rows. Answers how many the process has.
-pub fn unname_process(rows: &[Counted], index: &mut GroupNodes, pid: &Pid) -> usize
+pub fn unname_process(rows: &[BoxedRow], index: &mut GroupNodes, pid: &Pid) -> usize
     requires { IsNodeList pid.now.node rows.now }
     ensures gone { result ≡ tally (λ r. same_pid r.pid pid.now) rows.now }
     ensures unnamed { (g n : List ℕ) → times_named index.new g n ≡ cond ((list_any (is_row_of g pid.now) rows.now && same pid.now.node n) && not (has_others g pid.now rows.now)) 0 (times_named index.old g n) }
@@ -109,23 +109,23 @@ pub fn unname_process(rows: &[Counted], index: &mut GroupNodes, pid: &Pid) -> us
 }
 
 /// The same for one of the rows.
-fn unname_row(rows: &[Counted], index: &mut GroupNodes, counted: &Counted, pid: &Pid) -> usize
+fn unname_row(rows: &[BoxedRow], index: &mut GroupNodes, counted: &BoxedRow, pid: &Pid) -> usize
     requires { IsNodeList pid.now.node rows.now }
     ensures gone { result ≡ cond (same_pid counted.now.row.pid pid.now) counted.now.count 0 }
     ensures unnamed { (g n : List ℕ) → times_named index.new g n ≡ cond ((is_row_of g pid.now counted.now && same pid.now.node n) && not (has_others g pid.now rows.now)) 0 (times_named index.old g n) }
 {
-    if !is_same(&counted.row.pid, pid) {
+    if !is_same(&counted.row().pid, pid) {
         return 0;
     }
-    let group = &counted.row.group;
+    let group = &counted.row().group;
     if is_alone(rows, group, pid) {
         index.take(group, &pid.node);
     }
-    counted.count as usize
+    counted.count() as usize
 }
 
 /// Whether only the process has a row of the group.
-fn is_alone(rows: &[Counted], group: &Group, pid: &Pid) -> bool
+fn is_alone(rows: &[BoxedRow], group: &Group, pid: &Pid) -> bool
     requires { Rises counted_cmp rows.now }
     ensures { result ≡ not (has_others group.now pid.now rows.now) }
 {
@@ -133,10 +133,10 @@ fn is_alone(rows: &[Counted], group: &Group, pid: &Pid) -> bool
 }
 
 /// Whether all rows are the process's.
-fn are_all_of(rows: &[Counted], pid: &Pid) -> bool
+fn are_all_of(rows: &[BoxedRow], pid: &Pid) -> bool
     ensures { result ≡ list_all (λ c. same_pid c.row.pid pid.now) rows.now }
 {
-    rows.iter().all(|counted| is_same(&counted.row.pid, pid))
+    rows.iter().all(|counted| is_same(&counted.row().pid, pid))
 }
 
 /// The processes of a group, those of a node beside one another.

@@ -7,7 +7,7 @@ ghost use Rattle.scope_core.specs.Kept.{kept_of, Forgets};
 ghost use Rattle.scope_core.specs.Listed.{is_in};
 ghost use Rattle.scope_core.specs.Indexed.{is_named, is_row_of};
 
-use crate::counted::Counted;
+use crate::counted::BoxedRow;
 use crate::reads::is_same;
 use dist_types::{Group, GroupChange, OutOfMemory, Pid, Shared, TryClone};
 use indexmap::IndexMap;
@@ -111,20 +111,20 @@ impl Listings {
 
     /// Keeps no list of a group of these rows, nor of the groups if there are rows.
     #[tactic(auto, using(crate::proofs::Kept::forgets_more))]
-    pub fn forget_rows(&mut self, rows: &[Counted])
+    pub fn forget_rows(&mut self, rows: &[BoxedRow])
         ensures { Forgets (λ g. list_any (is_in g) rows.now) self.old self.new }
     {
         if self.is_empty() {
             return;
         }
         for counted in rows {
-            self.forget(&counted.row.group);
+            self.forget(&counted.row().group);
         }
     }
 
     /// Keeps no list of a group in which the process has one of these rows, nor of the groups if it has one.
     #[tactic(auto, using(crate::proofs::Kept::forgets_more))]
-    pub fn forget_process(&mut self, rows: &[Counted], pid: &Pid)
+    pub fn forget_process(&mut self, rows: &[BoxedRow], pid: &Pid)
         ensures { Forgets (λ g. list_any (is_row_of g pid.now) rows.now) self.old self.new }
     {
         if self.is_empty() {
@@ -136,11 +136,11 @@ impl Listings {
     }
 
     /// The same for one of the rows.
-    fn forget_row(&mut self, counted: &Counted, pid: &Pid)
+    fn forget_row(&mut self, counted: &BoxedRow, pid: &Pid)
         ensures { Forgets (λ g. is_row_of g pid.now counted.now) self.old self.new }
     {
-        if is_same(&counted.row.pid, pid) {
-            self.forget(&counted.row.group);
+        if is_same(&counted.row().pid, pid) {
+            self.forget(&counted.row().group);
         }
     }
 

@@ -7,14 +7,14 @@ ghost use Rattle.dist_types.specs.Listing.{Rises, how_many};
 ghost use Rattle.scope_core.specs.Table.{tally, counted_cmp, is_row, is_of_node, max_rows, IsKept};
 ghost use Rattle.scope_core.specs.Added.{row_in, bare_rows, are_all_in, Adds, Takes, Leaves, HasRoomFor};
 
-use crate::counted::Counted;
+use crate::counted::BoxedRow;
 use crate::reads::place_next;
 use dist_types::{Group, NodeName, Pid, Row};
 
 /// Whether each row stands in the list at most as often as it is counted. Counts are lowered as far as this goes, and
 /// raised again.
 #[tactic(auto, using(crate::proofs::Lower::still_rises, crate::proofs::Lower::stands_counted, crate::proofs::Lower::same_counts))]
-pub fn are_all_in(rows: &mut Vec<Counted>, gone: &[Row]) -> bool
+pub fn are_all_in(rows: &mut Vec<BoxedRow>, gone: &[Row]) -> bool
     requires { IsKept rows.old.items }
     ensures value { result ≡ are_all_in rows.old.items gone.now }
     ensures fit { IsTrue result → HasRoomFor gone.now [] }
@@ -28,7 +28,7 @@ pub fn are_all_in(rows: &mut Vec<Counted>, gone: &[Row]) -> bool
 
 /// One less for each row.
 #[tactic(auto, using(crate::proofs::Lower::still_rises))]
-pub fn lower_rows(rows: &mut Vec<Counted>, gone: &[Row])
+pub fn lower_rows(rows: &mut Vec<BoxedRow>, gone: &[Row])
     requires kept { IsKept rows.old.items }
     requires counted { IsTrue (are_all_in rows.old.items gone.now) }
     ensures taken { Adds gone.now rows.new.items rows.old.items }
@@ -39,7 +39,7 @@ pub fn lower_rows(rows: &mut Vec<Counted>, gone: &[Row])
 
 /// One less for each mention of a process, as far as it is in the group. Answers how many the node loses.
 #[tactic(auto, using(crate::proofs::RowEdits::taken_counts, crate::proofs::RowEdits::taken_total, crate::proofs::Lower::still_rises, crate::proofs::Lower::takes_less))]
-pub fn lower_all(rows: &mut Vec<Counted>, group: &Group, pids: &[Pid], node: &NodeName) -> usize
+pub fn lower_all(rows: &mut Vec<BoxedRow>, group: &Group, pids: &[Pid], node: &NodeName) -> usize
     requires { IsKept rows.old.items }
     ensures counts { Leaves group.now pids.now rows.old.items rows.new.items }
     ensures total { tally (is_of_node node.now) rows.new.items + result ≡ tally (is_of_node node.now) rows.old.items }
@@ -56,18 +56,18 @@ pub fn lower_all(rows: &mut Vec<Counted>, group: &Group, pids: &[Pid], node: &No
 }
 
 /// Rows without a count go.
-pub fn sweep(rows: &mut Vec<Counted>)
+pub fn sweep(rows: &mut Vec<BoxedRow>)
     requires rises { Rises counted_cmp rows.old.items }
     requires few { (n : List ℕ) → tally (is_of_node n) rows.old.items ≤ max_rows }
     ensures tallies { (test : Row → Bool) → tally test rows.new.items ≡ tally test rows.old.items }
     ensures kept { IsKept rows.new.items }
 {
-    rows.retain(|counted| counted.count != 0);
+    rows.retain(|counted| counted.count() != 0);
 }
 
 /// One less for each row, up to the first that isn't there any more. Answers how many were.
 #[tactic(auto, using(crate::proofs::Lower::takes_more, crate::proofs::Lower::still_rises))]
-fn lower(rows: &mut Vec<Counted>, gone: &[Row]) -> usize
+fn lower(rows: &mut Vec<BoxedRow>, gone: &[Row]) -> usize
     requires { Rises counted_cmp rows.old.items }
     ensures bound { result ≤ length gone.now }
     ensures lowered { Adds (take result gone.now) rows.new.items rows.old.items }
@@ -86,7 +86,7 @@ fn lower(rows: &mut Vec<Counted>, gone: &[Row]) -> usize
 }
 
 /// One less of a row. Answers whether there is one.
-fn lower_one(rows: &mut Vec<Counted>, group: &Group, pid: &Pid, next: &mut usize) -> bool
+fn lower_one(rows: &mut Vec<BoxedRow>, group: &Group, pid: &Pid, next: &mut usize) -> bool
     requires { Rises counted_cmp rows.old.items }
     ensures taken { Takes result (row_in group.now pid.now) rows.old.items rows.new.items }
     ensures same { bare_rows rows.new.items ≡ bare_rows rows.old.items }
@@ -99,22 +99,23 @@ fn lower_one(rows: &mut Vec<Counted>, group: &Group, pid: &Pid, next: &mut usize
 
 /// One less at this place. Answers whether there is one.
 #[tactic(auto, using(crate::proofs::RowEdits::less_takes, crate::proofs::RowEdits::same_at, crate::proofs::Places::found_counts, crate::proofs::Lower::set_rows))]
-fn lower_at(rows: &mut Vec<Counted>, at: usize) -> bool
+fn lower_at(rows: &mut Vec<BoxedRow>, at: usize) -> bool
     requires bound { at < vec_len rows.old }
     requires rises { Rises counted_cmp rows.old.items }
     ensures taken { (row : Row) → HoldsAt (λ c. c.row ≡ row) rows.old.items at → Takes result row rows.old.items rows.new.items }
     ensures same { bare_rows rows.new.items ≡ bare_rows rows.old.items }
 {
-    if rows[at].count == 0 {
+    let count = rows[at].count();
+    if count == 0 {
         return false;
     }
-    rows[at].count -= 1;
+    rows[at].set_count(count - 1);
     true
 }
 
 /// One more for each row, of rows that stand there.
 #[tactic(auto, using(crate::proofs::Lower::pass_more, crate::proofs::Lower::still_rises))]
-fn raise(rows: &mut Vec<Counted>, back: &[Row])
+fn raise(rows: &mut Vec<BoxedRow>, back: &[Row])
     requires rises { Rises counted_cmp rows.old.items }
     requires few { HasRoomFor back.now rows.old.items }
     requires stand { (g : List ℕ) (p : Pid) → 0 < how_many (is_row g p) back.now → 0 < how_many (is_row g p) (bare_rows rows.old.items) }
@@ -129,7 +130,7 @@ fn raise(rows: &mut Vec<Counted>, back: &[Row])
 
 /// One more of a row that stands there.
 #[tactic(auto, using(crate::proofs::RowEdits::count_fits, crate::proofs::RowEdits::tally_more, crate::proofs::Lower::set_rows))]
-fn raise_one(rows: &mut Vec<Counted>, row: &Row, next: &mut usize)
+fn raise_one(rows: &mut Vec<BoxedRow>, row: &Row, next: &mut usize)
     requires rises { Rises counted_cmp rows.old.items }
     requires few { HasRoomFor (row.now ∷ []) rows.old.items }
     requires stands { 0 < how_many (is_row row.now.group row.now.pid) (bare_rows rows.old.items) }
@@ -137,7 +138,10 @@ fn raise_one(rows: &mut Vec<Counted>, row: &Row, next: &mut usize)
     ensures same { bare_rows rows.new.items ≡ bare_rows rows.old.items }
 {
     match place_next(rows, next, &row.group, &row.pid) {
-        Ok(at) => rows[at].count += 1,
+        Ok(at) => {
+            let count = rows[at].count();
+            rows[at].set_count(count + 1);
+        }
         // It stands there.
         Err(_) => {}
     }

@@ -5,12 +5,12 @@ ghost use Rattle.dist_types.specs.declared.row.Row.{Row};
 ghost use Rattle.scope_core.specs.Table.{tally, IsKept, AreCounted};
 ghost use Rattle.scope_core.specs.Added.{Joins, HasRoomBeside};
 
-use crate::counted::Counted;
+use crate::counted::BoxedRow;
 use crate::edits::add;
 
 /// Puts rows in among others. All are moved in order into the spare room, so that each goes behind those that are there.
 #[tactic(auto, using(crate::proofs::RowEdits::reversed_tally, crate::proofs::RowEdits::reversed_counted, crate::proofs::RowEdits::none_kept))]
-pub fn merge(rows: &mut Vec<Counted>, more: Vec<Counted>, spare: Vec<Counted>)
+pub fn merge(rows: &mut Vec<BoxedRow>, more: Vec<BoxedRow>, spare: Vec<BoxedRow>)
     requires room { vec_len rows.old + vec_len more ≤ vec_capacity spare }
     requires empty { spare.items ≡ [] }
     requires kept { IsKept rows.old.items }
@@ -31,7 +31,7 @@ pub fn merge(rows: &mut Vec<Counted>, more: Vec<Counted>, spare: Vec<Counted>)
 
 /// Takes out the lower one of the rows at the ends of both lists.
 #[tactic(auto, using(crate::proofs::RowEdits::popped_tally, crate::proofs::RowEdits::popped_counted))]
-fn take_next(rows: &mut Vec<Counted>, more: &mut Vec<Counted>) -> Option<Counted>
+fn take_next(rows: &mut Vec<BoxedRow>, more: &mut Vec<BoxedRow>) -> Option<BoxedRow>
     ensures taken { (test : Row → Bool) → tally test rows.old.items + tally test more.old.items ≡ tally test rows.new.items + tally test more.new.items + tally test (option_to_list result) }
     ensures rows { AreCounted rows.old.items → AreCounted rows.new.items }
     ensures more { AreCounted more.old.items → AreCounted more.new.items }
@@ -46,11 +46,11 @@ fn take_next(rows: &mut Vec<Counted>, more: &mut Vec<Counted>) -> Option<Counted
 }
 
 /// Whether the first list ends with a row that is lower than the last of the other.
-fn is_next_in(rows: &[Counted], more: &[Counted]) -> bool
+fn is_next_in(rows: &[BoxedRow], more: &[BoxedRow]) -> bool
     ensures { IsTrue result → 0 < length rows.now }
 {
     match (rows.last(), more.last()) {
-        (Some(row), Some(other)) => row.row < other.row,
+        (Some(row), Some(other)) => row.row() < other.row(),
         _ => false,
     }
 }

@@ -6,7 +6,7 @@ ghost use Rattle.scope_core.specs.Table.{tally, is_of_node, max_rows, IsKept};
 ghost use Rattle.scope_core.specs.Added.{row_in, are_all_in, Adds, Joins, Takes, Leaves, HasRoomFor};
 ghost use Rattle.scope_core.specs.NodeLists.{IsNodeList};
 
-use crate::counted::Counted;
+use crate::counted::BoxedRow;
 use crate::edits::{put_in, remove_pid, take, take_all, take_rows};
 use crate::incoming::room_for;
 use crate::lowered::are_all_in;
@@ -18,7 +18,7 @@ use std::marker::Model;
 /// A node's rows in order, with their total, which is asked for more often than the rows are gone over.
 #[derive(Debug, Drop)]
 pub struct NodeList {
-    rows: Vec<Counted>,
+    rows: Vec<BoxedRow>,
     /// How many rows there are, each as often as it is counted.
     total: usize,
 }
@@ -37,7 +37,7 @@ impl Model for NodeList {
 
 impl NodeList {
     /// A list of these rows.
-    pub fn of(rows: Vec<Counted>) -> NodeList
+    pub fn of(rows: Vec<BoxedRow>) -> NodeList
         requires { total (λ c. c.count) rows.items ≤ max_rows }
         ensures { result ≡ rows.items }
     {
@@ -46,7 +46,7 @@ impl NodeList {
     }
 
     /// The rows.
-    pub fn as_slice(&self) -> &[Counted]
+    pub fn as_slice(&self) -> &[BoxedRow]
         ensures { result.now ≡ self.now }
     {
         &self.rows
@@ -60,7 +60,7 @@ impl NodeList {
     }
 
     /// Puts rows in.
-    pub fn join(&mut self, alloc: Global, more: Vec<Counted>) -> Result<(), OutOfMemory>
+    pub fn join(&mut self, alloc: Global, more: Vec<BoxedRow>) -> Result<(), OutOfMemory>
         requires kept { IsKept self.old }
         requires more { IsKept more.items }
         requires few { total (λ c. c.count) self.old + total (λ c. c.count) more.items ≤ max_rows }
@@ -76,7 +76,7 @@ impl NodeList {
     }
 
     /// Puts rows in place of these.
-    pub fn replace(&mut self, rows: Vec<Counted>)
+    pub fn replace(&mut self, rows: Vec<BoxedRow>)
         requires { total (λ c. c.count) rows.items ≤ max_rows }
         ensures { self.new ≡ rows.items }
     {

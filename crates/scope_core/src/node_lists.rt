@@ -6,7 +6,7 @@ ghost use Rattle.scope_core.specs.Table.{tally, is_of_node, max_rows};
 ghost use Rattle.scope_core.specs.Added.{row_in, without_node, are_all_in, Adds, Joins, Takes, Leaves, HasRoomFor};
 ghost use Rattle.scope_core.specs.NodeLists.{of_node, IsNodeList, LeavesOf};
 
-use crate::counted::Counted;
+use crate::counted::BoxedRow;
 use crate::node_list::NodeList;
 use dist_types::{Group, NodeName, OutOfMemory, Pid, Row, TryClone};
 use indexmap::IndexMap;
@@ -45,7 +45,7 @@ impl NodeLists {
     }
 
     /// The rows of a node, in their order.
-    pub fn of_node(&self, node: &NodeName) -> &[Counted]
+    pub fn of_node(&self, node: &NodeName) -> &[BoxedRow]
         ensures rows { result.now ≡ of_node node.now self.now }
         ensures list { IsNodeList node.now result.now }
         ensures few { (n : List ℕ) → tally (is_of_node n) self.now ≤ max_rows }
@@ -68,7 +68,7 @@ impl NodeLists {
     }
 
     /// Puts rows of a node in.
-    pub fn join(&mut self, node: &NodeName, more: Vec<Counted>) -> Result<(), OutOfMemory>
+    pub fn join(&mut self, node: &NodeName, more: Vec<BoxedRow>) -> Result<(), OutOfMemory>
         requires list { IsNodeList node.now more.items }
         requires few { tally (is_of_node node.now) self.old + tally (is_of_node node.now) more.items ≤ max_rows }
         ensures ok { OnOk result (Joins more.items self.old self.new) }
@@ -82,7 +82,7 @@ impl NodeLists {
     }
 
     /// Puts rows in place of those of a node.
-    pub fn replace(&mut self, node: &NodeName, rows: Vec<Counted>) -> Result<(), OutOfMemory>
+    pub fn replace(&mut self, node: &NodeName, rows: Vec<BoxedRow>) -> Result<(), OutOfMemory>
         requires list { IsNodeList node.now rows.items }
         ensures ok { OnOk result (Joins rows.items (without_node node.now self.old) self.new) }
         ensures same { OnErr result (self.new ≡ self.old) }
@@ -95,7 +95,7 @@ impl NodeLists {
     }
 
     /// The first rows of a node.
-    fn begin(&mut self, node: &NodeName, rows: Vec<Counted>) -> Result<(), OutOfMemory>
+    fn begin(&mut self, node: &NodeName, rows: Vec<BoxedRow>) -> Result<(), OutOfMemory>
         requires list { IsNodeList node.now rows.items }
         requires first { of_node node.now self.old ≡ [] }
         ensures ok { OnOk result (Joins rows.items self.old self.new) }

@@ -7,53 +7,58 @@ ghost use Rattle.scope_core.specs.Table.{tally, counted_cmp, is_row, max_rows};
 ghost use Rattle.scope_core.specs.Added.{row_in, IsGap};
 ghost use Rattle.scope_core.specs.Listed.{is_in, differs, last_of, heads};
 
-use crate::counted::Counted;
+use crate::counted::BoxedRow;
 use dist_types::{Group, OutOfMemory, Pid, Row, TryClone};
 use std::alloc::Global;
 use std::cmp::Ordering;
 
 /// The rows of a group.
-pub fn in_group<'a>(rows: &'a [Counted], group: &Group) -> &'a [Counted]
+pub fn in_group<'a>(rows: &'a [BoxedRow], group: &Group) -> &'a [BoxedRow]
     requires { Rises counted_cmp rows.now }
     ensures { result.now ≡ filter (is_in group.now) rows.now }
 {
-    let start = rows.partition_point(|counted| counted.row.group < *group);
+    let start = rows.partition_point(|counted| counted.row().group < *group);
     let (_, rest) = rows.split_at(start);
-    let end = rest.partition_point(|counted| counted.row.group == *group);
+    let end = rest.partition_point(|counted| counted.row().group == *group);
     let (run, _) = rest.split_at(end);
     run
 }
 
 /// How many rows there are, each as often as it is counted.
-pub fn total_of(rows: &[Counted]) -> usize
+pub fn total_of(rows: &[BoxedRow]) -> usize
     requires { total (λ c. c.count) rows.now ≤ max_rows }
     ensures { result ≡ total (λ c. c.count) rows.now }
 {
     let mut total = 0;
     for counted in rows {
-        total += counted.count as usize;
+        total += counted.count() as usize;
     }
     total
 }
 
 /// The processes of the rows, each as often as it is counted.
-pub fn pids_of(alloc: Global, rows: &[Counted]) -> Result<Vec<Pid>, OutOfMemory>
+pub fn pids_of(alloc: Global, rows: &[BoxedRow]) -> Result<Vec<Pid>, OutOfMemory>
     ensures { IfOk result (λ pids. pids.items ≡ spread (λ c. c.row.pid) (λ c. c.count) rows.now) }
 {
     let mut pids = Vec::with_capacity(alloc, rows.len())?;
     for counted in rows {
-        push_copies(alloc, &mut pids, &counted.row.pid, counted.count as usize)?;
+        push_copies(
+            alloc,
+            &mut pids,
+            &counted.row().pid,
+            counted.count() as usize,
+        )?;
     }
     Ok(pids)
 }
 
 /// The rows, each as often as it is counted.
-pub fn rows_of(alloc: Global, rows: &[Counted]) -> Result<Vec<Row>, OutOfMemory>
+pub fn rows_of(alloc: Global, rows: &[BoxedRow]) -> Result<Vec<Row>, OutOfMemory>
     ensures { IfOk result (λ copies. copies.items ≡ spread (λ c. c.row) (λ c. c.count) rows.now) }
 {
     let mut copies = Vec::with_capacity(alloc, rows.len())?;
     for counted in rows {
-        push_copies(alloc, &mut copies, &counted.row, counted.count as usize)?;
+        push_copies(alloc, &mut copies, counted.row(), counted.count() as usize)?;
     }
     Ok(copies)
 }
@@ -61,17 +66,16 @@ pub fn rows_of(alloc: Global, rows: &[Counted]) -> Result<Vec<Row>, OutOfMemory>
 /// The rows of a process.
 pub fn rows_of_process(
     alloc: Global,
-    rows: &[Counted],
+    rows: &[BoxedRow],
     pid: &Pid,
-) -> Result<Vec<Counted>, OutOfMemory>
+) -> Result<Vec<BoxedRow>, OutOfMemory>
     ensures { IfOk result (λ copies. copies.items ≡ filter (λ c. same_pid c.row.pid pid.now) rows.now) }
 {
     let mut copies = Vec::new(alloc);
     for counted in rows {
-        if is_same(&counted.row.pid, pid) {
-            let row = counted.row.try_clone(alloc)?;
-            let count = counted.count;
-            copies.push(Counted { row, count })?;
+        if is_same(&counted.row().pid, pid) {
+            let row = counted.row().try_clone(alloc)?;
+            copies.push(BoxedRow::new(alloc, row, counted.count())?)?;
         }
     }
     Ok(copies)
@@ -79,23 +83,23 @@ pub fn rows_of_process(
 
 /// The groups of the rows that are counted.
 #[tactic(auto, using(crate::proofs::Groups::heads_yes, crate::proofs::Groups::heads_no))]
-pub fn groups_of(alloc: Global, rows: &[Counted]) -> Result<Vec<Group>, OutOfMemory>
+pub fn groups_of(alloc: Global, rows: &[BoxedRow]) -> Result<Vec<Group>, OutOfMemory>
     ensures { IfOk result (λ groups. groups.items ≡ heads None rows.now) }
 {
     let mut groups = Vec::new(alloc);
     for counted in rows {
         if begins_group(counted, &groups) {
-            groups.push(counted.row.group.try_clone(alloc)?)?;
+            groups.push(counted.row().group.try_clone(alloc)?)?;
         }
     }
     Ok(groups)
 }
 
 /// Whether the row is counted, and its group isn't the last of these.
-fn begins_group(counted: &Counted, groups: &[Group]) -> bool
+fn begins_group(counted: &BoxedRow, groups: &[Group]) -> bool
     ensures { result ≡ (nat_lt 0 counted.now.count && differs (last_of groups.now) counted.now.row.group) }
 {
-    counted.count > 0 && groups.last() != Some(&counted.row.group)
+    counted.count() > 0 && groups.last() != Some(&counted.row().group)
 }
 
 /// Puts copies of an item at the end.
@@ -114,7 +118,7 @@ pub fn push_copies<T: TryClone + Drop>(
 }
 
 /// Where the row of a group and a process is, or where it goes.
-pub fn place_of(rows: &[Counted], group: &Group, pid: &Pid) -> Result<usize, usize>
+pub fn place_of(rows: &[BoxedRow], group: &Group, pid: &Pid) -> Result<usize, usize>
     requires { Rises counted_cmp rows.now }
     ensures bound { IfOk result (λ i. i < length rows.now) }
     ensures found { IfOk result (HoldsAt (λ c. c.row ≡ row_in group.now pid.now) rows.now) }
@@ -124,12 +128,12 @@ pub fn place_of(rows: &[Counted], group: &Group, pid: &Pid) -> Result<usize, usi
     if is_behind(rows, group, pid) {
         return Err(rows.len());
     }
-    rows.binary_search_by(|counted| order_of(&counted.row, group, pid))
+    rows.binary_search_by(|counted| order_of(counted.row(), group, pid))
 }
 
 /// The same for rows that are looked for in their order: each is likely to be at the place behind the last one.
 pub fn place_next(
-    rows: &[Counted],
+    rows: &[BoxedRow],
     next: &mut usize,
     group: &Group,
     pid: &Pid,
@@ -154,23 +158,23 @@ pub fn place_next(
 
 /// How often a process is in a group, for rows that are looked for in their order.
 #[tactic(auto, using(crate::proofs::Places::found_counts))]
-pub fn count_at(rows: &[Counted], next: &mut usize, group: &Group, pid: &Pid) -> u32
+pub fn count_at(rows: &[BoxedRow], next: &mut usize, group: &Group, pid: &Pid) -> u32
     requires { Rises counted_cmp rows.now }
     ensures { result ≡ tally (is_row group.now pid.now) rows.now }
 {
     match place_next(rows, next, group, pid) {
-        Ok(at) => rows[at].count,
+        Ok(at) => rows[at].count(),
         Err(_) => 0,
     }
 }
 
 /// Whether the row of a group and a process is at this place.
-fn is_at(rows: &[Counted], at: usize, group: &Group, pid: &Pid) -> bool
+fn is_at(rows: &[BoxedRow], at: usize, group: &Group, pid: &Pid) -> bool
     ensures bound { IsTrue result → at < length rows.now }
     ensures found { IsTrue result → HoldsAt (λ c. c.row ≡ row_in group.now pid.now) rows.now at }
 {
     match rows.get(at) {
-        Some(counted) => is_row(&counted.row, group, pid),
+        Some(counted) => is_row(counted.row(), group, pid),
         None => false,
     }
 }
@@ -190,12 +194,12 @@ pub fn is_same(pid: &Pid, other: &Pid) -> bool
 }
 
 /// Whether the row of a group and a process goes behind all others, as each does where rows come in order.
-fn is_behind(rows: &[Counted], group: &Group, pid: &Pid) -> bool
+fn is_behind(rows: &[BoxedRow], group: &Group, pid: &Pid) -> bool
     requires { Rises counted_cmp rows.now }
     ensures { IsTrue result → IsGap (row_in group.now pid.now) rows.now (length rows.now) }
 {
     match rows.last() {
-        Some(last) => order_of(&last.row, group, pid).is_lt(),
+        Some(last) => order_of(last.row(), group, pid).is_lt(),
         None => true,
     }
 }

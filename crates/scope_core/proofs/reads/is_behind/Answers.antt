@@ -8,4 +8,4 @@ returns-in-Some c = λ t.
     let row = row_in c.args.group.now c.args.pid.now in
     let item = c.in-Some.ensures.item in
     gap_behind rows row (length rows - 1) c.in-Some.last.now c.requires (omega (arith, item.3.0))
-    (ap (λ d. row_cmp d.row row) (sym item.1) ∙ sym c.order_of.ensures ∙ lt_is c.order_of.result (sym c.is_lt.ensures ∙ t))
+    (ap (λ d. row_cmp d.row row) (sym item.1) ∙ ap (λ r. row_cmp r row) (sym c.row.ensures) ∙ sym c.order_of.ensures ∙ lt_is c.order_of.result (sym c.is_lt.ensures ∙ t))
