@@ -100,13 +100,22 @@ impl Monitors {
         ensures refused { OnErr result (monitor_of self.old seat number ≡ None) }
         ensures same { OnErr result (self.new ≡ self.old) }
     {
+        self.advance_to(seat, number, audit.len())
+    }
+
+    /// Moves the place of a monitor of the seat behind so many entries.
+    pub fn advance_to(&mut self, seat: u32, number: u32, place: usize) -> Result<(), NoMonitor>
+        ensures ok { OnOk result (IsSome (monitor_of self.old seat number) × (self.new ≡ with_place seat number place self.old)) }
+        ensures refused { OnErr result (monitor_of self.old seat number ≡ None) }
+        ensures same { OnErr result (self.new ≡ self.old) }
+    {
         let Some(monitor) = self.monitors.get_mut(&number) else {
             return Err(NoMonitor);
         };
         if monitor.seat != seat {
             return Err(NoMonitor);
         }
-        monitor.place = audit.len();
+        monitor.place = place;
         Ok(())
     }
 

@@ -1,7 +1,7 @@
 -- A node that begins anew.
 use Rattle.node_core.proofs.Words.{List, None, Some, ap, arith, cond, false, not, refl, sym, ℕ, [], ◌+◌, ◌==◌, ◌∙◌, ◌≡◌, eq-eqb, eqb-true, Pid}
 use Rattle.node_core.proofs.Words.{no_count, stopped_lists, checks, first_broken, History, creation, listed, IsNext, is_full, with_entry, Change}
-use Rattle.node_core.proofs.Words.{Accepted, Follows, Parts, ArePartings, follows_cleared, own_pid, Event, Reply, Rule}
+use Rattle.node_core.proofs.Words.{Accepted, Follows, Parts, ArePartings, Opening, follows_cleared, own_pid, Event, Reply, Rule}
 use Rattle.policy_audit.proofs.LivesNow.{lives_restarted}
 use Rattle.node_core.proofs.Entered.{made, accepted_now, next_now, sound_now}
 use Rattle.node_core.proofs.Partings.{partings_change}
@@ -28,15 +28,15 @@ module _ (h : History) (seat : ℕ) where
         nobody : (s g : List ℕ) (p : Pid) → listed (anew cs) s g p ≡ 0
         nobody s g p = stopped_lists (anew cs) s g p refl
 
-    pub anew_follows : IsNext h (made h seat Event.Restart (Accepted Reply.Done) cs) → (own cookie : List ℕ) (number : ℕ) → own ≡ h.opening.name → cookie ≡ h.opening.cookie → number ≡ parts.admission.creation + 1
-        → Follows (anew cs) (record { limit = parts.limit; admission = record { own = own; cookie = cookie; hidden = h.opening.hidden; creation = number; peers = []; allowed = [] }; processes = record { spawned = 0; live = [] }; scopes = []; links = []; monitors = [] })
-    anew_follows next own cookie number named kept more = record {
-      sound = sound_now h parts.limit _ t.sound next;
+    pub anew_follows : IsNext h (made h seat Event.Restart (Accepted Reply.Done) cs) → (o : Opening) (number : ℕ) → o ≡ h.opening → number ≡ parts.admission.creation + 1
+        → Follows (anew cs) (record { admission = record { own = o.name; cookie = o.cookie; hidden = o.hidden; creation = number; peers = []; allowed = [] }; processes = record { spawned = 0; live = [] }; scopes = []; links = []; monitors = [] })
+    anew_follows next o number same more = record {
+      sound = sound_now h _ t.sound next;
       admission = record {
-        own = named;
-        hidden = refl;
+        own = ap (λ x. x.name) same;
+        hidden = ap (λ x. x.hidden) same;
         creation = (let was : parts.admission.creation ≡ creation h = t.admission.creation in let is : creation (anew cs) ≡ creation h + 1 = creation_more cs in omega (arith, more, was, is));
-        own_cookie = kept;
+        own_cookie = ap (λ x. x.cookie) same;
         cookie = λ n. grind arith;
         peers = λ n. refl;
         allowed = λ n. refl;

@@ -14,9 +14,9 @@ none_numbered (suc n) = grind (arith, leb-true (suc n) 0)
 none_lives : (a b c : Bool) → (b && c) ≡ false → false ≡ (a && b && c && true)
 none_lives a b c q = grind arith
 
-pub begun : (o : Opening) → o.entries < 2 ^ 32 → Follows (past o []) (record { limit = o.entries; admission = first_rules o; processes = record { spawned = 0; live = [] }; scopes = []; links = []; monitors = [] })
+pub begun : (o : Opening) → o.entries < 2 ^ 32 → Follows (past o []) (record { admission = first_rules o; processes = record { spawned = 0; live = [] }; scopes = []; links = []; monitors = [] })
 begun o fits = record {
-  sound = record { legal = tt; limit_is = refl; fits = fits; few = omega arith; few_spawned = omega arith };
+  sound = record { legal = tt; fits = fits; few = omega arith; few_spawned = omega arith };
   admission = record {
     own = refl;
     hidden = refl;

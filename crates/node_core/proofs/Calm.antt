@@ -109,19 +109,15 @@ module _ (h : History) (seat : ℕ) (r : Reply) where
   pub quiet_change : (ev : Event) → is_quiet ev ≡ true → IsChange h (answered h seat ev r) []
   quiet_change ev q = no_change h _ (λ s g p. sym (entry_rows h (made h seat ev (Accepted r) []) q s g p))
 
-  pub query_change : (ev : Event) → is_query ev ≡ true → IsChange h (answered h seat ev r) []
-  query_change (Event.Members s g) q = quiet_change (Event.Members s g) refl
-  query_change (Event.LocalMembers s g) q = quiet_change (Event.LocalMembers s g) refl
-  query_change (Event.Groups s) q = quiet_change (Event.Groups s) refl
-  query_change (Event.LocalGroups s) q = quiet_change (Event.LocalGroups s) refl
-  query_change ev q = lie (sym q)
-
   pub query_watches : (ev : Event) → is_query ev ≡ true → concerns_monitors ev ≡ false
   query_watches (Event.Members s g) q = refl
   query_watches (Event.LocalMembers s g) q = refl
   query_watches (Event.Groups s) q = refl
   query_watches (Event.LocalGroups s) q = refl
   query_watches ev q = lie (sym q)
+
+  pub query_follows : (parts : Parts) → Follows h parts → (ev : Event) → is_query ev ≡ true → IsNext h (made h seat ev (Accepted r) []) → Follows (answered h seat ev r) parts
+  query_follows parts t ev q next = follows_same h _ parts (query_same ev q) (query_watches ev q) next t
 
 -- ---- events that change no row and no link
 

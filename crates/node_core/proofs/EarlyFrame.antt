@@ -8,7 +8,7 @@ use Rattle.node_core.proofs.EarlyHeard.{is_early, early_rules, early_unlike, ear
 use Rattle.node_core.proofs.Emptied.{beside_same, moved_from}
 use Rattle.node_core.proofs.Entered.{step_follows, made}
 use Rattle.node_core.proofs.FrameRefused.{owes_alike, refused_next, refused_follows}
-use Rattle.node_core.proofs.HeardFrames.{early_state, is_there, few_frames, few_refused, early_goes_on}
+use Rattle.node_core.proofs.HeardFrames.{early_state, is_there, few_frames, early_goes_on}
 use Rattle.node_core.proofs.HeldLink.{IsHeld, held_is, held_state, held_out}
 use Rattle.node_core.proofs.MovedOn.{moved_follow}
 use Rattle.node_core.proofs.LinkTests.{ups_are, dials_are}
@@ -56,9 +56,6 @@ module _ {h : History} {parts : Parts} (t : Follows h parts) (seat : ℕ) (body 
           )
 
     module _ (r : Rule) (frames : List (List ℕ)) (hears : Hears parts.admission pending s body (Heard.Ended r frames)) where
-      pub early_few_ended : length frames ≤ 2
-      early_few_ended = subst (λ fs. length fs ≤ 2) (sym hears.3) (few_refused hears.0)
-
       pub early_broke : (new : List KeptLink) → HaveEnded p frames (set (set parts.links p w) p last) new
           → IsNext h (made h seat (Event.Frame j body) (Refused r) []) × Follows (with_entry h (made h seat (Event.Frame j body) (Refused r) [])) (record parts { links = new })
       early_broke new ends =

@@ -1,16 +1,12 @@
--- A history with one entry more: what the policy says of it, and what a step that made it answers.
-use Rattle.node_core.proofs.Words.{Bool, Err, List, None, Ok, Option, Some, ap, arith, cond, false, length, map, nat_lt, not, refl, subst, suc, sym}
-use Rattle.node_core.proofs.Words.{true, ℕ, [], ◌<◌, ◌∙◌, ◌∷◌, ◌≡◌, ◌≤◌, ltb-true, IsChange, checks, first_broken, History, events, is_accepted, past}
-use Rattle.node_core.proofs.Words.{IsAnswered, IsNext, answer, is_full, next_number, verdict, with_entry, Change, Entry, Verdict, Accepted, Refused}
-use Rattle.node_core.proofs.Words.{Event, Reply, Rule, how_many, Moment, present, is_restart, is_spawn, judged, IsSound, CoreFault, Follows, Parts}
+-- A history with one entry more: what the policy says of it, and what is kept then.
+use Rattle.node_core.proofs.Words.{Bool, List, None, Option, Some, ap, arith, cond, false, length, map, nat_lt, not, refl, subst, suc, sym}
+use Rattle.node_core.proofs.Words.{true, ℕ, [], ◌<◌, ◌∙◌, ◌∷◌, ◌≡◌, ◌≤◌, ltb-true, IsChange, checks, first_broken, History, events, is_accepted}
+use Rattle.node_core.proofs.Words.{IsAnswered, IsNext, answer, is_full, verdict, with_entry, Change, Entry, Verdict, Accepted, Refused}
+use Rattle.node_core.proofs.Words.{Event, Reply, Rule, how_many, Moment, present, is_restart, is_spawn, judged, IsSound, Follows, Parts}
 use Rattle.node_core.proofs.Words.{◌&&◌, AdmissionFollows, AdmissionRules, KeptLink, LinksFollow, ProcessesFollow, Running, ScopesFollow, Spawned}
 use Rattle.node_core.proofs.Words.{admission_words, follows_other, link_words, process_words, scope_words}
 use Rattle.group_monitors.specs.Follows.{concerns_monitors}
-use Rattle.node_core.specs.Step.{Steps}
-
--- the entry of an event with this verdict and this change
-abbrev pub made : History → ℕ → Event → Verdict → List Change → Entry
-made h seat ev v cs = record { number = next_number h; seat = seat; event = ev; verdict = v; change = cs }
+pub use Rattle.node_core.specs.Step.{made}
 
 module _ (h : History) (seat : ℕ) (ev : Event) (space : is_full h ≡ false) where
   judge : (o : Option Rule) → first_broken (checks h seat ev) ≡ o → verdict h seat ev ≡ judged h seat ev o
@@ -49,12 +45,11 @@ more_spawned m ms false b c q = omega arith
 spawned_more : (e : Entry) (es : List Entry) → how_many is_spawn (events (e ∷ es)) ≤ suc (how_many is_spawn (events es))
 spawned_more e es = more_spawned (record { number = e.number; seat = e.seat; event = e.event; before = es }) (present es) (is_accepted e.verdict) (is_restart e.event) (is_spawn e.event) refl
 
-pub sound_now : (h : History) (limit : ℕ) (e : Entry) → IsSound h limit → IsNext h e → IsSound (with_entry h e) limit
-sound_now h limit e sound next = record {
+pub sound_now : (h : History) (e : Entry) → IsSound h → IsNext h e → IsSound (with_entry h e)
+sound_now h e sound next = record {
   legal = (next, sound.legal);
-  limit_is = sound.limit_is;
   fits = sound.fits;
-  few = let space = next.room in let is = sound.limit_is in omega (arith, space, is);
+  few = let space = next.room in omega (arith, space);
   few_spawned = let more = spawned_more e h.entries in let so_far = sound.few_spawned in omega (arith, more, so_far);
 }
 
@@ -63,7 +58,7 @@ pub step_follows : {h : History} {parts : Parts} {e : Entry} → Follows h parts
     → AdmissionFollows (admission_words (with_entry h e)) a → ProcessesFollow (process_words (with_entry h e)) p → ScopesFollow (scope_words (with_entry h e)) rs → LinksFollow (link_words (with_entry h e)) ks
     → Follows (with_entry h e) (record parts { admission = a; processes = p; scopes = rs; links = ks })
 step_follows {h} {parts} {e} t next calm a p s l = record {
-  sound = sound_now h parts.limit e t.sound next;
+  sound = sound_now h e t.sound next;
   admission = a;
   processes = p;
   scopes = s;
@@ -74,14 +69,3 @@ step_follows {h} {parts} {e} t next calm a p s l = record {
 -- what follows the history that was opened follows the one that was given
 pub seen : {h now : History} {parts : Parts} → h ≡ now → Follows h parts → Follows now parts
 seen {h} {now} {parts} is = subst (λ k. Follows k parts) is
-
--- ---- answers of steps
-
-module _ {h now : History} (is : h ≡ now) (seat : ℕ) (ev : Event) {entries : List Entry} where
-  pub steps_on : (r : Reply) (cs : List Change) → IsNext h (made h seat ev (Accepted r) cs) → entries ≡ made h seat ev (Accepted r) cs ∷ h.entries → Steps now seat ev (past h.opening entries) (Ok r)
-  unfolding Steps
-  steps_on r cs next pushed = subst (λ old. Steps old seat ev (past h.opening entries) (Ok r)) is (made h seat ev (Accepted r) cs, refl, refl, refl, next, ap (past h.opening) pushed)
-
-  pub steps_refused : (r : Rule) (cs : List Change) → IsNext h (made h seat ev (Refused r) cs) → entries ≡ made h seat ev (Refused r) cs ∷ h.entries → Steps now seat ev (past h.opening entries) (Err (CoreFault.Refused r))
-  unfolding Steps
-  steps_refused r cs next pushed = subst (λ old. Steps old seat ev (past h.opening entries) (Err (CoreFault.Refused r))) is (made h seat ev (Refused r) cs, refl, refl, refl, next, ap (past h.opening) pushed)

@@ -24,6 +24,13 @@ module _ {A : Type 0} (test : A → Bool) where
       by true e later = let is = some_is (sym (first_is true y ys e) ∙ q) in (ap test (sym is) ∙ e, subst P is all.0)
       by false e later = later (sym (first_is false y ys e) ∙ q)
 
+  pub found_passes : (xs : List A) (x : A) → find test xs ≡ Some x → test x ≡ true
+  found_passes xs x q = (found_in (λ a. Unit {0}) xs (all xs) x q).0
+    where
+      all : (ys : List A) → AllByRecursion (λ a. Unit {0}) ys
+      all [] = tt
+      all (y ∷ ys) = (tt, all ys)
+
   -- where nothing is found, nothing passes
   pub none_found : (xs : List A) → find test xs ≡ None → list_any test xs ≡ false
   none_found [] q = refl

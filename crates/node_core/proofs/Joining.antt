@@ -6,13 +6,17 @@ use Rattle.node_core.proofs.Words.{and_left, and_right, checks, first_broken, lo
 use Rattle.node_core.proofs.Words.{is_running, lives, IsAnswered, IsNext, is_full, with_entry, Change, Entry, Accepted, Rule, IsCalmFault, Follows}
 use Rattle.node_core.proofs.Words.{Parts, link_words, KeptLink, IsMoved, ProcessesFollow, process_words, Spawned, IsRunningOf, is_number, scope_words}
 use Rattle.node_core.proofs.Words.{if_among, said_to, max_rows, count_after_join, lives_of, joined_links, Running, CoreFault, IsJoinRefusal}
-use Rattle.node_core.proofs.Words.{own_checks, Event, Reply}
+use Rattle.node_core.proofs.Words.{own_checks, Event, Reply, Keeps, Kept}
 use Rattle.policy_audit.proofs.RowsAfter.{joined_rows}
 use Rattle.node_core.proofs.Entered.{step_follows, made, accepted_now, answered_now, next_now}
 use Rattle.node_core.proofs.RowsGone.{rows_total}
 use Rattle.node_core.proofs.MessagePlaces.{scope_here, runs_here}
 use Rattle.node_core.proofs.Told.{told_follow}
 use Rattle.node_core.proofs.Moved.{moved_change, moved_frames, moved_scopes}
+
+-- whether a process is an own one shows in what is kept
+pub local_by : {h : History} {kept : Kept} → Keeps h kept → (p : Pid) → (same p.node kept.opening.name && p.creation == kept.admission.creation) ≡ is_local h p
+local_by keeps p = λ i. same p.node (keeps.opening i).name && p.creation == keeps.follows.admission.creation i
 
 -- own processes live where their numbers do
 pub alive_all : (h : History) (p : Spawned) → ProcessesFollow (process_words h) p → (ps : List Pid) → list_all (is_local h) ps ≡ true → list_all (λ q. is_number q.number p.live) ps ≡ list_all (lives h) ps

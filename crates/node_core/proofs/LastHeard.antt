@@ -8,7 +8,7 @@ use Rattle.node_core.proofs.Words.{discovers, IsAnswered, is_full, present_link,
 use Rattle.node_core.proofs.Entered.{made, step_follows, accepted_now, answered_now, next_now}
 use Rattle.node_core.proofs.Found.{some_is}
 use Rattle.node_core.proofs.FrameRefused.{refused_follows, refused_next}
-use Rattle.node_core.proofs.HeardFrames.{few_frames, few_refused, is_there, last_comes_up, last_state, unwhole_state}
+use Rattle.node_core.proofs.HeardFrames.{few_frames, is_there, last_comes_up, last_state, unwhole_state}
 use Rattle.node_core.proofs.HeldLink.{IsHeld, held_is, held_out, held_seen, held_state}
 use Rattle.node_core.proofs.ProofChecked.{ComesUp, answered_up, awaits_last, comes, ended_by, fails, is_last_state, not_up_yet, meets, visible_now}
 use Rattle.policy_audit.proofs.HeardNow.{proved_heard}
@@ -107,9 +107,6 @@ module _ {h : History} {parts : Parts} (t : Follows h parts) (seat : ℕ) (body 
     last_never_on now frames gives_up hears = lie (sym (last_comes_up parts.admission pending body s (last_state h j held.opens final s (held_state t held)).0 (Heard.On now frames gives_up) hears.1))
 
     module _ (r : Rule) (frames : List (List ℕ)) (hears : Hears parts.admission pending s body (Heard.Ended r frames)) where
-      pub last_few_ended : length frames ≤ 2
-      last_few_ended = subst (λ fs. length fs ≤ 2) (sym hears.3) (few_refused hears.0)
-
       pub last_broke : (new : List KeptLink) → HaveEnded p frames (set (set parts.links p w) p last) new
           → IsNext h (made h seat (Event.Frame j body) (Refused r) []) × Follows (with_entry h (made h seat (Event.Frame j body) (Refused r) [])) (record parts { links = new })
       last_broke new ends =

@@ -12,6 +12,9 @@ module _ (h : History) (p : Spawned) (t : ProcessesFollow (process_words h) p) w
   pub pids_fit : nat_le 65536 (length p.live) ≡ false → nat_lt (living h) 65536 ≡ true
   pids_fit q = lt-ltb (living h) 65536 (let few = leb-false 65536 (length p.live) q in let count = t.count in omega (arith, few, count))
 
+  pub pids_full : nat_le 65536 (length p.live) ≡ true → nat_lt (living h) 65536 ≡ false
+  pids_full q = let many = leb-true 65536 (length p.live) q in let count = t.count in grind (arith, many, count)
+
   -- the next process doesn't live yet
   pub next_is_new : is_number (p.spawned + 1) p.live ≡ false
   next_is_new = t.live (p.spawned + 1) ∙ not_so (lives h (own_pid h (p.spawned + 1))) (λ q.

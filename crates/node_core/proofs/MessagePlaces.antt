@@ -1,6 +1,6 @@
 -- Where the link and the scope of a message are kept.
-use Rattle.node_core.proofs.Words.{arith, Follows, Parts, List, None, Some, ap, cond, false, get_or, length, nat_eq, not, position, refl, subst, sym}
-use Rattle.node_core.proofs.Words.{true, ℕ, ◌<◌, ◌||◌, ◌∙◌, ◌≡◌, get_or_default, position-Some, same_decides, is_empty, same, Linked, lie, and_left}
+use Rattle.node_core.proofs.Words.{arith, Follows, Parts, List, None, Some, ap, cond, false, get_or, is_some, length, nat_eq, position, refl, subst, sym, Option}
+use Rattle.node_core.proofs.Words.{true, ℕ, ◌<◌, ◌∙◌, ◌≡◌, get_or_default, position-Some, same_decides, same, Linked, lie, and_left}
 use Rattle.node_core.proofs.Words.{and_right, History, is_open, is_up, is_kept, waiting, is_running, AwaitMessage, awaits, is_whole, IsIntroduced}
 use Rattle.node_core.proofs.Words.{IsLinkOf, IsState, LinkFacts, facts, link_words, KeptLink, IsRunningOf, scope_words, Running, LinkState}
 use Rattle.node_core.proofs.Found.{no_place, some_place}
@@ -25,9 +25,6 @@ up_state f LinkState.Ended t o w = lie (sym o ∙ t)
 up_state f s t o w = lie (sym w ∙ t.0.whole)
 
 module _ {h : History} {parts : Parts} (t : Follows h parts) (l : ℕ) (up : is_up l h.entries ≡ true) where
-  pub up_placed : position (λ x. nat_eq x.number l) parts.links ≡ None → ⊥
-  up_placed q = lie {P = ⊥} (sym (ap (λ b. b || not (is_empty (waiting h l))) (and_left (is_open l h.entries) (is_whole l h.entries) up)) ∙ not_kept h t.sound.legal parts.links t.links l q)
-
   pub up_here : {p : ℕ} {x : KeptLink} → position (λ y. nat_eq y.number l) parts.links ≡ Some p → x ≡ get_or parts.links p x → IsUpHere h l x
   up_here {p} {x} q is =
       let at = link_at h t.sound.legal parts.links t.links l p x q in
@@ -49,11 +46,22 @@ module _ {h : History} {parts : Parts} (t : Follows h parts) (s : List ℕ) wher
   pub stopped_here : position (λ r. same r.scope s) parts.scopes ≡ None → is_running h s ≡ false
   stopped_here q = sym (runs_is h parts.scopes s t.scopes) ∙ no_place (λ r. same r.scope s) parts.scopes q
 
-  pub running_placed : is_running h s ≡ true → position (λ r. same r.scope s) parts.scopes ≡ None → ⊥
-  running_placed runs q = lie {P = ⊥} (sym runs ∙ stopped_here q)
-
   pub runs_here : (p : ℕ) → position (λ r. same r.scope s) parts.scopes ≡ Some p → is_running h s ≡ true
   runs_here p q = sym (runs_is h parts.scopes s t.scopes) ∙ some_place (λ r. same r.scope s) parts.scopes p q
+
+  pub runs_some : is_some (position (λ r. same r.scope s) parts.scopes) ≡ true → is_running h s ≡ true
+  runs_some q = by (position (λ r. same r.scope s) parts.scopes) refl q
+    where
+      by : (o : Option ℕ) → position (λ r. same r.scope s) parts.scopes ≡ o → is_some o ≡ true → is_running h s ≡ true
+      by (Some p) at q = runs_here p at
+      by None at q = lie (sym q)
+
+  pub stopped_none : is_some (position (λ r. same r.scope s) parts.scopes) ≡ false → is_running h s ≡ false
+  stopped_none q = by (position (λ r. same r.scope s) parts.scopes) refl q
+    where
+      by : (o : Option ℕ) → position (λ r. same r.scope s) parts.scopes ≡ o → is_some o ≡ false → is_running h s ≡ false
+      by (Some p) at q = lie q
+      by None at q = stopped_here at
 
   pub scope_here : {p : ℕ} {r : Running} → position (λ x. same x.scope s) parts.scopes ≡ Some p → r ≡ get_or parts.scopes p r → IsScopeHere h parts.scopes s p r
   scope_here {p} {r} q is =

@@ -6,11 +6,12 @@ use Rattle.node_core.proofs.Words.{unbroken, and_left, and_right, flip, always, 
 use Rattle.node_core.proofs.Words.{is_open, is_up, listed, refusal_owes, is_running, AwaitMessage, awaits, is_whole, peer_of, Rule, IsCalmFault}
 use Rattle.node_core.proofs.Words.{refuses_calmly, facts, KeptLink, up_peer, IsRunningOf, is_number, scope_words, IsGroupListing, node_total}
 use Rattle.node_core.proofs.Words.{max_rows, are_counted, rows_of, is_from, members, groups, Check, unless, peer_rows, are_listed, CoreFault, Running}
-use Rattle.node_core.proofs.Words.{is_shown, are_of_peer, IsGiven, scope_in, early_checks, IsAddRefusal, IsTakeRefusal, Event}
+use Rattle.node_core.proofs.Words.{is_shown, are_of_peer, IsGiven, scope_in, early_checks, IsAddRefusal, IsTakeRefusal, Event, IsBrief}
 use Rattle.std.proofs.lemmas.List.Elements.{All-from_recursion}
 use Rattle.scope_core.proofs.Members.{length-members}
 use Rattle.policy_audit.specs.Sides.{is_visible}
 use Rattle.policy_audit.proofs.Onward.{whole_is_message}
+use Rattle.link_frames.specs.Spelling.{IsMessage}
 use Rattle.node_core.specs.Messages.{refusal}
 use Rattle.node_core.proofs.Found.{some_is}
 use Rattle.node_core.proofs.Scopes.{counts_listed, members_listing, groups_listing}
@@ -57,11 +58,6 @@ hidden_first h l m q = rw q refl
 pub stopped_first : (h : History) (l : ℕ) (m : Message) → is_visible h l ≡ true → is_running h (scope_in m) ≡ false → first_broken (early_checks h l m) ≡ Some Rule.NoScope
 stopped_first h l (Message.Discover s) v q = rw (v, q) refl
 stopped_first h l m v q = rw (v, q) refl
-
--- where none of them is broken, the scope runs
-pub scope_runs : (h : History) (l : ℕ) (m : Message) → first_broken (early_checks h l m) ≡ None → is_running h (scope_in m) ≡ true
-scope_runs h l (Message.Discover s) q = grind arith
-scope_runs h l m q = grind arith
 
 -- and each row is of its link's peer
 pub rows_from : (h : History) (l : ℕ) (s : List ℕ) (rows : List Row) → first_broken (early_checks h l (Message.Sync s rows)) ≡ None → list_all (λ r. is_from l h.entries r.pid) rows ≡ true
@@ -172,3 +168,15 @@ has_peer here q = no_value {P = ⊥} (sym (q ∙ ap up_peer here.is))
 -- a link that is up awaits messages
 pub up_awaits : (h : History) (l : ℕ) → is_up l h.entries ≡ true → awaits l h.entries ≡ AwaitMessage
 up_awaits h l up = (whole_is_message l h.entries (and_left (is_open l h.entries) (is_whole l h.entries) up)).0 (and_right (is_open l h.entries) (is_whole l h.entries) up)
+
+-- a body that is no message
+pub frame_unread : (h : History) (seat l : ℕ) (body : List ℕ) → is_up l h.entries ≡ true → message_taken body ≡ None → first_broken (checks h seat (Event.Frame l body)) ≡ Some Rule.BadFrame
+frame_unread h seat l body up none = message_rules h seat l body up (up_awaits h l up) ∙ ap (λ o. first_broken (option_map_or (message_checks h l) o (always Rule.BadFrame))) none
+
+-- what a body spells brings no more rows than a scope has of one node
+pub is_brief : (m : Message) → IsMessage m → IsBrief m
+is_brief (Message.Discover s) it = tt
+is_brief (Message.Sync s rows) it = it.1.count
+is_brief (Message.Join s rows) it = it.1.count
+is_brief (Message.Leave s rows) it = it.1.count
+is_brief (Message.Down s) it = tt

@@ -1,6 +1,6 @@
 -- Room that is made for a message, and the answer to a Discover.
-use Rattle.node_core.proofs.Words.{Follows, Parts, same, early_checks, List, None, Some, ap, cond, false, get_or, length, nat_eq, position, refl, set}
-use Rattle.node_core.proofs.Words.{subst, sym, true, ℕ, [], ◌++◌, ◌<◌, ◌∙◌, ◌∷◌, ◌≡◌, get_or-set_same, set-set, IsRowListing, count_of, kept_climbs}
+use Rattle.node_core.proofs.Words.{Follows, Parts, same, early_checks, List, None, Some, ap, cond, false, get_or, nat_eq, position, refl, set}
+use Rattle.node_core.proofs.Words.{subst, sym, true, ℕ, [], ◌++◌, ◌∙◌, ◌∷◌, ◌≡◌, IsRowListing, count_of, kept_climbs}
 use Rattle.node_core.proofs.Words.{running_rises, first_broken, local_rows, message_taken, History, is_up, OutFrame, wide, is_full, with_entry}
 use Rattle.node_core.proofs.Words.{Accepted, IsLinkOf, LinksFollow, link_words, KeptLink, with_frames, with_room, ScopesFollow, scope_words}
 use Rattle.node_core.proofs.Words.{message_owes, Running, with_number, HasBecome, AnswersDiscover, Message, Event, Reply}
@@ -54,14 +54,12 @@ module _ {h : History} {parts : Parts} (t : Follows h parts) (seat l : ℕ) (bod
       a.frames_are ∙ (λ i. wide (Message.Sync s (rows_are i)) ∷ cond (heard_is i) [] (wide (Message.Discover s) ∷ []))
 
   -- the link has been given room and then the frames
-  pub answered_follows : HasBecome r y (count_of r.table) r.heard.items (with_number l r.told.items) → {o : Running} {a b z : KeptLink} {frames : List OutFrame} → o ≡ get_or parts.scopes p o → AnswersDiscover o l s frames
-      → a ≡ with_room x a.room → b ≡ get_or (set parts.links pl a) pl b → z ≡ with_room (with_frames b frames) z.room
-      → Follows (with_entry h (made h seat (Event.Frame l body) (Accepted Reply.Done) [])) (record parts { scopes = set parts.scopes p y; links = set (set parts.links pl a) pl z })
-  answered_follows becomes {o} {a} {b} {z} {frames} o_is answers same again owed =
-      let within : pl < length parts.links = (place_is parts.links l pl x placed).0 in
-      let is : z ≡ with_room (with_frames x frames) z.room = owed ∙ ap (λ w. with_room (with_frames w frames) z.room) (again ∙ get_or-set_same parts.links pl a b within ∙ same) in
+  pub answered_follows : HasBecome r y (count_of r.table) r.heard.items (with_number l r.told.items) → {o : Running} {a z : KeptLink} {frames : List OutFrame} → o ≡ get_or parts.scopes p o → AnswersDiscover o l s frames
+      → a ≡ with_room x a.room → z ≡ with_room (with_frames a frames) z.room
+      → Follows (with_entry h (made h seat (Event.Frame l body) (Accepted Reply.Done) [])) (record parts { scopes = set parts.scopes p y; links = set parts.links pl z })
+  answered_follows becomes {o} {a} {z} {frames} o_is answers same owed =
+      let is : z ≡ with_room (with_frames x frames) z.room = owed ∙ ap (λ w. with_room (with_frames w frames) z.room) same in
       let answer = answer_is (subst (λ w. AnswersDiscover w l s frames) (same_there h parts.scopes s p r o (scope_here t s at r_is) o_is) answers) in
-      subst (λ kept. Follows (with_entry h (made h seat (Event.Frame l body) (Accepted Reply.Done) [])) (record parts { scopes = set parts.scopes p y; links = kept })) (sym (set-set parts.links pl a z))
-      (discovered_follows t seat l body space up placed x_is s y at r_is says early becomes (set parts.links pl z)
+      discovered_follows t seat l body space up placed x_is s y at r_is says early becomes (set parts.links pl z)
       (owed_links h seat l body (Message.Discover s) space up here.awaited says early [] parts.links t.sound.legal t.links pl x z placed here
-      (ap (λ w. w.number) is) (ap (λ w. w.state) is) (ap (λ w. w.prepared) is ∙ here.link.idle) (ap (λ w. w.frames) is ∙ ap (λ fs. x.frames ++ fs) answer)))
+      (ap (λ w. w.number) is) (ap (λ w. w.state) is) (ap (λ w. w.prepared) is ∙ here.link.idle) (ap (λ w. w.frames) is ∙ ap (λ fs. x.frames ++ fs) answer))

@@ -1,6 +1,6 @@
 -- A scope that starts.
 use Rattle.node_core.proofs.Words.{Bool, List, None, Option, Some, ap, arith, cond, false, get_or, length, map, not, refl, suc, sym, true, zero, ℕ}
-use Rattle.node_core.proofs.Words.{[], ◌++◌, ◌<◌, ◌||◌, ◌∙◌, ◌∷◌, ◌≡◌, ◌≤◌, AllByRecursion, Less, lt-ltb, same_decides, Rises, is_among, same}
+use Rattle.node_core.proofs.Words.{[], ◌++◌, ◌<◌, ◌||◌, ◌∙◌, ◌∷◌, ◌≡◌, ◌≤◌, AllByRecursion, Less, le-ltb, lt-ltb, same_decides, Rises, is_among, same}
 use Rattle.node_core.proofs.Words.{text_cmp, Pid, count_of, lie, no_change, stopped_lists, told_numbers, running_among, checks, first_broken, heard}
 use Rattle.node_core.proofs.Words.{told, History, listed, waiting, wide, is_running, running_scopes, IsAnswered, IsNext, is_full, with_entry, Entry}
 use Rattle.node_core.proofs.Words.{Accepted, Rule, Follows, Parts, link_words, KeptLink, IsRunningOf, ScopesFollow, is_number, scope_words, AreTold}
@@ -91,6 +91,9 @@ module _ (h : History) (seat : ℕ) (s : List ℕ) where
   module _ (parts : Parts) (t : Follows h parts) (stopped : is_running h s ≡ false) where
     pub scopes_fit : length parts.scopes < 64 → first_broken (checks h seat (Event.StartScope s)) ≡ None
     scopes_fit few = λ i. checked (stopped i) (lt-ltb (length (running_scopes h)) 64 (let is = running_length h parts.scopes t.scopes in omega (arith, is, few)) i)
+
+    pub scopes_full : 64 ≤ length parts.scopes → first_broken (checks h seat (Event.StartScope s)) ≡ Some Rule.ScopesFull
+    scopes_full many = λ i. checked (stopped i) (le-ltb (length (running_scopes h)) 64 (let is = running_length h parts.scopes t.scopes in omega (arith, is, many)) i)
 
     pub start_next : is_full h ≡ false → length parts.scopes < 64 → IsNext h e
     start_next space few = next_now h seat (Event.StartScope s) space (Accepted Reply.Done) [] (accepted_now h seat (Event.StartScope s) space Reply.Done (scopes_fit few) refl)

@@ -1,25 +1,47 @@
 -- What a step answers, from what it enters.
-use Rattle.node_core.proofs.Words.{Err, Ok, ap, cond, false, subst, sym, true, ℕ, ◌∙◌, ◌≡◌, Result, checks, first_broken, History, IsNext, is_full}
-use Rattle.node_core.proofs.Words.{verdict, with_entry, Entry, Verdict, Accepted, Refused, Event, Reply, judged, after, entry_of, CoreFault, Rule}
-use Rattle.node_core.proofs.Words.{Bool, refl, IsLegal, next_is}
+use Rattle.node_core.proofs.Words.{Bool, Err, List, Ok, Result, ap, cond, false, length, refl, subst, sym, true, ℕ, [], ◌+◌, ◌∙◌, ◌∷◌, ◌≡◌, IsLegal}
+use Rattle.node_core.proofs.Words.{IsNext, checks, first_broken, History, is_full, past, verdict, with_entry, Verdict, Accepted, Refused, Event, Reply}
+use Rattle.node_core.proofs.Words.{judged, after, entry_of, CoreFault, Rule, next_is, Opening, Change, Entry, Follows, parts}
 use Rattle.policy_audit.proofs.ScopeChanges.{next_is_after}
-use Rattle.node_core.specs.Step.{Enters, Steps, IsStepped}
+use Rattle.node_core.specs.declared.entering.Answered.{Answered}
+use Rattle.node_core.specs.declared.kept.Kept.{Kept}
+use Rattle.node_core.specs.Core.{IsCore}
+use Rattle.node_core.specs.Step.{Answers, Call, IsStepped, entered, made, told}
 
--- the entry has the policy's verdict, and makes its history
-entered : (old new : History) (seat : ℕ) (e : Event) (v : Verdict) → Enters old seat e v new → (verdict old seat e ≡ v) × (new ≡ after old seat e)
-entered old new seat e v x = by x.0 x.1 x.2 x.3 x.4 x.5
-  where
-    by : (entry : Entry) → entry.seat ≡ seat → entry.event ≡ e → entry.verdict ≡ v → IsNext old entry → new ≡ with_entry old entry → (verdict old seat e ≡ v) × (new ≡ after old seat e)
-    by entry seat_is event_is verdict_is next is = (
-      sym (λ i. verdict old (seat_is i) (event_is i)) ∙ sym next.verdict ∙ verdict_is,
-      is ∙ next_is_after old entry next ∙ (λ i. after old (seat_is i) (event_is i)),
-    )
+module _ (call : Call) (space : is_full call.past ≡ false) (e : Event) where
+  abbrev h : History
+  h = call.past
 
-pub steps_is : (old new : History) (seat : ℕ) (e : Event) (result : Result Reply CoreFault) → is_full old ≡ false → Steps old seat e new result → IsStepped old seat e new result
-unfolding Steps IsStepped
-steps_is old new seat e (Ok reply) space x = entered old new seat e (Accepted reply) x
-steps_is old new seat e (Err (CoreFault.Refused r)) space x = entered old new seat e (Refused r) x
-steps_is old new seat e (Err CoreFault.OutOfMemory) space x = (space, x)
+  -- an entry of the event, with its verdict, that is the policy's next makes the policy's history
+  next_step : (v : Verdict) (cs : List Change) → IsNext h (made h call.seat e v cs) → (verdict h call.seat e ≡ v) × (with_entry h (made h call.seat e v cs) ≡ after h call.seat e)
+  next_step v cs next = (sym next.verdict, next_is_after h (made h call.seat e v cs) next)
+
+  -- the history with what was entered
+  abbrev then : Opening → Result Answered CoreFault → History
+  then opening answered = past opening (entered h.entries call.seat e answered)
+
+  pub answered_step : (kept : Kept) (answered : Result Answered CoreFault) → Answers call e kept answered → IsStepped h call.seat e (then kept.opening answered) (told answered)
+  unfolding Answers IsStepped
+  answered_step kept (Ok a) t =
+      let next = next_step (Accepted a.reply) a.changes.items t.1.0 in
+      (next.0, (λ i. past (t.1.1.opening i) (record { number = length h.entries + 1; seat = call.seat; event = e; verdict = Accepted (t.0 i); change = a.changes.items } ∷ h.entries)) ∙ next.1)
+  answered_step kept (Err (CoreFault.Refused r)) t =
+      let next = next_step (Refused r) [] t.0 in
+      (next.0, ap (λ o. past o (entered h.entries call.seat e (Err (CoreFault.Refused r)))) t.1.opening ∙ next.1)
+  answered_step kept (Err CoreFault.OutOfMemory) t = (space, ap (λ o. past o h.entries) t.opening)
+
+  pub answered_follows : (kept : Kept) (answered : Result Answered CoreFault) → Answers call e kept answered → Follows (then kept.opening answered) (parts kept)
+  unfolding Answers
+  answered_follows kept (Ok a) t =
+      subst (λ k. Follows k (parts kept)) (λ i. past (sym t.1.1.opening i) (record { number = length h.entries + 1; seat = call.seat; event = e; verdict = Accepted (sym t.0 i); change = a.changes.items } ∷ h.entries)) t.1.1.follows
+  answered_follows kept (Err (CoreFault.Refused r)) t =
+      subst (λ o. Follows (past o (entered h.entries call.seat e (Err (CoreFault.Refused r)))) (parts kept)) (sym t.1.opening) t.1.follows
+  answered_follows kept (Err CoreFault.OutOfMemory) t = subst (λ o. Follows (past o h.entries) (parts kept)) (sym t.opening) t.follows
+
+-- for want of memory nothing is entered
+pub unstepped : (old new : History) (seat : ℕ) (e : Event) → is_full old ≡ false → new ≡ old → IsStepped old seat e new (Err CoreFault.OutOfMemory)
+unfolding IsStepped
+unstepped old new seat e space same = (space, same)
 
 -- where the audit is full nothing is entered
 pub full_step : (old : History) (seat : ℕ) (e : Event) → is_full old ≡ true → IsStepped old seat e old (Err (CoreFault.Refused Rule.EntriesFull))
@@ -29,12 +51,26 @@ full_step old seat e full = (
   sym (ap (λ b. cond b old (with_entry old (entry_of old seat e))) full),
 )
 
--- the event is what a handler was called for
-pub handed : (old new : History) (seat : ℕ) (e its : Event) (result : Result Reply CoreFault) → e ≡ its → Steps old seat its new result → Steps old seat e new result
-handed old new seat e its result is x = subst (λ v. Steps old seat v new result) (sym is) x
+-- the same of what a step has in hand
+module _ (call : Call) (e : Event) (kept : Kept) (answered : Result Answered CoreFault) (t : Answers call e kept answered) (space : is_full call.past ≡ false)
+    {entries : List Entry} (pushed : entries ≡ entered call.past.entries call.seat e answered) where
+  pub step_so : {now : History} → call.past ≡ now → {ev : Event} → e ≡ ev → {result : Result Reply CoreFault} → result ≡ told answered → IsStepped now call.seat ev (past kept.opening entries) result
+  step_so {now} before {ev} event {result} is = rw (is, pushed, ← event, ← before) (answered_step call space e kept answered t)
 
-pub handled : (old new : History) (seat : ℕ) (e its : Event) (result : Result Reply CoreFault) → e ≡ its → is_full old ≡ false → Steps old seat its new result → IsStepped old seat e new result
-handled old new seat e its result is space x = subst (λ v. IsStepped old seat v new result) (sym is) (steps_is old new seat its result space x)
+  opening_is : kept.opening ≡ call.past.opening
+  unfolding Answers
+  opening_is = by answered t
+    where
+      by : (a : Result Answered CoreFault) → Answers call e kept a → kept.opening ≡ call.past.opening
+      by (Ok a) t = t.1.1.opening
+      by (Err (CoreFault.Refused r)) t = t.1.opening
+      by (Err CoreFault.OutOfMemory) t = t.opening
+
+  pub core_so : {limit : ℕ} → limit ≡ call.past.opening.entries → IsCore (past kept.opening entries) limit kept
+  core_so within = record {
+    within = within ∙ ap (λ o. o.entries) (sym opening_is);
+    follows = rw pushed (answered_follows call space e kept answered t);
+  }
 
 -- ---- what a step leaves of a history
 

@@ -62,7 +62,7 @@ module _ (h : History) (seat : ℕ) (s : List ℕ) (gs : List GroupChange) where
       pub stop_follows : (links : List KeptLink) → AreTold (if_among (shown_numbers parts.links) (wide (Message.Down s))) parts.links links
           → Follows stopped (record parts { scopes = all_but s parts.scopes; links = links; monitors = without_scope s parts.monitors })
       stop_follows links tells = record {
-        sound = sound_now h parts.limit e t.sound next;
+        sound = sound_now h e t.sound next;
         admission = t.admission;
         processes = t.processes;
         scopes = record {

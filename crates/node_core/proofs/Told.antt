@@ -1,9 +1,9 @@
 -- Links for which further frames wait.
-use Rattle.node_core.proofs.Words.{Bool, Err, List, None, Ok, OnErr, Option, Some, ap, cond, false, is_some, map, nat_eq, not, refl, subst, sym, true}
-use Rattle.node_core.proofs.Words.{ℕ, [], ◌&&◌, ◌++◌, ◌||◌, ◌∙◌, ◌∷◌, ◌≡◌, AllByRecursion, AllZip, option_map_or, eq-eqb, eqb-true, has_bit, lie}
+use Rattle.node_core.proofs.Words.{Bool, Err, List, Ok, OnErr, ap, cond, false, map, nat_eq, not, refl, subst, sym, true}
+use Rattle.node_core.proofs.Words.{ℕ, [], ◌&&◌, ◌++◌, ◌||◌, ◌∙◌, ◌∷◌, ◌≡◌, AllByRecursion, AllZip, option_map_or, eq-eqb, eqb-true, has_bit}
 use Rattle.node_core.proofs.Words.{and_false, History, OutFrame, Follows, Parts, IsLinkOf, IsState, LinkFacts, LinkWords, LinksFollow, link_words}
 use Rattle.node_core.proofs.Words.{KeptLink, committed, prepared_for, unroomed, with_frames, with_prepared, is_number, Alike, AreIdle, AreTold}
-use Rattle.node_core.proofs.Words.{if_among, shown_numbers, IfNone, LinkState, is_shown, arith}
+use Rattle.node_core.proofs.Words.{if_among, shown_numbers, LinkState, is_shown, arith}
 use Rattle.std.proofs.Common.{Result}
 use Rattle.node_core.proofs.Zipped.{zipped_map}
 
@@ -20,11 +20,6 @@ zip_map f g [] [] q = tt
 zip_map f g [] (y ∷ ys) q = absurd (cc)
 zip_map f g (x ∷ xs) [] q = absurd (cc)
 zip_map f g (x ∷ xs) (y ∷ ys) q = ((cc), zip_map f g xs ys (cc))
-
--- what holds where there is none, and where there is one
-pub at_none : {A P : Type 0} (o : Option A) → is_some o ≡ false → IfNone o P → P
-at_none None q p = p
-at_none (Some x) q p = lie q
 
 -- ---- links that follow
 

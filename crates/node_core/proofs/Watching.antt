@@ -20,10 +20,10 @@ is_watch e = false
 module _ (h : History) (seat : ℕ) (r : Reply) (parts : Parts) (t : Follows h parts) where
   -- all else follows as before
   watch_follows : (ev : Event) → is_watch ev ≡ true → (ms : List (ℕ × Monitor)) → IsNext h (made h seat ev (Accepted r) []) → FollowsPolicy (answered h seat ev r) ms → Follows (answered h seat ev r) (record parts { monitors = ms })
-  watch_follows (Event.Monitor s g) q ms next follows = record { sound = sound_now h parts.limit _ t.sound next; admission = t.admission; processes = t.processes; scopes = t.scopes; links = subst (λ w. LinksFollow w parts.links) (sym (same_links h (answered h seat (Event.Monitor s g) r) refl (λ l. refl) (λ l. append-nil (waiting h l)))) t.links; monitors = follows }
-  watch_follows (Event.MonitorScope s) q ms next follows = record { sound = sound_now h parts.limit _ t.sound next; admission = t.admission; processes = t.processes; scopes = t.scopes; links = subst (λ w. LinksFollow w parts.links) (sym (same_links h (answered h seat (Event.MonitorScope s) r) refl (λ l. refl) (λ l. append-nil (waiting h l)))) t.links; monitors = follows }
-  watch_follows (Event.Demonitor k) q ms next follows = record { sound = sound_now h parts.limit _ t.sound next; admission = t.admission; processes = t.processes; scopes = t.scopes; links = subst (λ w. LinksFollow w parts.links) (sym (same_links h (answered h seat (Event.Demonitor k) r) refl (λ l. refl) (λ l. append-nil (waiting h l)))) t.links; monitors = follows }
-  watch_follows (Event.Updates k) q ms next follows = record { sound = sound_now h parts.limit _ t.sound next; admission = t.admission; processes = t.processes; scopes = t.scopes; links = subst (λ w. LinksFollow w parts.links) (sym (same_links h (answered h seat (Event.Updates k) r) refl (λ l. refl) (λ l. append-nil (waiting h l)))) t.links; monitors = follows }
+  watch_follows (Event.Monitor s g) q ms next follows = record { sound = sound_now h _ t.sound next; admission = t.admission; processes = t.processes; scopes = t.scopes; links = subst (λ w. LinksFollow w parts.links) (sym (same_links h (answered h seat (Event.Monitor s g) r) refl (λ l. refl) (λ l. append-nil (waiting h l)))) t.links; monitors = follows }
+  watch_follows (Event.MonitorScope s) q ms next follows = record { sound = sound_now h _ t.sound next; admission = t.admission; processes = t.processes; scopes = t.scopes; links = subst (λ w. LinksFollow w parts.links) (sym (same_links h (answered h seat (Event.MonitorScope s) r) refl (λ l. refl) (λ l. append-nil (waiting h l)))) t.links; monitors = follows }
+  watch_follows (Event.Demonitor k) q ms next follows = record { sound = sound_now h _ t.sound next; admission = t.admission; processes = t.processes; scopes = t.scopes; links = subst (λ w. LinksFollow w parts.links) (sym (same_links h (answered h seat (Event.Demonitor k) r) refl (λ l. refl) (λ l. append-nil (waiting h l)))) t.links; monitors = follows }
+  watch_follows (Event.Updates k) q ms next follows = record { sound = sound_now h _ t.sound next; admission = t.admission; processes = t.processes; scopes = t.scopes; links = subst (λ w. LinksFollow w parts.links) (sym (same_links h (answered h seat (Event.Updates k) r) refl (λ l. refl) (λ l. append-nil (waiting h l)))) t.links; monitors = follows }
   watch_follows ev q ms next follows = lie (sym q)
 
   pub group_watched : (s g : List ℕ) (n : ℕ) → n ≡ next_number h → IsNext h (made h seat (Event.Monitor s g) (Accepted r) [])

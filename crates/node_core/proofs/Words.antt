@@ -98,7 +98,11 @@ pub use Rattle.group_monitors.proofs.Followed.{follows_removed, follows_scope, f
 pub use Rattle.group_monitors.specs.Monitors.{IsFree, with_place}
 pub use Rattle.node_core.specs.AdmissionFacts.{AdmissionFollows, admission_words, AdmissionWords, AreOnce, IsCookieRefusal}
 pub use Rattle.node_core.specs.Calm.{IsCalmFault, refuses_calmly, is_query}
-pub use Rattle.node_core.specs.Core.{Follows, Parts, IsSound}
+pub use Rattle.node_core.specs.Core.{Follows, Keeps, Parts, IsSound, parts}
+unfoldable pub use Rattle.node_core.specs.Step.{Answers}
+pub use Rattle.node_core.specs.Step.{Call, IsCalled, Says}
+pub use Rattle.node_core.specs.declared.entering.Answered.{Answered}
+pub use Rattle.node_core.specs.declared.kept.Kept.{Kept}
 pub use Rattle.node_core.specs.Exiting.{all_frames, exit_frames, AreExits, AreExitsTold, ArePrepared, bare}
 pub use Rattle.node_core.specs.Gone.{AreCut, AreLost, without_ended}
 pub use Rattle.node_core.specs.Handshakes.{HaveEnded, moved_on, older_of, without_link, HaveComeUp, HaveGoneOn, HaveMoved, IsReady}

@@ -6,6 +6,7 @@ use Rattle.group_monitors.specs.Follows.{FollowsPolicy}
 use Rattle.policy_audit.specs.History.{History}
 use Rattle.policy_audit.specs.Own.{spawned}
 use Rattle.policy_audit.specs.Policy.{IsLegal}
+use Rattle.node_core.specs.declared.kept.Kept.{Kept}
 use Rattle.node_core.specs.declared.running.Running.{Running}
 use Rattle.node_core.specs.Links.{KeptLink}
 use Rattle.node_core.specs.Processes.{Spawned}
@@ -15,16 +16,14 @@ use Rattle.node_core.specs.ProcessFacts.{process_words, ProcessesFollow}
 use Rattle.node_core.specs.AdmissionFacts.{admission_words, AdmissionFollows}
 
 -- the history is the policy's, within its limit
-pub record IsSound (h : History) (limit : ℕ) : Type 0 where
+pub record IsSound (h : History) : Type 0 where
   pub legal : IsLegal h
-  pub limit_is : limit ≡ h.opening.entries
-  pub fits : limit < 2 ^ 32
-  pub few : length h.entries ≤ limit
+  pub fits : h.opening.entries < 2 ^ 32
+  pub few : length h.entries ≤ h.opening.entries
   pub few_spawned : spawned h ≤ length h.entries
 
--- all that a node keeps
+-- what a node keeps that changes
 pub record Parts : Type 0 where
-  pub limit : ℕ
   pub admission : AdmissionRules
   pub processes : Spawned
   pub scopes : List Running
@@ -33,9 +32,22 @@ pub record Parts : Type 0 where
 
 -- all parts follow the history
 pub record Follows (h : History) (parts : Parts) : Type 0 where
-  pub sound : IsSound h parts.limit
+  pub sound : IsSound h
   pub admission : AdmissionFollows (admission_words h) parts.admission
   pub processes : ProcessesFollow (process_words h) parts.processes
   pub scopes : ScopesFollow (scope_words h) parts.scopes
   pub links : LinksFollow (link_words h) parts.links
   pub monitors : FollowsPolicy h parts.monitors
+
+abbrev pub parts : Kept → Parts
+parts kept = record { admission = kept.admission; processes = kept.processes; scopes = kept.scopes.items; links = kept.links.items; monitors = kept.monitors }
+
+-- what is kept is that of a node with this history
+pub record Keeps (h : History) (kept : Kept) : Type 0 where
+  pub opening : kept.opening ≡ h.opening
+  pub follows : Follows h (parts kept)
+
+-- a node with this history: the limit of its audit, and what it keeps
+pub record IsCore (h : History) (limit : ℕ) (kept : Kept) : Type 0 where
+  pub within : limit ≡ h.opening.entries
+  pub follows : Follows h (parts kept)

@@ -17,3 +17,4 @@ pub mod MessageRules
 pub mod Moving
 pub mod Exiting
 pub mod Reading
+pub mod FramesHere

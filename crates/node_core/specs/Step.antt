@@ -1,5 +1,5 @@
 -- What one event makes of a node.
-use Rattle.std.specs.Prelude.{◌≡◌, ℕ, ◌<◌, false, Ok, Err}
+use Rattle.std.specs.Prelude.{◌≡◌, ℕ, ◌<◌, ◌+◌, false, List, [], ◌∷◌, length, Ok, Err}
 use Rattle.std.specs.declared.result.Result.{Result}
 use Rattle.policy_audit.specs.declared.opening.Opening.{Opening}
 use Rattle.policy_audit.specs.declared.event.Event.{Event}
@@ -8,11 +8,15 @@ use Rattle.policy_audit.specs.declared.entry.Entry.{Entry}
 use Rattle.policy_audit.specs.declared.entry.Verdict.{Verdict}
 use Rattle.policy_audit.specs.declared.entry.Verdict.TheVariants as verdicts
 use Rattle.policy_audit.specs.History.{History}
-use Rattle.policy_audit.specs.Policy.{verdict, is_full, after, IsNext, with_entry}
+use Rattle.policy_audit.specs.declared.change.Change.{Change}
+use Rattle.policy_audit.specs.Policy.{verdict, is_full, after, next_number, IsNext, with_entry}
+use Rattle.node_core.specs.declared.entering.Answered.{Answered}
+use Rattle.node_core.specs.declared.kept.Kept.{Kept}
 use Rattle.node_core.specs.declared.fault.CoreFault.{CoreFault}
 use Rattle.node_core.specs.declared.fault.CoreFault.TheVariants as faults
 use Rattle.node_core.specs.declared.fault.OpenFault.{OpenFault}
 use Rattle.node_core.specs.declared.fault.OpenFault.TheVariants as open_faults
+use Rattle.node_core.specs.Core.{Keeps}
 
 -- the policy's verdict on the event, and its history after it; for want of memory the history stays
 unfoldable pub IsStepped : History → ℕ → Event → History → Result Reply CoreFault → Type 0
@@ -25,12 +29,49 @@ abbrev pub IsOpenFault : OpenFault → Opening → Type 0
 IsOpenFault open_faults.BadLimit opening = opening.entries ≡ 0
 IsOpenFault open_faults.OutOfMemory opening = 0 < opening.entries
 
--- one entry more: the policy's, of this event and with this verdict
-abbrev pub Enters : History → ℕ → Event → Verdict → History → Type 0
-Enters old seat e v new = (entry : Entry) × (entry.seat ≡ seat) × (entry.event ≡ e) × (entry.verdict ≡ v) × IsNext old entry × (new ≡ with_entry old entry)
+-- ---- what is kept, event by event
 
--- the same, where the audit isn't full: each answer is that of the entry
-unfoldable pub Steps : History → ℕ → Event → History → Result Reply CoreFault → Type 0
-Steps old seat e new (Ok reply) = Enters old seat e (verdicts.Accepted reply) new
-Steps old seat e new (Err (faults.Refused rule)) = Enters old seat e (verdicts.Refused rule) new
-Steps old seat e new (Err faults.OutOfMemory) = new ≡ old
+-- a node of this history is called by a seat
+pub record Call : Type 0 where
+  pub past : History
+  pub seat : ℕ
+
+-- what is kept is that of the node that is called, and its audit isn't full
+pub record IsCalled (call : Call) (kept : Kept) : Type 0 where
+  pub keeps : Keeps call.past kept
+  pub space : is_full call.past ≡ false
+
+-- the seat that calls, and the number of the entry that is to come
+pub record IsTurn (call : Call) (seat number : ℕ) (kept : Kept) : Type 0 where
+  pub called : IsCalled call kept
+  pub seat_is : seat ≡ call.seat
+  pub number_is : number ≡ next_number call.past
+
+-- it is answered so, in both copies, and has changed this
+abbrev pub Says : Answered → Reply → List Change → Type 0
+Says a reply changes = (a.reply ≡ reply) × (a.copy ≡ reply) × (a.changes.items ≡ changes)
+
+-- the entry of an event with this verdict and these changes
+abbrev pub made : History → ℕ → Event → Verdict → List Change → Entry
+made h seat e v changes = record { number = next_number h; seat = seat; event = e; verdict = v; change = changes }
+
+-- this entry is the policy's next, and what is kept is that of a node which has it
+abbrev pub Enters : History → Entry → Kept → Type 0
+Enters h entry kept = IsNext h entry × Keeps (with_entry h entry) kept
+
+-- the event is answered by the policy, and what is kept follows; after want of memory it is that of the node as it was
+unfoldable pub Answers : Call → Event → Kept → Result Answered CoreFault → Type 0
+Answers call e kept (Ok a) = (a.copy ≡ a.reply) × Enters call.past (made call.past call.seat e (verdicts.Accepted a.reply) a.changes.items) kept
+Answers call e kept (Err (faults.Refused rule)) = Enters call.past (made call.past call.seat e (verdicts.Refused rule) []) kept
+Answers call e kept (Err faults.OutOfMemory) = Keeps call.past kept
+
+-- the entries with one of an event that was answered so; after want of memory there is none
+abbrev pub entered : List Entry → ℕ → Event → Result Answered CoreFault → List Entry
+entered es seat e (Ok a) = record { number = length es + 1; seat = seat; event = e; verdict = verdicts.Accepted a.copy; change = a.changes.items } ∷ es
+entered es seat e (Err (faults.Refused rule)) = record { number = length es + 1; seat = seat; event = e; verdict = verdicts.Refused rule; change = [] } ∷ es
+entered es seat e (Err faults.OutOfMemory) = es
+
+-- what the caller is told
+abbrev pub told : Result Answered CoreFault → Result Reply CoreFault
+told (Ok a) = Ok a.reply
+told (Err fault) = Err fault

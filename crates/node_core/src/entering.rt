@@ -1,91 +1,133 @@
-//! Entries of the audit.
-ghost use Rattle.std.specs.Prelude.{◌≡◌, ◌<◌, ◌≤◌, ◌+◌, ◌∷◌, [], true, length, IfOk, IfErr, OnOk, OnErr};
-ghost use Rattle.policy_audit.specs.declared.entry.Verdict.TheVariants.{Accepted, Refused};
+//! What an event is answered, and its entry in the audit.
+ghost use Rattle.std.specs.Prelude.{◌≡◌, ◌<◌, ◌+◌, ◌∷◌, [], true, length, Ok, Err, IfOk};
 ghost use Rattle.policy_audit.specs.declared.entry.Entry.{Entry};
-ghost use Rattle.node_core.specs.declared.fault.CoreFault.TheVariants.{OutOfMemory};
-ghost use Rattle.node_core.specs.Links.{with_room};
+ghost use Rattle.node_core.specs.declared.fault.CoreFault.TheVariants as faults;
+ghost use Rattle.node_core.specs.Step.{Says, entered, told};
 
-use crate::changes::ChangeRoom;
 use crate::fault::CoreFault;
-use crate::link::Link;
-use dist_types::{Scope, TryClone};
+use dist_types::{OutOfMemory, TryClone};
 use policy_audit::{Audit, Change, Changes, Event, Reply, Rule, Verdict};
 use std::alloc::Global;
 
-/// Makes room for an entry, and a copy of the reply for it.
-pub fn make_ready(alloc: Global, audit: &mut Audit, reply: &Reply) -> Result<Reply, CoreFault>
-    ensures copy { IfOk result (λ kept. kept ≡ reply.now) }
-    ensures room { OnOk result (audit.new ≡ record { limit = audit.old.limit; entries = audit.old.entries; has_room = true }) }
-    ensures memory { IfErr result (λ fault. fault ≡ OutOfMemory) }
-    ensures same { OnErr result ((audit.new.entries ≡ audit.old.entries) × (audit.new.limit ≡ audit.old.limit)) }
-{
-    audit.make_room()?;
-    Ok(reply.try_clone(alloc)?)
+/// What an accepted event is answered, once for the caller and once for the audit, and what it changed.
+pub struct Answered {
+    reply: Reply,
+    copy: Reply,
+    changes: Vec<Change>,
 }
 
-/// Makes room for an entry, and for the change of this scope that it will have.
-pub fn room_for_change(
+impl Drop for Answered {
+    fn drop(self) {
+        let Answered {
+            reply: _,
+            copy: _,
+            changes: _,
+        } = self;
+    }
+}
+
+impl Answered {
+    /// Done, and no row has changed.
+    pub fn done(alloc: Global) -> Answered
+        ensures { Says result Reply.Done [] }
+    {
+        Answered::changed(Vec::new(alloc))
+    }
+
+    /// Done, with these changes.
+    pub fn changed(changes: Vec<Change>) -> Answered
+        ensures { Says result Reply.Done changes.items }
+    {
+        Answered::both(Reply::Done, Reply::Done, changes)
+    }
+
+    /// This answer, and no row has changed.
+    pub fn with(alloc: Global, reply: Reply) -> Result<Answered, OutOfMemory>
+        ensures { IfOk result (λ answered. Says answered reply []) }
+    {
+        match reply.try_clone(alloc) {
+            Ok(copy) => Ok(Answered::both(reply, copy, Vec::new(alloc))),
+            Err(fault) => {
+                drop(reply);
+                Err(fault)
+            }
+        }
+    }
+
+    /// An answer that stands here twice, with these changes.
+    pub fn both(reply: Reply, copy: Reply, changes: Vec<Change>) -> Answered
+        requires { copy ≡ reply }
+        ensures { Says result reply changes.items }
+    {
+        Answered {
+            reply,
+            copy,
+            changes,
+        }
+    }
+
+    /// Enters an event that is answered so, into the room that there is.
+    fn enter(self, audit: &mut Audit, seat: u32, event: Event) -> Reply
+        requires room { audit.old.has_room ≡ true }
+        requires space { length audit.old.entries < audit.old.limit }
+        ensures entries { audit.new.entries ≡ entered audit.old.entries seat event (Ok self) }
+        ensures limit { audit.new.limit ≡ audit.old.limit }
+        ensures reply { result ≡ self.reply }
+    {
+        let Answered {
+            reply,
+            copy,
+            changes,
+        } = self;
+        let verdict = Verdict::Accepted(copy);
+        push(audit, seat, event, verdict, Changes::of(changes));
+        reply
+    }
+}
+
+/// Enters an event, into the room that there is, with what it was answered. Where memory was wanting there is no entry.
+pub fn enter(
     alloc: Global,
     audit: &mut Audit,
-    scope: Scope,
-) -> Result<ChangeRoom, CoreFault>
-    ensures scope { IfOk result (λ room. room ≡ scope) }
-    ensures room { OnOk result (audit.new ≡ record { limit = audit.old.limit; entries = audit.old.entries; has_room = true }) }
-    ensures memory { IfErr result (λ fault. fault ≡ OutOfMemory) }
-    ensures same { OnErr result (audit.new ≡ audit.old) }
+    seat: u32,
+    event: Event,
+    answered: Result<Answered, CoreFault>,
+) -> Result<Reply, CoreFault>
+    requires room { audit.old.has_room ≡ true }
+    requires space { length audit.old.entries < audit.old.limit }
+    ensures entries { audit.new.entries ≡ entered audit.old.entries seat event answered }
+    ensures limit { audit.new.limit ≡ audit.old.limit }
+    ensures told { result ≡ told answered }
 {
-    let room = ChangeRoom::new(alloc, scope)?;
-    audit.make_room()?;
-    Ok(room)
+    match answered {
+        Ok(answered) => Ok(answered.enter(audit, seat, event)),
+        Err(CoreFault::Refused(rule)) => {
+            reject(alloc, audit, seat, event, rule);
+            Err(CoreFault::Refused(rule))
+        }
+        Err(CoreFault::OutOfMemory) => {
+            drop(event);
+            Err(CoreFault::OutOfMemory)
+        }
+    }
 }
 
-/// Makes room for an entry, and for so many frames more on a link.
-pub fn room_for_frames(audit: &mut Audit, link: &mut Link, frames: usize) -> Result<(), CoreFault>
-    requires { link.old.prepared ≡ [] }
-    ensures fits { OnOk result (frames ≤ link.new.room) }
-    ensures roomy { link.new ≡ with_room link.old link.new.room }
-    ensures room { OnOk result (audit.new ≡ record { limit = audit.old.limit; entries = audit.old.entries; has_room = true }) }
-    ensures memory { IfErr result (λ fault. fault ≡ OutOfMemory) }
-    ensures unentered { OnErr result ((audit.new.entries ≡ audit.old.entries) × (audit.new.limit ≡ audit.old.limit)) }
+/// Enters a refused event.
+fn reject(alloc: Global, audit: &mut Audit, seat: u32, event: Event, rule: Rule)
+    requires room { audit.old.has_room ≡ true }
+    requires space { length audit.old.entries < audit.old.limit }
+    ensures entries { audit.new.entries ≡ entered audit.old.entries seat event (Err (faults.Refused rule)) }
+    ensures limit { audit.new.limit ≡ audit.old.limit }
 {
-    link.make_room(frames)?;
-    audit.make_room()?;
-    Ok(())
+    let nothing = Changes::of(Vec::new(alloc));
+    push(audit, seat, event, Verdict::Refused(rule), nothing);
 }
 
-/// Enters an event, into the room that there is.
-fn enter(audit: &mut Audit, seat: u32, event: Event, verdict: Verdict, change: Changes)
+fn push(audit: &mut Audit, seat: u32, event: Event, verdict: Verdict, change: Changes)
     requires room { audit.old.has_room ≡ true }
     requires space { length audit.old.entries < audit.old.limit }
     ensures entries { audit.new.entries ≡ record { number = length audit.old.entries + 1; seat = seat; event = event; verdict = verdict; change = change } ∷ audit.old.entries }
     ensures limit { audit.new.limit ≡ audit.old.limit }
 {
     audit.push(seat, event, verdict, change).unwrap();
-}
-
-/// Enters an accepted event, into the room that there is.
-pub fn accept(audit: &mut Audit, seat: u32, event: Event, reply: Reply, changes: Vec<Change>)
-    requires room { audit.old.has_room ≡ true }
-    requires space { length audit.old.entries < audit.old.limit }
-    ensures entries { audit.new.entries ≡ record { number = length audit.old.entries + 1; seat = seat; event = event; verdict = Accepted reply; change = changes.items } ∷ audit.old.entries }
-    ensures limit { audit.new.limit ≡ audit.old.limit }
-{
-    enter(
-        audit,
-        seat,
-        event,
-        Verdict::Accepted(reply),
-        Changes::of(changes),
-    );
-}
-
-/// Enters a refused event, into the room that there is.
-pub fn reject(alloc: Global, audit: &mut Audit, seat: u32, event: Event, rule: Rule)
-    requires room { audit.old.has_room ≡ true }
-    requires space { length audit.old.entries < audit.old.limit }
-    ensures entries { audit.new.entries ≡ record { number = length audit.old.entries + 1; seat = seat; event = event; verdict = Refused rule; change = [] } ∷ audit.old.entries }
-    ensures limit { audit.new.limit ≡ audit.old.limit }
-{
-    let nothing = Changes::of(Vec::new(alloc));
-    enter(audit, seat, event, Verdict::Refused(rule), nothing);
 }

@@ -5,28 +5,27 @@ ghost use Rattle.std.specs.Option.{option_map, option_map_or, unwrap_or};
 ghost use Rattle.dist_types.specs.Listing.{same};
 ghost use Rattle.link_frames.specs.declared.message.Message.TheVariants as said;
 ghost use Rattle.policy_audit.specs.Owed.{wide};
-ghost use Rattle.policy_audit.specs.Policy.{is_full};
-ghost use Rattle.policy_audit.specs.Sides.{awaits, is_last, is_whole};
-ghost use Rattle.policy_audit.specs.Links.{is_open};
 ghost use Rattle.node_core.specs.Links.{known_peer, up_peer, dial_beside, narrow_frames};
 ghost use Rattle.node_core.specs.Handshakes.{IsReady, HaveGoneOn, HaveEnded, HaveComeUp, moved_on, older_of, without_link};
 ghost use Rattle.node_core.specs.Gone.{AreLost};
 ghost use Rattle.node_core.specs.Parting.{IsCutOff};
-ghost use Rattle.node_core.specs.Step.{Steps};
+ghost use Rattle.policy_audit.specs.declared.event.Event.TheVariants as events;
+ghost use Rattle.node_core.specs.FramesHere.{AwaitsEarly, AwaitsLast};
+ghost use Rattle.node_core.specs.Step.{Call, IsCalled, Answers};
 
 use crate::changes::{Part, changes_of, end_link};
-use crate::entering::{accept, reject, room_for_frames};
+use crate::entering::Answered;
 use crate::fault::CoreFault;
 use crate::frames::discover_frame;
 use crate::hearing::{Heard, hear, hear_last};
+use crate::kept::Kept;
 use crate::link::Link;
 use crate::link_state::LinkState;
 use crate::links::{dial_to, pending_of, place_of, remove};
-use crate::node::NodeCore;
 use crate::running::Running;
 use dist_types::{Body, NodeName, OutOfMemory, TryClone};
 use link_states::{Bodies, Up};
-use policy_audit::{Change, Event, OutFrame, Reply, Rule};
+use policy_audit::{Change, OutFrame, Reply, Rule};
 use std::alloc::Global;
 
 /// The most frames of the handshake that one frame owes.
@@ -45,38 +44,35 @@ struct Arrival {
     discovers: Vec<OutFrame>,
 }
 
-impl NodeCore {
+impl Kept {
     /// A frame that came on a link.
-    #[tactic(auto, unfolding(crate::specs::Step::Steps))]
-    pub(crate) fn frame(&mut self, seat: u32, number: u32, body: Body) -> Result<Reply, CoreFault>
-        requires { is_full self.old ≡ false }
-        ensures { Steps self.old seat (Event.Frame number body) self.new result }
+    #[tactic(auto, unfolding(crate::specs::Step::Answers))]
+    pub fn frame(&mut self, number: u32, body: &Body) -> Result<Answered, CoreFault>
+        ghost call: { Call }
+        requires { IsCalled call self.old }
+        ensures { Answers call (events.Frame number body.now) self.new result }
     {
         let Some(place) = place_of(&self.links, number) else {
-            return self.refuse(seat, Event::Frame(number, body), Rule::NoSuchLink);
+            return Err(CoreFault::Refused(Rule::NoSuchLink));
         };
         match self.links[place].state() {
-            LinkState::Ended => self.refuse(seat, Event::Frame(number, body), Rule::NoSuchLink),
-            LinkState::Up(_) => self.message(seat, number, body),
-            LinkState::Reply(_) | LinkState::Ack(_) => self.last_frame(seat, number, body),
-            _ => self.early_frame(seat, number, body),
+            LinkState::Ended => Err(CoreFault::Refused(Rule::NoSuchLink)),
+            LinkState::Up(_) => self.message(place, number, body),
+            LinkState::Reply(_) => self.last_frame(place, number, body),
+            LinkState::Ack(_) => self.last_frame(place, number, body),
+            _ => self.early_frame(place, number, body),
         }
     }
 
     /// A frame that is not the last of a handshake.
-    #[tactic(auto, unfolding(crate::specs::Step::Steps))]
-    fn early_frame(&mut self, seat: u32, number: u32, body: Body) -> Result<Reply, CoreFault>
-        requires space { is_full self.old ≡ false }
-        requires opens { is_open number self.old.entries ≡ true }
-        requires unwhole { is_whole number self.old.entries ≡ false }
-        requires early { is_last (awaits number self.old.entries) ≡ false }
-        ensures { Steps self.old seat (Event.Frame number body) self.new result }
+    #[tactic(auto, unfolding(crate::specs::Step::Answers))]
+    fn early_frame(&mut self, place: usize, number: u32, body: &Body) -> Result<Answered, CoreFault>
+        ghost call: { Call }
+        requires { AwaitsEarly call self.old place number }
+        ensures { Answers call (events.Frame number body.now) self.new result }
     {
-        let Some(place) = place_of(&self.links, number) else {
-            unreachable!()
-        };
         let pending = pending_of(self.alloc, &self.links)?;
-        room_for_frames(&mut self.audit, &mut self.links[place], MOST_OWED)?;
+        self.links[place].make_room(MOST_OWED)?;
         let state = self.links[place].replace(LinkState::Ended);
         let bytes = body.as_slice();
         let heard = hear(self.alloc, state, bytes, &self.admission, &pending);
@@ -88,15 +84,10 @@ impl NodeCore {
                 gives_up,
             } => {
                 go_on(&mut self.links, place, state, frames, gives_up);
-                let event = Event::Frame(number, body);
-                let nothing = Vec::new(self.alloc);
-                accept(&mut self.audit, seat, event, Reply::Done, nothing);
-                Ok(Reply::Done)
+                Ok(Answered::done(self.alloc))
             }
             Heard::Ended { rule, frames } => {
                 end(&mut self.links, place, frames);
-                let event = Event::Frame(number, body);
-                reject(self.alloc, &mut self.audit, seat, event, rule);
                 Err(CoreFault::Refused(rule))
             }
             Heard::OutOfMemory(state) => {
@@ -108,21 +99,13 @@ impl NodeCore {
     }
 
     /// The last frame of a handshake.
-    #[tactic(auto, unfolding(crate::specs::Step::Steps))]
-    fn last_frame(&mut self, seat: u32, number: u32, body: Body) -> Result<Reply, CoreFault>
-        requires space { is_full self.old ≡ false }
-        requires opens { is_open number self.old.entries ≡ true }
-        requires last { is_last (awaits number self.old.entries) ≡ true }
-        ensures { Steps self.old seat (Event.Frame number body) self.new result }
+    #[tactic(auto, unfolding(crate::specs::Step::Answers))]
+    fn last_frame(&mut self, place: usize, number: u32, body: &Body) -> Result<Answered, CoreFault>
+        ghost call: { Call }
+        requires { AwaitsLast call self.old place number }
+        ensures { Answers call (events.Frame number body.now) self.new result }
     {
-        let Some(place) = place_of(&self.links, number) else {
-            unreachable!()
-        };
-        room_for_frames(
-            &mut self.audit,
-            &mut self.links[place],
-            MOST_OWED + self.scopes.len(),
-        )?;
+        self.links[place].make_room(MOST_OWED + self.scopes.len())?;
         let arrival = arrival_of(self.alloc, &self.links[place], &self.scopes)?;
         let state = self.links[place].replace(LinkState::Ended);
         match hear_last(self.alloc, state, body.as_slice(), &self.admission) {
@@ -133,19 +116,14 @@ impl NodeCore {
                     changes,
                     discovers,
                 } = arrival;
-                let entered = up_reply(kept, &up);
-                let reply = up_reply(peer, &up);
+                let (reply, copy) = (up_reply(peer, &up), up_reply(kept, &up));
                 let (links, scopes) = (&mut self.links, &mut self.scopes);
                 settle(links, scopes, place, number, up, frames, discovers);
-                let event = Event::Frame(number, body);
-                accept(&mut self.audit, seat, event, entered, changes);
-                Ok(reply)
+                Ok(Answered::both(reply, copy, changes))
             }
             Heard::Ended { rule, frames } => {
                 drop(arrival);
                 end(&mut self.links, place, frames);
-                let event = Event::Frame(number, body);
-                reject(self.alloc, &mut self.audit, seat, event, rule);
                 Err(CoreFault::Refused(rule))
             }
             Heard::OutOfMemory(state) => {

@@ -9,6 +9,7 @@ mod fault;
 mod frames;
 mod handshaking;
 mod hearing;
+mod kept;
 mod laws;
 mod link;
 mod link_state;

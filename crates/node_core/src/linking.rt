@@ -1,85 +1,76 @@
 //! Links that open and end, and the frames that wait for them.
-ghost use Rattle.std.specs.Prelude.{◌≡◌, false, IfOk};
+ghost use Rattle.std.specs.Prelude.{◌≡◌, [], IfOk};
 ghost use Rattle.policy_audit.specs.Checks.{dial_checks, first_broken};
-ghost use Rattle.policy_audit.specs.Policy.{is_full};
+ghost use Rattle.policy_audit.specs.History.{History};
+ghost use Rattle.policy_audit.specs.Policy.{next_number};
+ghost use Rattle.node_core.specs.Core.{Keeps};
 ghost use Rattle.node_core.specs.Gone.{AreCut, AreLost};
 ghost use Rattle.node_core.specs.Links.{up_peer, dialled_link};
-ghost use Rattle.node_core.specs.Step.{Steps};
+ghost use Rattle.policy_audit.specs.declared.event.Event.TheVariants as events;
+ghost use Rattle.node_core.specs.Step.{Call, IsCalled, Answers, Says};
 
 use crate::changes::{Part, changes_of, end_link};
-use crate::entering::accept;
+use crate::entering::Answered;
 use crate::fault::CoreFault;
+use crate::kept::Kept;
 use crate::link::Link;
 use crate::link_state::LinkState;
 use crate::links::{MAX_LINKS, drop_ended, is_dialling, place_of, place_of_up, remove};
-use crate::node::NodeCore;
 use crate::running::Running;
 use admission_rules::Admission;
 use cookie_digest::Challenge;
 use dist_types::{NodeName, OutOfMemory, TryClone};
 use link_states::{AwaitName, AwaitStatus};
-use policy_audit::{Change, Event, OutFrame, OutFrames, Reply, Rule};
+use policy_audit::{Change, OutFrame, OutFrames, Reply, Rule};
 use std::alloc::Global;
 
-impl NodeCore {
+impl Kept {
     /// A link from a peer.
-    #[tactic(auto, unfolding(crate::specs::Step::Steps))]
-    pub(crate) fn opened(&mut self, seat: u32, challenge: u32) -> Result<Reply, CoreFault>
-        requires { is_full self.old ≡ false }
-        ensures { Steps self.old seat (Event.Opened challenge) self.new result }
+    #[tactic(auto, unfolding(crate::specs::Step::Answers))]
+    pub fn opened(&mut self, number: u32, challenge: u32) -> Result<Answered, CoreFault>
+        ghost call: { Call }
+        requires called { IsCalled call self.old }
+        requires number { number ≡ next_number call.past }
+        ensures { Answers call (events.Opened challenge) self.new result }
     {
         if self.links.len() >= MAX_LINKS {
-            return self.refuse(seat, Event::Opened(challenge), Rule::LinksFull);
+            return Err(CoreFault::Refused(Rule::LinksFull));
         }
-        let number = self.next_number();
-        self.audit.make_room()?;
         self.links.reserve(1)?;
         let state = AwaitName::new(Challenge::new(challenge));
         let waiting = Vec::new(self.alloc);
         self.links
             .push_reserved(Link::new(number, LinkState::Name(state), waiting));
-        accept(
-            &mut self.audit,
-            seat,
-            Event::Opened(challenge),
-            Reply::Link(number),
-            Vec::new(self.alloc),
-        );
-        Ok(Reply::Link(number))
+        Ok(linked(self.alloc, number))
     }
 
     /// A link to a peer.
-    #[tactic(auto, unfolding(crate::specs::Step::Steps))]
-    pub(crate) fn dial(
+    #[tactic(auto, unfolding(crate::specs::Step::Answers))]
+    pub fn dial(
         &mut self,
-        seat: u32,
-        peer: NodeName,
+        number: u32,
+        peer: &NodeName,
         challenge: u32,
-    ) -> Result<Reply, CoreFault>
-        requires { is_full self.old ≡ false }
-        ensures { Steps self.old seat (Event.Dial peer challenge) self.new result }
+    ) -> Result<Answered, CoreFault>
+        ghost call: { Call }
+        requires called { IsCalled call self.old }
+        requires number { number ≡ next_number call.past }
+        ensures { Answers call (events.Dial peer.now challenge) self.new result }
     {
-        if let Some(rule) = self.dial_refusal(&peer) {
-            return self.refuse(seat, Event::Dial(peer, challenge), rule);
+        if let Some(rule) = self.dial_refusal(peer) {
+            return Err(CoreFault::Refused(rule));
         }
-        let number = self.next_number();
         self.links.reserve(1)?;
-        self.audit.make_room()?;
-        let link = dialled(self.alloc, number, &peer, challenge, &self.admission)?;
+        let link = dialled(self.alloc, number, peer, challenge, &self.admission)?;
         self.links.push_reserved(link);
-        accept(
-            &mut self.audit,
-            seat,
-            Event::Dial(peer, challenge),
-            Reply::Link(number),
-            Vec::new(self.alloc),
-        );
-        Ok(Reply::Link(number))
+        Ok(linked(self.alloc, number))
     }
 
     /// The first rule that a dial to this peer breaks.
     fn dial_refusal(&self, peer: &NodeName) -> Option<Rule>
-        ensures { result ≡ first_broken (dial_checks self.now peer.now) }
+        ghost past: { History }
+        requires { Keeps past self.now }
+        ensures { result ≡ first_broken (dial_checks past peer.now) }
     {
         if *peer == self.opening.name {
             return Some(Rule::OwnName);
@@ -100,74 +91,61 @@ impl NodeCore {
     }
 
     /// The frames that wait for a link are handed over.
-    #[tactic(auto, unfolding(crate::specs::Step::Steps))]
-    pub(crate) fn take(&mut self, seat: u32, number: u32) -> Result<Reply, CoreFault>
-        requires { is_full self.old ≡ false }
-        ensures { Steps self.old seat (Event.Take number) self.new result }
+    #[tactic(auto, unfolding(crate::specs::Step::Answers))]
+    pub fn take(&mut self, number: u32) -> Result<Answered, CoreFault>
+        ghost call: { Call }
+        requires { IsCalled call self.old }
+        ensures { Answers call (events.Take number) self.new result }
     {
         let Some(place) = place_of(&self.links, number) else {
-            return self.refuse(seat, Event::Take(number), Rule::NoSuchLink);
+            return Err(CoreFault::Refused(Rule::NoSuchLink));
         };
-        self.audit.make_room()?;
-        let kept = copies_of(self.alloc, self.links[place].frames())?;
+        let copies = copies_of(self.alloc, self.links[place].frames())?;
         let frames = self.links[place].hand_over(self.alloc);
         drop_ended(&mut self.links, place);
-        accept(
-            &mut self.audit,
-            seat,
-            Event::Take(number),
-            Reply::Out(kept),
-            Vec::new(self.alloc),
-        );
-        Ok(Reply::Out(frames))
+        let nothing = Vec::new(self.alloc);
+        Ok(Answered::both(Reply::Out(frames), Reply::Out(copies), nothing))
     }
 
     /// A link is gone.
-    #[tactic(auto, unfolding(crate::specs::Step::Steps))]
-    pub(crate) fn lost(&mut self, seat: u32, number: u32) -> Result<Reply, CoreFault>
-        requires { is_full self.old ≡ false }
-        ensures { Steps self.old seat (Event.Lost number) self.new result }
+    #[tactic(auto, unfolding(crate::specs::Step::Answers))]
+    pub fn lost(&mut self, number: u32) -> Result<Answered, CoreFault>
+        ghost call: { Call }
+        requires { IsCalled call self.old }
+        ensures { Answers call (events.Lost number) self.new result }
     {
         let Some(place) = place_of(&self.links, number) else {
-            return self.refuse(seat, Event::Lost(number), Rule::NoSuchLink);
+            return Err(CoreFault::Refused(Rule::NoSuchLink));
         };
-        self.audit.make_room()?;
         let changes = changes_without(self.alloc, &self.scopes, &self.links[place])?;
         cut_link(&mut self.scopes, &self.links[place]);
         remove(&mut self.links, number);
-        accept(
-            &mut self.audit,
-            seat,
-            Event::Lost(number),
-            Reply::Done,
-            changes,
-        );
-        Ok(Reply::Done)
+        Ok(Answered::changed(changes))
     }
 
     /// The link to a peer is given up.
-    #[tactic(auto, unfolding(crate::specs::Step::Steps))]
-    pub(crate) fn disconnect(&mut self, seat: u32, peer: NodeName) -> Result<Reply, CoreFault>
-        requires { is_full self.old ≡ false }
-        ensures { Steps self.old seat (Event.Disconnect peer) self.new result }
+    #[tactic(auto, unfolding(crate::specs::Step::Answers))]
+    pub fn disconnect(&mut self, peer: &NodeName) -> Result<Answered, CoreFault>
+        ghost call: { Call }
+        requires { IsCalled call self.old }
+        ensures { Answers call (events.Disconnect peer.now) self.new result }
     {
-        let Some(place) = place_of_up(&self.links, &peer) else {
-            return self.refuse(seat, Event::Disconnect(peer), Rule::NoLinkTo);
+        let Some(place) = place_of_up(&self.links, peer) else {
+            return Err(CoreFault::Refused(Rule::NoLinkTo));
         };
         let number = self.links[place].number();
-        self.audit.make_room()?;
         let changes = changes_without(self.alloc, &self.scopes, &self.links[place])?;
         cut_link(&mut self.scopes, &self.links[place]);
         remove(&mut self.links, number);
-        accept(
-            &mut self.audit,
-            seat,
-            Event::Disconnect(peer),
-            Reply::Done,
-            changes,
-        );
-        Ok(Reply::Done)
+        Ok(Answered::changed(changes))
     }
+}
+
+/// The number of a new link is the answer.
+fn linked(alloc: Global, number: u32) -> Answered
+    ensures { Says result (Reply.Link number) [] }
+{
+    Answered::both(Reply::Link(number), Reply::Link(number), Vec::new(alloc))
 }
 
 /// A link to a peer, for which its first frame waits.

@@ -1,33 +1,38 @@
 //! The node's own processes in groups.
-ghost use Rattle.std.specs.Prelude.{◌≡◌, ◌≤◌, ◌+◌, true, false, length, All, IfOk, IfErr, OnOk, OnErr};
+ghost use Rattle.std.specs.Prelude.{◌≡◌, ◌≤◌, ◌+◌, ◌==◌, ◌&&◌, true, length, All, IfOk, IfErr, OnOk, OnErr};
 ghost use Rattle.std.specs.List.{list_all};
+ghost use Rattle.dist_types.specs.Listing.{same};
 ghost use Rattle.scope_core.specs.Table.{local_total, max_rows};
 ghost use Rattle.scope_core.specs.Calls.{count_after_join, count_after_leave, is_any_joined};
 ghost use Rattle.policy_audit.specs.Checks.{first_broken};
+ghost use Rattle.policy_audit.specs.History.{History};
 ghost use Rattle.policy_audit.specs.Own.{is_local, lives};
-ghost use Rattle.policy_audit.specs.Policy.{is_full};
-ghost use Rattle.node_core.specs.Step.{Steps};
+ghost use Rattle.node_core.specs.Core.{Keeps};
+ghost use Rattle.policy_audit.specs.declared.event.Event.TheVariants as events;
+ghost use Rattle.node_core.specs.Step.{Call, IsCalled, Answers};
 ghost use Rattle.node_core.specs.Telling.{AreIdle, Alike};
 ghost use Rattle.node_core.specs.Moving.{own_checks, join_of, leave_of, IsPrepared, IsMoved, IsJoinRefusal, IsLeaveRefusal, fault_of};
 
-use crate::changes::{Part, leave_all, rows_of};
-use crate::entering::{accept, room_for_change};
+use crate::changes::{ChangeRoom, Part, leave_all, rows_of};
+use crate::entering::Answered;
 use crate::fault::CoreFault;
+use crate::kept::Kept;
 use crate::link::Link;
 use crate::links::{commit, forget};
-use crate::node::NodeCore;
 use crate::running::{Running, place_of};
 use crate::telling::{tell, tell_exit};
 use dist_types::{Group, OutOfMemory, Pid, Pids, Scope, TryClone};
 use link_frames::{Message, Rows};
-use policy_audit::{Audit, Change, Event, Reply, Rule};
+use policy_audit::{Change, Rule};
 use scope_core::{ScopeTable, TableFault};
 use std::alloc::Global;
 
-impl NodeCore {
+impl Kept {
     /// The first rule that own processes break that join a group, but for those of the scope and of its other rows.
     fn join_refusal(&self, pids: &[Pid]) -> Option<Rule>
-        ensures { result ≡ first_broken (own_checks self.now pids.now) }
+        ghost past: { History }
+        requires { Keeps past self.now }
+        ensures { result ≡ first_broken (own_checks past pids.now) }
     {
         if !self.are_local(pids) {
             return Some(Rule::NotLocal);
@@ -43,126 +48,98 @@ impl NodeCore {
 
     /// Whether all have the node's name and its creation.
     fn are_local(&self, pids: &[Pid]) -> bool
-        ensures { result ≡ list_all (is_local self.now) pids.now }
+        ghost past: { History }
+        requires { Keeps past self.now }
+        ensures { result ≡ list_all (is_local past) pids.now }
     {
         pids.iter().all(|pid| self.is_local(pid))
     }
 
     /// Whether all of these own processes live.
     fn are_alive(&self, pids: &[Pid]) -> bool
-        requires { list_all (is_local self.now) pids.now ≡ true }
-        ensures { result ≡ list_all (lives self.now) pids.now }
+        ghost past: { History }
+        requires keeps { Keeps past self.now }
+        requires local { list_all (is_local past) pids.now ≡ true }
+        ensures { result ≡ list_all (lives past) pids.now }
     {
         let processes = &self.processes;
         pids.iter().all(|pid| processes.is_live(pid.number))
     }
 
     /// Whether the process has the node's name and its creation.
-    pub(crate) fn is_local(&self, pid: &Pid) -> bool
-        ensures { result ≡ is_local self.now pid.now }
+    pub fn is_local(&self, pid: &Pid) -> bool
+        ensures { result ≡ (same pid.now.node self.now.opening.name && pid.now.creation == self.now.admission.creation) }
     {
         pid.node == self.opening.name && pid.creation == self.admission.creation()
     }
 
     /// Processes join a group, each once per mention.
-    #[tactic(auto, unfolding(crate::specs::Step::Steps))]
-    pub(crate) fn join(
-        &mut self,
-        seat: u32,
-        scope: Scope,
-        group: Group,
-        pids: Pids,
-    ) -> Result<Reply, CoreFault>
-        requires { is_full self.old ≡ false }
-        ensures { Steps self.old seat (Event.Join scope group pids) self.new result }
+    #[tactic(auto, unfolding(crate::specs::Step::Answers))]
+    pub fn join(&mut self, scope: &Scope, group: &Group, pids: &Pids) -> Result<Answered, CoreFault>
+        ghost call: { Call }
+        requires { IsCalled call self.old }
+        ensures { Answers call (events.Join scope.now group.now pids.now) self.new result }
     {
-        let Some(place) = place_of(&self.scopes, &scope) else {
-            return self.refuse(seat, Event::Join(scope, group, pids), Rule::NoScope);
+        let Some(place) = place_of(&self.scopes, scope) else {
+            return Err(CoreFault::Refused(Rule::NoScope));
         };
-        if let Some(rule) = self.join_refusal(pids.as_slice()) {
-            return self.refuse(seat, Event::Join(scope, group, pids), rule);
+        let pids = pids.as_slice();
+        if let Some(rule) = self.join_refusal(pids) {
+            return Err(CoreFault::Refused(rule));
         }
-        let changes = join_one(
-            self.alloc,
-            &mut self.audit,
-            &mut self.links,
-            &mut self.scopes[place],
-            &group,
-            pids.as_slice(),
-        );
-        let event = Event::Join(scope, group, pids);
-        match changes {
-            Ok(changes) => {
-                accept(&mut self.audit, seat, event, Reply::Done, changes);
-                Ok(Reply::Done)
-            }
-            Err(fault) => self.give_up(seat, event, fault),
-        }
+        let (links, running) = (&mut self.links, &mut self.scopes[place]);
+        let changes = join_one(self.alloc, links, running, group, pids)?;
+        Ok(Answered::changed(changes))
     }
 
     /// Processes leave a group, each once per mention, as far as they are joined.
-    #[tactic(auto, unfolding(crate::specs::Step::Steps))]
-    pub(crate) fn leave(
+    #[tactic(auto, unfolding(crate::specs::Step::Answers))]
+    pub fn leave(
         &mut self,
-        seat: u32,
-        scope: Scope,
-        group: Group,
-        pids: Pids,
-    ) -> Result<Reply, CoreFault>
-        requires { is_full self.old ≡ false }
-        ensures { Steps self.old seat (Event.Leave scope group pids) self.new result }
+        scope: &Scope,
+        group: &Group,
+        pids: &Pids,
+    ) -> Result<Answered, CoreFault>
+        ghost call: { Call }
+        requires { IsCalled call self.old }
+        ensures { Answers call (events.Leave scope.now group.now pids.now) self.new result }
     {
-        let Some(place) = place_of(&self.scopes, &scope) else {
-            return self.refuse(seat, Event::Leave(scope, group, pids), Rule::NoScope);
+        let Some(place) = place_of(&self.scopes, scope) else {
+            return Err(CoreFault::Refused(Rule::NoScope));
         };
-        if !self.are_local(pids.as_slice()) {
-            return self.refuse(seat, Event::Leave(scope, group, pids), Rule::NotLocal);
+        let pids = pids.as_slice();
+        if !self.are_local(pids) {
+            return Err(CoreFault::Refused(Rule::NotLocal));
         }
-        let changes = leave_one(
-            self.alloc,
-            &mut self.audit,
-            &mut self.links,
-            &mut self.scopes[place],
-            &group,
-            pids.as_slice(),
-        );
-        let event = Event::Leave(scope, group, pids);
-        match changes {
-            Ok(changes) => {
-                accept(&mut self.audit, seat, event, Reply::Done, changes);
-                Ok(Reply::Done)
-            }
-            Err(fault) => self.give_up(seat, event, fault),
-        }
+        let (links, running) = (&mut self.links, &mut self.scopes[place]);
+        let changes = leave_one(self.alloc, links, running, group, pids)?;
+        Ok(Answered::changed(changes))
     }
 
     /// A process ends, and leaves all groups.
-    #[tactic(auto, unfolding(crate::specs::Step::Steps))]
-    pub(crate) fn exit(&mut self, seat: u32, pid: Pid) -> Result<Reply, CoreFault>
-        requires { is_full self.old ≡ false }
-        ensures { Steps self.old seat (Event.Exit pid) self.new result }
+    #[tactic(auto, unfolding(crate::specs::Step::Answers))]
+    pub fn exit(&mut self, pid: &Pid) -> Result<Answered, CoreFault>
+        ghost call: { Call }
+        requires { IsCalled call self.old }
+        ensures { Answers call (events.Exit pid.now) self.new result }
     {
-        if !self.is_local(&pid) {
-            return self.refuse(seat, Event::Exit(pid), Rule::NotLocal);
+        if !self.is_local(pid) {
+            return Err(CoreFault::Refused(Rule::NotLocal));
         }
         if !self.processes.is_live(pid.number) {
-            return self.refuse(seat, Event::Exit(pid), Rule::NoProcess);
+            return Err(CoreFault::Refused(Rule::NoProcess));
         }
-        self.audit.make_room()?;
-        let changes = tell_exit(self.alloc, &mut self.links, &self.scopes, &pid)?;
-        leave_all(&mut self.scopes, Part::Process(&pid));
+        let changes = tell_exit(self.alloc, &mut self.links, &self.scopes, pid)?;
+        leave_all(&mut self.scopes, Part::Process(pid));
         self.processes.exit(pid.number);
-        let event = Event::Exit(pid);
-        accept(&mut self.audit, seat, event, Reply::Done, changes);
-        Ok(Reply::Done)
+        Ok(Answered::changed(changes))
     }
 }
 
-/// Makes room for an entry; own processes join a group of one scope, and the links that are told there are told so. Where they
-/// don't, nothing but room has changed.
+/// Own processes join a group of one scope, and the links that are told there are told so. Where they don't, nothing but room has
+/// changed.
 fn join_one(
     alloc: Global,
-    audit: &mut Audit,
     links: &mut Vec<Link>,
     running: &mut Running,
     group: &Group,
@@ -173,12 +150,10 @@ fn join_one(
     requires idle { AreIdle links.old.items }
     ensures joined { IfOk result (λ changes. IsMoved (join_of running.old.scope group.now pids.now) (count_after_join running.old.table group.now pids.now) running.old running.new links.old.items links.new.items changes.items) }
     ensures few { OnOk result (local_total running.old.table + length pids.now ≤ max_rows) }
-    ensures room { OnOk result (audit.new ≡ record { limit = audit.old.limit; entries = audit.old.entries; has_room = true }) }
     ensures refused { IfErr result (IsJoinRefusal running.old.table pids.now) }
     ensures same { OnErr result ((running.new ≡ running.old) × Alike links.old.items links.new.items) }
-    ensures unentered { OnErr result ((audit.new.entries ≡ audit.old.entries) × (audit.new.limit ≡ audit.old.limit)) }
 {
-    let room = room_for_change(alloc, audit, running.scope.try_clone(alloc)?)?;
+    let room = ChangeRoom::new(alloc, running.scope.try_clone(alloc)?)?;
     tell_join(alloc, links, running, group, pids)?;
     match running.table.join_local(group, pids) {
         Ok(groups) => {
@@ -212,11 +187,10 @@ fn tell_join(
     Ok(())
 }
 
-/// Makes room for an entry; own processes leave a group of one scope, and the links that are told there are told so. Where they
-/// don't, nothing but room has changed.
+/// Own processes leave a group of one scope, and the links that are told there are told so. Where they don't, nothing but room has
+/// changed.
 fn leave_one(
     alloc: Global,
-    audit: &mut Audit,
     links: &mut Vec<Link>,
     running: &mut Running,
     group: &Group,
@@ -226,12 +200,10 @@ fn leave_one(
     requires idle { AreIdle links.old.items }
     ensures left { IfOk result (λ changes. IsMoved (leave_of running.old group.now pids.now) (count_after_leave running.old.table group.now pids.now) running.old running.new links.old.items links.new.items changes.items) }
     ensures some { OnOk result (is_any_joined running.old.table group.now pids.now ≡ true) }
-    ensures room { OnOk result (audit.new ≡ record { limit = audit.old.limit; entries = audit.old.entries; has_room = true }) }
     ensures refused { IfErr result (IsLeaveRefusal running.old.table group.now pids.now) }
     ensures same { OnErr result ((running.new ≡ running.old) × Alike links.old.items links.new.items) }
-    ensures unentered { OnErr result ((audit.new.entries ≡ audit.old.entries) × (audit.new.limit ≡ audit.old.limit)) }
 {
-    let room = room_for_change(alloc, audit, running.scope.try_clone(alloc)?)?;
+    let room = ChangeRoom::new(alloc, running.scope.try_clone(alloc)?)?;
     tell_leave(alloc, links, running, group, pids)?;
     match running.table.leave_local(group, pids) {
         Ok(groups) => {

@@ -1,286 +1,122 @@
 //! Messages of linked nodes.
-ghost use Rattle.std.specs.Prelude.{◌≡◌, ◌<◌, ◌≤◌, ◌+◌, ◌==◌, ◌&&◌, [], false, true, cond, Some, None, vec_len, vec_capacity, nat_eq, length, position, All, IsTrue, IfOk, IfErr, OnOk, OnErr};
+ghost use Rattle.std.specs.Prelude.{◌≡◌, ◌<◌, ◌≤◌, ◌+◌, ◌==◌, ◌&&◌, [], List, ℕ, true, cond, Some, None, vec_len, vec_capacity, nat_eq, length, position, All, IsTrue, IfOk, IfErr, OnOk, OnErr};
 ghost use Rattle.std.specs.List.{list_all};
 ghost use Rattle.dist_types.specs.Listing.{same};
 ghost use Rattle.scope_core.specs.Table.{count_of, node_total, max_rows};
 ghost use Rattle.scope_core.specs.Calls.{count_after_sync, count_after_add, count_after_take, count_after_drop, are_counted};
-ghost use Rattle.policy_audit.specs.Policy.{is_full};
-ghost use Rattle.policy_audit.specs.Links.{is_up};
 ghost use Rattle.policy_audit.specs.Hearing.{message_taken};
-ghost use Rattle.policy_audit.specs.Checks.{first_broken};
-ghost use Rattle.node_core.specs.Step.{Steps};
-ghost use Rattle.node_core.specs.declared.fault.CoreFault.TheVariants as faults;
+ghost use Rattle.policy_audit.specs.declared.event.Event.TheVariants as events;
+ghost use Rattle.node_core.specs.FramesHere.{IsUpLink, IsSoundMessage};
+ghost use Rattle.node_core.specs.Step.{Call, Answers};
 ghost use Rattle.node_core.specs.Links.{are_of_peer, with_room};
 ghost use Rattle.node_core.specs.Messages.{scope_in, refusal};
-ghost use Rattle.node_core.specs.MessageRules.{early_checks, HasBecome, IsChangeIn, IsAddRefusal, IsTakeRefusal, AnswersDiscover, IsSyncFrame};
+ghost use Rattle.node_core.specs.MessageRules.{HasBecome, IsChangeIn, IsAddRefusal, IsTakeRefusal, AnswersDiscover, IsSyncFrame};
 ghost use Rattle.node_core.specs.ScopeFacts.{is_number, with_number};
 
-use crate::changes::cut_off;
-use crate::entering::{accept, room_for_change};
+use crate::changes::{ChangeRoom, cut_off};
+use crate::entering::Answered;
 use crate::fault::CoreFault;
 use crate::frames::{discover_frame, into_frame};
+use crate::kept::Kept;
 use crate::link::Link;
 use crate::link_state::LinkState;
-use crate::links;
 use crate::membership::fault_of;
-use crate::node::NodeCore;
 use crate::running::{Running, place_of};
 use dist_types::{Body, NodeName, OutOfMemory, Row, Scope, TryClone};
 use link_frames::{Message, MessageFault, Rows, decode};
 use link_states::Up;
-use policy_audit::{Audit, Change, Event, OutFrame, Reply, Rule};
+use policy_audit::{Change, OutFrame, Rule};
 use std::alloc::Global;
 
-impl NodeCore {
-    /// A message that came on a link that is up.
-    #[tactic(auto, unfolding(crate::specs::Step::Steps))]
-    pub(crate) fn message(&mut self, seat: u32, number: u32, body: Body) -> Result<Reply, CoreFault>
-        requires space { is_full self.old ≡ false }
-        requires up { is_up number self.old.entries ≡ true }
-        ensures { Steps self.old seat (Event.Frame number body) self.new result }
+impl Kept {
+    /// A message that came on the link at a place, which is up.
+    #[tactic(auto, unfolding(crate::specs::Step::Answers))]
+    pub fn message(&mut self, place: usize, number: u32, body: &Body) -> Result<Answered, CoreFault>
+        ghost call: { Call }
+        requires { IsUpLink call self.old place number }
+        ensures { Answers call (events.Frame number body.now) self.new result }
     {
-        let Some(place) = links::place_of(&self.links, number) else {
-            unreachable!()
-        };
         let message = match decode(self.alloc, body.as_slice()) {
             Ok(message) => message,
-            Err(MessageFault::BadFrame) => {
-                return self.refuse(seat, Event::Frame(number, body), Rule::BadFrame);
-            }
+            Err(MessageFault::BadFrame) => return Err(CoreFault::Refused(Rule::BadFrame)),
             Err(MessageFault::OutOfMemory) => return Err(CoreFault::OutOfMemory),
         };
         if !self.links[place].is_shown() {
             drop(message);
-            return self.refuse(seat, Event::Frame(number, body), Rule::HiddenLink);
+            return Err(CoreFault::Refused(Rule::HiddenLink));
         }
         let Some(at) = place_of(&self.scopes, scope_in(&message)) else {
             drop(message);
-            return self.refuse(seat, Event::Frame(number, body), Rule::NoScope);
+            return Err(CoreFault::Refused(Rule::NoScope));
         };
         if let Some(rule) = refusal(&self.links[place], &self.scopes[at], &message) {
             drop(message);
-            return self.refuse(seat, Event::Frame(number, body), rule);
+            return Err(CoreFault::Refused(rule));
         }
+        self.follow(place, at, number, message)
+    }
+
+    /// A message for the scope at a place, that breaks no rule but those that the table of the scope tells.
+    #[tactic(auto, unfolding(crate::specs::Step::Answers))]
+    fn follow(
+        &mut self,
+        place: usize,
+        at: usize,
+        number: u32,
+        message: Message,
+    ) -> Result<Answered, CoreFault>
+        ghost call: { Call }
+        requires { IsSoundMessage call self.old place at number message }
+        ensures { (body : List ℕ) → message_taken body ≡ Some message → Answers call (events.Frame number body) self.new result }
+    {
+        let Some(peer) = self.links[place].up_peer() else {
+            unreachable!()
+        };
+        let running = &mut self.scopes[at];
         match message {
-            Message::Discover(scope) => self.discovered(seat, number, scope, body),
-            Message::Sync(scope, rows) => self.synced(seat, number, scope, rows, body),
-            Message::Join(scope, rows) => self.added(seat, number, scope, rows, body),
-            Message::Leave(scope, rows) => self.taken(seat, number, scope, rows, body),
-            Message::Down(scope) => self.downed(seat, number, scope, body),
-        }
-    }
-
-    /// The peer is told the own rows, and asked for its own where they aren't known.
-    #[tactic(auto, unfolding(crate::specs::Step::Steps))]
-    fn discovered(
-        &mut self,
-        seat: u32,
-        number: u32,
-        scope: Scope,
-        body: Body,
-    ) -> Result<Reply, CoreFault>
-        requires space { is_full self.old ≡ false }
-        requires up { is_up number self.old.entries ≡ true }
-        requires says { message_taken body ≡ Some (Message.Discover scope) }
-        requires holds { first_broken (early_checks self.old number (Message.Discover scope)) ≡ None }
-        ensures { Steps self.old seat (Event.Frame number body) self.new result }
-    {
-        let (place, at) = places(&self.links, &self.scopes, number, &scope);
-        let frames = ready_to_answer(
-            self.alloc,
-            &mut self.audit,
-            &mut self.links[place],
-            &mut self.scopes[at],
-            number,
-            &scope,
-        )?;
-        self.links[place].owe(frames);
-        let event = Event::Frame(number, body);
-        accept(
-            &mut self.audit,
-            seat,
-            event,
-            Reply::Done,
-            Vec::new(self.alloc),
-        );
-        Ok(Reply::Done)
-    }
-
-    /// The peer's rows are replaced.
-    #[tactic(auto, unfolding(crate::specs::Step::Steps))]
-    fn synced(
-        &mut self,
-        seat: u32,
-        number: u32,
-        scope: Scope,
-        rows: Rows,
-        body: Body,
-    ) -> Result<Reply, CoreFault>
-        requires space { is_full self.old ≡ false }
-        requires up { is_up number self.old.entries ≡ true }
-        requires says { message_taken body ≡ Some (Message.Sync scope rows) }
-        requires holds { first_broken (early_checks self.old number (Message.Sync scope rows)) ≡ None }
-        requires few { length rows ≤ max_rows }
-        ensures { Steps self.old seat (Event.Frame number body) self.new result }
-    {
-        let (place, at) = places(&self.links, &self.scopes, number, &scope);
-        let Some(peer) = self.links[place].up_peer() else {
-            unreachable!()
-        };
-        let changes = hear_rows(
-            self.alloc,
-            &mut self.audit,
-            &mut self.scopes[at],
-            number,
-            scope,
-            peer,
-            rows,
-        )?;
-        let event = Event::Frame(number, body);
-        accept(&mut self.audit, seat, event, Reply::Done, changes);
-        Ok(Reply::Done)
-    }
-
-    /// Rows are added to the peer's.
-    #[tactic(auto, unfolding(crate::specs::Step::Steps))]
-    fn added(
-        &mut self,
-        seat: u32,
-        number: u32,
-        scope: Scope,
-        rows: Rows,
-        body: Body,
-    ) -> Result<Reply, CoreFault>
-        requires space { is_full self.old ≡ false }
-        requires up { is_up number self.old.entries ≡ true }
-        requires says { message_taken body ≡ Some (Message.Join scope rows) }
-        requires holds { first_broken (early_checks self.old number (Message.Join scope rows)) ≡ None }
-        ensures { Steps self.old seat (Event.Frame number body) self.new result }
-    {
-        let (place, at) = places(&self.links, &self.scopes, number, &scope);
-        let Some(peer) = self.links[place].up_peer() else {
-            unreachable!()
-        };
-        let changes = add_rows(
-            self.alloc,
-            &mut self.audit,
-            &mut self.scopes[at],
-            scope,
-            peer,
-            rows,
-        );
-        let event = Event::Frame(number, body);
-        match changes {
-            Ok(changes) => {
-                accept(&mut self.audit, seat, event, Reply::Done, changes);
-                Ok(Reply::Done)
+            Message::Discover(scope) => {
+                let link = &mut self.links[place];
+                let frames = ready_to_answer(self.alloc, link, running, number, &scope)?;
+                link.owe(frames);
+                Ok(Answered::done(self.alloc))
             }
-            Err(fault) => self.give_up(seat, event, fault),
-        }
-    }
-
-    /// Rows are taken from the peer's.
-    #[tactic(auto, unfolding(crate::specs::Step::Steps))]
-    fn taken(
-        &mut self,
-        seat: u32,
-        number: u32,
-        scope: Scope,
-        rows: Rows,
-        body: Body,
-    ) -> Result<Reply, CoreFault>
-        requires space { is_full self.old ≡ false }
-        requires up { is_up number self.old.entries ≡ true }
-        requires says { message_taken body ≡ Some (Message.Leave scope rows) }
-        requires holds { first_broken (early_checks self.old number (Message.Leave scope rows)) ≡ None }
-        ensures { Steps self.old seat (Event.Frame number body) self.new result }
-    {
-        let (place, at) = places(&self.links, &self.scopes, number, &scope);
-        let Some(peer) = self.links[place].up_peer() else {
-            unreachable!()
-        };
-        let changes = take_rows(
-            self.alloc,
-            &mut self.audit,
-            &mut self.scopes[at],
-            scope,
-            peer,
-            rows,
-        );
-        let event = Event::Frame(number, body);
-        match changes {
-            Ok(changes) => {
-                accept(&mut self.audit, seat, event, Reply::Done, changes);
-                Ok(Reply::Done)
+            Message::Sync(scope, rows) => {
+                let changes = hear_rows(self.alloc, running, number, scope, peer, rows)?;
+                Ok(Answered::changed(changes))
             }
-            Err(fault) => self.give_up(seat, event, fault),
+            Message::Join(scope, rows) => {
+                let changes = add_rows(self.alloc, running, scope, peer, rows)?;
+                Ok(Answered::changed(changes))
+            }
+            Message::Leave(scope, rows) => {
+                let changes = take_rows(self.alloc, running, scope, peer, rows)?;
+                Ok(Answered::changed(changes))
+            }
+            Message::Down(scope) => {
+                let changes = drop_change(self.alloc, running, scope, peer)?;
+                cut_off(running, number, peer);
+                Ok(Answered::changed(changes))
+            }
         }
-    }
-
-    /// The peer stopped the scope.
-    #[tactic(auto, unfolding(crate::specs::Step::Steps))]
-    fn downed(
-        &mut self,
-        seat: u32,
-        number: u32,
-        scope: Scope,
-        body: Body,
-    ) -> Result<Reply, CoreFault>
-        requires space { is_full self.old ≡ false }
-        requires up { is_up number self.old.entries ≡ true }
-        requires says { message_taken body ≡ Some (Message.Down scope) }
-        requires holds { first_broken (early_checks self.old number (Message.Down scope)) ≡ None }
-        ensures { Steps self.old seat (Event.Frame number body) self.new result }
-    {
-        let (place, at) = places(&self.links, &self.scopes, number, &scope);
-        let Some(peer) = self.links[place].up_peer() else {
-            unreachable!()
-        };
-        let changes = drop_change(self.alloc, &mut self.audit, &self.scopes[at], scope, peer)?;
-        cut_off(&mut self.scopes[at], number, peer);
-        let event = Event::Frame(number, body);
-        accept(&mut self.audit, seat, event, Reply::Done, changes);
-        Ok(Reply::Done)
     }
 }
 
-/// The place of a link that is kept, and that of a scope that runs.
-fn places(links: &[Link], scopes: &[Running], number: u32, scope: &Scope) -> (usize, usize)
-    requires kept { position (λ x. nat_eq x.number number) links.now ≡ None → ⊥ }
-    requires runs { position (λ r. same r.scope scope.now) scopes.now ≡ None → ⊥ }
-    ensures link { position (λ x. nat_eq x.number number) links.now ≡ Some result.0 }
-    ensures scope { position (λ r. same r.scope scope.now) scopes.now ≡ Some result.1 }
-{
-    let Some(place) = links::place_of(links, number) else {
-        unreachable!()
-    };
-    let Some(at) = place_of(scopes, scope) else {
-        unreachable!()
-    };
-    (place, at)
-}
-
-/// What answers a Discover, with room for it on the link, and room for an entry. The link of this number is told from now on.
+/// What answers a Discover, with room for it on the link. The link of this number is told from now on.
 fn ready_to_answer(
     alloc: Global,
-    audit: &mut Audit,
     link: &mut Link,
     running: &mut Running,
     number: u32,
     scope: &Scope,
-) -> Result<Vec<OutFrame>, CoreFault>
+) -> Result<Vec<OutFrame>, OutOfMemory>
     requires { link.old.prepared ≡ [] }
     ensures frames { IfOk result (λ frames. AnswersDiscover running.old number scope.now frames.items) }
     ensures fits { IfOk result (λ frames. length frames.items ≤ link.new.room) }
     ensures roomy { link.new ≡ with_room link.old link.new.room }
     ensures told { OnOk result (HasBecome running.old running.new (count_of running.old.table) running.old.heard.items (with_number number running.old.told.items)) }
-    ensures room { OnOk result (audit.new ≡ record { limit = audit.old.limit; entries = audit.old.entries; has_room = true }) }
-    ensures memory { IfErr result (λ fault. fault ≡ faults.OutOfMemory) }
     ensures same { OnErr result (HasBecome running.old running.new (count_of running.old.table) running.old.heard.items running.old.told.items) }
-    ensures unentered { OnErr result ((audit.new.entries ≡ audit.old.entries) × (audit.new.limit ≡ audit.old.limit)) }
 {
     let frames = answer_to_discover(alloc, running, number, scope)?;
-    audit.make_room()?;
     link.make_room(frames.len())?;
     tell(running, number)?;
     Ok(frames)
@@ -322,38 +158,33 @@ fn tell(running: &mut Running, number: u32) -> Result<(), OutOfMemory>
     Ok(())
 }
 
-/// Makes room for an entry; the peer's rows are replaced, and it is heard over this link from now on.
+/// The peer's rows are replaced, and it is heard over the link of this number from now on.
 fn hear_rows(
     alloc: Global,
-    audit: &mut Audit,
     running: &mut Running,
     number: u32,
     scope: Scope,
     peer: &NodeName,
     rows: Rows,
-) -> Result<Vec<Change>, CoreFault>
+) -> Result<Vec<Change>, OutOfMemory>
     requires of_peer { All (λ r. r.pid.node ≡ peer.now) rows }
     requires few { length rows ≤ max_rows }
     ensures ok { OnOk result (HasBecome running.old running.new (count_after_sync running.old.table peer.now rows) (with_number number running.old.heard.items) running.old.told.items) }
     ensures change { IfOk result (λ changes. IsChangeIn scope (count_of running.old.table) (count_of running.new.table) changes.items) }
-    ensures room { OnOk result (audit.new ≡ record { limit = audit.old.limit; entries = audit.old.entries; has_room = true }) }
-    ensures memory { IfErr result (λ fault. fault ≡ faults.OutOfMemory) }
     ensures same { OnErr result (HasBecome running.old running.new (count_of running.old.table) running.old.heard.items running.old.told.items) }
-    ensures unentered { OnErr result ((audit.new.entries ≡ audit.old.entries) × (audit.new.limit ≡ audit.old.limit)) }
 {
-    let room = room_for_change(alloc, audit, scope)?;
+    let room = ChangeRoom::new(alloc, scope)?;
     running.heard.reserve(1)?;
     let Ok(groups) = running.table.sync(peer, rows.as_slice()) else {
-        return Err(CoreFault::OutOfMemory);
+        return Err(OutOfMemory);
     };
     note(&mut running.heard, number);
     Ok(room.filled(groups))
 }
 
-/// Makes room for an entry, and rows are added to the peer's.
+/// Rows are added to the peer's.
 fn add_rows(
     alloc: Global,
-    audit: &mut Audit,
     running: &mut Running,
     scope: Scope,
     peer: &NodeName,
@@ -362,23 +193,20 @@ fn add_rows(
     requires { All (λ r. r.pid.node ≡ peer.now) rows }
     ensures ok { OnOk result (HasBecome running.old running.new (count_after_add running.old.table rows) running.old.heard.items running.old.told.items) }
     ensures change { IfOk result (λ changes. IsChangeIn scope (count_of running.old.table) (count_of running.new.table) changes.items) }
-    ensures room { OnOk result (audit.new ≡ record { limit = audit.old.limit; entries = audit.old.entries; has_room = true }) }
     ensures refused { IfErr result (IsAddRefusal running.old.table peer.now rows) }
     ensures limits { OnOk result (node_total running.old.table peer.now + length rows ≤ max_rows) }
     ensures same { OnErr result (running.new ≡ running.old) }
-    ensures unentered { OnErr result ((audit.new.entries ≡ audit.old.entries) × (audit.new.limit ≡ audit.old.limit)) }
 {
-    let room = room_for_change(alloc, audit, scope)?;
+    let room = ChangeRoom::new(alloc, scope)?;
     match running.table.join_remote(peer, rows.as_slice()) {
         Ok(groups) => Ok(room.filled(groups)),
         Err(fault) => Err(fault_of(fault)),
     }
 }
 
-/// Makes room for an entry, and rows are taken from the peer's.
+/// Rows are taken from the peer's.
 fn take_rows(
     alloc: Global,
-    audit: &mut Audit,
     running: &mut Running,
     scope: Scope,
     peer: &NodeName,
@@ -387,33 +215,27 @@ fn take_rows(
     requires { All (λ r. r.pid.node ≡ peer.now) rows }
     ensures ok { OnOk result (HasBecome running.old running.new (count_after_take running.old.table rows) running.old.heard.items running.old.told.items) }
     ensures change { IfOk result (λ changes. IsChangeIn scope (count_of running.old.table) (count_of running.new.table) changes.items) }
-    ensures room { OnOk result (audit.new ≡ record { limit = audit.old.limit; entries = audit.old.entries; has_room = true }) }
     ensures refused { IfErr result (IsTakeRefusal running.old.table rows) }
     ensures only { OnOk result (IsTrue (are_counted running.old.table rows)) }
     ensures same { OnErr result (running.new ≡ running.old) }
-    ensures unentered { OnErr result ((audit.new.entries ≡ audit.old.entries) × (audit.new.limit ≡ audit.old.limit)) }
 {
-    let room = room_for_change(alloc, audit, scope)?;
+    let room = ChangeRoom::new(alloc, scope)?;
     match running.table.leave_remote(peer, rows.as_slice()) {
         Ok(groups) => Ok(room.filled(groups)),
         Err(fault) => Err(fault_of(fault)),
     }
 }
 
-/// Makes room for an entry, and what the scope loses with all rows of a peer.
+/// What the scope loses with all rows of a peer.
 fn drop_change(
     alloc: Global,
-    audit: &mut Audit,
     running: &Running,
     scope: Scope,
     peer: &NodeName,
-) -> Result<Vec<Change>, CoreFault>
-    ensures change { IfOk result (λ changes. IsChangeIn scope (count_of running.now.table) (count_after_drop running.now.table peer.now) changes.items) }
-    ensures room { OnOk result (audit.new ≡ record { limit = audit.old.limit; entries = audit.old.entries; has_room = true }) }
-    ensures memory { IfErr result (λ fault. fault ≡ faults.OutOfMemory) }
-    ensures unentered { OnErr result ((audit.new.entries ≡ audit.old.entries) × (audit.new.limit ≡ audit.old.limit)) }
+) -> Result<Vec<Change>, OutOfMemory>
+    ensures { IfOk result (λ changes. IsChangeIn scope (count_of running.now.table) (count_after_drop running.now.table peer.now) changes.items) }
 {
-    let room = room_for_change(alloc, audit, scope)?;
+    let room = ChangeRoom::new(alloc, scope)?;
     let groups = running.table.drop_change(peer)?;
     Ok(room.filled(groups))
 }

@@ -1,207 +1,104 @@
 //! Monitors of groups and scopes.
-ghost use Rattle.std.specs.Prelude.{◌≡◌, ◌++◌, ◌∷◌, [], Some, None, true, false, map, IfOk, IfErr, OnOk, OnErr};
-ghost use Rattle.group_monitors.specs.Monitors.{IsFree};
-ghost use Rattle.policy_audit.specs.Own.{is_running};
-ghost use Rattle.policy_audit.specs.Contents.{members, contents};
+ghost use Rattle.std.specs.Prelude.{◌≡◌, map, IfOk};
 ghost use Rattle.std.specs.List.{AllByRecursion};
 ghost use Rattle.dist_types.specs.Listing.{IsPidListing, IsGroupListing};
 ghost use Rattle.scope_core.specs.Table.{count_of};
-ghost use Rattle.policy_audit.specs.Policy.{is_full};
-ghost use Rattle.node_core.specs.Step.{Steps};
-ghost use Rattle.node_core.specs.declared.fault.CoreFault.TheVariants as faults;
+ghost use Rattle.policy_audit.specs.declared.event.Event.TheVariants as events;
+ghost use Rattle.node_core.specs.Step.{Call, IsCalled, IsTurn, Answers};
 
-use crate::entering::{accept, make_ready};
+use crate::entering::Answered;
 use crate::fault::CoreFault;
-use crate::node::NodeCore;
-use crate::running::Running;
+use crate::kept::Kept;
+use crate::running::{Running, place_of};
 use dist_types::{Group, OutOfMemory, Pids, Scope, TryClone};
-use group_monitors::{Monitors, NoMonitor, UpdatesFault};
-use policy_audit::{Audit, Contents, Event, GroupPids, Members, Reply, Rule};
+use group_monitors::{NoMonitor, UpdatesFault};
+use policy_audit::{Audit, Contents, GroupPids, Members, Reply, Rule};
 use std::alloc::Global;
 
-impl NodeCore {
+impl Kept {
     /// The seat watches a group from now on.
-    #[tactic(auto, unfolding(crate::specs::Step::Steps))]
-    pub(crate) fn monitor(
+    #[tactic(auto, unfolding(crate::specs::Step::Answers))]
+    pub fn monitor(
         &mut self,
         seat: u32,
-        scope: Scope,
-        group: Group,
-    ) -> Result<Reply, CoreFault>
-        requires { is_full self.old ≡ false }
-        ensures { Steps self.old seat (Event.Monitor scope group) self.new result }
+        number: u32,
+        scope: &Scope,
+        group: &Group,
+    ) -> Result<Answered, CoreFault>
+        ghost call: { Call }
+        requires { IsTurn call seat number self.old }
+        ensures { Answers call (events.Monitor scope.now group.now) self.new result }
     {
-        let Some(running) = self.running(&scope) else {
-            return self.refuse(seat, Event::Monitor(scope, group), Rule::NoScope);
+        let Some(place) = place_of(&self.scopes, scope) else {
+            return Err(CoreFault::Refused(Rule::NoScope));
         };
-        let pids = Members::of(running.table.members(&group)?)?;
-        self.watch_group(seat, scope, group, pids)
-    }
-
-    /// Enters a monitor of a group that has these members.
-    #[tactic(auto, unfolding(crate::specs::Step::Steps))]
-    fn watch_group(
-        &mut self,
-        seat: u32,
-        scope: Scope,
-        group: Group,
-        pids: Members,
-    ) -> Result<Reply, CoreFault>
-        requires space { is_full self.old ≡ false }
-        requires runs { is_running self.old scope ≡ true }
-        requires members { pids ≡ members self.old scope group }
-        ensures { Steps self.old seat (Event.Monitor scope group) self.new result }
-    {
-        let number = self.next_number();
-        let reply = Reply::Ref { number, pids };
-        let kept = add_group(
-            self.alloc,
-            &mut self.audit,
-            &mut self.monitors,
-            seat,
-            number,
-            &scope,
-            &group,
-            &reply,
-        )?;
-        let event = Event::Monitor(scope, group);
-        accept(&mut self.audit, seat, event, kept, Vec::new(self.alloc));
-        Ok(reply)
+        let pids = Members::of(self.scopes[place].table.members(group)?)?;
+        let answered = Answered::with(self.alloc, Reply::Ref { number, pids })?;
+        let (scope, group) = (scope.try_clone(self.alloc)?, group.try_clone(self.alloc)?);
+        self.monitors.add_group(seat, number, scope, group)?;
+        Ok(answered)
     }
 
     /// The seat watches all groups of a scope from now on.
-    #[tactic(auto, unfolding(crate::specs::Step::Steps))]
-    pub(crate) fn monitor_scope(&mut self, seat: u32, scope: Scope) -> Result<Reply, CoreFault>
-        requires { is_full self.old ≡ false }
-        ensures { Steps self.old seat (Event.MonitorScope scope) self.new result }
+    #[tactic(auto, unfolding(crate::specs::Step::Answers))]
+    pub fn monitor_scope(
+        &mut self,
+        seat: u32,
+        number: u32,
+        scope: &Scope,
+    ) -> Result<Answered, CoreFault>
+        ghost call: { Call }
+        requires { IsTurn call seat number self.old }
+        ensures { Answers call (events.MonitorScope scope.now) self.new result }
     {
-        let Some(running) = self.running(&scope) else {
-            return self.refuse(seat, Event::MonitorScope(scope), Rule::NoScope);
+        let Some(place) = place_of(&self.scopes, scope) else {
+            return Err(CoreFault::Refused(Rule::NoScope));
         };
-        let groups = contents_of(self.alloc, running)?;
-        self.watch_scope(seat, scope, groups)
-    }
-
-    /// Enters a monitor of a scope that has these contents.
-    #[tactic(auto, unfolding(crate::specs::Step::Steps))]
-    fn watch_scope(&mut self, seat: u32, scope: Scope, groups: Contents) -> Result<Reply, CoreFault>
-        requires space { is_full self.old ≡ false }
-        requires runs { is_running self.old scope ≡ true }
-        requires contents { groups ≡ contents self.old scope }
-        ensures { Steps self.old seat (Event.MonitorScope scope) self.new result }
-    {
-        let number = self.next_number();
-        let reply = Reply::ScopeRef { number, groups };
-        let kept = add_scope(
-            self.alloc,
-            &mut self.audit,
-            &mut self.monitors,
-            seat,
-            number,
-            &scope,
-            &reply,
-        )?;
-        let event = Event::MonitorScope(scope);
-        accept(&mut self.audit, seat, event, kept, Vec::new(self.alloc));
-        Ok(reply)
+        let groups = contents_of(self.alloc, &self.scopes[place])?;
+        let answered = Answered::with(self.alloc, Reply::ScopeRef { number, groups })?;
+        let scope = scope.try_clone(self.alloc)?;
+        self.monitors.add_scope(seat, number, scope)?;
+        Ok(answered)
     }
 
     /// The end of a monitor.
-    #[tactic(auto, unfolding(crate::specs::Step::Steps))]
-    pub(crate) fn demonitor(&mut self, seat: u32, number: u32) -> Result<Reply, CoreFault>
-        requires { is_full self.old ≡ false }
-        ensures { Steps self.old seat (Event.Demonitor number) self.new result }
+    #[tactic(auto, unfolding(crate::specs::Step::Answers))]
+    pub fn demonitor(&mut self, seat: u32, number: u32) -> Result<Answered, CoreFault>
+        ghost call: { Call }
+        requires called { IsCalled call self.old }
+        requires seat { seat ≡ call.seat }
+        ensures { Answers call (events.Demonitor number) self.new result }
     {
-        self.audit.make_room()?;
-        if let Err(NoMonitor) = self.monitors.remove(seat, number) {
-            return self.refuse(seat, Event::Demonitor(number), Rule::NoMonitor);
+        match self.monitors.remove(seat, number) {
+            Ok(()) => Ok(Answered::done(self.alloc)),
+            Err(NoMonitor) => Err(CoreFault::Refused(Rule::NoMonitor)),
         }
-        accept(
-            &mut self.audit,
-            seat,
-            Event::Demonitor(number),
-            Reply::Done,
-            Vec::new(self.alloc),
-        );
-        Ok(Reply::Done)
     }
 
     /// What a monitor has not told yet.
-    #[tactic(auto, unfolding(crate::specs::Step::Steps))]
-    pub(crate) fn updates(&mut self, seat: u32, number: u32) -> Result<Reply, CoreFault>
-        requires { is_full self.old ≡ false }
-        ensures { Steps self.old seat (Event.Updates number) self.new result }
+    #[tactic(auto, unfolding(crate::specs::Step::Answers))]
+    pub fn updates(
+        &mut self,
+        audit: &Audit,
+        seat: u32,
+        place: u32,
+        number: u32,
+    ) -> Result<Answered, CoreFault>
+        ghost call: { Call }
+        requires turn { IsTurn call seat place self.old }
+        requires audit { audit.now.entries ≡ call.past.entries }
+        ensures { Answers call (events.Updates number) self.new result }
     {
-        let updates = match self.monitors.updates(seat, number, &self.audit) {
+        let updates = match self.monitors.updates(seat, number, audit) {
             Ok(updates) => updates,
-            Err(UpdatesFault::NoMonitor) => {
-                return self.refuse(seat, Event::Updates(number), Rule::NoMonitor);
-            }
+            Err(UpdatesFault::NoMonitor) => return Err(CoreFault::Refused(Rule::NoMonitor)),
             Err(UpdatesFault::OutOfMemory) => return Err(CoreFault::OutOfMemory),
         };
-        self.audit.make_room()?;
-        let told = updates.try_clone(self.alloc)?;
-        accept(
-            &mut self.audit,
-            seat,
-            Event::Updates(number),
-            Reply::Updates(told),
-            Vec::new(self.alloc),
-        );
+        let answered = Answered::with(self.alloc, Reply::Updates(updates))?;
         // The monitor is there: it has just told its updates.
-        let _ = self.monitors.advance(seat, number, &self.audit);
-        Ok(Reply::Updates(updates))
+        let _ = self.monitors.advance_to(seat, number, place as usize);
+        Ok(answered)
     }
-}
-
-/// Makes room for an entry with a copy of the reply, and adds a monitor of a group that has seen the entries up to its number.
-fn add_group(
-    alloc: Global,
-    audit: &mut Audit,
-    monitors: &mut Monitors,
-    seat: u32,
-    number: u32,
-    scope: &Scope,
-    group: &Group,
-    reply: &Reply,
-) -> Result<Reply, CoreFault>
-    requires { IsFree number monitors.old }
-    ensures copy { IfOk result (λ kept. kept ≡ reply.now) }
-    ensures ok { OnOk result (monitors.new ≡ monitors.old ++ (number, record { seat = seat; scope = scope.now; group = Some group.now; place = number }) ∷ []) }
-    ensures room { OnOk result (audit.new ≡ record { limit = audit.old.limit; entries = audit.old.entries; has_room = true }) }
-    ensures memory { IfErr result (λ fault. fault ≡ faults.OutOfMemory) }
-    ensures same { OnErr result (monitors.new ≡ monitors.old) }
-    ensures unentered { OnErr result ((audit.new.entries ≡ audit.old.entries) × (audit.new.limit ≡ audit.old.limit)) }
-{
-    let scope = scope.try_clone(alloc)?;
-    let group = group.try_clone(alloc)?;
-    let kept = make_ready(alloc, audit, reply)?;
-    monitors.add_group(seat, number, scope, group)?;
-    Ok(kept)
-}
-
-/// Makes room for an entry with a copy of the reply, and adds a monitor of a scope that has seen the entries up to its number.
-fn add_scope(
-    alloc: Global,
-    audit: &mut Audit,
-    monitors: &mut Monitors,
-    seat: u32,
-    number: u32,
-    scope: &Scope,
-    reply: &Reply,
-) -> Result<Reply, CoreFault>
-    requires { IsFree number monitors.old }
-    ensures copy { IfOk result (λ kept. kept ≡ reply.now) }
-    ensures ok { OnOk result (monitors.new ≡ monitors.old ++ (number, record { seat = seat; scope = scope.now; group = None; place = number }) ∷ []) }
-    ensures room { OnOk result (audit.new ≡ record { limit = audit.old.limit; entries = audit.old.entries; has_room = true }) }
-    ensures memory { IfErr result (λ fault. fault ≡ faults.OutOfMemory) }
-    ensures same { OnErr result (monitors.new ≡ monitors.old) }
-    ensures unentered { OnErr result ((audit.new.entries ≡ audit.old.entries) × (audit.new.limit ≡ audit.old.limit)) }
-{
-    let scope = scope.try_clone(alloc)?;
-    let kept = make_ready(alloc, audit, reply)?;
-    monitors.add_scope(seat, number, scope)?;
-    Ok(kept)
 }
 
 /// The groups of a scope with their members.

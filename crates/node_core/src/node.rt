@@ -7,13 +7,13 @@ ghost use Rattle.policy_audit.specs.Own.{is_running};
 ghost use Rattle.policy_audit.specs.Listed.{listed};
 ghost use Rattle.policy_audit.specs.Owed.{waiting, is_kept};
 ghost use Rattle.policy_audit.specs.Policy.{is_full, next_number, IsLegal};
-ghost use Rattle.node_core.specs.Step.{IsOpenFault, IsStepped, Steps};
+ghost use Rattle.node_core.specs.Step.{IsOpenFault, IsStepped};
 
+use crate::entering::enter;
 use crate::fault::{CoreFault, OpenFault};
-use crate::link::Link;
+use crate::kept::Kept;
 use crate::links::place_of;
 use crate::processes::Processes;
-use crate::running::Running;
 use admission_rules::Admission;
 use dist_types::{NodeName, OutOfMemory, Scope, TryClone};
 use group_monitors::Monitors;
@@ -25,30 +25,13 @@ use std::marker::Model;
 
 /// A node. It does no input or output of its own.
 pub struct NodeCore {
-    pub(crate) alloc: Global,
-    pub(crate) opening: Opening,
     pub(crate) audit: Audit,
-    pub(crate) admission: Admission,
-    pub(crate) processes: Processes,
-    /// Ascending by scope.
-    pub(crate) scopes: Vec<Running>,
-    /// Those that are kept, the oldest first.
-    pub(crate) links: Vec<Link>,
-    pub(crate) monitors: Monitors,
+    pub(crate) kept: Kept,
 }
 
 impl Drop for NodeCore {
     fn drop(self) {
-        let NodeCore {
-            alloc: _,
-            opening: _,
-            audit: _,
-            admission: _,
-            processes: _,
-            scopes: _,
-            links: _,
-            monitors: _,
-        } = self;
+        let NodeCore { audit: _, kept: _ } = self;
     }
 }
 
@@ -56,7 +39,7 @@ impl Drop for NodeCore {
 impl fmt::Debug for NodeCore {
     fn fmt<W: fmt::Write>(&self, f: &mut fmt::Formatter<W>) -> fmt::Result {
         f.debug_struct("NodeCore")
-            .field("name", &self.opening.name)
+            .field("name", self.name())
             .field("entries", &self.audit.len())
             .finish_non_exhaustive()
     }
@@ -64,20 +47,13 @@ impl fmt::Debug for NodeCore {
 
 impl Model for NodeCore {
     ghost use Rattle.policy_audit.specs.History.{History, past};
-    ghost use Rattle.node_core.specs.Core.{Follows};
+    ghost use Rattle.node_core.specs.Core.{IsCore};
 
     ghost Value = { History };
 
-    ghost view = { λ core. past core.opening core.audit.entries };
+    ghost view = { λ core. past core.kept.opening core.audit.entries };
 
-    ghost invariant = { λ core. Follows (past core.opening core.audit.entries) (record {
-      limit = core.audit.limit;
-      admission = core.admission;
-      processes = core.processes;
-      scopes = core.scopes.items;
-      links = core.links.items;
-      monitors = core.monitors;
-    }) };
+    ghost invariant = { λ core. IsCore (past core.kept.opening core.audit.entries) core.audit.limit core.kept };
 }
 
 impl NodeCore {
@@ -92,16 +68,16 @@ impl NodeCore {
         }
         let admission = admission_of(alloc, &opening, opening.creation)?;
         let audit = Audit::new(alloc, opening.entries);
-        Ok(NodeCore {
+        let kept = Kept {
             alloc,
             opening,
-            audit,
             admission,
             processes: Processes::new(alloc),
             scopes: Vec::new(alloc),
             links: Vec::new(alloc),
             monitors: Monitors::new(alloc),
-        })
+        };
+        Ok(NodeCore { audit, kept })
     }
 
     /// All entries so far, refusals among them.
@@ -119,11 +95,11 @@ impl NodeCore {
     pub fn is_full(&self) -> bool
         ensures { result ≡ is_full self.now }
     {
-        self.audit.len() >= self.opening.entries as usize
+        self.audit.len() >= self.kept.opening.entries as usize
     }
 
     /// The number of the next entry.
-    pub(crate) fn next_number(&self) -> u32
+    fn next_number(&self) -> u32
         requires { is_full self.now ≡ false }
         ensures { result ≡ next_number self.now }
     {
@@ -134,14 +110,14 @@ impl NodeCore {
     pub fn creation(&self) -> u32
         ensures { result ≡ creation self.now }
     {
-        self.admission.creation()
+        self.kept.admission.creation()
     }
 
     /// The node's own name.
     pub fn name(&self) -> &NodeName
         ensures { result.now ≡ self.now.opening.name }
     {
-        &self.opening.name
+        &self.kept.opening.name
     }
 
     /// The table of a scope, if it runs. It is of this node, and counts what is listed.
@@ -158,8 +134,8 @@ impl NodeCore {
     pub fn waiting(&self, link: u32) -> Option<usize>
         ensures { result ≡ cond (is_kept self.now link) (Some (length (waiting self.now link))) None }
     {
-        let place = place_of(&self.links, link)?;
-        Some(self.links[place].frames().len())
+        let place = place_of(&self.kept.links, link)?;
+        Some(self.kept.links[place].frames().len())
     }
 
     /// Answers an event of a seat by the written policy, and enters it with what it changed. `Refused` names the first rule
@@ -168,45 +144,18 @@ impl NodeCore {
         ensures { IsStepped self.old seat event self.new result }
     {
         if self.is_full() {
-            // By name, here and in the handlers, so that a check follows the end of an event once, for its type.
+            // By name, so that a check follows the end of an event once, for its type.
             drop(event);
             return Err(CoreFault::Refused(Rule::EntriesFull));
         }
-        let event = self.shared(event);
-        self.handle(seat, event)
-    }
-
-    /// Hands an event to what answers its kind.
-    fn handle(&mut self, seat: u32, event: Event) -> Result<Reply, CoreFault>
-        requires { is_full self.old ≡ false }
-        ensures { Steps self.old seat event self.new result }
-    {
-        match event {
-            Event::Restart => self.restart(seat),
-            Event::SetCookie(cookie) => self.set_cookie(seat, cookie),
-            Event::SetCookieFor(peer, cookie) => self.set_cookie_for(seat, peer, cookie),
-            Event::Allow(names) => self.allow(seat, names),
-            Event::StartScope(scope) => self.start_scope(seat, scope),
-            Event::StopScope(scope) => self.stop_scope(seat, scope),
-            Event::Spawn => self.spawn(seat),
-            Event::Exit(pid) => self.exit(seat, pid),
-            Event::Join(scope, group, pids) => self.join(seat, scope, group, pids),
-            Event::Leave(scope, group, pids) => self.leave(seat, scope, group, pids),
-            Event::Members(scope, group) => self.members(seat, scope, group),
-            Event::LocalMembers(scope, group) => self.local_members(seat, scope, group),
-            Event::Groups(scope) => self.groups(seat, scope),
-            Event::LocalGroups(scope) => self.local_groups(seat, scope),
-            Event::Monitor(scope, group) => self.monitor(seat, scope, group),
-            Event::MonitorScope(scope) => self.monitor_scope(seat, scope),
-            Event::Demonitor(number) => self.demonitor(seat, number),
-            Event::Updates(number) => self.updates(seat, number),
-            Event::Dial(peer, challenge) => self.dial(seat, peer, challenge),
-            Event::Opened(challenge) => self.opened(seat, challenge),
-            Event::Lost(link) => self.lost(seat, link),
-            Event::Take(link) => self.take(seat, link),
-            Event::Disconnect(peer) => self.disconnect(seat, peer),
-            Event::Frame(link, body) => self.frame(seat, link, body),
+        if let Err(fault) = self.audit.make_room() {
+            drop(event);
+            return Err(CoreFault::from(fault));
         }
+        let number = self.next_number();
+        let event = self.kept.shared(event);
+        let answered = self.kept.answer(&self.audit, seat, number, &event);
+        enter(self.kept.alloc, &mut self.audit, seat, event, answered)
     }
 }
 

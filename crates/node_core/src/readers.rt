@@ -18,14 +18,14 @@ impl NodeCore {
     pub fn is_up(&self, link: u32) -> bool
         ensures { result ≡ is_up link self.now.entries }
     {
-        is_up(&self.links, link)
+        is_up(&self.kept.links, link)
     }
 
     /// Whether a link of this peer is up.
     pub fn is_peer_up(&self, peer: &NodeName) -> bool
         ensures { result ≡ is_name_up peer.now self.now.entries }
     {
-        place_of_up(&self.links, peer).is_some()
+        place_of_up(&self.kept.links, peer).is_some()
     }
 
     /// The peers that are up, each once, in the order in which their links were opened.
@@ -33,20 +33,20 @@ impl NodeCore {
         ensures names { IfOk result (λ names. names ≡ up_names self.now) }
         ensures once { IfOk result (λ names. (n : List ℕ) → occurrences same n names ≡ cond (is_name_up n self.now.entries) 1 0) }
     {
-        Ok(NodeNames::of(up_peers(self.alloc, &self.links)?))
+        Ok(NodeNames::of(up_peers(self.kept.alloc, &self.kept.links)?))
     }
 
     /// The kept links in the order in which they were opened, each with what it awaits.
     pub fn links(&self) -> Result<Vec<Awaiting>, OutOfMemory>
         ensures { IfOk result (λ links. links.items ≡ map (awaiting self.now) (kept_numbers self.now)) }
     {
-        awaiting_of(self.alloc, &self.links)
+        awaiting_of(self.kept.alloc, &self.kept.links)
     }
 
     /// Whether the process is one of this node since its last restart, and lives.
     pub fn living(&self, pid: &Pid) -> bool
         ensures { result ≡ lives self.now pid.now }
     {
-        self.is_local(pid) && self.processes.is_live(pid.number)
+        self.kept.is_local(pid) && self.kept.processes.is_live(pid.number)
     }
 }

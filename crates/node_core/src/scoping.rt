@@ -1,51 +1,47 @@
 //! Scopes that start and stop, and a node that begins anew.
-ghost use Rattle.std.specs.Prelude.{◌≡◌, ◌<◌, ℕ, false, true, not, List, [], map, vec_len, vec_capacity, IfOk, IfErr, OnOk, OnErr};
+ghost use Rattle.std.specs.Prelude.{◌≡◌, ◌<◌, ℕ, not, List, [], map, vec_len, vec_capacity, IfOk, OnOk, OnErr};
 ghost use Rattle.std.specs.List.{filter};
 ghost use Rattle.dist_types.specs.declared.pid.Pid.{Pid};
-ghost use Rattle.dist_types.specs.Difference.{IsDifference};
 ghost use Rattle.dist_types.specs.Listing.{same, Rises};
 ghost use Rattle.dist_types.specs.Order.{text_cmp};
 ghost use Rattle.link_frames.specs.Spelling.{HasSpelling};
 ghost use Rattle.scope_core.specs.Table.{count_of};
-ghost use Rattle.scope_core.specs.Calls.{no_count};
 ghost use Rattle.policy_audit.specs.Changes.{if_some};
-ghost use Rattle.policy_audit.specs.Listed.{listed};
 ghost use Rattle.policy_audit.specs.Owed.{wide};
-ghost use Rattle.policy_audit.specs.Own.{is_running};
-ghost use Rattle.policy_audit.specs.Policy.{is_full};
-ghost use Rattle.node_core.specs.declared.fault.CoreFault.TheVariants as faults;
-ghost use Rattle.node_core.specs.Step.{Steps};
+ghost use Rattle.policy_audit.specs.declared.event.Event.TheVariants as events;
+ghost use Rattle.node_core.specs.Step.{Call, IsCalled, Answers};
 ghost use Rattle.node_core.specs.Links.{prepared_for, unroomed};
 ghost use Rattle.node_core.specs.Telling.{AreIdle, AreTold, Alike, if_among, shown_numbers, put_scope};
 
-use crate::changes::{Part, changes_of};
-use crate::entering::{accept, room_for_change};
+use crate::changes::{ChangeRoom, Part, changes_of};
+use crate::entering::Answered;
 use crate::fault::CoreFault;
+use crate::kept::Kept;
 use crate::link::Link;
 use crate::links::{commit, prepare, shown};
-use crate::node::{NodeCore, admission_of};
+use crate::node::admission_of;
 use crate::processes::Processes;
-use crate::running::Running;
+use crate::running::{Running, place_of};
 use dist_types::{GroupChange, NodeName, OutOfMemory, Scope, TryClone};
 use link_frames::Message;
-use policy_audit::{Audit, Change, Event, Reply, Rule};
+use policy_audit::{Change, Rule};
 use scope_core::ScopeTable;
 use std::alloc::Global;
 
 /// The most scopes that run.
 const MAX_SCOPES: usize = 64;
 
-impl NodeCore {
+impl Kept {
     /// The node begins anew, with the next creation.
-    #[tactic(auto, unfolding(crate::specs::Step::Steps))]
-    pub(crate) fn restart(&mut self, seat: u32) -> Result<Reply, CoreFault>
-        requires { is_full self.old ≡ false }
-        ensures { Steps self.old seat Event.Restart self.new result }
+    #[tactic(auto, unfolding(crate::specs::Step::Answers))]
+    pub fn restart(&mut self) -> Result<Answered, CoreFault>
+        ghost call: { Call }
+        requires { IsCalled call self.old }
+        ensures { Answers call events.Restart self.new result }
     {
         if self.admission.creation() == u32::MAX {
-            return self.refuse(seat, Event::Restart, Rule::CreationSpent);
+            return Err(CoreFault::Refused(Rule::CreationSpent));
         }
-        self.audit.make_room()?;
         let changes = changes_of(self.alloc, &self.scopes, Part::All)?;
         let creation = self.admission.creation() + 1;
         self.admission = admission_of(self.alloc, &self.opening, creation)?;
@@ -53,104 +49,69 @@ impl NodeCore {
         self.scopes.clear();
         self.links.clear();
         self.monitors.clear();
-        accept(&mut self.audit, seat, Event::Restart, Reply::Done, changes);
-        Ok(Reply::Done)
+        Ok(Answered::changed(changes))
     }
 
     /// A scope starts, and its peers are asked for their rows.
-    #[tactic(auto, unfolding(crate::specs::Step::Steps))]
-    pub(crate) fn start_scope(&mut self, seat: u32, scope: Scope) -> Result<Reply, CoreFault>
-        requires { is_full self.old ≡ false }
-        ensures { Steps self.old seat (Event.StartScope scope) self.new result }
+    #[tactic(auto, unfolding(crate::specs::Step::Answers))]
+    pub fn start_scope(&mut self, scope: &Scope) -> Result<Answered, CoreFault>
+        ghost call: { Call }
+        requires { IsCalled call self.old }
+        ensures { Answers call (events.StartScope scope.now) self.new result }
     {
-        if self.running(&scope).is_some() {
-            return self.refuse(seat, Event::StartScope(scope), Rule::ScopeRunning);
+        if place_of(&self.scopes, scope).is_some() {
+            return Err(CoreFault::Refused(Rule::ScopeRunning));
         }
         if self.scopes.len() >= MAX_SCOPES {
-            return self.refuse(seat, Event::StartScope(scope), Rule::ScopesFull);
+            return Err(CoreFault::Refused(Rule::ScopesFull));
         }
-        let running = asked_scope(
-            self.alloc,
-            &mut self.audit,
-            &mut self.links,
-            &mut self.scopes,
-            &self.opening.name,
-            &scope,
-        )?;
+        self.scopes.reserve(1)?;
+        let running = asked_scope(self.alloc, &mut self.links, &self.opening.name, scope)?;
         put_in(&mut self.scopes, running);
-        let nothing = Vec::new(self.alloc);
-        let event = Event::StartScope(scope);
-        accept(&mut self.audit, seat, event, Reply::Done, nothing);
-        Ok(Reply::Done)
+        Ok(Answered::done(self.alloc))
     }
 
     /// A scope stops, and its peers are told so.
-    #[tactic(auto, unfolding(crate::specs::Step::Steps))]
-    pub(crate) fn stop_scope(&mut self, seat: u32, scope: Scope) -> Result<Reply, CoreFault>
-        requires { is_full self.old ≡ false }
-        ensures { Steps self.old seat (Event.StopScope scope) self.new result }
+    #[tactic(auto, unfolding(crate::specs::Step::Answers))]
+    pub fn stop_scope(&mut self, scope: &Scope) -> Result<Answered, CoreFault>
+        ghost call: { Call }
+        requires { IsCalled call self.old }
+        ensures { Answers call (events.StopScope scope.now) self.new result }
     {
-        let Some(running) = self.running(&scope) else {
-            return self.refuse(seat, Event::StopScope(scope), Rule::NoScope);
+        let Some(place) = place_of(&self.scopes, scope) else {
+            return Err(CoreFault::Refused(Rule::NoScope));
         };
-        let groups = running.table.clear_change()?;
-        self.stop(seat, scope, groups)
-    }
-
-    /// A scope stops whose groups change in this way.
-    #[tactic(auto, unfolding(crate::specs::Step::Steps))]
-    fn stop(
-        &mut self,
-        seat: u32,
-        scope: Scope,
-        groups: Vec<GroupChange>,
-    ) -> Result<Reply, CoreFault>
-        requires space { is_full self.old ≡ false }
-        requires runs { is_running self.old scope ≡ true }
-        requires groups { IsDifference (listed self.old scope) no_count groups.items }
-        ensures { Steps self.old seat (Event.StopScope scope) self.new result }
-    {
-        let changes = tell_stop(self.alloc, &mut self.audit, &mut self.links, &scope, groups)?;
-        take_out(&mut self.scopes, &scope);
-        self.monitors.drop_scope(&scope);
-        let event = Event::StopScope(scope);
-        accept(&mut self.audit, seat, event, Reply::Done, changes);
-        Ok(Reply::Done)
+        let groups = self.scopes[place].table.clear_change()?;
+        let changes = tell_stop(self.alloc, &mut self.links, scope, groups)?;
+        take_out(&mut self.scopes, scope);
+        self.monitors.drop_scope(scope);
+        Ok(Answered::changed(changes))
     }
 }
 
-/// Makes room for an entry and for a scope, and a scope with no rows, of which the peers on the links that are up and visible
-/// are asked for theirs. Where memory is wanting, nothing but room has changed.
+/// A scope with no rows, of which the peers on the links that are up and visible are asked for theirs. Where memory is wanting,
+/// nothing but room has changed.
 fn asked_scope(
     alloc: Global,
-    audit: &mut Audit,
     links: &mut Vec<Link>,
-    scopes: &mut Vec<Running>,
     own: &NodeName,
     scope: &Scope,
-) -> Result<Running, CoreFault>
+) -> Result<Running, OutOfMemory>
     requires { AreIdle links.old.items }
     ensures scope { IfOk result (λ r. r.scope ≡ scope.now) }
     ensures own { IfOk result (λ r. r.table.own ≡ own.now) }
     ensures rows { IfOk result (λ r. (g : List ℕ) (p : Pid) → count_of r.table g p ≡ 0) }
     ensures links { IfOk result (λ r. (r.heard.items ≡ []) × (r.told.items ≡ [])) }
     ensures told { OnOk result (AreTold (if_among (shown_numbers links.old.items) (wide (Message.Discover scope.now))) links.old.items links.new.items) }
-    ensures items { scopes.new.items ≡ scopes.old.items }
-    ensures place { OnOk result (vec_len scopes.new < vec_capacity scopes.new) }
-    ensures room { OnOk result (audit.new ≡ record { limit = audit.old.limit; entries = audit.old.entries; has_room = true }) }
-    ensures memory { IfErr result (λ fault. fault ≡ faults.OutOfMemory) }
     ensures same { OnErr result (Alike links.old.items links.new.items) }
-    ensures unentered { OnErr result ((audit.new.entries ≡ audit.old.entries) × (audit.new.limit ≡ audit.old.limit)) }
 {
-    scopes.reserve(1)?;
-    audit.make_room()?;
     let name = scope.try_clone(alloc)?;
     let running = new_scope(alloc, own, scope)?;
     match tell_shown(alloc, links, Message::Discover(name)) {
         Ok(()) => Ok(running),
         Err(fault) => {
             drop(running);
-            Err(CoreFault::from(fault))
+            Err(fault)
         }
     }
 }
@@ -190,24 +151,19 @@ fn take_out(scopes: &mut Vec<Running>, scope: &Scope)
     scopes.retain(|running| running.scope != *scope);
 }
 
-/// Makes room for an entry, and tells the peers that a scope stops whose groups change in this way. Where memory is wanting,
-/// nobody is told.
+/// Tells the peers that a scope stops whose groups change in this way. Where memory is wanting, nobody is told.
 fn tell_stop(
     alloc: Global,
-    audit: &mut Audit,
     links: &mut Vec<Link>,
     scope: &Scope,
     groups: Vec<GroupChange>,
-) -> Result<Vec<Change>, CoreFault>
+) -> Result<Vec<Change>, OutOfMemory>
     requires { AreIdle links.old.items }
     ensures change { IfOk result (λ changes. changes.items ≡ if_some scope.now groups.items) }
-    ensures room { OnOk result (audit.new ≡ record { limit = audit.old.limit; entries = audit.old.entries; has_room = true }) }
     ensures told { OnOk result (AreTold (if_among (shown_numbers links.old.items) (wide (Message.Down scope.now))) links.old.items links.new.items) }
-    ensures memory { IfErr result (λ fault. fault ≡ faults.OutOfMemory) }
     ensures same { OnErr result (Alike links.old.items links.new.items) }
-    ensures unentered { OnErr result ((audit.new.entries ≡ audit.old.entries) × (audit.new.limit ≡ audit.old.limit)) }
 {
-    let room = room_for_change(alloc, audit, scope.try_clone(alloc)?)?;
+    let room = ChangeRoom::new(alloc, scope.try_clone(alloc)?)?;
     let changes = room.filled(groups);
     let name = scope.try_clone(alloc)?;
     tell_shown(alloc, links, Message::Down(name))?;

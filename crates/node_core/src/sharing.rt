@@ -1,14 +1,15 @@
 //! Names that an event shares with what the node keeps, so that an entry of the audit has no copies of its own.
 ghost use Rattle.std.specs.Prelude.{◌≡◌};
 
-use crate::node::NodeCore;
+use crate::kept::Kept;
+use crate::running::find;
 use dist_types::{Group, NodeName, Pid, Pids, Scope, TryClone};
 use policy_audit::Event;
 use std::alloc::Global;
 
-impl NodeCore {
+impl Kept {
     /// The same event; what it names by the running scope, a group of it or the own node is the node's copy, where the node has one.
-    pub(crate) fn shared(&self, event: Event) -> Event
+    pub fn shared(&self, event: Event) -> Event
         ensures { result ≡ event }
     {
         match event {
@@ -46,7 +47,7 @@ impl NodeCore {
     fn shared_scope(&self, scope: Scope) -> Scope
         ensures { result ≡ scope }
     {
-        match self.running(&scope) {
+        match find(&self.scopes, &scope) {
             Some(running) => copy_or(self.alloc, &running.scope, scope),
             None => scope,
         }
@@ -55,7 +56,7 @@ impl NodeCore {
     fn shared_group(&self, scope: &Scope, group: Group) -> Group
         ensures { result ≡ group }
     {
-        let Some(running) = self.running(scope) else {
+        let Some(running) = find(&self.scopes, scope) else {
             return group;
         };
         match running.table.stored_group(&group) {

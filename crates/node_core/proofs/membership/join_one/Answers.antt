@@ -1,4 +1,4 @@
-use Rattle.node_core.proofs.Words.{ap, refl, wide, said_to, join_of}
+use Rattle.node_core.proofs.Words.{refl, wide, said_to, join_of}
 use Rattle.node_core.proofs.Said.{join_fault, dropped_again}
 use Rattle.node_core.proofs.Told.{prepared_told}
 use Rattle.node_core.proofs.membership.join_one.Goals as goal
@@ -14,14 +14,12 @@ returns-in-Ok c =
         rows = c.in-Ok.ensures.ok;
         groups = c.in-Ok.groups.items;
         difference = c.in-Ok.ensures.change;
-        changes = rw (c.filled.ensures, c.in_ok-room.ensures.scope, c.in_ok-try_clone.ensures) refl;
+        changes = rw (c.filled.ensures, c.in_ok-room.ensures, c.in_ok-try_clone.ensures) refl;
         links = rw c.commit.ensures (prepared_told (said_to c.args.running.now.told.items said) (wide said) c.args.links.now.items c.tell_join.new.links.items c.requires.idle c.in_ok-tell_join.ensures.told);
       };
       few = c.in-Ok.ensures.limits;
-      room = c.in_ok-room.ensures.room;
       refused = tt;
       same = tt;
-      unentered = tt;
     }
 
 pub returns-in-Err : goal.returns-in-Err
@@ -30,11 +28,9 @@ returns-in-Err c =
     record {
       joined = tt;
       few = tt;
-      room = tt;
       refused = rw c.fault_of.ensures (join_fault c.args.running.now.table c.args.pids.now c.in-Err.fault c.in-Err.ensures.refused);
       same = (
         λ i. record { scope = c.args.running.now.scope; table = c.in-Err.ensures.same i; heard = c.args.running.now.heard; told = c.args.running.now.told },
         dropped_again (said_to c.args.running.now.told.items said) (wide said) c.args.links.now.items c.tell_join.new.links.items c.forget.new.links.items c.requires.idle c.in_ok-tell_join.ensures.told c.forget.ensures,
       );
-      unentered = (ap (λ x. x.entries) c.in_ok-room.ensures.room, ap (λ x. x.limit) c.in_ok-room.ensures.room);
     }

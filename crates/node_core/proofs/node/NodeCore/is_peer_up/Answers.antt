@@ -6,4 +6,4 @@ use Rattle.node_core.proofs.node.NodeCore.is_peer_up.Goals as goal
 pub returns : goal.returns
 returns c = rw (← c.self.view_is) (
     c.is_some.ensures ∙ ap is_some (rw c.deref.ensures.value at c.place_of_up.ensures)
-    ∙ place_found (λ x. option_map_or (λ n. same n c.args.peer.now) (up_peer x.state) false) c.self.inside.links.items ∙ peer_up c.self.invariant c.args.peer.now)
+    ∙ place_found (λ x. option_map_or (λ n. same n c.args.peer.now) (up_peer x.state) false) c.self.inside.kept.links.items ∙ peer_up c.self.invariant.follows c.args.peer.now)

@@ -3,6 +3,7 @@ use Rattle.node_core.proofs.Begun.{begun}
 use Rattle.node_core.proofs.node.NodeCore.new.Goals as goal
 
 pub invariant_of-result : goal.invariant_of-result
-invariant_of-result c =
-    rw (c.new-audit.ensures.limit, c.new-audit.ensures.empty, c.in_ok-admission.ensures, c.new.ensures, c.new-2.ensures.items, c.new-3.ensures.items, c.new-4.ensures)
-    (begun c.args.opening (search rules))
+invariant_of-result c = record {
+  within = c.new-audit.ensures.limit;
+  follows = rw (c.new-audit.ensures.empty, c.in_ok-admission.ensures, c.new.ensures, c.new-2.ensures.items, c.new-3.ensures.items, c.new-4.ensures) (begun c.args.opening (search rules));
+}

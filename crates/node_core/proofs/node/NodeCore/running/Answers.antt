@@ -3,7 +3,7 @@ use Rattle.node_core.proofs.Scopes.{running_here, not_running}
 use Rattle.node_core.proofs.node.NodeCore.running.Goals as goal
 
 pub returns-clause-found : goal.returns-clause-found
-returns-clause-found c = rw (← c.self.view_is) (running_here (past c.self.inside.opening c.self.inside.audit.entries) c.self.inside.scopes.items c.args.scope.now c.self.invariant.scopes c.find.result (rw c.deref.ensures.value at c.find.ensures))
+returns-clause-found c = rw (← c.self.view_is) (running_here (past c.self.inside.kept.opening c.self.inside.audit.entries) c.self.inside.kept.scopes.items c.args.scope.now c.self.invariant.follows.scopes c.find.result (rw c.deref.ensures.value at c.find.ensures))
 
 pub returns-clause-none : goal.returns-clause-none
-returns-clause-none c = rw (← c.self.view_is) (not_running (past c.self.inside.opening c.self.inside.audit.entries) c.self.inside.scopes.items c.args.scope.now c.self.invariant.scopes c.find.result (rw c.deref.ensures.value at c.find.ensures))
+returns-clause-none c = rw (← c.self.view_is) (not_running (past c.self.inside.kept.opening c.self.inside.audit.entries) c.self.inside.kept.scopes.items c.args.scope.now c.self.invariant.follows.scopes c.find.result (rw c.deref.ensures.value at c.find.ensures))

@@ -1,0 +1,59 @@
+use Rattle.node_core.proofs.Words.{arith, length, refl, ◌≤◌}
+use Rattle.node_core.proofs.Answering.{accepts, ends, wanted, wants}
+use Rattle.node_core.proofs.EarlyFrame.{handshakes, early_never_up, early_few, early_went_on, early_broke}
+use Rattle.node_core.proofs.HeldLink.{IsHeld, held_ready, held_restored, room_follows}
+use Rattle.node_core.proofs.kept.Kept.early_frame.Given.{Over}
+use Rattle.node_core.proofs.kept.Kept.early_frame.Goals as goal
+use Rattle.node_core.proofs.kept.Kept.early_frame.Goals.{After-replace-state}
+
+-- the link at its place, with room and without its state
+held : (g : Over) (c : After-replace-state g) → IsHeld g.call.past c.args.self.now.links.items c.args.number c.args.place
+    c.index_mut.result.now c.make_room.new.self c.index_mut-2.result.now c.replace-state.new.self c.replace-state.result
+held g c = record {
+  space = c.requires.link.called.space;
+  opens = c.requires.opens;
+  at = c.requires.link.here;
+  first = c.index_mut.ensures.value;
+  roomy = c.make_room.ensures.same;
+  then = c.index_mut-2.ensures.value;
+  emptied = c.replace-state.ensures.new;
+  state = c.replace-state.ensures.old;
+}
+
+pub returns-in_err-make_room : goal.returns-in_err-make_room
+returns-in_err-make_room g c = wanted _ _ _ (record {
+  opening = c.requires.link.called.keeps.opening;
+  follows = room_follows c.requires.link.called.keeps.follows c.args.number c.requires.link.here c.index_mut.ensures.value c.make_room.ensures.same;
+}) _ c.from_residual-in_err-make_room.ensures.1
+
+pub hear-heard-requires : goal.hear-heard-requires
+hear-heard-requires g c = handshakes c.requires.link.called.keeps.follows g.call.seat c.args.body.now (held g (goal.at.hear-heard-requires g c).After-replace-state) c.requires.unwhole c.requires.early
+
+pub go_on-requires : goal.go_on-requires
+go_on-requires g c =
+    let held = held g (goal.at.go_on-requires g c).After-replace-state in
+    let few : length c.in-On.frames ≤ 2 = early_few c.requires.link.called.keeps.follows g.call.seat c.args.body.now held c.requires.unwhole c.requires.early
+    c.deref.ensures.value c.in_ok-pending.pending c.in_ok-pending.ensures.up c.in_ok-pending.ensures.dials c.in-On.state c.in-On.frames c.in-On.gives_up (rw c.as_slice-bytes.ensures at c.in-On.ensures) in
+    held_ready c.requires.link.called.keeps.follows held (length c.in-On.frames) (omega (arith, few, c.in_ok-make_room.ensures.ok))
+
+pub unreachable-requires : goal.unreachable-requires
+unreachable-requires g c = early_never_up c.requires.link.called.keeps.follows g.call.seat c.args.body.now (held g (goal.at.unreachable-requires g c).After-replace-state) c.requires.unwhole c.requires.early
+    c.deref.ensures.value c.in_ok-pending.pending c.in_ok-pending.ensures.up c.in_ok-pending.ensures.dials c.in-Up.up c.in-Up.frames (rw c.as_slice-bytes.ensures at c.in-Up.ensures)
+
+pub returns-in-On : goal.returns-in-On
+returns-in-On g c = accepts c.requires.link.called _ _ _ _ _ c.done.ensures refl
+    (early_went_on c.requires.link.called.keeps.follows g.call.seat c.args.body.now (held g (goal.at.returns-in-On g c).After-replace-state) c.requires.unwhole c.requires.early
+    c.deref.ensures.value c.in_ok-pending.pending c.in_ok-pending.ensures.up c.in_ok-pending.ensures.dials c.in-On.state c.in-On.frames c.in-On.gives_up (rw c.as_slice-bytes.ensures at c.in-On.ensures)
+    c.go_on.new.links.items c.go_on.ensures)
+
+pub returns-in-Ended : goal.returns-in-Ended
+returns-in-Ended g c = ends c.requires.link.called _ _ _ refl
+    (early_broke c.requires.link.called.keeps.follows g.call.seat c.args.body.now (held g (goal.at.returns-in-Ended g c).After-replace-state) c.requires.unwhole c.requires.early
+    c.deref.ensures.value c.in_ok-pending.pending c.in_ok-pending.ensures.up c.in_ok-pending.ensures.dials c.in-Ended.rule c.in-Ended.frames (rw c.as_slice-bytes.ensures at c.in-Ended.ensures)
+    c.end.new.links.items c.end.ensures)
+
+pub returns-in-OutOfMemory : goal.returns-in-OutOfMemory
+returns-in-OutOfMemory g c = wants _ _ _ (record {
+  opening = c.requires.link.called.keeps.opening;
+  follows = held_restored c.requires.link.called.keeps.follows (held g (goal.at.returns-in-OutOfMemory g c).After-replace-state) c.index_mut-in-OutOfMemory.ensures.value c.in-OutOfMemory.ensures c.set_state.ensures;
+})

@@ -1,0 +1,110 @@
+use Rattle.node_core.proofs.Words.{refl}
+use Rattle.node_core.proofs.Answering.{accepts, gave_up, wanted}
+use Rattle.node_core.proofs.MessagePlaces.{IsUpHere, up_here}
+use Rattle.node_core.proofs.Moved.{unmoved}
+use Rattle.node_core.proofs.MessageRefused.{rows_from, joined_from, left_from, all_of_peer, peer_is, has_peer}
+use Rattle.node_core.proofs.MessageScopes.{discovered_next, synced, added, added_calm, taken, taken_calm, downed}
+use Rattle.node_core.proofs.MessageRoom.{roomed_links, same_scope, follows_with, answered_follows}
+use Rattle.node_core.proofs.kept.Kept.follow.Given.{Over}
+use Rattle.node_core.proofs.kept.Kept.follow.Goals as goal
+use Rattle.node_core.proofs.kept.Kept.follow.Goals.{After-index}
+
+-- the link is up at its place
+up_at : (g : Over) (c : After-index g) → IsUpHere g.call.past c.args.number c.index.result.now
+up_at g c = up_here c.requires.on.link.called.keeps.follows c.args.number c.requires.on.up c.requires.on.link.here c.index.ensures
+
+pub unreachable-requires : goal.unreachable-requires
+unreachable-requires g c = has_peer (up_at g (goal.at.unreachable-requires g c).After-index) c.in_default.ensures
+
+-- ---- a Discover
+
+pub returns-in_err-frames-in-Discover : goal.returns-in_err-frames-in-Discover
+returns-in_err-frames-in-Discover g c = λ body says.
+    let t = c.requires.on.link.called.keeps.follows in
+    wanted _ _ _ (record {
+      opening = c.requires.on.link.called.keeps.opening;
+      follows = follows_with t (same_scope t c.in-Discover.scope (rw c.in-Discover.is at c.requires.there) c.index_mut-running.ensures.value c.in_err-frames-in-Discover.ensures.same)
+          (roomed_links t c.args.number c.requires.on.up c.requires.on.link.here c.index_mut-link.ensures.value c.in_err-frames-in-Discover.ensures.roomy);
+    }) _ c.from_residual.ensures.1
+
+pub returns-in_ok-frames-in-Discover : goal.returns-in_ok-frames-in-Discover
+returns-in_ok-frames-in-Discover g c = λ body says.
+    let t = c.requires.on.link.called.keeps.follows in
+    let said = rw c.in-Discover.is at says in
+    let there = rw c.in-Discover.is at c.requires.there in
+    let holds = rw c.in-Discover.is at c.requires.holds in
+    let made_ready = c.in_ok-frames-in-Discover.ensures in
+    accepts c.requires.on.link.called _ _ _ _ _ c.done.ensures refl (
+      discovered_next t g.call.seat c.args.number body c.requires.on.link.called.space c.requires.on.up c.requires.on.link.here c.index_mut-link.ensures.value c.in-Discover.scope c.ready_to_answer.new.running there c.index_mut-running.ensures.value said holds,
+      answered_follows t g.call.seat c.args.number body c.requires.on.link.called.space c.requires.on.up c.requires.on.link.here c.index_mut-link.ensures.value c.in-Discover.scope c.ready_to_answer.new.running there c.index_mut-running.ensures.value said holds
+          made_ready.told c.index_mut-running.ensures.value made_ready.frames made_ready.roomy c.owe.ensures.owed,
+    )
+
+-- ---- a Sync
+
+pub hear_rows-requires-clause-of_peer : goal.hear_rows-requires-clause-of_peer
+hear_rows-requires-clause-of_peer g c =
+    let here = up_at g (goal.at.hear_rows-requires-clause-of_peer g c).After-index in
+    rw (peer_is here c.in-Some.ensures) (all_of_peer here c.in-Sync.rows (rows_from g.call.past c.args.number c.in-Sync.scope c.in-Sync.rows (rw c.in-Sync.is at c.requires.holds)))
+
+pub returns-in_err-changes-in-Sync : goal.returns-in_err-changes-in-Sync
+returns-in_err-changes-in-Sync g c = λ body says.
+    let t = c.requires.on.link.called.keeps.follows in
+    wanted _ _ _ (record {
+      opening = c.requires.on.link.called.keeps.opening;
+      follows = follows_with t (same_scope t c.in-Sync.scope (rw c.in-Sync.is at c.requires.there) c.index_mut-running.ensures.value c.in_err-changes-in-Sync.ensures.same) t.links;
+    }) _ c.from_residual-in_err-changes-in-Sync.ensures.1
+
+pub returns-in_ok-changes-in-Sync : goal.returns-in_ok-changes-in-Sync
+returns-in_ok-changes-in-Sync g c = λ body says. accepts c.requires.on.link.called _ _ _ _ _ (rw c.in_ok-changes-in-Sync.ensures.change.changes at c.changed.ensures) refl
+    (synced c.requires.on.link.called.keeps.follows g.call.seat c.args.number body c.requires.on.link.called.space c.requires.on.up c.requires.on.link.here c.index.ensures c.in-Sync.scope c.hear_rows.new.running (rw c.in-Sync.is at c.requires.there) c.index_mut-running.ensures.value c.in-Some.ensures
+    c.in-Sync.rows (rw c.in-Sync.is at says) (rw c.in-Sync.is at c.requires.holds) c.in_ok-changes-in-Sync.ensures.change.groups c.in_ok-changes-in-Sync.ensures.ok c.in_ok-changes-in-Sync.ensures.change.difference)
+
+-- ---- a Join
+
+pub add_rows-requires : goal.add_rows-requires
+add_rows-requires g c =
+    let here = up_at g (goal.at.add_rows-requires g c).After-index in
+    rw (peer_is here c.in-Some.ensures) (all_of_peer here c.in-Join.rows (joined_from g.call.past c.args.number c.in-Join.scope c.in-Join.rows (rw c.in-Join.is at c.requires.holds)))
+
+pub returns-in_err-changes-in-Join : goal.returns-in_err-changes-in-Join
+returns-in_err-changes-in-Join g c = λ body says.
+    let t = c.requires.on.link.called.keeps.follows in
+    let failed = c.in_err-changes-in-Join.ensures in
+    gave_up
+    (record { keeps = record { opening = c.requires.on.link.called.keeps.opening; follows = unmoved t c.args.at c.index_mut-running.ensures.value failed.same refl }; space = c.requires.on.link.called.space }) _ c.in_err-changes-in-Join.field-0.0
+    (added_calm t g.call.seat c.args.number body c.requires.on.link.called.space c.requires.on.up c.requires.on.link.here c.index.ensures c.in-Join.scope c.add_rows.new.running (rw c.in-Join.is at c.requires.there) c.index_mut-running.ensures.value c.in-Some.ensures
+    c.in-Join.rows (rw c.in-Join.is at says) (rw c.in-Join.is at c.requires.holds) c.in_err-changes-in-Join.field-0.0 failed.refused) _ c.from_residual-in_err-changes-in-Join.ensures.1
+
+pub returns-in_ok-changes-in-Join : goal.returns-in_ok-changes-in-Join
+returns-in_ok-changes-in-Join g c = λ body says. accepts c.requires.on.link.called _ _ _ _ _ (rw c.in_ok-changes-in-Join.ensures.change.changes at c.changed-in-Join.ensures) refl
+    (added c.requires.on.link.called.keeps.follows g.call.seat c.args.number body c.requires.on.link.called.space c.requires.on.up c.requires.on.link.here c.index.ensures c.in-Join.scope c.add_rows.new.running (rw c.in-Join.is at c.requires.there) c.index_mut-running.ensures.value c.in-Some.ensures
+    c.in-Join.rows (rw c.in-Join.is at says) (rw c.in-Join.is at c.requires.holds) c.in_ok-changes-in-Join.ensures.limits c.in_ok-changes-in-Join.ensures.change.groups c.in_ok-changes-in-Join.ensures.ok c.in_ok-changes-in-Join.ensures.change.difference)
+
+-- ---- a Leave
+
+pub take_rows-requires : goal.take_rows-requires
+take_rows-requires g c =
+    let here = up_at g (goal.at.take_rows-requires g c).After-index in
+    rw (peer_is here c.in-Some.ensures) (all_of_peer here c.in-Leave.rows (left_from g.call.past c.args.number c.in-Leave.scope c.in-Leave.rows (rw c.in-Leave.is at c.requires.holds)))
+
+pub returns-in_err-changes-in-Leave : goal.returns-in_err-changes-in-Leave
+returns-in_err-changes-in-Leave g c = λ body says.
+    let t = c.requires.on.link.called.keeps.follows in
+    let failed = c.in_err-changes-in-Leave.ensures in
+    gave_up
+    (record { keeps = record { opening = c.requires.on.link.called.keeps.opening; follows = unmoved t c.args.at c.index_mut-running.ensures.value failed.same refl }; space = c.requires.on.link.called.space }) _ c.in_err-changes-in-Leave.field-0.0
+    (taken_calm t g.call.seat c.args.number body c.requires.on.link.called.space c.requires.on.up c.requires.on.link.here c.index.ensures c.in-Leave.scope c.take_rows.new.running (rw c.in-Leave.is at c.requires.there) c.index_mut-running.ensures.value
+    c.in-Leave.rows (rw c.in-Leave.is at says) (rw c.in-Leave.is at c.requires.holds) c.in_err-changes-in-Leave.field-0.0 failed.refused) _ c.from_residual-in_err-changes-in-Leave.ensures.1
+
+pub returns-in_ok-changes-in-Leave : goal.returns-in_ok-changes-in-Leave
+returns-in_ok-changes-in-Leave g c = λ body says. accepts c.requires.on.link.called _ _ _ _ _ (rw c.in_ok-changes-in-Leave.ensures.change.changes at c.changed-in-Leave.ensures) refl
+    (taken c.requires.on.link.called.keeps.follows g.call.seat c.args.number body c.requires.on.link.called.space c.requires.on.up c.requires.on.link.here c.index.ensures c.in-Leave.scope c.take_rows.new.running (rw c.in-Leave.is at c.requires.there) c.index_mut-running.ensures.value c.in-Some.ensures
+    c.in-Leave.rows (rw c.in-Leave.is at says) (rw c.in-Leave.is at c.requires.holds) c.in_ok-changes-in-Leave.ensures.only c.in_ok-changes-in-Leave.ensures.change.groups c.in_ok-changes-in-Leave.ensures.ok c.in_ok-changes-in-Leave.ensures.change.difference)
+
+-- ---- a Down
+
+pub returns-in_ok-changes-in-Down : goal.returns-in_ok-changes-in-Down
+returns-in_ok-changes-in-Down g c = λ body says. accepts c.requires.on.link.called _ _ _ _ _ (rw c.in_ok-changes-in-Down.ensures.changes at c.changed-in-Down.ensures) refl
+    (downed c.requires.on.link.called.keeps.follows g.call.seat c.args.number body c.requires.on.link.called.space c.requires.on.up c.requires.on.link.here c.index.ensures c.in-Down.scope c.cut_off.new.running (rw c.in-Down.is at c.requires.there) c.index_mut-running.ensures.value c.in-Some.ensures
+    (rw c.in-Down.is at says) (rw c.in-Down.is at c.requires.holds) c.in_ok-changes-in-Down.ensures.groups c.cut_off.ensures c.index_mut-running.ensures.value c.in_ok-changes-in-Down.ensures.difference)

@@ -1,0 +1,28 @@
+use Rattle.node_core.proofs.Words.{ap, arith, length, refl, ◌≡◌, Event, Reply, Rule, with_place}
+use Rattle.group_monitors.specs.Monitors.{monitor_of, updates_behind}
+use Rattle.group_monitors.proofs.FromPolicy.{follows_refused, follows_seen, follows_told}
+use Rattle.node_core.proofs.Answering.{accepts, refuses}
+use Rattle.node_core.proofs.Calm.{answered, quiet_next}
+use Rattle.node_core.proofs.Watching.{advanced, fetched, told_one}
+use Rattle.node_core.proofs.kept.Kept.updates.Goals as goal
+
+pub updates-requires : goal.updates-requires
+updates-requires g c = rw c.requires.1 (follows_seen g.call.past c.args.self.now.monitors c.requires.0.called.keeps.follows.monitors c.args.seat c.args.number)
+
+pub returns-in-Err-NoMonitor : goal.returns-in-Err-NoMonitor
+returns-in-Err-NoMonitor g c = refuses c.requires.0.called _ Rule.NoMonitor
+    (follows_refused g.call.past c.args.self.now.monitors c.requires.0.called.keeps.follows.monitors g.call.seat c.args.number (rw (c.in-Err-NoMonitor.field-0-is, c.requires.0.seat_is) at c.in-Err-NoMonitor.ensures.refused)).0 refl
+
+pub returns : goal.returns
+returns g c =
+    let h = g.call.past in
+    let t = c.requires.0.called.keeps.follows in
+    let monitors = c.args.self.now.monitors in
+    let behind = rw (c.requires.1, c.requires.0.seat_is) at c.in-Ok.ensures.ok in
+    let told = follows_told h monitors t.monitors g.call.seat c.args.number c.in-Ok.updates behind in
+    let reply = Reply.Updates c.in-Ok.updates in
+    let next = quiet_next h g.call.seat reply (Event.Updates c.args.number) c.requires.0.called.space told.0 (ap Reply.Updates told.1) refl in
+    let some = told_one (updates_behind h.entries) (monitor_of monitors g.call.seat c.args.number) c.in-Ok.updates behind in
+    let place : c.args.place ≡ length (answered h g.call.seat (Event.Updates c.args.number) reply).entries = (let is = c.requires.0.number_is in omega (arith, is)) in
+    let moved = advanced c.advance_to.result (monitor_of monitors g.call.seat c.args.number) (with_place g.call.seat c.args.number c.args.place monitors) c.advance_to.new.self some (rw c.requires.0.seat_is at c.advance_to.ensures.ok) (rw c.requires.0.seat_is at c.advance_to.ensures.refused) in
+    accepts c.requires.0.called _ _ _ _ _ c.in_ok-answered.ensures refl (next, rw (moved, place) (fetched h g.call.seat reply _ t c.args.number next))
