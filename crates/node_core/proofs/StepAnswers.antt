@@ -6,7 +6,7 @@ use Rattle.policy_audit.proofs.ScopeChanges.{next_is_after}
 use Rattle.node_core.specs.declared.entering.Answered.{Answered}
 use Rattle.node_core.specs.declared.kept.Kept.{Kept}
 use Rattle.node_core.specs.Core.{IsCore}
-use Rattle.node_core.specs.Step.{Answers, Call, IsStepped, entered, made, told}
+use Rattle.node_core.specs.Step.{Answers, Call, IsStepped, entered, made, reply_of}
 
 module _ (call : Call) (space : is_full call.past ≡ false) (e : Event) where
   abbrev h : History
@@ -20,7 +20,7 @@ module _ (call : Call) (space : is_full call.past ≡ false) (e : Event) where
   abbrev then : Opening → Result Answered CoreFault → History
   then opening answered = past opening (entered h.entries call.seat e answered)
 
-  pub answered_step : (kept : Kept) (answered : Result Answered CoreFault) → Answers call e kept answered → IsStepped h call.seat e (then kept.opening answered) (told answered)
+  pub answered_step : (kept : Kept) (answered : Result Answered CoreFault) → Answers call e kept answered → IsStepped h call.seat e (then kept.opening answered) (reply_of answered)
   unfolding Answers IsStepped
   answered_step kept (Ok a) t =
       let next = next_step (Accepted a.reply) a.changes.items t.1.0 in
@@ -54,7 +54,7 @@ full_step old seat e full = (
 -- the same of what a step has in hand
 module _ (call : Call) (e : Event) (kept : Kept) (answered : Result Answered CoreFault) (t : Answers call e kept answered) (space : is_full call.past ≡ false)
     {entries : List Entry} (pushed : entries ≡ entered call.past.entries call.seat e answered) where
-  pub step_so : {now : History} → call.past ≡ now → {ev : Event} → e ≡ ev → {result : Result Reply CoreFault} → result ≡ told answered → IsStepped now call.seat ev (past kept.opening entries) result
+  pub step_so : {now : History} → call.past ≡ now → {ev : Event} → e ≡ ev → {result : Result Reply CoreFault} → result ≡ reply_of answered → IsStepped now call.seat ev (past kept.opening entries) result
   step_so {now} before {ev} event {result} is = rw (is, pushed, ← event, ← before) (answered_step call space e kept answered t)
 
   opening_is : kept.opening ≡ call.past.opening

@@ -72,6 +72,6 @@ entered es seat e (Err (faults.Refused rule)) = record { number = length es + 1;
 entered es seat e (Err faults.OutOfMemory) = es
 
 -- what the caller is told
-abbrev pub told : Result Answered CoreFault → Result Reply CoreFault
-told (Ok a) = Ok a.reply
-told (Err fault) = Err fault
+abbrev pub reply_of : Result Answered CoreFault → Result Reply CoreFault
+reply_of (Ok a) = Ok a.reply
+reply_of (Err fault) = Err fault

@@ -2,7 +2,7 @@
 ghost use Rattle.std.specs.Prelude.{◌≡◌, ◌<◌, ◌+◌, ◌∷◌, [], true, length, Ok, Err, IfOk};
 ghost use Rattle.policy_audit.specs.declared.entry.Entry.{Entry};
 ghost use Rattle.node_core.specs.declared.fault.CoreFault.TheVariants as faults;
-ghost use Rattle.node_core.specs.Step.{Says, entered, told};
+ghost use Rattle.node_core.specs.Step.{Says, entered, reply_of};
 
 use crate::fault::CoreFault;
 use dist_types::{OutOfMemory, TryClone};
@@ -97,7 +97,7 @@ pub fn enter(
     requires space { length audit.old.entries < audit.old.limit }
     ensures entries { audit.new.entries ≡ entered audit.old.entries seat event answered }
     ensures limit { audit.new.limit ≡ audit.old.limit }
-    ensures told { result ≡ told answered }
+    ensures reply { result ≡ reply_of answered }
 {
     match answered {
         Ok(answered) => Ok(answered.enter(audit, seat, event)),

@@ -40,8 +40,14 @@ impl Kept {
         ensures scope { result.0 ≡ scope }
         ensures group { result.1 ≡ group }
     {
-        let group = self.shared_group(&scope, group);
-        (self.shared_scope(scope), group)
+        let Some(running) = find(&self.scopes, &scope) else {
+            return (scope, group);
+        };
+        let group = match running.table.stored_group(&group) {
+            Some(stored) => copy_or(self.alloc, stored, group),
+            None => group,
+        };
+        (copy_or(self.alloc, &running.scope, scope), group)
     }
 
     fn shared_scope(&self, scope: Scope) -> Scope
@@ -50,18 +56,6 @@ impl Kept {
         match find(&self.scopes, &scope) {
             Some(running) => copy_or(self.alloc, &running.scope, scope),
             None => scope,
-        }
-    }
-
-    fn shared_group(&self, scope: &Scope, group: Group) -> Group
-        ensures { result ≡ group }
-    {
-        let Some(running) = find(&self.scopes, scope) else {
-            return group;
-        };
-        match running.table.stored_group(&group) {
-            Some(stored) => copy_or(self.alloc, stored, group),
-            None => group,
         }
     }
 

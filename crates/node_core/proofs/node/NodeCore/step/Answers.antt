@@ -26,4 +26,4 @@ invariant_of-self-3 c =
 pub returns : goal.returns
 returns c =
     let entered = (goal.at.returns c).In_default in
-    step_so _ c.shared-event.result c.answer-answered.new.self c.answer-answered.result c.answer-answered.ensures (space entered) c.enter.ensures.entries (before entered) c.shared-event.ensures c.enter.ensures.told
+    step_so _ c.shared-event.result c.answer-answered.new.self c.answer-answered.result c.answer-answered.ensures (space entered) c.enter.ensures.entries (before entered) c.shared-event.ensures c.enter.ensures.reply
