@@ -1,9 +1,9 @@
 -- Where the link and the scope of a message are kept.
-use Rattle.node_core.proofs.Words.{arith, Follows, Parts, List, None, Some, ap, cond, false, get_or, is_some, length, nat_eq, position, refl, subst, sym, Option}
+use Rattle.node_core.proofs.Words.{arith, Follows, Parts, List, None, Some, ap, cond, false, get_or, is_some, length, nat_eq, position, refl, subst, sym}
 use Rattle.node_core.proofs.Words.{true, ℕ, ◌<◌, ◌∙◌, ◌≡◌, get_or_default, position-Some, same_decides, same, Linked, lie, and_left}
 use Rattle.node_core.proofs.Words.{and_right, History, is_open, is_up, is_kept, waiting, is_running, AwaitMessage, awaits, is_whole, IsIntroduced}
 use Rattle.node_core.proofs.Words.{IsLinkOf, IsState, LinkFacts, facts, link_words, KeptLink, IsRunningOf, scope_words, Running, LinkState}
-use Rattle.node_core.proofs.Found.{no_place, some_place}
+use Rattle.node_core.proofs.Found.{no_place, place_found, some_place}
 use Rattle.node_core.proofs.Scopes.{runs_is}
 use Rattle.node_core.proofs.KeptOn.{each_at, not_kept, is_kept_at, link_at}
 
@@ -49,19 +49,8 @@ module _ {h : History} {parts : Parts} (t : Follows h parts) (s : List ℕ) wher
   pub runs_here : (p : ℕ) → position (λ r. same r.scope s) parts.scopes ≡ Some p → is_running h s ≡ true
   runs_here p q = sym (runs_is h parts.scopes s t.scopes) ∙ some_place (λ r. same r.scope s) parts.scopes p q
 
-  pub runs_some : is_some (position (λ r. same r.scope s) parts.scopes) ≡ true → is_running h s ≡ true
-  runs_some q = by (position (λ r. same r.scope s) parts.scopes) refl q
-    where
-      by : (o : Option ℕ) → position (λ r. same r.scope s) parts.scopes ≡ o → is_some o ≡ true → is_running h s ≡ true
-      by (Some p) at q = runs_here p at
-      by None at q = lie (sym q)
-
-  pub stopped_none : is_some (position (λ r. same r.scope s) parts.scopes) ≡ false → is_running h s ≡ false
-  stopped_none q = by (position (λ r. same r.scope s) parts.scopes) refl q
-    where
-      by : (o : Option ℕ) → position (λ r. same r.scope s) parts.scopes ≡ o → is_some o ≡ false → is_running h s ≡ false
-      by (Some p) at q = lie q
-      by None at q = stopped_here at
+  pub placed_is : is_some (position (λ r. same r.scope s) parts.scopes) ≡ is_running h s
+  placed_is = place_found (λ r. same r.scope s) parts.scopes ∙ runs_is h parts.scopes s t.scopes
 
   pub scope_here : {p : ℕ} {r : Running} → position (λ x. same x.scope s) parts.scopes ≡ Some p → r ≡ get_or parts.scopes p r → IsScopeHere h parts.scopes s p r
   scope_here {p} {r} q is =

@@ -10,7 +10,7 @@ returns-in-Ok g c =
     let names = c.args.names.now in
     let fits = names_fit g.call.past c.args.self.now.admission t.admission names (rw (c.in-Ok.ensures.ok, c.as_slice.ensures) at c.in-Ok.ensures.limits) in
     let next = quiet_next g.call.past g.call.seat Reply.Done (Event.Allow names) c.requires.space (ap (λ b. cond (not b) (Some Rule.AllowFull) None) fits) refl refl in
-    accepts c.requires _ _ _ _ _ c.done.ensures refl (
+    accepts c.requires _ _ refl _ _ _ c.done.ensures (
       next,
       rw (c.in-Ok.ensures.ok, c.as_slice.ensures)
           (allow_follows _ g.call.seat Reply.Done _ t names _ next (names_follow g.call.past c.args.self.now.admission t.admission g.call.seat Reply.Done names)),

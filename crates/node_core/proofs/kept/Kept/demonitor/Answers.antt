@@ -11,7 +11,7 @@ returns-in-Ok g c =
     let t = c.requires.0.keeps.follows in
     let holds = (follows_checked h c.args.self.now.monitors t.monitors g.call.seat c.args.number (rw c.requires.1 at c.in-Ok.ensures.ok.0)).1 in
     let next = quiet_next h g.call.seat Reply.Done (Event.Demonitor c.args.number) c.requires.0.space holds refl refl in
-    accepts c.requires.0 _ _ _ _ _ c.done.ensures refl (next, rw (c.in-Ok.ensures.ok.1, c.requires.1) (unwatched h g.call.seat Reply.Done _ t c.args.number next))
+    accepts c.requires.0 _ _ refl _ _ _ c.done.ensures (next, rw (c.in-Ok.ensures.ok.1, c.requires.1) (unwatched h g.call.seat Reply.Done _ t c.args.number next))
 
 pub returns-in-Err : goal.returns-in-Err
 returns-in-Err g c = rw c.in-Err.ensures.same (refuses c.requires.0 _ Rule.NoMonitor

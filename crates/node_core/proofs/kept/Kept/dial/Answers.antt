@@ -13,7 +13,7 @@ returns g c =
     let t = c.requires.0.keeps.follows in
     let broken = sym c.dial_refusal.ensures ∙ not_some c.dial_refusal.result (λ r q. c.in_default.not-Some r q) in
     let next = dialled_next h t.sound.legal g.call.seat c.args.peer.now c.args.challenge c.args.number c.requires.1 broken c.requires.0.space in
-    accepts c.requires.0 _ _ _ _ _ c.linked.ensures refl (
+    accepts c.requires.0 _ _ refl _ _ _ c.linked.ensures (
       next,
       rw (c.push_reserved.ensures.items, c.in_ok-reserve.ensures.items)
           (dialled_follows h t.sound.legal g.call.seat c.args.peer.now c.args.challenge c.args.number c.requires.1 broken next _ c.in_ok-link.link t c.in_ok-link.ensures),

@@ -23,7 +23,7 @@ returns g c =
     let cuts = subst (λ x. AreCut x.number (up_peer x.state) scopes c.cut_link.new.scopes.items) (c.index-3.ensures ∙ same_at links c.in-Some.place c.index-3.result.now c.index.result.now within) c.cut_link.ensures in
     let number = c.number-number.ensures ∙ ap (λ x. x.number) c.index.ensures in
     let next = parting_next h g.call.seat peer c.in_ok-changes.changes.items _ t c.in-Some.place c.index.result.now found c.requires.space lost in
-    accepts c.requires _ _ _ _ _ c.changed.ensures refl (
+    accepts c.requires _ _ refl _ _ _ c.changed.ensures (
       next,
       rw c.remove.ensures
           (parting_follows h g.call.seat peer c.in_ok-changes.changes.items _ t c.in-Some.place c.index.result.now found next c.cut_link.new.scopes.items c.number-number.result number cuts),

@@ -21,10 +21,8 @@ held g c = record {
 }
 
 pub returns-in_err-make_room : goal.returns-in_err-make_room
-returns-in_err-make_room g c = wanted _ _ _ (record {
-  opening = c.requires.link.called.keeps.opening;
-  follows = room_follows c.requires.link.called.keeps.follows c.args.number c.requires.link.here c.index_mut.ensures.value c.make_room.ensures.same;
-}) _ c.from_residual-in_err-make_room.ensures.1
+returns-in_err-make_room g c = wanted c.requires.link.called _ _ refl
+    (room_follows c.requires.link.called.keeps.follows c.args.number c.requires.link.here c.index_mut.ensures.value c.make_room.ensures.same) _ c.from_residual-in_err-make_room.ensures.1
 
 pub hear-heard-requires : goal.hear-heard-requires
 hear-heard-requires g c = handshakes c.requires.link.called.keeps.follows g.call.seat c.args.body.now (held g (goal.at.hear-heard-requires g c).After-replace-state) c.requires.unwhole c.requires.early
@@ -41,19 +39,17 @@ unreachable-requires g c = early_never_up c.requires.link.called.keeps.follows g
     c.deref.ensures.value c.in_ok-pending.pending c.in_ok-pending.ensures.up c.in_ok-pending.ensures.dials c.in-Up.up c.in-Up.frames (rw c.as_slice-bytes.ensures at c.in-Up.ensures)
 
 pub returns-in-On : goal.returns-in-On
-returns-in-On g c = accepts c.requires.link.called _ _ _ _ _ c.done.ensures refl
+returns-in-On g c = accepts c.requires.link.called _ _ refl _ _ _ c.done.ensures
     (early_went_on c.requires.link.called.keeps.follows g.call.seat c.args.body.now (held g (goal.at.returns-in-On g c).After-replace-state) c.requires.unwhole c.requires.early
     c.deref.ensures.value c.in_ok-pending.pending c.in_ok-pending.ensures.up c.in_ok-pending.ensures.dials c.in-On.state c.in-On.frames c.in-On.gives_up (rw c.as_slice-bytes.ensures at c.in-On.ensures)
     c.go_on.new.links.items c.go_on.ensures)
 
 pub returns-in-Ended : goal.returns-in-Ended
-returns-in-Ended g c = ends c.requires.link.called _ _ _ refl
+returns-in-Ended g c = ends c.requires.link.called _ _ refl _
     (early_broke c.requires.link.called.keeps.follows g.call.seat c.args.body.now (held g (goal.at.returns-in-Ended g c).After-replace-state) c.requires.unwhole c.requires.early
     c.deref.ensures.value c.in_ok-pending.pending c.in_ok-pending.ensures.up c.in_ok-pending.ensures.dials c.in-Ended.rule c.in-Ended.frames (rw c.as_slice-bytes.ensures at c.in-Ended.ensures)
     c.end.new.links.items c.end.ensures)
 
 pub returns-in-OutOfMemory : goal.returns-in-OutOfMemory
-returns-in-OutOfMemory g c = wants _ _ _ (record {
-  opening = c.requires.link.called.keeps.opening;
-  follows = held_restored c.requires.link.called.keeps.follows (held g (goal.at.returns-in-OutOfMemory g c).After-replace-state) c.index_mut-in-OutOfMemory.ensures.value c.in-OutOfMemory.ensures c.set_state.ensures;
-})
+returns-in-OutOfMemory g c = wants c.requires.link.called _ _ refl
+    (held_restored c.requires.link.called.keeps.follows (held g (goal.at.returns-in-OutOfMemory g c).After-replace-state) c.index_mut-in-OutOfMemory.ensures.value c.in-OutOfMemory.ensures c.set_state.ensures)

@@ -23,7 +23,8 @@ pub tell_exit-requires-clause-idle : goal.tell_exit-requires-clause-idle
 tell_exit-requires-clause-idle g c = follow_idle (link_words g.call.past) c.args.self.now.links.items c.requires.keeps.follows.links.each
 
 pub returns-in_err-changes : goal.returns-in_err-changes
-returns-in_err-changes g c = wanted _ _ _ (record { opening = c.requires.keeps.opening; follows = alike_again g.call.past _ c.requires.keeps.follows c.tell_exit.new.links.items c.in_err-changes.ensures.same }) _ c.from_residual.ensures.1
+returns-in_err-changes g c = wanted c.requires _ _ refl
+    (alike_again g.call.past _ c.requires.keeps.follows c.tell_exit.new.links.items c.in_err-changes.ensures.same) _ c.from_residual.ensures.1
 
 pub returns : goal.returns
 returns g c =
@@ -34,7 +35,7 @@ returns g c =
     let told = rw c.deref.ensures.value at c.in_ok-changes.ensures.told in
     let living = sym c.is_live.ensures ∙ c.if-not-is_live.false in
     let next = exit_next h g.call.seat _ t pid local c.tell_exit.new.links.items c.in_ok-changes.changes.items told c.requires.space living in
-    accepts c.requires _ _ _ _ _ c.changed.ensures refl (
+    accepts c.requires _ _ refl _ _ _ c.changed.ensures (
       next,
       exit_follows h g.call.seat _ t pid local c.tell_exit.new.links.items c.in_ok-changes.changes.items told next _ (λ x f q. refl) c.leave_all.new.scopes.items c.leave_all.ensures c.exit.new.self c.exit.ensures.spawned c.exit.ensures.live (c.exit.ensures.count living),
     )

@@ -1,5 +1,5 @@
 use Rattle.node_core.proofs.Words.{refl}
-use Rattle.node_core.proofs.Answering.{accepts, gave_up, wanted}
+use Rattle.node_core.proofs.Answering.{accepts, failed, wanted}
 use Rattle.node_core.proofs.MessagePlaces.{IsUpHere, up_here}
 use Rattle.node_core.proofs.Moved.{unmoved}
 use Rattle.node_core.proofs.MessageRefused.{rows_from, joined_from, left_from, all_of_peer, peer_is, has_peer}
@@ -21,11 +21,9 @@ unreachable-requires g c = has_peer (up_at g (goal.at.unreachable-requires g c).
 pub returns-in_err-frames-in-Discover : goal.returns-in_err-frames-in-Discover
 returns-in_err-frames-in-Discover g c = λ body says.
     let t = c.requires.on.link.called.keeps.follows in
-    wanted _ _ _ (record {
-      opening = c.requires.on.link.called.keeps.opening;
-      follows = follows_with t (same_scope t c.in-Discover.scope (rw c.in-Discover.is at c.requires.there) c.index_mut-running.ensures.value c.in_err-frames-in-Discover.ensures.same)
-          (roomed_links t c.args.number c.requires.on.up c.requires.on.link.here c.index_mut-link.ensures.value c.in_err-frames-in-Discover.ensures.roomy);
-    }) _ c.from_residual.ensures.1
+    wanted c.requires.on.link.called _ _ refl
+    (follows_with t (same_scope t c.in-Discover.scope (rw c.in-Discover.is at c.requires.there) c.index_mut-running.ensures.value c.in_err-frames-in-Discover.ensures.same)
+    (roomed_links t c.args.number c.requires.on.up c.requires.on.link.here c.index_mut-link.ensures.value c.in_err-frames-in-Discover.ensures.roomy)) _ c.from_residual.ensures.1
 
 pub returns-in_ok-frames-in-Discover : goal.returns-in_ok-frames-in-Discover
 returns-in_ok-frames-in-Discover g c = λ body says.
@@ -34,7 +32,7 @@ returns-in_ok-frames-in-Discover g c = λ body says.
     let there = rw c.in-Discover.is at c.requires.there in
     let holds = rw c.in-Discover.is at c.requires.holds in
     let made_ready = c.in_ok-frames-in-Discover.ensures in
-    accepts c.requires.on.link.called _ _ _ _ _ c.done.ensures refl (
+    accepts c.requires.on.link.called _ _ refl _ _ _ c.done.ensures (
       discovered_next t g.call.seat c.args.number body c.requires.on.link.called.space c.requires.on.up c.requires.on.link.here c.index_mut-link.ensures.value c.in-Discover.scope c.ready_to_answer.new.running there c.index_mut-running.ensures.value said holds,
       answered_follows t g.call.seat c.args.number body c.requires.on.link.called.space c.requires.on.up c.requires.on.link.here c.index_mut-link.ensures.value c.in-Discover.scope c.ready_to_answer.new.running there c.index_mut-running.ensures.value said holds
           made_ready.told c.index_mut-running.ensures.value made_ready.frames made_ready.roomy c.owe.ensures.owed,
@@ -50,13 +48,11 @@ hear_rows-requires-clause-of_peer g c =
 pub returns-in_err-changes-in-Sync : goal.returns-in_err-changes-in-Sync
 returns-in_err-changes-in-Sync g c = λ body says.
     let t = c.requires.on.link.called.keeps.follows in
-    wanted _ _ _ (record {
-      opening = c.requires.on.link.called.keeps.opening;
-      follows = follows_with t (same_scope t c.in-Sync.scope (rw c.in-Sync.is at c.requires.there) c.index_mut-running.ensures.value c.in_err-changes-in-Sync.ensures.same) t.links;
-    }) _ c.from_residual-in_err-changes-in-Sync.ensures.1
+    wanted c.requires.on.link.called _ _ refl
+    (follows_with t (same_scope t c.in-Sync.scope (rw c.in-Sync.is at c.requires.there) c.index_mut-running.ensures.value c.in_err-changes-in-Sync.ensures.same) t.links) _ c.from_residual-in_err-changes-in-Sync.ensures.1
 
 pub returns-in_ok-changes-in-Sync : goal.returns-in_ok-changes-in-Sync
-returns-in_ok-changes-in-Sync g c = λ body says. accepts c.requires.on.link.called _ _ _ _ _ (rw c.in_ok-changes-in-Sync.ensures.change.changes at c.changed.ensures) refl
+returns-in_ok-changes-in-Sync g c = λ body says. accepts c.requires.on.link.called _ _ refl _ _ _ (rw c.in_ok-changes-in-Sync.ensures.change.changes at c.changed.ensures)
     (synced c.requires.on.link.called.keeps.follows g.call.seat c.args.number body c.requires.on.link.called.space c.requires.on.up c.requires.on.link.here c.index.ensures c.in-Sync.scope c.hear_rows.new.running (rw c.in-Sync.is at c.requires.there) c.index_mut-running.ensures.value c.in-Some.ensures
     c.in-Sync.rows (rw c.in-Sync.is at says) (rw c.in-Sync.is at c.requires.holds) c.in_ok-changes-in-Sync.ensures.change.groups c.in_ok-changes-in-Sync.ensures.ok c.in_ok-changes-in-Sync.ensures.change.difference)
 
@@ -70,14 +66,14 @@ add_rows-requires g c =
 pub returns-in_err-changes-in-Join : goal.returns-in_err-changes-in-Join
 returns-in_err-changes-in-Join g c = λ body says.
     let t = c.requires.on.link.called.keeps.follows in
-    let failed = c.in_err-changes-in-Join.ensures in
-    gave_up
-    (record { keeps = record { opening = c.requires.on.link.called.keeps.opening; follows = unmoved t c.args.at c.index_mut-running.ensures.value failed.same refl }; space = c.requires.on.link.called.space }) _ c.in_err-changes-in-Join.field-0.0
+    let why = c.in_err-changes-in-Join.ensures in
+    failed c.requires.on.link.called _ _ refl
+    (unmoved t c.args.at c.index_mut-running.ensures.value why.same refl) c.in_err-changes-in-Join.field-0.0
     (added_calm t g.call.seat c.args.number body c.requires.on.link.called.space c.requires.on.up c.requires.on.link.here c.index.ensures c.in-Join.scope c.add_rows.new.running (rw c.in-Join.is at c.requires.there) c.index_mut-running.ensures.value c.in-Some.ensures
-    c.in-Join.rows (rw c.in-Join.is at says) (rw c.in-Join.is at c.requires.holds) c.in_err-changes-in-Join.field-0.0 failed.refused) _ c.from_residual-in_err-changes-in-Join.ensures.1
+    c.in-Join.rows (rw c.in-Join.is at says) (rw c.in-Join.is at c.requires.holds) c.in_err-changes-in-Join.field-0.0 why.refused) _ c.from_residual-in_err-changes-in-Join.ensures.1
 
 pub returns-in_ok-changes-in-Join : goal.returns-in_ok-changes-in-Join
-returns-in_ok-changes-in-Join g c = λ body says. accepts c.requires.on.link.called _ _ _ _ _ (rw c.in_ok-changes-in-Join.ensures.change.changes at c.changed-in-Join.ensures) refl
+returns-in_ok-changes-in-Join g c = λ body says. accepts c.requires.on.link.called _ _ refl _ _ _ (rw c.in_ok-changes-in-Join.ensures.change.changes at c.changed-in-Join.ensures)
     (added c.requires.on.link.called.keeps.follows g.call.seat c.args.number body c.requires.on.link.called.space c.requires.on.up c.requires.on.link.here c.index.ensures c.in-Join.scope c.add_rows.new.running (rw c.in-Join.is at c.requires.there) c.index_mut-running.ensures.value c.in-Some.ensures
     c.in-Join.rows (rw c.in-Join.is at says) (rw c.in-Join.is at c.requires.holds) c.in_ok-changes-in-Join.ensures.limits c.in_ok-changes-in-Join.ensures.change.groups c.in_ok-changes-in-Join.ensures.ok c.in_ok-changes-in-Join.ensures.change.difference)
 
@@ -91,20 +87,20 @@ take_rows-requires g c =
 pub returns-in_err-changes-in-Leave : goal.returns-in_err-changes-in-Leave
 returns-in_err-changes-in-Leave g c = λ body says.
     let t = c.requires.on.link.called.keeps.follows in
-    let failed = c.in_err-changes-in-Leave.ensures in
-    gave_up
-    (record { keeps = record { opening = c.requires.on.link.called.keeps.opening; follows = unmoved t c.args.at c.index_mut-running.ensures.value failed.same refl }; space = c.requires.on.link.called.space }) _ c.in_err-changes-in-Leave.field-0.0
+    let why = c.in_err-changes-in-Leave.ensures in
+    failed c.requires.on.link.called _ _ refl
+    (unmoved t c.args.at c.index_mut-running.ensures.value why.same refl) c.in_err-changes-in-Leave.field-0.0
     (taken_calm t g.call.seat c.args.number body c.requires.on.link.called.space c.requires.on.up c.requires.on.link.here c.index.ensures c.in-Leave.scope c.take_rows.new.running (rw c.in-Leave.is at c.requires.there) c.index_mut-running.ensures.value
-    c.in-Leave.rows (rw c.in-Leave.is at says) (rw c.in-Leave.is at c.requires.holds) c.in_err-changes-in-Leave.field-0.0 failed.refused) _ c.from_residual-in_err-changes-in-Leave.ensures.1
+    c.in-Leave.rows (rw c.in-Leave.is at says) (rw c.in-Leave.is at c.requires.holds) c.in_err-changes-in-Leave.field-0.0 why.refused) _ c.from_residual-in_err-changes-in-Leave.ensures.1
 
 pub returns-in_ok-changes-in-Leave : goal.returns-in_ok-changes-in-Leave
-returns-in_ok-changes-in-Leave g c = λ body says. accepts c.requires.on.link.called _ _ _ _ _ (rw c.in_ok-changes-in-Leave.ensures.change.changes at c.changed-in-Leave.ensures) refl
+returns-in_ok-changes-in-Leave g c = λ body says. accepts c.requires.on.link.called _ _ refl _ _ _ (rw c.in_ok-changes-in-Leave.ensures.change.changes at c.changed-in-Leave.ensures)
     (taken c.requires.on.link.called.keeps.follows g.call.seat c.args.number body c.requires.on.link.called.space c.requires.on.up c.requires.on.link.here c.index.ensures c.in-Leave.scope c.take_rows.new.running (rw c.in-Leave.is at c.requires.there) c.index_mut-running.ensures.value c.in-Some.ensures
     c.in-Leave.rows (rw c.in-Leave.is at says) (rw c.in-Leave.is at c.requires.holds) c.in_ok-changes-in-Leave.ensures.only c.in_ok-changes-in-Leave.ensures.change.groups c.in_ok-changes-in-Leave.ensures.ok c.in_ok-changes-in-Leave.ensures.change.difference)
 
 -- ---- a Down
 
 pub returns-in_ok-changes-in-Down : goal.returns-in_ok-changes-in-Down
-returns-in_ok-changes-in-Down g c = λ body says. accepts c.requires.on.link.called _ _ _ _ _ (rw c.in_ok-changes-in-Down.ensures.changes at c.changed-in-Down.ensures) refl
+returns-in_ok-changes-in-Down g c = λ body says. accepts c.requires.on.link.called _ _ refl _ _ _ (rw c.in_ok-changes-in-Down.ensures.changes at c.changed-in-Down.ensures)
     (downed c.requires.on.link.called.keeps.follows g.call.seat c.args.number body c.requires.on.link.called.space c.requires.on.up c.requires.on.link.here c.index.ensures c.in-Down.scope c.cut_off.new.running (rw c.in-Down.is at c.requires.there) c.index_mut-running.ensures.value c.in-Some.ensures
     (rw c.in-Down.is at says) (rw c.in-Down.is at c.requires.holds) c.in_ok-changes-in-Down.ensures.groups c.cut_off.ensures c.index_mut-running.ensures.value c.in_ok-changes-in-Down.ensures.difference)

@@ -22,4 +22,4 @@ returns g c =
     let next = quiet_next h g.call.seat (Reply.Groups c.in_ok-groups.groups) (Event.Groups scope) c.requires.space runs (ap Reply.Groups (sym list)) refl in
     let r = c.index_mut.result.now in
     let still = unmoved t c.in-Some.place c.index_mut.ensures.value (λ i. record { scope = r.scope; table = c.in_ok-groups.ensures.same i; heard = r.heard; told = r.told }) refl in
-    accepts c.requires _ _ _ _ _ c.in_ok-with.ensures refl (next, query_follows h g.call.seat (Reply.Groups c.in_ok-groups.groups) _ still (Event.Groups scope) refl next)
+    accepts c.requires _ _ refl _ _ _ c.in_ok-with.ensures (next, query_follows h g.call.seat (Reply.Groups c.in_ok-groups.groups) _ still (Event.Groups scope) refl next)

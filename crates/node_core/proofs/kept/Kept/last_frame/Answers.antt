@@ -21,16 +21,12 @@ held g c = record {
 }
 
 pub returns-in_err-make_room : goal.returns-in_err-make_room
-returns-in_err-make_room g c = wanted _ _ _ (record {
-  opening = c.requires.link.called.keeps.opening;
-  follows = room_follows c.requires.link.called.keeps.follows c.args.number c.requires.link.here c.index_mut.ensures.value c.make_room.ensures.same;
-}) _ c.from_residual.ensures.1
+returns-in_err-make_room g c = wanted c.requires.link.called _ _ refl
+    (room_follows c.requires.link.called.keeps.follows c.args.number c.requires.link.here c.index_mut.ensures.value c.make_room.ensures.same) _ c.from_residual.ensures.1
 
 pub returns-in_err-arrival : goal.returns-in_err-arrival
-returns-in_err-arrival g c = wanted _ _ _ (record {
-  opening = c.requires.link.called.keeps.opening;
-  follows = room_follows c.requires.link.called.keeps.follows c.args.number c.requires.link.here c.index_mut.ensures.value c.make_room.ensures.same;
-}) _ c.from_residual-in_err-arrival.ensures.1
+returns-in_err-arrival g c = wanted c.requires.link.called _ _ refl
+    (room_follows c.requires.link.called.keeps.follows c.args.number c.requires.link.here c.index_mut.ensures.value c.make_room.ensures.same) _ c.from_residual-in_err-arrival.ensures.1
 
 pub arrival_of-requires : goal.arrival_of-requires
 arrival_of-requires g c =
@@ -68,19 +64,17 @@ returns-in-Up g c =
     let hears = rw c.as_slice.ensures at c.in-Up.ensures in
     let lost = rw c.in_ok-arrival.ensures.known at c.in_ok-arrival.ensures.changes in
     let answer = c.up_reply-reply.ensures ∙ ap (λ n. Reply.Up n c.in-Up.up.creation c.in-Up.up.visible) c.in_ok-arrival.ensures.copy in
-    accepts c.requires.link.called _ _ _ _ _ c.both.ensures refl (
+    accepts c.requires.link.called _ _ refl _ _ _ c.both.ensures (
       last_next t g.call.seat c.args.body.now held c.requires.last nobody c.in-Up.up c.in-Up.frames hears c.index.ensures c.in_ok-arrival.ensures.known answer c.in_ok-arrival.arrival.changes.items c.deref.ensures.value lost,
       last_came_up t g.call.seat c.args.body.now held c.requires.last nobody c.in-Up.up c.in-Up.frames hears c.index.ensures c.in_ok-arrival.ensures.known answer c.in_ok-arrival.arrival.changes.items c.deref.ensures.value lost
           c.settle.new.links.items c.in_ok-arrival.ensures.discovers c.settle.ensures.links c.settle.new.scopes.items c.settle.ensures.scopes,
     )
 
 pub returns-in-Ended : goal.returns-in-Ended
-returns-in-Ended g c = ends c.requires.link.called _ _ _ refl
+returns-in-Ended g c = ends c.requires.link.called _ _ refl _
     (last_broke c.requires.link.called.keeps.follows g.call.seat c.args.body.now (held g (goal.at.returns-in-Ended g c).After-replace-state) c.requires.last
     nobody c.in-Ended.rule c.in-Ended.frames (rw c.as_slice.ensures at c.in-Ended.ensures) c.end.new.links.items c.end.ensures)
 
 pub returns-in-OutOfMemory : goal.returns-in-OutOfMemory
-returns-in-OutOfMemory g c = wants _ _ _ (record {
-  opening = c.requires.link.called.keeps.opening;
-  follows = held_restored c.requires.link.called.keeps.follows (held g (goal.at.returns-in-OutOfMemory g c).After-replace-state) c.index_mut-in-OutOfMemory.ensures.value c.in-OutOfMemory.ensures c.set_state.ensures;
-})
+returns-in-OutOfMemory g c = wants c.requires.link.called _ _ refl
+    (held_restored c.requires.link.called.keeps.follows (held g (goal.at.returns-in-OutOfMemory g c).After-replace-state) c.index_mut-in-OutOfMemory.ensures.value c.in-OutOfMemory.ensures c.set_state.ensures)

@@ -1,5 +1,5 @@
 use Rattle.node_core.proofs.Words.{sym, refl, ◌∙◌, link_words, Rule}
-use Rattle.node_core.proofs.Answering.{accepts, refuses, gave_up}
+use Rattle.node_core.proofs.Answering.{accepts, refuses, failed}
 use Rattle.node_core.proofs.Moved.{unmoved}
 use Rattle.node_core.proofs.MessagePlaces.{runs_here, stopped_here}
 use Rattle.node_core.proofs.Told.{follow_idle}
@@ -22,13 +22,13 @@ pub leave_one-requires-clause-idle : goal.leave_one-requires-clause-idle
 leave_one-requires-clause-idle g c = follow_idle (link_words g.call.past) c.args.self.now.links.items c.requires.keeps.follows.links.each
 
 pub returns-in_err-changes : goal.returns-in_err-changes
-returns-in_err-changes g c = gave_up
-    (record { keeps = record { opening = c.requires.keeps.opening; follows = unmoved c.requires.keeps.follows c.in-Some.place c.index_mut.ensures.value c.in_err-changes.ensures.same.0 c.in_err-changes.ensures.same.1 }; space = c.requires.space }) _ c.in_err-changes.field-0.0
+returns-in_err-changes g c = failed c.requires _ _ refl
+    (unmoved c.requires.keeps.follows c.in-Some.place c.index_mut.ensures.value c.in_err-changes.ensures.same.0 c.in_err-changes.ensures.same.1) c.in_err-changes.field-0.0
     (leave_calm g.call.seat c.requires.keeps.follows c.args.scope.now c.args.group.now c.args.pids.now (sym (rw c.deref.ensures.value at c.in-Some.ensures)) c.index_mut.ensures.value
     (sym (rw c.as_slice-pids.ensures at c.are_local.ensures) ∙ c.if-not-are_local.false) c.in_err-changes.field-0.0 (rw c.as_slice-pids.ensures at c.in_err-changes.ensures.refused)) _ c.from_residual.ensures.1
 
 pub returns : goal.returns
-returns g c = accepts c.requires _ _ _ _ _ c.changed.ensures refl
+returns g c = accepts c.requires _ _ refl _ _ _ c.changed.ensures
     (left g.call.seat c.requires.keeps.follows c.args.scope.now c.args.group.now c.args.pids.now (sym (rw c.deref.ensures.value at c.in-Some.ensures)) c.index_mut.ensures.value
     c.leave_one.new.running c.leave_one.new.links.items c.in_ok-changes.changes.items (rw c.as_slice-pids.ensures at c.in_ok-changes.ensures.left) c.requires.space
     (sym (rw c.as_slice-pids.ensures at c.are_local.ensures) ∙ c.if-not-are_local.false) (rw c.as_slice-pids.ensures at c.in_ok-changes.ensures.some))

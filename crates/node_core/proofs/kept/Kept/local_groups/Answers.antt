@@ -19,4 +19,4 @@ returns g c =
     let runs = ap (λ b. cond (not b) (Some Rule.NoScope) None) (runs_here t scope c.in-Some.place placed) in
     let list = c.in_ok-groups.ensures ∙ local_groups_are h scope c.index.result.now there.named there.running t.sound.legal _ c.in_ok-local_groups.ensures in
     let next = quiet_next h g.call.seat (Reply.Groups c.in_ok-groups.groups) (Event.LocalGroups scope) c.requires.space runs (ap Reply.Groups (sym list)) refl in
-    accepts c.requires _ _ _ _ _ c.in_ok-with.ensures refl (next, query_follows h g.call.seat (Reply.Groups c.in_ok-groups.groups) _ t (Event.LocalGroups scope) refl next)
+    accepts c.requires _ _ refl _ _ _ c.in_ok-with.ensures (next, query_follows h g.call.seat (Reply.Groups c.in_ok-groups.groups) _ t (Event.LocalGroups scope) refl next)

@@ -19,4 +19,4 @@ returns g c =
     let runs = ap (λ b. cond (not b) (Some Rule.NoScope) None) (runs_here t scope c.in-Some.place placed) in
     let list = c.in_ok-pids.ensures ∙ local_members_are h scope c.index.result.now there.named there.running t.sound.legal c.args.group.now _ c.in_ok-local_members.ensures.value in
     let next = quiet_next h g.call.seat (Reply.Pids c.in_ok-pids.pids) (Event.LocalMembers scope c.args.group.now) c.requires.space runs (ap Reply.Pids (sym list)) refl in
-    accepts c.requires _ _ _ _ _ c.in_ok-with.ensures refl (next, query_follows h g.call.seat (Reply.Pids c.in_ok-pids.pids) _ t (Event.LocalMembers scope c.args.group.now) refl next)
+    accepts c.requires _ _ refl _ _ _ c.in_ok-with.ensures (next, query_follows h g.call.seat (Reply.Pids c.in_ok-pids.pids) _ t (Event.LocalMembers scope c.args.group.now) refl next)

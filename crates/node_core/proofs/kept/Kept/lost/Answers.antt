@@ -21,7 +21,7 @@ returns g c =
     let lost = subst (λ x. AreLost (up_peer x.state) scopes c.in_ok-changes.changes.items) c.index.ensures (rw c.deref-2.ensures.value at c.in_ok-changes.ensures) in
     let cuts = subst (λ x. AreCut x.number (up_peer x.state) scopes c.cut_link.new.scopes.items) (c.index-2.ensures ∙ same_at links c.in-Some.place c.index-2.result.now c.index.result.now within) c.cut_link.ensures in
     let next = lost_next h g.call.seat c.args.number c.in_ok-changes.changes.items _ t c.in-Some.place c.index.result.now found c.requires.space lost in
-    accepts c.requires _ _ _ _ _ c.changed.ensures refl (
+    accepts c.requires _ _ refl _ _ _ c.changed.ensures (
       next,
       rw c.remove.ensures
           (lost_follows h g.call.seat c.args.number c.in_ok-changes.changes.items _ t c.in-Some.place c.index.result.now found next c.cut_link.new.scopes.items cuts),

@@ -25,7 +25,7 @@ returns g c =
     let all = c.in_ok-pids.ensures ∙ members_are h scope c.index.result.now there.named there.running group _ c.in_ok-members.ensures in
     let reply = Reply.Ref c.args.number c.in_ok-pids.pids in
     let next = quiet_next h g.call.seat reply (Event.Monitor scope group) c.requires.called.space runs (sym (λ i. Reply.Ref (c.requires.number_is i) (all i))) refl in
-    accepts c.requires.called _ _ _ _ _ c.in_ok-answered.ensures refl (
+    accepts c.requires.called _ _ refl _ _ _ c.in_ok-answered.ensures (
       next,
       rw (c.in_ok-add_group.ensures.ok, c.in_ok-scope.ensures, c.in_ok-group.ensures, c.requires.seat_is)
           (group_watched h g.call.seat reply _ t scope group c.args.number c.requires.number_is next),

@@ -24,7 +24,7 @@ returns g c =
     let all = contents_are h scope c.index.result.now there.named there.running c.in_ok-groups.groups c.in_ok-groups.ensures.groups c.in_ok-groups.ensures.pids in
     let reply = Reply.ScopeRef c.args.number c.in_ok-groups.groups in
     let next = quiet_next h g.call.seat reply (Event.MonitorScope scope) c.requires.called.space runs (sym (λ i. Reply.ScopeRef (c.requires.number_is i) (all i))) refl in
-    accepts c.requires.called _ _ _ _ _ c.in_ok-answered.ensures refl (
+    accepts c.requires.called _ _ refl _ _ _ c.in_ok-answered.ensures (
       next,
       rw (c.in_ok-add_scope.ensures.ok, c.in_ok-scope.ensures, c.requires.seat_is)
           (scope_watched h g.call.seat reply _ t scope c.args.number c.requires.number_is next),

@@ -15,7 +15,7 @@ returns g c =
     let few : length c.args.self.now.links.items < 64 = omega arith in
     let fits = links_fit h c.args.self.now.links.items t.links few in
     let next = opened_next h t.sound.legal g.call.seat c.args.challenge c.args.number c.requires.1 c.requires.0.space fits in
-    accepts c.requires.0 _ _ _ _ _ c.linked.ensures refl (
+    accepts c.requires.0 _ _ refl _ _ _ c.linked.ensures (
       next,
       rw (c.push_reserved.ensures.items, c.in_ok-reserve.ensures.items, c.new-2.ensures, c.new-waiting.ensures.items)
           (opened_follows h t.sound.legal g.call.seat c.args.challenge c.args.number c.requires.1 next _ _ _ t (c.new-state.ensures ∙ c.new.ensures)),

@@ -12,7 +12,7 @@ returns g c =
     let t = c.requires.keeps.follows in
     let gone = rw c.deref.ensures.value at c.in_ok-changes.ensures in
     let next = anew_next h g.call.seat _ t c.in_ok-changes.changes.items gone c.requires.space (creation_left h g.call.seat c.creation.result (c.creation.ensures ∙ t.admission.creation) c.if-creation.false) in
-    accepts c.requires _ _ _ _ _ c.changed.ensures refl (
+    accepts c.requires _ _ refl _ _ _ c.changed.ensures (
       next,
       rw (c.in_ok-self.ensures, c.new.ensures, c.clear.ensures.items, c.clear-2.ensures.items, c.clear-3.ensures)
           (anew_follows h g.call.seat _ t c.in_ok-changes.changes.items gone next c.args.self.now.opening (c.creation-creation.result + 1) c.requires.keeps.opening (ap (λ (n : ℕ). n + 1) c.creation-creation.ensures)),

@@ -1,11 +1,11 @@
 use Rattle.node_core.proofs.Words.{None, Some, ap, cond, not, refl, Event, Reply, Rule}
-use Rattle.node_core.proofs.Answering.{accepts, gave_up}
+use Rattle.node_core.proofs.Answering.{accepts, failed}
 use Rattle.node_core.proofs.Cookies.{cookie_for_follows, cookie_calm, peers_fit}
 use Rattle.node_core.proofs.Calm.{quiet_next, set_cookie_for_follows}
 use Rattle.node_core.proofs.kept.Kept.set_cookie_for.Goals as goal
 
 pub returns-in_err-give_cookie : goal.returns-in_err-give_cookie
-returns-in_err-give_cookie g c = rw c.in_err-give_cookie.ensures.same (gave_up c.requires _ c.in_err-give_cookie.field-0.0
+returns-in_err-give_cookie g c = rw c.in_err-give_cookie.ensures.same (failed c.requires _ _ refl c.requires.keeps.follows c.in_err-give_cookie.field-0.0
     (cookie_calm g.call.past c.args.self.now.admission c.requires.keeps.follows.admission g.call.seat c.args.peer.now c.args.cookie.now c.in_err-give_cookie.field-0.0 c.in_err-give_cookie.ensures.refused) _ c.from_residual.ensures.1)
 
 pub returns : goal.returns
@@ -15,7 +15,7 @@ returns g c =
     let cookie = c.args.cookie.now in
     let fits = peers_fit g.call.past c.args.self.now.admission t.admission peer cookie (rw c.in_ok-give_cookie.ensures.ok at c.in_ok-give_cookie.ensures.limits) in
     let next = quiet_next g.call.past g.call.seat Reply.Done (Event.SetCookieFor peer cookie) c.requires.space (ap (λ b. cond (not b) (Some Rule.CookiesFull) None) fits) refl refl in
-    accepts c.requires _ _ _ _ _ c.done.ensures refl (
+    accepts c.requires _ _ refl _ _ _ c.done.ensures (
       next,
       rw c.in_ok-give_cookie.ensures.ok
           (set_cookie_for_follows _ g.call.seat Reply.Done _ t peer cookie _ next (cookie_for_follows g.call.past c.args.self.now.admission t.admission g.call.seat Reply.Done peer cookie)),

@@ -17,7 +17,7 @@ returns g c =
     let holds = ap (λ b. cond (not b) (Some Rule.PidsFull) None) (pids_fit h processes t.processes (sym c.is_full.ensures ∙ c.if-is_full.false)) in
     let is = spawn_answer h g.call.seat c.in_ok-try_clone.field-0 c.creation.result c.spawned.result (c.in_ok-try_clone.ensures ∙ ap (λ o. o.name) c.requires.keeps.opening) (c.creation.ensures ∙ t.admission.creation) (c.spawned.ensures ∙ t.processes.spawned) in
     let next = quiet_next h g.call.seat reply Event.Spawn c.requires.space holds is refl in
-    accepts c.requires _ _ _ _ _ c.in_ok-answered.ensures refl (
+    accepts c.requires _ _ refl _ _ _ c.in_ok-answered.ensures (
       next,
       spawn_follows h g.call.seat reply _ t c.spawn.new.self next
           (spawned_follow h processes t.processes g.call.seat reply c.spawn.new.self t.sound.legal next c.in_ok-spawn.ensures.spawned c.in_ok-spawn.ensures.live (c.in_ok-spawn.ensures.count (next_is_new h processes t.processes))),

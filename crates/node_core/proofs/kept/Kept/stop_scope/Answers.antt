@@ -14,7 +14,8 @@ pub tell_stop-requires : goal.tell_stop-requires
 tell_stop-requires g c = follow_idle (link_words g.call.past) c.args.self.now.links.items c.requires.keeps.follows.links.each
 
 pub returns-in_err-changes : goal.returns-in_err-changes
-returns-in_err-changes g c = wanted _ _ _ (record { opening = c.requires.keeps.opening; follows = alike_again g.call.past _ c.requires.keeps.follows c.tell_stop.new.links.items c.in_err-changes.ensures.same }) _ c.from_residual-in_err-changes.ensures.1
+returns-in_err-changes g c = wanted c.requires _ _ refl
+    (alike_again g.call.past _ c.requires.keeps.follows c.tell_stop.new.links.items c.in_err-changes.ensures.same) _ c.from_residual-in_err-changes.ensures.1
 
 pub returns : goal.returns
 returns g c =
@@ -26,7 +27,7 @@ returns g c =
     let runs = runs_here t scope c.in-Some.place placed in
     let groups = subst (λ f. IsDifference f no_count c.in_ok-groups.groups.items) (counts_listed h scope c.index.result.now there.named there.running) c.in_ok-groups.ensures in
     let next = stop_next h g.call.seat scope c.in_ok-groups.groups.items _ t runs groups c.requires.space in
-    accepts c.requires _ _ _ _ _ (rw c.in_ok-changes.ensures.change at c.changed.ensures) refl (
+    accepts c.requires _ _ refl _ _ _ (rw c.in_ok-changes.ensures.change at c.changed.ensures) (
       next,
       rw (c.take_out.ensures, c.drop_scope.ensures.dropped)
           (stop_follows h g.call.seat scope c.in_ok-groups.groups.items _ t runs groups next c.tell_stop.new.links.items c.in_ok-changes.ensures.told),

@@ -22,7 +22,7 @@ returns g c =
     let next = taken_next h g.call.seat c.args.number c.hand_over-frames.result _ t c.in-Some.place c.index_mut.result.now found c.requires.space handed in
     let new = c.hand_over-frames.ensures.left ∙ ap (λ x. emptied x c.hand_over-frames.new.self.room) c.index_mut.ensures.value in
     let same = get_or-set_same links c.in-Some.place c.hand_over-frames.new.self c.index_mut.result.now within in
-    accepts c.requires _ _ _ _ _ (rw c.new-nothing.ensures.items at c.both.ensures) refl (
+    accepts c.requires _ _ refl _ _ _ (rw c.new-nothing.ensures.items at c.both.ensures) (
       next,
       rw (c.drop_ended.ensures c.index_mut.result.now)
           (taken_follows h g.call.seat c.args.number c.hand_over-frames.result _ t c.in-Some.place c.index_mut.result.now found next c.hand_over-frames.new.self _ c.hand_over-frames.new.self.room new same),

@@ -25,4 +25,4 @@ returns g c =
     let some = told_one (updates_behind h.entries) (monitor_of monitors g.call.seat c.args.number) c.in-Ok.updates behind in
     let place : c.args.place ≡ length (answered h g.call.seat (Event.Updates c.args.number) reply).entries = (let is = c.requires.0.number_is in omega (arith, is)) in
     let moved = advanced c.advance_to.result (monitor_of monitors g.call.seat c.args.number) (with_place g.call.seat c.args.number c.args.place monitors) c.advance_to.new.self some (rw c.requires.0.seat_is at c.advance_to.ensures.ok) (rw c.requires.0.seat_is at c.advance_to.ensures.refused) in
-    accepts c.requires.0.called _ _ _ _ _ c.in_ok-answered.ensures refl (next, rw (moved, place) (fetched h g.call.seat reply _ t c.args.number next))
+    accepts c.requires.0.called _ _ refl _ _ _ c.in_ok-answered.ensures (next, rw (moved, place) (fetched h g.call.seat reply _ t c.args.number next))
