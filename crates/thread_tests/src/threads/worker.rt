@@ -61,11 +61,12 @@ impl Read for Sent {
     }
 }
 
-/// Takes so many bytes a write.
+/// Takes so many bytes a write, and fails where it has taken as many as it ever takes.
 #[derive(Drop)]
 struct Wire<'a> {
     taken: Vec<u8>,
     step: usize,
+    most: usize,
     told: &'a Told,
 }
 
@@ -99,6 +100,7 @@ impl<'a> Wire<'a> {
         Wire {
             taken: Vec::new(alloc),
             step,
+            most: OWED.len(),
             told,
         }
     }
@@ -106,7 +108,11 @@ impl<'a> Wire<'a> {
 
 impl Write for Wire<'_> {
     fn write(&mut self, buf: &[u8]) -> io::Result<usize> {
-        let count = buf.len().min(self.step);
+        let room = self.most.saturating_sub(self.taken.len());
+        if room == 0 {
+            return Err(io::Error::from(ErrorKind::BrokenPipe));
+        }
+        let count = buf.len().min(self.step).min(room);
         if self.taken.extend_from_slice(&buf[..count]).is_err() {
             return Err(io::Error::from(ErrorKind::OutOfMemory));
         }
@@ -285,18 +291,17 @@ struct Ends {
     written: WriteEnd,
 }
 
-/// Serves the link with both workers, over writes of so many bytes.
+/// Serves the link with both workers, over these ends.
 fn serve<R: Threads + Wait + Sync>(
     rt: &R,
     alloc: Global,
-    told: &Told,
-    step: usize,
+    sent: Sent,
+    wire: Wire<'_>,
 ) -> Option<Ends> {
     let (node, mut passes) = with_link(rt, alloc, 100)?;
     let writer = passes.pop()?;
     let reader = passes.pop()?;
-    let wire = Wire::by(alloc, step, told);
-    let served = serve_with(rt, alloc, &node, reader, writer, wire);
+    let served = serve_with(rt, alloc, &node, reader, writer, sent, wire);
     ended(node, served, passes)
 }
 
@@ -306,13 +311,13 @@ fn serve_with<R: Threads + Wait + Sync>(
     node: &Node,
     reader: Pass,
     writer: Pass,
+    sent: Sent,
     wire: Wire<'_>,
 ) -> Served {
     let gate = Holding {
         reads: AtomicU64::new(0),
         told: wire.told,
     };
-    let sent = Sent::by(4096);
     serve_link(rt, alloc, node, 1, reader, writer, sent, wire, &gate)
 }
 
@@ -338,8 +343,26 @@ fn both_workers_serve_a_link(rt: HostRuntime) {
     };
     for step in [4096, 7, 1] {
         let told = Told::new();
-        assert_eq!(rt; serve(&rt, rt.alloc(), &told, step), Some(wanted));
+        let wire = Wire::by(rt.alloc(), step, &told);
+        assert_eq!(rt; serve(&rt, rt.alloc(), Sent::by(4096), wire), Some(wanted));
         assert!(rt; told.has_all());
+        assert!(rt; told.is_hung_up());
+    }
+}
+
+/// The writer fails while the reader waits for the reply: it gives the link up and hangs up, and the reply meets no link.
+#[test]
+fn a_failed_write_ends_both_workers(rt: HostRuntime) {
+    let wanted = Ends {
+        read: ReadEnd::Gone,
+        written: WriteEnd::WriteFault,
+    };
+    for most in [0usize, 1, 5, 28] {
+        let told = Told::new();
+        let mut wire = Wire::by(rt.alloc(), 4096, &told);
+        wire.most = most;
+        assert_eq!(rt; serve(&rt, rt.alloc(), Sent::by(20), wire), Some(wanted));
+        assert!(rt; !told.has_all());
         assert!(rt; told.is_hung_up());
     }
 }
