@@ -2,16 +2,14 @@
 use Rattle.node_core.proofs.Words.{Bool, List, None, Option, Some, ap, cond, false, get_or, length, not, refl, set, subst, sym, true, ℕ, [], ◌&&◌}
 use Rattle.node_core.proofs.Words.{◌++◌, ◌<◌, ◌==◌, ◌∙◌, ◌≡◌, eq-eqb, eqb-true, is_empty, StateRule, no_change, and_false, flip, checks, first_broken}
 use Rattle.node_core.proofs.Words.{History, is_open, OutFrame, refusal_owes, waiting, running_scopes, IsNext, is_full, with_entry, is_whole, Entry}
-use Rattle.node_core.proofs.Words.{Refused, Rule, Follows, Parts, HaveEnded, moved_on, without_link, rule_of, LinksFollow, facts, kept_numbers}
+use Rattle.node_core.proofs.Words.{Refused, Rule, Follows, Parts, moved_on, without_link, rule_of, LinksFollow, facts, kept_numbers}
 use Rattle.node_core.proofs.Words.{link_words, KeptLink, narrow_frames, ScopesFollow, scope_words, refusal_frames, entry_rows, Event, LinkState}
 use Rattle.node_core.proofs.Words.{and-true}
 use Rattle.policy_audit.proofs.HeardNow.{refused_heard}
 use Rattle.policy_audit.proofs.LinkFrames.{refused_links}
 use Rattle.policy_audit.proofs.LinksLeft.{refused_numbers}
-use Rattle.node_core.proofs.Emptied.{IsEmptied, moved_from}
 use Rattle.node_core.proofs.Entered.{step_follows, made, next_now, refused_now}
 use Rattle.node_core.proofs.FrameFacts.{same_stay}
-use Rattle.node_core.proofs.KeptOn.{each_at}
 use Rattle.node_core.proofs.MovedOn.{AreMoves, stays_but, moved_follow}
 
 -- what a rule of the handshake is owed
@@ -68,11 +66,7 @@ module _ (h : History) (seat j : ℕ) (body : List ℕ) (r : Rule) where
       refused_follow : (room : ℕ) → LinksFollow (link_words k) (without_link gone (set parts.links p (moved_on LinkState.Ended more room (get_or parts.links p d))))
       refused_follow room = moved_follow h k t.sound.legal j LinkState.Ended more gone refused_moves parts.links t.links p d less is room
 
-      pub refused_follows : IsNext h e → (out_room : ℕ) (old new : List KeptLink) → IsEmptied parts.links p out_room old → (frames : List (List ℕ)) → narrow_frames frames ≡ more → HaveEnded p frames old new → Follows k (record parts { links = new })
-      refused_follows next out_room old new out frames these ends = step_follows t next refl t.admission t.processes
+      pub refused_follows : IsNext h e → (room : ℕ) (new : List KeptLink) → new ≡ without_link gone (set parts.links p (moved_on LinkState.Ended more room (get_or parts.links p d))) → Follows k (record parts { links = new })
+      refused_follows next room new is_so = step_follows t next refl t.admission t.processes
           (subst (λ w. ScopesFollow w parts.scopes) (sym refused_scopes) t.scopes)
-          (let was = each_at _ parts.links p d t.links.each less in
-          subst (LinksFollow (link_words k)) (sym (
-          moved_from parts.links p less out_room old out (λ x. x.state) (narrow_frames frames) _ new ends d
-          ∙ (λ i. without_link (cond (is_empty ((was.frames ∙ ap (waiting h) is) i ++ these i)) (Some (is i)) None) (set parts.links p (moved_on LinkState.Ended (these i) ends.room (get_or parts.links p d))))))
-          (refused_follow ends.room))
+          (subst (LinksFollow (link_words k)) (sym is_so) (refused_follow room))

@@ -1,21 +1,42 @@
--- A link with room for frames, whose state is held apart while a frame is heard.
-use Rattle.node_core.proofs.Words.{is_full, is_open, true, false, List, Some, ap, get_or, length, nat_eq, position, refl, set, subst, sym, ℕ, ◌<◌}
-use Rattle.node_core.proofs.Words.{◌∙◌, ◌≡◌, ◌≤◌, get_or-set_same, set-set, kept_climbs, History, Follows, Parts, IsLinkOf, IsState, facts}
-use Rattle.node_core.proofs.Words.{link_words, KeptLink, with_room, LinkState, IsReady}
-use Rattle.node_core.proofs.Emptied.{IsEmptied, taken_out, ready}
+-- A link that is taken out of the kept ones, and apart from its state, while it hears a frame.
+use Rattle.node_core.proofs.Words.{is_full, is_open, true, false, Bool, List, None, Option, Some, ap, arith, cond, find, get_or, length, nat_eq, position}
+use Rattle.node_core.proofs.Words.{refl, set, subst, suc, sym, zero, ℕ, [], ◌∷◌, ◌<◌, ◌∙◌, ◌≡◌, ◌≤◌, ◌++◌, get_or-set_same, option_map, option_map_or}
+use Rattle.node_core.proofs.Words.{kept_climbs, same, is_empty, History, Follows, Parts, IsLinkOf, IsState, facts, link_words}
+use Rattle.node_core.proofs.Words.{KeptLink, StatelessLink, in_state, with_room, LinkState, IsReady, HaveMoved, OutFrame, moved_on, without_link, waiting, narrow_frames, HaveEnded}
+use Rattle.node_core.proofs.Words.{dial_beside, dialled_peer, up_peer, older_of}
+use Rattle.std.specs.List.{insert, remove}
 use Rattle.node_core.proofs.HeardFrames.{is_there, link_there, state_there}
 use Rattle.node_core.proofs.KeptOn.{each_at, one_follows}
 
--- link j is open and stands at a place as v, w with more room, and last without its state s; and an entry has room
-pub record IsHeld (h : History) (kept : List KeptLink) (j p : ℕ) (v w next last : KeptLink) (s : LinkState) : Type 0 where
+-- ---- an element that is taken out
+
+put_back : {A : Type 0} (xs : List A) (p : ℕ) (y : A) → p < length xs → insert (remove xs p) p y ≡ set xs p y
+put_back [] p y less = absurd (omega (arith, less))
+put_back (x ∷ xs) zero y less = refl
+put_back (x ∷ xs) (suc p) y less = ap (λ ys. x ∷ ys) (put_back xs p y (omega (arith, less)))
+
+changed_before : {A : Type 0} (xs : List A) (p : ℕ) (y : A) → remove (set xs p y) p ≡ remove xs p
+changed_before [] p y = refl
+changed_before (x ∷ xs) zero y = refl
+changed_before (x ∷ xs) (suc p) y = ap (λ ys. x ∷ ys) (changed_before xs p y)
+
+found_beside : {A : Type 0} (test : A → Bool) (xs : List A) (p : ℕ) (d : A) → p < length xs → test (get_or xs p d) ≡ false → find test (remove xs p) ≡ find test xs
+found_beside test [] p d less q = absurd (omega (arith, less))
+found_beside test (x ∷ xs) zero d less q = ap (λ b. cond b (Some x) (find test xs)) (sym q)
+found_beside test (x ∷ xs) (suc p) d less q = ap (cond (test x) (Some x)) (found_beside test xs p d (omega (arith, less)) q)
+
+-- ---- a link that is taken out
+
+-- link j is open and stands at a place as v, w with more room; it is taken out, and apart from its state s; and an entry has room
+pub record IsHeld (h : History) (kept : List KeptLink) (j p : ℕ) (v w out : KeptLink) (s : LinkState) (link : StatelessLink) (left : List KeptLink) : Type 0 where
   pub space : is_full h ≡ false
   pub opens : is_open j h.entries ≡ true
   pub at : position (λ x. nat_eq x.number j) kept ≡ Some p
   pub first : v ≡ get_or kept p v
   pub roomy : w ≡ with_room v w.room
-  pub then : next ≡ get_or (set kept p w) p next
-  pub emptied : last ≡ record next { state = LinkState.Ended }
-  pub state : s ≡ next.state
+  pub taken : out ≡ get_or (set kept p w) p out
+  pub apart : in_state s link ≡ out
+  pub others : left ≡ remove (set kept p w) p
 
 -- more room alone changes nothing
 pub room_follows : {h : History} {parts : Parts} → Follows h parts → (j : ℕ) {p : ℕ} {v w : KeptLink} → position (λ x. nat_eq x.number j) parts.links ≡ Some p → v ≡ get_or parts.links p v → w ≡ with_room v w.room
@@ -39,39 +60,67 @@ room_follows {h} {parts} t j {p} {v} {w} at is roomy = record {
     was : IsLinkOf (link_words h) (get_or parts.links p v)
     was = each_at (IsLinkOf (link_words h)) parts.links p v t.links.each here
 
-module _ {h : History} {parts : Parts} (t : Follows h parts) {j p : ℕ} {v w next last : KeptLink} {s : LinkState} (held : IsHeld h parts.links j p v w next last s) where
-  pub here : p < length parts.links
+module _ {h : History} {parts : Parts} (t : Follows h parts) {j p : ℕ} {v w out : KeptLink} {s : LinkState} {link : StatelessLink} {left : List KeptLink} (held : IsHeld h parts.links j p v w out s link left) where
+  here : p < length parts.links
   here = (is_there h parts t j p held.at v).0
 
-  with_state : next ≡ w
-  with_state = held.then ∙ get_or-set_same parts.links p w next here
+  with_state : in_state s link ≡ w
+  with_state = held.apart ∙ held.taken ∙ get_or-set_same parts.links p w out here
+
+  -- what it was at its place, but for its room
+  as_kept : in_state s link ≡ with_room (get_or parts.links p v) w.room
+  as_kept = with_state ∙ held.roomy ∙ ap (λ (x : KeptLink). with_room x w.room) held.first
 
   pub held_is : s ≡ (get_or parts.links p v).state
-  held_is = held.state ∙ ap (λ (x : KeptLink). x.state) (with_state ∙ held.roomy ∙ ap (λ (x : KeptLink). with_room x w.room) held.first)
+  held_is = ap (λ (x : KeptLink). x.state) as_kept
 
-  -- the link at the place, seen again before its state was taken
+  pub held_number : link.number ≡ j
+  held_number = ap (λ (x : KeptLink). x.number) as_kept ∙ (is_there h parts t j p held.at v).1
+
+  -- the link at the place, seen again before it was taken out
   pub held_seen : {u : KeptLink} → u ≡ get_or (set parts.links p w) p u → u.state ≡ s
-  held_seen {u} is = ap (λ (x : KeptLink). x.state) (is ∙ get_or-set_same parts.links p w u here ∙ sym with_state) ∙ sym held.state
+  held_seen {u} is = ap (λ (x : KeptLink). x.state) (is ∙ get_or-set_same parts.links p w u here ∙ sym with_state)
 
   pub held_state : IsState (facts h j) s
   held_state = subst (IsState (facts h j)) (sym held_is) (state_there h parts t j p held.at v)
 
-  pub held_out : IsEmptied parts.links p w.room (set (set parts.links p w) p last)
-  held_out = taken_out parts.links p here v v held.first w held.roomy next next held.then last held.emptied
+  pub held_ready : (n : ℕ) → n ≤ w.room → IsReady link n
+  held_ready n fits = record {
+    idle = ap (λ (x : KeptLink). x.prepared) as_kept ∙ (link_there h parts t j p held.at v).idle;
+    room = subst (λ (m : ℕ). n ≤ m) (sym (ap (λ (x : KeptLink). x.room) with_state)) fits;
+  }
 
-  pub held_ready : (n : ℕ) → n ≤ w.room → IsReady (set (set parts.links p w) p last) p n
-  held_ready n fits = ready parts.links p here w.room (set (set parts.links p w) p last) held_out n fits (λ d. (link_there h parts t j p held.at d).idle)
+  back : (y : KeptLink) → insert left p y ≡ set parts.links p y
+  back y = ap (λ xs. insert xs p y) (held.others ∙ changed_before parts.links p w) ∙ put_back parts.links p y here
 
-  -- the state is given back
-  pub held_restored : {third : KeptLink} → third ≡ get_or (set (set parts.links p w) p last) p third → {back : LinkState} → back ≡ s → {fin : KeptLink} → fin ≡ record third { state = back }
-      → Follows h (record parts { links = set (set (set parts.links p w) p last) p fin })
-  held_restored {third} is same {fin} now = subst (λ xs. Follows h (record parts { links = xs })) (sym all) (room_follows t j held.at held.first held.roomy)
+  -- it moves on from where it was
+  pub held_moved : (state : LinkState) (frames : List OutFrame) (gone : Option ℕ) (new : List KeptLink) (m : HaveMoved p link state frames gone left new)
+      → new ≡ without_link gone (set parts.links p (moved_on state frames m.room (get_or parts.links p v)))
+  held_moved state frames gone new m = m.links ∙ ap (without_link gone) (back _ ∙ ap (λ x. set parts.links p (moved_on state frames m.room x)) as_kept)
+
+  -- it ends, and stays where frames wait for it
+  pub held_ended : (frames : List (List ℕ)) {more : List OutFrame} → narrow_frames frames ≡ more → (new : List KeptLink) (m : HaveEnded p link frames left new)
+      → new ≡ without_link (cond (is_empty (waiting h j ++ more)) (Some j) None) (set parts.links p (moved_on LinkState.Ended more m.room (get_or parts.links p v)))
+  held_ended frames these new m = held_moved LinkState.Ended (narrow_frames frames) _ new m
+      ∙ (λ i. without_link (cond (is_empty (waits i ++ these i)) (Some (held_number i)) None) (set parts.links p (moved_on LinkState.Ended (these i) m.room (get_or parts.links p v))))
     where
-      there : third ≡ last
-      there = is ∙ ap (λ xs. get_or xs p third) (set-set parts.links p w last) ∙ get_or-set_same parts.links p last third here
+      waits : link.frames ≡ waiting h j
+      waits = ap (λ (x : KeptLink). x.frames) as_kept ∙ (link_there h parts t j p held.at v).frames ∙ ap (waiting h) (is_there h parts t j p held.at v).1
 
-      again : fin ≡ w
-      again = now ∙ (λ i. record (there i) { state = (same ∙ held.state) i }) ∙ ap (λ (x : KeptLink). record x { state = next.state }) held.emptied ∙ with_state
+  -- it goes back as it was
+  pub held_restored : {back_state : LinkState} → back_state ≡ s → {new : List KeptLink} → new ≡ insert left p (in_state back_state link) → Follows h (record parts { links = new })
+  held_restored {back_state} same_state {new} is = subst (λ xs. Follows h (record parts { links = xs })) (sym (is ∙ back _ ∙ ap (set parts.links p) (ap (λ x. in_state x link) same_state ∙ with_state)))
+      (room_follows t j held.at held.first held.roomy)
 
-      all : set (set (set parts.links p w) p last) p fin ≡ set parts.links p w
-      all = ap (λ xs. set xs p fin) (set-set parts.links p w last) ∙ set-set parts.links p last fin ∙ ap (set parts.links p) again
+  -- other links are found as before
+  beside : (test : KeptLink → Bool) → test (get_or parts.links p v) ≡ false → find test left ≡ find test parts.links
+  beside test not_it = ap (find test) (held.others ∙ changed_before parts.links p w) ∙ found_beside test parts.links p v here not_it
+
+  pub beside_same : dialled_peer s ≡ None → (state : LinkState) → dial_beside state left ≡ dial_beside state parts.links
+  beside_same none (LinkState.Reply r) = ap (option_map (λ (x : KeptLink). x.number))
+      (beside (λ x. option_map_or (λ n. same n r.peer) (dialled_peer x.state) false) (ap (λ o. option_map_or (λ n. same n r.peer) o false) (ap dialled_peer (sym held_is) ∙ none)))
+  beside_same none state = refl
+
+  pub older_same : up_peer s ≡ None → (n : List ℕ) → older_of n left ≡ older_of n parts.links
+  older_same none n = ap (option_map (λ (x : KeptLink). x.number))
+      (beside (λ x. option_map_or (λ m. same m n) (up_peer x.state) false) (ap (λ o. option_map_or (λ m. same m n) o false) (ap up_peer (sym held_is) ∙ none)))

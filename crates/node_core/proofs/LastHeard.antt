@@ -2,19 +2,19 @@
 use Rattle.node_core.proofs.Words.{get_or, Bool, List, Some, ap, is_some, length, map, refl, set, subst, sym, true, ℕ, [], ◌∙◌, ◌≡◌, ◌≤◌, AllZip}
 use Rattle.node_core.proofs.Words.{unwrap_or, Linked, Pending, count_after_drop, lie, History, OutFrame, wide, IsNext, answer, with_entry, awaits}
 use Rattle.node_core.proofs.Words.{is_last, Change, Accepted, Refused, Reply, Rule, Follows, Parts, HaveEnded, older_of, Hears, is_handshake}
-use Rattle.node_core.proofs.Words.{KeptLink, known_peer, narrow_frames, up_peer, ArePartings, IsCutOff, LinkState, Running, HaveComeUp, Message}
+use Rattle.node_core.proofs.Words.{KeptLink, StatelessLink, known_peer, narrow_frames, up_peer, ArePartings, IsCutOff, LinkState, Running, HaveComeUp, Message}
 use Rattle.node_core.proofs.Words.{Event, Heard, None, cond, false, ◌++◌, ◌<◌, ◌∷◌, same, Pid, stopped_lists, and_left, heard, told, is_up, listed}
 use Rattle.node_core.proofs.Words.{discovers, IsAnswered, is_full, present_link, Entry, moved_on, without_link, LinksFollow, link_words, scope_words}
+use Rattle.node_core.proofs.Words.{IsState, facts, get_or-set_same, is_open, nat_eq, position, with_room}
 use Rattle.node_core.proofs.Entered.{made, step_follows, accepted_now, answered_now, next_now}
 use Rattle.node_core.proofs.Found.{some_is}
 use Rattle.node_core.proofs.FrameRefused.{refused_follows, refused_next}
-use Rattle.node_core.proofs.HeardFrames.{few_frames, is_there, last_comes_up, last_state, unwhole_state}
-use Rattle.node_core.proofs.HeldLink.{IsHeld, held_is, held_out, held_seen, held_state}
+use Rattle.node_core.proofs.HeardFrames.{few_frames, is_there, last_comes_up, last_state, state_there, unwhole_state}
+use Rattle.node_core.proofs.HeldLink.{IsHeld, held_is, held_number, held_seen, held_state, held_moved, held_ended, older_same}
 use Rattle.node_core.proofs.ProofChecked.{ComesUp, answered_up, awaits_last, comes, ended_by, fails, is_last_state, not_up_yet, meets, visible_now}
 use Rattle.policy_audit.proofs.HeardNow.{proved_heard}
 use Rattle.policy_audit.proofs.RowsAfter.{up_rows}
 use Rattle.node_core.proofs.CameUp.{but_replaced, came_up_moves, older_present}
-use Rattle.node_core.proofs.Emptied.{IsEmptied, moved_from, older_same}
 use Rattle.node_core.proofs.MovedOn.{moved_follow}
 use Rattle.node_core.proofs.Partings.{partings_change}
 use Rattle.node_core.proofs.ScopesCutOff.{AreCutOff, cut_off_follow}
@@ -65,7 +65,7 @@ module _ (h : History) (seat j : ℕ) (body : List ℕ) (up : Linked) (frames : 
             ∙ but_replaced h t.sound.legal up.peer j c.unwhole l (told l s h.entries) (λ q. and_left (is_up l h.entries) _ q);
       }
 
-      module _ (p : ℕ) (d : KeptLink) (less : p < length parts.links) (there : (get_or parts.links p d).number ≡ j) (before : up_peer (get_or parts.links p d).state ≡ None) where
+      module _ (p : ℕ) (d : KeptLink) (less : p < length parts.links) (there : (get_or parts.links p d).number ≡ j) where
         discovers_are : cond up.visible (map (λ x. wide (Message.Discover x.scope)) parts.scopes) [] ≡ discovers h j
         discovers_are = λ i. cond (sym (visible_now h j body up frames c) i) ((discovers_for parts.scopes ∙ ap (map (λ s. wide (Message.Discover s))) t.scopes.running) i) []
 
@@ -75,17 +75,31 @@ module _ (h : History) (seat j : ℕ) (body : List ℕ) (up : Linked) (frames : 
             (moved_follow h k t.sound.legal j (LinkState.Up up) (narrow_frames frames ++ discovers h j) (present_link up.peer h.entries)
             (came_up_moves h t.sound.legal j body up frames c e up_answered refl refl) parts.links t.links p d less there room)
 
-        pub up_follows : IsNext h e → (out_room : ℕ) (old new : List KeptLink) → IsEmptied parts.links p out_room old → (asked : List OutFrame) → asked ≡ map (λ x. wide (Message.Discover x.scope)) parts.scopes → HaveComeUp p up frames asked old new
-            → (scopes : List Running) → AllZip (IsCutOff (unwrap_or (older_of up.peer old) j) up.peer) parts.scopes scopes → Follows k (record parts { links = new; scopes = scopes })
-        up_follows next out_room old new out asked these comes scopes cut = step_follows t next refl t.admission t.processes
+        pub up_follows : IsNext h e → (room : ℕ) (asked : List OutFrame) → asked ≡ map (λ x. wide (Message.Discover x.scope)) parts.scopes → (left new : List KeptLink) → older_of up.peer left ≡ older_of up.peer parts.links
+            → new ≡ without_link (older_of up.peer left) (set parts.links p (moved_on (LinkState.Up up) (narrow_frames frames ++ cond up.visible asked []) room (get_or parts.links p d)))
+            → (scopes : List Running) → AllZip (IsCutOff (unwrap_or (older_of up.peer left) j) up.peer) parts.scopes scopes → Follows k (record parts { links = new; scopes = scopes })
+        up_follows next room asked these left new same_older is scopes cut = step_follows t next refl t.admission t.processes
             (cut_off_follow old_one up.peer (scope_words h) (scope_words k) scopes_cut_off parts.scopes scopes t.scopes
-            (subst (λ x. AllZip (IsCutOff (unwrap_or x j) up.peer) parts.scopes scopes) (older_same parts.links p less out_room old out d before up.peer ∙ older_present h t.sound.legal up.peer parts.links t.links) cut))
+            (subst (λ x. AllZip (IsCutOff (unwrap_or x j) up.peer) parts.scopes scopes) (same_older ∙ older_present h t.sound.legal up.peer parts.links t.links) cut))
             (subst (LinksFollow (link_words k)) (sym (
-            moved_from parts.links p less out_room old out (λ x. LinkState.Up up) (narrow_frames frames ++ cond up.visible asked []) (λ x. older_of up.peer old) new comes d
-            ∙ (λ i. without_link (older_same parts.links p less out_room old out d before up.peer i) (set parts.links p (moved_on (LinkState.Up up) (narrow_frames frames ++ (ap (λ fs. cond up.visible fs []) these ∙ discovers_are) i) comes.room (get_or parts.links p d))))))
-            (links_follow comes.room))
+            is
+            ∙ (λ i. without_link (same_older i) (set parts.links p (moved_on (LinkState.Up up) (narrow_frames frames ++ (ap (λ fs. cond up.visible fs []) these ∙ discovers_are) i) room (get_or parts.links p d))))))
+            (links_follow room))
 
-module _ {h : History} {parts : Parts} (t : Follows h parts) (seat : ℕ) (body : List ℕ) {j p : ℕ} {v w next last : KeptLink} {s : LinkState} (held : IsHeld h parts.links j p v w next last s)
+-- the peer of a link that awaits the last frame is known, seen while it stands at its place with more room
+pub last_has_peer : {h : History} {parts : Parts} → Follows h parts → (j : ℕ) {p : ℕ} {v w x : KeptLink} → position (λ z. nat_eq z.number j) parts.links ≡ Some p → v ≡ get_or parts.links p v → w ≡ with_room v w.room
+    → x ≡ get_or (set parts.links p w) p x → is_open j h.entries ≡ true → is_last (awaits j h.entries) ≡ true → is_some (known_peer x.state) ≡ true
+last_has_peer {h} {parts} t j {p} {v} {w} {x} at first roomy seen opens final = by x.state (awaits_last h j x.state (subst (IsState (facts h j)) (sym state) (state_there h parts t j p at v)) opens final)
+  where
+    state : x.state ≡ (get_or parts.links p v).state
+    state = ap (λ (z : KeptLink). z.state) (seen ∙ get_or-set_same parts.links p w x (is_there h parts t j p at v).0 ∙ roomy ∙ ap (λ (z : KeptLink). with_room z w.room) first)
+
+    by : (s : LinkState) → is_last_state s ≡ true → is_some (known_peer s) ≡ true
+    by (LinkState.Reply y) q = refl
+    by (LinkState.Ack y) q = refl
+    by s q = lie (sym q)
+
+module _ {h : History} {parts : Parts} (t : Follows h parts) (seat : ℕ) (body : List ℕ) {j p : ℕ} {v w out : KeptLink} {s : LinkState} {link : StatelessLink} {left : List KeptLink} (held : IsHeld h parts.links j p v w out s link left)
     (final : is_last (awaits j h.entries) ≡ true) where
   late : is_last_state s ≡ true
   late = awaits_last h j s (held_state t held) held.opens final
@@ -93,30 +107,19 @@ module _ {h : History} {parts : Parts} (t : Follows h parts) (seat : ℕ) (body 
   pub handshakes : is_handshake s ≡ true
   handshakes = (last_state h j held.opens final s (held_state t held)).1
 
-  -- its peer is known
-  pub has_peer : is_some (known_peer s) ≡ true
-  has_peer = by s late
-    where
-      by : (x : LinkState) → is_last_state x ≡ true → is_some (known_peer x) ≡ true
-      by (LinkState.Reply y) q = refl
-      by (LinkState.Ack y) q = refl
-      by x q = lie (sym q)
-
   module _ (pending : Pending) where
     pub last_never_on : (now : LinkState) (frames : List (List ℕ)) (gives_up : Bool) → Hears parts.admission pending s body (Heard.On now frames gives_up) → ⊥
     last_never_on now frames gives_up hears = lie (sym (last_comes_up parts.admission pending body s (last_state h j held.opens final s (held_state t held)).0 (Heard.On now frames gives_up) hears.1))
 
     module _ (r : Rule) (frames : List (List ℕ)) (hears : Hears parts.admission pending s body (Heard.Ended r frames)) where
-      pub last_broke : (new : List KeptLink) → HaveEnded p frames (set (set parts.links p w) p last) new
+      pub last_broke : (new : List KeptLink) → HaveEnded p link frames left new
           → IsNext h (made h seat (Event.Frame j body) (Refused r) []) × Follows (with_entry h (made h seat (Event.Frame j body) (Refused r) [])) (record parts { links = new })
       last_broke new ends =
           let there = is_there h parts t j p held.at v in
           let breaks = ended_by h j parts.admission t.admission body pending s late (held_state t held) r frames hears in
-          let entered = refused_next h seat j body r held.space (fails h seat j body r held.opens breaks.0) in (
-            entered,
-            refused_follows h seat j body r held.opens (unwhole_state h j s handshakes (held_state t held)) (narrow_frames frames) breaks.1 parts t p v there.0 there.1
-                entered w.room (set (set parts.links p w) p last) new (held_out t held) frames refl ends,
-          )
+          let entered = refused_next h seat j body r held.space (fails h seat j body r held.opens breaks.0) in
+          let unwhole = unwhole_state h j s handshakes (held_state t held) in
+          (entered, refused_follows h seat j body r held.opens unwhole (narrow_frames frames) breaks.1 parts t p v there.0 there.1 entered ends.room new (held_ended t held frames refl new ends))
 
     module _ (up : Linked) (frames : List (List ℕ)) (hears : Hears parts.admission pending s body (Heard.Up up frames)) where
       it : ComesUp h j body up frames × (known_peer s ≡ Some up.peer)
@@ -138,10 +141,12 @@ module _ {h : History} {parts : Parts} (t : Follows h parts) (seat : ℕ) (body 
         last_next = up_next h seat j body up frames it.0 r cs held.space reply_is parts t
             (subst (λ n. ArePartings (λ x. count_after_drop x n) parts.scopes cs) peer_is (subst (λ rs. ArePartings (λ x. count_after_drop x peer) rs cs) these gone))
 
-        pub last_came_up : (new : List KeptLink) {asked : List OutFrame} → asked ≡ map (λ x. wide (Message.Discover x.scope)) running → HaveComeUp p up frames asked (set (set parts.links p w) p last) new
-            → (scopes : List Running) → AllZip (IsCutOff (unwrap_or (older_of up.peer (set (set parts.links p w) p last)) j) up.peer) parts.scopes scopes
+        pub last_came_up : (new : List KeptLink) {asked : List OutFrame} → asked ≡ map (λ x. wide (Message.Discover x.scope)) running → HaveComeUp p link up frames asked left new
+            → (scopes : List Running) → AllZip (IsCutOff (unwrap_or (older_of up.peer left) link.number) up.peer) parts.scopes scopes
             → Follows (with_entry h (made h seat (Event.Frame j body) (Accepted r) cs)) (record parts { links = new; scopes = scopes })
         last_came_up new {asked} discover ups scopes cut =
             let there = is_there h parts t j p held.at v in
-            up_follows h seat j body up frames it.0 r cs held.space reply_is parts t p v there.0 there.1 (ap up_peer (sym (held_is t held)) ∙ not_up_yet s late)
-            last_next w.room (set (set parts.links p w) p last) new (held_out t held) asked (discover ∙ ap (map (λ (x : Running). wide (Message.Discover x.scope))) these) ups scopes cut
+            up_follows h seat j body up frames it.0 r cs held.space reply_is parts t p v there.0 there.1
+            last_next ups.room asked (discover ∙ ap (map (λ (x : Running). wide (Message.Discover x.scope))) these) left new (older_same t held (not_up_yet s late) up.peer)
+            (held_moved t held (LinkState.Up up) (narrow_frames frames ++ cond up.visible asked []) (older_of up.peer left) new ups)
+            scopes (subst (λ n. AllZip (IsCutOff (unwrap_or (older_of up.peer left) n) up.peer) parts.scopes scopes) (held_number t held) cut)

@@ -29,7 +29,6 @@ pub mod OneDial
 pub mod EarlyMoves
 pub mod NameMoves
 pub mod EarlyHeard
-pub mod Emptied
 pub mod HeardFrames
 pub mod HeldLink
 pub mod EarlyFrame

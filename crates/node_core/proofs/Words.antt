@@ -109,7 +109,7 @@ pub use Rattle.node_core.specs.Handshakes.{HaveEnded, moved_on, older_of, withou
 pub use Rattle.node_core.specs.Hearing.{Hears, heard_named, is_handshake, rule_of, accepted_as, nobody, state_checks}
 pub use Rattle.node_core.specs.LinkFacts.{IsIntroduced, IsLinkOf, IsState, LinkFacts, LinkWords, LinksFollow, facts, kept_numbers, link_words, Awaits}
 pub use Rattle.node_core.specs.LinkFacts.{IsGiven, IsPeer}
-pub use Rattle.node_core.specs.Links.{KeptLink, committed, dial_beside, dialled_peer, known_peer, narrow_frames, prepared_for, unroomed, up_peer}
+pub use Rattle.node_core.specs.Links.{KeptLink, StatelessLink, in_state, committed, dial_beside, dialled_peer, known_peer, narrow_frames, prepared_for, unroomed, up_peer}
 pub use Rattle.node_core.specs.Links.{with_frames, with_prepared, with_room, are_of_peer, dial_to, dialled_link, is_ended, is_shown}
 pub use Rattle.node_core.specs.Moving.{IsMoved, IsJoinRefusal, IsLeaveRefusal, fault_of, join_of, leave_of, own_checks}
 pub use Rattle.node_core.specs.Parting.{ArePartings, IsCutOff, IsParting, rows_left, HasParted, count_but, without}

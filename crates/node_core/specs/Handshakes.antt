@@ -1,21 +1,19 @@
 -- What the outcome of a frame of the handshake makes of the kept links.
-use Rattle.std.specs.Prelude.{◌≡◌, ℕ, ◌<◌, ◌≤◌, Bool, false, cond, not, nat_eq, List, [], ◌++◌, Option, Some, None, find, length}
-use Rattle.std.specs.List.{filter}
+use Rattle.std.specs.Prelude.{◌≡◌, ℕ, ◌≤◌, Bool, false, cond, not, nat_eq, List, [], ◌++◌, Option, Some, None, find}
+use Rattle.std.specs.List.{filter, insert}
 use Rattle.std.specs.Option.{option_map, option_map_or}
-use Rattle.std.proofs.Math.ListN.{get_or, set}
 use Rattle.dist_types.specs.Listing.{same}
 use Rattle.dist_types.specs.Difference.{is_empty}
 use Rattle.policy_audit.specs.OutFrame.{OutFrame}
 use Rattle.link_states.specs.States.{Linked}
 use Rattle.node_core.specs.declared.link_state.LinkState.{LinkState}
 use Rattle.node_core.specs.declared.link_state.LinkState.TheVariants as states
-use Rattle.node_core.specs.Links.{KeptLink, up_peer, dial_beside, narrow_frames}
+use Rattle.node_core.specs.Links.{KeptLink, StatelessLink, in_state, up_peer, dial_beside, narrow_frames}
 
--- there is a link at this place, which takes so many frames more without memory
-pub record IsReady (links : List KeptLink) (place frames : ℕ) : Type 0 where
-  pub here : place < length links
-  pub idle : (d : KeptLink) → (get_or links place d).prepared ≡ []
-  pub room : (d : KeptLink) → frames ≤ (get_or links place d).room
+-- the link takes so many frames more without memory
+pub record IsReady (link : StatelessLink) (frames : ℕ) : Type 0 where
+  pub idle : link.prepared ≡ []
+  pub room : frames ≤ link.room
 
 -- the link in this state, with further frames that wait, and with this room
 abbrev pub moved_on : LinkState → List OutFrame → ℕ → KeptLink → KeptLink
@@ -30,19 +28,19 @@ without_link (Some number) links = filter (λ x. not (nat_eq x.number number)) l
 abbrev pub older_of : List ℕ → List KeptLink → Option ℕ
 older_of peer links = option_map (λ x. x.number) (find (λ x. option_map_or (λ n. same n peer) (up_peer x.state) false) links)
 
--- one link moved on, and another is gone
-pub record HaveMoved (place : ℕ) (state : KeptLink → LinkState) (frames : List OutFrame) (gone : KeptLink → Option ℕ) (old new : List KeptLink) : Type 0 where
+-- a link is put in at a place, in this state and with further frames that wait, and another is gone
+pub record HaveMoved (place : ℕ) (link : StatelessLink) (state : LinkState) (frames : List OutFrame) (gone : Option ℕ) (old new : List KeptLink) : Type 0 where
   pub room : ℕ
-  pub links : (d : KeptLink) → new ≡ without_link (gone (get_or old place d)) (set old place (moved_on (state (get_or old place d)) frames room (get_or old place d)))
+  pub links : new ≡ without_link gone (insert old place (moved_on state frames room (in_state state link)))
 
--- the handshake of the link at a place goes on, perhaps in place of the own dial beside it
-abbrev pub HaveGoneOn : ℕ → LinkState → List (List ℕ) → Bool → List KeptLink → List KeptLink → Type 0
-HaveGoneOn place state bodies gives_up old new = HaveMoved place (λ link. state) (narrow_frames bodies) (λ link. cond gives_up (dial_beside state old) None) old new
+-- the handshake of the link goes on, perhaps in place of the own dial beside it
+abbrev pub HaveGoneOn : ℕ → StatelessLink → LinkState → List (List ℕ) → Bool → List KeptLink → List KeptLink → Type 0
+HaveGoneOn place link state bodies gives_up old new = HaveMoved place link state (narrow_frames bodies) (cond gives_up (dial_beside state old) None) old new
 
--- the link at a place is gone, unless frames wait for it
-abbrev pub HaveEnded : ℕ → List (List ℕ) → List KeptLink → List KeptLink → Type 0
-HaveEnded place bodies old new = HaveMoved place (λ link. link.state) (narrow_frames bodies) (λ link. cond (is_empty (link.frames ++ narrow_frames bodies)) (Some link.number) None) old new
+-- the link has ended, and is gone unless frames wait for it
+abbrev pub HaveEnded : ℕ → StatelessLink → List (List ℕ) → List KeptLink → List KeptLink → Type 0
+HaveEnded place link bodies old new = HaveMoved place link states.Ended (narrow_frames bodies) (cond (is_empty (link.frames ++ narrow_frames bodies)) (Some link.number) None) old new
 
--- the link at a place is up, and its peer's older one is gone
-abbrev pub HaveComeUp : ℕ → Linked → List (List ℕ) → List OutFrame → List KeptLink → List KeptLink → Type 0
-HaveComeUp place up bodies discovers old new = HaveMoved place (λ link. states.Up up) (narrow_frames bodies ++ cond up.visible discovers []) (λ link. older_of up.peer old) old new
+-- the link is up, and its peer's older one is gone
+abbrev pub HaveComeUp : ℕ → StatelessLink → Linked → List (List ℕ) → List OutFrame → List KeptLink → List KeptLink → Type 0
+HaveComeUp place link up bodies discovers old new = HaveMoved place link (states.Up up) (narrow_frames bodies ++ cond up.visible discovers []) (older_of up.peer old) old new

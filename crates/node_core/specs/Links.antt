@@ -20,6 +20,17 @@ pub record KeptLink : Type 0 where
   pub prepared : List OutFrame
   pub room : ℕ
 
+-- a link without its state
+pub record StatelessLink : Type 0 where
+  pub number : ℕ
+  pub frames : List OutFrame
+  pub prepared : List OutFrame
+  pub room : ℕ
+
+-- the link in this state
+abbrev pub in_state : LinkState → StatelessLink → KeptLink
+in_state state link = record { number = link.number; state = state; frames = link.frames; prepared = link.prepared; room = link.room }
+
 -- the link, with further frames that wait
 abbrev pub with_frames : KeptLink → List OutFrame → KeptLink
 with_frames link frames = record link { frames = link.frames ++ frames }

@@ -1,6 +1,6 @@
 //! Frames of the handshake.
-ghost use Rattle.std.specs.Prelude.{◌≡◌, ◌+◌, ◌≤◌, ◌++◌, [], cond, true, false, length, find, is_some, map, Some, None, IfOk};
-ghost use Rattle.std.specs.List.{AllZip};
+ghost use Rattle.std.specs.Prelude.{◌≡◌, ◌+◌, ◌<◌, ◌≤◌, ◌++◌, vec_len, vec_capacity, [], cond, true, false, length, find, is_some, map, Some, None, IfOk};
+ghost use Rattle.std.specs.List.{AllZip, insert};
 ghost use Rattle.std.specs.Option.{option_map, option_map_or, unwrap_or};
 ghost use Rattle.dist_types.specs.Listing.{same};
 ghost use Rattle.link_frames.specs.declared.message.Message.TheVariants as said;
@@ -19,7 +19,7 @@ use crate::fault::CoreFault;
 use crate::frames::discover_frame;
 use crate::hearing::{Heard, hear, hear_last};
 use crate::kept::Kept;
-use crate::link::Link;
+use crate::link::{Link, Stateless};
 use crate::link_state::LinkState;
 use crate::links::{dial_to, pending_of, place_of, remove};
 use crate::running::Running;
@@ -73,7 +73,7 @@ impl Kept {
     {
         let pending = pending_of(self.alloc, &self.links)?;
         self.links[place].make_room(MOST_OWED)?;
-        let state = self.links[place].replace(LinkState::Ended);
+        let (state, link) = self.links.remove(place).into_parts();
         let bytes = body.as_slice();
         let heard = hear(self.alloc, state, bytes, &self.admission, &pending);
         drop(pending);
@@ -83,15 +83,15 @@ impl Kept {
                 frames,
                 gives_up,
             } => {
-                go_on(&mut self.links, place, state, frames, gives_up);
+                go_on(&mut self.links, place, link, state, frames, gives_up);
                 Ok(Answered::done(self.alloc))
             }
             Heard::Ended { rule, frames } => {
-                end(&mut self.links, place, frames);
+                end(&mut self.links, place, link, frames);
                 Err(CoreFault::Refused(rule))
             }
             Heard::OutOfMemory(state) => {
-                self.links[place].set_state(state);
+                put(&mut self.links, place, link.in_state(state));
                 Err(CoreFault::OutOfMemory)
             }
             Heard::Up { .. } => unreachable!(),
@@ -107,7 +107,7 @@ impl Kept {
     {
         self.links[place].make_room(MOST_OWED + self.scopes.len())?;
         let arrival = arrival_of(self.alloc, &self.links[place], &self.scopes)?;
-        let state = self.links[place].replace(LinkState::Ended);
+        let (state, link) = self.links.remove(place).into_parts();
         match hear_last(self.alloc, state, body.as_slice(), &self.admission) {
             Heard::Up { up, frames } => {
                 let Arrival {
@@ -118,17 +118,17 @@ impl Kept {
                 } = arrival;
                 let (reply, copy) = (up_reply(peer, &up), up_reply(kept, &up));
                 let (links, scopes) = (&mut self.links, &mut self.scopes);
-                settle(links, scopes, place, number, up, frames, discovers);
+                settle(links, scopes, place, link, up, frames, discovers);
                 Ok(Answered::both(reply, copy, changes))
             }
             Heard::Ended { rule, frames } => {
                 drop(arrival);
-                end(&mut self.links, place, frames);
+                end(&mut self.links, place, link, frames);
                 Err(CoreFault::Refused(rule))
             }
             Heard::OutOfMemory(state) => {
                 drop(arrival);
-                self.links[place].set_state(state);
+                put(&mut self.links, place, link.in_state(state));
                 Err(CoreFault::OutOfMemory)
             }
             Heard::On { .. } => unreachable!(),
@@ -136,14 +136,24 @@ impl Kept {
     }
 }
 
-/// The handshake of the link at a place goes on. Where it gives an own dial to its peer up, that dial is gone.
-fn go_on(links: &mut Vec<Link>, place: usize, state: LinkState, frames: Bodies, gives_up: bool)
-    requires { IsReady links.old.items place (length frames) }
-    ensures { HaveGoneOn place state frames gives_up links.old.items links.new.items }
+/// The handshake of a link goes on, at this place. Where it gives an own dial to its peer up, that dial is gone.
+fn go_on(
+    links: &mut Vec<Link>,
+    place: usize,
+    link: Stateless,
+    state: LinkState,
+    frames: Bodies,
+    gives_up: bool,
+)
+    requires within { place ≤ vec_len links.old }
+    requires space { vec_len links.old < vec_capacity links.old }
+    requires ready { IsReady link (length frames) }
+    ensures { HaveGoneOn place link state frames gives_up links.old.items links.new.items }
 {
     let dial = given_up(links, &state, gives_up);
-    links[place].owe_bodies(frames);
-    links[place].set_state(state);
+    let mut link = link.in_state(state);
+    link.owe_bodies(frames);
+    put(links, place, link);
     remove_some(links, dial);
 }
 
@@ -167,46 +177,74 @@ fn remove_some(links: &mut Vec<Link>, number: Option<u32>)
     }
 }
 
-/// The link at a place has ended. It is kept as long as frames wait for it.
-fn end(links: &mut Vec<Link>, place: usize, frames: Bodies)
-    requires { IsReady links.old.items place (length frames) }
-    ensures { HaveEnded place frames links.old.items links.new.items }
+/// A link has ended. It is kept at this place as long as frames wait for it.
+fn end(links: &mut Vec<Link>, place: usize, link: Stateless, frames: Bodies)
+    requires within { place ≤ vec_len links.old }
+    requires space { vec_len links.old < vec_capacity links.old }
+    requires ready { IsReady link (length frames) }
+    ensures { HaveEnded place link frames links.old.items links.new.items }
 {
-    let number = links[place].number();
-    links[place].owe_bodies(frames);
-    if links[place].frames().is_empty() {
+    let number = link.number();
+    let mut link = link.in_state(LinkState::Ended);
+    link.owe_bodies(frames);
+    let is_done = link.frames().is_empty();
+    put(links, place, link);
+    if is_done {
         remove(links, number);
     }
 }
 
-/// The link at a place is up, and an older one of its peer is gone.
-fn come_up(links: &mut Vec<Link>, place: usize, up: Up, frames: Bodies, discovers: Vec<OutFrame>)
-    requires { IsReady links.old.items place (length frames + length discovers.items) }
-    ensures { HaveComeUp place up frames discovers.items links.old.items links.new.items }
-{
-    let older = older_of(links, up.peer());
-    owe_all(&mut links[place], frames, up.visible(), discovers);
-    links[place].set_state(LinkState::Up(up));
-    remove_some(links, older);
-}
-
-/// The link of this number, at a place, is up. Its peer's older one is gone, with all that was shared over it.
-fn settle(
+/// A link is up, at this place, and an older one of its peer is gone.
+fn come_up(
     links: &mut Vec<Link>,
-    scopes: &mut Vec<Running>,
     place: usize,
-    number: u32,
+    link: Stateless,
     up: Up,
     frames: Bodies,
     discovers: Vec<OutFrame>,
 )
-    requires { IsReady links.old.items place (length frames + length discovers.items) }
-    ensures links { HaveComeUp place up frames discovers.items links.old.items links.new.items }
-    ensures scopes { AllZip (IsCutOff (unwrap_or (older_of up.peer links.old.items) number) up.peer) scopes.old.items scopes.new.items }
+    requires within { place ≤ vec_len links.old }
+    requires space { vec_len links.old < vec_capacity links.old }
+    requires ready { IsReady link (length frames + length discovers.items) }
+    ensures { HaveComeUp place link up frames discovers.items links.old.items links.new.items }
 {
-    let gone = older_of(links, up.peer()).unwrap_or(number);
+    let older = older_of(links, up.peer());
+    let visible = up.visible();
+    let mut link = link.in_state(LinkState::Up(up));
+    owe_all(&mut link, frames, visible, discovers);
+    put(links, place, link);
+    remove_some(links, older);
+}
+
+/// Puts a link in at this place, into the room that there is.
+fn put(links: &mut Vec<Link>, place: usize, link: Link)
+    requires within { place ≤ vec_len links.old }
+    requires space { vec_len links.old < vec_capacity links.old }
+    ensures { links.new.items ≡ insert links.old.items place link }
+{
+    // This can't fail, since there is room.
+    let _ = links.insert(place, link);
+}
+
+/// A link is up, at this place. Its peer's older one is gone, with all that was shared over it.
+fn settle(
+    links: &mut Vec<Link>,
+    scopes: &mut Vec<Running>,
+    place: usize,
+    link: Stateless,
+    up: Up,
+    frames: Bodies,
+    discovers: Vec<OutFrame>,
+)
+    requires within { place ≤ vec_len links.old }
+    requires space { vec_len links.old < vec_capacity links.old }
+    requires ready { IsReady link (length frames + length discovers.items) }
+    ensures links { HaveComeUp place link up frames discovers.items links.old.items links.new.items }
+    ensures scopes { AllZip (IsCutOff (unwrap_or (older_of up.peer links.old.items) link.number) up.peer) scopes.old.items scopes.new.items }
+{
+    let gone = older_of(links, up.peer()).unwrap_or(link.number());
     end_link(scopes, gone, up.peer());
-    come_up(links, place, up, frames, discovers);
+    come_up(links, place, link, up, frames, discovers);
 }
 
 /// Frames that wait from now on: those of the handshake, and then the Discovers, if the link is visible.

@@ -2,7 +2,7 @@
 ghost use Rattle.std.specs.Prelude.{◌≡◌, ◌++◌, vec_len, vec_capacity, ◌∷◌, [], ◌≤◌, ◌+◌, false, ℕ, List, length, OnOk, OnErr, IfOk};
 ghost use Rattle.std.specs.Option.{option_map, option_map_or};
 ghost use Rattle.dist_types.specs.Listing.{same};
-ghost use Rattle.node_core.specs.Links.{KeptLink, with_frames, with_prepared, with_room, narrow_frames, up_peer, dialled_peer, known_peer, is_shown, is_ended};
+ghost use Rattle.node_core.specs.Links.{KeptLink, with_frames, with_prepared, with_room, narrow_frames, up_peer, dialled_peer, known_peer, is_shown, is_ended, in_state};
 
 use crate::link_state::LinkState;
 use dist_types::{NodeName, OutOfMemory};
@@ -38,6 +38,55 @@ impl Model for Link {
     } };
 
     ghost invariant = { λ link. link.owed ≤ vec_len link.waiting };
+}
+
+/// A link without its state, which hears a frame.
+#[derive(Drop)]
+pub struct Stateless {
+    number: u32,
+    waiting: Vec<OutFrame>,
+    owed: usize,
+}
+
+impl Model for Stateless {
+    ghost use Rattle.std.specs.Prelude.{take, drop, ◌≤◌, ◌-◌, vec_len, vec_capacity};
+    ghost use Rattle.node_core.specs.Links.{StatelessLink};
+
+    ghost Value = { StatelessLink };
+
+    ghost view = { λ link. record {
+      number = link.number;
+      frames = take link.owed link.waiting.items;
+      prepared = drop link.owed link.waiting.items;
+      room = vec_capacity link.waiting - vec_len link.waiting;
+    } };
+
+    ghost invariant = { λ link. link.owed ≤ vec_len link.waiting };
+}
+
+impl Stateless {
+    /// The link in this state.
+    pub fn in_state(self, state: LinkState) -> Link
+        ensures { result ≡ in_state state self }
+    {
+        let Stateless {
+            number,
+            waiting,
+            owed,
+        } = self;
+        Link {
+            number,
+            state,
+            waiting,
+            owed,
+        }
+    }
+
+    pub fn number(&self) -> u32
+        ensures { result ≡ self.now.number }
+    {
+        self.number
+    }
 }
 
 impl Link {
@@ -138,19 +187,22 @@ impl Link {
         OutFrames::of(mem::replace(&mut self.waiting, Vec::new(alloc)))
     }
 
-    /// Puts a state in the place of the present one, which is handed over.
-    pub fn replace(&mut self, state: LinkState) -> LinkState
-        ensures old { result ≡ self.old.state }
-        ensures new { self.new ≡ record self.old { state = state } }
+    /// Takes the state out, for a frame to be heard in it.
+    pub fn into_parts(self) -> (LinkState, Stateless)
+        ensures { in_state result.0 result.1 ≡ self }
     {
-        mem::replace(&mut self.state, state)
-    }
-
-    /// Puts a state in the place of the present one.
-    pub fn set_state(&mut self, state: LinkState)
-        ensures { self.new ≡ record self.old { state = state } }
-    {
-        self.state = state;
+        let Link {
+            number,
+            state,
+            waiting,
+            owed,
+        } = self;
+        let rest = Stateless {
+            number,
+            waiting,
+            owed,
+        };
+        (state, rest)
     }
 
     /// Whether the link is up with this peer.

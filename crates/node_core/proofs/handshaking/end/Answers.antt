@@ -1,21 +1,19 @@
-use Rattle.node_core.proofs.Words.{ap, false, length, nat_eq, not, refl, set, sym, true, ℕ, ◌==◌, ◌∙◌, filter, get_or-set_same, get_or_default}
-use Rattle.node_core.proofs.Words.{KeptLink, narrow_frames}
-use Rattle.node_core.proofs.Moves.{ended, none_is_empty}
+use Rattle.node_core.proofs.Words.{ap, true, false, length, filter, nat_eq, not, sym, ℕ, ◌==◌, ◌≡◌, ◌∙◌, refl, moved_on, in_state, narrow_frames, KeptLink, LinkState}
+use Rattle.node_core.proofs.Moves.{none_is_empty, stated, put_in_or_gone}
 use Rattle.node_core.proofs.handshaking.end.Goals as goal
+use Rattle.node_core.proofs.handshaking.end.Goals.{After-put}
 
-pub returns-then-is_empty : goal.returns-then-is_empty
-returns-then-is_empty c =
-    let there = c.index-2.ensures ∙ get_or-set_same c.args.links.now.items c.args.place c.owe_bodies.new.self _ c.requires.here in
-    let number = c.number-number.ensures ∙ ap (λ (x : KeptLink). x.number) (c.index.ensures ∙ get_or_default c.args.links.now.items c.args.place _ _ c.requires.here ∙ sym c.index_mut.ensures.value) in
-    ended c.args.links.now.items c.args.place c.requires.here c.index_mut.result.now _ c.index_mut.ensures.value (narrow_frames c.args.frames) c.owe_bodies.new.self c.remove.new.links.items true
-    (ap (λ (x : KeptLink). x.prepared) c.index_mut.ensures.value ∙ c.requires.idle _) c.owe_bodies.ensures.owed
-    (none_is_empty c.owe_bodies.new.self.frames true (sym c.if-is_empty.true ∙ c.is_empty.ensures ∙ ap (λ fs. length fs == 0) (c.frames.ensures ∙ ap (λ (x : KeptLink). x.frames) there)))
-    (c.remove.ensures ∙ ap (λ (n : ℕ). filter (λ (x : KeptLink). not (nat_eq x.number n)) (set c.args.links.now.items c.args.place c.owe_bodies.new.self)) number)
+owed : (c : After-put) → c.owe_bodies.new.self ≡ moved_on LinkState.Ended (narrow_frames c.args.frames) c.owe_bodies.new.self.room (in_state LinkState.Ended c.args.link)
+owed c = stated (narrow_frames c.args.frames) c.in_state-link.ensures c.requires.ready.idle c.owe_bodies.ensures.owed
 
-pub returns-else-is_empty : goal.returns-else-is_empty
-returns-else-is_empty c =
-    let there = c.index-2.ensures ∙ get_or-set_same c.args.links.now.items c.args.place c.owe_bodies.new.self _ c.requires.here in
-    ended c.args.links.now.items c.args.place c.requires.here c.index_mut.result.now _ c.index_mut.ensures.value (narrow_frames c.args.frames) c.owe_bodies.new.self _ false
-    (ap (λ (x : KeptLink). x.prepared) c.index_mut.ensures.value ∙ c.requires.idle _) c.owe_bodies.ensures.owed
-    (none_is_empty c.owe_bodies.new.self.frames false (sym c.if-is_empty.false ∙ c.is_empty.ensures ∙ ap (λ fs. length fs == 0) (c.frames.ensures ∙ ap (λ (x : KeptLink). x.frames) there)))
+pub returns-then-is_done : goal.returns-then-is_done
+returns-then-is_done c = put_in_or_gone c.args.link c.args.links.now.items c.args.place LinkState.Ended (narrow_frames c.args.frames) c.owe_bodies.new.self (owed (goal.at.returns-then-is_done c).After-put)
+    c.put.new.links.items c.remove.new.links.items c.put.ensures true
+    (none_is_empty c.owe_bodies.new.self.frames true (sym c.if-is_done.true ∙ c.is_empty-is_done.ensures ∙ ap (λ fs. length fs == 0) c.frames.ensures))
+    (c.remove.ensures ∙ ap (λ (n : ℕ). filter (λ (x : KeptLink). not (nat_eq x.number n)) c.put.new.links.items) c.number-number.ensures)
+
+pub returns-else-is_done : goal.returns-else-is_done
+returns-else-is_done c = put_in_or_gone c.args.link c.args.links.now.items c.args.place LinkState.Ended (narrow_frames c.args.frames) c.owe_bodies.new.self (owed (goal.at.returns-else-is_done c).After-put)
+    c.put.new.links.items _ c.put.ensures false
+    (none_is_empty c.owe_bodies.new.self.frames false (sym c.if-is_done.false ∙ c.is_empty-is_done.ensures ∙ ap (λ fs. length fs == 0) c.frames.ensures))
     refl

@@ -1,23 +1,24 @@
-use Rattle.node_core.proofs.Words.{arith, length, refl, ◌≤◌}
+use Rattle.node_core.proofs.Words.{ap, arith, length, refl, ◌≤◌, ◌∙◌}
+use Rattle.std.specs.List.{insert}
 use Rattle.node_core.proofs.Answering.{accepts, ends, wanted, wants}
 use Rattle.node_core.proofs.EarlyFrame.{handshakes, early_never_up, early_few, early_went_on, early_broke}
 use Rattle.node_core.proofs.HeldLink.{IsHeld, held_ready, held_restored, room_follows}
 use Rattle.node_core.proofs.kept.Kept.early_frame.Given.{Over}
 use Rattle.node_core.proofs.kept.Kept.early_frame.Goals as goal
-use Rattle.node_core.proofs.kept.Kept.early_frame.Goals.{After-replace-state}
+use Rattle.node_core.proofs.kept.Kept.early_frame.Goals.{After-into_parts-state}
 
--- the link at its place, with room and without its state
-held : (g : Over) (c : After-replace-state g) → IsHeld g.call.past c.args.self.now.links.items c.args.number c.args.place
-    c.index_mut.result.now c.make_room.new.self c.index_mut-2.result.now c.replace-state.new.self c.replace-state.result
+-- the link, with room, taken out and apart from its state
+held : (g : Over) (c : After-into_parts-state g) → IsHeld g.call.past c.args.self.now.links.items c.args.number c.args.place
+    c.index_mut.result.now c.make_room.new.self c.remove.result c.into_parts-state.result.0 c.into_parts-state.result.1 c.remove.new.self.items
 held g c = record {
   space = c.requires.link.called.space;
   opens = c.requires.opens;
   at = c.requires.link.here;
   first = c.index_mut.ensures.value;
   roomy = c.make_room.ensures.same;
-  then = c.index_mut-2.ensures.value;
-  emptied = c.replace-state.ensures.new;
-  state = c.replace-state.ensures.old;
+  taken = c.remove.ensures.value;
+  apart = c.into_parts-state.ensures;
+  others = c.remove.ensures.items;
 }
 
 pub returns-in_err-make_room : goal.returns-in_err-make_room
@@ -25,31 +26,31 @@ returns-in_err-make_room g c = wanted c.requires.link.called _ _ refl
     (room_follows c.requires.link.called.keeps.follows c.args.number c.requires.link.here c.index_mut.ensures.value c.make_room.ensures.same) _ c.from_residual-in_err-make_room.ensures.1
 
 pub hear-heard-requires : goal.hear-heard-requires
-hear-heard-requires g c = handshakes c.requires.link.called.keeps.follows g.call.seat c.args.body.now (held g (goal.at.hear-heard-requires g c).After-replace-state) c.requires.unwhole c.requires.early
+hear-heard-requires g c = handshakes c.requires.link.called.keeps.follows g.call.seat c.args.body.now (held g (goal.at.hear-heard-requires g c).After-into_parts-state) c.requires.unwhole c.requires.early
 
-pub go_on-requires : goal.go_on-requires
-go_on-requires g c =
-    let held = held g (goal.at.go_on-requires g c).After-replace-state in
+pub go_on-requires-clause-ready : goal.go_on-requires-clause-ready
+go_on-requires-clause-ready g c =
+    let held = held g (goal.at.go_on-requires-clause-ready g c).After-into_parts-state in
     let few : length c.in-On.frames ≤ 2 = early_few c.requires.link.called.keeps.follows g.call.seat c.args.body.now held c.requires.unwhole c.requires.early
     c.deref.ensures.value c.in_ok-pending.pending c.in_ok-pending.ensures.up c.in_ok-pending.ensures.dials c.in-On.state c.in-On.frames c.in-On.gives_up (rw c.as_slice-bytes.ensures at c.in-On.ensures) in
     held_ready c.requires.link.called.keeps.follows held (length c.in-On.frames) (omega (arith, few, c.in_ok-make_room.ensures.ok))
 
 pub unreachable-requires : goal.unreachable-requires
-unreachable-requires g c = early_never_up c.requires.link.called.keeps.follows g.call.seat c.args.body.now (held g (goal.at.unreachable-requires g c).After-replace-state) c.requires.unwhole c.requires.early
+unreachable-requires g c = early_never_up c.requires.link.called.keeps.follows g.call.seat c.args.body.now (held g (goal.at.unreachable-requires g c).After-into_parts-state) c.requires.unwhole c.requires.early
     c.deref.ensures.value c.in_ok-pending.pending c.in_ok-pending.ensures.up c.in_ok-pending.ensures.dials c.in-Up.up c.in-Up.frames (rw c.as_slice-bytes.ensures at c.in-Up.ensures)
 
 pub returns-in-On : goal.returns-in-On
 returns-in-On g c = accepts c.requires.link.called _ _ refl _ _ _ c.done.ensures
-    (early_went_on c.requires.link.called.keeps.follows g.call.seat c.args.body.now (held g (goal.at.returns-in-On g c).After-replace-state) c.requires.unwhole c.requires.early
+    (early_went_on c.requires.link.called.keeps.follows g.call.seat c.args.body.now (held g (goal.at.returns-in-On g c).After-into_parts-state) c.requires.unwhole c.requires.early
     c.deref.ensures.value c.in_ok-pending.pending c.in_ok-pending.ensures.up c.in_ok-pending.ensures.dials c.in-On.state c.in-On.frames c.in-On.gives_up (rw c.as_slice-bytes.ensures at c.in-On.ensures)
     c.go_on.new.links.items c.go_on.ensures)
 
 pub returns-in-Ended : goal.returns-in-Ended
 returns-in-Ended g c = ends c.requires.link.called _ _ refl _
-    (early_broke c.requires.link.called.keeps.follows g.call.seat c.args.body.now (held g (goal.at.returns-in-Ended g c).After-replace-state) c.requires.unwhole c.requires.early
+    (early_broke c.requires.link.called.keeps.follows g.call.seat c.args.body.now (held g (goal.at.returns-in-Ended g c).After-into_parts-state) c.requires.unwhole c.requires.early
     c.deref.ensures.value c.in_ok-pending.pending c.in_ok-pending.ensures.up c.in_ok-pending.ensures.dials c.in-Ended.rule c.in-Ended.frames (rw c.as_slice-bytes.ensures at c.in-Ended.ensures)
     c.end.new.links.items c.end.ensures)
 
 pub returns-in-OutOfMemory : goal.returns-in-OutOfMemory
 returns-in-OutOfMemory g c = wants c.requires.link.called _ _ refl
-    (held_restored c.requires.link.called.keeps.follows (held g (goal.at.returns-in-OutOfMemory g c).After-replace-state) c.index_mut-in-OutOfMemory.ensures.value c.in-OutOfMemory.ensures c.set_state.ensures)
+    (held_restored c.requires.link.called.keeps.follows (held g (goal.at.returns-in-OutOfMemory g c).After-into_parts-state) c.in-OutOfMemory.ensures (c.put.ensures ∙ ap (insert c.remove.new.self.items c.args.place) c.in_state.ensures))

@@ -1,23 +1,24 @@
-use Rattle.node_core.proofs.Words.{arith, ap, length, length-map, refl, ◌∙◌, ◌≡◌, ◌≤◌, ◌+◌, Reply, nobody, LinkState}
+use Rattle.node_core.proofs.Words.{arith, ap, length, length-map, refl, ◌∙◌, ◌≡◌, ◌≤◌, ◌+◌, Reply, nobody}
+use Rattle.std.specs.List.{insert}
 use Rattle.node_core.proofs.Answering.{accepts, ends, wanted, wants}
 use Rattle.node_core.proofs.HeldLink.{IsHeld, held_ready, held_restored, room_follows}
-use Rattle.node_core.proofs.LastHeard.{handshakes, has_peer, last_never_on, last_few, last_broke, last_next, last_came_up}
+use Rattle.node_core.proofs.LastHeard.{handshakes, last_has_peer, last_never_on, last_few, last_broke, last_next, last_came_up}
 use Rattle.node_core.proofs.kept.Kept.last_frame.Given.{Over}
 use Rattle.node_core.proofs.kept.Kept.last_frame.Goals as goal
-use Rattle.node_core.proofs.kept.Kept.last_frame.Goals.{After-replace-state}
+use Rattle.node_core.proofs.kept.Kept.last_frame.Goals.{After-into_parts-state}
 
--- the link at its place, with room and without its state
-held : (g : Over) (c : After-replace-state g) → IsHeld g.call.past c.args.self.now.links.items c.args.number c.args.place
-    c.index_mut.result.now c.make_room.new.self c.index_mut-2.result.now c.replace-state.new.self c.replace-state.result
+-- the link, with room, taken out and apart from its state
+held : (g : Over) (c : After-into_parts-state g) → IsHeld g.call.past c.args.self.now.links.items c.args.number c.args.place
+    c.index_mut.result.now c.make_room.new.self c.remove.result c.into_parts-state.result.0 c.into_parts-state.result.1 c.remove.new.self.items
 held g c = record {
   space = c.requires.link.called.space;
   opens = c.requires.opens;
   at = c.requires.link.here;
   first = c.index_mut.ensures.value;
   roomy = c.make_room.ensures.same;
-  then = c.index_mut-2.ensures.value;
-  emptied = c.replace-state.ensures.new;
-  state = c.replace-state.ensures.old;
+  taken = c.remove.ensures.value;
+  apart = c.into_parts-state.ensures;
+  others = c.remove.ensures.items;
 }
 
 pub returns-in_err-make_room : goal.returns-in_err-make_room
@@ -29,38 +30,26 @@ returns-in_err-arrival g c = wanted c.requires.link.called _ _ refl
     (room_follows c.requires.link.called.keeps.follows c.args.number c.requires.link.here c.index_mut.ensures.value c.make_room.ensures.same) _ c.from_residual-in_err-arrival.ensures.1
 
 pub arrival_of-requires : goal.arrival_of-requires
-arrival_of-requires g c =
-    let held : IsHeld g.call.past c.args.self.now.links.items c.args.number c.args.place
-    c.index_mut.result.now c.make_room.new.self c.index.result.now (record c.index.result.now { state = LinkState.Ended }) c.index.result.now.state = record {
-      space = c.requires.link.called.space;
-      opens = c.requires.opens;
-      at = c.requires.link.here;
-      first = c.index_mut.ensures.value;
-      roomy = c.make_room.ensures.same;
-      then = c.index.ensures;
-      emptied = refl;
-      state = refl;
-    } in
-    has_peer c.requires.link.called.keeps.follows g.call.seat c.args.body.now held c.requires.last
+arrival_of-requires g c = last_has_peer c.requires.link.called.keeps.follows c.args.number c.requires.link.here c.index_mut.ensures.value c.make_room.ensures.same c.index.ensures c.requires.opens c.requires.last
 
 pub hear_last-requires : goal.hear_last-requires
-hear_last-requires g c = handshakes c.requires.link.called.keeps.follows g.call.seat c.args.body.now (held g (goal.at.hear_last-requires g c).After-replace-state) c.requires.last
+hear_last-requires g c = handshakes c.requires.link.called.keeps.follows g.call.seat c.args.body.now (held g (goal.at.hear_last-requires g c).After-into_parts-state) c.requires.last
 
-pub settle-requires : goal.settle-requires
-settle-requires g c =
-    let held = held g (goal.at.settle-requires g c).After-replace-state in
+pub settle-requires-clause-ready : goal.settle-requires-clause-ready
+settle-requires-clause-ready g c =
+    let held = held g (goal.at.settle-requires-clause-ready g c).After-into_parts-state in
     let few : length c.in-Up.frames ≤ 2 = last_few c.requires.link.called.keeps.follows g.call.seat c.args.body.now held c.requires.last nobody c.in-Up.up c.in-Up.frames (rw c.as_slice.ensures at c.in-Up.ensures) in
     let long : length c.in_ok-arrival.arrival.discovers.items ≡ length c.args.self.now.scopes.items = ap length c.in_ok-arrival.ensures.discovers ∙ length-map c.deref.result.now _ ∙ ap length c.deref.ensures.value in
     held_ready c.requires.link.called.keeps.follows held (length c.in-Up.frames + length c.in_ok-arrival.arrival.discovers.items) (omega (arith, few, c.in_ok-make_room.ensures.ok, long, c.len.ensures))
 
 pub unreachable-requires : goal.unreachable-requires
-unreachable-requires g c = last_never_on c.requires.link.called.keeps.follows g.call.seat c.args.body.now (held g (goal.at.unreachable-requires g c).After-replace-state) c.requires.last
+unreachable-requires g c = last_never_on c.requires.link.called.keeps.follows g.call.seat c.args.body.now (held g (goal.at.unreachable-requires g c).After-into_parts-state) c.requires.last
     nobody c.in-On.state c.in-On.frames c.in-On.gives_up (rw c.as_slice.ensures at c.in-On.ensures)
 
 pub returns-in-Up : goal.returns-in-Up
 returns-in-Up g c =
     let t = c.requires.link.called.keeps.follows in
-    let held = held g (goal.at.returns-in-Up g c).After-replace-state in
+    let held = held g (goal.at.returns-in-Up g c).After-into_parts-state in
     let hears = rw c.as_slice.ensures at c.in-Up.ensures in
     let lost = rw c.in_ok-arrival.ensures.known at c.in_ok-arrival.ensures.changes in
     let answer = c.up_reply-reply.ensures ∙ ap (λ n. Reply.Up n c.in-Up.up.creation c.in-Up.up.visible) c.in_ok-arrival.ensures.copy in
@@ -72,9 +61,9 @@ returns-in-Up g c =
 
 pub returns-in-Ended : goal.returns-in-Ended
 returns-in-Ended g c = ends c.requires.link.called _ _ refl _
-    (last_broke c.requires.link.called.keeps.follows g.call.seat c.args.body.now (held g (goal.at.returns-in-Ended g c).After-replace-state) c.requires.last
+    (last_broke c.requires.link.called.keeps.follows g.call.seat c.args.body.now (held g (goal.at.returns-in-Ended g c).After-into_parts-state) c.requires.last
     nobody c.in-Ended.rule c.in-Ended.frames (rw c.as_slice.ensures at c.in-Ended.ensures) c.end.new.links.items c.end.ensures)
 
 pub returns-in-OutOfMemory : goal.returns-in-OutOfMemory
 returns-in-OutOfMemory g c = wants c.requires.link.called _ _ refl
-    (held_restored c.requires.link.called.keeps.follows (held g (goal.at.returns-in-OutOfMemory g c).After-replace-state) c.index_mut-in-OutOfMemory.ensures.value c.in-OutOfMemory.ensures c.set_state.ensures)
+    (held_restored c.requires.link.called.keeps.follows (held g (goal.at.returns-in-OutOfMemory g c).After-into_parts-state) c.in-OutOfMemory.ensures (c.put.ensures ∙ ap (insert c.remove.new.self.items c.args.place) c.in_state.ensures))
