@@ -2,11 +2,11 @@
 use Rattle.node_core.proofs.Words.{is_full, is_open, true, false, Bool, List, None, Option, Some, ap, arith, cond, find, get_or, length, nat_eq, position}
 use Rattle.node_core.proofs.Words.{refl, set, subst, suc, sym, zero, ℕ, [], ◌∷◌, ◌<◌, ◌∙◌, ◌≡◌, ◌≤◌, ◌++◌, get_or-set_same, option_map, option_map_or}
 use Rattle.node_core.proofs.Words.{kept_climbs, same, is_empty, History, Follows, Parts, IsLinkOf, IsState, facts, link_words}
-use Rattle.node_core.proofs.Words.{KeptLink, StatelessLink, in_state, with_room, LinkState, IsReady, HaveMoved, OutFrame, moved_on, without_link, waiting, narrow_frames, HaveEnded}
+use Rattle.node_core.proofs.Words.{KeptLink, StatelessLink, in_state, with_room, LinkState, IsReady, HaveMoved, OutFrame, moved_on, without_link, waiting, Climbs, eq-eqb, eqb-true, filter, list_all, ltb-true, map, nat_lt, not, narrow_frames, HaveEnded}
 use Rattle.node_core.proofs.Words.{dial_beside, dialled_peer, up_peer, older_of}
 use Rattle.std.specs.List.{insert, remove}
 use Rattle.node_core.proofs.HeardFrames.{is_there, link_there, state_there}
-use Rattle.node_core.proofs.KeptOn.{each_at, one_follows}
+use Rattle.node_core.proofs.KeptOn.{below, each_at, filter_set, one_follows}
 
 -- ---- an element that is taken out
 
@@ -24,6 +24,20 @@ found_beside : {A : Type 0} (test : A → Bool) (xs : List A) (p : ℕ) (d : A) 
 found_beside test [] p d less q = absurd (omega (arith, less))
 found_beside test (x ∷ xs) zero d less q = ap (λ b. cond b (Some x) (find test xs)) (sym q)
 found_beside test (x ∷ xs) (suc p) d less q = ap (cond (test x) (Some x)) (found_beside test xs p d (omega (arith, less)) q)
+
+-- of links whose numbers climb, each but the one at a place has another number
+above_stay : (n : ℕ) (xs : List KeptLink) → list_all (λ m. nat_lt n m) (map (λ x. x.number) xs) ≡ true → filter (λ x. not (nat_eq x.number n)) xs ≡ xs
+above_stay n [] l = refl
+above_stay n (x ∷ xs) l = grind (arith, ltb-true n x.number, above_stay n xs)
+
+others_stay : (xs : List KeptLink) (p : ℕ) (d : KeptLink) → Climbs (map (λ x. x.number) xs) → p < length xs → filter (λ x. not (nat_eq x.number (get_or xs p d).number)) xs ≡ remove xs p
+others_stay [] p d c less = absurd (omega (arith, less))
+others_stay (x ∷ xs) zero d c less = grind (arith, above_stay x.number xs c.0)
+others_stay (x ∷ xs) (suc p) d c less =
+    let above_it = below x.number xs p d c.0 (omega (arith, less)) in
+    let unlike : nat_eq x.number (get_or xs p d).number ≡ false = grind (arith, eqb-true x.number (get_or xs p d).number, above_it) in
+    ap (λ b. cond (not b) (x ∷ filter (λ y. not (nat_eq y.number (get_or xs p d).number)) xs) (filter (λ y. not (nat_eq y.number (get_or xs p d).number)) xs)) unlike
+    ∙ ap (λ ys. x ∷ ys) (others_stay xs p d c.1 (omega (arith, less)))
 
 -- ---- a link that is taken out
 
@@ -101,11 +115,26 @@ module _ {h : History} {parts : Parts} (t : Follows h parts) {j p : ℕ} {v w ou
   -- it ends, and stays where frames wait for it
   pub held_ended : (frames : List (List ℕ)) {more : List OutFrame} → narrow_frames frames ≡ more → (new : List KeptLink) (m : HaveEnded p link frames left new)
       → new ≡ without_link (cond (is_empty (waiting h j ++ more)) (Some j) None) (set parts.links p (moved_on LinkState.Ended more m.room (get_or parts.links p v)))
-  held_ended frames these new m = held_moved LinkState.Ended (narrow_frames frames) _ new m
-      ∙ (λ i. without_link (cond (is_empty (waits i ++ these i)) (Some (held_number i)) None) (set parts.links p (moved_on LinkState.Ended (these i) m.room (get_or parts.links p v))))
+  held_ended frames {more} these new m = m.links
+      ∙ (λ i. cond (is_empty (waits i ++ these i)) (held.others i) ((back _ ∙ ap (λ x. set parts.links p (moved_on LinkState.Ended (narrow_frames frames) m.room x)) as_kept) i))
+      ∙ by (is_empty (waiting h j ++ more)) these
     where
+      there : (get_or parts.links p v).number ≡ j
+      there = (is_there h parts t j p held.at v).1
+
       waits : link.frames ≡ waiting h j
-      waits = ap (λ (x : KeptLink). x.frames) as_kept ∙ (link_there h parts t j p held.at v).frames ∙ ap (waiting h) (is_there h parts t j p held.at v).1
+      waits = ap (λ (x : KeptLink). x.frames) as_kept ∙ (link_there h parts t j p held.at v).frames ∙ ap (waiting h) there
+
+      by : (b : Bool) {fs gs : List OutFrame} → fs ≡ gs → cond b (remove (set parts.links p w) p) (set parts.links p (moved_on LinkState.Ended fs m.room (get_or parts.links p v)))
+          ≡ without_link (cond b (Some j) None) (set parts.links p (moved_on LinkState.Ended gs m.room (get_or parts.links p v)))
+      by false q = ap (λ fs. set parts.links p (moved_on LinkState.Ended fs m.room (get_or parts.links p v))) q
+      by true {gs = gs} q = changed_before parts.links p w
+          ∙ sym (others_stay parts.links p v (subst Climbs (sym t.links.numbers) (kept_climbs h t.sound.legal)) here)
+          ∙ ap (λ (n : ℕ). filter (λ (x : KeptLink). not (nat_eq x.number n)) parts.links) there
+          ∙ sym (filter_set (λ x. not (nat_eq x.number j)) parts.links p v (moved_on LinkState.Ended gs m.room (get_or parts.links p v)) here unlike unlike)
+        where
+          unlike : not (nat_eq (get_or parts.links p v).number j) ≡ false
+          unlike = ap not (eq-eqb _ j there)
 
   -- it goes back as it was
   pub held_restored : {back_state : LinkState} → back_state ≡ s → {new : List KeptLink} → new ≡ insert left p (in_state back_state link) → Follows h (record parts { links = new })

@@ -54,16 +54,17 @@ each_at P [] p d a less = absurd (omega (arith, less))
 each_at P (x ∷ xs) zero d a less = a.0
 each_at P (x ∷ xs) (suc p) d a less = each_at P xs p d a.1 (omega (arith, less))
 
+-- numbers that climb stay above the one before them
+pub below : (n : ℕ) (xs : List KeptLink) (p : ℕ) (d : KeptLink) → list_all (λ m. nat_lt n m) (map (λ x. x.number) xs) ≡ true → p < length xs → n < (get_or xs p d).number
+below n [] p d l less = absurd (omega (arith, less))
+below n (x ∷ xs) zero d l less = ltb-true n x.number (and_left (nat_lt n x.number) (list_all (λ m. nat_lt n m) (map (λ z. z.number) xs)) l)
+below n (x ∷ xs) (suc p) d l less = below n xs p d (and_right (nat_lt n x.number) (list_all (λ m. nat_lt n m) (map (λ z. z.number) xs)) l) (omega (arith, less))
+
 -- one link is changed, all others are as before
 module _ (w v : LinkWords) (y : KeptLink) (here : IsLinkOf v y) (on : (x : KeptLink) → nat_eq x.number y.number ≡ false → IsLinkOf w x → IsLinkOf v x) where
   above : (n : ℕ) (xs : List KeptLink) → list_all (λ m. nat_lt n m) (map (λ x. x.number) xs) ≡ true → n ≡ y.number → AllByRecursion (IsLinkOf w) xs → AllByRecursion (IsLinkOf v) xs
   above n [] l e a = tt
   above n (x ∷ xs) l e a = (on x (grind (arith, eqb-true x.number y.number, ltb-true n x.number)) a.0, above n xs (and_right (nat_lt n x.number) (list_all (λ m. nat_lt n m) (map (λ z. z.number) xs)) l) e a.1)
-
-  below : (n : ℕ) (xs : List KeptLink) (p : ℕ) (d : KeptLink) → list_all (λ m. nat_lt n m) (map (λ x. x.number) xs) ≡ true → p < length xs → n < (get_or xs p d).number
-  below n [] p d l less = absurd (omega (arith, less))
-  below n (x ∷ xs) zero d l less = ltb-true n x.number (and_left (nat_lt n x.number) (list_all (λ m. nat_lt n m) (map (λ z. z.number) xs)) l)
-  below n (x ∷ xs) (suc p) d l less = below n xs p d (and_right (nat_lt n x.number) (list_all (λ m. nat_lt n m) (map (λ z. z.number) xs)) l) (omega (arith, less))
 
   changed : (xs : List KeptLink) (p : ℕ) (d : KeptLink) → Climbs (map (λ x. x.number) xs) → AllByRecursion (IsLinkOf w) xs → p < length xs → y.number ≡ (get_or xs p d).number → AllByRecursion (IsLinkOf v) (set xs p y)
   changed [] p d c a less is = tt

@@ -1,7 +1,7 @@
 -- A link that moves on, and is put in at its place.
 use Rattle.node_core.proofs.Words.{Bool, List, None, Option, Some, ap, arith, cond, false, length, sym, true, ℕ, [], ◌++◌, ◌==◌, ◌∙◌, ◌∷◌, ◌≡◌}
 use Rattle.node_core.proofs.Words.{refl, eqb-true, is_empty, OutFrame, moved_on, without_link, KeptLink, StatelessLink, in_state, with_frames, with_room}
-use Rattle.node_core.proofs.Words.{LinkState, HaveMoved}
+use Rattle.node_core.proofs.Words.{LinkState, HaveMoved, HaveEnded, narrow_frames}
 use Rattle.std.specs.List.{insert}
 
 -- no element is as many as none
@@ -14,11 +14,12 @@ none_is_empty (x ∷ xs) true q = absurd (let none : length (x ∷ xs) ≡ 0 = e
 pub stated : {link : StatelessLink} {state : LinkState} {v w : KeptLink} (frames : List OutFrame) → v ≡ in_state state link → link.prepared ≡ [] → w ≡ with_room (with_frames v frames) w.room → w ≡ moved_on state frames w.room (in_state state link)
 stated {w = w} frames is idle owed = owed ∙ λ i. record { number = (is i).number; state = (is i).state; frames = (is i).frames ++ frames; prepared = (ap (λ (x : KeptLink). x.prepared) is ∙ idle) i; room = w.room }
 
-module _ (link : StatelessLink) (xs : List KeptLink) (p : ℕ) (state : LinkState) (frames : List OutFrame) (w : KeptLink) (owed : w ≡ moved_on state frames w.room (in_state state link)) (mid new : List KeptLink) (put : mid ≡ insert xs p w) where
+module _ (link : StatelessLink) (xs : List KeptLink) (p : ℕ) (w : KeptLink) where
   -- a link is put in, and another goes
-  pub put_in : (was lost : Option ℕ) → was ≡ lost → new ≡ without_link was mid → HaveMoved p link state frames lost xs new
-  put_in was lost is left = record { room = w.room; links = left ∙ λ i. without_link (is i) ((put ∙ ap (insert xs p) owed) i) }
+  pub put_in : (state : LinkState) (frames : List OutFrame) → w ≡ moved_on state frames w.room (in_state state link) → (mid new : List KeptLink) → mid ≡ insert xs p w
+      → (was lost : Option ℕ) → was ≡ lost → new ≡ without_link was mid → HaveMoved p link state frames lost xs new
+  put_in state frames owed mid new put was lost is left = record { room = w.room; links = left ∙ λ i. without_link (is i) ((put ∙ ap (insert xs p) owed) i) }
 
-  -- it goes itself, where nothing waits for it
-  pub put_in_or_gone : (b : Bool) → is_empty w.frames ≡ b → new ≡ without_link (cond b (Some link.number) None) mid → HaveMoved p link state frames (cond (is_empty (link.frames ++ frames)) (Some link.number) None) xs new
-  put_in_or_gone b empty left = put_in _ _ (ap (λ c. cond c (Some link.number) None) (sym empty ∙ ap (λ (x : KeptLink). is_empty x.frames) owed)) left
+  -- a link that ended is put in where frames wait for it
+  pub put_where : (bodies : List (List ℕ)) → w ≡ moved_on LinkState.Ended (narrow_frames bodies) w.room (in_state LinkState.Ended link) → (b : Bool) → is_empty w.frames ≡ b → (new : List KeptLink) → new ≡ cond b xs (insert xs p w) → HaveEnded p link bodies xs new
+  put_where bodies owed b empty new is = record { room = w.room; links = is ∙ λ i. cond ((sym empty ∙ ap (λ (x : KeptLink). is_empty x.frames) owed) i) xs (insert xs p (owed i)) }

@@ -37,9 +37,10 @@ pub record HaveMoved (place : ℕ) (link : StatelessLink) (state : LinkState) (f
 abbrev pub HaveGoneOn : ℕ → StatelessLink → LinkState → List (List ℕ) → Bool → List KeptLink → List KeptLink → Type 0
 HaveGoneOn place link state bodies gives_up old new = HaveMoved place link state (narrow_frames bodies) (cond gives_up (dial_beside state old) None) old new
 
--- the link has ended, and is gone unless frames wait for it
-abbrev pub HaveEnded : ℕ → StatelessLink → List (List ℕ) → List KeptLink → List KeptLink → Type 0
-HaveEnded place link bodies old new = HaveMoved place link states.Ended (narrow_frames bodies) (cond (is_empty (link.frames ++ narrow_frames bodies)) (Some link.number) None) old new
+-- the link has ended, and is put in again where frames wait for it
+pub record HaveEnded (place : ℕ) (link : StatelessLink) (bodies : List (List ℕ)) (old new : List KeptLink) : Type 0 where
+  pub room : ℕ
+  pub links : new ≡ cond (is_empty (link.frames ++ narrow_frames bodies)) old (insert old place (moved_on states.Ended (narrow_frames bodies) room (in_state states.Ended link)))
 
 -- the link is up, and its peer's older one is gone
 abbrev pub HaveComeUp : ℕ → StatelessLink → Linked → List (List ℕ) → List OutFrame → List KeptLink → List KeptLink → Type 0

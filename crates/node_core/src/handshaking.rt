@@ -177,20 +177,20 @@ fn remove_some(links: &mut Vec<Link>, number: Option<u32>)
     }
 }
 
-/// A link has ended. It is kept at this place as long as frames wait for it.
+/// A link has ended. It is kept, at this place, where frames wait for it.
 fn end(links: &mut Vec<Link>, place: usize, link: Stateless, frames: Bodies)
     requires within { place ≤ vec_len links.old }
     requires space { vec_len links.old < vec_capacity links.old }
     requires ready { IsReady link (length frames) }
     ensures { HaveEnded place link frames links.old.items links.new.items }
 {
-    let number = link.number();
     let mut link = link.in_state(LinkState::Ended);
     link.owe_bodies(frames);
-    let is_done = link.frames().is_empty();
-    put(links, place, link);
-    if is_done {
-        remove(links, number);
+    if link.frames().is_empty() {
+        // By name, so that a check follows the end of a link once.
+        drop(link);
+    } else {
+        put(links, place, link);
     }
 }
 
