@@ -1,5 +1,5 @@
 -- What an early frame of the handshake makes of a node: it goes on, or its link ends.
-use Rattle.node_core.proofs.Words.{is_name_up, is_dialling, is_dialled, Bool, List, None, Some, ap, cond, false, length, refl, set, subst, sym, true}
+use Rattle.node_core.proofs.Words.{is_name_up, is_dialling, is_dialled, Bool, List, None, Some, ap, cond, false, length, refl, subst, sym, true}
 use Rattle.node_core.proofs.Words.{ℕ, [], ◌∙◌, ◌≡◌, ◌≤◌, flat_map, option_map, option_to_list, Linked, Pending, lie, History, refusal_owes, IsNext}
 use Rattle.node_core.proofs.Words.{with_entry, awaits, is_last, is_whole, Accepted, Refused, Rule, Follows, Parts, HaveEnded, Hears, is_handshake}
 use Rattle.node_core.proofs.Words.{rule_of, LinksFollow, KeptLink, StatelessLink, dial_beside, dialled_peer, narrow_frames, up_peer, ScopesFollow, LinkState}

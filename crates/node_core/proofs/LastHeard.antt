@@ -2,15 +2,15 @@
 use Rattle.node_core.proofs.Words.{get_or, Bool, List, Some, ap, is_some, length, map, refl, set, subst, sym, true, ℕ, [], ◌∙◌, ◌≡◌, ◌≤◌, AllZip}
 use Rattle.node_core.proofs.Words.{unwrap_or, Linked, Pending, count_after_drop, lie, History, OutFrame, wide, IsNext, answer, with_entry, awaits}
 use Rattle.node_core.proofs.Words.{is_last, Change, Accepted, Refused, Reply, Rule, Follows, Parts, HaveEnded, older_of, Hears, is_handshake}
-use Rattle.node_core.proofs.Words.{KeptLink, StatelessLink, known_peer, narrow_frames, up_peer, ArePartings, IsCutOff, LinkState, Running, HaveComeUp, Message}
-use Rattle.node_core.proofs.Words.{Event, Heard, None, cond, false, ◌++◌, ◌<◌, ◌∷◌, same, Pid, stopped_lists, and_left, heard, told, is_up, listed}
+use Rattle.node_core.proofs.Words.{KeptLink, StatelessLink, known_peer, narrow_frames, ArePartings, IsCutOff, LinkState, Running, HaveComeUp, Message}
+use Rattle.node_core.proofs.Words.{Event, Heard, cond, false, ◌++◌, ◌<◌, ◌∷◌, same, Pid, stopped_lists, and_left, heard, told, is_up, listed}
 use Rattle.node_core.proofs.Words.{discovers, IsAnswered, is_full, present_link, Entry, moved_on, without_link, LinksFollow, link_words, scope_words}
 use Rattle.node_core.proofs.Words.{IsState, facts, get_or-set_same, is_open, nat_eq, position, with_room}
 use Rattle.node_core.proofs.Entered.{made, step_follows, accepted_now, answered_now, next_now}
 use Rattle.node_core.proofs.Found.{some_is}
 use Rattle.node_core.proofs.FrameRefused.{refused_follows, refused_next}
 use Rattle.node_core.proofs.HeardFrames.{few_frames, is_there, last_comes_up, last_state, state_there, unwhole_state}
-use Rattle.node_core.proofs.HeldLink.{IsHeld, held_is, held_number, held_seen, held_state, held_moved, held_ended, older_same}
+use Rattle.node_core.proofs.HeldLink.{IsHeld, held_number, held_seen, held_state, held_moved, held_ended, older_same}
 use Rattle.node_core.proofs.ProofChecked.{ComesUp, answered_up, awaits_last, comes, ended_by, fails, is_last_state, not_up_yet, meets, visible_now}
 use Rattle.policy_audit.proofs.HeardNow.{proved_heard}
 use Rattle.policy_audit.proofs.RowsAfter.{up_rows}

@@ -1,5 +1,5 @@
 -- A link that moves on, and is put in at its place.
-use Rattle.node_core.proofs.Words.{Bool, List, None, Option, Some, ap, arith, cond, false, length, sym, true, ℕ, [], ◌++◌, ◌==◌, ◌∙◌, ◌∷◌, ◌≡◌}
+use Rattle.node_core.proofs.Words.{Bool, List, Option, ap, arith, cond, false, length, sym, true, ℕ, [], ◌++◌, ◌==◌, ◌∙◌, ◌∷◌, ◌≡◌}
 use Rattle.node_core.proofs.Words.{refl, eqb-true, is_empty, OutFrame, moved_on, without_link, KeptLink, StatelessLink, in_state, with_frames, with_room}
 use Rattle.node_core.proofs.Words.{LinkState, HaveMoved, HaveEnded, narrow_frames}
 use Rattle.std.specs.List.{insert}
