@@ -23,12 +23,13 @@ build() {
   cp "$folder/crates/node_speed/out/node_speed" "$program"
 }
 
-# Prints a line of both: this key's, under this title. Of OTP it is the bare call, where there is one with lines, too.
+# Prints a line of both: this key's, under this title; of OTP that of the key $3, where it has another. Of OTP it is the bare call, where
+# there is one with lines, too.
 line() {
-  awk -v key="$1" -v title="$2" '
+  awk -v key="$1" -v title="$2" -v theirs="${3:-$1}" '
     FILENAME == ARGV[1] && $1 == key { own = $2 / 1000 }
-    FILENAME == ARGV[2] && $1 == key { other = $2 }
-    FILENAME == ARGV[2] && $1 == key "_bare" { bare = $2 }
+    FILENAME == ARGV[2] && $1 == theirs { other = $2 }
+    FILENAME == ARGV[2] && $1 == theirs "_bare" { bare = $2 }
     END {
       if (bare != "") other = bare
       if (other == "") printf "%-62s %12.2f %12s %8s\n", title, own, "-", "-"
@@ -48,9 +49,10 @@ line mix_500000 'the same, at 500,000 entries'
 line join_leave 'a join and a leave of one process'
 line join_leave_999 'the same, with 999 other members'
 line join_groups 'a join to one of 10,000 groups of four scopes'
-line members_1 'members of 1'
-line members_10 'members of 10'
-line members_1000 'members of 1,000'
+line members_1 'members of 1, asked again'
+line members_10 'members of 10, asked again'
+line members_1000 'members of 1,000, asked again'
+line members_1000_changed 'members of 1,000, asked after a change' members_1000
 line exit_1000 'the exit of a process with 1,000 memberships'
 line handshake 'a whole handshake and its loss, 6 events'
 line sync_one_group 'a Sync of 4,096 rows of one group'
