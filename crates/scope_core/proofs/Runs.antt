@@ -2,7 +2,7 @@
 use Rattle.scope_core.proofs.Words.{◌≡◌, ℕ, zero, suc, ◌<◌, ◌≤◌, Bool, true, false, List, [], ◌∷◌, take, drop, length, refl, ap, ◌∙◌, sym, arith}
 use Rattle.scope_core.proofs.Words.{get_or, is_gt, is_lt, filter, AllByRecursion, AllWithin, IsPartitionedBy, IsPartitionPoint, upto, tied_itself}
 use Rattle.scope_core.proofs.Words.{get_or-drop, length-drop, exact_bytes, text_cmp, Counted, same, Rises, counted_cmp, is_in, texts_total}
-use Rattle.scope_core.proofs.Words.{same_decides, HoldsAt, length-take-le}
+use Rattle.scope_core.proofs.Words.{same_decides, HoldsAt, length-take-le, take_all}
 use Rattle.std.proofs.lemmas.List.{get_or-take}
 use Rattle.scope_core.proofs.Rising.{groups_above}
 
@@ -28,12 +28,12 @@ module _ {A : Type 0} (p : A → Bool) where
       grind (arith, a 0 x, filter_takes n xs (omega (arith, l)) front back)
 
   -- where one fails the test, and with it all behind it, those before it are enough
-  pub nearest_all : (n : ℕ) (xs : List A) → IsPartitionedBy p xs → n < length xs → HoldsAt (λ x. p x ≡ false) xs n → filter p (take n xs) ≡ filter p xs
-  nearest_all zero xs f l h = sym (filter_none xs (λ k d m b. grind (arith, f 0 k d, h d)))
-  nearest_all (suc n) [] f l h = refl
-  nearest_all (suc n) (x ∷ xs) f l h = grind (arith, nearest_all n xs (λ i j d a b. f (suc i) (suc j) d (omega (arith, a)) (omega (arith, b))) (omega (arith, l)) h)
+  pub nearest_all : (n : ℕ) (xs : List A) → IsPartitionedBy p xs → (n < length xs → HoldsAt (λ x. p x ≡ false) xs n) → filter p (take n xs) ≡ filter p xs
+  nearest_all n [] f h = ap (filter p) (take_all n [] (omega arith))
+  nearest_all zero (x ∷ xs) f h = sym (filter_none (x ∷ xs) (λ k d m b. grind (arith, f 0 k d, h (omega arith) d)))
+  nearest_all (suc n) (x ∷ xs) f h = grind (arith, nearest_all n xs (λ i j d a b. f (suc i) (suc j) d (omega (arith, a)) (omega (arith, b))) (λ l. h (omega (arith, l))))
 
-  pub nearest_front : (n : ℕ) (xs : List A) → IsPartitionedBy p xs → n < length xs → IsPartitionedBy p (take n xs)
+  pub nearest_front : (n : ℕ) (xs : List A) → IsPartitionedBy p xs → n ≤ length xs → IsPartitionedBy p (take n xs)
   nearest_front n xs f l i j d a b e = grind (arith, f i j d, get_or-take, length-take-le)
 
   -- a test that fails for all after a place where it failed

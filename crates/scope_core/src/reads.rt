@@ -13,8 +13,8 @@ use dist_types::{Group, OutOfMemory, Pid, Row, TryClone};
 use std::alloc::Global;
 use std::cmp::Ordering;
 
-/// Most groups have one row of a node, or a few. So the end of a group is looked for right behind its first row, then within so many
-/// rows, and only then among all: each row that is looked at is likely to lie far from the others in memory.
+/// Most groups have no row of a node, or one, or a few. So the end of a group is looked for right where it begins, then behind its first
+/// row, then within so many, and only then among all rows: each that is looked at is likely to lie far from the others in memory.
 const NEAR: usize = 8;
 
 /// The rows of a group.
@@ -32,27 +32,25 @@ fn in_front<'a>(rows: &'a [BoxedRow], group: &Group) -> &'a [BoxedRow]
     requires { IsPartitionedBy (is_in group.now) rows.now }
     ensures { result.now ≡ filter (is_in group.now) rows.now }
 {
-    let near = nearest(rows, group);
+    let (near, _) = rows.split_at(reach(rows, group));
     let end = near.partition_point(|counted| counted.row().group == *group);
     let (run, _) = near.split_at(end);
     run
 }
 
-/// The first rows, with all that are of the group among them.
-#[tactic(auto, using(crate::proofs::Runs::nearest_front))]
-fn nearest<'a>(rows: &'a [BoxedRow], group: &Group) -> &'a [BoxedRow]
-    requires { IsPartitionedBy (is_in group.now) rows.now }
-    ensures all { filter (is_in group.now) result.now ≡ filter (is_in group.now) rows.now }
-    ensures front { IsPartitionedBy (is_in group.now) result.now }
+/// How many of the first rows to search for the end of a group, which stands in front. The next row, if there is one, is another group's.
+fn reach(rows: &[BoxedRow], group: &Group) -> usize
+    ensures bound { result ≤ length rows.now }
+    ensures past { result < length rows.now → HoldsAt (λ c. is_in group.now c ≡ false) rows.now result }
 {
-    if is_past(rows, 1, group) {
-        let (near, _) = rows.split_at(1);
-        near
+    if is_past(rows, 0, group) {
+        0
+    } else if is_past(rows, 1, group) {
+        1
     } else if is_past(rows, NEAR, group) {
-        let (near, _) = rows.split_at(NEAR);
-        near
+        NEAR
     } else {
-        rows
+        rows.len()
     }
 }
 
