@@ -1,9 +1,12 @@
 -- A node more in the list of a group, or one less.
-use Rattle.scope_core.proofs.Words.{◌≡◌, ℕ, ◌≤◌, ◌&&◌, ◌+◌, Bool, true, false, cond, not, List, [], ◌∷◌, Option, None, Some, refl, sym, ap, arith}
-use Rattle.scope_core.proofs.Words.{filter, insert, list_any, same, same_decides, how_many, zero, suc, ◌<◌, ◌∙◌, nat_lt, subst, same_sym, is_gt, Less}
-use Rattle.scope_core.proofs.Words.{AllByRecursion, text_cmp, occurrences, is_among, Ascends, Rises, named_groups, node_names, times_named}
+use Rattle.scope_core.proofs.Words.{◌≡◌, ℕ, ◌≤◌, ◌&&◌, ◌+◌, Bool, true, false, cond, List, [], ◌∷◌, Option, None, Some, refl, sym, ap, arith, length}
+use Rattle.scope_core.proofs.Words.{insert, remove, same, same_decides, how_many, how_many_is, sum_by-insert, sum_by-remove, ◌<◌, ◌∙◌, nat_lt, subst, same_sym}
+use Rattle.scope_core.proofs.Words.{is_gt, Less, AllByRecursion, HoldsAt, text_cmp, texts_total, tied_itself, occurrences, is_among, Ascends, Rises, all_from, ltb-true}
+use Rattle.scope_core.proofs.Words.{named_groups, node_names, times_named, get_or, exact_bytes, IsBinarySearchResult, IfOk}
 use Rattle.scope_core.proofs.Groups.{below, among_counts}
-use Rattle.scope_core.specs.GroupNodes.{AreNamedOnce}
+use Rattle.scope_core.proofs.Rising.{none_pass}
+use Rattle.scope_core.proofs.Searches.{rises_with, rises_without}
+use Rattle.scope_core.specs.GroupNodes.{AreInOrder, IsNameGap, nodes_of}
 use Rattle.dist_types.specs.Listing.{IsListing}
 use Rattle.std.specs.List.{IsDistinct}
 use Rattle.std.specs.Prelude.{Vec, Result, Ok, Err, OnErr}
@@ -16,83 +19,90 @@ Named = List (List ℕ × Vec (List ℕ) Global)
 abbrev pub times : List (List ℕ) → List ℕ → ℕ
 times ns n = how_many (λ m. same m n) ns
 
-abbrev pub times_of : Option (Vec (List ℕ) Global) → List ℕ → ℕ
-times_of None n = 0
-times_of (Some v) n = times v.items n
+abbrev pub items_of : Option (Vec (List ℕ) Global) → List (List ℕ)
+items_of None = []
+items_of (Some v) = v.items
 
 -- ---- one list
 
+above_none : (m : List ℕ) (ns : List (List ℕ)) → AllByRecursion (λ k. text_cmp m k ≡ Less) ns → times ns m ≡ 0
+above_none m [] a = refl
+above_none m (k ∷ ns) a = grind (arith, above_none m ns a.1, same_decides k m, tied_itself texts_total m)
+
+-- no name stands in a rising list twice
+pub times_once : (ns : List (List ℕ)) → Rises text_cmp ns → (n : List ℕ) → times ns n ≤ 1
+times_once [] r n = omega arith
+times_once (k ∷ ns) r n = grind (arith, times_once ns r.1 n, above_none k ns r.0, same_decides k n)
+
 times_insert : (ns : List (List ℕ)) (i : ℕ) (m n : List ℕ) → times (insert ns i m) n ≡ times ns n + cond (same m n) 1 0
-times_insert ns zero m n = grind arith
-times_insert [] (suc i) m n = grind arith
-times_insert (k ∷ ns) (suc i) m n = grind (arith, times_insert ns i m n)
+times_insert ns i m n = grind (arith, how_many_is, sum_by-insert)
 
-pub times_filter : (m : List ℕ) (ns : List (List ℕ)) (n : List ℕ) → times (filter (λ k. not (same k m)) ns) n ≡ cond (same m n) 0 (times ns n)
-times_filter m [] n = grind arith
-times_filter m (k ∷ ns) n = grind (arith, times_filter m ns n, same_decides k m, same_decides k n, same_decides m n)
+times_remove : (ns : List (List ℕ)) (i : ℕ) (m n : List ℕ) → i < length ns → HoldsAt (λ k. k ≡ m) ns i → times (remove ns i) n + cond (same m n) 1 0 ≡ times ns n
+times_remove ns i m n l at = grind (arith, how_many_is, sum_by-remove (λ k. cond (same k n) 1 0) ns i m l, at m)
 
-times_none : (m : List ℕ) (ns : List (List ℕ)) → list_any (λ k. same k m) ns ≡ false → times ns m ≡ 0
-times_none m [] e = refl
-times_none m (k ∷ ns) e = grind (arith, times_none m ns)
+gap_none : (m : List ℕ) (ns : List (List ℕ)) (i : ℕ) → IsNameGap m ns i → times ns m ≡ 0
+gap_none m ns i gap = grind (arith, ltb-true, all_from, none_pass, same_decides, tied_itself texts_total m)
 
-times_some : (m : List ℕ) (ns : List (List ℕ)) → list_any (λ k. same k m) ns ≡ true → 1 ≤ times ns m
-times_some m [] e = grind arith
-times_some m (k ∷ ns) e = grind (arith, times_some m ns)
+pub name_found : (ns : List (List ℕ)) (m : List ℕ) (r : Result ℕ ℕ) → IsBinarySearchResult (λ k. text_cmp k m) ns r → IfOk r (HoldsAt (λ k. k ≡ m) ns)
+name_found ns m (Ok i) h = λ d. exact_bytes (get_or ns i d) m (h d)
+name_found ns m (Err i) h = tt
 
 -- it stands there already
-pub stands : (m : List ℕ) (ns : List (List ℕ)) → list_any (λ k. same k m) ns ≡ true → ((n : List ℕ) → times ns n ≤ 1) → (n : List ℕ) → times ns n ≡ cond (same m n) 1 (times ns n)
-stands m ns e once n = grind (arith, times_some m ns e, once m, same_decides m n)
+pub stands : (m : List ℕ) (ns : List (List ℕ)) (i : ℕ) → i < length ns → HoldsAt (λ k. k ≡ m) ns i → Rises text_cmp ns → (n : List ℕ) → times ns n ≡ cond (same m n) 1 (times ns n)
+stands m ns i l at r n = grind (arith, times_remove ns i m n l at, times_once ns r n, same_decides m n)
 
 -- it is put in
-pub put_in_times : (m : List ℕ) (ns : List (List ℕ)) (i : ℕ) → list_any (λ k. same k m) ns ≡ false → (n : List ℕ) → times (insert ns i m) n ≡ cond (same m n) 1 (times ns n)
-put_in_times m ns i e n = grind (arith, times_insert ns i m n, times_none m ns e, same_decides m n)
+pub put_in_times : (m : List ℕ) (ns : List (List ℕ)) (i : ℕ) → IsNameGap m ns i → (n : List ℕ) → times (insert ns i m) n ≡ cond (same m n) 1 (times ns n)
+put_in_times m ns i gap n = grind (arith, times_insert ns i m n, gap_none m ns i gap, same_decides m n)
 
-pub put_in_once : (m : List ℕ) (ns : List (List ℕ)) (i : ℕ) → list_any (λ k. same k m) ns ≡ false → ((n : List ℕ) → times ns n ≤ 1) → (n : List ℕ) → times (insert ns i m) n ≤ 1
-put_in_once m ns i e once n = grind (arith, put_in_times m ns i e n, once n)
+pub put_in_rises : (m : List ℕ) (ns : List (List ℕ)) (i : ℕ) → i ≤ length ns → IsNameGap m ns i → Rises text_cmp ns → Rises text_cmp (insert ns i m)
+put_in_rises m ns i l gap r = rises_with texts_total (λ n. n) ns i m l r gap
+
+-- it is taken out
+pub taken_times : (m : List ℕ) (ns : List (List ℕ)) (i : ℕ) → i < length ns → HoldsAt (λ k. k ≡ m) ns i → Rises text_cmp ns → (n : List ℕ) → times (remove ns i) n ≡ cond (same m n) 0 (times ns n)
+taken_times m ns i l at r n = grind (arith, times_remove ns i m n l at, times_once ns r n, same_decides m n)
+
+-- it isn't there
+pub absent_times : (m : List ℕ) (ns : List (List ℕ)) (i : ℕ) → IsNameGap m ns i → (n : List ℕ) → times ns n ≡ cond (same m n) 0 (times ns n)
+absent_times m ns i gap n = grind (arith, gap_none m ns i gap, same_decides m n)
 
 -- ---- among the lists of all groups
 
-pub named_is : (es : Named) (g n : List ℕ) → times_named (node_names es) g n ≡ times_of (lookup (same g) es) n
-named_is [] g n = refl
-named_is (e ∷ es) g n = grind (arith, named_is es g n)
+pub nodes_are : (es : Named) (g : List ℕ) → nodes_of (node_names es) g ≡ items_of (lookup (same g) es)
+nodes_are [] g = refl
+nodes_are (e ∷ es) g = grind (arith, nodes_are es g)
 
 module _ (es new : Named) (group : List ℕ) (w : Option (Vec (List ℕ) Global)) (up : (q : List ℕ) → lookup (same q) new ≡ cond (same group q) w (lookup (same q) es)) where
   -- the list of one group is another
-  pub set_times : (node : List ℕ) (k : ℕ) → ((n : List ℕ) → times_of w n ≡ cond (same node n) k (times_of (lookup (same group) es) n))
+  set_nodes : (g : List ℕ) → nodes_of (node_names new) g ≡ cond (same group g) (items_of w) (nodes_of (node_names es) g)
+  set_nodes g = grind (arith, nodes_are new g, nodes_are es g, up g)
+
+  pub set_times : (node : List ℕ) (k : ℕ) → ((n : List ℕ) → times (items_of w) n ≡ cond (same node n) k (times_named (node_names es) group n))
       → (g n : List ℕ) → times_named (node_names new) g n ≡ cond (same group g && same node n) k (times_named (node_names es) g n)
-  set_times node k here g n = grind (arith, named_is new g n, named_is es g n, up g, here n, same_decides group g)
+  set_times node k here g n = grind (arith, set_nodes g, here n, same_decides group g)
 
-  pub set_same_times : ((n : List ℕ) → times_of w n ≡ times_of (lookup (same group) es) n) → (g n : List ℕ) → times_named (node_names new) g n ≡ times_named (node_names es) g n
-  set_same_times here g n = grind (arith, named_is new g n, named_is es g n, up g, here n, same_decides group g)
+  pub set_same_times : ((n : List ℕ) → times (items_of w) n ≡ times_named (node_names es) group n) → (g n : List ℕ) → times_named (node_names new) g n ≡ times_named (node_names es) g n
+  set_same_times here g n = grind (arith, set_nodes g, here n, same_decides group g)
 
-  pub set_once : ((n : List ℕ) → times_of w n ≤ 1) → AreNamedOnce (node_names es) → AreNamedOnce (node_names new)
-  set_once here once g n = grind (arith, named_is new g n, named_is es g n, up g, here n, once g n)
+  pub set_rises : Rises text_cmp (items_of w) → AreInOrder (node_names es) → AreInOrder (node_names new)
+  set_rises here rise g = by (same group g) (set_nodes g)
+    where
+      by : (b : Bool) → nodes_of (node_names new) g ≡ cond b (items_of w) (nodes_of (node_names es) g) → Rises text_cmp (nodes_of (node_names new) g)
+      by true e = rw e here
+      by false e = rw e (rise g)
 
-pub found_times : (es : Named) (g : List ℕ) (v : Vec (List ℕ) Global) → lookup (same g) es ≡ Some v → (n : List ℕ) → times v.items n ≡ times_named (node_names es) g n
-found_times es g v found n = grind (arith, named_is es g n)
+  pub set_none : items_of w ≡ [] → (n : List ℕ) → times_named (node_names new) group n ≡ 0
+  set_none e n = grind (arith, set_nodes group, same_decides group group)
+
+pub found_nodes : (es : Named) (g : List ℕ) (v : Vec (List ℕ) Global) → lookup (same g) es ≡ Some v → v.items ≡ nodes_of (node_names es) g
+found_nodes es g v found = sym (nodes_are es g ∙ ap items_of found)
 
 pub none_times : (es : Named) (g : List ℕ) → lookup (same g) es ≡ None → (n : List ℕ) → times_named (node_names es) g n ≡ 0
-none_times es g none n = grind (arith, named_is es g n)
-
-pub of_found : (o : Option (Vec (List ℕ) Global)) (v : Vec (List ℕ) Global) → o ≡ Some v → (n : List ℕ) → times v.items n ≡ times_of o n
-of_found o v found n = ap (λ x. times_of x n) (sym found)
-
-pub empty_times : (v : Vec (List ℕ) Global) → v.items ≡ [] → (n : List ℕ) → times v.items n ≡ 0
-empty_times v e n = ap (λ ns. times ns n) e
+none_times es g none n = ap (λ ns. times ns n) (nodes_are es g ∙ ap items_of none)
 
 pub err_still : {T E A B : Type 0} (r : Result T E) → (A → B) → OnErr r A → OnErr r B
 err_still (Ok x) f a = tt
 err_still (Err e) f a = f a
-
-pub few_found : (es : Named) (g : List ℕ) (v : Vec (List ℕ) Global) → lookup (same g) es ≡ Some v → AreNamedOnce (node_names es) → (n : List ℕ) → times v.items n ≤ 1
-few_found es g v found once n = let e = found_times es g v found n in omega (arith, e, once g n)
-
-pub fewer : (b : Bool) (was now : ℕ) → now ≡ cond b 0 was → was ≤ 1 → now ≤ 1
-fewer b was now e l = grind arith
-
-pub set_none : (es new : Named) (group : List ℕ) (w : Vec (List ℕ) Global) → ((q : List ℕ) → lookup (same q) new ≡ cond (same group q) (Some w) (lookup (same q) es)) → w.items ≡ []
-    → (n : List ℕ) → times_named (node_names new) group n ≡ 0
-set_none es new group w up e n = grind (arith, named_is new group n, up group, empty_times w e n, same_decides group group)
 
 -- ---- the groups in order
 
@@ -148,3 +158,8 @@ names_rise (g ∷ gs) a once = (all_above g gs a.0 (grind (arith, once g, same_d
 
 pub still_among : (xs ys : List (List ℕ)) → IsListing text_cmp same (λ g. occurrences same g xs) ys → (g : List ℕ) → is_among g ys ≡ is_among g xs
 still_among xs ys listing g = among_counts g ys ∙ ap (nat_lt 0) (listing.counts g) ∙ sym (among_counts g xs)
+
+-- what stays of the order where a name is put in, and where one is taken out
+pub ruleset puts_name = (put_in_times, put_in_rises)
+
+pub ruleset takes_name = (taken_times, rises_without)

@@ -2,6 +2,7 @@ pub mod Words
 pub mod Rising
 pub mod Shares
 pub mod Runs
+pub mod Searches
 pub mod Groups
 pub mod Summed
 pub mod Unnamed

@@ -1,32 +1,19 @@
 -- Where a row is among rows that rise, and what is counted there.
 use Rattle.scope_core.proofs.Words.{◌≡◌, ℕ, zero, suc, ◌<◌, ◌≤◌, true, false, List, [], ◌∷◌, length, Result, Ok, Err, IfOk, IfErr}
-use Rattle.scope_core.proofs.Words.{ap, ◌∙◌, arith, get_or, add-one, Ordering, Less, Equal, is_lt, ordering_index, HoldsAt}
-use Rattle.scope_core.proofs.Words.{AllByRecursion, IsBinarySearchResult, IsSortedBy, IsNonDecreasingBy, ltb-true, and_from, tied_itself}
-use Rattle.scope_core.proofs.Words.{searchable_from_sorted, Pid, Row, row_cmp, Rises, Counted, is_row, tally, counted_cmp, row_in}
+use Rattle.scope_core.proofs.Words.{ap, ◌∙◌, arith, get_or, Ordering, Less, Equal, is_lt, HoldsAt}
+use Rattle.scope_core.proofs.Words.{AllByRecursion, IsBinarySearchResult, ltb-true, and_from, tied_itself}
+use Rattle.scope_core.proofs.Words.{Pid, Row, row_cmp, Rises, Counted, is_row, tally, counted_cmp, row_in}
 use Rattle.scope_core.proofs.Words.{IsGap, rows_total, exact_rows, same_decides, same_pid_decides, all_from}
+use Rattle.scope_core.proofs.Searches.{gap_in}
 use Rattle.scope_core.proofs.Rising.{row_is, once, tally_absent}
 use Rattle.scope_core.proofs.Runs.{all_at}
-
--- rows that rise can be searched
-rising_next : (cs : List Counted) → Rises counted_cmp cs → (k : ℕ) (d : Counted) → suc k < length cs → is_lt (row_cmp (get_or cs (suc k) d).row (get_or cs k d).row) ≡ false
-rising_next [] r k d h = grind arith
-rising_next (c ∷ []) r k d h = grind arith
-rising_next (c ∷ x ∷ xs) r zero d h = grind (arith, rows_total.antisymm)
-rising_next (c ∷ x ∷ xs) r (suc k) d h = rising_next (x ∷ xs) r.1 k d (omega (arith, h))
-
-rising_sorted : (cs : List Counted) → Rises counted_cmp cs → IsSortedBy (λ c d. is_lt (row_cmp c.row d.row)) cs
-rising_sorted cs r k d l h = ap (λ n. is_lt (row_cmp (get_or cs n d).row (get_or cs k d).row)) (add-one k) ∙ rising_next cs r k d (omega (arith, h))
-
-pub searchable : (cs : List Counted) (row : Row) → Rises counted_cmp cs → IsNonDecreasingBy (λ c. ordering_index (row_cmp c.row row)) cs
-searchable cs row r = searchable_from_sorted rows_total (λ (c : Counted). c.row) cs row (rising_sorted cs r)
 
 pub found_is : (cs : List Counted) (row : Row) (r : Result ℕ ℕ) → IsBinarySearchResult (λ c. row_cmp c.row row) cs r → IfOk r (HoldsAt (λ c. c.row ≡ row) cs)
 found_is cs row (Ok i) h = grind (arith, exact_rows)
 found_is cs row (Err i) h = tt
 
 pub gap_is : (cs : List Counted) (row : Row) (r : Result ℕ ℕ) → Rises counted_cmp cs → IsBinarySearchResult (λ c. row_cmp c.row row) cs r → IfErr r (IsGap row cs)
-gap_is cs row (Ok i) r h = tt
-gap_is cs row (Err i) r h = h (searchable cs row r)
+gap_is = gap_in rows_total (λ c. c.row)
 
 pub lt_is : (o : Ordering) → is_lt o ≡ true → o ≡ Less
 lt_is o e = grind arith

@@ -5,15 +5,11 @@ use Rattle.scope_core.proofs.Words.{get_or-le-sum_by, Row, row_cmp, Counted, Ris
 use Rattle.scope_core.proofs.Words.{HasRoomBeside, IsGap, rows_total, same_decides, total_is, how_many_append, all_from, ◌-◌, true, false, ◌&&◌, take}
 use Rattle.scope_core.proofs.Words.{take_more, remove, HoldsAt, sum_by-remove, Pid, same, same_pid, mentions, is_row, row_in, Takes, same_sym}
 use Rattle.scope_core.proofs.Words.{same_pid_decides, Option, ReversedBelow, IsPermutation, sum_by-append, sum_by-IsPermutation, AreCounted}
+use Rattle.scope_core.proofs.Searches.{all_insert, all_remove, rises_with, rises_without}
 use Rattle.scope_core.proofs.Runs.{all_at}
 use Rattle.std.specs.Option.{option_to_list}
 
 module _ {A : Type 0} (P : A → Type 0) where
-  all_insert : (xs : List A) (i : ℕ) (y : A) → P y → AllByRecursion P xs → AllByRecursion P (insert xs i y)
-  all_insert xs zero y p a = (p, a)
-  all_insert [] (suc i) y p a = (p, tt)
-  all_insert (x ∷ xs) (suc i) y p a = (a.0, all_insert xs i y p a.1)
-
   pub all_set : (xs : List A) (i : ℕ) (y : A) → P y → AllByRecursion P xs → AllByRecursion P (set xs i y)
   all_set [] i y p a = tt
   all_set (x ∷ xs) zero y p a = (p, a.1)
@@ -21,12 +17,7 @@ module _ {A : Type 0} (P : A → Type 0) where
 
 pub rises_insert : (cs : List Counted) (i : ℕ) (x : Counted) → i ≤ length cs → Rises counted_cmp cs
     → IsGap x.row cs i → Rises counted_cmp (insert cs i x)
-rises_insert cs zero x l r p = grind (arith, rows_total.antisymm, all_from)
-rises_insert [] (suc i) x l r p = grind arith
-rises_insert (c ∷ cs) (suc i) x l r p = (
-  all_insert (λ d. counted_cmp c d ≡ Less) cs i x (p.0 0 c (omega arith) (omega arith)) r.0,
-  rises_insert cs i x (omega (arith, l)) r.1 ((λ k d m h. p.0 (suc k) d (omega arith) (omega (arith, h))), (λ k d m h. p.1 (suc k) d (omega (arith, m)) (omega (arith, h)))),
-)
+rises_insert = rises_with rows_total (λ c. c.row)
 
 pub rises_set : (cs : List Counted) (i : ℕ) (x : Counted) → i < length cs → x.row ≡ (get_or cs i x).row → Rises counted_cmp cs → Rises counted_cmp (set cs i x)
 rises_set [] i x l e r = tt
@@ -69,18 +60,6 @@ pub grown_kept : (cs : List Counted) (i : ℕ) (c x : Counted) → i < length cs
     → IsKept (set cs i (record { row = c.row; count = c.count + x.count }))
 grown_kept cs i c x l e same kept some few = grind (arith, get_or_default, rises_set, all_set, tally_grown)
 
-all_remove : {A : Type 0} (P : A → Type 0) (xs : List A) (i : ℕ) → AllByRecursion P xs → AllByRecursion P (remove xs i)
-all_remove P [] zero a = tt
-all_remove P [] (suc i) a = tt
-all_remove P (x ∷ xs) zero a = a.1
-all_remove P (x ∷ xs) (suc i) a = (a.0, all_remove P xs i a.1)
-
-rises_remove : (cs : List Counted) (i : ℕ) → Rises counted_cmp cs → Rises counted_cmp (remove cs i)
-rises_remove [] zero r = tt
-rises_remove [] (suc i) r = tt
-rises_remove (c ∷ cs) zero r = r.1
-rises_remove (c ∷ cs) (suc i) r = grind (arith, rises_remove cs i r.1, all_remove)
-
 pub tally-remove : (cs : List Counted) (i : ℕ) (c : Counted) → i < length cs → c ≡ get_or cs i c → c.count ≡ 1 → Adds (c.row ∷ []) (remove cs i) cs
 tally-remove cs i c l e one test = grind (arith, total_is, sum_by-remove)
 
@@ -103,7 +82,7 @@ its_last cs i c l e kept last = grind (arith, all_at)
 
 pub removed_kept : (cs : List Counted) (i : ℕ) (c : Counted) → i < length cs → c ≡ get_or cs i c → c.count ≡ 1 → IsKept cs → IsKept (remove cs i)
 removed_kept cs i c l e one kept = record {
-  rises = rises_remove cs i kept.rises;
+  rises = rises_without counted_cmp cs i kept.rises;
   counted = all_remove (λ x. 0 < x.count) cs i kept.counted;
   few = λ n. let a = tally-remove cs i c l e one (is_of_node n) in let b = kept.few n in omega (arith, a, b);
 }

@@ -2,7 +2,8 @@
 use Rattle.scope_core.proofs.Words.{◌≡◌, ℕ, zero, suc, ◌<◌, ◌≤◌, Bool, true, false, List, [], ◌∷◌, take, drop, length, refl, ap, ◌∙◌, sym, arith}
 use Rattle.scope_core.proofs.Words.{get_or, is_gt, is_lt, filter, AllByRecursion, AllWithin, IsPartitionedBy, IsPartitionPoint, upto, tied_itself}
 use Rattle.scope_core.proofs.Words.{get_or-drop, length-drop, exact_bytes, text_cmp, Counted, same, Rises, counted_cmp, is_in, texts_total}
-use Rattle.scope_core.proofs.Words.{same_decides}
+use Rattle.scope_core.proofs.Words.{same_decides, HoldsAt, length-take-le, take_all}
+use Rattle.std.proofs.lemmas.List.{get_or-take}
 use Rattle.scope_core.proofs.Rising.{groups_above}
 
 module _ {A : Type 0} (p : A → Bool) where
@@ -25,6 +26,15 @@ module _ {A : Type 0} (p : A → Bool) where
       let front = λ (k : ℕ) (d : A) (m : 0 ≤ k) (h : k < n). a (suc k) d (omega arith) (omega (arith, h)) in
       let back = λ (k : ℕ) (d : A) (m : n ≤ k) (h : k < length xs). b (suc k) d (omega (arith, m)) (omega (arith, h)) in
       grind (arith, a 0 x, filter_takes n xs (omega (arith, l)) front back)
+
+  -- where one fails the test, and with it all behind it, those before it are enough
+  pub nearest_all : (n : ℕ) (xs : List A) → IsPartitionedBy p xs → (n < length xs → HoldsAt (λ x. p x ≡ false) xs n) → filter p (take n xs) ≡ filter p xs
+  nearest_all n [] f h = ap (filter p) (take_all n [] (omega arith))
+  nearest_all zero (x ∷ xs) f h = sym (filter_none (x ∷ xs) (λ k d m b. grind (arith, f 0 k d, h (omega arith) d)))
+  nearest_all (suc n) (x ∷ xs) f h = grind (arith, nearest_all n xs (λ i j d a b. f (suc i) (suc j) d (omega (arith, a)) (omega (arith, b))) (λ l. h (omega (arith, l))))
+
+  pub nearest_front : (n : ℕ) (xs : List A) → IsPartitionedBy p xs → n ≤ length xs → IsPartitionedBy p (take n xs)
+  nearest_front n xs f l i j d a b e = grind (arith, f i j d, get_or-take, length-take-le)
 
   -- a test that fails for all after a place where it failed
   partitioned_from : (xs : List A) → ((i j : ℕ) (d : A) → i ≤ j → j < length xs → p (get_or xs i d) ≡ false → p (get_or xs j d) ≡ false) → IsPartitionedBy p xs
@@ -71,9 +81,6 @@ not_same g c b = grind (arith, same_decides c.row.group g, tied_itself texts_tot
 pub from_start : (g : List ℕ) (cs : List Counted) (start : ℕ) → AllWithin (λ c. is_before g c ≡ false) cs start (length cs) → AllWithin (λ c. is_before g c ≡ false) (drop start cs) 0 (length (drop start cs))
 from_start g cs start a k d l h = grind (arith, get_or-drop, length-drop)
 
--- the run between the two places is the group
-pub run_is : (g : List ℕ) (cs rest run : List Counted) (start end : ℕ) → IsPartitionPoint (λ c. is_before g c ≡ true) (λ c. is_before g c ≡ false) cs start
-    → rest ≡ drop start cs → end ≤ length rest → IsPartitionPoint (λ c. is_in g c ≡ true) (λ c. is_in g c ≡ false) rest end → run ≡ take end rest → run ≡ filter (is_in g) cs
-run_is g cs rest run start end a e l b f =
-    f ∙ sym (filter_takes (is_in g) end rest l b.0 b.1) ∙ ap (filter (is_in g)) e
-    ∙ sym (filter_skips (is_in g) start cs (λ k d m h. not_same g (get_or cs k d) (a.0 k d m h)))
+-- of the rows before it none is of the group
+pub run_from : (g : List ℕ) (cs rest : List Counted) (start : ℕ) → IsPartitionPoint (λ c. is_before g c ≡ true) (λ c. is_before g c ≡ false) cs start → rest ≡ drop start cs → filter (is_in g) rest ≡ filter (is_in g) cs
+run_from g cs rest start a e = ap (filter (is_in g)) e ∙ sym (filter_skips (is_in g) start cs (λ k d m h. not_same g (get_or cs k d) (a.0 k d m h)))

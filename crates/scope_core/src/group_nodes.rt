@@ -1,10 +1,10 @@
 //! The nodes whose processes are in each group.
-ghost use Rattle.std.specs.Prelude.{◌≡◌, ◌≤◌, ◌<◌, ◌&&◌, ℕ, List, [], cond, IsTrue, IfSome, IfOk, OnOk, OnErr, ◌∷◌};
-ghost use Rattle.std.specs.List.{IsDistinct};
+ghost use Rattle.std.specs.Prelude.{◌≡◌, ◌≤◌, ◌<◌, ◌&&◌, ℕ, List, [], cond, IsTrue, IfSome, IfOk, IfErr, OnOk, OnErr, ◌∷◌, length};
+ghost use Rattle.std.specs.List.{IsDistinct, HoldsAt};
 ghost use Rattle.std.specs.Map.{keys_of};
 ghost use Rattle.dist_types.specs.Order.{text_cmp};
 ghost use Rattle.dist_types.specs.Listing.{same, how_many, is_among, Rises};
-ghost use Rattle.scope_core.specs.GroupNodes.{times_named, node_names, named_groups};
+ghost use Rattle.scope_core.specs.GroupNodes.{times_named, node_names, named_groups, IsNameGap};
 
 use dist_types::{Group, NodeName, OutOfMemory, TryClone};
 use indexmap::IndexMap;
@@ -20,13 +20,13 @@ pub struct GroupNodes {
 
 impl Model for GroupNodes {
     ghost use Rattle.std.specs.Prelude.{List, ℕ};
-    ghost use Rattle.scope_core.specs.GroupNodes.{node_names, AreNamedOnce};
+    ghost use Rattle.scope_core.specs.GroupNodes.{node_names, AreInOrder};
 
     ghost Value = { List (List ℕ × List (List ℕ)) };
 
     ghost view = { λ index. node_names index.nodes.entries };
 
-    ghost invariant = { λ index. AreNamedOnce (node_names index.nodes.entries) };
+    ghost invariant = { λ index. AreInOrder (node_names index.nodes.entries) };
 }
 
 impl GroupNodes {
@@ -44,6 +44,7 @@ impl GroupNodes {
     pub fn of(&self, group: &Group) -> &[NodeName]
         ensures nodes { (n : List ℕ) → how_many (λ m. same m n) result.now ≡ times_named self.now group.now n }
         ensures once { (n : List ℕ) → how_many (λ m. same m n) result.now ≤ 1 }
+        ensures rises { Rises text_cmp result.now }
     {
         match self.nodes.get(group) {
             Some(nodes) => nodes,
@@ -147,24 +148,42 @@ fn only(alloc: Global, node: &NodeName) -> Result<Vec<NodeName>, OutOfMemory>
 }
 
 /// Puts a node into the list, unless it stands there, at its place in the order of names.
+#[tactic(auto, using(crate::proofs::GroupNodes::puts_name))]
 fn add(alloc: Global, nodes: &mut Vec<NodeName>, node: &NodeName) -> Result<(), OutOfMemory>
-    requires { (n : List ℕ) → how_many (λ m. same m n) nodes.old.items ≤ 1 }
+    requires { Rises text_cmp nodes.old.items }
     ensures ok { OnOk result ((n : List ℕ) → how_many (λ m. same m n) nodes.new.items ≡ cond (same node.now n) 1 (how_many (λ m. same m n) nodes.old.items)) }
     ensures same { OnErr result (nodes.new.items ≡ nodes.old.items) }
-    ensures once { (n : List ℕ) → how_many (λ m. same m n) nodes.new.items ≤ 1 }
+    ensures rises { Rises text_cmp nodes.new.items }
 {
-    if nodes.contains(node) {
-        return Ok(());
+    match place_of(nodes, node) {
+        Ok(_) => Ok(()),
+        Err(at) => {
+            let name = node.try_clone(alloc)?;
+            nodes.insert(at, name)?;
+            Ok(())
+        }
     }
-    let name = node.try_clone(alloc)?;
-    let at = nodes.partition_point(|other| *other < *node);
-    nodes.insert(at, name)?;
-    Ok(())
 }
 
 /// Takes a node out of the list.
+#[tactic(auto, using(crate::proofs::GroupNodes::takes_name))]
 fn remove(nodes: &mut Vec<NodeName>, node: &NodeName)
-    ensures { (n : List ℕ) → how_many (λ m. same m n) nodes.new.items ≡ cond (same node.now n) 0 (how_many (λ m. same m n) nodes.old.items) }
+    requires { Rises text_cmp nodes.old.items }
+    ensures gone { (n : List ℕ) → how_many (λ m. same m n) nodes.new.items ≡ cond (same node.now n) 0 (how_many (λ m. same m n) nodes.old.items) }
+    ensures rises { Rises text_cmp nodes.new.items }
 {
-    nodes.retain(|other| *other != *node);
+    if let Ok(at) = place_of(nodes, node) {
+        nodes.remove(at);
+    }
+}
+
+/// Where a node stands in the list, or where it goes.
+fn place_of(nodes: &[NodeName], node: &NodeName) -> Result<usize, usize>
+    requires { Rises text_cmp nodes.now }
+    ensures bound { IfOk result (λ i. i < length nodes.now) }
+    ensures found { IfOk result (HoldsAt (λ n. n ≡ node.now) nodes.now) }
+    ensures end { IfErr result (λ i. i ≤ length nodes.now) }
+    ensures gap { IfErr result (IsNameGap node.now nodes.now) }
+{
+    nodes.binary_search(node)
 }

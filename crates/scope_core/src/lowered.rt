@@ -8,11 +8,11 @@ ghost use Rattle.scope_core.specs.Table.{tally, counted_cmp, is_row, is_of_node,
 ghost use Rattle.scope_core.specs.Added.{row_in, bare_rows, are_all_in, Adds, Takes, Leaves, HasRoomFor};
 
 use crate::counted::BoxedRow;
-use crate::reads::place_next;
+use crate::reads::{count_at, place_next};
 use dist_types::{Group, NodeName, Pid, Row};
 
 /// Whether each row stands in the list at most as often as it is counted. Counts are lowered as far as this goes, and
-/// raised again.
+/// raised again, unless there is one row alone.
 #[tactic(auto, using(crate::proofs::Lower::still_rises, crate::proofs::Lower::stands_counted, crate::proofs::Lower::same_counts))]
 pub fn are_all_in(rows: &mut Vec<BoxedRow>, gone: &[Row]) -> bool
     requires { IsKept rows.old.items }
@@ -20,10 +20,23 @@ pub fn are_all_in(rows: &mut Vec<BoxedRow>, gone: &[Row]) -> bool
     ensures fit { IsTrue result → HasRoomFor gone.now [] }
     ensures same { rows.new.items ≡ rows.old.items }
 {
+    if let [row] = gone {
+        return is_counted(rows, row);
+    }
     let lowered = lower(rows, gone);
     let (back, _) = gone.split_at(lowered);
     raise(rows, back);
     lowered == gone.len()
+}
+
+/// Whether the row is counted.
+fn is_counted(rows: &[BoxedRow], row: &Row) -> bool
+    requires { Rises counted_cmp rows.now }
+    ensures { result ≡ are_all_in rows.now (row.now ∷ []) }
+{
+    // No row is at this place, so none is looked at before the search.
+    let mut nowhere = rows.len();
+    count_at(rows, &mut nowhere, &row.group, &row.pid) > 0
 }
 
 /// One less for each row.

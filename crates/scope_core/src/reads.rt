@@ -1,6 +1,7 @@
 //! What is read off the sorted rows.
-ghost use Rattle.std.specs.Prelude.{◌≡◌, ◌++◌, ◌<◌, ◌≤◌, IfOk, IfErr, IsTrue, OnOk, None, length, replicate, ◌&&◌, nat_lt};
+ghost use Rattle.std.specs.Prelude.{◌≡◌, ◌++◌, ◌<◌, ◌≤◌, IfOk, IfErr, IsTrue, OnOk, None, false, length, replicate, ◌&&◌, nat_lt};
 ghost use Rattle.std.specs.List.{filter, HoldsAt};
+ghost use Rattle.std.specs.List.Sorted.{IsPartitionedBy};
 ghost use Rattle.dist_types.specs.Order.{row_cmp};
 ghost use Rattle.dist_types.specs.Listing.{same_pid, total, Rises, spread};
 ghost use Rattle.scope_core.specs.Table.{tally, counted_cmp, is_row, max_rows};
@@ -12,6 +13,10 @@ use dist_types::{Group, OutOfMemory, Pid, Row, TryClone};
 use std::alloc::Global;
 use std::cmp::Ordering;
 
+/// Most groups have no row of a node, or one, or a few. So the end of a group is looked for right where it begins, then behind its first
+/// row, then within so many, and only then among all rows: each that is looked at is likely to lie far from the others in memory.
+const NEAR: usize = 8;
+
 /// The rows of a group.
 pub fn in_group<'a>(rows: &'a [BoxedRow], group: &Group) -> &'a [BoxedRow]
     requires { Rises counted_cmp rows.now }
@@ -19,9 +24,45 @@ pub fn in_group<'a>(rows: &'a [BoxedRow], group: &Group) -> &'a [BoxedRow]
 {
     let start = rows.partition_point(|counted| counted.row().group < *group);
     let (_, rest) = rows.split_at(start);
-    let end = rest.partition_point(|counted| counted.row().group == *group);
-    let (run, _) = rest.split_at(end);
+    in_front(rest, group)
+}
+
+/// The rows of a group, which stand in front of all others.
+fn in_front<'a>(rows: &'a [BoxedRow], group: &Group) -> &'a [BoxedRow]
+    requires { IsPartitionedBy (is_in group.now) rows.now }
+    ensures { result.now ≡ filter (is_in group.now) rows.now }
+{
+    let (near, _) = rows.split_at(reach(rows, group));
+    let end = near.partition_point(|counted| counted.row().group == *group);
+    let (run, _) = near.split_at(end);
     run
+}
+
+/// How many of the first rows to search for the end of a group, which stands in front. The next row, if there is one, is another group's.
+fn reach(rows: &[BoxedRow], group: &Group) -> usize
+    ensures bound { result ≤ length rows.now }
+    ensures past { result < length rows.now → HoldsAt (λ c. is_in group.now c ≡ false) rows.now result }
+{
+    if is_past(rows, 0, group) {
+        0
+    } else if is_past(rows, 1, group) {
+        1
+    } else if is_past(rows, NEAR, group) {
+        NEAR
+    } else {
+        rows.len()
+    }
+}
+
+/// Whether a row of another group is at this place.
+fn is_past(rows: &[BoxedRow], at: usize, group: &Group) -> bool
+    ensures bound { IsTrue result → at < length rows.now }
+    ensures other { IsTrue result → HoldsAt (λ c. is_in group.now c ≡ false) rows.now at }
+{
+    match rows.get(at) {
+        Some(counted) => counted.row().group != *group,
+        None => false,
+    }
 }
 
 /// How many rows there are, each as often as it is counted.

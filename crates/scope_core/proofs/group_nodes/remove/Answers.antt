@@ -1,8 +1,5 @@
-use Rattle.scope_core.proofs.Words.{rules, not, filter_same, same}
-use Rattle.scope_core.proofs.GroupNodes.{times_filter}
+use Rattle.scope_core.proofs.GroupNodes.{absent_times}
 use Rattle.scope_core.proofs.group_nodes.remove.Goals as goal
 
-pub returns : goal.returns
-returns c = λ n.
-    let left = filter_same _ (λ e. not (same e c.args.node.now)) _ (λ x b f' k. search rules) _ _ c.retain.ensures.filtered in
-    rw left (times_filter c.args.node.now c.args.nodes.now.items n)
+pub returns-in_default-clause-gone : goal.returns-in_default-clause-gone
+returns-in_default-clause-gone c = absent_times c.args.node.now c.args.nodes.now.items c.in_default.field-0 (rw c.deref.ensures.value at c.in_default.ensures.gap)

@@ -1,5 +1,5 @@
-use Rattle.scope_core.proofs.Words.{◌≡◌, ◌∙◌, sym, ap, cond, same, List, ℕ, Some, arith}
-use Rattle.scope_core.proofs.GroupNodes.{set_times, set_once, named_is, times_of}
+use Rattle.scope_core.proofs.Words.{◌≡◌, ◌∙◌, ap, cond, same, List, ℕ, Some, arith}
+use Rattle.scope_core.proofs.GroupNodes.{set_times, set_rises}
 use Rattle.scope_core.specs.GroupNodes.{times_named}
 use Rattle.std.specs.Map.{lookup}
 use Rattle.scope_core.proofs.group_nodes.GroupNodes.begin.Goals as goal
@@ -10,7 +10,7 @@ invariant_of-self-2 c =
     let w = c.in_ok-nodes.nodes in
     let up : (q : List ℕ) → lookup (same q) c.insert.new.self.entries ≡ cond (same c.args.group.now q) (Some w) (lookup (same q) es) =
     λ q. c.in_ok-insert.ensures.updates.0 q ∙ ap (λ (k : List ℕ). cond (same k q) (Some w) (lookup (same q) es)) c.in_ok-group.ensures in
-    set_once es c.insert.new.self.entries c.args.group.now (Some w) up (λ n. rw c.in_ok-nodes.ensures (grind arith)) c.self.invariant
+    set_rises es c.insert.new.self.entries c.args.group.now (Some w) up (rw c.in_ok-nodes.ensures (tt, tt)) c.self.invariant
 
 pub returns-clause-ok : goal.returns-clause-ok
 returns-clause-ok c =
@@ -19,6 +19,5 @@ returns-clause-ok c =
     let group = c.args.group.now in
     let up : (q : List ℕ) → lookup (same q) c.insert.new.self.entries ≡ cond (same group q) (Some w) (lookup (same q) es) =
     λ q. c.in_ok-insert.ensures.updates.0 q ∙ ap (λ (k : List ℕ). cond (same k q) (Some w) (lookup (same q) es)) c.in_ok-group.ensures in
-    let none : (n : List ℕ) → times_of (lookup (same group) es) n ≡ 0 =
-    λ n. sym (named_is es group n) ∙ ap (λ index. times_named index group n) c.self.view_is ∙ c.requires n in
+    let none = λ (n : List ℕ). ap (λ index. times_named index group n) c.self.view_is ∙ c.requires n in
     λ g n. rw (← c.self.view_is) (set_times es c.insert.new.self.entries group (Some w) up c.args.node.now 1 (λ m. rw c.in_ok-nodes.ensures (grind (arith, none m))) g n)

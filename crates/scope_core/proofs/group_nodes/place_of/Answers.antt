@@ -1,0 +1,10 @@
+use Rattle.scope_core.proofs.Words.{texts_total}
+use Rattle.scope_core.proofs.GroupNodes.{name_found}
+use Rattle.scope_core.proofs.Searches.{gap_in}
+use Rattle.scope_core.proofs.group_nodes.place_of.Goals as goal
+
+pub returns-clause-found : goal.returns-clause-found
+returns-clause-found c = name_found _ _ _ c.binary_search.ensures.position
+
+pub returns-clause-gap : goal.returns-clause-gap
+returns-clause-gap c = gap_in texts_total (λ n. n) _ _ _ c.requires c.binary_search.ensures.position
