@@ -31,6 +31,7 @@ pub mod NameMoves
 pub mod EarlyHeard
 pub mod HeardFrames
 pub mod HeldLink
+pub mod Searched
 pub mod EarlyFrame
 pub mod ProofChecked
 pub mod CameUp

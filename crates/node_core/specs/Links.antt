@@ -2,7 +2,8 @@
 use Rattle.std.specs.Prelude.{ℕ, Bool, true, false, cond, find, nat_eq, ◌==◌, ◌&&◌, List, ◌++◌, ◌∷◌, [], map, Option, Some, None}
 use Rattle.std.specs.List.{list_any, list_all}
 use Rattle.dist_types.specs.declared.row.Row.{Row}
-use Rattle.dist_types.specs.Listing.{same}
+use Rattle.dist_types.specs.Listing.{same, Rises}
+use Rattle.std.specs.Ordering.{nat_cmp}
 use Rattle.admission_rules.specs.Admission.{AdmissionRules}
 use Rattle.link_states.specs.Frames.{own_name}
 use Rattle.policy_audit.specs.OutFrame.{OutFrame}
@@ -30,6 +31,10 @@ pub record StatelessLink : Type 0 where
 -- the link in this state
 abbrev pub in_state : LinkState → StatelessLink → KeptLink
 in_state state link = record { number = link.number; state = state; frames = link.frames; prepared = link.prepared; room = link.room }
+
+-- links in the order in which they were opened
+abbrev pub AreInOrder : List KeptLink → Type 0
+AreInOrder links = Rises nat_cmp (map (λ x. x.number) links)
 
 -- the link, with further frames that wait
 abbrev pub with_frames : KeptLink → List OutFrame → KeptLink

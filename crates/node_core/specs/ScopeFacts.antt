@@ -2,6 +2,8 @@
 use Rattle.std.specs.Prelude.{◌≡◌, ℕ, Bool, cond, nat_eq, List, [], ◌∷◌, ◌++◌, map}
 use Rattle.std.specs.List.{list_any, AllByRecursion}
 use Rattle.dist_types.specs.declared.pid.Pid.{Pid}
+use Rattle.dist_types.specs.Listing.{Rises}
+use Rattle.dist_types.specs.Order.{text_cmp}
 use Rattle.scope_core.specs.Table.{count_of}
 use Rattle.policy_audit.specs.History.{History}
 use Rattle.policy_audit.specs.Own.{running_scopes}
@@ -16,6 +18,10 @@ is_number n ns = list_any (nat_eq n) ns
 -- the number among these, where it isn't yet
 abbrev pub with_number : ℕ → List ℕ → List ℕ
 with_number n ns = cond (is_number n ns) ns (ns ++ n ∷ [])
+
+-- scopes in the order of their names, each once
+abbrev pub AreAscending : List Running → Type 0
+AreAscending scopes = Rises text_cmp (map (λ r. r.scope) scopes)
 
 -- what the policy's words say of scopes
 pub record ScopeWords : Type 0 where

@@ -5,7 +5,7 @@ ghost use Rattle.std.specs.Option.{option_map, option_map_or, option_to_list};
 ghost use Rattle.dist_types.specs.Listing.{same};
 ghost use Rattle.link_frames.specs.Spelling.{HasSpelling};
 ghost use Rattle.policy_audit.specs.Owed.{wide};
-ghost use Rattle.node_core.specs.Links.{KeptLink, up_peer, dialled_peer, dial_to, is_shown, with_prepared, unroomed, committed, prepared_for};
+ghost use Rattle.node_core.specs.Links.{KeptLink, AreInOrder, up_peer, dialled_peer, dial_to, is_shown, with_prepared, unroomed, committed, prepared_for};
 ghost use Rattle.node_core.specs.Gone.{without_ended};
 ghost use Rattle.node_core.specs.ScopeFacts.{is_number};
 
@@ -22,9 +22,12 @@ pub const MAX_LINKS: usize = 64;
 
 /// The place of the link of this number.
 pub fn place_of(links: &[Link], number: u32) -> Option<usize>
+    requires { AreInOrder links.now }
     ensures { result ≡ position (λ x. nat_eq x.number number) links.now }
 {
-    links.iter().position(|link| link.number() == number)
+    links
+        .binary_search_by(|link| link.number().cmp(&number))
+        .ok()
 }
 
 /// The place of the link that is up with this peer.

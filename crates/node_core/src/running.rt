@@ -2,6 +2,7 @@
 ghost use Rattle.std.specs.Prelude.{◌≡◌, find, position};
 ghost use Rattle.std.specs.Option.{option_map};
 ghost use Rattle.dist_types.specs.Listing.{same};
+ghost use Rattle.node_core.specs.ScopeFacts.{AreAscending};
 
 use dist_types::Scope;
 use scope_core::ScopeTable;
@@ -19,14 +20,21 @@ pub struct Running {
 
 /// The scope among these.
 pub fn find<'a>(scopes: &'a [Running], scope: &Scope) -> Option<&'a Running>
+    requires { AreAscending scopes.now }
     ensures { option_map (λ r. r.now) result ≡ find (λ r. same r.scope scope.now) scopes.now }
 {
-    scopes.iter().find(|running| running.scope == *scope)
+    match place_of(scopes, scope) {
+        Some(place) => Some(&scopes[place]),
+        None => None,
+    }
 }
 
 /// The place of the scope among these.
 pub fn place_of(scopes: &[Running], scope: &Scope) -> Option<usize>
+    requires { AreAscending scopes.now }
     ensures { result ≡ position (λ r. same r.scope scope.now) scopes.now }
 {
-    scopes.iter().position(|running| running.scope == *scope)
+    scopes
+        .binary_search_by(|running| running.scope.cmp(scope))
+        .ok()
 }

@@ -2,8 +2,8 @@
 ghost use Rattle.std.specs.Prelude.{◌≡◌, ◌<◌, ℕ, not, List, [], map, vec_len, vec_capacity, IfOk, OnOk, OnErr};
 ghost use Rattle.std.specs.List.{filter};
 ghost use Rattle.dist_types.specs.declared.pid.Pid.{Pid};
-ghost use Rattle.dist_types.specs.Listing.{same, Rises};
-ghost use Rattle.dist_types.specs.Order.{text_cmp};
+ghost use Rattle.dist_types.specs.Listing.{same};
+ghost use Rattle.node_core.specs.ScopeFacts.{AreAscending};
 ghost use Rattle.link_frames.specs.Spelling.{HasSpelling};
 ghost use Rattle.scope_core.specs.Table.{count_of};
 ghost use Rattle.policy_audit.specs.Changes.{if_some};
@@ -135,7 +135,7 @@ fn new_scope(alloc: Global, own: &NodeName, scope: &Scope) -> Result<Running, Ou
 /// Puts a scope in its place, into the room that there is.
 fn put_in(scopes: &mut Vec<Running>, running: Running)
     requires room { vec_len scopes.old < vec_capacity scopes.old }
-    requires ascending { Rises text_cmp (map (λ r. r.scope) scopes.old.items) }
+    requires ascending { AreAscending scopes.old.items }
     ensures { scopes.new.items ≡ put_scope running scopes.old.items }
 {
     let scope = &running.scope;

@@ -1,5 +1,6 @@
 //! Names that an event shares with what the node keeps, so that an entry of the audit has no copies of its own.
 ghost use Rattle.std.specs.Prelude.{◌≡◌};
+ghost use Rattle.node_core.specs.ScopeFacts.{AreAscending};
 
 use crate::kept::Kept;
 use crate::running::find;
@@ -10,6 +11,7 @@ use std::alloc::Global;
 impl Kept {
     /// The same event; what it names by the running scope, a group of it or the own node is the node's copy, where the node has one.
     pub fn shared(&self, event: Event) -> Event
+        requires { AreAscending self.now.scopes.items }
         ensures { result ≡ event }
     {
         match event {
@@ -37,6 +39,7 @@ impl Kept {
     }
 
     fn shared_names(&self, scope: Scope, group: Group) -> (Scope, Group)
+        requires { AreAscending self.now.scopes.items }
         ensures scope { result.0 ≡ scope }
         ensures group { result.1 ≡ group }
     {
@@ -51,6 +54,7 @@ impl Kept {
     }
 
     fn shared_scope(&self, scope: Scope) -> Scope
+        requires { AreAscending self.now.scopes.items }
         ensures { result ≡ scope }
     {
         match find(&self.scopes, &scope) {

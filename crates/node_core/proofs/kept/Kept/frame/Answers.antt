@@ -3,6 +3,7 @@ use Rattle.node_core.proofs.Answering.{refuses}
 use Rattle.node_core.proofs.FrameArms.{early_by, last_by, closed_rule, closed_calm, state_at, up_by}
 use Rattle.node_core.proofs.MessagePlaces.{closed_here}
 use Rattle.node_core.proofs.kept.Kept.frame.Given.{Over}
+use Rattle.node_core.proofs.Searched.{links_in_order}
 use Rattle.node_core.proofs.kept.Kept.frame.Goals as goal
 use Rattle.node_core.proofs.kept.Kept.frame.Goals.{After-state}
 
@@ -45,3 +46,6 @@ pub last_frame-requires-in-Ack : goal.last_frame-requires-in-Ack
 last_frame-requires-in-Ack g c =
     let it = last_by (facts g.call.past c.args.number) c.state.result.now (state g (goal.at.last_frame-requires-in-Ack g c).After-state) (inr (c.in-Ack.field-0, c.in-Ack.is)) in
     record { link = record { called = c.requires; here = rw c.deref.ensures.value at (sym c.place_of.ensures ∙ c.in-Some.is) }; opens = it.opens; last = it.last }
+
+pub place_of-requires : goal.place_of-requires
+place_of-requires g c = rw c.deref.ensures.value (links_in_order c.requires.keeps.follows)

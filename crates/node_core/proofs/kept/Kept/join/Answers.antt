@@ -4,6 +4,7 @@ use Rattle.node_core.proofs.Moved.{unmoved}
 use Rattle.node_core.proofs.MessagePlaces.{runs_here, stopped_here}
 use Rattle.node_core.proofs.Told.{follow_idle}
 use Rattle.node_core.proofs.Joining.{join_nowhere, join_own, join_calm, joins_own, joined}
+use Rattle.node_core.proofs.Searched.{scopes_ascend}
 use Rattle.node_core.proofs.kept.Kept.join.Goals as goal
 
 pub returns-in_default : goal.returns-in_default
@@ -32,3 +33,6 @@ returns g c = accepts c.requires _ _ refl _ _ _ c.changed.ensures
     (joined g.call.seat c.requires.keeps.follows c.args.scope.now c.args.group.now c.args.pids.now (sym (rw c.deref.ensures.value at c.in-Some.ensures)) c.index_mut.ensures.value
     c.join_one.new.running c.join_one.new.links.items c.in_ok-changes.changes.items (rw c.as_slice-pids.ensures at c.in_ok-changes.ensures.joined) c.requires.space
     (sym (rw c.as_slice-pids.ensures at c.in_default-join_refusal.ensures)) (rw c.as_slice-pids.ensures at c.in_ok-changes.ensures.few))
+
+pub place_of-requires : goal.place_of-requires
+place_of-requires g c = rw c.deref.ensures.value (scopes_ascend c.requires.keeps.follows)

@@ -4,6 +4,7 @@ use Rattle.node_core.proofs.Moved.{unmoved}
 use Rattle.node_core.proofs.MessagePlaces.{runs_here, stopped_here}
 use Rattle.node_core.proofs.Told.{follow_idle}
 use Rattle.node_core.proofs.Leaving.{leave_nowhere, leave_foreign, leaves_own, leave_calm, left}
+use Rattle.node_core.proofs.Searched.{scopes_ascend}
 use Rattle.node_core.proofs.kept.Kept.leave.Goals as goal
 
 pub returns-in_default : goal.returns-in_default
@@ -32,3 +33,6 @@ returns g c = accepts c.requires _ _ refl _ _ _ c.changed.ensures
     (left g.call.seat c.requires.keeps.follows c.args.scope.now c.args.group.now c.args.pids.now (sym (rw c.deref.ensures.value at c.in-Some.ensures)) c.index_mut.ensures.value
     c.leave_one.new.running c.leave_one.new.links.items c.in_ok-changes.changes.items (rw c.as_slice-pids.ensures at c.in_ok-changes.ensures.left) c.requires.space
     (sym (rw c.as_slice-pids.ensures at c.are_local.ensures) ∙ c.if-not-are_local.false) (rw c.as_slice-pids.ensures at c.in_ok-changes.ensures.some))
+
+pub place_of-requires : goal.place_of-requires
+place_of-requires g c = rw c.deref.ensures.value (scopes_ascend c.requires.keeps.follows)

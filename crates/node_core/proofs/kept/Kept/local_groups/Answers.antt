@@ -3,6 +3,7 @@ use Rattle.node_core.proofs.Answering.{accepts, refuses}
 use Rattle.node_core.proofs.Calm.{quiet_next, query_follows}
 use Rattle.node_core.proofs.MessagePlaces.{runs_here, scope_here, stopped_here}
 use Rattle.node_core.proofs.Scopes.{local_groups_are}
+use Rattle.node_core.proofs.Searched.{scopes_ascend}
 use Rattle.node_core.proofs.kept.Kept.local_groups.Goals as goal
 
 pub returns-in_default : goal.returns-in_default
@@ -20,3 +21,6 @@ returns g c =
     let list = c.in_ok-groups.ensures ∙ local_groups_are h scope c.index.result.now there.named there.running t.sound.legal _ c.in_ok-local_groups.ensures in
     let next = quiet_next h g.call.seat (Reply.Groups c.in_ok-groups.groups) (Event.LocalGroups scope) c.requires.space runs (ap Reply.Groups (sym list)) refl in
     accepts c.requires _ _ refl _ _ _ c.in_ok-with.ensures (next, query_follows h g.call.seat (Reply.Groups c.in_ok-groups.groups) _ t (Event.LocalGroups scope) refl next)
+
+pub place_of-requires : goal.place_of-requires
+place_of-requires g c = rw c.deref.ensures.value (scopes_ascend c.requires.keeps.follows)

@@ -3,6 +3,7 @@ use Rattle.node_core.proofs.Answering.{accepts, refuses}
 use Rattle.node_core.proofs.Calm.{quiet_next, query_follows}
 use Rattle.node_core.proofs.MessagePlaces.{runs_here, scope_here, stopped_here}
 use Rattle.node_core.proofs.Scopes.{local_members_are}
+use Rattle.node_core.proofs.Searched.{scopes_ascend}
 use Rattle.node_core.proofs.kept.Kept.local_members.Goals as goal
 
 pub returns-in_default : goal.returns-in_default
@@ -20,3 +21,6 @@ returns g c =
     let list = c.in_ok-pids.ensures ∙ local_members_are h scope c.index.result.now there.named there.running t.sound.legal c.args.group.now _ c.in_ok-local_members.ensures.value in
     let next = quiet_next h g.call.seat (Reply.Pids c.in_ok-pids.pids) (Event.LocalMembers scope c.args.group.now) c.requires.space runs (ap Reply.Pids (sym list)) refl in
     accepts c.requires _ _ refl _ _ _ c.in_ok-with.ensures (next, query_follows h g.call.seat (Reply.Pids c.in_ok-pids.pids) _ t (Event.LocalMembers scope c.args.group.now) refl next)
+
+pub place_of-requires : goal.place_of-requires
+place_of-requires g c = rw c.deref.ensures.value (scopes_ascend c.requires.keeps.follows)

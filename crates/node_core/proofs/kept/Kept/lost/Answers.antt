@@ -3,6 +3,7 @@ use Rattle.node_core.proofs.Answering.{accepts, refuses}
 use Rattle.node_core.proofs.KeptOn.{not_kept, link_at}
 use Rattle.node_core.proofs.Preparing.{same_at}
 use Rattle.node_core.proofs.Losing.{lost_next, lost_follows}
+use Rattle.node_core.proofs.Searched.{links_in_order}
 use Rattle.node_core.proofs.kept.Kept.lost.Goals as goal
 
 pub returns-in_default : goal.returns-in_default
@@ -26,3 +27,6 @@ returns g c =
       rw c.remove.ensures
           (lost_follows h g.call.seat c.args.number c.in_ok-changes.changes.items _ t c.in-Some.place c.index.result.now found next c.cut_link.new.scopes.items cuts),
     )
+
+pub place_of-requires : goal.place_of-requires
+place_of-requires g c = rw c.deref.ensures.value (links_in_order c.requires.keeps.follows)

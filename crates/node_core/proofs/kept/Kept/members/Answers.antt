@@ -4,6 +4,7 @@ use Rattle.node_core.proofs.Calm.{quiet_next, query_follows}
 use Rattle.node_core.proofs.MessagePlaces.{runs_here, scope_here, stopped_here}
 use Rattle.node_core.proofs.Moved.{unmoved}
 use Rattle.node_core.proofs.Scopes.{members_are}
+use Rattle.node_core.proofs.Searched.{scopes_ascend}
 use Rattle.node_core.proofs.kept.Kept.members.Goals as goal
 
 pub returns-in_default : goal.returns-in_default
@@ -23,3 +24,6 @@ returns g c =
     let r = c.index_mut.result.now in
     let still = unmoved t c.in-Some.place c.index_mut.ensures.value (λ i. record { scope = r.scope; table = c.in_ok-pids.ensures.same i; heard = r.heard; told = r.told }) refl in
     accepts c.requires _ _ refl _ _ _ c.in_ok-with.ensures (next, query_follows h g.call.seat (Reply.Pids c.in_ok-pids.pids) _ still (Event.Members scope c.args.group.now) refl next)
+
+pub place_of-requires : goal.place_of-requires
+place_of-requires g c = rw c.deref.ensures.value (scopes_ascend c.requires.keeps.follows)

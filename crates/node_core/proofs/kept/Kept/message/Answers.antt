@@ -7,6 +7,7 @@ use Rattle.node_core.proofs.MessageScopes.{heard_there}
 use Rattle.node_core.proofs.MessageRefused.{up_awaits, says_broken, early_broken, hidden_first, stopped_first, visible_is, refusal_is, refusal_silent}
 use Rattle.node_core.proofs.MessageRefused.{calm, frame_unread, is_brief}
 use Rattle.node_core.proofs.kept.Kept.message.Given.{Over}
+use Rattle.node_core.proofs.Searched.{scopes_ascend}
 use Rattle.node_core.proofs.kept.Kept.message.Goals as goal
 use Rattle.node_core.proofs.kept.Kept.message.Goals.{In-Ok, After-is_shown, After-refusal}
 
@@ -63,3 +64,6 @@ follow-requires g c = record {
   holds = early g (goal.at.follow-requires g c).After-refusal ∙ sym c.in_default-refusal.ensures;
   brief = is_brief c.in-Ok.message c.in-Ok.ensures.found.within;
 }
+
+pub place_of-requires : goal.place_of-requires
+place_of-requires g c = rw c.deref.ensures.value (scopes_ascend c.requires.link.called.keeps.follows)

@@ -4,6 +4,7 @@ use Rattle.node_core.proofs.Calm.{quiet_next}
 use Rattle.node_core.proofs.MessagePlaces.{runs_here, scope_here, stopped_here}
 use Rattle.node_core.proofs.Scopes.{contents_are}
 use Rattle.node_core.proofs.Watching.{scope_watched}
+use Rattle.node_core.proofs.Searched.{scopes_ascend}
 use Rattle.node_core.proofs.kept.Kept.monitor_scope.Goals as goal
 
 pub returns-in_default : goal.returns-in_default
@@ -29,3 +30,6 @@ returns g c =
       rw (c.in_ok-add_scope.ensures.ok, c.in_ok-scope.ensures, c.requires.seat_is)
           (scope_watched h g.call.seat reply _ t scope c.args.number c.requires.number_is next),
     )
+
+pub place_of-requires : goal.place_of-requires
+place_of-requires g c = rw c.deref.ensures.value (scopes_ascend c.requires.called.keeps.follows)

@@ -3,6 +3,7 @@ use Rattle.node_core.proofs.Answering.{accepts, refuses, wanted}
 use Rattle.node_core.proofs.MessagePlaces.{placed_is}
 use Rattle.node_core.proofs.Told.{alike_again, follow_idle}
 use Rattle.node_core.proofs.Starting.{start_next, start_follows, scopes_full}
+use Rattle.node_core.proofs.Searched.{scopes_ascend}
 use Rattle.node_core.proofs.kept.Kept.start_scope.Goals as goal
 
 pub returns-then-is_some : goal.returns-then-is_some
@@ -39,3 +40,6 @@ returns g c =
       rw (c.put_in.ensures, c.in_ok-reserve.ensures.items)
           (start_follows h g.call.seat scope _ t stopped next c.in_ok-running.running new.scope (new.own ∙ ap (λ o. o.name) c.requires.keeps.opening) new.rows new.links.0 new.links.1 c.asked_scope.new.links.items new.told),
     )
+
+pub place_of-requires : goal.place_of-requires
+place_of-requires g c = rw c.deref.ensures.value (scopes_ascend c.requires.keeps.follows)

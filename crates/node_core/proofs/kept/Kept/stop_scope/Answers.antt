@@ -4,6 +4,7 @@ use Rattle.node_core.proofs.MessagePlaces.{runs_here, scope_here, stopped_here}
 use Rattle.node_core.proofs.Scopes.{counts_listed}
 use Rattle.node_core.proofs.Told.{alike_again, follow_idle}
 use Rattle.node_core.proofs.Stopping.{stop_next, stop_follows}
+use Rattle.node_core.proofs.Searched.{scopes_ascend}
 use Rattle.node_core.proofs.kept.Kept.stop_scope.Goals as goal
 
 pub returns-in_default : goal.returns-in_default
@@ -32,3 +33,6 @@ returns g c =
       rw (c.take_out.ensures, c.drop_scope.ensures.dropped)
           (stop_follows h g.call.seat scope c.in_ok-groups.groups.items _ t runs groups next c.tell_stop.new.links.items c.in_ok-changes.ensures.told),
     )
+
+pub place_of-requires : goal.place_of-requires
+place_of-requires g c = rw c.deref.ensures.value (scopes_ascend c.requires.keeps.follows)

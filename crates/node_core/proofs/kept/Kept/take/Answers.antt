@@ -3,6 +3,7 @@ use Rattle.node_core.proofs.Answering.{accepts, refuses}
 use Rattle.node_core.proofs.KeptOn.{not_kept, link_at}
 use Rattle.node_core.proofs.Preparing.{same_at}
 use Rattle.node_core.proofs.Taking.{emptied, taken_next, taken_follows}
+use Rattle.node_core.proofs.Searched.{links_in_order}
 use Rattle.node_core.proofs.kept.Kept.take.Goals as goal
 
 pub returns-in_default : goal.returns-in_default
@@ -27,3 +28,6 @@ returns g c =
       rw (c.drop_ended.ensures c.index_mut.result.now)
           (taken_follows h g.call.seat c.args.number c.hand_over-frames.result _ t c.in-Some.place c.index_mut.result.now found next c.hand_over-frames.new.self _ c.hand_over-frames.new.self.room new same),
     )
+
+pub place_of-requires : goal.place_of-requires
+place_of-requires g c = rw c.deref.ensures.value (links_in_order c.requires.keeps.follows)

@@ -1,5 +1,6 @@
 use Rattle.node_core.proofs.Words.{ap, sym, ◌∙◌, ◌≡◌, is_full, past, false}
 use Rattle.node_core.proofs.StepAnswers.{full_step, unstepped, step_so, core_so}
+use Rattle.node_core.proofs.Searched.{scopes_ascend}
 use Rattle.node_core.proofs.node.NodeCore.step.Goals as goal
 use Rattle.node_core.proofs.node.NodeCore.step.Goals.{In_default}
 
@@ -27,3 +28,6 @@ pub returns : goal.returns
 returns c =
     let entered = (goal.at.returns c).In_default in
     step_so _ c.shared-event.result c.answer-answered.new.self c.answer-answered.result c.answer-answered.ensures (space entered) c.enter.ensures.entries (before entered) c.shared-event.ensures c.enter.ensures.reply
+
+pub shared-event-requires : goal.shared-event-requires
+shared-event-requires c = scopes_ascend c.self.invariant.follows
