@@ -4,7 +4,7 @@ use Rattle.node_core.proofs.Words.{ℕ, [], ◌∙◌, ◌≡◌, ◌≤◌, fla
 use Rattle.node_core.proofs.Words.{with_entry, awaits, is_last, is_whole, Accepted, Refused, Rule, Follows, Parts, HaveEnded, Hears, is_handshake}
 use Rattle.node_core.proofs.Words.{rule_of, LinksFollow, KeptLink, StatelessLink, dial_beside, dialled_peer, narrow_frames, up_peer, ScopesFollow, LinkState}
 use Rattle.node_core.proofs.Words.{HaveGoneOn, Event, Reply, Heard}
-use Rattle.node_core.proofs.EarlyHeard.{is_early, early_rules, early_unlike, early_answered, early_goes, early_next, early_scopes}
+use Rattle.node_core.proofs.EarlyHeard.{is_early, early_rules, early_awaits, early_answered, early_goes, early_next, early_scopes}
 use Rattle.node_core.proofs.Entered.{step_follows, made}
 use Rattle.node_core.proofs.FrameRefused.{owes_alike, refused_next, refused_follows}
 use Rattle.node_core.proofs.HeardFrames.{early_state, is_there, few_frames, early_goes_on}
@@ -41,7 +41,7 @@ module _ {h : History} {parts : Parts} (t : Follows h parts) (seat : ℕ) (body 
       early_went_on new on =
           let there = is_there h parts t j p held.at v in
           let answered = early_answered h parts.admission t.admission pending seat j body ups_so dials_so held.space s early (held_state t held) hears.0 in
-          let unlike = early_unlike h parts.admission t.admission pending seat j body ups_so dials_so s early (held_state t held) in
+          let unlike = (early_awaits h parts.admission t.admission pending seat j body ups_so dials_so s early (held_state t held)).1 in
           let entered = early_next h parts.admission t.admission pending seat j body ups_so dials_so answered t.sound.legal inner unlike in
           let moves = early_goes h parts.admission t.admission pending seat j body ups_so dials_so answered parts.links t.links t.sound.legal left s early (held_state t held) hears.0
           (beside_same t held) (Heard.On now frames gives_up) hears.1 in (

@@ -59,20 +59,13 @@ module _ (h : History) (rules : AdmissionRules) (t : AdmissionFollows (admission
     early_rules (LinkState.Challenge dial) q a = checks_of a.0.open_now _ a.0.awaited ∙ challenge_rules h rules t j dial.peer a.1.peer.peer (challenge_frame body)
     early_rules s q a = lie (sym q)
 
-    -- what was awaited
-    pub early_awaits : (s : LinkState) → is_early s ≡ true → IsState (facts h j) s → is_last (awaits j h.entries) ≡ false
-    early_awaits (LinkState.Name c) q a = ap is_last a.0.awaited
-    early_awaits (LinkState.Answer s) q a = ap is_last a.0.awaited
-    early_awaits (LinkState.Status dial) q a = ap is_last a.0.awaited
-    early_awaits (LinkState.Challenge dial) q a = ap is_last a.0.awaited
+    -- what was awaited: a frame of the handshake that isn't the last
+    pub early_awaits : (s : LinkState) → is_early s ≡ true → IsState (facts h j) s → (is_last (awaits j h.entries) ≡ false) × (is_message (awaits j h.entries) ≡ false)
+    early_awaits (LinkState.Name c) q a = (ap is_last a.0.awaited, ap is_message a.0.awaited)
+    early_awaits (LinkState.Answer s) q a = (ap is_last a.0.awaited, ap is_message a.0.awaited)
+    early_awaits (LinkState.Status dial) q a = (ap is_last a.0.awaited, ap is_message a.0.awaited)
+    early_awaits (LinkState.Challenge dial) q a = (ap is_last a.0.awaited, ap is_message a.0.awaited)
     early_awaits s q a = lie (sym q)
-
-    pub early_unlike : (s : LinkState) → is_early s ≡ true → IsState (facts h j) s → is_message (awaits j h.entries) ≡ false
-    early_unlike (LinkState.Name c) q a = ap is_message a.0.awaited
-    early_unlike (LinkState.Answer s) q a = ap is_message a.0.awaited
-    early_unlike (LinkState.Status dial) q a = ap is_message a.0.awaited
-    early_unlike (LinkState.Challenge dial) q a = ap is_message a.0.awaited
-    early_unlike s q a = lie (sym q)
 
     -- the entry
     abbrev pub e : Entry
@@ -137,7 +130,7 @@ module _ (h : History) (rules : AdmissionRules) (t : AdmissionFollows (admission
 
     module _ (space : is_full h ≡ false) (s : LinkState) (early : is_early s ≡ true) (a : IsState (facts h j) s) (holds : state_checked.first_broken (state_checks rules pending s body) ≡ None) where
       accepts : Accepted Reply.Done ≡ verdict h seat (Event.Frame j body)
-      accepts = accepted_now h seat (Event.Frame j body) space Reply.Done (no_rule _ _ (early_rules s early a) holds) (ap (λ b. cond b (up_answer h j) Reply.Done) (early_awaits s early a))
+      accepts = accepted_now h seat (Event.Frame j body) space Reply.Done (no_rule _ _ (early_rules s early a) holds) (ap (λ b. cond b (up_answer h j) Reply.Done) (early_awaits s early a).0)
 
       pub early_answered : IsAnswered h e
       early_answered = answered_now h seat (Event.Frame j body) space (Accepted Reply.Done) [] accepts

@@ -45,6 +45,11 @@ module _ (h : History) (parts : Parts) (t : Follows h parts) (j p : ℕ) (at : p
   pub state_there : IsState (facts h j) (get_or parts.links p d).state
   state_there = subst (λ (n : ℕ). IsState (facts h n) (get_or parts.links p d).state) is_there.1 link_there.state
 
+-- what holds of all that a frame may lead to holds of what it led to
+by_all : {A : Type 0} (P : Heard → Type 0) (f : A → Heard) → ((x : A) → P (f x)) → (o : Option A) {r : Heard} → option_map f o ≡ Some r → P r
+by_all P f all None q = no_value (sym q)
+by_all P f all (Some x) q = subst P (some_is q) (all x)
+
 -- ---- how many frames are owed
 
 -- at most two
@@ -70,27 +75,11 @@ module _ (rules : AdmissionRules) (pending : Pending) (body : List ℕ) where
   few_truth w = omega arith
 
   pub few_frames : (s : LinkState) (r : Heard) → accepted_as rules pending s body ≡ Some r → IsFew r
-  few_frames (LinkState.Name c) r q = by (name_frame body) q
-    where
-      by : (x : Option Name) → option_map (λ f. heard_named (says.named_by rules pending c f)) x ≡ Some r → IsFew r
-      by None q = no_value (sym q)
-      by (Some f) q = subst IsFew (some_is q) (few_named c f (is_up pending f.name) (is_dialled pending f.name))
+  few_frames (LinkState.Name c) r q = by_all IsFew (λ f. heard_named (says.named_by rules pending c f)) (λ f. few_named c f (is_up pending f.name) (is_dialled pending f.name)) (name_frame body) q
   few_frames (LinkState.Answer s) r q = subst IsFew (some_is q) (omega arith)
-  few_frames (LinkState.Reply s) r q = by (reply_frame body) q
-    where
-      by : (x : Option ReplyFrame) → option_map (λ f. Heard.Up (linked s) (ack_owed rules s.peer f.challenge)) x ≡ Some r → IsFew r
-      by None q = no_value (sym q)
-      by (Some f) q = subst IsFew (some_is q) (omega arith)
-  few_frames (LinkState.Status dial) r q = by (status_of body) q
-    where
-      by : (x : Option StatusWord) → option_map (λ w. Heard.On (LinkState.Challenge dial) (status_owed w) false) x ≡ Some r → IsFew r
-      by None q = no_value (sym q)
-      by (Some w) q = subst IsFew (some_is q) (few_truth w)
-  few_frames (LinkState.Challenge dial) r q = by (challenge_frame body) q
-    where
-      by : (x : Option Challenge) → option_map (λ f. Heard.On (LinkState.Ack (found rules dial f)) (reply_owed rules dial.peer dial.challenge f.challenge) false) x ≡ Some r → IsFew r
-      by None q = no_value (sym q)
-      by (Some f) q = subst IsFew (some_is q) (omega arith)
+  few_frames (LinkState.Reply s) r q = by_all IsFew (λ f. Heard.Up (linked s) (ack_owed rules s.peer f.challenge)) (λ f. omega arith) (reply_frame body) q
+  few_frames (LinkState.Status dial) r q = by_all IsFew (λ w. Heard.On (LinkState.Challenge dial) (status_owed w) false) few_truth (status_of body) q
+  few_frames (LinkState.Challenge dial) r q = by_all IsFew (λ f. Heard.On (LinkState.Ack (found rules dial f)) (reply_owed rules dial.peer dial.challenge f.challenge) false) (λ f. omega arith) (challenge_frame body) q
   few_frames (LinkState.Ack s) r q = subst IsFew (some_is q) (omega arith)
   few_frames s r q = no_value (sym q)
 
@@ -108,25 +97,17 @@ module _ (rules : AdmissionRules) (pending : Pending) (body : List ℕ) where
   on_named c f true dialled = refl
   on_named c f false dialled = refl
 
-  on_some : {A : Type 0} (f : A → Heard) → ((x : A) → goes_on (f x) ≡ true) → (o : Option A) (r : Heard) → option_map f o ≡ Some r → goes_on r ≡ true
-  on_some f all None r q = no_value (sym q)
-  on_some f all (Some x) r q = ap goes_on (sym (some_is q)) ∙ all x
-
-  up_some : {A : Type 0} (f : A → Heard) → ((x : A) → comes_up (f x) ≡ true) → (o : Option A) (r : Heard) → option_map f o ≡ Some r → comes_up r ≡ true
-  up_some f all None r q = no_value (sym q)
-  up_some f all (Some x) r q = ap comes_up (sym (some_is q)) ∙ all x
-
   -- a frame that isn't the last leads on
   pub early_goes_on : (s : LinkState) → is_early s ≡ true → (r : Heard) → accepted_as rules pending s body ≡ Some r → goes_on r ≡ true
-  early_goes_on (LinkState.Name c) early r q = on_some (λ f. heard_named (says.named_by rules pending c f)) (λ f. on_named c f (is_up pending f.name) (is_dialled pending f.name)) (name_frame body) r q
+  early_goes_on (LinkState.Name c) early r q = by_all (λ r. goes_on r ≡ true) (λ f. heard_named (says.named_by rules pending c f)) (λ f. on_named c f (is_up pending f.name) (is_dialled pending f.name)) (name_frame body) q
   early_goes_on (LinkState.Answer s) early r q = ap goes_on (sym (some_is q))
-  early_goes_on (LinkState.Status dial) early r q = on_some (λ w. Heard.On (LinkState.Challenge dial) (status_owed w) false) (λ w. refl) (status_of body) r q
-  early_goes_on (LinkState.Challenge dial) early r q = on_some (λ f. Heard.On (LinkState.Ack (found rules dial f)) (reply_owed rules dial.peer dial.challenge f.challenge) false) (λ f. refl) (challenge_frame body) r q
+  early_goes_on (LinkState.Status dial) early r q = by_all (λ r. goes_on r ≡ true) (λ w. Heard.On (LinkState.Challenge dial) (status_owed w) false) (λ w. refl) (status_of body) q
+  early_goes_on (LinkState.Challenge dial) early r q = by_all (λ r. goes_on r ≡ true) (λ f. Heard.On (LinkState.Ack (found rules dial f)) (reply_owed rules dial.peer dial.challenge f.challenge) false) (λ f. refl) (challenge_frame body) q
   early_goes_on s early r q = lie (sym early)
 
   -- the last one makes the link up
   pub last_comes_up : (s : LinkState) → is_early s ≡ false → (r : Heard) → accepted_as rules pending s body ≡ Some r → comes_up r ≡ true
-  last_comes_up (LinkState.Reply s) late r q = up_some (λ f. Heard.Up (linked s) (ack_owed rules s.peer f.challenge)) (λ f. refl) (reply_frame body) r q
+  last_comes_up (LinkState.Reply s) late r q = by_all (λ r. comes_up r ≡ true) (λ f. Heard.Up (linked s) (ack_owed rules s.peer f.challenge)) (λ f. refl) (reply_frame body) q
   last_comes_up (LinkState.Ack s) late r q = ap comes_up (sym (some_is q))
   last_comes_up (LinkState.Up up) late r q = no_value (sym q)
   last_comes_up LinkState.Ended late r q = no_value (sym q)

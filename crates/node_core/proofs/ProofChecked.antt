@@ -78,34 +78,30 @@ module _ (h : History) (j : ℕ) where
         by : (x : Option ReplyFrame) → reply_frame body ≡ x → option_map (λ f. Heard.Up (linked s) (ack_owed rules s.peer f.challenge)) x ≡ Some (Heard.Up up frames)
             → ComesUp h j body up frames × (known_peer (LinkState.Reply s) ≡ Some up.peer)
         by None w u = no_value (sym u)
-        by (Some f) w u =
-            let is : linked s ≡ up = ap (linked_in (linked s)) (some_is u) in
-            let sent : ack_owed rules s.peer f.challenge ≡ frames = ap frames_in (some_is u) in (
-              record {
-                opens = a.0.open_now;
-                unwhole = a.0.whole;
-                last = ap is_last a.0.awaited;
-                known = subst (λ (v : Linked). IsIntroduced (facts h j) v.peer v.creation v.visible v.proof) is a.1;
-                holds = ap (λ x. first_broken (frame_checks h j body x)) a.0.awaited ∙ reply_rules h rules t j s.peer a.1.peer.peer s.challenge a.1.challenge (reply_frame body) ∙ ap (option_map rule_of) hears.0;
-                owes = ap (frame_owes h j body) a.0.awaited ∙ owes_by (reply_frame body) f w ∙ ap (λ fs. narrow_frames fs ++ discovers h j) sent;
-                on = λ e answered yes named. reply_taken h e answered yes j body named a.0.awaited;
-              },
-              ap (λ (v : Linked). Some v.peer) is,
-            )
-    comes (LinkState.Ack s) q a up frames hears =
-        let is : linked s ≡ up = ap (linked_in (linked s)) (some_is hears.1) in
-        let sent : [] ≡ frames = ap frames_in (some_is hears.1) in (
+        by (Some f) w u = subst (λ r. ComesUp h j body (linked_in (linked s) r) (frames_in r) × (Some s.peer ≡ Some (linked_in (linked s) r).peer)) (some_is u) (
           record {
             opens = a.0.open_now;
             unwhole = a.0.whole;
             last = ap is_last a.0.awaited;
-            known = subst (λ (v : Linked). IsIntroduced (facts h j) v.peer v.creation v.visible v.proof) is a.1;
-            holds = ap (λ x. first_broken (frame_checks h j body x)) a.0.awaited ∙ ack_rules h rules t j s.peer a.1.peer.peer s.challenge a.1.challenge (ack_frame body) ∙ ap (option_map rule_of) hears.0;
-            owes = ap (frame_owes h j body) a.0.awaited ∙ ap (λ fs. narrow_frames fs ++ discovers h j) sent;
-            on = λ e answered yes named. ack_taken h e answered yes j body named a.0.awaited;
+            known = a.1;
+            holds = ap (λ x. first_broken (frame_checks h j body x)) a.0.awaited ∙ reply_rules h rules t j s.peer a.1.peer.peer s.challenge a.1.challenge (reply_frame body) ∙ ap (option_map rule_of) hears.0;
+            owes = ap (frame_owes h j body) a.0.awaited ∙ owes_by (reply_frame body) f w;
+            on = λ e answered yes named. reply_taken h e answered yes j body named a.0.awaited;
           },
-          ap (λ (v : Linked). Some v.peer) is,
+          refl,
         )
+    comes (LinkState.Ack s) q a up frames hears = subst (λ r. ComesUp h j body (linked_in (linked s) r) (frames_in r) × (Some s.peer ≡ Some (linked_in (linked s) r).peer)) (some_is hears.1) (
+      record {
+        opens = a.0.open_now;
+        unwhole = a.0.whole;
+        last = ap is_last a.0.awaited;
+        known = a.1;
+        holds = ap (λ x. first_broken (frame_checks h j body x)) a.0.awaited ∙ ack_rules h rules t j s.peer a.1.peer.peer s.challenge a.1.challenge (ack_frame body) ∙ ap (option_map rule_of) hears.0;
+        owes = ap (frame_owes h j body) a.0.awaited;
+        on = λ e answered yes named. ack_taken h e answered yes j body named a.0.awaited;
+      },
+      refl,
+    )
     comes s q a up frames hears = lie (sym q)
 
 -- ---- what is answered, and whether the link is visible
