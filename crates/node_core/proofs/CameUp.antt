@@ -34,7 +34,7 @@ module _ (h : History) (legal : IsLegal h) (n : List ℕ) where
           let found = found_in (λ (y : KeptLink). option_map_or (λ m. same m n) (up_peer y.state) false) (IsLinkOf (link_words h)) kept t.each x q in
           let both = sym (up_by h n x.number x.state found.1.state) ∙ found.0 in
           ap (option_map (λ (y : KeptLink). y.number)) q
-          ∙ sym (is_present x.number (and_left (is_up x.number h.entries) (is_peer n x.number h.entries) both) (and_right (is_up x.number h.entries) (is_peer n x.number h.entries) both))
+          ∙ sym (is_present x.number (grind (arith, both)) (grind (arith, both)))
 
   module _ (j : ℕ) (unwhole : is_whole j h.entries ≡ false) where
     -- the last frame of link j ends the present link of n, and no other
@@ -42,11 +42,7 @@ module _ (h : History) (legal : IsLegal h) (n : List ℕ) where
     replaced_is l = by (present_link n h.entries) refl
       where
         its : (is_open l h.entries && replaced_by j n h.entries l) ≡ true → present_link n h.entries ≡ Some l
-        its q =
-            let inner = and_right (is_open l h.entries) (replaced_by j n h.entries l) q in
-            let apart_whole = and_left (not (j == l) && is_whole l h.entries) (is_peer n l h.entries) inner in
-            is_present l (and_both (is_open l h.entries) (is_whole l h.entries) (and_left (is_open l h.entries) (replaced_by j n h.entries l) q) (and_right (not (j == l)) (is_whole l h.entries) apart_whole))
-            (and_right (not (j == l) && is_whole l h.entries) (is_peer n l h.entries) inner)
+        its q = is_present l (grind (arith, q)) (grind (arith, q))
 
         none : (b : Bool) → (is_open l h.entries && replaced_by j n h.entries l) ≡ b → present_link n h.entries ≡ None → not b ≡ true
         none false q p = refl
@@ -56,11 +52,8 @@ module _ (h : History) (legal : IsLegal h) (n : List ℕ) where
         present : (m : ℕ) → present_link n h.entries ≡ Some m → l ≡ m → (is_open l h.entries && replaced_by j n h.entries l) ≡ true
         present m p q =
             let here = (agrees h.opening h.entries legal n l).0 (p ∙ ap Some (sym q)) in
-            let opens = and_left (is_open l h.entries) (is_whole l h.entries) here.0 in
-            let whole = and_right (is_open l h.entries) (is_whole l h.entries) here.0 in
             let of = ap (λ x. option_map_or (λ k. same k n) x false) here.1 ∙ (same_decides n n).1 refl in
-            let apart : (j == l) ≡ false = grind (arith, eqb-true j l, unwhole, whole) in
-            λ i. opens i && (not (apart i) && whole i && of i)
+            grind (arith, eqb-true j l, unwhole, here.0, of)
 
         some : (m : ℕ) → present_link n h.entries ≡ Some m → (a : Bool) → (is_open l h.entries && replaced_by j n h.entries l) ≡ a → (b : Bool) → nat_eq l m ≡ b → not a ≡ not b
         some m p true q true e = refl

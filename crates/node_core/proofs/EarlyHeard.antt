@@ -1,5 +1,5 @@
 -- The node after an accepted frame that isn't the last of a handshake.
-use Rattle.node_core.proofs.Words.{Bool, List, None, Option, Some, ap, cond, false, not, refl, subst, sym, true, ℕ, [], ◌∙◌, ◌≡◌, option_map}
+use Rattle.node_core.proofs.Words.{arith, Bool, List, None, Option, Some, ap, cond, false, not, refl, subst, sym, true, ℕ, [], ◌∙◌, ◌≡◌, option_map}
 use Rattle.node_core.proofs.Words.{same_decides, has_bit, same, Pid, Challenge, Name, challenge_frame, name_frame, status_of, StatusWord}
 use Rattle.node_core.proofs.Words.{AdmissionRules, found, is_dialled, Pending, StateRule, lie, no_value, no_change, always, checks, first_broken}
 use Rattle.node_core.proofs.Words.{frame_checks, History, is_dialling, is_open, listed, running_scopes, IsAnswered, IsLegal, IsNext, is_full}
@@ -35,11 +35,7 @@ passes false r x q = no_value q
 
 -- an accepted Name isn't the own one
 not_own : (rules : AdmissionRules) (pending : Pending) (f : Name) → state_checked.first_broken (state_checked.name_checks rules pending (Some f)) ≡ None → same f.name rules.own ≡ false
-not_own rules pending f holds =
-    let flags = passes (has_bit 24 f.flags) _ _ holds in
-    let fixed = passes (not (has_bit 33 f.flags)) _ _ flags.1 in
-    let proper = passes (is_node_name f.name) _ _ fixed.1 in
-    not-true (same f.name rules.own) (passes (not (same f.name rules.own)) _ _ proper.1).0
+not_own rules pending f holds = grind (arith, holds)
 
 no_rule : (x : Option StateRule) (y : Option Rule) → y ≡ option_map rule_of x → x ≡ None → y ≡ None
 no_rule x y q none = q ∙ ap (option_map rule_of) none

@@ -1,5 +1,5 @@
 -- What the last frame of a handshake makes of a node: its link comes up, or ends.
-use Rattle.node_core.proofs.Words.{get_or, Bool, List, Some, ap, is_some, length, map, refl, set, subst, sym, true, ℕ, [], ◌∙◌, ◌≡◌, ◌≤◌, AllZip}
+use Rattle.node_core.proofs.Words.{arith, get_or, Bool, List, Some, ap, is_some, length, map, refl, set, subst, sym, true, ℕ, [], ◌∙◌, ◌≡◌, ◌≤◌, AllZip}
 use Rattle.node_core.proofs.Words.{unwrap_or, Linked, Pending, count_after_drop, lie, History, OutFrame, wide, IsNext, answer, with_entry, awaits}
 use Rattle.node_core.proofs.Words.{is_last, Change, Accepted, Refused, Reply, Rule, Follows, Parts, HaveEnded, older_of, Hears, is_handshake}
 use Rattle.node_core.proofs.Words.{KeptLink, StatelessLink, known_peer, narrow_frames, ArePartings, IsCutOff, LinkState, Running, HaveComeUp, Message}
@@ -24,10 +24,6 @@ pub discovers_for : (rs : List Running) → map (λ r. wide (Message.Discover r.
 discovers_for [] = refl
 discovers_for (r ∷ rs) = ap (λ fs. wide (Message.Discover r.scope) ∷ fs) (discovers_for rs)
 
-dropped : (b : Bool) (x : ℕ) → x ≡ 0 → cond b 0 x ≡ 0
-dropped true x q = refl
-dropped false x q = q
-
 module _ (h : History) (seat j : ℕ) (body : List ℕ) (up : Linked) (frames : List (List ℕ)) (c : ComesUp h j body up frames) (r : Reply) (cs : List Change) where
   abbrev pub e : Entry
   e = made h seat (Event.Frame j body) (Accepted r) cs
@@ -48,7 +44,7 @@ module _ (h : History) (seat j : ℕ) (body : List ℕ) (up : Linked) (frames : 
           (partings_change h k (λ x. count_after_drop x up.peer)
           (λ x a g p. ap (cond (same p.node up.peer) 0) (a.rows g p) ∙ sym (rows x.scope g p))
           parts.scopes t.scopes
-          (λ s stopped g p. rows s g p ∙ dropped (same p.node up.peer) (listed h s g p) (stopped_lists h s g p stopped)) cs gone)
+          (λ s stopped g p. rows s g p ∙ (grind (arith, stopped_lists h s g p stopped))) cs gone)
 
       -- over which link the peer was heard, if at all
       abbrev old_one : ℕ

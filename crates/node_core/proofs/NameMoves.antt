@@ -5,7 +5,7 @@ use Rattle.node_core.proofs.Words.{is_dialled, Pending, lie, and_left, and_right
 use Rattle.node_core.proofs.Words.{OutFrame, waiting, IsAnswered, IsLegal, with_entry, is_name_up, Entry, AdmissionFollows, admission_words}
 use Rattle.node_core.proofs.Words.{heard_named, IsIntroduced, IsLinkOf, IsState, LinksFollow, facts, kept_numbers, link_words, KeptLink, dial_beside}
 use Rattle.node_core.proofs.Words.{dialled_peer, narrow_frames, Named, introduced, is_visible, AwaitAnswer, AwaitReply, own_challenge_frame}
-use Rattle.node_core.proofs.Words.{status_frame, welcome, Heard, LinkState, dial_to, StatusWord, Event, arith}
+use Rattle.node_core.proofs.Words.{status_frame, welcome, Awaits, Heard, LinkState, dial_to, StatusWord, Event, arith}
 use Rattle.link_states.specs.Pending.{is_up}
 use Rattle.policy_audit.proofs.LinkFrames.{named_links, given_up_by}
 use Rattle.policy_audit.proofs.LinksLeft.{named_numbers}
@@ -72,7 +72,7 @@ module _ (h : History) (legal : IsLegal h) (rules : AdmissionRules) (t : Admissi
 
   -- a dial that it gives up
   given_up_dial : (l : ℕ) → (is_open l h.entries && given_up_by j f h.entries l) ≡ true → dials f.name h.entries l ≡ true
-  given_up_dial l q = λ i. and_left (is_open l h.entries) (given_up_by j f h.entries l) q i && and_right (not (j == l) && not (is_name_up f.name h.entries)) (is_unfinished_dial f.name l h.entries) (and_right (is_open l h.entries) (given_up_by j f h.entries l) q) i
+  given_up_dial l q = grind (arith, q)
 
   where_up : is_name_up f.name h.entries ≡ true → (l : ℕ) → (is_open l h.entries && given_up_by j f h.entries l) ≡ false
   where_up up l = grind (arith, up)
@@ -109,28 +109,19 @@ module _ (h : History) (legal : IsLegal h) (rules : AdmissionRules) (t : Admissi
       if up then Named.Alive (introduced rules c f) frames else Named.Reply (introduced rules c f) frames dialled
 
   module _ (kept : List KeptLink) (follow : LinksFollow (link_words h) kept) where
+    awaited : (up : Bool) → is_name_up f.name h.entries ≡ up → Awaits (facts k j) (cond up AwaitAnswer AwaitReply) false
+    awaited up u = subst (λ b. Awaits (facts k j) (cond b AwaitAnswer AwaitReply) false) u (own_awaits h e answered yes j body is (name_taken h e answered yes j body is f a.0.awaited said) (kept_open j not_itself))
+
     goes_by : (up dialled : Bool) → is_name_up f.name h.entries ≡ up → is_dialling f.name h.entries ≡ dialled → Goes h k j kept (heard_named (named_of up dialled))
-    goes_by true dialled u d =
-        let on = name_taken h e answered yes j body is f a.0.awaited said in
-        let opens = kept_open j not_itself in
-        let awaited = own_awaits h e answered yes j body is on opens in
-        name_moves (LinkState.Answer (introduced rules c f)) (narrow_frames (owes.greeting_owed rules c StatusWord.Alive)) None
-        (record { open_now = awaited.open_now; whole = awaited.whole; awaited = awaited.awaited ∙ ap (λ b. cond b AwaitAnswer AwaitReply) u }, introduced_now)
-        (ap (λ b. welcome_frames b (is_dialling f.name h.entries)) u) (where_up u)
-    goes_by false false u d =
-        let on = name_taken h e answered yes j body is f a.0.awaited said in
-        let awaited = own_awaits h e answered yes j body is on (kept_open j not_itself) in
-        name_moves (LinkState.Reply (introduced rules c f)) (narrow_frames (owes.greeting_owed rules c (says.welcome false false))) None
-        (record { open_now = awaited.open_now; whole = awaited.whole; awaited = awaited.awaited ∙ ap (λ b. cond b AwaitAnswer AwaitReply) u }, introduced_now)
-        ((λ i. welcome_frames (u i) (d i)) ∙ welcome_is false false) (where_undialled d)
+    goes_by true dialled u d = name_moves (LinkState.Answer (introduced rules c f)) (narrow_frames (owes.greeting_owed rules c StatusWord.Alive)) None
+        (awaited true u, introduced_now) (ap (λ b. welcome_frames b (is_dialling f.name h.entries)) u) (where_up u)
+    goes_by false false u d = name_moves (LinkState.Reply (introduced rules c f)) (narrow_frames (owes.greeting_owed rules c (says.welcome false false))) None
+        (awaited false u, introduced_now) ((λ i. welcome_frames (u i) (d i)) ∙ welcome_is false false) (where_undialled d)
     goes_by false true u d =
-        let on = name_taken h e answered yes j body is f a.0.awaited said in
-        let awaited = own_awaits h e answered yes j body is on (kept_open j not_itself) in
         let dial = find_dial h legal kept follow f.name d in
         subst (λ gone. AreMoves h k j (LinkState.Reply (introduced rules c f)) (narrow_frames (owes.greeting_owed rules c (says.welcome false true))) (stays_but gone)) (sym dial.1)
         (name_moves (LinkState.Reply (introduced rules c f)) (narrow_frames (owes.greeting_owed rules c (says.welcome false true))) (Some dial.0)
-        (record { open_now = awaited.open_now; whole = awaited.whole; awaited = awaited.awaited ∙ ap (λ b. cond b AwaitAnswer AwaitReply) u }, introduced_now)
-        ((λ i. welcome_frames (u i) (d i)) ∙ welcome_is false true) (where_dialled u dial.0 dial.2))
+        (awaited false u, introduced_now) ((λ i. welcome_frames (u i) (d i)) ∙ welcome_is false true) (where_dialled u dial.0 dial.2))
 
     pub name_goes : (pending : Pending) → is_up pending f.name ≡ is_name_up f.name h.entries → is_dialled pending f.name ≡ is_dialling f.name h.entries → Goes h k j kept (heard_named (says.named_by rules pending c f))
     name_goes pending up dialled = goes_by (is_up pending f.name) (is_dialled pending f.name) (sym up) (sym dialled)

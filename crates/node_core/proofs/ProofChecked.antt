@@ -3,13 +3,14 @@ use Rattle.node_core.proofs.Words.{Bool, List, None, Option, Some, ap, cond, fal
 use Rattle.node_core.proofs.Words.{option_map, option_map_or, unwrap_or, has_bit, Name, reply_frame, ReplyFrame, AdmissionRules, Linked, Pending, lie}
 use Rattle.node_core.proofs.Words.{no_value, always, checks, first_broken, frame_checks, History, is_accepted, is_open, OutFrame, digest_for}
 use Rattle.node_core.proofs.Words.{discovers, frame_owes, narrow, refusal_owes, IsAnswered, answer, up_answer, AwaitMessage, awaits, is_last}
-use Rattle.node_core.proofs.Words.{is_whole, peer_of, Entry, Rule, AdmissionFollows, admission_words, Hears, rule_of, IsIntroduced, IsState, facts}
+use Rattle.node_core.proofs.Words.{is_whole, peer_of, Entry, Rule, AdmissionFollows, admission_words, Hears, rule_of, state_checks, IsIntroduced, IsState, facts}
 use Rattle.node_core.proofs.Words.{known_peer, narrow_frames, up_peer, ack_frame, ack_owed, linked, given, IsOnward, Heard, LinkState, Event, Reply}
 use Rattle.handshake_frames.specs.Spelling.{ack_bytes}
 use Rattle.policy_audit.specs.Sides.{is_visible}
 use Rattle.policy_audit.proofs.Onward.{reply_taken, ack_taken}
 use Rattle.node_core.proofs.Found.{some_is}
 use Rattle.node_core.proofs.FrameRefused.{owes_alike}
+use Rattle.link_states.specs.Checks as state_checked
 use Rattle.node_core.proofs.FrameRules.{ack_rules, digest_is, reply_rules}
 
 -- the state awaits the last frame of its side
@@ -52,17 +53,14 @@ module _ (h : History) (j : ℕ) where
   module _ (rules : AdmissionRules) (t : AdmissionFollows (admission_words h) rules) (body : List ℕ) (pending : Pending) where
     -- ---- it breaks a rule
 
+    rules_of : (s : LinkState) → is_last_state s ≡ true → IsState (facts h j) s → first_broken (frame_checks h j body (awaits j h.entries)) ≡ option_map rule_of (state_checked.first_broken (state_checks rules pending s body))
+    rules_of (LinkState.Reply s) q a = ap (λ x. first_broken (frame_checks h j body x)) a.0.awaited ∙ reply_rules h rules t j s.peer a.1.peer.peer s.challenge a.1.challenge (reply_frame body)
+    rules_of (LinkState.Ack s) q a = ap (λ x. first_broken (frame_checks h j body x)) a.0.awaited ∙ ack_rules h rules t j s.peer a.1.peer.peer s.challenge a.1.challenge (ack_frame body)
+    rules_of s q a = lie (sym q)
+
     pub ended_by : (s : LinkState) → is_last_state s ≡ true → IsState (facts h j) s → (r : Rule) (frames : List (List ℕ)) → Hears rules pending s body (Heard.Ended r frames)
         → (first_broken (frame_checks h j body (awaits j h.entries)) ≡ Some r) × (refusal_owes r ≡ narrow_frames frames)
-    ended_by (LinkState.Reply s) q a r frames hears = (
-      ap (λ x. first_broken (frame_checks h j body x)) a.0.awaited ∙ reply_rules h rules t j s.peer a.1.peer.peer s.challenge a.1.challenge (reply_frame body) ∙ ap (option_map rule_of) hears.2 ∙ ap Some (sym hears.1),
-      ap refusal_owes hears.1 ∙ owes_alike hears.0 ∙ ap narrow_frames (sym hears.3),
-    )
-    ended_by (LinkState.Ack s) q a r frames hears = (
-      ap (λ x. first_broken (frame_checks h j body x)) a.0.awaited ∙ ack_rules h rules t j s.peer a.1.peer.peer s.challenge a.1.challenge (ack_frame body) ∙ ap (option_map rule_of) hears.2 ∙ ap Some (sym hears.1),
-      ap refusal_owes hears.1 ∙ owes_alike hears.0 ∙ ap narrow_frames (sym hears.3),
-    )
-    ended_by s q a r frames hears = lie (sym q)
+    ended_by s q a r frames hears = (rules_of s q a ∙ ap (option_map rule_of) hears.2 ∙ ap Some (sym hears.1), ap refusal_owes hears.1 ∙ owes_alike hears.0 ∙ ap narrow_frames (sym hears.3))
 
     -- ---- it breaks none
 
@@ -84,7 +82,7 @@ module _ (h : History) (j : ℕ) where
             unwhole = a.0.whole;
             last = ap is_last a.0.awaited;
             known = a.1;
-            holds = ap (λ x. first_broken (frame_checks h j body x)) a.0.awaited ∙ reply_rules h rules t j s.peer a.1.peer.peer s.challenge a.1.challenge (reply_frame body) ∙ ap (option_map rule_of) hears.0;
+            holds = rules_of (LinkState.Reply s) q a ∙ ap (option_map rule_of) hears.0;
             owes = ap (frame_owes h j body) a.0.awaited ∙ owes_by (reply_frame body) f w;
             on = λ e answered yes named. reply_taken h e answered yes j body named a.0.awaited;
           },
@@ -96,7 +94,7 @@ module _ (h : History) (j : ℕ) where
         unwhole = a.0.whole;
         last = ap is_last a.0.awaited;
         known = a.1;
-        holds = ap (λ x. first_broken (frame_checks h j body x)) a.0.awaited ∙ ack_rules h rules t j s.peer a.1.peer.peer s.challenge a.1.challenge (ack_frame body) ∙ ap (option_map rule_of) hears.0;
+        holds = rules_of (LinkState.Ack s) q a ∙ ap (option_map rule_of) hears.0;
         owes = ap (frame_owes h j body) a.0.awaited;
         on = λ e answered yes named. ack_taken h e answered yes j body named a.0.awaited;
       },
