@@ -34,9 +34,8 @@ fn is_counted(rows: &[BoxedRow], row: &Row) -> bool
     requires { Rises counted_cmp rows.now }
     ensures { result ≡ are_all_in rows.now (row.now ∷ []) }
 {
-    // No row is at this place, so none is looked at before the search.
-    let mut nowhere = rows.len();
-    count_at(rows, &mut nowhere, &row.group, &row.pid) > 0
+    let mut next = 0;
+    count_at(rows, &mut next, &row.group, &row.pid) > 0
 }
 
 /// One less for each row.
