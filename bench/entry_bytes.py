@@ -27,7 +27,10 @@ NAME = b"N" + struct.pack(">QIH3s", 1 << 24 | 1, 5, 3, b"p@h")
 PEER = ["opened 123", f"frame 3 {NAME.hex()}", f"frame 3 7200000001{DIGEST}", "frame 3 44027067", message(b"S"), "take 3"]
 JOIN, LEAVE = ([f"{word} pg g b@h/1/1"] for word in ("join", "leave"))
 
-OPENED, TAKE, SPAWN, MOVE = "an Opened, a Lost", "an empty Take", "a Spawn", "a Join, a Leave of one process"
+# A group with another process.
+CROWD = ["spawn", "join pg g b@h/1/2"]
+
+OPENED, TAKE, SPAWN, MADE = "an Opened, a Lost", "an empty Take", "a Spawn", "a Join that makes its group, a Leave"
 # By kind: how many entries, the lines before them, those of a round by its number and that of its first entry, and the other kinds in it.
 KINDS = {
     TAKE: (MANY, PEER, lambda turn, first: ["take 3"], []),
@@ -35,9 +38,10 @@ KINDS = {
     SPAWN: (MANY, [], lambda turn, first: ["spawn"], []),
     "an Exit": (MANY, [], lambda turn, first: ["spawn", f"exit b@h/1/{turn + 2}"], [SPAWN]),
     "a StartScope, a StopScope": (MANY, [], lambda turn, first: ["start q", "stop q"], []),
-    MOVE: (MANY, [], lambda turn, first: JOIN + LEAVE, []),
-    "a Take of one frame": (MANY, PEER, lambda turn, first: JOIN + ["take 3"] + LEAVE + ["take 3"], [MOVE, MOVE]),
-    "an Updates of one": (MANY, ["monitor pg g"], lambda turn, first: JOIN + ["updates 3"] + LEAVE + ["updates 3"], [MOVE, MOVE]),
+    "a Join, a Leave of one process": (MANY, CROWD, lambda turn, first: JOIN + LEAVE, []),
+    MADE: (MANY, [], lambda turn, first: JOIN + LEAVE, []),
+    "a Take of one frame": (MANY, PEER, lambda turn, first: JOIN + ["take 3"] + LEAVE + ["take 3"], [MADE, MADE]),
+    "an Updates of one": (MANY, ["monitor pg g"], lambda turn, first: JOIN + ["updates 3"] + LEAVE + ["updates 3"], [MADE, MADE]),
     "a Members of one": (MANY, JOIN, lambda turn, first: ["members pg g"], []),
     "a Members of 4,096": (FEW, JOIN * 4096, lambda turn, first: ["members pg g"], []),
     "a frame of one row": (MANY, PEER, lambda turn, first: [message(b"J", 1), message(b"L", 1)], []),

@@ -54,7 +54,8 @@ pub fn each<A: Argument + Drop>(alloc: Global, words: Option<&[u8]>) -> Result<I
     ensures ok { IfOk result (λ said. each A.read (words_left words.entry) ≡ Some said) }
     ensures fault { IfErr result (λ fault. IsUnread fault (each A.read (words_left words.entry))) }
 {
-    let mut items = Vec::new(alloc);
+    // Most lists are of one.
+    let mut items = Vec::with_capacity(alloc, 1)?;
     let mut rest = words;
     while let Some((word, behind)) = next_word(rest) {
         items.push(A::of_word(alloc, word)?)?;

@@ -10,7 +10,7 @@ use crate::node_commands::node_command;
 use crate::words::{first_word, next_word};
 use dist_types::{OutOfMemory, TextFault};
 use policy_audit::Event;
-use std::alloc::{AllocFailed, Global};
+use std::alloc::{AllocError, AllocFailed, Global};
 
 /// What a line may ask for.
 #[derive(Drop)]
@@ -39,6 +39,16 @@ impl From<OutOfMemory> for LineFault {
     ghost from_gives = { λ _ fault. fault ≡ faults.Memory };
 
     fn from(_error: OutOfMemory) -> LineFault {
+        LineFault::Memory
+    }
+}
+
+impl From<AllocError> for LineFault {
+    ghost use Rattle.pg_text.specs.declared.command.LineFault.TheVariants as faults;
+
+    ghost from_gives = { λ _ fault. fault ≡ faults.Memory };
+
+    fn from(_error: AllocError) -> LineFault {
         LineFault::Memory
     }
 }
