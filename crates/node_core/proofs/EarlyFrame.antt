@@ -1,30 +1,90 @@
--- What an early frame of the handshake makes of a node: it goes on, or its link ends.
-use Rattle.node_core.proofs.Words.{is_name_up, is_dialling, is_dialled, Bool, List, None, Some, ap, cond, false, length, refl, subst, sym, true}
-use Rattle.node_core.proofs.Words.{ℕ, [], ◌∙◌, ◌≡◌, ◌≤◌, flat_map, option_map, option_to_list, Linked, Pending, lie, History, refusal_owes, IsNext}
-use Rattle.node_core.proofs.Words.{with_entry, awaits, is_last, is_whole, Accepted, Refused, Rule, Follows, Parts, HaveEnded, Hears, is_handshake}
-use Rattle.node_core.proofs.Words.{rule_of, LinksFollow, KeptLink, StatelessLink, dial_beside, dialled_peer, narrow_frames, up_peer, ScopesFollow, LinkState}
-use Rattle.node_core.proofs.Words.{HaveGoneOn, Event, Reply, Heard}
-use Rattle.node_core.proofs.EarlyHeard.{is_early, early_rules, early_awaits, early_answered, early_goes, early_next, early_scopes}
-use Rattle.node_core.proofs.Entered.{step_follows, made}
-use Rattle.node_core.proofs.FrameRefused.{owes_alike, refused_next, refused_follows}
-use Rattle.node_core.proofs.HeardFrames.{early_state, is_there, few_frames, early_goes_on}
-use Rattle.node_core.proofs.HeldLink.{IsHeld, held_state, held_moved, held_ended, beside_same}
+-- The node after an accepted frame that isn't the last of a handshake.
+use Rattle.node_core.proofs.Words.{leb-true}
+use Rattle.node_core.proofs.Words.{arith, Bool, List, None, Option, Some, ap, cond, false, refl, subst, sym, true, ℕ, [], ◌∙◌, ◌≡◌, option_map}
+use Rattle.node_core.proofs.Words.{same_decides, Pid, challenge_frame, name_frame, status_of}
+use Rattle.node_core.proofs.Words.{AdmissionRules, found, is_dialled, Pending, lie, no_change}
+use Rattle.node_core.proofs.Words.{History, is_dialling, listed, running_scopes, IsAnswered, IsLegal, IsNext, is_full}
+use Rattle.node_core.proofs.Words.{with_entry, awaits, is_last, is_name_up, Entry, Accepted, Rule, AdmissionFollows}
+use Rattle.node_core.proofs.Words.{admission_words, heard_named, rule_of, IsState, LinksFollow, facts, link_words, KeptLink, dial_beside}
+use Rattle.node_core.proofs.Words.{dialled_peer, narrow_frames, scope_words, status_owed, reply_owed, Heard}
+use Rattle.node_core.proofs.Words.{LinkState, state_checks, accepted_as, Event, Reply, length, ◌≤◌, flat_map, option_to_list, Linked}
+use Rattle.node_core.proofs.Words.{is_whole, Refused, Follows, Parts, HaveEnded, Hears, is_handshake, StatelessLink, up_peer}
+use Rattle.node_core.proofs.Words.{ScopesFollow, HaveGoneOn}
+use Rattle.link_states.specs.Named.{named_by}
+use Rattle.link_states.specs.Pending.{is_up, is_up as is_pending_up}
+use Rattle.policy_audit.proofs.Finished.{is_message}
+use Rattle.policy_audit.proofs.HeardNow.{framed_heard}
+use Rattle.policy_audit.proofs.RowsAfter.{unfinished_rows}
+use Rattle.node_core.proofs.EarlyMoves.{answer_moves, status_moves, challenge_moves, Goes, name_goes}
+use Rattle.node_core.proofs.Entered.{made, accepted_now, answered_now, step_follows}
+use Rattle.node_core.proofs.Found.{some_is}
 use Rattle.node_core.proofs.MovedOn.{moved_follow}
+use Rattle.node_core.proofs.HeardFrames.{is_early, early_state, is_there}
+use Rattle.node_core.proofs.HeldLink.{IsHeld, held_state, held_moved, beside_same}
 use Rattle.node_core.proofs.LinkTests.{ups_are, dials_are}
-use Rattle.link_states.specs.Pending.{is_up as is_pending_up}
+use Rattle.link_states.specs.Checks as state_checked
+use Rattle.node_core.proofs.HeardFrames.{heard_leads, by_all}
+use Rattle.node_core.proofs.HeldLink.{held_broke}
+use Rattle.node_core.proofs.FrameRules.{early_rules}
+
+module _ (h : History) (seat j : ℕ) (body : List ℕ) where
+  -- the entry
+  abbrev pub e : Entry
+  e = made h seat (Event.Frame j body) (Accepted Reply.Done) []
+
+  abbrev pub k : History
+  k = with_entry h e
+
+  module _ (answered : IsAnswered h e) (legal : IsLegal h) (inner : is_last (awaits j h.entries) ≡ false) (unlike : is_message (awaits j h.entries) ≡ false) where
+    same_rows : (s g : List ℕ) (p : Pid) → listed k s g p ≡ listed h s g p
+    same_rows s g p = unfinished_rows h legal e answered refl j body refl unlike inner s g p
+
+    early_next : IsNext h e
+    early_next = record { room = answered.room; number = answered.number; verdict = answered.verdict; change = no_change h k (λ s g p. sym (same_rows s g p)) }
+
+    early_scopes : scope_words k ≡ scope_words h
+    early_scopes = λ i. record {
+      own = h.opening.name;
+      running = running_scopes h;
+      listed = λ s g p. same_rows s g p i;
+      heard = λ l s. (framed_heard h legal e answered refl j body refl unlike inner l s).heard_is i;
+      told = λ l s. (framed_heard h legal e answered refl j body refl unlike inner l s).told_is i;
+    }
+
+  module _ (rules : AdmissionRules) (t : AdmissionFollows (admission_words h) rules) (pending : Pending) (ups : (n : List ℕ) → is_up pending n ≡ is_name_up n h.entries) (dials : (n : List ℕ) → is_dialled pending n ≡ is_dialling n h.entries) where
+    early_answered : is_full h ≡ false → (s : LinkState) → is_early s ≡ true → IsState (facts h j) s → state_checked.first_broken (state_checks rules pending s body) ≡ None → IsAnswered h e
+    early_answered space s early a holds = answered_now h seat (Event.Frame j body) space (Accepted Reply.Done) []
+        (accepted_now h seat (Event.Frame j body) space Reply.Done (early_rules h rules t pending seat j body ups dials s early a ∙ ap (option_map rule_of) holds) (grind (arith, a)))
+
+    module _ (answered : IsAnswered h e) (kept : List KeptLink) (follow : LinksFollow (link_words h) kept) (legal : IsLegal h) (beside : LinkState → Option ℕ) where
+      -- the state goes on as heard
+      early_goes : (s : LinkState) → is_early s ≡ true → IsState (facts h j) s → state_checked.first_broken (state_checks rules pending s body) ≡ None
+          → (dialled_peer s ≡ None → (now : LinkState) → dial_beside now kept ≡ beside now) → (r : Heard) → accepted_as rules pending s body ≡ Some r → Goes h k j beside r
+      early_goes (LinkState.Name c) early a holds same_dial r q = by_all (Goes h k j beside) (λ f. heard_named (named_by rules pending c f)) (name_frame body) q
+          (λ f said. subst (λ b. Goes h k j b (heard_named (named_by rules pending c f))) (λ i now. same_dial refl now i)
+          (name_goes h legal rules t e answered refl j body refl c a f said (grind (arith, holds, said, t.own)) kept follow pending (ups f.name) (dials f.name)))
+      early_goes (LinkState.Answer s) early a holds same_dial r q = subst (Goes h k j beside) (some_is q) (answer_moves h rules t e answered refl j body refl s a)
+      early_goes (LinkState.Status dial) early a holds same_dial r q = by_all (Goes h k j beside) (λ w. Heard.On (LinkState.Challenge dial) (status_owed w) false) (status_of body) q
+          (λ w said. status_moves h rules t e answered refl j body refl dial w said a)
+      early_goes (LinkState.Challenge dial) early a holds same_dial r q =
+          by_all (Goes h k j beside) (λ f. Heard.On (LinkState.Ack (found rules dial f)) (reply_owed rules dial.peer dial.challenge f.challenge) false) (challenge_frame body) q
+          (λ f asked. challenge_moves h rules t e answered refl j body refl dial f asked ((same_decides f.name dial.peer).0 (grind (arith, holds, asked))) a)
+      early_goes s early a holds same_dial r q = lie (sym early)
+
+-- ---- what an early frame of the handshake makes of a node: it goes on, or its link ends
 
 module _ {h : History} {parts : Parts} (t : Follows h parts) (seat : ℕ) (body : List ℕ) {j p : ℕ} {v w out : KeptLink} {s : LinkState} {link : StatelessLink} {left : List KeptLink} (held : IsHeld h parts.links j p v w out s link left)
     (unwhole : is_whole j h.entries ≡ false) (inner : is_last (awaits j h.entries) ≡ false) where
   early : is_early s ≡ true
-  early = (early_state h j held.opens unwhole inner s (held_state t held)).0
+  early = early_state (facts h j) s (held_state t held) held.opens unwhole inner
 
   pub handshakes : is_handshake s ≡ true
-  handshakes = (early_state h j held.opens unwhole inner s (held_state t held)).1
+  handshakes = grind (arith, early)
 
   module _ {links : List KeptLink} (these : links ≡ parts.links) (pending : Pending) (up : pending.up ≡ flat_map (λ x. option_to_list (up_peer x.state)) links)
       (dials : pending.dials ≡ flat_map (λ x. option_to_list (dialled_peer x.state)) links) where
     pub early_never_up : (up_now : Linked) (frames : List (List ℕ)) → Hears parts.admission pending s body (Heard.Up up_now frames) → ⊥
-    early_never_up up_now frames hears = lie (sym (early_goes_on parts.admission pending body s early (Heard.Up up_now frames) hears.1))
+    early_never_up up_now frames hears = lie (sym (heard_leads parts.admission pending body s (Heard.Up up_now frames) hears.1) ∙ (grind (arith, early)))
 
     ups_so : (n : List ℕ) → is_pending_up pending n ≡ is_name_up n h.entries
     ups_so n = ups_are h t.sound.legal parts.links t.links n pending (up ∙ ap (flat_map (λ (x : KeptLink). option_to_list (up_peer x.state))) these)
@@ -34,20 +94,20 @@ module _ {h : History} {parts : Parts} (t : Follows h parts) (seat : ℕ) (body 
 
     module _ (now : LinkState) (frames : List (List ℕ)) (gives_up : Bool) (hears : Hears parts.admission pending s body (Heard.On now frames gives_up)) where
       pub early_few : length frames ≤ 2
-      early_few = few_frames parts.admission pending body s (Heard.On now frames gives_up) hears.1
+      early_few = grind (arith, leb-true (length frames) 2, heard_leads parts.admission pending body s (Heard.On now frames gives_up) hears.1)
 
       pub early_went_on : (new : List KeptLink) → HaveGoneOn p link now frames gives_up left new
           → IsNext h (made h seat (Event.Frame j body) (Accepted Reply.Done) []) × Follows (with_entry h (made h seat (Event.Frame j body) (Accepted Reply.Done) [])) (record parts { links = new })
       early_went_on new on =
           let there = is_there h parts t j p held.at v in
-          let answered = early_answered h parts.admission t.admission pending seat j body ups_so dials_so held.space s early (held_state t held) hears.0 in
-          let unlike = (early_awaits h parts.admission t.admission pending seat j body ups_so dials_so s early (held_state t held)).1 in
-          let entered = early_next h parts.admission t.admission pending seat j body ups_so dials_so answered t.sound.legal inner unlike in
-          let moves = early_goes h parts.admission t.admission pending seat j body ups_so dials_so answered parts.links t.links t.sound.legal left s early (held_state t held) hears.0
-          (beside_same t held) (Heard.On now frames gives_up) hears.1 in (
+          let unlike : is_message (awaits j h.entries) ≡ false = grind (arith, early, held_state t held) in
+          let answered = early_answered h seat j body parts.admission t.admission pending ups_so dials_so held.space s early (held_state t held) hears.0 in
+          let entered = early_next h seat j body answered t.sound.legal inner unlike in
+          let moves = early_goes h seat j body parts.admission t.admission pending ups_so dials_so answered parts.links t.links t.sound.legal (λ state. dial_beside state left) s early (held_state t held) hears.0
+          (λ none state. sym (beside_same t held none state)) (Heard.On now frames gives_up) hears.1 in (
             entered,
             step_follows t entered refl t.admission t.processes
-                (subst (λ w. ScopesFollow w parts.scopes) (sym (early_scopes h parts.admission t.admission pending seat j body ups_so dials_so answered t.sound.legal inner unlike)) t.scopes)
+                (subst (λ w. ScopesFollow w parts.scopes) (sym (early_scopes h seat j body answered t.sound.legal inner unlike)) t.scopes)
                 (subst (LinksFollow _) (sym (held_moved t held now (narrow_frames frames) (cond gives_up (dial_beside now left) None) new on))
                 (moved_follow h _ t.sound.legal j now (narrow_frames frames) (cond gives_up (dial_beside now left) None) moves parts.links t.links p v there.0 there.1 on.room)),
           )
@@ -55,9 +115,4 @@ module _ {h : History} {parts : Parts} (t : Follows h parts) (seat : ℕ) (body 
     module _ (r : Rule) (frames : List (List ℕ)) (hears : Hears parts.admission pending s body (Heard.Ended r frames)) where
       pub early_broke : (new : List KeptLink) → HaveEnded p link frames left new
           → IsNext h (made h seat (Event.Frame j body) (Refused r) []) × Follows (with_entry h (made h seat (Event.Frame j body) (Refused r) [])) (record parts { links = new })
-      early_broke new ends =
-          let there = is_there h parts t j p held.at v in
-          let rules = early_rules h parts.admission t.admission pending seat j body ups_so dials_so s early (held_state t held) in
-          let entered = refused_next h seat j body r held.space (rules ∙ ap (option_map rule_of) hears.2 ∙ ap Some (sym hears.1)) in
-          let owed = ap refusal_owes hears.1 ∙ owes_alike hears.0 ∙ ap narrow_frames (sym hears.3) in
-          (entered, refused_follows h seat j body r held.opens unwhole (narrow_frames frames) owed parts t p v there.0 there.1 entered ends.room new (held_ended t held frames refl new ends))
+      early_broke new ends = held_broke t held seat body unwhole parts.admission pending (early_rules h parts.admission t.admission pending seat j body ups_so dials_so s early (held_state t held)) r frames hears new ends

@@ -1,75 +1,160 @@
 -- The rules for a frame of the handshake, as a state knows them, are those of the policy.
-use Rattle.node_core.proofs.Words.{Bool, List, None, Option, Some, ap, cond, false, not, refl, sym, true, ℕ, [], ◌&&◌, ◌∙◌, ◌∷◌, ◌≡◌, option_map}
-use Rattle.node_core.proofs.Words.{option_map_or, same_sym, has_bit, same, text_cmp, Challenge, Name, ReplyFrame, StatusWord, AdmissionRules}
+use Rattle.node_core.proofs.Words.{frame_checks, state_checks, name_frame, LinkState, arith}
+use Rattle.node_core.proofs.Words.{Bool, List, None, Option, Some, ap, cond, false, not, refl, sym, true, ℕ, [], ◌&&◌, ◌∙◌, ◌≡◌, option_map}
+use Rattle.node_core.proofs.Words.{option_map_or, same_sym, has_bit, same, text_cmp, Name, AdmissionRules}
 use Rattle.node_core.proofs.Words.{is_dialled, Pending, StateRule, lie, always, first_broken, History, is_dialling, digest_for, own_challenge}
-use Rattle.node_core.proofs.Words.{is_name_up, is_peer, peer_of, Rule, AdmissionFollows, admission_words, rule_of, is_gt, is_node_name, cookie_of}
-use Rattle.node_core.proofs.Words.{allowed, cookie, name_checks, answer_checks, status_checks, challenge_checks, digest_checks, is_peer_up}
-use Rattle.node_core.proofs.Words.{is_simultaneous}
-use Rattle.std.proofs.Common.{bytes_eq}
-use Rattle.handshake_frames.specs.declared.frame.AckFrame.{AckFrame}
+use Rattle.node_core.proofs.Words.{is_name_up, peer_of, Rule, AdmissionFollows, admission_words, rule_of, is_gt, is_node_name, cookie_of}
+use Rattle.node_core.proofs.Words.{cookie, name_checks}
+use Rattle.node_core.proofs.Words.{◌++◌, ◌==◌, filter, eq-eqb, is_accepted, is_open, named_by, OutFrame, frame_owes, waiting}
+use Rattle.node_core.proofs.Words.{IsAnswered, with_entry, awaits, challenge_in, is_last, Entry, IsIntroduced, IsState, facts, kept_numbers, given}
+use Rattle.node_core.proofs.Words.{Awaited, entry_link, IsOnward, framed_numbers, LinkState, Awaits, IsPeer, Event, get_or, length, set, subst, ◌<◌}
+use Rattle.node_core.proofs.Words.{eqb-true, is_empty, no_change, and_false, flip, checks, refusal_owes, running_scopes, IsNext, is_full, is_whole}
+use Rattle.node_core.proofs.Words.{Refused, Follows, Parts, moved_on, without_link, LinksFollow, link_words, KeptLink, narrow_frames, ScopesFollow}
+use Rattle.node_core.proofs.Words.{scope_words, refusal_frames, entry_rows, and-true}
 use Rattle.cookie_digest.specs.Digest.{digest_of}
 use Rattle.link_states.specs.Pending.{is_up}
 use Rattle.node_core.proofs.Cookies.{cookie_is}
-use Rattle.link_states.specs.Checks as state
 use Rattle.node_core.proofs.LinkTests.{allowed_by}
+use Rattle.policy_audit.proofs.Onward.{frame_open}
+use Rattle.policy_audit.proofs.LinkFrames.{handshake_links, refused_links}
+use Rattle.node_core.proofs.KeptOn.{facts_same, filter_all}
+use Rattle.node_core.proofs.MovedOn.{AreMoves, stays_but, moved_follow}
+use Rattle.policy_audit.proofs.HeardNow.{refused_heard}
+use Rattle.policy_audit.proofs.LinksLeft.{refused_numbers}
+use Rattle.node_core.proofs.Entered.{step_follows, made, next_now, refused_now}
+use Rattle.link_states.specs.Checks as state
+use Rattle.node_core.proofs.HeardFrames.{is_early, is_last_state}
 
--- one check before others
-pub further : (b c : Bool) (r : StateRule) (x : Option Rule) (y : Option StateRule) → b ≡ c → x ≡ option_map rule_of y → cond (not b) (Some (rule_of r)) x ≡ option_map rule_of (cond (not c) (Some r) y)
-further true true r x y q others = others
-further false false r x y q others = refl
-further true false r x y q others = lie q
-further false true r x y q others = lie (sym q)
+-- the rules for a Name, by what is tested
+name_by : (modern dynamic word : Bool) {own own_too : Bool} → own ≡ own_too → {granted granted_too : Bool} → granted ≡ granted_too → {ranks ranks_too : Bool} → ranks ≡ ranks_too
+    → cond (not modern) (Some Rule.NoHandshake23) (cond (not (not dynamic)) (Some Rule.DynamicName) (cond (not word) (Some Rule.BadName)
+    (cond (not (not own)) (Some Rule.OwnName) (cond (not granted) (Some Rule.NotAllowed) (cond (not (not ranks)) (Some Rule.Simultaneous) None)))))
+    ≡ option_map rule_of (cond (not modern) (Some StateRule.NoHandshake23) (cond (not (not dynamic)) (Some StateRule.DynamicName) (cond (not word) (Some StateRule.BadName)
+    (cond (not (not own_too)) (Some StateRule.OwnName) (cond (not granted_too) (Some StateRule.NotAllowed) (cond (not (not ranks_too)) (Some StateRule.Simultaneous) None))))))
+name_by modern dynamic word own granted ranks = grind arith
 
 module _ (h : History) (rules : AdmissionRules) (t : AdmissionFollows (admission_words h) rules) where
   -- the digest that is awaited of a peer
   pub digest_is : (l : ℕ) (n : List ℕ) (c : ℕ) → peer_of l h.entries ≡ Some n → digest_for h l c ≡ digest_of (cookie_of rules n) c
   digest_is l n c of = ap (λ x. digest_of (option_map_or (cookie h) x []) c) of ∙ ap (λ k. digest_of k c) (sym (cookie_is h rules t n))
 
-  module _ (l : ℕ) (peer : List ℕ) (of : peer_of l h.entries ≡ Some peer) where
-    digests : (challenge : ℕ) (digest : List ℕ) → challenge ≡ own_challenge l h.entries
-        → first_broken (digest_checks h l digest) ≡ option_map rule_of (state.first_broken (state.unless (state.is_answer rules peer challenge digest) StateRule.BadDigest ∷ []))
-    digests challenge digest own =
-        further (bytes_eq digest (digest_for h l (own_challenge l h.entries))) (state.is_answer rules peer challenge digest) StateRule.BadDigest None None
-        (ap (λ c. bytes_eq digest (digest_for h l c)) (sym own) ∙ ap (bytes_eq digest) (digest_is l peer challenge of)) refl
-
-    pub reply_rules : (challenge : ℕ) → challenge ≡ own_challenge l h.entries → (x : Option ReplyFrame)
-        → first_broken (option_map_or (λ f. digest_checks h l f.digest) x (always Rule.BadFrame)) ≡ option_map rule_of (state.first_broken (state.reply_checks rules peer challenge x))
-    reply_rules challenge own None = refl
-    reply_rules challenge own (Some f) = digests challenge f.digest own
-
-    pub ack_rules : (challenge : ℕ) → challenge ≡ own_challenge l h.entries → (x : Option AckFrame)
-        → first_broken (option_map_or (λ f. digest_checks h l f.digest) x (always Rule.BadFrame)) ≡ option_map rule_of (state.first_broken (state.ack_checks rules peer challenge x))
-    ack_rules challenge own None = refl
-    ack_rules challenge own (Some f) = digests challenge f.digest own
-
-    pub challenge_rules : (x : Option Challenge) → first_broken (option_map_or (challenge_checks h l) x (always Rule.BadFrame)) ≡ option_map rule_of (state.first_broken (state.challenge_checks peer x))
-    challenge_rules None = refl
-    challenge_rules (Some f) =
-        further (has_bit 24 f.flags) (has_bit 24 f.flags) StateRule.NoHandshake23 _ _ refl
-        (further (is_peer f.name l h.entries) (bytes_eq f.name peer) StateRule.WrongName None None (ap (λ x. option_map_or (λ m. same m f.name) x false) of ∙ same_sym peer f.name) refl)
-
-    pub status_rules : (pending : Pending) → ((n : List ℕ) → is_up pending n ≡ is_name_up n h.entries) → (x : Option StatusWord)
-        → first_broken (option_map_or (status_checks (is_peer_up h l)) x (always Rule.BadFrame)) ≡ option_map rule_of (state.first_broken (state.status_checks pending peer x))
-    status_rules pending ups None = refl
-    status_rules pending ups (Some StatusWord.Ok) = refl
-    status_rules pending ups (Some StatusWord.OkSimultaneous) = refl
-    status_rules pending ups (Some StatusWord.Alive) =
-        further (not (is_peer_up h l)) (not (is_up pending peer)) StateRule.LinkUp None None (ap (λ x. not (option_map_or (λ n. is_name_up n h.entries) x false)) of ∙ ap not (sym (ups peer))) refl
-    status_rules pending ups (Some w) = refl
-
-  pub answer_rules : (x : Option StatusWord) → first_broken (option_map_or answer_checks x (always Rule.BadFrame)) ≡ option_map rule_of (state.first_broken (state.answer_checks x))
-  answer_rules None = refl
-  answer_rules (Some StatusWord.True) = refl
-  answer_rules (Some w) = refl
-
-  pub name_rules : (pending : Pending) → ((n : List ℕ) → is_up pending n ≡ is_name_up n h.entries) → ((n : List ℕ) → is_dialled pending n ≡ is_dialling n h.entries) → (x : Option Name)
+  name_rules : (pending : Pending) → ((n : List ℕ) → is_up pending n ≡ is_name_up n h.entries) → ((n : List ℕ) → is_dialled pending n ≡ is_dialling n h.entries) → (x : Option Name)
       → first_broken (option_map_or (name_checks h) x (always Rule.BadFrame)) ≡ option_map rule_of (state.first_broken (state.name_checks rules pending x))
   name_rules pending ups dials None = refl
-  name_rules pending ups dials (Some f) =
-      further (has_bit 24 f.flags) (has_bit 24 f.flags) StateRule.NoHandshake23 _ _ refl
-      (further (not (has_bit 33 f.flags)) (not (has_bit 33 f.flags)) StateRule.DynamicName _ _ refl
-      (further (is_node_name f.name) (is_node_name f.name) StateRule.BadName _ _ refl
-      (further (not (same f.name h.opening.name)) (not (bytes_eq f.name rules.own)) StateRule.OwnName _ _ (ap (λ o. not (same f.name o)) (sym t.own))
-      (further (allowed h f.name) (state.allows rules f.name) StateRule.NotAllowed _ _ (sym (allowed_by h rules t f.name))
-      (further (not (is_simultaneous h f.name)) (not (state.outranks rules pending f.name)) StateRule.Simultaneous None None
-      (λ i. not (not (sym (ups f.name) i) && sym (dials f.name) i && is_gt (text_cmp (sym t.own i) f.name))) refl)))))
+  name_rules pending ups dials (Some f) = name_by (has_bit 24 f.flags) (has_bit 33 f.flags) (is_node_name f.name) (ap (same f.name) (sym t.own)) (sym (allowed_by h rules t f.name))
+      (λ i. not (sym (ups f.name) i) && sym (dials f.name) i && is_gt (text_cmp (sym t.own i) f.name))
+
+  module _ (pending : Pending) (seat j : ℕ) (body : List ℕ) where
+    -- a frame that isn't the last breaks the same rules
+    pub early_rules : ((n : List ℕ) → is_up pending n ≡ is_name_up n h.entries) → ((n : List ℕ) → is_dialled pending n ≡ is_dialling n h.entries) → (s : LinkState) → is_early s ≡ true → IsState (facts h j) s
+        → first_broken (checks h seat (Event.Frame j body)) ≡ option_map rule_of (state.first_broken (state_checks rules pending s body))
+    early_rules ups dials (LinkState.Name c) q a = (λ i. first_broken (cond (a.0.open_now i) (frame_checks h j body (a.0.awaited i)) (always Rule.NoSuchLink))) ∙ name_rules pending ups dials (name_frame body)
+    early_rules ups dials (LinkState.Answer s) q a = grind (arith, a)
+    early_rules ups dials (LinkState.Status dial) q a = grind (arith, a, ups dial.peer)
+    early_rules ups dials (LinkState.Challenge dial) q a = grind (arith, a, same_sym dial.peer)
+    early_rules ups dials s q a = lie (sym q)
+
+    -- so does the last
+    pub last_rules : (s : LinkState) → is_last_state s ≡ true → IsState (facts h j) s → first_broken (checks h seat (Event.Frame j body)) ≡ option_map rule_of (state.first_broken (state_checks rules pending s body))
+    last_rules (LinkState.Reply s) q a = grind (arith, a, digest_is j s.peer s.challenge a.1.peer.peer)
+    last_rules (LinkState.Ack s) q a = grind (arith, a, digest_is j s.peer s.challenge a.1.peer.peer)
+    last_rules s q a = lie (sym q)
+
+-- ---- what an accepted frame makes of what is said of its own link and of the others
+
+-- of a list the same stay by tests that agree
+pub same_stay : (test more : ℕ → Bool) (xs : List ℕ) → ((l : ℕ) → test l ≡ more l) → filter test xs ≡ filter more xs
+same_stay test more xs q = λ i. filter (λ l. q l i) xs
+
+module _ (h : History) (e : Entry) (answered : IsAnswered h e) (yes : is_accepted e.verdict ≡ true) (j : ℕ) (body : List ℕ) (is : e.event ≡ Event.Frame j body) where
+  abbrev k : History
+  k = with_entry h e
+
+  pub other_facts : (l : ℕ) → (j == l) ≡ false → is_open l k.entries ≡ is_open l h.entries → facts k l ≡ facts h l
+  other_facts l apart opens = facts_same h k refl l (entry_link h.entries e j l body is apart) opens
+
+  module _ {gave : Option Name} {of : Option (List ℕ)} {next : Awaited} {ends : Bool} (on : IsOnward j h.entries e gave of next ends) where
+    pub own_awaits : is_open j k.entries ≡ is_open j h.entries → Awaits (facts k j) next ends
+    own_awaits opens = record { open_now = opens ∙ frame_open h e answered yes j body is; whole = on.whole; awaited = on.awaits }
+
+    pub same_challenge : own_challenge j k.entries ≡ own_challenge j h.entries
+    same_challenge = ap (λ x. option_map_or (λ o. challenge_in o.start) x 0) on.opened
+
+  -- what was known of the peer is known still
+  pub still_dialled : {next : Awaited} {ends : Bool} (on : IsOnward j h.entries e (given j h.entries) (peer_of j h.entries) next ends) (name : List ℕ) → IsPeer (facts h j) name → IsPeer (facts k j) name
+  still_dialled on name a = record { peer = on.peer ∙ a.peer; other = a.other }
+
+  pub still_introduced : {next : Awaited} {ends : Bool} (on : IsOnward j h.entries e (given j h.entries) (peer_of j h.entries) next ends) (name : List ℕ) (creation : ℕ) (visible : Bool) (number : ℕ)
+      → IsIntroduced (facts h j) name creation visible number → IsIntroduced (facts k j) name creation visible number
+  still_introduced on name creation visible number a = record {
+    peer = still_dialled on name a.peer;
+    said = (a.said.0, record { said = on.given ∙ a.said.1.said; name_is = a.said.1.name_is; creation_is = a.said.1.creation_is; visible_is = a.said.1.visible_is });
+    challenge = a.challenge ∙ sym (same_challenge on);
+  }
+
+  -- a frame that ends no link and isn't the last of its side
+  module _ (inner : is_last (awaits j h.entries) ≡ false) (unnamed : named_by (awaits j h.entries) body ≡ None) where
+    pub inner_open : (l : ℕ) → is_open l k.entries ≡ is_open l h.entries
+    inner_open l = (handshake_links h e answered yes j body is inner unnamed l).open_is
+
+    pub inner_waiting : (a : Awaited) → awaits j h.entries ≡ a → waiting k j ≡ waiting h j ++ frame_owes h j body a
+    inner_waiting a q = (handshake_links h e answered yes j body is inner unnamed j).waiting_is
+        ∙ (λ i. cond (eq-eqb j j refl i) (waiting h j ++ frame_owes h j body (q i)) (waiting h j))
+
+    pub inner_moves : (now : LinkState) (more : List OutFrame) → IsState (facts k j) now → waiting k j ≡ waiting h j ++ more → AreMoves h k j now more (stays_but None)
+    inner_moves now more state frames = record {
+      state = state;
+      frames = frames;
+      others = λ l apart stays. other_facts l apart (inner_open l);
+      waits = λ l apart stays. (handshake_links h e answered yes j body is inner unnamed l).waiting_is ∙ ap (λ b. cond b (waiting h l ++ frame_owes h l body (awaits l h.entries)) (waiting h l)) apart;
+      numbers = framed_numbers h e yes answered j body is inner unnamed ∙ sym (filter_all (λ x. true) (λ x. refl) (kept_numbers h));
+    }
+
+-- ---- the node after a refused frame of the handshake
+
+-- what a rule of the handshake is owed
+pub owes_alike : (b : StateRule) → refusal_owes (rule_of b) ≡ narrow_frames (refusal_frames b)
+owes_alike b = grind arith
+
+module _ (h : History) (seat j : ℕ) (body : List ℕ) (r : Rule) where
+  abbrev pub e : Entry
+  e = made h seat (Event.Frame j body) (Refused r) []
+
+  pub refused_next : is_full h ≡ false → first_broken (checks h seat (Event.Frame j body)) ≡ Some r → IsNext h e
+  refused_next space found = next_now h seat (Event.Frame j body) space (Refused r) [] (refused_now h seat (Event.Frame j body) space r found) (no_change h (with_entry h e) (λ s g p. sym (entry_rows h e refl s g p)))
+
+  module _ (opens : is_open j h.entries ≡ true) (unwhole : is_whole j h.entries ≡ false) (more : List OutFrame) (owed : refusal_owes r ≡ more) where
+    -- the link goes where nothing waits for it
+    abbrev gone : Option ℕ
+    gone = cond (is_empty (waiting h j ++ more)) (Some j) None
+
+    stays_if : (l : ℕ) → not (j == l && is_empty (waiting h l ++ refusal_owes r)) ≡ stays_but gone l
+    stays_if l = grind (arith, eqb-true j l, flip l j, owed)
+
+    refused_moves : AreMoves h (with_entry h e) j LinkState.Ended more (stays_but gone)
+    refused_moves = record {
+      state = (refused_links h e j body r refl refl unwhole j).open_is ∙ ap (λ b. is_open j h.entries && not b) (eq-eqb j j refl) ∙ and_false (is_open j h.entries);
+      frames = (refused_links h e j body r refl refl unwhole j).waiting_is ∙ (λ i. cond (eq-eqb j j refl i) (waiting h j ++ owed i) (waiting h j));
+      others = λ l apart stays. λ i. record (facts h l) { open_now = ((refused_links h e j body r refl refl unwhole l).open_is ∙ ap (λ b. is_open l h.entries && not b) apart ∙ and-true (is_open l h.entries)) i };
+      waits = λ l apart stays. (refused_links h e j body r refl refl unwhole l).waiting_is ∙ ap (λ b. cond b (waiting h l ++ refusal_owes r) (waiting h l)) apart;
+      numbers = refused_numbers h e j body r refl refl opens unwhole
+          ∙ same_stay (λ l. not (j == l && is_empty (waiting h l ++ refusal_owes r))) (stays_but gone) (kept_numbers h) stays_if;
+    }
+
+    refused_scopes : scope_words (with_entry h e) ≡ scope_words h
+    refused_scopes = λ i. record {
+      own = h.opening.name;
+      running = running_scopes h;
+      listed = λ s g p. entry_rows h e refl s g p i;
+      heard = λ l s. (refused_heard h e j body r refl refl unwhole l s).heard_is i;
+      told = λ l s. (refused_heard h e j body r refl refl unwhole l s).told_is i;
+    }
+
+    module _ (parts : Parts) (t : Follows h parts) (p : ℕ) (d : KeptLink) (less : p < length parts.links) (is : (get_or parts.links p d).number ≡ j) where
+      refused_follow : (room : ℕ) → LinksFollow (link_words (with_entry h e)) (without_link gone (set parts.links p (moved_on LinkState.Ended more room (get_or parts.links p d))))
+      refused_follow room = moved_follow h _ t.sound.legal j LinkState.Ended more gone refused_moves parts.links t.links p d less is room
+
+      pub refused_follows : IsNext h e → (room : ℕ) (new : List KeptLink) → new ≡ without_link gone (set parts.links p (moved_on LinkState.Ended more room (get_or parts.links p d))) → Follows (with_entry h e) (record parts { links = new })
+      refused_follows next room new is_so = step_follows t next refl t.admission t.processes
+          (subst (λ w. ScopesFollow w parts.scopes) (sym refused_scopes) t.scopes)
+          (subst (LinksFollow (link_words (with_entry h e))) (sym is_so) (refused_follow room))

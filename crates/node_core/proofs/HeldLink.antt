@@ -1,4 +1,5 @@
 -- A link that is taken out of the kept ones, and apart from its state, while it hears a frame.
+use Rattle.node_core.proofs.Words.{is_whole, AdmissionRules, Pending, first_broken, checks, Event, rule_of, state_checks, Rule, Hears, Heard, IsNext, Refused, with_entry, refusal_owes}
 use Rattle.node_core.proofs.Words.{is_full, is_open, true, false, Bool, List, None, Option, Some, ap, arith, cond, find, get_or, length, nat_eq, position}
 use Rattle.node_core.proofs.Words.{refl, set, subst, suc, sym, zero, ℕ, [], ◌∷◌, ◌<◌, ◌∙◌, ◌≡◌, ◌≤◌, ◌++◌, get_or-set_same, option_map, option_map_or}
 use Rattle.node_core.proofs.Words.{kept_climbs, same, is_empty, History, Follows, Parts, IsLinkOf, IsState, facts, link_words}
@@ -7,6 +8,9 @@ use Rattle.node_core.proofs.Words.{dial_beside, dialled_peer, up_peer, older_of}
 use Rattle.std.specs.List.{insert, remove}
 use Rattle.node_core.proofs.HeardFrames.{is_there, link_there, state_there}
 use Rattle.node_core.proofs.KeptOn.{below, each_at, filter_set, one_follows}
+use Rattle.node_core.proofs.FrameRules.{refused_next, refused_follows, owes_alike}
+use Rattle.node_core.proofs.Entered.{made}
+use Rattle.link_states.specs.Checks as state
 
 -- ---- an element that is taken out
 
@@ -135,6 +139,16 @@ module _ {h : History} {parts : Parts} (t : Follows h parts) {j p : ℕ} {v w ou
         where
           unlike : not (nat_eq (get_or parts.links p v).number j) ≡ false
           unlike = ap not (eq-eqb _ j there)
+
+  -- where the frame breaks a rule, it ends
+  pub held_broke : (seat : ℕ) (body : List ℕ) → is_whole j h.entries ≡ false → (rules : AdmissionRules) (pending : Pending) → first_broken (checks h seat (Event.Frame j body)) ≡ option_map rule_of (state.first_broken (state_checks rules pending s body))
+      → (r : Rule) (frames : List (List ℕ)) → Hears rules pending s body (Heard.Ended r frames) → (new : List KeptLink) → HaveEnded p link frames left new
+      → IsNext h (made h seat (Event.Frame j body) (Refused r) []) × Follows (with_entry h (made h seat (Event.Frame j body) (Refused r) [])) (record parts { links = new })
+  held_broke seat body unwhole rules pending same_rules r frames hears new ends =
+      let there = is_there h parts t j p held.at v in
+      let entered = refused_next h seat j body r held.space (same_rules ∙ ap (option_map rule_of) hears.2 ∙ ap Some (sym hears.1)) in
+      let owed = ap refusal_owes hears.1 ∙ owes_alike hears.0 ∙ ap narrow_frames (sym hears.3) in
+      (entered, refused_follows h seat j body r held.opens unwhole (narrow_frames frames) owed parts t p v there.0 there.1 entered ends.room new (held_ended frames refl new ends))
 
   -- it goes back as it was
   pub held_restored : {back_state : LinkState} → back_state ≡ s → {new : List KeptLink} → new ≡ insert left p (in_state back_state link) → Follows h (record parts { links = new })

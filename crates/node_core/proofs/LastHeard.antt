@@ -1,4 +1,5 @@
 -- What the last frame of a handshake makes of a node: its link comes up, or ends.
+use Rattle.node_core.proofs.Words.{leb-true}
 use Rattle.node_core.proofs.Words.{arith, get_or, Bool, List, Some, ap, is_some, length, map, refl, set, subst, sym, true, ℕ, [], ◌∙◌, ◌≡◌, ◌≤◌, AllZip}
 use Rattle.node_core.proofs.Words.{unwrap_or, Linked, Pending, count_after_drop, lie, History, OutFrame, wide, IsNext, answer, with_entry, awaits}
 use Rattle.node_core.proofs.Words.{is_last, Change, Accepted, Refused, Reply, Rule, Follows, Parts, HaveEnded, older_of, Hears, is_handshake}
@@ -8,16 +9,18 @@ use Rattle.node_core.proofs.Words.{discovers, IsAnswered, is_full, present_link,
 use Rattle.node_core.proofs.Words.{IsState, facts, get_or-set_same, is_open, nat_eq, position, with_room}
 use Rattle.node_core.proofs.Entered.{made, step_follows, accepted_now, answered_now, next_now}
 use Rattle.node_core.proofs.Found.{some_is}
-use Rattle.node_core.proofs.FrameRefused.{refused_follows, refused_next}
-use Rattle.node_core.proofs.HeardFrames.{few_frames, is_there, last_comes_up, last_state, state_there, unwhole_state}
-use Rattle.node_core.proofs.HeldLink.{IsHeld, held_number, held_seen, held_state, held_moved, held_ended, older_same}
-use Rattle.node_core.proofs.ProofChecked.{ComesUp, answered_up, awaits_last, comes, ended_by, fails, is_last_state, not_up_yet, meets, visible_now}
+use Rattle.node_core.proofs.HeardFrames.{is_there, last_state, state_there}
+use Rattle.node_core.proofs.HeldLink.{IsHeld, held_number, held_seen, held_state, held_moved, older_same}
+use Rattle.node_core.proofs.CameUp.{ComesUp, answered_up, comes, not_up_yet, visible_now}
+use Rattle.node_core.proofs.CameUp.{but_replaced, came_up_moves, older_present}
 use Rattle.policy_audit.proofs.HeardNow.{proved_heard}
 use Rattle.policy_audit.proofs.RowsAfter.{up_rows}
-use Rattle.node_core.proofs.CameUp.{but_replaced, came_up_moves, older_present}
 use Rattle.node_core.proofs.MovedOn.{moved_follow}
 use Rattle.node_core.proofs.Partings.{partings_change}
 use Rattle.node_core.proofs.ScopesCutOff.{AreCutOff, cut_off_follow}
+use Rattle.node_core.proofs.HeardFrames.{heard_leads, last_facts, is_last_state}
+use Rattle.node_core.proofs.HeldLink.{held_broke}
+use Rattle.node_core.proofs.FrameRules.{last_rules}
 
 -- a Discover for each scope that runs
 pub discovers_for : (rs : List Running) → map (λ r. wide (Message.Discover r.scope)) rs ≡ map (λ s. wide (Message.Discover s)) (map (λ r. r.scope) rs)
@@ -33,14 +36,14 @@ module _ (h : History) (seat j : ℕ) (body : List ℕ) (up : Linked) (frames : 
 
   module _ (space : is_full h ≡ false) (is : answer h seat (Event.Frame j body) ≡ r) where
     up_answered : IsAnswered h e
-    up_answered = answered_now h seat (Event.Frame j body) space (Accepted r) cs (accepted_now h seat (Event.Frame j body) space r (meets h j body up frames c seat) is)
+    up_answered = answered_now h seat (Event.Frame j body) space (Accepted r) cs (accepted_now h seat (Event.Frame j body) space r (c.holds seat) is)
 
     module _ (parts : Parts) (t : Follows h parts) where
       rows : (s g : List ℕ) (p : Pid) → listed k s g p ≡ cond (same p.node up.peer) 0 (listed h s g p)
       rows s g p = up_rows h t.sound.legal e up_answered refl j body refl up.peer c.last c.known.peer.peer c.known.peer.other s g p
 
       pub up_next : ArePartings (λ x. count_after_drop x up.peer) parts.scopes cs → IsNext h e
-      up_next gone = next_now h seat (Event.Frame j body) space (Accepted r) cs (accepted_now h seat (Event.Frame j body) space r (meets h j body up frames c seat) is)
+      up_next gone = next_now h seat (Event.Frame j body) space (Accepted r) cs (accepted_now h seat (Event.Frame j body) space r (c.holds seat) is)
           (partings_change h k (λ x. count_after_drop x up.peer)
           (λ x a g p. ap (cond (same p.node up.peer) 0) (a.rows g p) ∙ sym (rows x.scope g p))
           parts.scopes t.scopes
@@ -85,44 +88,35 @@ module _ (h : History) (seat j : ℕ) (body : List ℕ) (up : Linked) (frames : 
 -- the peer of a link that awaits the last frame is known, seen while it stands at its place with more room
 pub last_has_peer : {h : History} {parts : Parts} → Follows h parts → (j : ℕ) {p : ℕ} {v w x : KeptLink} → position (λ z. nat_eq z.number j) parts.links ≡ Some p → v ≡ get_or parts.links p v → w ≡ with_room v w.room
     → x ≡ get_or (set parts.links p w) p x → is_open j h.entries ≡ true → is_last (awaits j h.entries) ≡ true → is_some (known_peer x.state) ≡ true
-last_has_peer {h} {parts} t j {p} {v} {w} {x} at first roomy seen opens final = by x.state (awaits_last h j x.state (subst (IsState (facts h j)) (sym state) (state_there h parts t j p at v)) opens final)
+last_has_peer {h} {parts} t j {p} {v} {w} {x} at first roomy seen opens final = grind (arith, last_state (facts h j) x.state (subst (IsState (facts h j)) (sym state) (state_there h parts t j p at v)) opens final)
   where
     state : x.state ≡ (get_or parts.links p v).state
     state = ap (λ (z : KeptLink). z.state) (seen ∙ get_or-set_same parts.links p w x (is_there h parts t j p at v).0 ∙ roomy ∙ ap (λ (z : KeptLink). with_room z w.room) first)
 
-    by : (s : LinkState) → is_last_state s ≡ true → is_some (known_peer s) ≡ true
-    by (LinkState.Reply y) q = refl
-    by (LinkState.Ack y) q = refl
-    by s q = lie (sym q)
-
 module _ {h : History} {parts : Parts} (t : Follows h parts) (seat : ℕ) (body : List ℕ) {j p : ℕ} {v w out : KeptLink} {s : LinkState} {link : StatelessLink} {left : List KeptLink} (held : IsHeld h parts.links j p v w out s link left)
     (final : is_last (awaits j h.entries) ≡ true) where
   late : is_last_state s ≡ true
-  late = awaits_last h j s (held_state t held) held.opens final
+  late = last_state (facts h j) s (held_state t held) held.opens final
 
   pub handshakes : is_handshake s ≡ true
-  handshakes = (last_state h j held.opens final s (held_state t held)).1
+  handshakes = grind (arith, late)
 
   module _ (pending : Pending) where
     pub last_never_on : (now : LinkState) (frames : List (List ℕ)) (gives_up : Bool) → Hears parts.admission pending s body (Heard.On now frames gives_up) → ⊥
-    last_never_on now frames gives_up hears = lie (sym (last_comes_up parts.admission pending body s (last_state h j held.opens final s (held_state t held)).0 (Heard.On now frames gives_up) hears.1))
+    last_never_on now frames gives_up hears = lie (sym (heard_leads parts.admission pending body s (Heard.On now frames gives_up) hears.1) ∙ (grind (arith, late)))
 
     module _ (r : Rule) (frames : List (List ℕ)) (hears : Hears parts.admission pending s body (Heard.Ended r frames)) where
       pub last_broke : (new : List KeptLink) → HaveEnded p link frames left new
           → IsNext h (made h seat (Event.Frame j body) (Refused r) []) × Follows (with_entry h (made h seat (Event.Frame j body) (Refused r) [])) (record parts { links = new })
-      last_broke new ends =
-          let there = is_there h parts t j p held.at v in
-          let breaks = ended_by h j parts.admission t.admission body pending s late (held_state t held) r frames hears in
-          let entered = refused_next h seat j body r held.space (fails h seat j body r held.opens breaks.0) in
-          let unwhole = unwhole_state h j s handshakes (held_state t held) in
-          (entered, refused_follows h seat j body r held.opens unwhole (narrow_frames frames) breaks.1 parts t p v there.0 there.1 entered ends.room new (held_ended t held frames refl new ends))
+      last_broke new ends = held_broke t held seat body (last_facts (facts h j) s (held_state t held) late).1 parts.admission pending
+          (last_rules h parts.admission t.admission pending seat j body s late (held_state t held)) r frames hears new ends
 
     module _ (up : Linked) (frames : List (List ℕ)) (hears : Hears parts.admission pending s body (Heard.Up up frames)) where
       it : ComesUp h j body up frames × (known_peer s ≡ Some up.peer)
       it = comes h j parts.admission t.admission body pending s late (held_state t held) up frames hears
 
       pub last_few : length frames ≤ 2
-      last_few = few_frames parts.admission pending body s (Heard.Up up frames) hears.1
+      last_few = grind (arith, leb-true (length frames) 2, heard_leads parts.admission pending body s (Heard.Up up frames) hears.1)
 
       -- the peer as it was named before, and the answer
       module _ {seen : KeptLink} (again : seen ≡ get_or (set parts.links p w) p seen) {peer : List ℕ} (known : known_peer seen.state ≡ Some peer) {r : Reply} (q : r ≡ Reply.Up peer up.creation up.visible) (cs : List Change)

@@ -14,26 +14,19 @@ pub mod KeptOn
 pub mod LinkTests
 pub mod ReadLinks
 pub mod MovedOn
-pub mod Moves
 pub mod Told
 pub mod Preparing
 pub mod Openings
 pub mod Losing
 pub mod Taking
 -- the handshake
-pub mod FrameArms
 pub mod FrameRules
-pub mod FrameFacts
-pub mod FrameRefused
 pub mod OneDial
 pub mod EarlyMoves
-pub mod NameMoves
-pub mod EarlyHeard
 pub mod HeardFrames
 pub mod HeldLink
 pub mod Searched
 pub mod EarlyFrame
-pub mod ProofChecked
 pub mod CameUp
 pub mod LastHeard
 -- messages

@@ -1,5 +1,5 @@
 -- One scope whose own rows have changed, and the links that are told of it.
-use Rattle.node_core.proofs.Words.{arith, Bool, List, Some, ap, cond, false, get_or, not, position, refl, set, subst, sym, true, ℕ, [], ◌||◌, ◌∙◌, ◌∷◌, ◌≡◌}
+use Rattle.node_core.proofs.Words.{arith, Bool, List, Some, ap, cond, false, get_or, not, position, refl, set, subst, sym, ℕ, [], ◌||◌, ◌∙◌, ◌∷◌, ◌≡◌}
 use Rattle.node_core.proofs.Words.{IsDifference, is_empty, same, Pid, Row, Message, count_of, IsChange, if_some, heard, told, History, listed}
 use Rattle.node_core.proofs.Words.{OutFrame, wide, running_scopes, Change, Follows, Parts, KeptLink, IsMoved, IsRunningOf, ScopesFollow, is_number}
 use Rattle.node_core.proofs.Words.{scope_words, Alike, if_among, running_rises, set-get_or, if_told, Running}

@@ -2,8 +2,10 @@
 use Rattle.node_core.proofs.Words.{Bool, List, None, Option, Some, ap, cond, false, get_or, length, nat_eq, not, refl, set, subst, sym, true, ℕ, ◌++◌}
 use Rattle.node_core.proofs.Words.{◌<◌, ◌==◌, ◌||◌, ◌∙◌, ◌≡◌, filter, eq-eqb, kept_climbs, flip, History, OutFrame, waiting, IsLegal, moved_on}
 use Rattle.node_core.proofs.Words.{without_link, IsLinkOf, IsState, LinkWords, LinksFollow, facts, kept_numbers, link_words, KeptLink, LinkState}
-use Rattle.node_core.proofs.Words.{arith}
+use Rattle.node_core.proofs.Words.{arith, [], ◌∷◌, eqb-true, is_empty, StatelessLink, in_state, with_frames, with_room, HaveMoved, HaveEnded}
+use Rattle.node_core.proofs.Words.{narrow_frames}
 use Rattle.node_core.proofs.KeptOn.{one_follows, each_at, filter_all, stay_follow}
+use Rattle.std.specs.List.{insert}
 
 -- a link stays unless it has this number
 abbrev pub stays_but : Option ℕ → ℕ → Bool
@@ -74,3 +76,25 @@ pub moved_follow : (h k : History) → IsLegal h → (j : ℕ) (state : LinkStat
     → LinksFollow (link_words k) (without_link gone (set kept p (moved_on state frames room (get_or kept p d))))
 moved_follow h k legal j state frames gone moves kept t p d less is room =
     subst (LinksFollow (link_words k)) (without_is gone (set kept p (moved_on state frames room (get_or kept p d)))) (moves_follow h k legal j state frames (stays_but gone) moves kept t p d less is room)
+
+-- ---- a link that moves on, and is put in at its place
+
+-- no element is as many as none
+pub none_is_empty : {A : Type 0} (xs : List A) (b : Bool) → b ≡ (length xs == 0) → is_empty xs ≡ b
+none_is_empty [] b q = sym q
+none_is_empty (x ∷ xs) false q = refl
+none_is_empty (x ∷ xs) true q = absurd (let none : length (x ∷ xs) ≡ 0 = eqb-true (length (x ∷ xs)) 0 (sym q) in omega (arith, none))
+
+-- a link in a new state, with further frames
+pub stated : {link : StatelessLink} {state : LinkState} {v w : KeptLink} (frames : List OutFrame) → v ≡ in_state state link → link.prepared ≡ [] → w ≡ with_room (with_frames v frames) w.room → w ≡ moved_on state frames w.room (in_state state link)
+stated {w = w} frames is idle owed = owed ∙ λ i. record { number = (is i).number; state = (is i).state; frames = (is i).frames ++ frames; prepared = (ap (λ (x : KeptLink). x.prepared) is ∙ idle) i; room = w.room }
+
+module _ (link : StatelessLink) (xs : List KeptLink) (p : ℕ) (w : KeptLink) where
+  -- a link is put in, and another goes
+  pub put_in : (state : LinkState) (frames : List OutFrame) → w ≡ moved_on state frames w.room (in_state state link) → (mid new : List KeptLink) → mid ≡ insert xs p w
+      → (was lost : Option ℕ) → was ≡ lost → new ≡ without_link was mid → HaveMoved p link state frames lost xs new
+  put_in state frames owed mid new put was lost is left = record { room = w.room; links = left ∙ λ i. without_link (is i) ((put ∙ ap (insert xs p) owed) i) }
+
+  -- a link that ended is put in where frames wait for it
+  pub put_where : (bodies : List (List ℕ)) → w ≡ moved_on LinkState.Ended (narrow_frames bodies) w.room (in_state LinkState.Ended link) → (b : Bool) → is_empty w.frames ≡ b → (new : List KeptLink) → new ≡ cond b xs (insert xs p w) → HaveEnded p link bodies xs new
+  put_where bodies owed b empty new is = record { room = w.room; links = is ∙ λ i. cond ((sym empty ∙ ap (λ (x : KeptLink). is_empty x.frames) owed) i) xs (insert xs p (owed i)) }

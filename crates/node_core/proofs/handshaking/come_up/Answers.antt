@@ -1,5 +1,5 @@
 use Rattle.node_core.proofs.Words.{cond, [], ◌++◌, ◌∙◌, moved_on, older_of, narrow_frames, LinkState}
-use Rattle.node_core.proofs.Moves.{put_in}
+use Rattle.node_core.proofs.MovedOn.{put_in}
 use Rattle.node_core.proofs.handshaking.come_up.Goals as goal
 
 pub returns : goal.returns

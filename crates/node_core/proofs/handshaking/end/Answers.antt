@@ -1,5 +1,5 @@
 use Rattle.node_core.proofs.Words.{ap, true, false, length, sym, ◌==◌, ◌≡◌, ◌∙◌, refl, moved_on, in_state, narrow_frames, LinkState}
-use Rattle.node_core.proofs.Moves.{none_is_empty, stated, put_where}
+use Rattle.node_core.proofs.MovedOn.{none_is_empty, stated, put_where}
 use Rattle.node_core.proofs.handshaking.end.Goals as goal
 use Rattle.node_core.proofs.handshaking.end.Goals.{After-owe_bodies}
 

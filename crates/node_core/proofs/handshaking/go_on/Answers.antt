@@ -1,5 +1,5 @@
 use Rattle.node_core.proofs.Words.{ap, cond, None, ◌∙◌, dial_beside, narrow_frames}
-use Rattle.node_core.proofs.Moves.{stated, put_in}
+use Rattle.node_core.proofs.MovedOn.{stated, put_in}
 use Rattle.node_core.proofs.handshaking.go_on.Goals as goal
 
 pub returns : goal.returns

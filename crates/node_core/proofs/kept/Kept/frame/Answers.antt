@@ -1,6 +1,6 @@
-use Rattle.node_core.proofs.Words.{inl, inr, sym, ◌∙◌, IsState, facts, Rule}
+use Rattle.node_core.proofs.Words.{true, sym, subst, arith, ap, ◌∙◌, ◌≡◌, IsState, facts, Rule}
 use Rattle.node_core.proofs.Answering.{refuses}
-use Rattle.node_core.proofs.FrameArms.{early_by, last_by, closed_rule, closed_calm, state_at, up_by}
+use Rattle.node_core.proofs.HeardFrames.{is_early, early_facts, last_facts, state_there}
 use Rattle.node_core.proofs.MessagePlaces.{closed_here}
 use Rattle.node_core.proofs.kept.Kept.frame.Given.{Over}
 use Rattle.node_core.proofs.Searched.{links_in_order}
@@ -9,43 +9,39 @@ use Rattle.node_core.proofs.kept.Kept.frame.Goals.{After-state}
 
 -- the state of the link at its place
 state : (g : Over) (c : After-state g) → IsState (facts g.call.past c.args.number) c.state.result.now
-state g c =
-    let t = c.requires.keeps.follows in
-    state_at g.call.past t.sound.legal c.args.self.now.links.items t.links c.args.number c.in-Some.place c.index.result.now (rw c.deref.ensures.value at (sym c.place_of.ensures ∙ c.in-Some.is)) c.index.ensures c.state.result.now c.state.ensures
+state g c = subst (IsState _) (sym (c.state.ensures ∙ ap (λ x. x.state) c.index.ensures))
+    (state_there g.call.past _ c.requires.keeps.follows c.args.number c.in-Some.place (rw c.deref.ensures.value at (sym c.place_of.ensures ∙ c.in-Some.is)) c.index.result.now)
 
 pub returns-in_default : goal.returns-in_default
 returns-in_default g c =
     let closed = closed_here c.requires.keeps.follows c.args.number (rw c.deref.ensures.value at (sym c.place_of.ensures ∙ c.in_default.is)) in
-    refuses c.requires _ Rule.NoSuchLink (closed_rule g.call.past g.call.seat c.args.number c.args.body.now closed) (closed_calm g.call.past c.args.number c.args.body.now closed)
+    refuses c.requires _ Rule.NoSuchLink (grind (arith, closed)) (grind (arith, closed))
 
 pub returns-in-Ended : goal.returns-in-Ended
 returns-in-Ended g c =
     let closed = rw c.in-Ended.is at (state g (goal.at.returns-in-Ended g c).After-state) in
-    refuses c.requires _ Rule.NoSuchLink (closed_rule g.call.past g.call.seat c.args.number c.args.body.now closed) (closed_calm g.call.past c.args.number c.args.body.now closed)
+    refuses c.requires _ Rule.NoSuchLink (grind (arith, closed)) (grind (arith, closed))
 
 pub message-requires : goal.message-requires
 message-requires g c =
-    let t = c.requires.keeps.follows in
-    record {
-      link = record { called = c.requires; here = rw c.deref.ensures.value at (sym c.place_of.ensures ∙ c.in-Some.is) };
-      up = up_by g.call.past t.sound.legal c.args.self.now.links.items t.links c.args.number c.in-Up.field-0 (rw c.in-Up.is at (state g (goal.at.message-requires g c).After-state));
-    }
+    let now = rw c.in-Up.is at (state g (goal.at.message-requires g c).After-state) in
+    record { link = record { called = c.requires; here = rw c.deref.ensures.value at (sym c.place_of.ensures ∙ c.in-Some.is) }; up = grind (arith, now) }
 
 pub early_frame-requires : goal.early_frame-requires
 early_frame-requires g c =
-    let now = state g (goal.at.early_frame-requires g c).After-state in
-    let it = early_by (facts g.call.past c.args.number) c.state.result.now now c.in_default-state.not-Reply c.in_default-state.not-Ack c.in_default-state.not-Up c.in_default-state.not-Ended in
-    record { link = record { called = c.requires; here = rw c.deref.ensures.value at (sym c.place_of.ensures ∙ c.in-Some.is) }; opens = it.opens; unwhole = it.unwhole; early = it.inner }
+    let early : is_early c.state.result.now ≡ true = grind (arith, c.in_default-state.not-Reply, c.in_default-state.not-Ack, c.in_default-state.not-Up, c.in_default-state.not-Ended) in
+    let it = early_facts _ _ (state g (goal.at.early_frame-requires g c).After-state) early in
+    record { link = record { called = c.requires; here = rw c.deref.ensures.value at (sym c.place_of.ensures ∙ c.in-Some.is) }; opens = it.0; unwhole = it.1; early = it.2 }
 
 pub last_frame-requires : goal.last_frame-requires
 last_frame-requires g c =
-    let it = last_by (facts g.call.past c.args.number) c.state.result.now (state g (goal.at.last_frame-requires g c).After-state) (inl (c.in-Reply.field-0, c.in-Reply.is)) in
-    record { link = record { called = c.requires; here = rw c.deref.ensures.value at (sym c.place_of.ensures ∙ c.in-Some.is) }; opens = it.opens; last = it.last }
+    let it = last_facts _ _ (state g (goal.at.last_frame-requires g c).After-state) (grind (arith, c.in-Reply.is)) in
+    record { link = record { called = c.requires; here = rw c.deref.ensures.value at (sym c.place_of.ensures ∙ c.in-Some.is) }; opens = it.0; last = it.2 }
 
 pub last_frame-requires-in-Ack : goal.last_frame-requires-in-Ack
 last_frame-requires-in-Ack g c =
-    let it = last_by (facts g.call.past c.args.number) c.state.result.now (state g (goal.at.last_frame-requires-in-Ack g c).After-state) (inr (c.in-Ack.field-0, c.in-Ack.is)) in
-    record { link = record { called = c.requires; here = rw c.deref.ensures.value at (sym c.place_of.ensures ∙ c.in-Some.is) }; opens = it.opens; last = it.last }
+    let it = last_facts _ _ (state g (goal.at.last_frame-requires-in-Ack g c).After-state) (grind (arith, c.in-Ack.is)) in
+    record { link = record { called = c.requires; here = rw c.deref.ensures.value at (sym c.place_of.ensures ∙ c.in-Some.is) }; opens = it.0; last = it.2 }
 
 pub place_of-requires : goal.place_of-requires
 place_of-requires g c = rw c.deref.ensures.value (links_in_order c.requires.keeps.follows)
