@@ -119,7 +119,7 @@ module _ {h : History} (seat : ℕ) {parts : Parts} (t : Follows h parts) (s g :
         (moved_scopes h seat parts t s p here a b at said_joined (count_after_join a.table g ps) links cs moved joined_now (rows_now its) (others_now its) refl refl (λ l u. refl) (λ l u. refl))
         (told_follow (link_words h) (link_words joined_now) (if_among (said_to a.told.items said_joined) (wide said_joined)) (λ l. refl)
         (told_numbers h joined_entry its refl refl (λ l. (joined_links h joined_entry its refl s g ps refl l).kept_is)) parts.links links
-        (λ l near. ap (λ f. waiting h l ++ f) (moved_frames h seat parts t s p here a b at said_joined (count_after_join a.table g ps) links cs moved Message.Join (map (row g) (listing pid_cmp (λ q. mentions q ps) ps)) l))
+        (λ l. ap (λ f. waiting h l ++ f) (moved_frames h seat parts t s p here a b at said_joined (count_after_join a.table g ps) links cs moved Message.Join (map (row g) (listing pid_cmp (λ q. mentions q ps) ps)) l))
         moved.links t.links)
 
     pub joined : is_full h ≡ false → first_broken (own_checks h ps) ≡ None → local_total a.table + length ps ≤ max_rows → IsNext h joined_entry × Follows joined_now (record parts { scopes = set parts.scopes p b; links = links })

@@ -101,7 +101,7 @@ module _ {h : History} (seat : ℕ) {parts : Parts} (t : Follows h parts) (s g :
           (moved_scopes h seat parts t s p here a b at (said_left (own h s)) (count_after_leave a.table g ps) links cs moved left_now (rows_now its) (others_now its) refl refl (λ l u. refl) (λ l u. refl))
           (told_follow (link_words h) (link_words left_now) (if_among (said_to a.told.items (said_left (own h s))) (wide (said_left (own h s)))) (λ l. refl)
           (told_numbers h left_entry its refl refl (λ l. (left_links h left_entry its refl s g ps refl l).kept_is)) parts.links links
-          (λ l near. ap (λ f. waiting h l ++ f) (moved_frames h seat parts t s p here a b at (said_left (own h s)) (count_after_leave a.table g ps) links cs moved Message.Leave (map (row g) (listing pid_cmp (λ q. min (mentions q ps) (own h s g q)) ps)) l))
+          (λ l. ap (λ f. waiting h l ++ f) (moved_frames h seat parts t s p here a b at (said_left (own h s)) (count_after_leave a.table g ps) links cs moved Message.Leave (map (row g) (listing pid_cmp (λ q. min (mentions q ps) (own h s g q)) ps)) l))
           moved.links t.links)
 
       pub left : is_full h ≡ false → list_all (is_local h) ps ≡ true → is_any_joined a.table g ps ≡ true → IsNext h left_entry × Follows left_now (record parts { scopes = set parts.scopes p b; links = links })

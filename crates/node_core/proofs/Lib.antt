@@ -16,7 +16,6 @@ pub mod ReadLinks
 pub mod MovedOn
 pub mod Moves
 pub mod Told
-pub mod Preparing
 pub mod Openings
 pub mod Losing
 pub mod Taking
@@ -57,7 +56,6 @@ pub mod Said
 pub mod Moved
 pub mod Joining
 pub mod Leaving
-pub mod Exits
 pub mod Exited
 -- admission
 pub mod Once

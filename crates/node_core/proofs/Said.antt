@@ -9,7 +9,7 @@ use Rattle.dist_types.proofs.Listings.{listing_counts}
 use Rattle.link_frames.specs.Spelling.{HasSpelling}
 use Rattle.scope_core.specs.declared.fault.TableFault.{TableFault}
 use Rattle.policy_audit.proofs.OwnRows.{one_row_listing, rows_in_group}
-use Rattle.node_core.proofs.Told.{at_errors, zip_map}
+use Rattle.scope_core.proofs.NodeLists.{on_err}
 
 some_left : {A : Type 0} (xs : List A) → not (is_empty xs) ≡ true → 0 < length xs
 some_left [] q = lie (sym q)
@@ -52,21 +52,6 @@ leave_fault t g ps TableFault.NotJoined q = (refl, q)
 leave_fault t g ps TableFault.OutOfMemory q = tt
 leave_fault t g ps f q = absurd q
 
--- what is prepared and then dropped leaves all as it was
-pub dropped_again : (numbers : List ℕ) (frame : OutFrame) (old mid new : List KeptLink) → AreIdle old → map unroomed mid ≡ map (λ x. unroomed (prepared_for numbers frame x)) old
-    → map unroomed new ≡ map (λ x. unroomed (with_prepared x [])) mid → Alike old new
-dropped_again numbers frame old mid new idle prepared dropped = dropped ∙ all old mid idle (zip_map unroomed (λ x. unroomed (prepared_for numbers frame x)) old mid prepared)
-  where
-    all : (xs ys : List KeptLink) → AreIdle xs → AllZip (λ x y. unroomed y ≡ unroomed (prepared_for numbers frame x)) xs ys → map (λ x. unroomed (with_prepared x [])) ys ≡ map unroomed xs
-    all [] [] idle a = refl
-    all [] (y ∷ ys) idle a = absurd a
-    all (x ∷ xs) [] idle a = absurd a
-    all (x ∷ xs) (y ∷ ys) idle a = λ i. (ap (λ z. with_prepared z []) a.0 ∙ by x idle.0 (is_number x.number numbers)) i ∷ all xs ys idle.1 a.1 i
-      where
-        by : (x : KeptLink) → x.prepared ≡ [] → (b : Bool) → with_prepared (unroomed (cond b (with_prepared x (x.prepared ++ frame ∷ [])) x)) [] ≡ unroomed x
-        by x idle true = λ i. record (unroomed x) { prepared = sym idle i }
-        by x idle false = λ i. record (unroomed x) { prepared = sym idle i }
-
 -- where a message finds no memory, nothing has changed
 pub untold : {T E : Type 0} (o : Result T E) (r : Running) (old new : List KeptLink) → Alike old new → OnErr o ((r ≡ r) × Alike old new)
-untold o r old new same = at_errors {P = (r ≡ r) × Alike old new} o (refl, same)
+untold o r old new same = on_err {P = (r ≡ r) × Alike old new} o (refl, same)

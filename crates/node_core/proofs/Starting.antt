@@ -139,5 +139,5 @@ module _ (h : History) (seat : ℕ) (s : List ℕ) where
           })
           (told_follow (link_words h) (link_words started) (if_among (shown_numbers parts.links) (wide (Message.Discover s))) (λ l. refl)
           (told_numbers h e its refl refl (λ l. (started_links h e its refl s refl l).kept_is)) parts.links links
-          (λ l here. ap (λ b. waiting h l ++ cond b (wide (Message.Discover s) ∷ []) []) (sym (shown_number (link_words h) parts.links t.links l here)))
+          (λ l. ap (λ b. waiting h l ++ cond b (wide (Message.Discover s) ∷ []) []) (sym (shown_number h parts.links t.sound.legal t.links l)))
           tells t.links)

@@ -71,7 +71,7 @@ module _ (h : History) (seat : ℕ) (s : List ℕ) (gs : List GroupChange) where
         };
         links = told_follow (link_words h) (link_words stopped) (if_among (shown_numbers parts.links) (wide (Message.Down s))) (λ l. refl)
             (told_numbers h e its refl refl (λ l. (stopped_links h e its refl s refl l).kept_is)) parts.links links
-            (λ l here. ap (λ b. waiting h l ++ cond b (wide (Message.Down s) ∷ []) []) (sym (shown_number (link_words h) parts.links t.links l here)))
+            (λ l. ap (λ b. waiting h l ++ cond b (wide (Message.Down s) ∷ []) []) (sym (shown_number h parts.links t.sound.legal t.links l)))
             tells t.links;
         monitors = follows_dropped h e parts.monitors next.number t.monitors refl s refl;
       }

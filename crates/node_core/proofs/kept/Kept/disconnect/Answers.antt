@@ -1,7 +1,6 @@
-use Rattle.node_core.proofs.Words.{None, Some, ap, cond, false, length, not, refl, subst, sym, [], ◌<◌, ◌∙◌, option_map_or, position-Some, same}
+use Rattle.node_core.proofs.Words.{None, Some, ap, get_or_default, cond, false, length, not, refl, subst, sym, [], ◌<◌, ◌∙◌, option_map_or, position-Some, same}
 use Rattle.node_core.proofs.Words.{AreCut, AreLost, up_peer, Rule}
 use Rattle.node_core.proofs.Answering.{accepts, refuses}
-use Rattle.node_core.proofs.Preparing.{same_at}
 use Rattle.node_core.proofs.Losing.{not_up, parting_next, parting_follows}
 use Rattle.node_core.proofs.kept.Kept.disconnect.Goals as goal
 
@@ -19,8 +18,8 @@ returns g c =
     let found = rw c.deref.ensures.value at (sym c.place_of_up.ensures ∙ c.in-Some.is) in
     let at = position-Some (λ x. option_map_or (λ m. same m peer) (up_peer x.state) false) links c.in-Some.place c.index.result.now found in
     let within : c.in-Some.place < length links = at.0 in
-    let lost = subst (λ x. AreLost (up_peer x.state) scopes c.in_ok-changes.changes.items) (c.index-2.ensures ∙ same_at links c.in-Some.place c.index-2.result.now c.index.result.now within) (rw c.deref-2.ensures.value at c.in_ok-changes.ensures) in
-    let cuts = subst (λ x. AreCut x.number (up_peer x.state) scopes c.cut_link.new.scopes.items) (c.index-3.ensures ∙ same_at links c.in-Some.place c.index-3.result.now c.index.result.now within) c.cut_link.ensures in
+    let lost = subst (λ x. AreLost (up_peer x.state) scopes c.in_ok-changes.changes.items) (c.index-2.ensures ∙ get_or_default links c.in-Some.place c.index-2.result.now c.index.result.now within) (rw c.deref-2.ensures.value at c.in_ok-changes.ensures) in
+    let cuts = subst (λ x. AreCut x.number (up_peer x.state) scopes c.cut_link.new.scopes.items) (c.index-3.ensures ∙ get_or_default links c.in-Some.place c.index-3.result.now c.index.result.now within) c.cut_link.ensures in
     let number = c.number-number.ensures ∙ ap (λ x. x.number) c.index.ensures in
     let next = parting_next h g.call.seat peer c.in_ok-changes.changes.items _ t c.in-Some.place c.index.result.now found c.requires.space lost in
     accepts c.requires _ _ refl _ _ _ c.changed.ensures (

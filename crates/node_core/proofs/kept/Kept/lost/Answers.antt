@@ -1,7 +1,6 @@
-use Rattle.node_core.proofs.Words.{None, Some, ap, cond, length, not, refl, subst, sym, ◌<◌, ◌∙◌, AreCut, AreLost, up_peer, Rule}
+use Rattle.node_core.proofs.Words.{None, Some, ap, get_or_default, cond, length, not, refl, subst, sym, ◌<◌, ◌∙◌, AreCut, AreLost, up_peer, Rule}
 use Rattle.node_core.proofs.Answering.{accepts, refuses}
 use Rattle.node_core.proofs.KeptOn.{not_kept, link_at}
-use Rattle.node_core.proofs.Preparing.{same_at}
 use Rattle.node_core.proofs.Losing.{lost_next, lost_follows}
 use Rattle.node_core.proofs.kept.Kept.lost.Goals as goal
 
@@ -19,7 +18,7 @@ returns g c =
     let at = link_at h t.sound.legal links t.links c.args.number c.in-Some.place c.index.result.now found in
     let within : c.in-Some.place < length links = at.2 in
     let lost = subst (λ x. AreLost (up_peer x.state) scopes c.in_ok-changes.changes.items) c.index.ensures (rw c.deref-2.ensures.value at c.in_ok-changes.ensures) in
-    let cuts = subst (λ x. AreCut x.number (up_peer x.state) scopes c.cut_link.new.scopes.items) (c.index-2.ensures ∙ same_at links c.in-Some.place c.index-2.result.now c.index.result.now within) c.cut_link.ensures in
+    let cuts = subst (λ x. AreCut x.number (up_peer x.state) scopes c.cut_link.new.scopes.items) (c.index-2.ensures ∙ get_or_default links c.in-Some.place c.index-2.result.now c.index.result.now within) c.cut_link.ensures in
     let next = lost_next h g.call.seat c.args.number c.in_ok-changes.changes.items _ t c.in-Some.place c.index.result.now found c.requires.space lost in
     accepts c.requires _ _ refl _ _ _ c.changed.ensures (
       next,

@@ -1,7 +1,6 @@
-use Rattle.node_core.proofs.Words.{None, Some, ap, cond, length, not, refl, sym, ◌<◌, ◌∙◌, get_or-set_same, Rule}
+use Rattle.node_core.proofs.Words.{None, Some, ap, get_or_default, cond, length, not, refl, sym, ◌<◌, ◌∙◌, get_or-set_same, Rule}
 use Rattle.node_core.proofs.Answering.{accepts, refuses}
 use Rattle.node_core.proofs.KeptOn.{not_kept, link_at}
-use Rattle.node_core.proofs.Preparing.{same_at}
 use Rattle.node_core.proofs.Taking.{emptied, taken_next, taken_follows}
 use Rattle.node_core.proofs.kept.Kept.take.Goals as goal
 
@@ -17,7 +16,7 @@ returns g c =
     let found = rw c.deref.ensures.value at (sym c.place_of.ensures ∙ c.in-Some.is) in
     let at = link_at h t.sound.legal links t.links c.args.number c.in-Some.place c.index_mut.result.now found in
     let within : c.in-Some.place < length links = at.2 in
-    let frames = c.in_ok-copies.ensures ∙ c.frames.ensures ∙ ap (λ x. x.frames) (c.index.ensures ∙ same_at links c.in-Some.place c.index.result.now c.index_mut.result.now within) in
+    let frames = c.in_ok-copies.ensures ∙ c.frames.ensures ∙ ap (λ x. x.frames) (c.index.ensures ∙ get_or_default links c.in-Some.place c.index.result.now c.index_mut.result.now within) in
     let handed = c.hand_over-frames.ensures.frames ∙ ap (λ x. x.frames) c.index_mut.ensures.value in
     let next = taken_next h g.call.seat c.args.number c.hand_over-frames.result _ t c.in-Some.place c.index_mut.result.now found c.requires.space handed in
     let new = c.hand_over-frames.ensures.left ∙ ap (λ x. emptied x c.hand_over-frames.new.self.room) c.index_mut.ensures.value in
