@@ -6,7 +6,7 @@ use Rattle.node_core.proofs.Words.{Accepted, Refused, Event, Reply, Rule, CoreFa
 use Rattle.node_core.proofs.Words.{IsCalled, Keeps, Kept, Says, parts, History}
 use Rattle.node_core.specs.Step.{Enters}
 use Rattle.node_core.proofs.Entered.{made, next_now, refused_now}
-use Rattle.node_core.proofs.Calm.{follows_same, refused_same, refused_change}
+use Rattle.node_core.proofs.Calm.{calm_follows, refused_change}
 
 -- a refusal that ends no link
 module _ {call : Call} {kept : Kept} (called : IsCalled call kept) (e : Event) where
@@ -17,7 +17,7 @@ module _ {call : Call} {kept : Kept} (called : IsCalled call kept) (e : Event) w
         next,
         record {
           opening = called.keeps.opening;
-          follows = follows_same call.past _ (parts kept) (refused_same call.past call.seat e r calm) refl next called.keeps.follows;
+          follows = calm_follows call.past call.seat e r calm called.keeps.follows next;
         },
       )
 

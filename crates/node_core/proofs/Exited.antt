@@ -10,7 +10,7 @@ use Rattle.scope_core.proofs.Rising.{all_map}
 use Rattle.policy_audit.proofs.LivesNow.{exits_more, lives_exited, spawned_exited}
 use Rattle.policy_audit.proofs.RowsAfter.{exited_rows}
 use Rattle.node_core.specs.declared.changes.Part.{Part}
-use Rattle.node_core.proofs.Entered.{step_follows, made, accepted_now, answered_now, next_now}
+use Rattle.node_core.proofs.Entered.{step_follows, made, accepted_next, answered_by}
 use Rattle.node_core.proofs.Moved.{told_frames}
 use Rattle.node_core.proofs.Partings.{one_parting, partings_change}
 use Rattle.node_core.proofs.RowsGone.{left_are}
@@ -88,38 +88,35 @@ module _ (h : History) (seat : ℕ) (parts : Parts) (t : Follows h parts) (p : P
           parts.scopes t.scopes (λ s none g x. now_listed s g x ∙ ap (cond (same_pid x p) 0) (stopped_lists h s g x none) ∙ (grind arith)) cs
           (record { all = told_so.all; each = told_so.each; some = told_so.some })
 
-    pub exit_next : is_full h ≡ false → is_number p.number parts.processes.live ≡ true → IsNext h exit_entry
-    exit_next space living =
-        let verdict = accepted_now h seat (Event.Exit p) space Reply.Done (exit_holds living) refl in
-        next_now h seat (Event.Exit p) space (Accepted Reply.Done) cs verdict (exit_change (answered_now h seat (Event.Exit p) space (Accepted Reply.Done) cs verdict))
-
-    module _ (next : IsNext h exit_entry) where
-      it : IsAnswered h exit_entry
-      it = record { room = next.room; number = next.number; verdict = next.verdict }
-
       module _ (away : Part) (is : (x : Table) (f : List ℕ) (q : Pid) → count_but away x f q ≡ count_after_exit x p f q) where
         parted : (r new : Running) → HasParted away r new → IsRunningOf (scope_words h) r → IsRunningOf (scope_words exited) new
         parted r new z a = record {
           own = z.rows.own ∙ a.own;
-          rows = λ g x. z.rows.counts g x ∙ is r.table g x ∙ ap (λ n. cond (same_pid x p) 0 n) (a.rows g x) ∙ sym (now_listed it r.scope g x) ∙ ap (λ s. listed exited s g x) (sym z.scope);
+          rows = λ g x. z.rows.counts g x ∙ is r.table g x ∙ ap (λ n. cond (same_pid x p) 0 n) (a.rows g x) ∙ sym (now_listed r.scope g x) ∙ ap (λ s. listed exited s g x) (sym z.scope);
           heard = λ l. ap (is_number l) z.heard ∙ a.heard l ∙ ap (λ s. heard l s h.entries) (sym z.scope);
           told = λ l. ap (is_number l) z.told ∙ a.told l ∙ ap (λ s. told l s h.entries) (sym z.scope);
         }
 
-        pub exit_follows : (new : List Running) → AllZip (HasParted away) parts.scopes new → (q : Spawned) → q.spawned ≡ parts.processes.spawned
-            → ((n : ℕ) → is_number n q.live ≡ cond (nat_eq p.number n) false (is_number n parts.processes.live)) → length q.live + 1 ≡ length parts.processes.live
-            → Follows exited (record parts { scopes = new; links = links; processes = q })
-        exit_follows new z q same live fewer = step_follows t next refl t.admission
-            (record {
-              spawned = same ∙ t.processes.spawned ∙ sym (spawned_exited h exit_entry it refl p refl);
-              live = λ n. live n ∙ ap (λ b. cond (nat_eq p.number n) false b) (t.processes.live n) ∙ sym (lives_exited h exit_entry it refl p refl n);
-              count = (let was = t.processes.count in let more = exits_more h exit_entry it refl p refl in let still = spawned_exited h exit_entry it refl p refl in omega (arith, was, more, still, fewer));
-            })
-            (record {
-              running = zipped_map (HasParted away) (λ r. r.scope) (λ r. r.scope) (λ r q x. x.scope) parts.scopes new z ∙ t.scopes.running;
-              each = zipped_each (HasParted away) (IsRunningOf (scope_words h)) (IsRunningOf (scope_words exited)) parted parts.scopes new z t.scopes.each;
-            })
-            (told_follow (link_words h) (link_words exited) (all_frames parts.scopes told_so.all) (λ l. refl)
-            (told_numbers h exit_entry it refl refl (λ l. (exited_links h exit_entry it refl p refl l).kept_is)) parts.links links
-            (λ l. ap (λ f. waiting h l ++ f) (ap (policy_frames l) (sym t.scopes.running) ∙ frames_are l parts.scopes told_so.all t.scopes.each told_so.each))
-            told_so.links t.links)
+    pub exit_now : is_full h ≡ false → is_number p.number parts.processes.live ≡ true → (away : Part) → ((x : Table) (f : List ℕ) (q : Pid) → count_but away x f q ≡ count_after_exit x p f q)
+        → (new : List Running) → AllZip (HasParted away) parts.scopes new → (q : Spawned) → q.spawned ≡ parts.processes.spawned
+        → ((n : ℕ) → is_number n q.live ≡ cond (nat_eq p.number n) false (is_number n parts.processes.live)) → length q.live + 1 ≡ length parts.processes.live
+        → IsNext h exit_entry × Follows exited (record parts { scopes = new; links = links; processes = q })
+    exit_now space living away is new z q same live fewer =
+        let next = accepted_next h seat (Event.Exit p) space Reply.Done cs (exit_holds living) refl exit_change in
+        let it = answered_by next in (
+          next,
+          step_follows t next refl t.admission
+              (record {
+                spawned = same ∙ t.processes.spawned ∙ sym (spawned_exited h exit_entry it refl p refl);
+                live = λ n. live n ∙ ap (λ b. cond (nat_eq p.number n) false b) (t.processes.live n) ∙ sym (lives_exited h exit_entry it refl p refl n);
+                count = (let was = t.processes.count in let more = exits_more h exit_entry it refl p refl in let still = spawned_exited h exit_entry it refl p refl in omega (arith, was, more, still, fewer));
+              })
+              (record {
+                running = zipped_map (HasParted away) (λ r. r.scope) (λ r. r.scope) (λ r q x. x.scope) parts.scopes new z ∙ t.scopes.running;
+                each = zipped_each (HasParted away) (IsRunningOf (scope_words h)) (IsRunningOf (scope_words exited)) (parted it away is) parts.scopes new z t.scopes.each;
+              })
+              (told_follow (link_words h) (link_words exited) (all_frames parts.scopes told_so.all) (λ l. refl)
+              (told_numbers h exit_entry it refl refl (λ l. (exited_links h exit_entry it refl p refl l).kept_is)) parts.links links
+              (λ l. ap (λ f. waiting h l ++ f) (ap (policy_frames l) (sym t.scopes.running) ∙ frames_are l parts.scopes told_so.all t.scopes.each told_so.each))
+              told_so.links t.links),
+        )

@@ -55,10 +55,7 @@ pub mod GroupRows
 pub mod Said
 pub mod Moved
 pub mod Joining
-pub mod Leaving
 pub mod Exited
 -- admission
 pub mod Once
 pub mod Cookies
--- monitors
-pub mod Watching

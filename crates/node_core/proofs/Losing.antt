@@ -10,7 +10,7 @@ use Rattle.policy_audit.proofs.LinkFrames.{lost_links, disconnected_links}
 use Rattle.policy_audit.proofs.LinksLeft.{facts_left, lost_numbers, disconnected_numbers}
 use Rattle.policy_audit.proofs.HeardNow.{lost_heard, disconnected_heard}
 use Rattle.policy_audit.proofs.RowsAfter.{lost_rows, lost_other, disconnected_rows}
-use Rattle.node_core.proofs.Entered.{step_follows, made, accepted_now, answered_now, next_now}
+use Rattle.node_core.proofs.Entered.{step_follows, made, accepted_next, answered_by}
 use Rattle.node_core.proofs.Found.{some_is, place_found}
 use Rattle.node_core.proofs.KeptOn.{each_at, facts_same, is_kept_at, link_at, stay_follow}
 use Rattle.node_core.proofs.LinkTests.{up_is, peer_by_test}
@@ -49,17 +49,16 @@ module _ (h k : History) (j : ℕ) (gone : IsGone h k j) where
   -- ---- a link that isn't up
 
   module _ (down : is_up j h.entries ≡ false) (rows : (s g : List ℕ) (p : Pid) → listed k s g p ≡ listed h s g p) where
-    unless_gone : (l : ℕ) (x : Bool) → (is_up l h.entries ≡ false → x ≡ false) → (b : Bool) → (j == l) ≡ b → (x && not b) ≡ x
-    unless_gone l x quiet false q = and-true x
-    unless_gone l x quiet true q = and_false x ∙ sym (quiet (sym (ap (λ y. is_up y h.entries) (eqb-true j l q)) ∙ down))
+    unless_gone : (l : ℕ) (x : Bool) → (is_up l h.entries ≡ false → x ≡ false) → (x && not (j == l)) ≡ x
+    unless_gone l x quiet = grind (arith, eqb-true j l)
 
     still_scopes : scope_words k ≡ scope_words h
     still_scopes = λ i. record {
       own = (gone.name i).name;
       running = gone.running i;
       listed = λ s g p. rows s g p i;
-      heard = λ l s. ((gone.heard l s).heard_is ∙ unless_gone l (heard l s h.entries) (λ d. ap (λ b. b && unwrap_or (first_of (hears s) (talk l h.entries)) false) d) (j == l) refl) i;
-      told = λ l s. ((gone.heard l s).told_is ∙ unless_gone l (told l s h.entries) (λ d. ap (λ b. b && unwrap_or (first_of (tells s) (talk l h.entries)) false) d) (j == l) refl) i;
+      heard = λ l s. ((gone.heard l s).heard_is ∙ unless_gone l (heard l s h.entries) (λ d. rw d refl)) i;
+      told = λ l s. ((gone.heard l s).told_is ∙ unless_gone l (told l s h.entries) (λ d. rw d refl)) i;
     }
 
   -- ---- a link that was up with n
@@ -96,13 +95,10 @@ module _ (h k : History) (j : ℕ) (gone : IsGone h k j) where
 
 -- ---- whether a link is up, by its state
 
-unfinished : (h : History) (l : ℕ) → is_whole l h.entries ≡ false → is_up l h.entries ≡ false
-unfinished h l q = ap (λ b. is_open l h.entries && b) q ∙ and_false (is_open l h.entries)
-
 pub down_by : (h : History) (l : ℕ) (s : LinkState) → IsState (facts h l) s → up_peer s ≡ None → is_up l h.entries ≡ false
 down_by h l (LinkState.Up s) t q = no_value q
-down_by h l LinkState.Ended t q = ap (λ b. b && is_whole l h.entries) t
-down_by h l s t q = unfinished h l t.0.whole
+down_by h l LinkState.Ended t q = grind (arith, t)
+down_by h l s t q = grind (arith, t.0.whole)
 
 -- the link is up with n, which is another node
 pub record IsUpWith (h : History) (l : ℕ) (n : List ℕ) : Type 0 where
@@ -144,19 +140,17 @@ module _ (h : History) (seat j : ℕ) (cs : List Change) (parts : Parts) (t : Fo
   lost_listed answered None q = lost_other h t.sound.legal loss answered refl j refl (down_by h j link.state its_state q)
   lost_listed answered (Some n) q = (let up = up_with h j link.state n its_state q in lost_rows h t.sound.legal loss answered refl j n refl up.up up.peer up.other)
 
-  pub lost_next : is_full h ≡ false → AreLost (up_peer link.state) parts.scopes cs → IsNext h loss
-  lost_next space lost =
-      let now = accepted_now h seat (Event.Lost j) space Reply.Done (ap (λ b. cond (not b) (Some Rule.NoSuchLink) None) (is_kept_at h t.sound.legal parts.links t.links j p found)) refl in
-      next_now h seat (Event.Lost j) space (Accepted Reply.Done) cs now
-      (gone_change h (with_entry h loss) j lost_gone (up_peer link.state) (lost_listed (answered_now h seat (Event.Lost j) space (Accepted Reply.Done) cs now) (up_peer link.state) refl) parts.scopes cs lost t.scopes)
-
-  pub lost_follows : IsNext h loss → (scopes : List Running) → AreCut link.number (up_peer link.state) parts.scopes scopes
-      → Follows (with_entry h loss) (record parts { scopes = scopes; links = filter (λ x. not (nat_eq x.number j)) parts.links })
-  lost_follows next scopes cuts = step_follows t next refl t.admission t.processes
-      (gone_scopes h (with_entry h loss) j lost_gone (up_peer link.state) (down_by h j link.state its_state)
-      (lost_listed (record { room = next.room; number = next.number; verdict = next.verdict }) (up_peer link.state) refl) parts.scopes scopes
-      (subst (λ l. AreCut l (up_peer link.state) parts.scopes scopes) it.1 cuts) t.scopes)
-      (gone_links h (with_entry h loss) j lost_gone parts.links t.links)
+  pub lost : is_full h ≡ false → AreLost (up_peer link.state) parts.scopes cs → (scopes : List Running) → AreCut link.number (up_peer link.state) parts.scopes scopes
+      → IsNext h loss × Follows (with_entry h loss) (record parts { scopes = scopes; links = filter (λ x. not (nat_eq x.number j)) parts.links })
+  lost space gone scopes cuts =
+      let next = accepted_next h seat (Event.Lost j) space Reply.Done cs (rw (is_kept_at h t.sound.legal parts.links t.links j p found)) refl
+          (λ its. gone_change h (with_entry h loss) j lost_gone (up_peer link.state) (lost_listed its (up_peer link.state) refl) parts.scopes cs gone t.scopes) in (
+        next,
+        step_follows t next refl t.admission t.processes
+            (gone_scopes h (with_entry h loss) j lost_gone (up_peer link.state) (down_by h j link.state its_state) (lost_listed (answered_by next) (up_peer link.state) refl)
+            parts.scopes scopes (subst (λ l. AreCut l (up_peer link.state) parts.scopes scopes) it.1 cuts) t.scopes)
+            (gone_links h (with_entry h loss) j lost_gone parts.links t.links),
+      )
 
 -- ---- a link that is given up
 
@@ -201,15 +195,13 @@ module _ (h : History) (seat : ℕ) (n : List ℕ) (cs : List Change) (parts : P
     parting_listed : IsAnswered h parting → RowsGone h (with_entry h parting) last.number parting_gone (up_peer last.state)
     parting_listed answered = subst (RowsGone h (with_entry h parting) last.number parting_gone) (sym peer_is) (disconnected_rows h t.sound.legal parting answered refl n refl its_up.other)
 
-    pub parting_next : is_full h ≡ false → AreLost (up_peer last.state) parts.scopes cs → IsNext h parting
-    parting_next space lost =
-        let now = accepted_now h seat (Event.Disconnect n) space Reply.Done (ap (λ x. cond (not (is_some x)) (Some Rule.NoLinkTo) None) present) refl in
-        next_now h seat (Event.Disconnect n) space (Accepted Reply.Done) cs now
-        (gone_change h (with_entry h parting) last.number parting_gone (up_peer last.state) (parting_listed (answered_now h seat (Event.Disconnect n) space (Accepted Reply.Done) cs now)) parts.scopes cs lost t.scopes)
-
-    pub parting_follows : IsNext h parting → (scopes : List Running) (number : ℕ) → number ≡ last.number → AreCut last.number (up_peer last.state) parts.scopes scopes
-        → Follows (with_entry h parting) (record parts { scopes = scopes; links = filter (λ x. not (nat_eq x.number number)) parts.links })
-    parting_follows next scopes number is cuts = step_follows t next refl t.admission t.processes
-        (gone_scopes h (with_entry h parting) last.number parting_gone (up_peer last.state) (down_by h last.number last.state here.state)
-        (parting_listed (record { room = next.room; number = next.number; verdict = next.verdict })) parts.scopes scopes cuts t.scopes)
-        (subst (λ l. LinksFollow (link_words (with_entry h parting)) (filter (λ x. not (nat_eq x.number l)) parts.links)) (sym is) (gone_links h (with_entry h parting) last.number parting_gone parts.links t.links))
+    pub parted : is_full h ≡ false → AreLost (up_peer last.state) parts.scopes cs → (scopes : List Running) (number : ℕ) → number ≡ last.number → AreCut last.number (up_peer last.state) parts.scopes scopes
+        → IsNext h parting × Follows (with_entry h parting) (record parts { scopes = scopes; links = filter (λ x. not (nat_eq x.number number)) parts.links })
+    parted space lost scopes number is cuts =
+        let next = accepted_next h seat (Event.Disconnect n) space Reply.Done cs (rw present) refl
+            (λ its. gone_change h (with_entry h parting) last.number parting_gone (up_peer last.state) (parting_listed its) parts.scopes cs lost t.scopes) in (
+          next,
+          step_follows t next refl t.admission t.processes
+              (gone_scopes h (with_entry h parting) last.number parting_gone (up_peer last.state) (down_by h last.number last.state here.state) (parting_listed (answered_by next)) parts.scopes scopes cuts t.scopes)
+              (rw is (gone_links h (with_entry h parting) last.number parting_gone parts.links t.links)),
+        )

@@ -4,7 +4,7 @@ use Rattle.node_core.proofs.Words.{true, ℕ, [], ◌++◌, ◌<◌, ◌==◌, �
 use Rattle.node_core.proofs.Words.{leb-true, lt-ltb, same, AdmissionRules, all_hold, unbroken, no_change, and_left, and_right, dial_checks}
 use Rattle.node_core.proofs.Words.{first_broken, History, is_accepted, is_open, is_kept, narrow, running_scopes, IsAnswered, IsLegal, IsNext, is_full}
 use Rattle.node_core.proofs.Words.{next_number, with_entry, challenge_in, Entry, Accepted, AdmissionFollows, admission_words, Follows, Parts}
-use Rattle.node_core.proofs.Words.{IsLinkOf, IsState, LinksFollow, facts, link_words, KeptLink, ScopesFollow, scope_words, length-map, map-append}
+use Rattle.node_core.proofs.Words.{IsLinkOf, IsState, LinksFollow, facts, link_words, KeptLink, ScopesFollow, scope_words, length-map, map-append, Awaits, listed, Pid}
 use Rattle.node_core.proofs.Words.{own_flags, Start, ByPeer, ByDial, start_of, own_name_frame, kept_links, kept_count, kept_opening, opening_waiting}
 use Rattle.node_core.proofs.Words.{all_left, all_reverse, opened_waiting, dialled_waiting, dialled_link, Event, Reply, Rule, LinkState}
 use Rattle.handshake_frames.specs.Spelling.{name_bytes}
@@ -15,7 +15,8 @@ use Rattle.policy_audit.proofs.NewLinks.{IsNewLink, opened_apart, opened_new, op
 use Rattle.policy_audit.proofs.HeardNow.{opening_heard}
 use Rattle.policy_audit.proofs.RowsAfter.{opened_rows, dialled_rows}
 use Rattle.node_core.proofs.KeptOn.{facts_same}
-use Rattle.node_core.proofs.Entered.{step_follows, made, accepted_now, answered_now, next_now}
+use Rattle.policy_audit.specs.Sides.{awaited_in}
+use Rattle.node_core.proofs.Entered.{step_follows, made, accepted_next, answered_by}
 
 -- ---- how many links are kept
 
@@ -51,10 +52,7 @@ module _ (h : History) (legal : IsLegal h) (e : Entry) (is_made : IsAnswered h e
   each_more : (new : KeptLink) → IsLinkOf (link_words k) new → (xs : List KeptLink) → list_all (λ n. nat_le n (length h.entries)) (map (λ x. x.number) xs) ≡ true → AllByRecursion (IsLinkOf (link_words h)) xs
       → AllByRecursion (IsLinkOf (link_words k)) (xs ++ new ∷ [])
   each_more new it [] below all = (it, tt)
-  each_more new it (x ∷ xs) below all = (
-    others_link x (older x.number (and_left (nat_le x.number (length h.entries)) (list_all (λ n. nat_le n (length h.entries)) (map (λ y. y.number) xs)) below)) all.0,
-    each_more new it xs (and_right (nat_le x.number (length h.entries)) (list_all (λ n. nat_le n (length h.entries)) (map (λ y. y.number) xs)) below) all.1,
-  )
+  each_more new it (x ∷ xs) below all = (others_link x (older x.number (grind arith)) all.0, each_more new it xs (grind arith) all.1)
 
   kept_below : list_all (λ n. nat_le n (length h.entries)) (kept_numbers h) ≡ true
   kept_below = all_reverse (λ n. nat_le n (length h.entries)) _ ∙ all_left (λ n. nat_le n (length h.entries)) (is_kept h) _ (links_below h legal)
@@ -66,50 +64,48 @@ module _ (h : History) (legal : IsLegal h) (e : Entry) (is_made : IsAnswered h e
     each = each_more new it kept (ap (list_all (λ n. nat_le n (length h.entries))) t.numbers ∙ kept_below) t.each;
   }
 
+  -- what is said of the new one
   its : IsNewLink e.number h.entries k.entries st
   its = opened_new h.entries e e.number st yes begins h.opening legal is_made.number (eq-eqb e.number e.number refl)
 
-  opens_now : is_open e.number k.entries ≡ true
-  opens_now = opened_open h.entries e e.number st yes begins ∙ ap (λ b. b || is_open e.number h.entries) (eq-eqb e.number e.number refl)
+  awaits_first : Awaits (facts k e.number) (awaited_in st []) false
+  awaits_first = record {
+    open_now = opened_open h.entries e e.number st yes begins ∙ ap (λ b. b || is_open e.number h.entries) (eq-eqb e.number e.number refl);
+    whole = its.whole;
+    awaited = its.awaits;
+  }
+
+  new_scopes : ((s g : List ℕ) (p : Pid) → listed k s g p ≡ listed h s g p) → running_scopes k ≡ running_scopes h → scope_words k ≡ scope_words h
+  new_scopes rows running = λ i. record {
+    own = h.opening.name;
+    running = running i;
+    listed = λ s g p. rows s g p i;
+    heard = λ l s. (opening_heard h e yes legal is_made st begins l s).heard_is i;
+    told = λ l s. (opening_heard h e yes legal is_made st begins l s).told_is i;
+  }
 
 -- ---- a link from a peer
 
-module _ (h : History) (legal : IsLegal h) (seat c n : ℕ) (numbered : n ≡ next_number h) where
+module _ {h : History} {parts : Parts} (t : Follows h parts) (seat c : ℕ) where
   abbrev opening : Entry
-  opening = made h seat (Event.Opened c) (Accepted (Reply.Link n)) []
+  opening = made h seat (Event.Opened c) (Accepted (Reply.Link (next_number h))) []
 
-  pub opened_next : is_full h ≡ false → nat_lt (kept_links h) 64 ≡ true → IsNext h opening
-  opened_next space fits =
-      let now = accepted_now h seat (Event.Opened c) space (Reply.Link n) (ap (λ b. cond (not b) (Some Rule.LinksFull) None) fits) (ap Reply.Link (sym numbered)) in
-      next_now h seat (Event.Opened c) space (Accepted (Reply.Link n)) [] now
-      (no_change h (with_entry h opening) (λ s g p. sym (opened_rows h legal opening (answered_now h seat (Event.Opened c) space (Accepted (Reply.Link n)) [] now) refl c refl s g p)))
-
-  module _ (next : IsNext h opening) where
-    answer_is : IsAnswered h opening
-    answer_is = record { room = next.room; number = next.number; verdict = next.verdict }
-
-    opened_scopes : scope_words (with_entry h opening) ≡ scope_words h
-    opened_scopes = λ i. record {
-      own = h.opening.name;
-      running = running_scopes h;
-      listed = λ s g p. opened_rows h legal opening answer_is refl c refl s g p i;
-      heard = λ l s. (opening_heard h opening refl legal answer_is (ByPeer c) refl l s).heard_is i;
-      told = λ l s. (opening_heard h opening refl legal answer_is (ByPeer c) refl l s).told_is i;
-    }
-
-    pub opened_follows : (parts : Parts) (challenge room : ℕ) → Follows h parts → challenge ≡ c
-        → Follows (with_entry h opening) (record parts { links = parts.links ++ record { number = n; state = LinkState.Name challenge; frames = []; prepared = []; room = room } ∷ [] })
-    opened_follows parts challenge room t same_challenge = step_follows t next refl t.admission t.processes
-        (subst (λ w. ScopesFollow w parts.scopes) (sym opened_scopes) t.scopes)
-        (new_follows h legal opening answer_is refl (ByPeer c) refl parts.links (record { number = n; state = LinkState.Name challenge; frames = []; prepared = []; room = room }) t.links numbered
-        (subst (λ j. IsLinkOf (link_words (with_entry h opening)) (record { number = j; state = LinkState.Name challenge; frames = []; prepared = []; room = room })) (sym numbered) (record {
-          state = (
-            record { open_now = opens_now h legal opening answer_is refl (ByPeer c) refl; whole = (its h legal opening answer_is refl (ByPeer c) refl).whole; awaited = (its h legal opening answer_is refl (ByPeer c) refl).awaits },
-            same_challenge ∙ sym (ap (λ o. option_map_or (λ x. challenge_in x.start) o 0) (its h legal opening answer_is refl (ByPeer c) refl).opened),
-          );
-          frames = sym (opened_waiting h opening answer_is refl legal c refl);
-          idle = refl;
-        })))
+  pub opened_now : is_full h ≡ false → length parts.links < 64 → (challenge room : ℕ) → challenge ≡ c
+      → IsNext h opening × Follows (with_entry h opening) (record parts { links = parts.links ++ record { number = next_number h; state = LinkState.Name challenge; frames = []; prepared = []; room = room } ∷ [] })
+  opened_now space few challenge room same =
+      let legal = t.sound.legal in
+      let next = accepted_next h seat (Event.Opened c) space (Reply.Link (next_number h)) [] (rw (links_fit h parts.links t.links few)) refl
+          (λ its. no_change h (with_entry h opening) (λ s g p. sym (opened_rows h legal opening its refl c refl s g p))) in
+      let is = answered_by next in (
+        next,
+        step_follows t next refl t.admission t.processes
+            (subst (λ w. ScopesFollow w parts.scopes) (sym (new_scopes h legal opening is refl (ByPeer c) refl (opened_rows h legal opening is refl c refl) refl)) t.scopes)
+            (new_follows h legal opening is refl (ByPeer c) refl parts.links _ t.links refl (record {
+              state = (awaits_first h legal opening is refl (ByPeer c) refl, same ∙ sym (ap (λ o. option_map_or (λ x. challenge_in x.start) o 0) (its h legal opening is refl (ByPeer c) refl).opened));
+              frames = sym (opened_waiting h opening is refl legal c refl);
+              idle = refl;
+            })),
+      )
 
 -- ---- a link to a peer
 
@@ -117,48 +113,27 @@ module _ (h : History) (legal : IsLegal h) (seat c n : ℕ) (numbered : n ≡ ne
 pub own_name_is : (h : History) (rules : AdmissionRules) → AdmissionFollows (admission_words h) rules → narrow (own_name rules) ≡ own_name_frame h
 own_name_is h rules t = λ i. narrow (name_bytes (record { flags = own_flags (t.hidden i); creation = t.creation i; name = t.own i }))
 
-module _ (h : History) (legal : IsLegal h) (seat : ℕ) (peer : List ℕ) (c n : ℕ) (numbered : n ≡ next_number h) (holds : first_broken (dial_checks h peer) ≡ None) where
+module _ {h : History} {parts : Parts} (t : Follows h parts) (seat : ℕ) (peer : List ℕ) (c : ℕ) where
   abbrev dial : Entry
-  dial = made h seat (Event.Dial peer c) (Accepted (Reply.Link n)) []
+  dial = made h seat (Event.Dial peer c) (Accepted (Reply.Link (next_number h))) []
 
-  pub dialled_next : is_full h ≡ false → IsNext h dial
-  dialled_next space =
-      let now = accepted_now h seat (Event.Dial peer c) space (Reply.Link n) holds (ap Reply.Link (sym numbered)) in
-      next_now h seat (Event.Dial peer c) space (Accepted (Reply.Link n)) [] now
-      (no_change h (with_entry h dial) (λ s g p. sym (dialled_rows h legal dial (answered_now h seat (Event.Dial peer c) space (Accepted (Reply.Link n)) [] now) refl peer c refl s g p)))
-
-  module _ (next : IsNext h dial) where
-    dial_is : IsAnswered h dial
-    dial_is = record { room = next.room; number = next.number; verdict = next.verdict }
-
-    dialled_scopes : scope_words (with_entry h dial) ≡ scope_words h
-    dialled_scopes = λ i. record {
-      own = h.opening.name;
-      running = running_scopes h;
-      listed = λ s g p. dialled_rows h legal dial dial_is refl peer c refl s g p i;
-      heard = λ l s. (opening_heard h dial refl legal dial_is (ByDial peer c) refl l s).heard_is i;
-      told = λ l s. (opening_heard h dial refl legal dial_is (ByDial peer c) refl l s).told_is i;
-    }
-
-    other_node : same peer h.opening.name ≡ false
-    other_node = not-true (same peer h.opening.name) (unbroken (not (same peer h.opening.name)) (all_hold (dial_checks h peer) holds).0)
-
-    dialled_now : (parts : Parts) (room : ℕ) → Follows h parts → IsLinkOf (link_words (with_entry h dial)) (dialled_link parts.admission (next_number h) peer c room)
-    dialled_now parts room t = record {
-      state = (
-        record { open_now = opens_now h legal dial dial_is refl (ByDial peer c) refl; whole = (its h legal dial dial_is refl (ByDial peer c) refl).whole; awaited = (its h legal dial dial_is refl (ByDial peer c) refl).awaits },
-        record {
-          peer = record { peer = (its h legal dial dial_is refl (ByDial peer c) refl).peer; other = other_node };
-          challenge = sym (ap (λ o. option_map_or (λ x. challenge_in x.start) o 0) (its h legal dial dial_is refl (ByDial peer c) refl).opened);
-        },
-      );
-      frames = ap (λ f. f ∷ []) (own_name_is h parts.admission t.admission) ∙ sym (dialled_waiting h dial dial_is refl legal peer c refl);
-      idle = refl;
-    }
-
-    pub dialled_follows : (parts : Parts) (link : KeptLink) → Follows h parts → link ≡ dialled_link parts.admission n peer c link.room → Follows (with_entry h dial) (record parts { links = parts.links ++ link ∷ [] })
-    dialled_follows parts link t is = step_follows t next refl t.admission t.processes
-        (subst (λ w. ScopesFollow w parts.scopes) (sym dialled_scopes) t.scopes)
-        (subst (λ x. LinksFollow (link_words (with_entry h dial)) (parts.links ++ x ∷ [])) (sym is)
-        (new_follows h legal dial dial_is refl (ByDial peer c) refl parts.links (dialled_link parts.admission n peer c link.room) t.links numbered
-        (subst (λ j. IsLinkOf (link_words (with_entry h dial)) (dialled_link parts.admission j peer c link.room)) (sym numbered) (dialled_now parts link.room t))))
+  pub dialled_now : is_full h ≡ false → first_broken (dial_checks h peer) ≡ None → (link : KeptLink) → link ≡ dialled_link parts.admission (next_number h) peer c link.room
+      → IsNext h dial × Follows (with_entry h dial) (record parts { links = parts.links ++ link ∷ [] })
+  dialled_now space holds link made_so =
+      let legal = t.sound.legal in
+      let next = accepted_next h seat (Event.Dial peer c) space (Reply.Link (next_number h)) [] holds refl (λ its. no_change h (with_entry h dial) (λ s g p. sym (dialled_rows h legal dial its refl peer c refl s g p))) in
+      let is = answered_by next in
+      let new = its h legal dial is refl (ByDial peer c) refl in (
+        next,
+        step_follows t next refl t.admission t.processes
+            (subst (λ w. ScopesFollow w parts.scopes) (sym (new_scopes h legal dial is refl (ByDial peer c) refl (dialled_rows h legal dial is refl peer c refl) refl)) t.scopes)
+            (subst (λ x. LinksFollow (link_words (with_entry h dial)) (parts.links ++ x ∷ [])) (sym made_so)
+            (new_follows h legal dial is refl (ByDial peer c) refl parts.links (dialled_link parts.admission (next_number h) peer c link.room) t.links refl (record {
+              state = (awaits_first h legal dial is refl (ByDial peer c) refl, record {
+                peer = record { peer = new.peer; other = not-true (same peer h.opening.name) (unbroken (not (same peer h.opening.name)) (all_hold (dial_checks h peer) holds).0) };
+                challenge = sym (ap (λ o. option_map_or (λ x. challenge_in x.start) o 0) new.opened);
+              });
+              frames = ap (λ f. f ∷ []) (own_name_is h parts.admission t.admission) ∙ sym (dialled_waiting h dial is refl legal peer c refl);
+              idle = refl;
+            }))),
+      )

@@ -11,7 +11,8 @@ use Rattle.std.specs.Ordering.{is_lt, ordering_reverse, match_ordering}
 use Rattle.std.specs.List.Sorted.{IsPartitionedBy, IsPartitionPoint}
 use Rattle.policy_audit.proofs.KeptLinks.{told_runs, heard_runs'}
 use Rattle.policy_audit.proofs.RowsAfter.{started_rows}
-use Rattle.node_core.proofs.Entered.{step_follows, made, accepted_now, answered_now, next_now}
+use Rattle.scope_core.proofs.Rising.{all_map}
+use Rattle.node_core.proofs.Entered.{step_follows, made, accepted_next, answered_by}
 use Rattle.node_core.proofs.Told.{told_follow, shown_number}
 
 -- ---- a scope put among others
@@ -89,20 +90,16 @@ module _ (h : History) (seat : ℕ) (s : List ℕ) where
   checked runs room = cond (not (not runs)) (Some Rule.ScopeRunning) (cond (not room) (Some Rule.ScopesFull) None)
 
   module _ (parts : Parts) (t : Follows h parts) (stopped : is_running h s ≡ false) where
-    pub scopes_fit : length parts.scopes < 64 → first_broken (checks h seat (Event.StartScope s)) ≡ None
+    scopes_fit : length parts.scopes < 64 → first_broken (checks h seat (Event.StartScope s)) ≡ None
     scopes_fit few = λ i. checked (stopped i) (lt-ltb (length (running_scopes h)) 64 (let is = running_length h parts.scopes t.scopes in omega (arith, is, few)) i)
 
     pub scopes_full : 64 ≤ length parts.scopes → first_broken (checks h seat (Event.StartScope s)) ≡ Some Rule.ScopesFull
     scopes_full many = λ i. checked (stopped i) (le-ltb (length (running_scopes h)) 64 (let is = running_length h parts.scopes t.scopes in omega (arith, is, many)) i)
 
-    pub start_next : is_full h ≡ false → length parts.scopes < 64 → IsNext h e
-    start_next space few = next_now h seat (Event.StartScope s) space (Accepted Reply.Done) [] (accepted_now h seat (Event.StartScope s) space Reply.Done (scopes_fit few) refl)
-        (no_change h started (λ u g p. sym (started_rows h t.sound.legal e (answered_now h seat (Event.StartScope s) space (Accepted Reply.Done) [] (accepted_now h seat (Event.StartScope s) space Reply.Done (scopes_fit few) refl)) refl s refl u g p)))
+    start_next : is_full h ≡ false → length parts.scopes < 64 → IsNext h e
+    start_next space few = accepted_next h seat (Event.StartScope s) space Reply.Done [] (scopes_fit few) refl (λ its. no_change h started (λ u g p. sym (started_rows h t.sound.legal e its refl s refl u g p)))
 
-    module _ (next : IsNext h e) where
-      its : IsAnswered h e
-      its = record { room = next.room; number = next.number; verdict = next.verdict }
-
+    module _ (its : IsAnswered h e) where
       still : (r : Running) → IsRunningOf (scope_words h) r → IsRunningOf (scope_words started) r
       still r q = record {
         own = q.own;
@@ -111,13 +108,8 @@ module _ (h : History) (seat : ℕ) (s : List ℕ) where
         told = q.told;
       }
 
-      all_still : (rs : List Running) → AllByRecursion (IsRunningOf (scope_words h)) rs → AllByRecursion (IsRunningOf (scope_words started)) rs
-      all_still [] a = tt
-      all_still (r ∷ rs) a = (still r a.0, all_still rs a.1)
-
       nobody : (b : Bool) → (b ≡ true → is_running h s ≡ true) → false ≡ b
-      nobody false f = refl
-      nobody true f = lie (sym (f refl) ∙ stopped)
+      nobody b f = grind (arith, stopped)
 
       new_one : (r : Running) → r.scope ≡ s → r.table.own ≡ h.opening.name → ((g : List ℕ) (p : Pid) → count_of r.table g p ≡ 0) → r.heard.items ≡ [] → r.told.items ≡ [] → IsRunningOf (scope_words started) r
       new_one r named own none unheard untold = record {
@@ -127,17 +119,23 @@ module _ (h : History) (seat : ℕ) (s : List ℕ) where
         told = λ l. ap (is_number l) untold ∙ nobody (told l s h.entries) (told_runs h t.sound.legal l s) ∙ ap (λ x. told l x h.entries) (sym named);
       }
 
-      pub start_follows : (r : Running) → r.scope ≡ s → r.table.own ≡ h.opening.name → ((g : List ℕ) (p : Pid) → count_of r.table g p ≡ 0) → r.heard.items ≡ [] → r.told.items ≡ []
-          → (links : List KeptLink) → AreTold (if_among (shown_numbers parts.links) (wide (Message.Discover s))) parts.links links
-          → Follows started (record parts { scopes = put_scope r parts.scopes; links = links })
-      start_follows r named own none unheard untold links tells = step_follows t next refl t.admission t.processes
-          (record {
-            running =
-                put_names r parts.scopes (ap (λ x. is_among x (names parts.scopes)) named ∙ ap (is_among s) t.scopes.running ∙ running_among h s ∙ stopped)
-                ∙ (λ i. placed text_cmp (named i) (t.scopes.running i)) ∙ sym (running_started h e refl s refl);
-            each = put_each (IsRunningOf (scope_words started)) r parts.scopes (new_one r named own none unheard untold) (all_still parts.scopes t.scopes.each);
-          })
-          (told_follow (link_words h) (link_words started) (if_among (shown_numbers parts.links) (wide (Message.Discover s))) (λ l. refl)
-          (told_numbers h e its refl refl (λ l. (started_links h e its refl s refl l).kept_is)) parts.links links
-          (λ l. ap (λ b. waiting h l ++ cond b (wide (Message.Discover s) ∷ []) []) (sym (shown_number h parts.links t.sound.legal t.links l)))
-          tells t.links)
+    pub start_now : is_full h ≡ false → length parts.scopes < 64 → (r : Running) → r.scope ≡ s → r.table.own ≡ h.opening.name → ((g : List ℕ) (p : Pid) → count_of r.table g p ≡ 0) → r.heard.items ≡ [] → r.told.items ≡ []
+        → (links : List KeptLink) → AreTold (if_among (shown_numbers parts.links) (wide (Message.Discover s))) parts.links links
+        → IsNext h e × Follows started (record parts { scopes = put_scope r parts.scopes; links = links })
+    start_now space few r named own none unheard untold links tells =
+        let next = start_next space few in
+        let its = answered_by next in
+        let others = all_map (IsRunningOf (scope_words h)) (IsRunningOf (scope_words started)) (still its) parts.scopes t.scopes.each in (
+          next,
+          step_follows t next refl t.admission t.processes
+              (record {
+                running =
+                    put_names r parts.scopes (ap (λ x. is_among x (names parts.scopes)) named ∙ ap (is_among s) t.scopes.running ∙ running_among h s ∙ stopped)
+                    ∙ (λ i. placed text_cmp (named i) (t.scopes.running i)) ∙ sym (running_started h e refl s refl);
+                each = put_each (IsRunningOf (scope_words started)) r parts.scopes (new_one its r named own none unheard untold) others;
+              })
+              (told_follow (link_words h) (link_words started) (if_among (shown_numbers parts.links) (wide (Message.Discover s))) (λ l. refl)
+              (told_numbers h e its refl refl (λ l. (started_links h e its refl s refl l).kept_is)) parts.links links
+              (λ l. ap (λ b. waiting h l ++ cond b (wide (Message.Discover s) ∷ []) []) (sym (shown_number h parts.links t.sound.legal t.links l)))
+              tells t.links),
+        )

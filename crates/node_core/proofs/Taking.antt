@@ -33,7 +33,7 @@ module _ (h : History) (seat j : ℕ) (frames : List OutFrame) (parts : Parts) (
   taken_frames = it.0.frames ∙ ap (waiting h) it.1
 
   pub taken_next : is_full h ≡ false → frames ≡ link.frames → IsNext h take
-  taken_next space is = quiet_next h seat (Reply.Out frames) (Event.Take j) space (ap (λ b. cond (not b) (Some Rule.NoSuchLink) None) (is_kept_at h t.sound.legal parts.links t.links j p found)) (ap Reply.Out (sym (is ∙ taken_frames))) refl
+  taken_next space is = quiet_next h seat (Reply.Out frames) (Event.Take j) space (rw (is_kept_at h t.sound.legal parts.links t.links j p found)) (ap Reply.Out (sym (is ∙ taken_frames))) refl
 
   opens : (ended : Bool) → is_ended link.state ≡ ended → is_open j h.entries ≡ not ended
   opens ended is = sym (ap (λ l. is_open l h.entries) it.1) ∙ open_by h link.number link.state it.0.state ∙ ap not is
@@ -70,10 +70,8 @@ module _ (h : History) (seat j : ℕ) (frames : List OutFrame) (parts : Parts) (
 
     -- the link is changed, and gone if it has ended
     pub taken_follows : (new at : KeptLink) (room : ℕ) → new ≡ emptied link room → at ≡ new → Follows (with_entry h take) (record parts { links = without_ended at (set parts.links p new) })
-    taken_follows new at room is same = subst (λ x. Follows (with_entry h take) (record parts { links = without_ended x (set parts.links p new) })) (sym same)
-        (subst (λ x. Follows (with_entry h take) (record parts { links = without_ended x (set parts.links p x) })) (sym is) (by (is_ended link.state) refl))
+    taken_follows new at room is same = rw (same, is) (by (is_ended link.state) refl)
       where
         by : (b : Bool) → is_ended link.state ≡ b → Follows (with_entry h take) (record parts { links = without_ended (emptied link room) (set parts.links p (emptied link room)) })
-        by false e = subst (λ xs. Follows (with_entry h take) (record parts { links = xs })) (sym (ap (λ b. cond b (filter (λ x. not (nat_eq x.number link.number)) (set parts.links p (emptied link room))) (set parts.links p (emptied link room))) e)) (open_taken room e)
-        by true e = subst (λ xs. Follows (with_entry h take) (record parts { links = xs })) (sym (ap (λ b. cond b (filter (λ x. not (nat_eq x.number link.number)) (set parts.links p (emptied link room))) (set parts.links p (emptied link room))) e
-            ∙ ap (λ l. filter (λ x. not (nat_eq x.number l)) (set parts.links p (emptied link room))) it.1)) (ended_taken room e)
+        by false e = rw e (open_taken room e)
+        by true e = rw e (subst (λ l. Follows (with_entry h take) (record parts { links = filter (λ x. not (nat_eq x.number l)) (set parts.links p (emptied link room)) })) (sym it.1) (ended_taken room e))

@@ -3,7 +3,7 @@ use Rattle.node_core.proofs.Answering.{accepts, refuses, failed}
 use Rattle.node_core.proofs.Moved.{unmoved}
 use Rattle.node_core.proofs.MessagePlaces.{runs_here, stopped_here}
 use Rattle.node_core.proofs.Told.{follow_idle}
-use Rattle.node_core.proofs.Leaving.{leave_nowhere, leave_foreign, leaves_own, leave_calm, left}
+use Rattle.node_core.proofs.Joining.{leave_nowhere, leave_foreign, leaves_own, leave_calm, left}
 use Rattle.node_core.proofs.kept.Kept.leave.Goals as goal
 
 pub returns-in_default : goal.returns-in_default

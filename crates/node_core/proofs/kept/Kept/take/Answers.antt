@@ -5,8 +5,8 @@ use Rattle.node_core.proofs.Taking.{emptied, taken_next, taken_follows}
 use Rattle.node_core.proofs.kept.Kept.take.Goals as goal
 
 pub returns-in_default : goal.returns-in_default
-returns-in_default g c = refuses c.requires _ Rule.NoSuchLink (ap (λ b. cond (not b) (Some Rule.NoSuchLink) None)
-    (not_kept g.call.past c.requires.keeps.follows.sound.legal c.args.self.now.links.items c.requires.keeps.follows.links c.args.number (rw c.deref.ensures.value at (sym c.place_of.ensures ∙ c.in_default.is)))) refl
+returns-in_default g c = refuses c.requires _ Rule.NoSuchLink
+    (rw (not_kept g.call.past c.requires.keeps.follows.sound.legal c.args.self.now.links.items c.requires.keeps.follows.links c.args.number (rw c.deref.ensures.value at (sym c.place_of.ensures ∙ c.in_default.is)))) refl
 
 pub returns : goal.returns
 returns g c =
