@@ -1,5 +1,5 @@
 -- The rows of processes in a group, in order.
-use Rattle.node_core.proofs.Words.{List, ap, cond, length, map, refl, suc, ℕ, [], ◌∙◌, ◌∷◌, ◌≡◌, same_sym, IsListing, IsRowListing, mentions}
+use Rattle.node_core.proofs.Words.{length-map, List, ap, cond, length, map, refl, suc, ℕ, [], ◌∙◌, ◌∷◌, ◌≡◌, same_sym, IsListing, IsRowListing, mentions}
 use Rattle.node_core.proofs.Words.{occurrences, same, same_row, row_cmp, Pid, Row, row, same_row_decides, same_length, count_in_group}
 
 module _ (g : List ℕ) (pids : List Pid) (rows sorted : List Row) (is : rows ≡ map (row g) pids) (listing : IsListing row_cmp same_row (λ r. occurrences same_row r rows) sorted) where
@@ -10,8 +10,4 @@ module _ (g : List ℕ) (pids : List Pid) (rows sorted : List Row) (is : rows �
   }
 
   pub rows_length : length sorted ≡ length pids
-  rows_length = same_length same_row same_row_decides sorted rows (λ r. IsListing.counts listing r) ∙ ap length is ∙ long pids
-    where
-      long : (ps : List Pid) → length (map (row g) ps) ≡ length ps
-      long [] = refl
-      long (p ∷ ps) = ap suc (long ps)
+  rows_length = same_length same_row same_row_decides sorted rows (λ r. IsListing.counts listing r) ∙ ap length is ∙ length-map pids (row g)

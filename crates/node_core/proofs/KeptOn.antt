@@ -3,6 +3,7 @@ use Rattle.node_core.proofs.Words.{Bool, List, Some, ap, arith, cond, false, get
 use Rattle.node_core.proofs.Words.{sym, true, zero, ℕ, [], ◌<◌, ◌∙◌, ◌∷◌, ◌≡◌, AllByRecursion, filter, list_all, option_map_or, eqb-true, ltb-true}
 use Rattle.node_core.proofs.Words.{position-Some, and_left, and_right, History, is_open, challenge_in, IsLinkOf, LinkWords, LinksFollow, facts}
 use Rattle.node_core.proofs.Words.{KeptLink, IsSameLink, Climbs, None, is_some, list_any, kept_among, is_kept, IsLegal, link_words, map-id}
+use Rattle.std.proofs.lemmas.List.Elements.{All-from_recursion}
 use Rattle.node_core.proofs.Found.{any_map, place_found}
 
 -- what is said of a link is the same, where its words are
@@ -27,12 +28,8 @@ module _ (w v : LinkWords) (f : KeptLink → KeptLink) (stays : ℕ → Bool) (s
 
   each_on : ((x : KeptLink) → stays x.number ≡ true → IsLinkOf w x → IsLinkOf v (f x)) → (kept : List KeptLink) → AllByRecursion (IsLinkOf w) kept → AllByRecursion (IsLinkOf v) (filter (λ x. stays x.number) (map f kept))
   each_on on [] a = tt
-  each_on on (x ∷ xs) a = by (stays (f x).number) refl (each_on on xs a.1)
-    where
-      by : (b : Bool) → stays (f x).number ≡ b → AllByRecursion (IsLinkOf v) (filter (λ y. stays y.number) (map f xs))
-          → AllByRecursion (IsLinkOf v) (cond b (f x ∷ filter (λ y. stays y.number) (map f xs)) (filter (λ y. stays y.number) (map f xs)))
-      by true e later = (on x (ap stays (sym (same x)) ∙ e) a.0, later)
-      by false e later = later
+  each_on on (x ∷ xs) a = elim (stays (f x).number) as (λ b. stays (f x).number ≡ b → AllByRecursion (IsLinkOf v) (cond b (f x ∷ filter (λ y. stays y.number) (map f xs)) (filter (λ y. stays y.number) (map f xs))))
+      [ true ↦ λ e. (on x (ap stays (sym (same x)) ∙ e) a.0, each_on on xs a.1) | false ↦ λ e. each_on on xs a.1 ] refl
 
   pub all_follow : (kept : List KeptLink) → LinksFollow w kept → v.numbers ≡ filter stays w.numbers
       → ((x : KeptLink) → stays x.number ≡ true → IsLinkOf w x → IsLinkOf v (f x))
@@ -50,9 +47,7 @@ place_is kept j p d q = let is = position-Some (λ x. nat_eq x.number j) kept p 
 
 -- what holds of each holds of the one at a place
 pub each_at : {A : Type 0} (P : A → Type 0) (xs : List A) (p : ℕ) (d : A) → AllByRecursion P xs → p < length xs → P (get_or xs p d)
-each_at P [] p d a less = absurd (omega (arith, less))
-each_at P (x ∷ xs) zero d a less = a.0
-each_at P (x ∷ xs) (suc p) d a less = each_at P xs p d a.1 (omega (arith, less))
+each_at P xs p d a less = All-from_recursion P xs a p d less
 
 -- one link is changed, all others are as before
 module _ (w v : LinkWords) (y : KeptLink) (here : IsLinkOf v y) (on : (x : KeptLink) → nat_eq x.number y.number ≡ false → IsLinkOf w x → IsLinkOf v x) where

@@ -23,14 +23,11 @@ agree P f g each [] a = refl
 agree P f g each (x ∷ xs) a = λ i. each x a.0 i || agree P f g each xs a.1 i
 
 module _ (h : History) (n : List ℕ) where
-  down : (l : ℕ) → is_whole l h.entries ≡ false → false ≡ (is_up l h.entries && is_peer n l h.entries)
-  down l unwhole = sym (ap (λ b. (is_open l h.entries && b) && is_peer n l h.entries) unwhole ∙ ap (λ b. b && is_peer n l h.entries) (and_false (is_open l h.entries)))
-
   -- a link is up with n exactly where its state says so
   pub up_by : (l : ℕ) (s : LinkState) → IsState (facts h l) s → option_map_or (λ m. same m n) (up_peer s) false ≡ (is_up l h.entries && is_peer n l h.entries)
   up_by l (LinkState.Up s) t = sym (λ i. (t.0.open_now i && t.0.whole i) && option_map_or (λ m. same m n) (t.1.peer.peer i) false)
-  up_by l LinkState.Ended t = sym (ap (λ b. (b && is_whole l h.entries) && is_peer n l h.entries) t)
-  up_by l s t = down l t.0.whole
+  up_by l LinkState.Ended t = grind (arith, t)
+  up_by l s t = grind (arith, t.0.whole)
 
   undialled : (l : ℕ) → Awaits (facts h l) (awaits l h.entries) false → is_acceptors (awaits l h.entries) ≡ true → false ≡ (is_open l h.entries && is_unfinished_dial n l h.entries)
   undialled l t a = sym ((λ i. t.open_now i && (option_map_or (λ o. is_dial_to n o.start) ((by_peer l h.entries t.open_now a).opened i) false && not (is_whole l h.entries))))
@@ -46,9 +43,8 @@ module _ (h : History) (n : List ℕ) where
   dialled_by l (LinkState.Status s) t = dialled l s.peer t.0.open_now t.0.whole (ap is_diallers t.0.awaited) t.1.peer.peer
   dialled_by l (LinkState.Challenge s) t = dialled l s.peer t.0.open_now t.0.whole (ap is_diallers t.0.awaited) t.1.peer.peer
   dialled_by l (LinkState.Ack s) t = dialled l s.peer t.0.open_now t.0.whole (ap is_diallers t.0.awaited) t.1.peer.peer
-  dialled_by l (LinkState.Up s) t = sym (ap (λ b. is_open l h.entries && (option_map_or (λ o. is_dial_to n o.start) (opened l h.entries) false && not b)) t.0.whole
-      ∙ ap (λ b. is_open l h.entries && b) (and_false (option_map_or (λ o. is_dial_to n o.start) (opened l h.entries) false)) ∙ and_false (is_open l h.entries))
-  dialled_by l LinkState.Ended t = sym (ap (λ b. b && is_unfinished_dial n l h.entries) t)
+  dialled_by l (LinkState.Up s) t = grind (arith, t.0.whole)
+  dialled_by l LinkState.Ended t = grind (arith, t)
   dialled_by l s t = undialled l (record { open_now = t.0.open_now; whole = t.0.whole; awaited = refl }) (ap is_acceptors t.0.awaited)
 
   module _ (legal : IsLegal h) (kept : List KeptLink) (t : LinksFollow (link_words h) kept) where
@@ -97,13 +93,8 @@ not_some (Some x) f = absurd (f x refl)
 
 -- what is said of a list of options is said of those that are there
 any_some : {A B : Type 0} (test : B → Bool) (f : A → Option B) (xs : List A) → list_any test (flat_map (λ x. option_to_list (f x)) xs) ≡ list_any (λ x. option_map_or test (f x) false) xs
-any_some {B = B} test f [] = refl
-any_some {B = B} test f (x ∷ xs) = by (f x) (any_some test f xs)
-  where
-    by : (o : Option B) → list_any test (flat_map (λ y. option_to_list (f y)) xs) ≡ list_any (λ y. option_map_or test (f y) false) xs
-        → list_any test (option_to_list o ++ flat_map (λ y. option_to_list (f y)) xs) ≡ (option_map_or test o false || list_any (λ y. option_map_or test (f y) false) xs)
-    by None later = later
-    by (Some y) later = ap (λ b. test y || b) later
+any_some test f [] = refl
+any_some test f (x ∷ xs) = grind (arith, any_some test f xs)
 
 module _ (h : History) (legal : IsLegal h) (kept : List KeptLink) (t : LinksFollow (link_words h) kept) (n : List ℕ) where
   module _ (p : Pending) where

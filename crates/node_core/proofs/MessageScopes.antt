@@ -83,16 +83,16 @@ module _ {h : History} {parts : Parts} (t : Follows h parts) (seat l : ℕ) (bod
     itself = (same_decides s s).1 refl
 
     its_own : (j : ℕ) → (l == j) ≡ (l == j && same s s)
-    its_own j = sym (ap (λ b. l == j && b) itself ∙ and-true (l == j))
+    its_own j = grind (arith, itself)
 
     elsewhere : (j : ℕ) (u : List ℕ) → same u s ≡ false → (l == j && same s u) ≡ false
-    elsewhere j u apart = ap (λ b. l == j && b) (same_sym s u ∙ apart) ∙ and_false (l == j)
+    elsewhere j u apart = grind (arith, same_sym s u)
 
     rows_here : (g : List ℕ) (q : Pid) → counts (count_of r.table g q) g q ≡ listed (after_it gs) s g q
-    rows_here g q = ap (λ n. counts n g q) (counted h s r there.named there.running g q) ∙ sym (rows so s g q ∙ ap (λ a. cond a (counts (listed h s g q) g q) (listed h s g q)) itself)
+    rows_here g q = ap (λ n. counts n g q) (counted h s r there.named there.running g q) ∙ sym (rows so s g q ∙ grind (arith, itself))
 
     rows_apart : (u : List ℕ) → same u s ≡ false → (g : List ℕ) (q : Pid) → listed (after_it gs) u g q ≡ listed h u g q
-    rows_apart u apart g q = rows so u g q ∙ ap (λ a. cond a (counts (listed h u g q) g q) (listed h u g q)) apart
+    rows_apart u apart g q = rows so u g q ∙ grind (arith, apart)
 
     follows : IsNext h (entry gs) → (kept : List KeptLink) → LinksFollow (link_words (after_it gs)) kept → Follows (after_it gs) (record parts { scopes = set parts.scopes p y; links = kept })
     follows next kept links = message_follows h seat l body m space up here.awaited says holds (if_some s gs) parts (set parts.scopes p y) kept t next
@@ -116,17 +116,13 @@ module _ {h : History} {parts : Parts} (t : Follows h parts) (seat l : ℕ) (bod
     listed_so : IsAnswered h (entry []) → (u g : List ℕ) (q : Pid) → listed (after_it []) u g q ≡ listed h u g q
     listed_so so = discovered_rows h t.sound.legal (entry []) so refl l body refl here.far.peer here.awaited here.introduced.peer.peer here.introduced.peer.other s says
 
-    either : {A : Type 0} (b : Bool) (z : A) → z ≡ cond b z z
-    either true z = refl
-    either false z = refl
-
     pub discovered_next : IsNext h (entry [])
     discovered_next = its_next h seat l body (Message.Discover s) space up here.awaited says early []
         (no_change h (after_it []) (λ u g q. sym (listed_so (its_answered h seat l body (Message.Discover s) space up here.awaited says early []) u g q)))
 
     pub discovered_follows : HasBecome r y (count_of r.table) r.heard.items (with_number l r.told.items) → (kept : List KeptLink) → LinksFollow (link_words (after_it [])) kept
         → Follows (after_it []) (record parts { scopes = set parts.scopes p y; links = kept })
-    discovered_follows b = follows (Message.Discover s) says early [] (λ n g q. n) (λ b c. b) (λ b c. c || b) (λ b. (refl, refl)) (λ so u g q. listed_so so u g q ∙ either (same u s) (listed h u g q))
+    discovered_follows b = follows (Message.Discover s) says early [] (λ n g q. n) (λ b c. b) (λ b c. c || b) (λ b. (refl, refl)) (λ so u g q. listed_so so u g q ∙ grind arith)
         (λ so j u. discovered_heard h t.sound.legal (entry []) so refl l body refl here.awaited j u s says)
         r.heard.items (with_number l r.told.items) b (λ j. refl) (λ j. number_on j l r.told.items) discovered_next
 

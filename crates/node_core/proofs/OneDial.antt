@@ -1,5 +1,5 @@
 -- One own dial to a peer is unfinished at a time.
-use Rattle.node_core.proofs.Words.{Bool, List, None, Option, Some, ap, cond, false, not, refl, sym, true, ℕ, [], ◌&&◌, ◌++◌, ◌==◌, ◌||◌, ◌∙◌, ◌∷◌}
+use Rattle.node_core.proofs.Words.{arith, Bool, List, None, Option, Some, ap, cond, false, not, refl, sym, true, ℕ, [], ◌&&◌, ◌++◌, ◌==◌, ◌||◌, ◌∙◌, ◌∷◌}
 use Rattle.node_core.proofs.Words.{◌≡◌, option_map_or, eqb-true, same_decides, same, all_hold, lie, unbroken, and_left, and_right, dial_checks}
 use Rattle.node_core.proofs.Words.{first_broken, History, past, is_dialling, is_open, is_unfinished_dial, links, IsLegal, verdict, is_whole, Entry}
 use Rattle.node_core.proofs.Words.{Verdict, Accepted, Refused, Event, Reply, Opening, Start, ByPeer, ByDial, Opened, Taken, and_frame, opened, taken}
@@ -35,21 +35,7 @@ module _ (n : List ℕ) (es : List Entry) (e : Entry) (l : ℕ) where
 
   framed : (g : Bool) (body : List ℕ) (a : Bool) → shown (not g && is_open l es) (opened l es) (and_frame (taken l es) (cond a (Some (record { body = body; before = es })) None)) ≡ true → dials n es l ≡ true
   framed g body false q = was_before g (is_open l es) _ q
-  framed g body true q = by (is_whole l es) refl
-    where
-      moment : Taken
-      moment = record { body = body; before = es }
-
-      so_far : shown (is_open l es) (opened l es) (taken l es ++ moment ∷ []) ≡ true
-      so_far = was_before g (is_open l es) _ q
-
-      by : (w : Bool) → is_whole l es ≡ w → dials n es l ≡ true
-      by true w = lie (sym (and_right (option_map_or (λ o. is_dial_to n o.start) (opened l es) false) _ (and_right (is_open l es) _ so_far)) ∙ ap not (whole_kept moment (opened l es) (taken l es) w))
-      by false w = ap (λ b. is_open l es && (option_map_or (λ o. is_dial_to n o.start) (opened l es) false && not b)) w
-          ∙ both (is_open l es) (option_map_or (λ o. is_dial_to n o.start) (opened l es) false) (and_left (is_open l es) _ so_far) (and_left (option_map_or (λ o. is_dial_to n o.start) (opened l es) false) _ (and_right (is_open l es) _ so_far))
-        where
-          both : (a b : Bool) → a ≡ true → b ≡ true → (a && (b && true)) ≡ true
-          both a b p q = λ i. p i && (q i && true)
+  framed g body true q = grind (arith, whole_kept (record { body = body; before = es }) (opened l es) (taken l es))
 
   pub older_dial : (ev : Event) (v : Verdict) → is_new ev v ≡ false → dials n (but e ev v ∷ es) l ≡ true → dials n es l ≡ true
   older_dial ev (Refused r) old q = was_before (ends l es (Refused r) ev) (is_open l es) _ q

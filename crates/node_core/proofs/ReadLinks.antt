@@ -5,7 +5,9 @@ use Rattle.node_core.proofs.Words.{eqb-true, is_empty, occurrences, same, kept_a
 use Rattle.node_core.proofs.Words.{waiting, awaits, is_name_up, is_peer, is_whole, peer_of, Follows, Parts, IsLinkOf, IsState, facts, kept_numbers}
 use Rattle.node_core.proofs.Words.{link_words, KeptLink, up_peer, how_many, kept_once, name_up_kept, one_up, LinkState, frame_awaited}
 use Rattle.node_core.specs.Reading.{up_name, up_names, frame_of, awaiting}
+use Rattle.scope_core.proofs.Rising.{all_map}
 use Rattle.node_core.proofs.Found.{any_map}
+use Rattle.node_core.proofs.Told.{map_map, map_same}
 use Rattle.node_core.proofs.LinkTests.{agree, up_is, peer_by_test}
 
 -- ---- what a link's state tells
@@ -88,8 +90,7 @@ module _ {h : History} {parts : Parts} (t : Follows h parts) where
       alone a b p q = one_up h t.sound.legal n a b (and_left _ _ p) (and_left _ _ q) (peer_by_test n (peer_of a h.entries) (and_right (is_up a h.entries) _ p)) (peer_by_test n (peer_of b h.entries) (and_right (is_up b h.entries) _ q))
 
   pub links_are : map (λ x. record { link = x.number; frame = frame_awaited x.state }) parts.links ≡ map (awaiting h) (kept_numbers h)
-  links_are = all parts.links t.links.each ∙ ap (map (awaiting h)) t.links.numbers
-    where
-      all : (xs : List KeptLink) → AllByRecursion (IsLinkOf (link_words h)) xs → map (λ x. record { link = x.number; frame = frame_awaited x.state }) xs ≡ map (awaiting h) (map (λ x. x.number) xs)
-      all [] a = refl
-      all (x ∷ xs) a = λ i. record { link = x.number; frame = frame_told h x.number x.state a.0.state i } ∷ all xs a.1 i
+  links_are =
+      map_same (λ x. record { link = x.number; frame = frame_awaited x.state }) (λ x. awaiting h x.number) parts.links
+      (all_map (IsLinkOf (link_words h)) (λ x. record { link = x.number; frame = frame_awaited x.state } ≡ awaiting h x.number) (λ x it. λ i. record { link = x.number; frame = frame_told h x.number x.state it.state i }) parts.links t.links.each)
+      ∙ sym (map_map (awaiting h) (λ x. x.number) parts.links) ∙ ap (map (awaiting h)) t.links.numbers
