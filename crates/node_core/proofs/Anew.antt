@@ -1,11 +1,40 @@
--- A node that begins anew.
+-- A node that has seen nothing, and one that begins anew.
 use Rattle.node_core.proofs.Words.{List, None, Some, ap, arith, cond, false, not, refl, sym, ℕ, [], ◌+◌, ◌==◌, ◌∙◌, ◌≡◌, eq-eqb, eqb-true, Pid}
 use Rattle.node_core.proofs.Words.{no_count, stopped_lists, checks, first_broken, History, creation, listed, IsNext, is_full, with_entry, Change}
 use Rattle.node_core.proofs.Words.{Accepted, Follows, Parts, ArePartings, Opening, follows_cleared, own_pid, Event, Reply, Rule}
+use Rattle.node_core.proofs.Words.{Bool, true, nat_le, ◌&&◌, ◌<◌, leb-true, same, AdmissionRules, past, ◌^◌, follows_start}
 use Rattle.policy_audit.proofs.LivesNow.{lives_restarted}
 use Rattle.node_core.proofs.Entered.{made, accepted_next, answered_by, sound_now}
 use Rattle.node_core.proofs.Partings.{partings_change}
 use Rattle.node_core.proofs.Found.{not_so}
+
+-- the rules of admission at the start
+abbrev pub first_rules : Opening → AdmissionRules
+first_rules o = record { own = o.name; cookie = o.cookie; hidden = o.hidden; creation = o.creation; peers = []; allowed = [] }
+
+-- no process was spawned
+none_numbered : (a : Bool) (n : ℕ) → false ≡ (a && nat_le 1 n && nat_le n 0 && true)
+none_numbered a n = grind (arith, leb-true 1 n, leb-true n 0)
+
+pub begun : (o : Opening) → o.entries < 2 ^ 32 → Follows (past o []) (record { admission = first_rules o; processes = record { spawned = 0; live = [] }; scopes = []; links = []; monitors = [] })
+begun o fits = record {
+  sound = record { legal = tt; fits = fits; few = omega arith; few_spawned = omega arith };
+  admission = record {
+    own = refl;
+    hidden = refl;
+    creation = omega arith;
+    own_cookie = refl;
+    cookie = λ n. grind arith;
+    peers = λ n. refl;
+    allowed = λ n. refl;
+  };
+  processes = record { spawned = refl; live = λ n. none_numbered (same o.name o.name && o.creation + 0 == o.creation + 0) n; count = refl };
+  scopes = record { running = refl; each = tt };
+  links = record { numbers = refl; each = tt };
+  monitors = follows_start o;
+}
+
+-- ---- a restart
 
 module _ (h : History) (seat : ℕ) where
   abbrev anew : List Change → History

@@ -2,7 +2,6 @@
 pub mod Words
 pub mod Entered
 pub mod Calm
-pub mod Begun
 pub mod Anew
 pub mod StepAnswers
 pub mod Answering
@@ -51,7 +50,6 @@ pub mod Stopping
 -- own rows
 pub mod Lives
 pub mod RowsGone
-pub mod GroupRows
 pub mod Said
 pub mod Moved
 pub mod Joining

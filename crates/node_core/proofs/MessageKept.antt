@@ -97,25 +97,3 @@ module _ (h : History) (seat l : ℕ) (body : List ℕ) (m : Message) (space : i
     where
       its_own : (n : ℕ) → n ≡ l → waiting now n ≡ waiting h l ++ message_owes h l m
       its_own n e = ap (waiting now) e ∙ waits l ∙ ap (λ b. cond b (waiting h l ++ message_owes h l m) (waiting h l)) (eq-eqb l l refl)
-
-  -- ---- scopes
-
-  -- one scope has changed, all others list the same and have the same links
-  pub scope_on : (rs : List Running) → ScopesFollow (scope_words h) rs → (p : ℕ) (d y : Running) (s : List ℕ) → p < length rs → (get_or rs p d).scope ≡ s → y.scope ≡ s → IsRunningOf (scope_words now) y
-      → ((t : List ℕ) → same t s ≡ false → (g : List ℕ) (x : Pid) → listed now t g x ≡ listed h t g x)
-      → ((t : List ℕ) → same t s ≡ false → (j : ℕ) → heard j t now.entries ≡ heard j t h.entries)
-      → ((t : List ℕ) → same t s ≡ false → (j : ℕ) → told j t now.entries ≡ told j t h.entries)
-      → ScopesFollow (scope_words now) (set rs p y)
-  scope_on rs t p d y s within is named here rows hears tells = one_scope_follows (scope_words h) (scope_words now) s y here named
-      (λ r apart u. record {
-        own = u.own;
-        rows = λ g x. u.rows g x ∙ sym (rows r.scope apart g x);
-        heard = λ j. u.heard j ∙ sym (hears r.scope apart j);
-        told = λ j. u.told j ∙ sym (tells r.scope apart j);
-      })
-      rs p d t (running_rises h) refl within is
-
-  -- ---- all that is kept
-
-  pub message_follows : (parts : Parts) (rs : List Running) (kept : List KeptLink) → Follows h parts → IsNext h entry → ScopesFollow (scope_words now) rs → LinksFollow (link_words now) kept → Follows now (record parts { scopes = rs; links = kept })
-  message_follows parts rs kept t next scopes links = step_follows t next refl t.admission t.processes scopes links

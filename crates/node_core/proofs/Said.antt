@@ -4,6 +4,7 @@ use Rattle.node_core.proofs.Words.{◌≡◌, AllZip, same_pid_decides, is_empty
 use Rattle.node_core.proofs.Words.{pid_cmp, Pid, Row, Message, Table, lie, row, OutFrame, KeptLink, prepared_for, unroomed, with_prepared, is_number}
 use Rattle.node_core.proofs.Words.{Alike, AreIdle, min, stands_in, exact_pids, pids_total, IsJoinFault, IsLeaveFault, occurs_stands, Running, IsBrief}
 use Rattle.node_core.proofs.Words.{is_said, fault_of, IsJoinRefusal, IsLeaveRefusal}
+use Rattle.node_core.proofs.Words.{length-map, same_sym, IsListing, occurrences, same_row, row_cmp, same_row_decides, same_length, count_in_group, ap}
 use Rattle.std.proofs.Common.{Result}
 use Rattle.dist_types.proofs.Listings.{listing_counts}
 use Rattle.link_frames.specs.Spelling.{HasSpelling}
@@ -39,6 +40,17 @@ pub left_rows_are : (g : List ℕ) (ps gone : List Pid) (count : Pid → ℕ) (r
 left_rows_are g ps gone count rows left a =
     moved_listing g ps (λ p. min (mentions p ps) (count p)) rows (λ p some. occurs_stands same_pid p ps (omega (arith, some)))
     (subst (λ (c : Pid → ℕ). IsRowListing (λ f q. cond (same f g) (c q) 0) rows) (λ i q. IsListing.counts left q i) a)
+
+-- the rows of processes, in order
+module _ (g : List ℕ) (pids : List Pid) (rows sorted : List Row) (is : rows ≡ map (row g) pids) (listing : IsListing row_cmp same_row (λ r. occurrences same_row r rows) sorted) where
+  pub rows_listing : IsRowListing (λ f p. cond (same f g) (mentions p pids) 0) sorted
+  rows_listing = record {
+    ascends = IsListing.ascends listing;
+    counts = λ r. IsListing.counts listing r ∙ ap (occurrences same_row r) is ∙ count_in_group r g pids ∙ ap (λ b. cond b (mentions r.pid pids) 0) (same_sym g r.group);
+  }
+
+  pub rows_length : length sorted ≡ length pids
+  rows_length = same_length same_row same_row_decides sorted rows (λ r. IsListing.counts listing r) ∙ ap length is ∙ length-map pids (row g)
 
 -- ---- faults
 

@@ -11,8 +11,9 @@ use Rattle.std.specs.Ordering.{is_lt, ordering_reverse, match_ordering}
 use Rattle.std.specs.List.Sorted.{IsPartitionedBy, IsPartitionPoint}
 use Rattle.policy_audit.proofs.KeptLinks.{told_runs, heard_runs'}
 use Rattle.policy_audit.proofs.RowsAfter.{started_rows}
-use Rattle.scope_core.proofs.Rising.{all_map}
+use Rattle.scope_core.proofs.Rising.{all_map, all_unmapped}
 use Rattle.node_core.proofs.Entered.{step_follows, made, accepted_next, answered_by}
+use Rattle.node_core.proofs.KeptOn.{each_at}
 use Rattle.node_core.proofs.Told.{told_follow, shown_number}
 
 -- ---- a scope put among others
@@ -27,38 +28,19 @@ names rs = map (λ r. r.scope) rs
 
 pub put_names : (r : Running) (xs : List Running) → is_among r.scope (names xs) ≡ false → names (put_scope r xs) ≡ placed text_cmp r.scope (names xs)
 put_names r [] none = refl
-put_names r (x ∷ xs) none = by (put_names r xs) (text_cmp r.scope x.scope) refl (same x.scope r.scope) refl none
-  where
-    by : (is_among r.scope (names xs) ≡ false → names (put_scope r xs) ≡ placed text_cmp r.scope (names xs)) → (o : Ordering) → text_cmp r.scope x.scope ≡ o → (b : Bool) → same x.scope r.scope ≡ b → (b || is_among r.scope (names xs)) ≡ false
-        → names (cond (is_lt (text_cmp x.scope r.scope)) (x ∷ put_scope r xs) (r ∷ x ∷ xs)) ≡ placed text_cmp r.scope (x.scope ∷ names xs)
-    by others o e true s n = lie n
-    by others Less e false s n =
-        ap (λ o. names (cond (is_lt o) (x ∷ put_scope r xs) (r ∷ x ∷ xs))) (texts_total.antisymm x.scope r.scope ∙ ap ordering_reverse e)
-        ∙ sym (ap (λ o. match_ordering o (r.scope ∷ x.scope ∷ names xs) (x.scope ∷ names xs) (x.scope ∷ placed text_cmp r.scope (names xs))) e)
-    by others Equal e false s n = lie (sym ((same_decides x.scope r.scope).1 (sym (exact_bytes r.scope x.scope e))) ∙ s)
-    by others Greater e false s n =
-        ap (λ o. names (cond (is_lt o) (x ∷ put_scope r xs) (r ∷ x ∷ xs))) (texts_total.antisymm x.scope r.scope ∙ ap ordering_reverse e)
-        ∙ ap (λ ys. x.scope ∷ ys) (others n)
-        ∙ sym (ap (λ o. match_ordering o (r.scope ∷ x.scope ∷ names xs) (x.scope ∷ names xs) (x.scope ∷ placed text_cmp r.scope (names xs))) e)
+put_names r (x ∷ xs) none = grind (arith, put_names r xs, texts_total.antisymm x.scope r.scope, exact_bytes r.scope x.scope, same_decides x.scope r.scope)
 
 -- whether a scope comes before s
 abbrev pub is_before : List ℕ → Running → Bool
 is_before s r = is_lt (text_cmp r.scope s)
 
 all_names : (P : List ℕ → Type 0) (rs : List Running) (j : ℕ) (d : Running) → AllByRecursion P (names rs) → j < length rs → P (get_or rs j d).scope
-all_names P [] j d a l = absurd (omega (arith, l))
-all_names P (r ∷ rs) zero d a l = a.0
-all_names P (r ∷ rs) (suc j) d a l = all_names P rs j d a.1 (omega (arith, l))
+all_names P rs j d a l = each_at (λ r. P r.scope) rs j d (all_unmapped P (λ r. r.scope) rs a) l
 
 rising_before : (s : List ℕ) (rs : List Running) → Rises text_cmp (names rs) → (i j : ℕ) (d : Running) → i ≤ j → j < length rs → is_before s (get_or rs i d) ≡ false → is_before s (get_or rs j d) ≡ false
 rising_before s [] r i j d l h n = absurd (omega (arith, h))
 rising_before s (x ∷ xs) r zero zero d l h n = n
-rising_before s (x ∷ xs) r zero (suc j) d l h n = by (text_cmp (get_or xs j d).scope s) refl
-  where
-    by : (o : Ordering) → text_cmp (get_or xs j d).scope s ≡ o → is_lt o ≡ false
-    by Less e = lie (sym (ap is_lt (texts_total.trans x.scope (get_or xs j d).scope s (all_names (λ t. text_cmp x.scope t ≡ Less) xs j d r.0 (omega (arith, h))) e)) ∙ n)
-    by Equal e = refl
-    by Greater e = refl
+rising_before s (x ∷ xs) r zero (suc j) d l h n = grind (arith, texts_total.trans x.scope (get_or xs j d).scope s (all_names (λ t. text_cmp x.scope t ≡ Less) xs j d r.0 (omega (arith, h))))
 rising_before s (x ∷ xs) r (suc i) zero d l h n = absurd (omega (arith, l))
 rising_before s (x ∷ xs) r (suc i) (suc j) d l h n = rising_before s xs r.1 i j d (omega (arith, l)) (omega (arith, h)) n
 
