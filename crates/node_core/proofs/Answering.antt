@@ -2,8 +2,8 @@
 use Rattle.std.specs.Prelude.{IsErrAnd}
 use Rattle.std.proofs.lemmas.Result.{err_from_is_err_and}
 use Rattle.node_core.proofs.Words.{Err, List, Ok, Result, Some, refl, subst, sym, true, [], ◌∙◌, ◌≡◌, IsNext, checks, first_broken, with_entry, Change}
-use Rattle.node_core.proofs.Words.{Accepted, Refused, Event, Reply, Rule, CoreFault, IsCalmFault, refuses_calmly, Follows, Answered, Answers, Call}
-use Rattle.node_core.proofs.Words.{IsCalled, Keeps, Kept, Says, parts, History}
+use Rattle.node_core.proofs.Words.{Accepted, Refused, Event, Reply, Rule, CoreFault, IsCalmFault, refuses_calmly, Follows, Answered, Answers, Call, IsCalled}
+use Rattle.node_core.proofs.Words.{Keeps, Kept, Says, parts, History}
 use Rattle.node_core.specs.Step.{Enters}
 use Rattle.node_core.proofs.Entered.{made, next_now, refused_now}
 use Rattle.node_core.proofs.Calm.{calm_follows, refused_change}

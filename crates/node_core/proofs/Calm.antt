@@ -1,10 +1,9 @@
 -- Entries that leave alone all that a node keeps of links and scopes.
-use Rattle.node_core.proofs.Words.{arith, Bool, List, ap, cond, false, length, not, refl, subst, sym, true, ℕ, [], ◌&&◌, ◌++◌, ◌+◌, ◌==◌, ◌||◌, ◌∙◌, ◌∷◌}
-use Rattle.node_core.proofs.Words.{◌≡◌, filter, unwrap_or, eqb-true, append-nil, is_empty, lie, no_change, and_left, and_right, IsChange, History}
-use Rattle.node_core.proofs.Words.{first_of, is_accepted, is_open, links, refusal_owes, waiting, running_scopes, IsNext, with_entry, is_whole, Entry}
-use Rattle.node_core.proofs.Words.{Accepted, Refused, Event, Reply, Rule, AdmissionFollows, admission_words, refuses_calmly, Follows, Parts}
-use Rattle.node_core.proofs.Words.{LinksFollow, facts, link_words, ProcessesFollow, process_words, ScopesFollow, scope_words, reverse, ends, hears}
-use Rattle.node_core.proofs.Words.{tells, talk, owed, is_quiet, entry_rows, is_query, None, AdmissionRules, checks, first_broken, answer, is_full}
+use Rattle.node_core.proofs.Words.{arith, Bool, List, false, length, not, refl, subst, sym, true, ℕ, [], ◌&&◌, ◌++◌, ◌+◌, ◌||◌, ◌∷◌, ◌≡◌, filter, unwrap_or}
+use Rattle.node_core.proofs.Words.{eqb-true, append-nil, is_empty, lie, no_change, IsChange, History, first_of, is_open, links, refusal_owes, waiting}
+use Rattle.node_core.proofs.Words.{running_scopes, IsNext, with_entry, is_whole, Accepted, Refused, Event, Reply, Rule, AdmissionFollows, admission_words}
+use Rattle.node_core.proofs.Words.{refuses_calmly, Follows, Parts, LinksFollow, facts, link_words, ProcessesFollow, process_words, ScopesFollow, scope_words}
+use Rattle.node_core.proofs.Words.{reverse, ends, hears, tells, talk, owed, is_quiet, entry_rows, None, AdmissionRules, checks, first_broken, answer, is_full}
 use Rattle.node_core.proofs.Words.{Spawned, IsAnswered, heard, told}
 use Rattle.group_monitors.specs.Follows.{FollowsPolicy}
 use Rattle.group_monitors.specs.declared.monitor.Monitor.{Monitor}

@@ -1,9 +1,9 @@
 -- Cookies and allowed names after the events that set them.
-use Rattle.node_core.proofs.Words.{length-map, lt-leb, Bool, List, None, Option, Some, ap, arith, cond, false, length, nat_le, not, refl, subst, sym}
-use Rattle.node_core.proofs.Words.{true, ℕ, [], ◌++◌, ◌<◌, ◌||◌, ◌∙◌, ◌∷◌, ◌≡◌, ◌≤◌, unwrap_or, le-leb, same_decides, same_sym, same, AdmissionRules}
-use Rattle.node_core.proofs.Words.{lie, allow_list, History, creation, events, first_of, Reply, AdmissionFollows, admission_words, IsCalmFault}
-use Rattle.node_core.proofs.Words.{bytes_eq, insert_entry, max_peers, max_allowed, cookie_of, with_cookie_for, with_allowed, cookie, own_cookie}
-use Rattle.node_core.proofs.Words.{own_cookie_set, cookie_set_for, cookie_peers, different, CoreFault, AdmissionWords, IsCookieRefusal, Event, Rule}
+use Rattle.node_core.proofs.Words.{length-map, lt-leb, Bool, List, None, Option, Some, ap, arith, cond, false, length, nat_le, not, refl, subst, sym, true, ℕ}
+use Rattle.node_core.proofs.Words.{[], ◌++◌, ◌<◌, ◌||◌, ◌∙◌, ◌∷◌, ◌≡◌, ◌≤◌, unwrap_or, le-leb, same_decides, same_sym, same, AdmissionRules, lie, allow_list}
+use Rattle.node_core.proofs.Words.{History, creation, events, first_of, Reply, AdmissionFollows, admission_words, IsCalmFault, bytes_eq, insert_entry}
+use Rattle.node_core.proofs.Words.{max_peers, max_allowed, cookie_of, with_cookie_for, with_allowed, cookie, own_cookie, own_cookie_set, cookie_set_for}
+use Rattle.node_core.proofs.Words.{cookie_peers, different, CoreFault, AdmissionWords, IsCookieRefusal, Event, Rule}
 use Rattle.std.specs.Map.{lookup}
 use Rattle.admission_rules.proofs.Peers.{lookup_put, lookup_kept}
 use Rattle.node_core.proofs.Calm.{answered}

@@ -1,9 +1,8 @@
 -- A history with one entry more: what the policy says of it, and what is kept then.
-use Rattle.node_core.proofs.Words.{Bool, List, None, Option, Some, ap, arith, cond, false, length, map, nat_lt, not, refl, subst, suc, sym}
-use Rattle.node_core.proofs.Words.{true, ℕ, [], ◌<◌, ◌∙◌, ◌∷◌, ◌≡◌, ◌≤◌, ltb-true, IsChange, checks, first_broken, History, events, is_accepted}
-use Rattle.node_core.proofs.Words.{IsAnswered, IsNext, answer, is_full, verdict, with_entry, Change, Entry, Verdict, Accepted, Refused}
-use Rattle.node_core.proofs.Words.{Event, Reply, Rule, how_many, Moment, present, is_restart, is_spawn, judged, IsSound, Follows, Parts}
-use Rattle.node_core.proofs.Words.{◌&&◌, AdmissionFollows, AdmissionRules, KeptLink, LinksFollow, ProcessesFollow, Running, ScopesFollow, Spawned}
+use Rattle.node_core.proofs.Words.{List, None, Option, Some, ap, arith, cond, false, length, refl, subst, suc, sym, ℕ, ◌<◌, ◌∙◌, ◌∷◌, ◌≡◌, ◌≤◌, ltb-true}
+use Rattle.node_core.proofs.Words.{IsChange, checks, first_broken, History, events, is_accepted, IsAnswered, IsNext, answer, is_full, verdict, with_entry}
+use Rattle.node_core.proofs.Words.{Change, Entry, Verdict, Accepted, Refused, Event, Reply, Rule, how_many, is_restart, is_spawn, judged, IsSound, Follows}
+use Rattle.node_core.proofs.Words.{Parts, ◌&&◌, AdmissionFollows, AdmissionRules, KeptLink, LinksFollow, ProcessesFollow, Running, ScopesFollow, Spawned}
 use Rattle.node_core.proofs.Words.{admission_words, follows_other, link_words, process_words, scope_words}
 use Rattle.group_monitors.specs.Follows.{concerns_monitors}
 pub use Rattle.node_core.specs.Step.{made}

@@ -1,7 +1,6 @@
 -- Elements that pass a test, and their places.
-use Rattle.node_core.proofs.Words.{Bool, List, None, Some, ap, arith, cond, false, find, is_some, length, map, nat_lt, position, refl, subst, suc}
-use Rattle.node_core.proofs.Words.{sym, true, ℕ, [], ◌+◌, ◌||◌, ◌∙◌, ◌∷◌, ◌≡◌, AllByRecursion, list_any, lt-ltb, ltb-true, no_value, ltb-false}
-use Rattle.node_core.proofs.Words.{position_or_len}
+use Rattle.node_core.proofs.Words.{Bool, List, None, Some, ap, arith, cond, false, find, is_some, map, position, refl, subst, sym, true, ℕ, [], ◌||◌, ◌∙◌, ◌∷◌}
+use Rattle.node_core.proofs.Words.{◌≡◌, AllByRecursion, list_any, lt-ltb, ltb-true, no_value, ltb-false}
 
 -- the value in an option
 pub some_is : {A : Type 0} {x y : A} → Some x ≡ Some y → x ≡ y

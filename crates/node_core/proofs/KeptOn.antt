@@ -1,8 +1,10 @@
 -- The kept links after an entry: which of them stay, and how one of them or each is changed.
-use Rattle.node_core.proofs.Words.{Bool, List, Some, ap, arith, cond, false, get_or, length, map, nat_eq, nat_lt, position, refl, set, subst, suc}
-use Rattle.node_core.proofs.Words.{sym, true, zero, ℕ, [], ◌<◌, ◌∙◌, ◌∷◌, ◌≡◌, AllByRecursion, filter, list_all, option_map_or, eqb-true, ltb-true}
-use Rattle.node_core.proofs.Words.{position-Some, and_left, and_right, History, is_open, challenge_in, IsLinkOf, LinkWords, LinksFollow, facts}
-use Rattle.node_core.proofs.Words.{KeptLink, IsSameLink, Climbs, None, is_some, list_any, kept_among, is_kept, IsLegal, link_words, map-id}
+use Rattle.node_core.proofs.Words.{Bool, List, Some, ap, arith, cond, false, get_or, length, map, nat_eq, nat_lt, position, refl, set, subst, suc, sym, true}
+use Rattle.node_core.proofs.Words.{zero, ℕ, [], ◌<◌, ◌∙◌, ◌∷◌, ◌≡◌, AllByRecursion, filter, list_all, option_map_or, eqb-true, ltb-true, position-Some, History}
+use Rattle.node_core.proofs.Words.{is_open, challenge_in, IsLinkOf, LinkWords, LinksFollow, facts, KeptLink, IsSameLink, Climbs, None, is_some, list_any}
+use Rattle.node_core.proofs.Words.{kept_among, is_kept, IsLegal, link_words, map-id}
+use Rattle.std.proofs.Math.Seq.{map-set_same}
+use Rattle.std.proofs.lemmas.List.Folds.{list_all-map, list_all_at}
 use Rattle.std.proofs.lemmas.List.Elements.{All-from_recursion}
 use Rattle.node_core.proofs.Found.{any_map, place_found}
 
@@ -53,12 +55,10 @@ each_at P xs p d a less = All-from_recursion P xs a p d less
 module _ (w v : LinkWords) (y : KeptLink) (here : IsLinkOf v y) (on : (x : KeptLink) → nat_eq x.number y.number ≡ false → IsLinkOf w x → IsLinkOf v x) where
   above : (n : ℕ) (xs : List KeptLink) → list_all (λ m. nat_lt n m) (map (λ x. x.number) xs) ≡ true → n ≡ y.number → AllByRecursion (IsLinkOf w) xs → AllByRecursion (IsLinkOf v) xs
   above n [] l e a = tt
-  above n (x ∷ xs) l e a = (on x (grind (arith, eqb-true x.number y.number, ltb-true n x.number)) a.0, above n xs (and_right (nat_lt n x.number) (list_all (λ m. nat_lt n m) (map (λ z. z.number) xs)) l) e a.1)
+  above n (x ∷ xs) l e a = (on x (grind (arith, eqb-true x.number y.number, ltb-true n x.number)) a.0, above n xs (grind arith) e a.1)
 
   below : (n : ℕ) (xs : List KeptLink) (p : ℕ) (d : KeptLink) → list_all (λ m. nat_lt n m) (map (λ x. x.number) xs) ≡ true → p < length xs → n < (get_or xs p d).number
-  below n [] p d l less = absurd (omega (arith, less))
-  below n (x ∷ xs) zero d l less = ltb-true n x.number (and_left (nat_lt n x.number) (list_all (λ m. nat_lt n m) (map (λ z. z.number) xs)) l)
-  below n (x ∷ xs) (suc p) d l less = below n xs p d (and_right (nat_lt n x.number) (list_all (λ m. nat_lt n m) (map (λ z. z.number) xs)) l) (omega (arith, less))
+  below n xs p d l less = ltb-true n (get_or xs p d).number (grind (arith, list_all-map (λ m. nat_lt n m) (λ x. x.number) xs, list_all_at (λ x. nat_lt n x.number) xs p d))
 
   changed : (xs : List KeptLink) (p : ℕ) (d : KeptLink) → Climbs (map (λ x. x.number) xs) → AllByRecursion (IsLinkOf w) xs → p < length xs → y.number ≡ (get_or xs p d).number → AllByRecursion (IsLinkOf v) (set xs p y)
   changed [] p d c a less is = tt
@@ -67,14 +67,9 @@ module _ (w v : LinkWords) (y : KeptLink) (here : IsLinkOf v y) (on : (x : KeptL
       let above_it = below x.number xs p d c.0 (omega (arith, less)) in
       (on x (grind (arith, eqb-true x.number y.number, above_it)) a.0, changed xs p d c.1 a.1 (omega (arith, less)) is)
 
-  same_numbers : (xs : List KeptLink) (p : ℕ) (d : KeptLink) → p < length xs → y.number ≡ (get_or xs p d).number → map (λ x. x.number) (set xs p y) ≡ map (λ x. x.number) xs
-  same_numbers [] p d less is = refl
-  same_numbers (x ∷ xs) zero d less is = ap (λ n. n ∷ map (λ z. z.number) xs) is
-  same_numbers (x ∷ xs) (suc p) d less is = ap (λ ns. x.number ∷ ns) (same_numbers xs p d (omega (arith, less)) is)
-
   pub one_follows : (kept : List KeptLink) (p : ℕ) (d : KeptLink) → LinksFollow w kept → Climbs w.numbers → v.numbers ≡ w.numbers → p < length kept → y.number ≡ (get_or kept p d).number → LinksFollow v (set kept p y)
   one_follows kept p d t climbs numbers less is = record {
-    numbers = same_numbers kept p d less is ∙ t.numbers ∙ sym numbers;
+    numbers = map-set_same (λ x. x.number) kept p y d is ∙ t.numbers ∙ sym numbers;
     each = changed kept p d (subst Climbs (sym t.numbers) climbs) t.each less is;
   }
 

@@ -1,10 +1,9 @@
 -- Which peers are up and which are dialled, by the states of the kept links.
-use Rattle.node_core.proofs.Words.{Bool, List, None, Option, Some, ap, arith, cond, false, length, nat_lt, not, refl, sym, true, ℕ, [], ◌&&◌, ◌==◌}
-use Rattle.node_core.proofs.Words.{◌||◌, ◌∙◌, ◌∷◌, ◌≡◌, AllByRecursion, list_any, option_map_or, eqb-true, same_decides, is_empty, is_among, same}
-use Rattle.node_core.proofs.Words.{AdmissionRules, lie, and_false, allow_list, dial_checks, first_broken, History, is_dialling, is_open}
-use Rattle.node_core.proofs.Words.{is_unfinished_dial, is_up, IsLegal, awaits, is_name_up, is_peer, is_whole, peer_of, AdmissionFollows}
-use Rattle.node_core.proofs.Words.{admission_words, IsLinkOf, IsState, LinksFollow, facts, link_words, KeptLink, dialled_peer, up_peer, allowed}
-use Rattle.node_core.proofs.Words.{opened, is_dial_to, kept_links, name_up_kept, dialling_kept, LinkState, Awaits, Rule, ◌++◌, flat_map}
+use Rattle.node_core.proofs.Words.{Bool, List, None, Option, Some, ap, arith, cond, false, length, nat_lt, not, refl, sym, true, ℕ, [], ◌&&◌, ◌==◌, ◌||◌, ◌∙◌}
+use Rattle.node_core.proofs.Words.{◌∷◌, ◌≡◌, AllByRecursion, list_any, option_map_or, eqb-true, same_decides, is_empty, is_among, same, AdmissionRules, lie}
+use Rattle.node_core.proofs.Words.{allow_list, dial_checks, first_broken, History, is_dialling, is_open, is_unfinished_dial, is_up, IsLegal, awaits, is_name_up}
+use Rattle.node_core.proofs.Words.{is_peer, is_whole, peer_of, AdmissionFollows, admission_words, IsLinkOf, IsState, LinksFollow, facts, link_words, KeptLink}
+use Rattle.node_core.proofs.Words.{dialled_peer, up_peer, allowed, is_dial_to, kept_links, name_up_kept, dialling_kept, LinkState, Awaits, Rule, flat_map}
 use Rattle.node_core.proofs.Words.{option_to_list, Pending, and-true}
 use Rattle.link_states.specs.Checks.{allows}
 use Rattle.policy_audit.proofs.Onward.{is_acceptors, is_diallers, by_peer, by_dial}

@@ -1,7 +1,7 @@
 -- The processes of a node after those that were spawned.
-use Rattle.node_core.proofs.Words.{List, ap, arith, cond, false, length, nat_eq, nat_le, nat_lt, refl, sym, true, ℕ, [], ◌+◌, ◌∙◌, ◌≡◌, leb-true}
-use Rattle.node_core.proofs.Words.{lt-ltb, and_left, and_right, History, creation, lives, IsAnswered, IsLegal, answer, Accepted, Reply, ProcessesFollow}
-use Rattle.node_core.proofs.Words.{process_words, Spawned, is_number, spawned, living, own_pid, Event, leb-false}
+use Rattle.node_core.proofs.Words.{List, ap, arith, cond, false, length, nat_eq, nat_le, nat_lt, refl, sym, true, ℕ, [], ◌+◌, ◌∙◌, ◌≡◌, leb-true, lt-ltb}
+use Rattle.node_core.proofs.Words.{and_left, and_right, History, creation, lives, IsAnswered, IsLegal, answer, Accepted, Reply, ProcessesFollow, process_words}
+use Rattle.node_core.proofs.Words.{Spawned, is_number, spawned, living, own_pid, Event, leb-false}
 use Rattle.policy_audit.proofs.LivesNow.{lives_spawned}
 use Rattle.node_core.proofs.Entered.{made}
 use Rattle.node_core.proofs.Calm.{answered}

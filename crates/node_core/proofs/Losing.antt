@@ -1,11 +1,10 @@
 -- Links that are lost or given up.
-use Rattle.node_core.proofs.Words.{List, None, Option, Some, ap, cond, false, get_or, is_some, length, nat_eq, not, position, refl, subst, sym, true}
-use Rattle.node_core.proofs.Words.{ℕ, ◌&&◌, ◌<◌, ◌∙◌, ◌≡◌, filter, option_map_or, position-Some, same, no_value, and_both, and_false, History}
-use Rattle.node_core.proofs.Words.{is_open, is_up, IsAnswered, IsNext, is_full, with_entry, is_name_up, is_whole, peer_of, present_link, Change}
-use Rattle.node_core.proofs.Words.{Entry, Accepted, Follows, Parts, AreCut, AreLost, IsLinkOf, IsState, LinksFollow, facts, link_words, KeptLink}
-use Rattle.node_core.proofs.Words.{up_peer, agrees, LinkState, Running, Event, Reply, Rule, Bool, [], ◌==◌, unwrap_or, and-true, eqb-true, Pid}
-use Rattle.node_core.proofs.Words.{count_after_drop, no_change, stopped_lists, flip, IsChange, heard, told, first_of, listed, waiting, running_scopes}
-use Rattle.node_core.proofs.Words.{ArePartings, ScopesFollow, scope_words, hears, talk, tells, IsSameLink, IsHeardNow, arith}
+use Rattle.node_core.proofs.Words.{List, None, Option, Some, ap, cond, false, get_or, is_some, length, nat_eq, not, position, refl, subst, sym, true, ℕ, ◌&&◌}
+use Rattle.node_core.proofs.Words.{◌<◌, ◌∙◌, ◌≡◌, filter, option_map_or, position-Some, same, no_value, and_both, History, is_open, is_up, IsAnswered, IsNext}
+use Rattle.node_core.proofs.Words.{is_full, with_entry, is_name_up, is_whole, peer_of, present_link, Change, Entry, Accepted, Follows, Parts, AreCut, AreLost}
+use Rattle.node_core.proofs.Words.{IsLinkOf, IsState, LinksFollow, facts, link_words, KeptLink, up_peer, agrees, LinkState, Running, Event, Reply, Bool, []}
+use Rattle.node_core.proofs.Words.{◌==◌, and-true, eqb-true, Pid, count_after_drop, no_change, stopped_lists, flip, IsChange, heard, told, listed, waiting}
+use Rattle.node_core.proofs.Words.{running_scopes, ArePartings, ScopesFollow, scope_words, IsSameLink, IsHeardNow, arith}
 use Rattle.policy_audit.proofs.LinkFrames.{lost_links, disconnected_links}
 use Rattle.policy_audit.proofs.LinksLeft.{facts_left, lost_numbers, disconnected_numbers}
 use Rattle.policy_audit.proofs.HeardNow.{lost_heard, disconnected_heard}

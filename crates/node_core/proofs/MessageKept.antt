@@ -1,17 +1,15 @@
 -- What a node keeps after a message that is accepted.
-use Rattle.node_core.proofs.Words.{Bool, List, None, Some, ap, cond, false, get_or, length, nat_eq, position, refl, set, subst, sym, true, ℕ, []}
-use Rattle.node_core.proofs.Words.{◌++◌, ◌<◌, ◌==◌, ◌∙◌, ◌≡◌, option_map_or, eq-eqb, eqb-true, append-nil, same, Pid, Message, kept_climbs}
-use Rattle.node_core.proofs.Words.{running_rises, and_left, and_right, flip, IsChange, always, checks, first_broken, frame_checks, message_checks}
-use Rattle.node_core.proofs.Words.{heard, message_taken, told, History, is_open, is_up, links, named_by, listed, waiting, IsAnswered, IsLegal, IsNext}
-use Rattle.node_core.proofs.Words.{is_full, up_answer, verdict, with_entry, AwaitMessage, awaits, challenge_in, is_last, is_whole, Change, Entry}
-use Rattle.node_core.proofs.Words.{Accepted, Follows, Parts, IsState, LinksFollow, facts, kept_numbers, link_words, KeptLink, IsRunningOf}
-use Rattle.node_core.proofs.Words.{ScopesFollow, scope_words, message_owes, entry_link, framed_numbers, Running, Event, Reply, Rule, arith}
+use Rattle.node_core.proofs.Words.{Bool, List, None, Some, ap, cond, false, nat_eq, position, refl, set, subst, sym, true, ℕ, [], ◌++◌, ◌==◌, ◌∙◌, ◌≡◌}
+use Rattle.node_core.proofs.Words.{option_map_or, eq-eqb, eqb-true, append-nil, Message, kept_climbs, and_left, and_right, flip, IsChange, always, checks}
+use Rattle.node_core.proofs.Words.{first_broken, frame_checks, message_checks, message_taken, History, is_open, is_up, named_by, waiting, IsAnswered, IsLegal}
+use Rattle.node_core.proofs.Words.{IsNext, is_full, up_answer, verdict, with_entry, AwaitMessage, awaits, challenge_in, is_last, is_whole, Change, Entry}
+use Rattle.node_core.proofs.Words.{Accepted, IsState, LinksFollow, facts, kept_numbers, link_words, KeptLink, message_owes, entry_link, framed_numbers, Event}
+use Rattle.node_core.proofs.Words.{Reply, Rule, arith}
 use Rattle.policy_audit.proofs.Onward.{message_taken_on}
 use Rattle.policy_audit.proofs.LinkFrames.{message_links}
-use Rattle.node_core.proofs.Entered.{step_follows, made, accepted_now, answered_now, next_now}
+use Rattle.node_core.proofs.Entered.{made, accepted_now, answered_now, next_now}
 use Rattle.node_core.proofs.Calm.{same_links}
 use Rattle.node_core.proofs.KeptOn.{facts_same, one_follows, place_is}
-use Rattle.node_core.proofs.OneScope.{one_scope_follows}
 use Rattle.node_core.proofs.MessagePlaces.{IsUpHere}
 
 -- the rules for a message on a link that awaits one

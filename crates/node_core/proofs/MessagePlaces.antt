@@ -1,8 +1,8 @@
 -- Where the link and the scope of a message are kept.
-use Rattle.node_core.proofs.Words.{arith, Follows, Parts, List, None, Some, ap, cond, false, get_or, is_some, length, nat_eq, position, refl, subst, sym}
-use Rattle.node_core.proofs.Words.{true, ℕ, ◌<◌, ◌∙◌, ◌≡◌, get_or_default, position-Some, same_decides, same, Linked, lie, and_left}
-use Rattle.node_core.proofs.Words.{and_right, History, is_open, is_up, is_kept, waiting, is_running, AwaitMessage, awaits, is_whole, IsIntroduced}
-use Rattle.node_core.proofs.Words.{IsLinkOf, IsState, LinkFacts, facts, link_words, KeptLink, IsRunningOf, scope_words, Running, LinkState}
+use Rattle.node_core.proofs.Words.{arith, Follows, Parts, List, None, Some, ap, cond, false, get_or, is_some, length, nat_eq, position, refl, subst, sym, true}
+use Rattle.node_core.proofs.Words.{ℕ, ◌<◌, ◌∙◌, ◌≡◌, get_or_default, position-Some, same_decides, same, Linked, lie, and_left, and_right, History, is_open}
+use Rattle.node_core.proofs.Words.{is_up, is_kept, waiting, is_running, AwaitMessage, awaits, is_whole, IsIntroduced, IsLinkOf, IsState, LinkFacts, facts}
+use Rattle.node_core.proofs.Words.{link_words, KeptLink, IsRunningOf, scope_words, Running, LinkState}
 use Rattle.node_core.proofs.Found.{no_place, place_found, some_place}
 use Rattle.node_core.proofs.Scopes.{runs_is}
 use Rattle.node_core.proofs.KeptOn.{each_at, not_kept, is_kept_at, link_at}

@@ -1,12 +1,11 @@
 -- The rules that a message breaks, by what a node keeps of its link and of its scope.
-use Rattle.node_core.proofs.Words.{lt-leb, All, Bool, List, None, Some, ap, arith, cond, false, length, nat_le, not, refl, subst, sym, true, ℕ, []}
-use Rattle.node_core.proofs.Words.{◌&&◌, ◌++◌, ◌+◌, ◌<◌, ◌==◌, ◌||◌, ◌∙◌, ◌∷◌, ◌≡◌, ◌≤◌, AllByRecursion, filter, flat_map, list_all, option_map_or}
-use Rattle.node_core.proofs.Words.{le-leb, same_decides, same_sym, is_empty, has_bit, IsPidListing, same, Pid, Row, Name, Message, all_hold, no_value}
-use Rattle.node_core.proofs.Words.{unbroken, and_left, and_right, flip, always, checks, first_broken, message_checks, heard, message_taken, History}
-use Rattle.node_core.proofs.Words.{is_open, is_up, listed, refusal_owes, is_running, AwaitMessage, awaits, is_whole, peer_of, Rule, IsCalmFault}
-use Rattle.node_core.proofs.Words.{refuses_calmly, facts, KeptLink, up_peer, IsRunningOf, is_number, scope_words, IsGroupListing, node_total}
-use Rattle.node_core.proofs.Words.{max_rows, are_counted, rows_of, is_from, members, groups, Check, unless, peer_rows, are_listed, CoreFault, Running}
-use Rattle.node_core.proofs.Words.{is_shown, are_of_peer, IsGiven, scope_in, early_checks, IsAddRefusal, IsTakeRefusal, Event, IsBrief}
+use Rattle.node_core.proofs.Words.{lt-leb, All, Bool, List, None, Some, ap, arith, cond, false, length, nat_le, not, refl, subst, sym, true, ℕ, [], ◌&&◌, ◌+◌}
+use Rattle.node_core.proofs.Words.{◌<◌, ◌==◌, ◌||◌, ◌∙◌, ◌∷◌, ◌≡◌, ◌≤◌, AllByRecursion, filter, flat_map, list_all, option_map_or, le-leb, same_decides}
+use Rattle.node_core.proofs.Words.{same_sym, is_empty, has_bit, IsPidListing, same, Pid, Row, Name, Message, all_hold, no_value, unbroken, and_left, and_right}
+use Rattle.node_core.proofs.Words.{flip, always, checks, first_broken, message_checks, heard, message_taken, History, is_open, is_up, listed, refusal_owes}
+use Rattle.node_core.proofs.Words.{is_running, AwaitMessage, awaits, is_whole, peer_of, Rule, IsCalmFault, refuses_calmly, KeptLink, up_peer, IsRunningOf}
+use Rattle.node_core.proofs.Words.{is_number, scope_words, IsGroupListing, node_total, max_rows, are_counted, rows_of, is_from, members, groups, peer_rows}
+use Rattle.node_core.proofs.Words.{CoreFault, Running, is_shown, are_of_peer, scope_in, early_checks, IsAddRefusal, IsTakeRefusal, Event, IsBrief}
 use Rattle.std.proofs.lemmas.List.Elements.{All-from_recursion}
 use Rattle.scope_core.proofs.Members.{length-members}
 use Rattle.policy_audit.specs.Sides.{is_visible}

@@ -1,9 +1,8 @@
 -- Room that is made for a message, and the answer to a Discover.
-use Rattle.node_core.proofs.Words.{Follows, Parts, same, early_checks, List, None, Some, ap, cond, false, get_or, nat_eq, position, refl, set}
-use Rattle.node_core.proofs.Words.{subst, sym, true, ℕ, [], ◌++◌, ◌∙◌, ◌∷◌, ◌≡◌, IsRowListing, count_of, kept_climbs}
-use Rattle.node_core.proofs.Words.{running_rises, first_broken, local_rows, message_taken, History, is_up, OutFrame, wide, is_full, with_entry}
-use Rattle.node_core.proofs.Words.{Accepted, IsLinkOf, LinksFollow, link_words, KeptLink, with_frames, with_room, ScopesFollow, scope_words}
-use Rattle.node_core.proofs.Words.{message_owes, Running, with_number, HasBecome, AnswersDiscover, Message, Event, Reply}
+use Rattle.node_core.proofs.Words.{Follows, Parts, same, early_checks, List, None, Some, ap, cond, false, get_or, nat_eq, position, refl, set, subst, sym, true}
+use Rattle.node_core.proofs.Words.{ℕ, [], ◌++◌, ◌∙◌, ◌∷◌, ◌≡◌, IsRowListing, count_of, kept_climbs, running_rises, first_broken, local_rows, message_taken}
+use Rattle.node_core.proofs.Words.{History, is_up, OutFrame, wide, is_full, with_entry, Accepted, IsLinkOf, LinksFollow, link_words, KeptLink, with_frames}
+use Rattle.node_core.proofs.Words.{with_room, ScopesFollow, scope_words, message_owes, Running, with_number, HasBecome, AnswersDiscover, Message, Event, Reply}
 use Rattle.policy_audit.proofs.OwnRows.{sync_listing}
 use Rattle.node_core.proofs.Entered.{made}
 use Rattle.node_core.proofs.KeptOn.{one_follows, place_is}

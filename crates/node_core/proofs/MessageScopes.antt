@@ -1,12 +1,12 @@
 -- What each accepted message makes of its scope and of its link.
-use Rattle.node_core.proofs.Words.{Bool, List, arith, message_owes, position, length, ◌≤◌, early_checks, up_peer, node_total, max_rows, are_counted}
-use Rattle.node_core.proofs.Words.{CoreFault, IsAddRefusal, IsTakeRefusal, IsCalmFault, None, Some, ap, cond, false, get_or, nat_eq, not, refl, set}
-use Rattle.node_core.proofs.Words.{subst, sym, true, ℕ, [], ◌&&◌, ◌+◌, ◌-◌, ◌==◌, ◌||◌, ◌∙◌, ◌∷◌, ◌≡◌, and-true, eqb-true, same_decides, same_sym}
-use Rattle.node_core.proofs.Words.{IsDifference, occurrences, same, same_row, GroupChange, Pid, Row, count_after_drop, count_of, no_change, and_false}
-use Rattle.node_core.proofs.Words.{flip, if_some, first_broken, message_checks, row, heard, message_taken, told, History, is_up, listed, IsAnswered}
-use Rattle.node_core.proofs.Words.{IsNext, is_full, with_entry, peer_of, Entry, Accepted, Follows, Parts, LinksFollow, link_words, KeptLink, IsCutOff}
-use Rattle.node_core.proofs.Words.{IsRunningOf, is_number, scope_words, count_after_sync, count_after_add, count_after_take, IsHeardNow, Running}
-use Rattle.node_core.proofs.Words.{with_number, without, running_rises, HasBecome, Message, Event, Reply}
+use Rattle.node_core.proofs.Words.{Bool, List, arith, message_owes, position, length, ◌≤◌, early_checks, up_peer, node_total, max_rows, are_counted, CoreFault}
+use Rattle.node_core.proofs.Words.{IsAddRefusal, IsTakeRefusal, IsCalmFault, None, Some, ap, cond, false, get_or, nat_eq, not, refl, set, subst, sym, true, ℕ}
+use Rattle.node_core.proofs.Words.{[], ◌&&◌, ◌+◌, ◌-◌, ◌==◌, ◌||◌, ◌∙◌, ◌∷◌, ◌≡◌, and-true, eqb-true, same_decides, same_sym, IsDifference, occurrences, same}
+use Rattle.node_core.proofs.Words.{same_row, GroupChange, Pid, Row, count_after_drop, count_of, no_change, flip, if_some, first_broken, message_checks, row}
+use Rattle.node_core.proofs.Words.{heard, message_taken, told, History, is_up, listed, IsAnswered, IsNext, is_full, with_entry, peer_of, Entry, Accepted}
+use Rattle.node_core.proofs.Words.{Follows, Parts, LinksFollow, link_words, KeptLink, IsCutOff, IsRunningOf, is_number, scope_words, count_after_sync}
+use Rattle.node_core.proofs.Words.{count_after_add, count_after_take, IsHeardNow, Running, with_number, without, running_rises, HasBecome, Message, Event}
+use Rattle.node_core.proofs.Words.{Reply}
 use Rattle.std.proofs.lemmas.List.Folds.{list_any-append}
 use Rattle.policy_audit.proofs.HeardSaid.{synced_heard, discovered_heard, downed_heard, joined_heard, left_heard}
 use Rattle.policy_audit.proofs.MessageRows.{discovered_rows, synced_rows, added_rows, taken_rows, downed_rows}

@@ -1,12 +1,12 @@
 -- Links that open: the new link follows its opening, and all others are as before.
-use Rattle.node_core.proofs.Words.{le-ltb, not-true, List, None, Some, ap, arith, cond, false, length, map, nat_le, nat_lt, not, refl, subst, sym}
-use Rattle.node_core.proofs.Words.{true, ℕ, [], ◌++◌, ◌<◌, ◌==◌, ◌||◌, ◌∙◌, ◌∷◌, ◌≡◌, ◌≤◌, AllByRecursion, list_all, option_map_or, eq-eqb, eqb-true}
-use Rattle.node_core.proofs.Words.{leb-true, lt-ltb, same, AdmissionRules, all_hold, unbroken, no_change, and_left, and_right, dial_checks}
-use Rattle.node_core.proofs.Words.{first_broken, History, is_accepted, is_open, is_kept, narrow, running_scopes, IsAnswered, IsLegal, IsNext, is_full}
-use Rattle.node_core.proofs.Words.{next_number, with_entry, challenge_in, Entry, Accepted, AdmissionFollows, admission_words, Follows, Parts}
-use Rattle.node_core.proofs.Words.{IsLinkOf, IsState, LinksFollow, facts, link_words, KeptLink, ScopesFollow, scope_words, length-map, map-append, Awaits, listed, Pid}
-use Rattle.node_core.proofs.Words.{own_flags, Start, ByPeer, ByDial, start_of, own_name_frame, kept_links, kept_count, kept_opening, opening_waiting}
-use Rattle.node_core.proofs.Words.{all_left, all_reverse, opened_waiting, dialled_waiting, dialled_link, Event, Reply, Rule, LinkState}
+use Rattle.node_core.proofs.Words.{le-ltb, not-true, List, None, Some, ap, arith, false, length, map, nat_le, nat_lt, not, refl, subst, sym, true, ℕ, [], ◌++◌}
+use Rattle.node_core.proofs.Words.{◌<◌, ◌==◌, ◌||◌, ◌∙◌, ◌∷◌, ◌≡◌, ◌≤◌, AllByRecursion, list_all, option_map_or, eq-eqb, eqb-true, leb-true, lt-ltb, same}
+use Rattle.node_core.proofs.Words.{AdmissionRules, all_hold, unbroken, no_change, dial_checks, first_broken, History, is_accepted, is_open, is_kept, narrow}
+use Rattle.node_core.proofs.Words.{running_scopes, IsAnswered, IsLegal, IsNext, is_full, next_number, with_entry, challenge_in, Entry, Accepted}
+use Rattle.node_core.proofs.Words.{AdmissionFollows, admission_words, Follows, Parts, IsLinkOf, IsState, LinksFollow, facts, link_words, KeptLink, ScopesFollow}
+use Rattle.node_core.proofs.Words.{scope_words, length-map, map-append, Awaits, listed, Pid, own_flags, Start, ByPeer, ByDial, start_of, own_name_frame}
+use Rattle.node_core.proofs.Words.{kept_links, kept_count, kept_opening, opening_waiting, all_left, all_reverse, opened_waiting, dialled_waiting, dialled_link}
+use Rattle.node_core.proofs.Words.{Event, Reply, LinkState}
 use Rattle.handshake_frames.specs.Spelling.{name_bytes}
 use Rattle.link_states.specs.Frames.{own_name}
 use Rattle.policy_audit.proofs.KeptLinks.{links_below}

@@ -1,8 +1,8 @@
 -- What leaves the scopes, one scope after the other.
-use Rattle.node_core.proofs.Words.{List, ap, arith, cond, false, length, not, refl, subst, sym, true, ℕ, [], ◌++◌, ◌==◌, ◌∙◌, ◌∷◌, ◌≡◌, eq-eqb}
-use Rattle.node_core.proofs.Words.{eqb-true, append-nil, IsDifference, is_empty, GroupChange, Pid, Table, count_of, lie, Change, ArePartings}
-use Rattle.node_core.proofs.Words.{IsParting, filter_append, Running, map, Rises, is_among, text_cmp, stopped_lists, running_among, running_rises}
-use Rattle.node_core.proofs.Words.{IsChange, History, listed, is_running, running_scopes, IsRunningOf, ScopesFollow, scope_words, changes_are}
+use Rattle.node_core.proofs.Words.{List, ap, arith, cond, false, length, not, refl, subst, sym, ℕ, [], ◌++◌, ◌==◌, ◌∙◌, ◌∷◌, ◌≡◌, eq-eqb, eqb-true}
+use Rattle.node_core.proofs.Words.{IsDifference, is_empty, GroupChange, Pid, Table, count_of, Change, ArePartings, IsParting, filter_append, Running, map}
+use Rattle.node_core.proofs.Words.{Rises, is_among, text_cmp, stopped_lists, running_among, running_rises, IsChange, History, listed, is_running}
+use Rattle.node_core.proofs.Words.{running_scopes, IsRunningOf, ScopesFollow, scope_words, changes_are}
 use Rattle.indexmap.proofs.SetLemmas.{AllZip-push}
 use Rattle.node_core.proofs.Zipped.{zipped_map, zipped_each}
 use Rattle.node_core.proofs.Scopes.{counts_listed}

@@ -1,9 +1,9 @@
 -- The rows that leave with a process.
-use Rattle.node_core.proofs.Words.{List, ap, arith, cond, false, length, map, refl, ℕ, [], ◌++◌, ◌+◌, ◌∙◌, ◌∷◌, ◌≡◌, ◌≤◌, AllByRecursion, filter}
-use Rattle.node_core.proofs.Words.{Less, same_decides, same_pid_decides, IsDifference, Rises, occurrences, same_pid, same_row, pid_cmp, row_cmp}
-use Rattle.node_core.proofs.Words.{text_cmp, GroupChange, Pid, Row, count_after_exit, Table, count_of, local_count, local_total, local_rows, row}
-use Rattle.node_core.proofs.Words.{History, IsLegal, rows_left, IsRunningOf, scope_words, Ordering, is_gt, IsProper, times_left, Ascends}
-use Rattle.node_core.proofs.Words.{count_in_group, Running, Bool, sym, true, IsListing, spread, total, same_length, same_row_decides, is_of_node}
+use Rattle.node_core.proofs.Words.{List, ap, arith, cond, false, length, map, refl, ℕ, [], ◌++◌, ◌+◌, ◌∙◌, ◌∷◌, ◌≡◌, ◌≤◌, AllByRecursion, filter, Less}
+use Rattle.node_core.proofs.Words.{same_decides, same_pid_decides, IsDifference, Rises, occurrences, same_pid, same_row, pid_cmp, row_cmp, text_cmp}
+use Rattle.node_core.proofs.Words.{GroupChange, Pid, Row, count_after_exit, Table, count_of, local_count, local_total, local_rows, row, History, IsLegal}
+use Rattle.node_core.proofs.Words.{rows_left, IsRunningOf, scope_words, Ordering, is_gt, IsProper, times_left, Ascends, count_in_group, Running, sym, IsListing}
+use Rattle.node_core.proofs.Words.{spread, total, same_length, same_row_decides, is_of_node}
 use Rattle.std.specs.Ordering.{ordering_then}
 use Rattle.dist_types.proofs.Listings.{all_append, fewer_length, length-spread, spread_counts}
 use Rattle.dist_types.proofs.Totals.{how_many_append}

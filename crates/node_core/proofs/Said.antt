@@ -1,10 +1,9 @@
 -- Messages of own rows, and the links that are told them.
-use Rattle.node_core.proofs.Words.{Bool, List, OnErr, ap, arith, cond, false, length, map, not, refl, subst, sym, true, ℕ, [], ◌++◌, ◌<◌, ◌∙◌, ◌∷◌}
-use Rattle.node_core.proofs.Words.{◌≡◌, AllZip, same_pid_decides, is_empty, IsListing, IsPidListing, IsRowListing, listing, mentions, same, same_pid}
-use Rattle.node_core.proofs.Words.{pid_cmp, Pid, Row, Message, Table, lie, row, OutFrame, KeptLink, prepared_for, unroomed, with_prepared, is_number}
-use Rattle.node_core.proofs.Words.{Alike, AreIdle, min, stands_in, exact_pids, pids_total, IsJoinFault, IsLeaveFault, occurs_stands, Running, IsBrief}
-use Rattle.node_core.proofs.Words.{is_said, fault_of, IsJoinRefusal, IsLeaveRefusal}
-use Rattle.node_core.proofs.Words.{length-map, same_sym, IsListing, occurrences, same_row, row_cmp, same_row_decides, same_length, count_in_group, ap}
+use Rattle.node_core.proofs.Words.{List, OnErr, ap, arith, cond, length, map, not, refl, subst, sym, true, ℕ, [], ◌<◌, ◌∙◌, ◌∷◌, ◌≡◌, same_pid_decides}
+use Rattle.node_core.proofs.Words.{is_empty, IsListing, IsPidListing, IsRowListing, listing, mentions, same, same_pid, pid_cmp, Pid, Row, Message, Table, lie}
+use Rattle.node_core.proofs.Words.{row, KeptLink, Alike, min, stands_in, exact_pids, pids_total, IsJoinFault, IsLeaveFault, occurs_stands, Running, IsBrief}
+use Rattle.node_core.proofs.Words.{is_said, fault_of, IsJoinRefusal, IsLeaveRefusal, length-map, same_sym, occurrences, same_row, row_cmp, same_row_decides}
+use Rattle.node_core.proofs.Words.{same_length, count_in_group}
 use Rattle.std.proofs.Common.{Result}
 use Rattle.dist_types.proofs.Listings.{listing_counts}
 use Rattle.link_frames.specs.Spelling.{HasSpelling}

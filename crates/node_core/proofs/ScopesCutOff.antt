@@ -1,6 +1,6 @@
 -- The scopes after a link of a peer is gone, or another of its links has come up.
-use Rattle.node_core.proofs.Words.{List, ap, cond, nat_eq, not, refl, sym, ℕ, [], ◌&&◌, ◌==◌, ◌∙◌, ◌∷◌, ◌≡◌, AllZip, eq-eqb, eqb-true, same, Pid}
-use Rattle.node_core.proofs.Words.{flip, IsCutOff, IsRunningOf, ScopeWords, ScopesFollow, is_number, Running, without, arith}
+use Rattle.node_core.proofs.Words.{List, ap, cond, nat_eq, not, refl, sym, ℕ, [], ◌&&◌, ◌==◌, ◌∙◌, ◌∷◌, ◌≡◌, AllZip, eq-eqb, eqb-true, same, Pid, flip}
+use Rattle.node_core.proofs.Words.{IsCutOff, IsRunningOf, ScopeWords, ScopesFollow, is_number, Running, without, arith}
 use Rattle.node_core.proofs.Zipped.{zipped_map, zipped_each}
 
 -- whether a number is left of these

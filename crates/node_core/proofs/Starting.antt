@@ -1,13 +1,12 @@
 -- A scope that starts.
-use Rattle.node_core.proofs.Words.{Bool, List, None, Option, Some, ap, arith, cond, false, get_or, length, map, not, refl, suc, sym, true, zero, ℕ}
-use Rattle.node_core.proofs.Words.{[], ◌++◌, ◌<◌, ◌||◌, ◌∙◌, ◌∷◌, ◌≡◌, ◌≤◌, AllByRecursion, Less, le-ltb, lt-ltb, same_decides, Rises, is_among, same}
-use Rattle.node_core.proofs.Words.{text_cmp, Pid, count_of, lie, no_change, stopped_lists, told_numbers, running_among, checks, first_broken, heard}
-use Rattle.node_core.proofs.Words.{told, History, listed, waiting, wide, is_running, running_scopes, IsAnswered, IsNext, is_full, with_entry, Entry}
-use Rattle.node_core.proofs.Words.{Accepted, Rule, Follows, Parts, link_words, KeptLink, IsRunningOf, ScopesFollow, is_number, scope_words, AreTold}
-use Rattle.node_core.proofs.Words.{if_among, shown_numbers, Ordering, Equal, Greater, insert, placed, texts_total, started_links, running_started}
-use Rattle.node_core.proofs.Words.{Running, put_scope, Message, Event, Reply, length-map}
+use Rattle.node_core.proofs.Words.{Bool, List, None, Option, Some, ap, arith, cond, false, get_or, length, map, not, refl, suc, sym, true, zero, ℕ, [], ◌++◌}
+use Rattle.node_core.proofs.Words.{◌<◌, ◌∙◌, ◌∷◌, ◌≡◌, ◌≤◌, AllByRecursion, Less, le-ltb, lt-ltb, same_decides, Rises, is_among, text_cmp, Pid, count_of}
+use Rattle.node_core.proofs.Words.{no_change, stopped_lists, told_numbers, running_among, checks, first_broken, heard, told, History, listed, waiting, wide}
+use Rattle.node_core.proofs.Words.{is_running, running_scopes, IsAnswered, IsNext, is_full, with_entry, Entry, Accepted, Rule, Follows, Parts, link_words}
+use Rattle.node_core.proofs.Words.{KeptLink, IsRunningOf, ScopesFollow, is_number, scope_words, AreTold, if_among, shown_numbers, insert, placed, texts_total}
+use Rattle.node_core.proofs.Words.{started_links, running_started, Running, put_scope, Message, Event, Reply, length-map}
 use Rattle.std.proofs.lemmas.Map.Lookups.{exact_bytes}
-use Rattle.std.specs.Ordering.{is_lt, ordering_reverse, match_ordering}
+use Rattle.std.specs.Ordering.{is_lt}
 use Rattle.std.specs.List.Sorted.{IsPartitionedBy, IsPartitionPoint}
 use Rattle.policy_audit.proofs.KeptLinks.{told_runs, heard_runs'}
 use Rattle.policy_audit.proofs.RowsAfter.{started_rows}

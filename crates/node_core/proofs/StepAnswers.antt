@@ -1,12 +1,10 @@
 -- What a step answers, from what it enters.
-use Rattle.node_core.proofs.Words.{arith, Bool, Err, List, Ok, Result, ap, cond, false, length, refl, subst, sym, true, ℕ, [], ◌+◌, ◌∙◌, ◌∷◌, ◌≡◌, IsLegal}
-use Rattle.node_core.proofs.Words.{IsNext, checks, first_broken, History, is_full, past, verdict, with_entry, Verdict, Accepted, Refused, Event, Reply}
-use Rattle.node_core.proofs.Words.{judged, after, entry_of, CoreFault, Rule, next_is, Opening, Change, Entry, Follows, parts}
+use Rattle.node_core.proofs.Words.{arith, Err, List, Ok, Result, ap, cond, false, length, refl, subst, sym, true, ℕ, [], ◌+◌, ◌∙◌, ◌∷◌, ◌≡◌, IsLegal, IsNext}
+use Rattle.node_core.proofs.Words.{checks, first_broken, History, is_full, past, verdict, with_entry, Verdict, Accepted, Refused, Event, Reply, judged, after}
+use Rattle.node_core.proofs.Words.{entry_of, CoreFault, Rule, next_is, Opening, Change, Entry, Follows, parts, Answered, Kept, Answers, Call}
 use Rattle.policy_audit.proofs.ScopeChanges.{next_is_after}
-use Rattle.node_core.specs.declared.entering.Answered.{Answered}
-use Rattle.node_core.specs.declared.kept.Kept.{Kept}
 use Rattle.node_core.specs.Core.{IsCore}
-use Rattle.node_core.specs.Step.{Answers, Call, IsStepped, entered, made, reply_of}
+use Rattle.node_core.specs.Step.{IsStepped, entered, made, reply_of}
 
 module _ (call : Call) (space : is_full call.past ≡ false) (e : Event) where
   abbrev h : History

@@ -1,9 +1,8 @@
 -- A scope that stops.
-use Rattle.node_core.proofs.Words.{List, None, Some, ap, cond, false, not, refl, subst, sym, true, ℕ, [], ◌&&◌, ◌++◌, ◌∙◌, ◌∷◌, ◌≡◌, AllByRecursion}
-use Rattle.node_core.proofs.Words.{filter, and-true, same_decides, same_sym, IsDifference, same, GroupChange, no_count, told_numbers, if_some, checks}
-use Rattle.node_core.proofs.Words.{first_broken, heard, told, History, listed, waiting, wide, is_running, IsAnswered, IsNext, is_full, with_entry}
-use Rattle.node_core.proofs.Words.{Entry, Accepted, Follows, Parts, link_words, KeptLink, IsRunningOf, scope_words, AreTold, if_among, shown_numbers}
-use Rattle.node_core.proofs.Words.{follows_dropped, stopped_links, running_stopped, Running, Message, Event, Reply, Rule, arith}
+use Rattle.node_core.proofs.Words.{List, ap, cond, false, not, refl, subst, sym, true, ℕ, [], ◌++◌, ◌∙◌, ◌∷◌, ◌≡◌, AllByRecursion, filter, same_decides}
+use Rattle.node_core.proofs.Words.{same_sym, IsDifference, same, GroupChange, no_count, told_numbers, if_some, History, listed, waiting, wide, is_running}
+use Rattle.node_core.proofs.Words.{IsAnswered, IsNext, is_full, with_entry, Entry, Accepted, Follows, Parts, link_words, KeptLink, IsRunningOf, scope_words}
+use Rattle.node_core.proofs.Words.{AreTold, if_among, shown_numbers, follows_dropped, stopped_links, running_stopped, Running, Message, Event, Reply, arith}
 use Rattle.group_monitors.specs.Monitors.{without_scope}
 use Rattle.policy_audit.proofs.HeardNow.{stopped_heard}
 use Rattle.policy_audit.proofs.RowsAfter.{stopped_rows}

@@ -1,12 +1,11 @@
 -- Links for which further frames wait, or are prepared.
-use Rattle.node_core.proofs.Words.{Bool, List, ap, arith, cond, false, length, map, nat_eq, not, refl, subst, suc, sym, take, true, zero, ℕ, []}
-use Rattle.node_core.proofs.Words.{◌&&◌, ◌++◌, ◌||◌, ◌∙◌, ◌∷◌, ◌≡◌, AllByRecursion, list_any, option_map_or, eq-eqb, eqb-true, has_bit, and_false}
-use Rattle.node_core.proofs.Words.{append-nil, append_assoc, flip, kept_among, History, is_kept, OutFrame, Follows, IsLegal, Parts, IsLinkOf, IsState}
-use Rattle.node_core.proofs.Words.{LinkFacts, LinkWords, LinksFollow, facts, link_words, KeptLink, committed, prepared_for, unroomed, with_frames}
-use Rattle.node_core.proofs.Words.{with_prepared, with_room, is_number, Alike, AreIdle, AreTold, if_among, shown_numbers, LinkState, is_shown, bare}
-use Rattle.node_core.proofs.Words.{ArePrepared}
+use Rattle.node_core.proofs.Words.{Bool, List, ap, arith, false, map, nat_eq, not, refl, subst, suc, sym, true, zero, ℕ, [], ◌&&◌, ◌++◌, ◌∙◌, ◌∷◌, ◌≡◌}
+use Rattle.node_core.proofs.Words.{AllByRecursion, list_any, option_map_or, eqb-true, has_bit, and_false, append-nil, append_assoc, flip, kept_among, History}
+use Rattle.node_core.proofs.Words.{OutFrame, Follows, IsLegal, Parts, IsLinkOf, IsState, LinkFacts, LinkWords, LinksFollow, facts, link_words, KeptLink}
+use Rattle.node_core.proofs.Words.{committed, prepared_for, unroomed, with_frames, with_prepared, with_room, is_number, Alike, AreIdle, AreTold, if_among}
+use Rattle.node_core.proofs.Words.{shown_numbers, LinkState, is_shown, bare, ArePrepared}
 use Rattle.scope_core.proofs.Rising.{all_map, all_mapped, all_unmapped}
-use Rattle.node_core.proofs.Zipped.{SoFar, zipped_map}
+use Rattle.node_core.proofs.Zipped.{SoFar}
 
 -- ---- lists of values
 

@@ -1,6 +1,6 @@
 -- A list whose elements are changed one after the other, each to one that it is related to.
-use Rattle.node_core.proofs.Words.{List, ap, arith, drop, get_or, length, map, set, subst, suc, sym, take, ℕ, [], ◌+◌, ◌<◌, ◌∙◌, ◌∷◌, ◌≡◌, ◌≤◌}
-use Rattle.node_core.proofs.Words.{AllByRecursion, AllZip, refl, set-get_or, take_all, take_more}
+use Rattle.node_core.proofs.Words.{List, ap, arith, drop, get_or, length, map, set, subst, suc, sym, take, ℕ, [], ◌+◌, ◌<◌, ◌∙◌, ◌∷◌, ◌≡◌, ◌≤◌, AllByRecursion}
+use Rattle.node_core.proofs.Words.{AllZip, refl, set-get_or, take_all, take_more}
 use Rattle.std.proofs.Common.{add-one, drop-cons, length-append}
 use Rattle.std.proofs.lemmas.List.{drop-set-lt, take-append-drop, take_more_set}
 use Rattle.std.proofs.lemmas.List.Elements.{AllZip-push}

@@ -1,5 +1,5 @@
-use Rattle.node_core.proofs.Words.{append-nil, ap, arith, cond, false, not, refl, subst, sym, take, true, vec_len, [], ◌++◌, ◌∙◌, ◌∷◌, ◌≡◌, take_all, is_empty}
-use Rattle.node_core.proofs.Words.{all_frames, exit_frames, take_more, AreExits}
+use Rattle.node_core.proofs.Words.{append-nil, arith, cond, not, refl, subst, sym, take, vec_len, [], ◌++◌, ◌∙◌, ◌∷◌, ◌≡◌, take_all, is_empty, all_frames}
+use Rattle.node_core.proofs.Words.{exit_frames, take_more, AreExits}
 use Rattle.node_core.proofs.Exited.{exits_on}
 use Rattle.node_core.proofs.Partings.{none_by}
 use Rattle.scope_core.proofs.NodeLists.{on_err}

@@ -1,4 +1,4 @@
-use Rattle.node_core.proofs.Words.{follows_removed, refl, Event, Reply, Rule}
+use Rattle.node_core.proofs.Words.{follows_removed, refl, Event, Rule}
 use Rattle.group_monitors.proofs.FromPolicy.{follows_checked, follows_refused}
 use Rattle.node_core.proofs.Answering.{accepts, refuses}
 use Rattle.node_core.proofs.Calm.{entered}

@@ -1,5 +1,5 @@
-use Rattle.node_core.proofs.Words.{None, Some, ap, get_or_default, cond, false, length, not, refl, subst, sym, [], ◌<◌, ◌∙◌, option_map_or, position-Some, same}
-use Rattle.node_core.proofs.Words.{AreCut, AreLost, up_peer, Rule}
+use Rattle.node_core.proofs.Words.{ap, get_or_default, false, length, refl, subst, sym, [], ◌<◌, ◌∙◌, option_map_or, position-Some, same, AreCut, AreLost}
+use Rattle.node_core.proofs.Words.{up_peer, Rule}
 use Rattle.node_core.proofs.Answering.{accepts, refuses}
 use Rattle.node_core.proofs.Losing.{not_up, parted}
 use Rattle.node_core.proofs.kept.Kept.disconnect.Goals as goal

@@ -1,4 +1,4 @@
-use Rattle.node_core.proofs.Words.{None, Some, ap, cond, not, refl, sym, ◌∙◌, lives, link_words, lives_of, Rule}
+use Rattle.node_core.proofs.Words.{None, Some, cond, not, refl, sym, ◌∙◌, link_words, lives_of, Rule}
 use Rattle.node_core.proofs.Answering.{accepts, refuses, wanted}
 use Rattle.node_core.proofs.Joining.{local_by}
 use Rattle.node_core.proofs.Told.{alike_again, follow_idle}

@@ -1,4 +1,4 @@
-use Rattle.node_core.proofs.Words.{None, Some, ap, get_or_default, cond, length, not, refl, subst, sym, ◌<◌, ◌∙◌, AreCut, AreLost, up_peer, Rule}
+use Rattle.node_core.proofs.Words.{get_or_default, length, refl, subst, sym, ◌<◌, ◌∙◌, AreCut, AreLost, up_peer, Rule}
 use Rattle.node_core.proofs.Answering.{accepts, refuses}
 use Rattle.node_core.proofs.KeptOn.{not_kept, link_at}
 use Rattle.node_core.proofs.Losing.{lost}

@@ -1,4 +1,4 @@
-use Rattle.node_core.proofs.Words.{follows_other, refl, Event, Reply, Rule}
+use Rattle.node_core.proofs.Words.{follows_other, refl, Event, Reply}
 use Rattle.node_core.proofs.Answering.{accepts, failed}
 use Rattle.node_core.proofs.Cookies.{cookie_for_follows, cookie_calm, peers_fit}
 use Rattle.node_core.proofs.Calm.{entered}

@@ -1,4 +1,4 @@
-use Rattle.node_core.proofs.Words.{arith, length, refl, subst, sym, ◌<◌, ◌∙◌, Rises, text_cmp, running_rises, link_words, ap, cond, not, nat_lt, running_scopes, Some, None, Rule}
+use Rattle.node_core.proofs.Words.{arith, length, refl, subst, sym, ◌<◌, ◌∙◌, Rises, text_cmp, running_rises, link_words, ap, Rule}
 use Rattle.node_core.proofs.Answering.{accepts, refuses, wanted}
 use Rattle.node_core.proofs.MessagePlaces.{placed_is}
 use Rattle.node_core.proofs.Told.{alike_again, follow_idle}

@@ -1,4 +1,4 @@
-use Rattle.node_core.proofs.Words.{None, Some, ap, cond, not, refl, subst, sym, IsDifference, no_count, link_words, Rule}
+use Rattle.node_core.proofs.Words.{refl, subst, sym, IsDifference, no_count, link_words, Rule}
 use Rattle.node_core.proofs.Answering.{accepts, refuses, wanted}
 use Rattle.node_core.proofs.MessagePlaces.{runs_here, scope_here, stopped_here}
 use Rattle.node_core.proofs.Scopes.{counts_listed}

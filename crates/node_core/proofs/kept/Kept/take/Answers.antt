@@ -1,7 +1,7 @@
-use Rattle.node_core.proofs.Words.{None, Some, ap, get_or_default, cond, length, not, refl, sym, ◌<◌, ◌∙◌, get_or-set_same, Rule}
+use Rattle.node_core.proofs.Words.{ap, get_or_default, length, refl, sym, ◌<◌, ◌∙◌, get_or-set_same, Rule}
 use Rattle.node_core.proofs.Answering.{accepts, refuses}
 use Rattle.node_core.proofs.KeptOn.{not_kept, link_at}
-use Rattle.node_core.proofs.Taking.{emptied, taken_next, taken_follows}
+use Rattle.node_core.proofs.Taking.{emptied, taken_now}
 use Rattle.node_core.proofs.kept.Kept.take.Goals as goal
 
 pub returns-in_default : goal.returns-in_default
@@ -18,11 +18,7 @@ returns g c =
     let within : c.in-Some.place < length links = at.2 in
     let frames = c.in_ok-copies.ensures ∙ c.frames.ensures ∙ ap (λ x. x.frames) (c.index.ensures ∙ get_or_default links c.in-Some.place c.index.result.now c.index_mut.result.now within) in
     let handed = c.hand_over-frames.ensures.frames ∙ ap (λ x. x.frames) c.index_mut.ensures.value in
-    let next = taken_next h g.call.seat c.args.number c.hand_over-frames.result _ t c.in-Some.place c.index_mut.result.now found c.requires.space handed in
     let new = c.hand_over-frames.ensures.left ∙ ap (λ x. emptied x c.hand_over-frames.new.self.room) c.index_mut.ensures.value in
     let same = get_or-set_same links c.in-Some.place c.hand_over-frames.new.self c.index_mut.result.now within in
-    accepts c.requires _ _ refl _ _ _ (rw c.new-nothing.ensures.items at c.both.ensures) (
-      next,
-      rw (c.drop_ended.ensures c.index_mut.result.now)
-          (taken_follows h g.call.seat c.args.number c.hand_over-frames.result _ t c.in-Some.place c.index_mut.result.now found next c.hand_over-frames.new.self _ c.hand_over-frames.new.self.room new same),
-    )
+    accepts c.requires _ _ refl _ _ _ (rw c.new-nothing.ensures.items at c.both.ensures) (rw (c.drop_ended.ensures c.index_mut.result.now)
+    (taken_now h g.call.seat c.args.number c.hand_over-frames.result _ t c.in-Some.place c.index_mut.result.now found c.requires.space handed c.hand_over-frames.new.self _ c.hand_over-frames.new.self.room new same))

@@ -1,5 +1,5 @@
-use Rattle.node_core.proofs.Words.{ap, arith, length, refl, subst, sym, ℕ, List, None, Ok, Err, OnErr, OnOk, Option, Result, Some, suc, ◌≡◌, IsSome, lie, no_value, option_map}
-use Rattle.node_core.proofs.Words.{follows_moved, Event, Reply, Rule, with_place}
+use Rattle.node_core.proofs.Words.{ap, arith, length, refl, subst, sym, ℕ, List, None, Ok, Err, OnErr, OnOk, Option, Result, Some, suc, ◌≡◌, IsSome, lie}
+use Rattle.node_core.proofs.Words.{no_value, option_map, follows_moved, Event, Reply, Rule, with_place}
 use Rattle.group_monitors.specs.declared.monitor.Monitor.{Monitor}
 use Rattle.group_monitors.specs.Monitors.{monitor_of, updates_behind}
 use Rattle.group_monitors.proofs.FromPolicy.{follows_refused, follows_seen, follows_told}
