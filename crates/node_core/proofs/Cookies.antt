@@ -20,14 +20,8 @@ module _ (h : History) (rules : AdmissionRules) (t : AdmissionFollows (admission
 
   -- ---- the limits
 
-  names_counted : (ns : List (List ℕ)) → length (with_allowed rules ns).allowed ≡ different (ns ++ allow_list h)
+  pub names_counted : (ns : List (List ℕ)) → length (with_allowed rules ns).allowed ≡ different (ns ++ allow_list h)
   names_counted ns = how_many_names (with_allowed rules ns).allowed (ns ++ allow_list h) (all_once ns rules.allowed (allow_list h) t.allowed)
-
-  pub names_full : (ns : List (List ℕ)) → max_allowed < length (with_allowed rules ns).allowed → nat_le (different (ns ++ allow_list h)) 1024 ≡ false
-  names_full ns over = lt-leb _ 1024 (let is = names_counted ns in omega (arith, is, over))
-
-  pub names_fit : (ns : List (List ℕ)) → length (with_allowed rules ns).allowed ≤ max_allowed → nat_le (different (ns ++ allow_list h)) 1024 ≡ true
-  names_fit ns few = le-leb _ 1024 (let is = names_counted ns in omega (arith, is, few))
 
   peers_counted : (n c : List ℕ) → length (insert_entry bytes_eq rules.peers n c) ≡ different (n ∷ cookie_peers h)
   peers_counted n c = sym (length-map (insert_entry bytes_eq rules.peers n c) (λ p. p.0)) ∙ how_many_names (names_of (insert_entry bytes_eq rules.peers n c)) (n ∷ cookie_peers h) (entry_once n c rules.peers (cookie_peers h) t.peers)

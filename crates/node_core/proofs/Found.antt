@@ -49,11 +49,3 @@ module _ {A : Type 0} (test : A → Bool) where
   pub place_found : (xs : List A) → is_some (position test xs) ≡ list_any test xs
   place_found [] = refl
   place_found (x ∷ xs) = grind (arith, place_found xs, lt-ltb, ltb-true, ltb-false)
-
-  -- where no place is found, none passes
-  pub no_place : (xs : List A) → position test xs ≡ None → list_any test xs ≡ false
-  no_place xs none = sym (place_found xs) ∙ ap is_some none
-
-  -- where one is found, one passes, and it is within the list
-  pub some_place : (xs : List A) (p : ℕ) → position test xs ≡ Some p → list_any test xs ≡ true
-  some_place xs p found = sym (place_found xs) ∙ ap is_some found

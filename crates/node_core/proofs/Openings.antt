@@ -23,12 +23,6 @@ use Rattle.node_core.proofs.Entered.{step_follows, made, accepted_next, answered
 pub kept_are : (h : History) (kept : List KeptLink) → LinksFollow (link_words h) kept → kept_links h ≡ length kept
 kept_are h kept t = kept_count h ∙ ap length (sym t.numbers) ∙ length-map kept (λ x. x.number)
 
-pub links_full : (h : History) (kept : List KeptLink) → LinksFollow (link_words h) kept → 64 ≤ length kept → nat_lt (kept_links h) 64 ≡ false
-links_full h kept t over = le-ltb (kept_links h) 64 (let is = kept_are h kept t in omega (arith, is, over))
-
-pub links_fit : (h : History) (kept : List KeptLink) → LinksFollow (link_words h) kept → length kept < 64 → nat_lt (kept_links h) 64 ≡ true
-links_fit h kept t few = lt-ltb (kept_links h) 64 (let is = kept_are h kept t in omega (arith, is, few))
-
 -- ---- the links after an opening
 
 module _ (h : History) (legal : IsLegal h) (e : Entry) (is_made : IsAnswered h e) (yes : is_accepted e.verdict ≡ true) (st : Start) (begins : start_of e.event ≡ Some st) where
@@ -94,7 +88,7 @@ module _ {h : History} {parts : Parts} (t : Follows h parts) (seat c : ℕ) wher
       → IsNext h opening × Follows (with_entry h opening) (record parts { links = parts.links ++ record { number = next_number h; state = LinkState.Name challenge; frames = []; prepared = []; room = room } ∷ [] })
   opened_now space few challenge room same =
       let legal = t.sound.legal in
-      let next = accepted_next h seat (Event.Opened c) space (Reply.Link (next_number h)) [] (rw (links_fit h parts.links t.links few)) refl
+      let next = accepted_next h seat (Event.Opened c) space (Reply.Link (next_number h)) [] (rw (lt-ltb (kept_links h) 64 (let is = kept_are h parts.links t.links in omega (arith, is, few)))) refl
           (λ its. no_change h (with_entry h opening) (λ s g p. sym (opened_rows h legal opening its refl c refl s g p))) in
       let is = answered_by next in (
         next,

@@ -1,12 +1,12 @@
-use Rattle.node_core.proofs.Words.{arith, length, refl, ◌<◌, ◌∙◌, ◌≤◌, Rule}
+use Rattle.node_core.proofs.Words.{arith, kept_links, le-ltb, length, refl, ◌<◌, ◌∙◌, ◌≤◌, Rule}
 use Rattle.node_core.proofs.Answering.{accepts, refuses}
-use Rattle.node_core.proofs.Openings.{links_full, opened_now}
+use Rattle.node_core.proofs.Openings.{kept_are, opened_now}
 use Rattle.node_core.proofs.kept.Kept.opened.Goals as goal
 
 pub returns-then-len-ge-MAX_LINKS : goal.returns-then-len-ge-MAX_LINKS
 returns-then-len-ge-MAX_LINKS g c =
-    let full : 64 ≤ length c.args.self.now.links.items = omega arith in
-    refuses c.requires.0 _ Rule.LinksFull (rw (links_full g.call.past c.args.self.now.links.items c.requires.0.keeps.follows.links full)) refl
+    let is = kept_are g.call.past c.args.self.now.links.items c.requires.0.keeps.follows.links in
+    refuses c.requires.0 _ Rule.LinksFull (rw (le-ltb (kept_links g.call.past) 64 (omega (arith, is)))) refl
 
 pub returns : goal.returns
 returns g c =
