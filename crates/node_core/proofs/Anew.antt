@@ -8,15 +8,11 @@ use Rattle.node_core.proofs.Entered.{made, accepted_next, answered_by, sound_now
 use Rattle.node_core.proofs.Partings.{partings_change}
 use Rattle.node_core.proofs.Found.{not_so}
 
--- the rules of admission at the start
-abbrev pub first_rules : Opening → AdmissionRules
-first_rules o = record { own = o.name; cookie = o.cookie; hidden = o.hidden; creation = o.creation; peers = []; allowed = [] }
-
 -- no process was spawned
 none_numbered : (a : Bool) (n : ℕ) → false ≡ (a && nat_le 1 n && nat_le n 0 && true)
 none_numbered a n = grind (arith, leb-true 1 n, leb-true n 0)
 
-pub begun : (o : Opening) → o.entries < 2 ^ 32 → Follows (past o []) (record { admission = first_rules o; processes = record { spawned = 0; live = [] }; scopes = []; links = []; monitors = [] })
+pub begun : (o : Opening) → o.entries < 2 ^ 32 → Follows (past o []) (record { admission = record { own = o.name; cookie = o.cookie; hidden = o.hidden; creation = o.creation; peers = []; allowed = [] }; processes = record { spawned = 0; live = [] }; scopes = []; links = []; monitors = [] })
 begun o fits = record {
   sound = record { legal = tt; fits = fits; few = omega arith; few_spawned = omega arith };
   admission = record {

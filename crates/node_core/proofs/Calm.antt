@@ -67,10 +67,6 @@ abbrev pub is_still : Event → Bool
 is_still (Event.Take l) = false
 is_still ev = is_quiet ev
 
-still_quiet : (ev : Event) → is_still ev ≡ true → is_quiet ev ≡ true
-still_quiet (Event.Take l) q = refl
-still_quiet ev q = q
-
 module _ (h : History) (seat : ℕ) (r : Reply) (ev : Event) (still : is_still ev ≡ true) where
   still_links : link_words (answered h seat ev r) ≡ link_words h
   still_links = same_links h (answered h seat ev r) (grind arith) (λ l. grind arith) (λ l. grind (arith, append-nil (waiting h l)))
@@ -83,7 +79,7 @@ module _ (h : History) (seat : ℕ) (r : Reply) (ev : Event) (still : is_still e
       λ i. record {
         own = h.opening.name;
         running = runs i;
-        listed = λ s g p. entry_rows h (made h seat ev (Accepted r) []) (still_quiet ev still) s g p i;
+        listed = λ s g p. entry_rows h (made h seat ev (Accepted r) []) (grind arith) s g p i;
         heard = λ l s. hear l s i;
         told = λ l s. tell l s i;
       }
@@ -94,7 +90,7 @@ pub entered : {h : History} {parts : Parts} (t : Follows h parts) (seat : ℕ) {
     → (IsAnswered h (made h seat ev (Accepted r) []) → AdmissionFollows (admission_words (answered h seat ev r)) a × ProcessesFollow (process_words (answered h seat ev r)) p × FollowsPolicy (answered h seat ev r) ms)
     → IsNext h (made h seat ev (Accepted r) []) × Follows (answered h seat ev r) (record parts { admission = a; processes = p; monitors = ms })
 entered {h} {parts} t seat {r} ev still space holds is rest =
-    let next = quiet_next h seat r ev space holds is (still_quiet ev still) in
+    let next = quiet_next h seat r ev space holds is (grind arith) in
     let others = rest (answered_by next) in (
       next,
       record {

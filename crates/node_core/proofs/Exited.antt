@@ -43,12 +43,6 @@ abbrev exit_broken : Bool → Bool → Option Rule
 exit_broken local alive = cond (not local) (Some Rule.NotLocal) (cond (not alive) (Some Rule.NoProcess) None)
 
 module _ (h : History) (seat : ℕ) (parts : Parts) (t : Follows h parts) (p : Pid) (local : is_local h p ≡ true) where
-  alive : (b : Bool) → is_number p.number parts.processes.live ≡ b → lives h p ≡ b
-  alive b q = lives_of h p local ∙ sym (t.processes.live p.number) ∙ q
-
-  pub exit_holds : is_number p.number parts.processes.live ≡ true → first_broken (checks h seat (Event.Exit p)) ≡ None
-  exit_holds q = λ i. exit_broken (local i) (alive true q i)
-
   own_node : p.node ≡ h.opening.name
   own_node = (same_decides p.node h.opening.name).0 (and_left (same p.node h.opening.name) (p.creation == creation h) local)
 
@@ -102,7 +96,8 @@ module _ (h : History) (seat : ℕ) (parts : Parts) (t : Follows h parts) (p : P
         → ((n : ℕ) → is_number n q.live ≡ cond (nat_eq p.number n) false (is_number n parts.processes.live)) → length q.live + 1 ≡ length parts.processes.live
         → IsNext h exit_entry × Follows exited (record parts { scopes = new; links = links; processes = q })
     exit_now space living away is new z q same live fewer =
-        let next = accepted_next h seat (Event.Exit p) space Reply.Done cs (exit_holds living) refl exit_change in
+        let alive = lives_of h p local ∙ sym (t.processes.live p.number) ∙ living in
+        let next = accepted_next h seat (Event.Exit p) space Reply.Done cs (λ i. exit_broken (local i) (alive i)) refl exit_change in
         let it = answered_by next in (
           next,
           step_follows t next refl t.admission

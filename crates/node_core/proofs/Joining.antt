@@ -81,27 +81,17 @@ module _ (h : History) (seat : ℕ) (s g : List ℕ) (ps : List Pid) where
   abbrev join_broken : Bool → Bool → Bool → Bool → Option Rule
   join_broken runs local alive fit = cond (not runs) (Some Rule.NoScope) (cond (not local) (Some Rule.NotLocal) (cond (not alive) (Some Rule.NoProcess) (cond (not fit) (Some Rule.RowsFull) None)))
 
-  pub join_nowhere : is_running h s ≡ false → first_broken (checks h seat (Event.Join s g ps)) ≡ Some Rule.NoScope
-  join_nowhere q = ap (λ b. join_broken b (list_all (is_local h) ps) (list_all (lives h) ps) (nat_le (length (local_rows h s) + length ps) 4096)) q
-
   -- the first rule that processes break by themselves
   pub join_own : is_running h s ≡ true → (r : Rule) → first_broken (own_checks h ps) ≡ Some r → first_broken (checks h seat (Event.Join s g ps)) ≡ Some r
   join_own runs r q =
       ap (λ b. join_broken b (list_all (is_local h) ps) (list_all (lives h) ps) (nat_le (length (local_rows h s) + length ps) 4096)) runs
       ∙ grind (arith, leb-true, le-leb, lt-leb)
 
-  module _ (runs : is_running h s ≡ true) (q : first_broken (own_checks h ps) ≡ None) where
-    pub all_local : list_all (is_local h) ps ≡ true
-    all_local = unbroken (list_all (is_local h) ps) (all_hold (own_checks h ps) q).0
-
-    all_alive : list_all (lives h) ps ≡ true
-    all_alive = unbroken (list_all (lives h) ps) (all_hold (own_checks h ps) q).1.0
-
-    join_full : 4096 < length (local_rows h s) + length ps → first_broken (checks h seat (Event.Join s g ps)) ≡ Some Rule.RowsFull
-    join_full many = λ i. join_broken (runs i) (all_local i) (all_alive i) (lt-leb (length (local_rows h s) + length ps) 4096 many i)
-
-    pub join_holds : length (local_rows h s) + length ps ≤ 4096 → first_broken (checks h seat (Event.Join s g ps)) ≡ None
-    join_holds few = λ i. join_broken (runs i) (all_local i) (all_alive i) (le-leb (length (local_rows h s) + length ps) 4096 few i)
+  -- where they break none, there is room for them or not
+  join_left : is_running h s ≡ true → first_broken (own_checks h ps) ≡ None → first_broken (checks h seat (Event.Join s g ps)) ≡ cond (nat_le (length (local_rows h s) + length ps) 4096) None (Some Rule.RowsFull)
+  join_left runs q =
+      ap (λ b. join_broken b (list_all (is_local h) ps) (list_all (lives h) ps) (nat_le (length (local_rows h s) + length ps) 4096)) runs
+      ∙ grind arith
 
 -- ---- a Join
 
@@ -110,11 +100,11 @@ module _ {h : History} (seat : ℕ) {parts : Parts} (t : Follows h parts) (s g :
   own_total = rows_total h s a (its_scope seat t s here at) (there seat t s here at) t.sound.legal
 
   pub joins_own : first_broken (own_checks h ps) ≡ None → All (λ q. q.node ≡ a.table.own) ps
-  joins_own q = own_nodes h a.table.own (there seat t s here at).own ps (all_local h seat s g ps (runs_here t s p here) q)
+  joins_own q = own_nodes h a.table.own (there seat t s here at).own ps (unbroken (list_all (is_local h) ps) (all_hold (own_checks h ps) q).0)
 
   -- what the table refuses is the first rule that is broken
   pub join_calm : first_broken (own_checks h ps) ≡ None → (f : CoreFault) → IsJoinRefusal a.table ps f → IsCalmFault h seat (Event.Join s g ps) f
-  join_calm q (CoreFault.Refused r) over = (join_full h seat s g ps (runs_here t s p here) q (let is = own_total in let many = over.1 in omega (arith, is, many)) ∙ ap Some (sym over.0), refl)
+  join_calm q (CoreFault.Refused r) over = (join_left h seat s g ps (runs_here t s p here) q ∙ rw (lt-leb (length (local_rows h s) + length ps) 4096 (let is = own_total in let many = over.1 in omega (arith, is, many))) (ap Some (sym over.0)), refl)
   join_calm q CoreFault.OutOfMemory over = tt
 
   pub joined : (b : Running) (links : List KeptLink) (cs : List Change) → IsMoved (Message.Join a.scope (map (row g) (listing pid_cmp (λ q. mentions q ps) ps))) (count_after_join a.table g ps) a b parts.links links cs
@@ -123,7 +113,7 @@ module _ {h : History} (seat : ℕ) {parts : Parts} (t : Follows h parts) (s g :
   joined b links cs moved space q few =
       let e = made h seat (Event.Join s g ps) (Accepted Reply.Done) cs in
       moves_now seat t s here at (Event.Join s g ps) Message.Join (map (row g) (listing pid_cmp (λ q. mentions q ps) ps)) (λ n f q. n + cond (same f g) (mentions q ps) 0) b links cs moved
-      (λ its. joined_rows h e its refl s g ps refl) space (join_holds h seat s g ps (runs_here t s p here) q (let is = own_total in omega (arith, is, few))) refl refl refl (refl, refl, refl) (λ l u. refl) (λ l u. refl) (λ l. refl)
+      (λ its. joined_rows h e its refl s g ps refl) space (join_left h seat s g ps (runs_here t s p here) q ∙ rw (le-leb (length (local_rows h s) + length ps) 4096 (let is = own_total in omega (arith, is, few)))) refl refl refl (refl, refl, refl) (λ l u. refl) (λ l u. refl) (λ l. refl)
       (λ its. told_numbers h e its refl refl (λ l. (joined_links h e its refl s g ps refl l).kept_is)) (λ l. refl)
 
 -- ---- a Leave
@@ -132,16 +122,10 @@ module _ {h : History} (seat : ℕ) {parts : Parts} (t : Follows h parts) (s g :
   abbrev leave_broken : Bool → Bool → Bool → Option Rule
   leave_broken runs local some = cond (not runs) (Some Rule.NoScope) (cond (not local) (Some Rule.NotLocal) (cond (not some) (Some Rule.NotJoined) None))
 
-  pub leave_nowhere : is_running h s ≡ false → first_broken (checks h seat (Event.Leave s g ps)) ≡ Some Rule.NoScope
-  leave_nowhere q = ap (λ b. leave_broken b (list_all (is_local h) ps) (list_any (λ x. nat_lt 0 (own h s g x)) ps)) q
-
   pub leave_foreign : is_running h s ≡ true → list_all (is_local h) ps ≡ false → first_broken (checks h seat (Event.Leave s g ps)) ≡ Some Rule.NotLocal
   leave_foreign runs q = λ i. leave_broken (runs i) (q i) (list_any (λ x. nat_lt 0 (own h s g x)) ps)
 
   module _ {p : ℕ} (here : position (λ r. same r.scope s) parts.scopes ≡ Some p) {a : Running} (at : a ≡ get_or parts.scopes p a) where
-    runs : is_running h s ≡ true
-    runs = runs_here t s p here
-
     abbrev counts : local_count a.table ≡ own h s
     counts = own_counts h s a (its_scope seat t s here at) (there seat t s here at) t.sound.legal
 
@@ -159,16 +143,13 @@ module _ {h : History} (seat : ℕ) {parts : Parts} (t : Follows h parts) (s g :
       pub leaves_own : All (λ q. q.node ≡ a.table.own) ps
       leaves_own = own_nodes h a.table.own (there seat t s here at).own ps local
 
-      leave_none : is_any_joined a.table g ps ≡ false → first_broken (checks h seat (Event.Leave s g ps)) ≡ Some Rule.NotJoined
-      leave_none q = λ i. leave_broken (runs i) (local i) ((any_joined ps local ∙ q) i)
+      leave_left : first_broken (checks h seat (Event.Leave s g ps)) ≡ cond (is_any_joined a.table g ps) None (Some Rule.NotJoined)
+      leave_left = (λ i. leave_broken (runs_here t s p here i) (local i) (any_joined ps local i)) ∙ grind arith
 
       -- what the table refuses is the first rule that is broken
       pub leave_calm : (f : CoreFault) → IsLeaveRefusal a.table g ps f → IsCalmFault h seat (Event.Leave s g ps) f
-      leave_calm (CoreFault.Refused r) none = (leave_none none.1 ∙ ap Some (sym none.0), refl)
+      leave_calm (CoreFault.Refused r) none = (leave_left ∙ rw none.1 (ap Some (sym none.0)), refl)
       leave_calm CoreFault.OutOfMemory none = tt
-
-      leave_holds : is_any_joined a.table g ps ≡ true → first_broken (checks h seat (Event.Leave s g ps)) ≡ None
-      leave_holds q = λ i. leave_broken (runs i) (local i) ((any_joined ps local ∙ q) i)
 
     pub left : (b : Running) (links : List KeptLink) (cs : List Change) → IsMoved (Message.Leave a.scope (map (row g) (listing pid_cmp (λ q. min (mentions q ps) (local_count a.table g q)) ps))) (count_after_leave a.table g ps) a b parts.links links cs
         → is_full h ≡ false → list_all (is_local h) ps ≡ true → is_any_joined a.table g ps ≡ true
@@ -177,5 +158,5 @@ module _ {h : History} (seat : ℕ) {parts : Parts} (t : Follows h parts) (s g :
         let e = made h seat (Event.Leave s g ps) (Accepted Reply.Done) cs in
         moves_now seat t s here at (Event.Leave s g ps) Message.Leave (map (row g) (listing pid_cmp (λ q. min (mentions q ps) (own h s g q)) ps)) (λ n f q. n - cond (same f g) (mentions q ps) 0) b links cs
         (subst (λ c. IsMoved (Message.Leave a.scope (map (row g) (listing pid_cmp (λ q. min (mentions q ps) (c g q)) ps))) (count_after_leave a.table g ps) a b parts.links links cs) counts moved)
-        (λ its. left_rows h e its refl s g ps refl) space (leave_holds local some) refl refl refl (refl, refl, refl) (λ l u. refl) (λ l u. refl) (λ l. refl)
+        (λ its. left_rows h e its refl s g ps refl) space (leave_left local ∙ rw some) refl refl refl (refl, refl, refl) (λ l u. refl) (λ l u. refl) (λ l. refl)
         (λ its. told_numbers h e its refl refl (λ l. (left_links h e its refl s g ps refl l).kept_is)) (λ l. refl)

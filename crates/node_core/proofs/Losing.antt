@@ -72,11 +72,6 @@ module _ (h k : History) (j : ℕ) (gone : IsGone h k j) where
       told = λ l s. (gone.heard l s).told_is ∙ ap (λ b. told l s h.entries && not b) (flip j l);
     }
 
-    lost_change : (rs : List Running) (cs : List Change) → ArePartings (λ t. count_after_drop t n) rs cs → ScopesFollow (scope_words h) rs → IsChange h k cs
-    lost_change rs cs a t = partings_change h k (λ x. count_after_drop x n)
-        (λ r u g p. ap (cond (same p.node n) 0) (u.rows g p) ∙ sym (rows r.scope g p))
-        rs t (λ s stopped g p. rows s g p ∙ ap (cond (same p.node n) 0) (stopped_lists h s g p stopped) ∙ (grind arith)) cs a
-
   -- ---- both
 
   -- how often a process is listed now that the link is gone, which was up with this peer if it was up
@@ -86,7 +81,9 @@ module _ (h k : History) (j : ℕ) (gone : IsGone h k j) where
 
   pub gone_change : (o : Option (List ℕ)) → RowsGone o → (rs : List Running) (cs : List Change) → AreLost o rs cs → ScopesFollow (scope_words h) rs → IsChange h k cs
   gone_change None rows rs cs none t = subst (IsChange h k) (sym none) (no_change h k (λ s g p. sym (rows s g p)))
-  gone_change (Some n) rows rs cs lost t = lost_change n rows rs cs lost t
+  gone_change (Some n) rows rs cs lost t = partings_change h k (λ x. count_after_drop x n)
+      (λ r u g p. ap (cond (same p.node n) 0) (u.rows g p) ∙ sym (rows r.scope g p))
+      rs t (λ s stopped g p. rows s g p ∙ ap (cond (same p.node n) 0) (stopped_lists h s g p stopped) ∙ (grind arith)) cs lost
 
   pub gone_scopes : (o : Option (List ℕ)) → (o ≡ None → is_up j h.entries ≡ false) → RowsGone o → (old new : List Running) → AreCut j o old new → ScopesFollow (scope_words h) old → ScopesFollow (scope_words k) new
   gone_scopes None down rows old new same_scopes t = subst (λ w. ScopesFollow w new) (sym (still_scopes (down refl) rows)) (subst (ScopesFollow (scope_words h)) (sym same_scopes) t)
@@ -154,10 +151,6 @@ module _ (h : History) (seat j : ℕ) (cs : List Change) (parts : Parts) (t : Fo
 -- ---- a link that is given up
 
 module _ (h : History) (seat : ℕ) (n : List ℕ) (cs : List Change) (parts : Parts) (t : Follows h parts) where
-  -- no link of n is up where no kept link is up with it
-  pub not_up : position (λ x. option_map_or (λ m. same m n) (up_peer x.state) false) parts.links ≡ None → is_name_up n h.entries ≡ false
-  not_up none = sym (up_is h n t.sound.legal parts.links t.links) ∙ sym (place_found (λ x. option_map_or (λ m. same m n) (up_peer x.state) false) parts.links) ∙ ap is_some none
-
   module _ (p : ℕ) (d : KeptLink) (found : position (λ x. option_map_or (λ m. same m n) (up_peer x.state) false) parts.links ≡ Some p) where
     abbrev parting : Entry
     parting = made h seat (Event.Disconnect n) (Accepted Reply.Done) cs

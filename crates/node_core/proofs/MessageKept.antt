@@ -40,9 +40,6 @@ module _ (h : History) (seat l : ℕ) (body : List ℕ) (m : Message) (space : i
 
   -- ---- links
 
-  whole : is_whole l h.entries ≡ true
-  whole = and_right (is_open l h.entries) (is_whole l h.entries) up
-
   -- what the policy's words say of each link is the same
   same_facts : (j : ℕ) → facts now j ≡ facts h j
   same_facts j = by (l == j) refl
@@ -57,7 +54,7 @@ module _ (h : History) (seat l : ℕ) (body : List ℕ) (m : Message) (space : i
           subst (λ x. is_open x now.entries ≡ is_open x h.entries → facts now x ≡ facts h x) here
           (λ still. λ i. record (facts h l) {
             open_now = still i;
-            whole = (it.whole ∙ sym whole) i;
+            whole = (it.whole ∙ sym (and_right (is_open l h.entries) (is_whole l h.entries) up)) i;
             awaited = (it.awaits ∙ sym awaited) i;
             peer = it.peer i;
             said = it.given i;
@@ -67,9 +64,6 @@ module _ (h : History) (seat l : ℕ) (body : List ℕ) (m : Message) (space : i
 
   waits : (j : ℕ) → waiting now j ≡ cond (l == j) (waiting h j ++ message_owes h j m) (waiting h j)
   waits j = (message_links h entry its_answered refl l body refl awaited j).waiting_is ∙ ap (λ o. cond (l == j) (waiting h j ++ option_map_or (message_owes h j) o []) (waiting h j)) says
-
-  same_numbers : kept_numbers now ≡ kept_numbers h
-  same_numbers = framed_numbers h entry refl its_answered l body refl (ap is_last awaited) (ap (λ a. named_by a body) awaited)
 
   -- a message to which nothing is owed leaves the links
   pub silent_links : ((j : ℕ) → message_owes h j m ≡ []) → (kept : List KeptLink) → LinksFollow (link_words h) kept → LinksFollow (link_words now) kept
@@ -91,7 +85,7 @@ module _ (h : History) (seat l : ℕ) (body : List ℕ) (m : Message) (space : i
         frames = t.frames ∙ sym (waits z.number ∙ ap (λ b. cond b (waiting h z.number ++ message_owes h z.number m) (waiting h z.number)) (flip l z.number ∙ ap (λ n. nat_eq z.number n) (sym (number ∙ here.number)) ∙ apart));
         idle = t.idle;
       })
-      kept p x t (kept_climbs h legal) same_numbers place.0 (number ∙ here.number ∙ sym place.1)
+      kept p x t (kept_climbs h legal) (framed_numbers h entry refl its_answered l body refl (ap is_last awaited) (ap (λ a. named_by a body) awaited)) place.0 (number ∙ here.number ∙ sym place.1)
     where
       its_own : (n : ℕ) → n ≡ l → waiting now n ≡ waiting h l ++ message_owes h l m
       its_own n e = ap (waiting now) e ∙ waits l ∙ ap (λ b. cond b (waiting h l ++ message_owes h l m) (waiting h l)) (eq-eqb l l refl)

@@ -48,14 +48,11 @@ module _ (h : History) (legal : IsLegal h) (e : Entry) (is_made : IsAnswered h e
   each_more new it [] below all = (it, tt)
   each_more new it (x ∷ xs) below all = (others_link x (older x.number (grind arith)) all.0, each_more new it xs (grind arith) all.1)
 
-  kept_below : list_all (λ n. nat_le n (length h.entries)) (kept_numbers h) ≡ true
-  kept_below = all_reverse (λ n. nat_le n (length h.entries)) _ ∙ all_left (λ n. nat_le n (length h.entries)) (is_kept h) _ (links_below h legal)
-
   -- one link more
   pub new_follows : (kept : List KeptLink) (new : KeptLink) → LinksFollow (link_words h) kept → new.number ≡ e.number → IsLinkOf (link_words k) new → LinksFollow (link_words k) (kept ++ new ∷ [])
   new_follows kept new t named it = record {
     numbers = map-append (λ x. x.number) kept (new ∷ []) ∙ (λ i. t.numbers i ++ named i ∷ []) ∙ sym (kept_opening h legal e is_made yes st begins);
-    each = each_more new it kept (ap (list_all (λ n. nat_le n (length h.entries))) t.numbers ∙ kept_below) t.each;
+    each = each_more new it kept (ap (list_all (λ n. nat_le n (length h.entries))) t.numbers ∙ all_reverse (λ n. nat_le n (length h.entries)) _ ∙ all_left (λ n. nat_le n (length h.entries)) (is_kept h) _ (links_below h legal)) t.each;
   }
 
   -- what is said of the new one
@@ -103,10 +100,6 @@ module _ {h : History} {parts : Parts} (t : Follows h parts) (seat c : ℕ) wher
 
 -- ---- a link to a peer
 
--- the own Name, by the rules of the admission
-pub own_name_is : (h : History) (rules : AdmissionRules) → AdmissionFollows (admission_words h) rules → narrow (own_name rules) ≡ own_name_frame h
-own_name_is h rules t = λ i. narrow (name_bytes (record { flags = own_flags (t.hidden i); creation = t.creation i; name = t.own i }))
-
 module _ {h : History} {parts : Parts} (t : Follows h parts) (seat : ℕ) (peer : List ℕ) (c : ℕ) where
   abbrev dial : Entry
   dial = made h seat (Event.Dial peer c) (Accepted (Reply.Link (next_number h))) []
@@ -127,7 +120,7 @@ module _ {h : History} {parts : Parts} (t : Follows h parts) (seat : ℕ) (peer 
                 peer = record { peer = new.peer; other = not-true (same peer h.opening.name) (unbroken (not (same peer h.opening.name)) (all_hold (dial_checks h peer) holds).0) };
                 challenge = sym (ap (λ o. option_map_or (λ x. challenge_in x.start) o 0) new.opened);
               });
-              frames = ap (λ f. f ∷ []) (own_name_is h parts.admission t.admission) ∙ sym (dialled_waiting h dial is refl legal peer c refl);
+              frames = (λ i. narrow (name_bytes (record { flags = own_flags (t.admission.hidden i); creation = t.admission.creation i; name = t.admission.own i })) ∷ []) ∙ sym (dialled_waiting h dial is refl legal peer c refl);
               idle = refl;
             }))),
       )

@@ -61,9 +61,6 @@ module _ {h : History} {parts : Parts} (t : Follows h parts) where
       ∙ ap (λ b. b && is_up l h.entries) (sym (kept_among h t.sound.legal l))
       ∙ grind arith
 
-  pub peer_up : (n : List ℕ) → list_any (λ x. option_map_or (λ m. same m n) (up_peer x.state) false) parts.links ≡ is_name_up n h.entries
-  peer_up n = up_is h n t.sound.legal parts.links t.links
-
   pub names_are : flat_map (λ x. option_to_list (up_peer x.state)) parts.links ≡ up_names h
   names_are = all parts.links t.links.each ∙ ap (flat_map (up_name h)) t.links.numbers
     where

@@ -71,14 +71,8 @@ module _ (h : History) (seat : ℕ) (s : List ℕ) where
   checked runs room = cond (not (not runs)) (Some Rule.ScopeRunning) (cond (not room) (Some Rule.ScopesFull) None)
 
   module _ (parts : Parts) (t : Follows h parts) (stopped : is_running h s ≡ false) where
-    scopes_fit : length parts.scopes < 64 → first_broken (checks h seat (Event.StartScope s)) ≡ None
-    scopes_fit few = λ i. checked (stopped i) (lt-ltb (length (running_scopes h)) 64 (let is = running_length h parts.scopes t.scopes in omega (arith, is, few)) i)
-
     pub scopes_full : 64 ≤ length parts.scopes → first_broken (checks h seat (Event.StartScope s)) ≡ Some Rule.ScopesFull
     scopes_full many = λ i. checked (stopped i) (le-ltb (length (running_scopes h)) 64 (let is = running_length h parts.scopes t.scopes in omega (arith, is, many)) i)
-
-    start_next : is_full h ≡ false → length parts.scopes < 64 → IsNext h e
-    start_next space few = accepted_next h seat (Event.StartScope s) space Reply.Done [] (scopes_fit few) refl (λ its. no_change h started (λ u g p. sym (started_rows h t.sound.legal e its refl s refl u g p)))
 
     module _ (its : IsAnswered h e) where
       still : (r : Running) → IsRunningOf (scope_words h) r → IsRunningOf (scope_words started) r
@@ -104,7 +98,8 @@ module _ (h : History) (seat : ℕ) (s : List ℕ) where
         → (links : List KeptLink) → AreTold (if_among (shown_numbers parts.links) (wide (Message.Discover s))) parts.links links
         → IsNext h e × Follows started (record parts { scopes = put_scope r parts.scopes; links = links })
     start_now space few r named own none unheard untold links tells =
-        let next = start_next space few in
+        let fits = lt-ltb (length (running_scopes h)) 64 (let is = running_length h parts.scopes t.scopes in omega (arith, is, few)) in
+        let next = accepted_next h seat (Event.StartScope s) space Reply.Done [] (λ i. checked (stopped i) (fits i)) refl (λ its. no_change h started (λ u g p. sym (started_rows h t.sound.legal e its refl s refl u g p))) in
         let its = answered_by next in
         let others = all_map (IsRunningOf (scope_words h)) (IsRunningOf (scope_words started)) (still its) parts.scopes t.scopes.each in (
           next,

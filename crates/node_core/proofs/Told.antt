@@ -34,10 +34,6 @@ module _ (w v : LinkWords) (g : KeptLink → KeptLink) (on : (x : KeptLink) → 
         all_map (λ x. IsLinkOf v (unroomed x)) (IsLinkOf v) (λ x it. record { state = it.state; frames = it.frames; idle = it.idle }) new (all_unmapped (IsLinkOf v) unroomed new moved);
   }
 
--- links that are the same but for their room
-pub alike_follow : (w : LinkWords) (old new : List KeptLink) → Alike old new → LinksFollow w old → LinksFollow w new
-alike_follow w old new q t = changed_follow w w (λ x. x) (λ x it. it) refl old new refl q t
-
 -- links for which further frames wait, as the words say of each of them
 pub told_follow : (w v : LinkWords) (more : ℕ → List OutFrame) → ((l : ℕ) → v.facts l ≡ w.facts l) → v.numbers ≡ w.numbers → (old new : List KeptLink) → ((l : ℕ) → v.waiting l ≡ w.waiting l ++ more l)
     → AreTold more old new → LinksFollow w old → LinksFollow v new
@@ -56,7 +52,7 @@ alike_again h parts t links q = record {
   admission = t.admission;
   processes = t.processes;
   scopes = t.scopes;
-  links = alike_follow (link_words h) parts.links links q t.links;
+  links = changed_follow (link_words h) (link_words h) (λ x. x) (λ x it. it) refl parts.links links refl q t.links;
   monitors = t.monitors;
 }
 

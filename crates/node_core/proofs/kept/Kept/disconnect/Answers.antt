@@ -1,12 +1,17 @@
-use Rattle.node_core.proofs.Words.{ap, get_or_default, false, length, refl, subst, sym, [], ◌<◌, ◌∙◌, option_map_or, position-Some, same, AreCut, AreLost}
+use Rattle.node_core.proofs.Words.{is_some, ap, get_or_default, false, length, refl, subst, sym, [], ◌<◌, ◌∙◌, option_map_or, position-Some, same, AreCut, AreLost}
 use Rattle.node_core.proofs.Words.{up_peer, Rule}
 use Rattle.node_core.proofs.Answering.{accepts, refuses}
-use Rattle.node_core.proofs.Losing.{not_up, parted}
+use Rattle.node_core.proofs.Found.{place_found}
+use Rattle.node_core.proofs.LinkTests.{up_is}
+use Rattle.node_core.proofs.Losing.{parted}
 use Rattle.node_core.proofs.kept.Kept.disconnect.Goals as goal
 
 pub returns-in_default : goal.returns-in_default
-returns-in_default g c = refuses c.requires _ Rule.NoLinkTo
-    (rw (not_up g.call.past g.call.seat c.args.peer.now [] _ c.requires.keeps.follows (rw c.deref.ensures.value at (sym c.place_of_up.ensures ∙ c.in_default.is)))) refl
+returns-in_default g c =
+    let t = c.requires.keeps.follows in
+    let none = rw c.deref.ensures.value at (sym c.place_of_up.ensures ∙ c.in_default.is) in
+    refuses c.requires _ Rule.NoLinkTo (rw (sym (up_is g.call.past c.args.peer.now t.sound.legal c.args.self.now.links.items t.links)
+    ∙ sym (place_found (λ x. option_map_or (λ m. same m c.args.peer.now) (up_peer x.state) false) c.args.self.now.links.items) ∙ ap is_some none)) refl
 
 pub returns : goal.returns
 returns g c =
