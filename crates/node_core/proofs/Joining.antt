@@ -9,6 +9,7 @@ use Rattle.node_core.proofs.Words.{lives_of, joined_links, Running, CoreFault, I
 use Rattle.node_core.proofs.Words.{list_any, count_of, local_count, min, count_after_leave, is_any_joined, own, left_links, IsLeaveRefusal, AdmissionFollows}
 use Rattle.node_core.proofs.Words.{admission_words, running_scopes, heard, told, facts, kept_numbers, if_told, Row, answer, is_said, is_empty}
 use Rattle.group_monitors.specs.Follows.{concerns_monitors}
+use Rattle.std.proofs.lemmas.List.Folds.{list_all_at}
 use Rattle.policy_audit.proofs.RowsAfter.{joined_rows, left_rows}
 use Rattle.node_core.proofs.Entered.{step_follows, made, accepted_next, answered_by}
 use Rattle.node_core.proofs.RowsGone.{rows_total}
@@ -24,14 +25,11 @@ local_by keeps p = λ i. same p.node (keeps.opening i).name && p.creation == kee
 -- own processes live where their numbers do
 pub alive_all : (h : History) (p : Spawned) → ProcessesFollow (process_words h) p → (ps : List Pid) → list_all (is_local h) ps ≡ true → list_all (λ q. is_number q.number p.live) ps ≡ list_all (lives h) ps
 alive_all h p t [] local = refl
-alive_all h p t (q ∷ qs) local =
-    (λ i. (t.live q.number ∙ sym (lives_of h q (and_left (is_local h q) (list_all (is_local h) qs) local))) i && alive_all h p t qs (and_right (is_local h q) (list_all (is_local h) qs) local) i)
+alive_all h p t (q ∷ qs) local = grind (arith, alive_all h p t qs, t.live q.number, lives_of h q)
 
 -- own processes are of the own node
 pub own_nodes : (h : History) (n : List ℕ) → n ≡ h.opening.name → (ps : List Pid) → list_all (is_local h) ps ≡ true → All (λ p. p.node ≡ n) ps
-own_nodes h n is [] local k d l = absurd (omega (arith, l))
-own_nodes h n is (q ∷ qs) local zero d l = (same_decides q.node h.opening.name).0 (and_left (same q.node h.opening.name) (q.creation == creation h) (and_left (is_local h q) (list_all (is_local h) qs) local)) ∙ sym is
-own_nodes h n is (q ∷ qs) local (suc k) d l = own_nodes h n is qs (and_right (is_local h q) (list_all (is_local h) qs) local) k d (omega (arith, l))
+own_nodes h n is ps local k d l = grind (arith, is, list_all_at (is_local h) ps k d, same_decides (get_or ps k d).node h.opening.name)
 
 -- ---- rows of a scope that an event moves
 
@@ -132,12 +130,7 @@ module _ {h : History} (seat : ℕ) {parts : Parts} (t : Follows h parts) (s g :
     -- whether own processes are joined is what the table says
     any_joined : (qs : List Pid) → list_all (is_local h) qs ≡ true → list_any (λ x. nat_lt 0 (own h s g x)) qs ≡ is_any_joined a.table g qs
     any_joined [] local = refl
-    any_joined (q ∷ qs) local = λ i. nat_lt 0 (same_count i) || any_joined qs (and_right (is_local h q) (list_all (is_local h) qs) local) i
-      where
-        same_count : own h s g q ≡ count_of a.table g q
-        same_count =
-            sym (ap (λ f. f g q) counts)
-            ∙ ap (λ c. cond c (count_of a.table g q) 0) (ap (same q.node) (there seat t s here at).own ∙ and_left (same q.node h.opening.name) (q.creation == creation h) (and_left (is_local h q) (list_all (is_local h) qs) local))
+    any_joined (q ∷ qs) local = grind (arith, any_joined qs, ap (λ f. f g q) counts, (there seat t s here at).own)
 
     module _ (local : list_all (is_local h) ps ≡ true) where
       pub leaves_own : All (λ q. q.node ≡ a.table.own) ps

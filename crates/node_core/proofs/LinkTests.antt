@@ -47,19 +47,20 @@ module _ (h : History) (n : List ℕ) where
   dialled_by l s t = undialled l (record { open_now = t.0.open_now; whole = t.0.whole; awaited = refl }) (ap is_acceptors t.0.awaited)
 
   module _ (legal : IsLegal h) (kept : List KeptLink) (t : LinksFollow (link_words h) kept) where
+    -- what a test of the states says, the words say of the numbers
+    by_links : (f : LinkState → Option (List ℕ)) (g : ℕ → Bool) → ((l : ℕ) (s : LinkState) → IsState (facts h l) s → option_map_or (λ m. same m n) (f s) false ≡ g l)
+        → list_any (λ x. option_map_or (λ m. same m n) (f x.state) false) kept ≡ list_any g (link_words h).numbers
+    by_links f g each =
+        agree (IsLinkOf (link_words h)) (λ x. option_map_or (λ m. same m n) (f x.state) false) (λ x. g x.number) (λ x it. each x.number x.state it.state) kept t.each
+        ∙ sym (any_map g (λ x. x.number) kept) ∙ ap (list_any g) t.numbers
+
     -- a peer is up where a kept link is up with it
     pub up_is : list_any (λ x. option_map_or (λ m. same m n) (up_peer x.state) false) kept ≡ is_name_up n h.entries
-    up_is =
-        agree (IsLinkOf (link_words h)) (λ x. option_map_or (λ m. same m n) (up_peer x.state) false) (λ x. is_up x.number h.entries && is_peer n x.number h.entries) (λ x it. up_by x.number x.state it.state) kept t.each
-        ∙ sym (any_map (λ l. is_up l h.entries && is_peer n l h.entries) (λ x. x.number) kept)
-        ∙ ap (list_any (λ l. is_up l h.entries && is_peer n l h.entries)) t.numbers ∙ sym (name_up_kept h legal n)
+    up_is = by_links up_peer (λ l. is_up l h.entries && is_peer n l h.entries) up_by ∙ sym (name_up_kept h legal n)
 
     -- a peer is dialled where a kept link is a dial to it
     pub dialling_is : list_any (λ x. option_map_or (λ m. same m n) (dialled_peer x.state) false) kept ≡ is_dialling n h.entries
-    dialling_is =
-        agree (IsLinkOf (link_words h)) (λ x. option_map_or (λ m. same m n) (dialled_peer x.state) false) (λ x. is_open x.number h.entries && is_unfinished_dial n x.number h.entries) (λ x it. dialled_by x.number x.state it.state) kept t.each
-        ∙ sym (any_map (λ l. is_open l h.entries && is_unfinished_dial n l h.entries) (λ x. x.number) kept)
-        ∙ ap (list_any (λ l. is_open l h.entries && is_unfinished_dial n l h.entries)) t.numbers ∙ sym (dialling_kept h legal n)
+    dialling_is = by_links dialled_peer (λ l. is_open l h.entries && is_unfinished_dial n l h.entries) dialled_by ∙ sym (dialling_kept h legal n)
 
 -- ---- who is allowed
 

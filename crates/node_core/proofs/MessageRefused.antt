@@ -6,7 +6,8 @@ use Rattle.node_core.proofs.Words.{flip, always, checks, first_broken, message_c
 use Rattle.node_core.proofs.Words.{is_running, AwaitMessage, awaits, is_whole, peer_of, Rule, IsCalmFault, refuses_calmly, KeptLink, up_peer, IsRunningOf}
 use Rattle.node_core.proofs.Words.{is_number, scope_words, IsGroupListing, node_total, max_rows, are_counted, rows_of, is_from, members, groups, peer_rows}
 use Rattle.node_core.proofs.Words.{CoreFault, Running, is_shown, are_of_peer, scope_in, early_checks, IsAddRefusal, IsTakeRefusal, Event, IsBrief}
-use Rattle.std.proofs.lemmas.List.Elements.{All-from_recursion}
+use Rattle.std.proofs.lemmas.List.Folds.{list_all_at}
+use Rattle.node_core.proofs.Words.{get_or}
 use Rattle.scope_core.proofs.Members.{length-members}
 use Rattle.policy_audit.specs.Sides.{is_visible}
 use Rattle.policy_audit.proofs.Onward.{whole_is_message}
@@ -69,11 +70,7 @@ module _ {h : History} {l : ℕ} {x : KeptLink} (here : IsUpHere h l x) where
 
   -- then each of their processes is of that node
   pub all_of_peer : (rows : List Row) → list_all (λ r. is_from l h.entries r.pid) rows ≡ true → All (λ r. r.pid.node ≡ here.far.peer) rows
-  all_of_peer rows q = All-from_recursion (λ r. r.pid.node ≡ here.far.peer) rows (each rows q)
-    where
-      each : (rs : List Row) → list_all (λ r. is_from l h.entries r.pid) rs ≡ true → AllByRecursion (λ r. r.pid.node ≡ here.far.peer) rs
-      each [] q = tt
-      each (r ∷ rs) q = grind (arith, each rs, from_is r.pid, same_decides)
+  all_of_peer rows q k d within = grind (arith, list_all_at (λ r. is_from l h.entries r.pid) rows k d, from_is (get_or rows k d).pid, same_decides (get_or rows k d).pid.node here.far.peer)
 
   -- the first rule that is broken, but for those that the table tells
   pub refusal_is : (hs : List ℕ) (m : Message) → is_visible h l ≡ true → is_running h (scope_in m) ≡ true → is_number l hs ≡ heard l (scope_in m) h.entries → first_broken (early_checks h l m) ≡ refusal x hs m
