@@ -44,46 +44,18 @@ module _ (h : History) (rules : AdmissionRules) (t : AdmissionFollows (admission
     pub names_follow : (ns : List (List ℕ)) → AdmissionFollows (admission_words (answered h seat (Event.Allow ns) r)) (with_allowed rules ns)
     names_follow ns = record { own = t.own; hidden = t.hidden; creation = t.creation; own_cookie = t.own_cookie; cookie = t.cookie; peers = t.peers; allowed = all_once ns rules.allowed (allow_list h) t.allowed }
 
-    -- the words after a cookie for n, which is the own name or isn't
-    abbrev words_with : List ℕ → List ℕ → Bool → AdmissionWords
-    words_with n c b = record {
-      own = h.opening.name;
-      hidden = h.opening.hidden;
-      creation = creation h;
-      own_cookie = unwrap_or (elim (cond b (Some c) None) [ Some y ↦ Some y | None ↦ first_of (own_cookie_set h.opening.name) (events h.entries) ]) h.opening.cookie;
-      cookie_set = λ m. first_of (cookie_set_for m) (Event.SetCookieFor n c ∷ events h.entries);
-      peers = cond b [] (n ∷ []) ++ cookie_peers h;
-      allowed = allow_list h;
-    }
-
-    -- what was set last, of two
-    abbrev newer : Bool → List ℕ → Option (List ℕ) → Option (List ℕ)
-    newer b c o = elim (cond b (Some c) None) [ Some y ↦ Some y | None ↦ o ]
+    -- a cookie for another node is kept for that node alone
+    peer : (n c m : List ℕ) (a : Bool) → same n m ≡ a → lookup (bytes_eq m) (insert_entry bytes_eq rules.peers n c) ≡ cond a (Some c) (lookup (bytes_eq m) rules.peers)
+    peer n c m true f = ap (λ x. lookup (bytes_eq x) (insert_entry bytes_eq rules.peers n c)) (sym ((same_decides n m).0 f)) ∙ lookup_put rules.peers n c
+    peer n c m false f = lookup_kept rules.peers n c m (λ q. lie (sym ((same_decides n m).1 (sym q)) ∙ f))
 
     pub cookie_for_follows : (n c : List ℕ) → AdmissionFollows (admission_words (answered h seat (Event.SetCookieFor n c) r)) (with_cookie_for rules n c)
-    cookie_for_follows n c = subst (λ o. AdmissionFollows (words_with n c (same n h.opening.name)) (cond (same n o) (record rules { cookie = c }) (record rules { peers = insert_entry bytes_eq rules.peers n c }))) (sym t.own) (by (same n h.opening.name) refl)
-      where
-        set_before : List ℕ → Option (List ℕ)
-        set_before m = first_of (cookie_set_for m) (events h.entries)
-
-        -- the own name is no peer
-        not_own : (m : List ℕ) → same n h.opening.name ≡ true → cond (same m h.opening.name) None (set_before m) ≡ cond (same m h.opening.name) None (newer (same n m) c (set_before m))
-        not_own m e = grind (arith, (same_decides n h.opening.name).0 e, same_sym h.opening.name m)
-
-        peer : (m : List ℕ) → same n h.opening.name ≡ false → (a : Bool) → same n m ≡ a → lookup (bytes_eq m) (insert_entry bytes_eq rules.peers n c) ≡ cond (same m h.opening.name) None (newer a c (set_before m))
-        peer m e true f =
-            ap (λ x. lookup (bytes_eq x) (insert_entry bytes_eq rules.peers n c)) (sym ((same_decides n m).0 f)) ∙ lookup_put rules.peers n c
-            ∙ sym (ap (λ b. cond b None (Some c)) (ap (λ x. same x h.opening.name) (sym ((same_decides n m).0 f)) ∙ e))
-        peer m e false f = lookup_kept rules.peers n c m (λ q. lie (sym ((same_decides n m).1 (sym q)) ∙ f)) ∙ t.cookie m
-
-        by : (b : Bool) → same n h.opening.name ≡ b → AdmissionFollows (words_with n c b) (cond b (record rules { cookie = c }) (record rules { peers = insert_entry bytes_eq rules.peers n c }))
-        by true e = record { own = t.own; hidden = t.hidden; creation = t.creation; own_cookie = refl; cookie = λ m. t.cookie m ∙ not_own m e; peers = t.peers; allowed = t.allowed }
-        by false e = record {
-          own = t.own;
-          hidden = t.hidden;
-          creation = t.creation;
-          own_cookie = t.own_cookie;
-          cookie = λ m. peer m e (same n m) refl;
-          peers = entry_once n c rules.peers (cookie_peers h) t.peers;
-          allowed = t.allowed;
-        }
+    cookie_for_follows n c = record {
+      own = grind (arith, t.own);
+      hidden = grind (arith, t.hidden);
+      creation = grind (arith, t.creation);
+      own_cookie = grind (arith, t.own, t.own_cookie);
+      cookie = λ m. grind (arith, t.own, t.cookie m, peer n c m (same n m) refl, same_decides n m, same_decides n h.opening.name, same_decides m h.opening.name);
+      peers = λ q. grind (arith, t.own, t.peers q, entry_once n c rules.peers (cookie_peers h) t.peers q);
+      allowed = λ q. grind (arith, t.allowed q);
+    }

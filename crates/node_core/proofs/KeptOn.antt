@@ -1,5 +1,5 @@
 -- The kept links after an entry: which of them stay, and how one of them or each is changed.
-use Rattle.node_core.proofs.Words.{Bool, List, Some, ap, arith, cond, false, get_or, length, map, nat_eq, nat_lt, position, refl, set, subst, suc, sym, true}
+use Rattle.node_core.proofs.Words.{IsState, Bool, List, Some, ap, arith, cond, false, get_or, length, map, nat_eq, nat_lt, position, refl, set, subst, suc, sym, true}
 use Rattle.node_core.proofs.Words.{zero, ℕ, [], ◌<◌, ◌∙◌, ◌∷◌, ◌≡◌, AllByRecursion, filter, list_all, option_map_or, eqb-true, ltb-true, position-Some, History}
 use Rattle.node_core.proofs.Words.{is_open, challenge_in, IsLinkOf, LinkWords, LinksFollow, facts, KeptLink, IsSameLink, Climbs, None, is_some, list_any}
 use Rattle.node_core.proofs.Words.{kept_among, is_kept, IsLegal, link_words, map-id}
@@ -20,6 +20,10 @@ facts_same h k opening l it opens = λ i. record {
   said = it.given i;
   challenge = option_map_or (λ o. challenge_in o.start) (it.opened i) 0;
 }
+
+-- and so is the link
+pub same_link : {w v : LinkWords} (x : KeptLink) → v.facts x.number ≡ w.facts x.number → v.waiting x.number ≡ w.waiting x.number → IsLinkOf w x → IsLinkOf v x
+same_link x facts waits it = record { state = subst (λ f. IsState f x.state) (sym facts) it.state; frames = it.frames ∙ sym waits; idle = it.idle }
 
 -- ---- all links
 

@@ -11,7 +11,7 @@ use Rattle.policy_audit.proofs.HeardNow.{lost_heard, disconnected_heard}
 use Rattle.policy_audit.proofs.RowsAfter.{lost_rows, lost_other, disconnected_rows}
 use Rattle.node_core.proofs.Entered.{step_follows, made, accepted_next, answered_by}
 use Rattle.node_core.proofs.Found.{some_is, place_found}
-use Rattle.node_core.proofs.KeptOn.{each_at, facts_same, is_kept_at, link_at, stay_follow}
+use Rattle.node_core.proofs.KeptOn.{each_at, facts_same, same_link, is_kept_at, link_at, stay_follow}
 use Rattle.node_core.proofs.LinkTests.{up_is, peer_by_test}
 use Rattle.policy_audit.proofs.KeptNumbers.{kept_numbers}
 use Rattle.node_core.proofs.Partings.{partings_change}
@@ -34,11 +34,7 @@ module _ (h k : History) (j : ℕ) (gone : IsGone h k j) where
   other_facts l other = facts_same h k gone.name l (gone.same l) (gone.opens l ∙ ap (λ b. is_open l h.entries && not b) other ∙ and-true (is_open l h.entries))
 
   other_link : (x : KeptLink) → (j == x.number) ≡ false → IsLinkOf (link_words h) x → IsLinkOf (link_words k) x
-  other_link x other it = record {
-    state = subst (λ f. IsState f x.state) (sym (other_facts x.number other)) it.state;
-    frames = it.frames ∙ sym (gone.waits x.number ∙ ap (λ b. cond b [] (waiting h x.number)) other);
-    idle = it.idle;
-  }
+  other_link x other it = same_link x (other_facts x.number other) (gone.waits x.number ∙ grind (arith, other)) it
 
   pub gone_links : (kept : List KeptLink) → LinksFollow (link_words h) kept → LinksFollow (link_words k) (filter (λ x. not (nat_eq x.number j)) kept)
   gone_links kept t = stay_follow (link_words h) (link_words k) (λ l. not (nat_eq l j)) kept t

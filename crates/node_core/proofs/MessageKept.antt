@@ -9,7 +9,7 @@ use Rattle.policy_audit.proofs.Onward.{message_taken_on}
 use Rattle.policy_audit.proofs.LinkFrames.{message_links}
 use Rattle.node_core.proofs.Entered.{made, accepted_now, answered_now, next_now}
 use Rattle.node_core.proofs.Calm.{same_links}
-use Rattle.node_core.proofs.KeptOn.{facts_same, one_follows, place_is}
+use Rattle.node_core.proofs.KeptOn.{facts_same, one_follows, place_is, same_link}
 use Rattle.node_core.proofs.MessagePlaces.{IsUpHere}
 
 -- the rules for a message on a link that awaits one
@@ -80,11 +80,7 @@ module _ (h : History) (seat l : ℕ) (body : List ℕ) (m : Message) (space : i
         frames = frames ∙ ap (λ fs. fs ++ message_owes h l m) (here.link.frames ∙ ap (waiting h) here.number) ∙ sym (its_own y.number (number ∙ here.number));
         idle = idle;
       })
-      (λ z apart t. record {
-        state = subst (λ f. IsState f z.state) (sym (same_facts z.number)) t.state;
-        frames = t.frames ∙ sym (waits z.number ∙ ap (λ b. cond b (waiting h z.number ++ message_owes h z.number m) (waiting h z.number)) (flip l z.number ∙ ap (λ n. nat_eq z.number n) (sym (number ∙ here.number)) ∙ apart));
-        idle = t.idle;
-      })
+      (λ z apart t. same_link z (same_facts z.number) (waits z.number ∙ ap (λ b. cond b (waiting h z.number ++ message_owes h z.number m) (waiting h z.number)) (flip l z.number ∙ ap (λ n. nat_eq z.number n) (sym (number ∙ here.number)) ∙ apart)) t)
       kept p x t (kept_climbs h legal) (framed_numbers h entry refl its_answered l body refl (ap is_last awaited) (ap (λ a. named_by a body) awaited)) place.0 (number ∙ here.number ∙ sym place.1)
     where
       its_own : (n : ℕ) → n ≡ l → waiting now n ≡ waiting h l ++ message_owes h l m

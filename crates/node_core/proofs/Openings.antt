@@ -14,7 +14,7 @@ use Rattle.policy_audit.proofs.KeptNumbers.{kept_numbers}
 use Rattle.policy_audit.proofs.NewLinks.{IsNewLink, opened_apart, opened_new, opened_open}
 use Rattle.policy_audit.proofs.HeardNow.{opening_heard}
 use Rattle.policy_audit.proofs.RowsAfter.{opened_rows, dialled_rows}
-use Rattle.node_core.proofs.KeptOn.{facts_same}
+use Rattle.node_core.proofs.KeptOn.{facts_same, same_link}
 use Rattle.policy_audit.specs.Sides.{awaited_in}
 use Rattle.node_core.proofs.Entered.{step_follows, made, accepted_next, answered_by}
 
@@ -34,19 +34,12 @@ module _ (h : History) (legal : IsLegal h) (e : Entry) (is_made : IsAnswered h e
   other_facts l other = facts_same h k refl l (opened_apart h.entries e l st yes begins other) (opened_open h.entries e l st yes begins ∙ ap (λ b. b || is_open l h.entries) other)
 
   others_link : (x : KeptLink) → (e.number == x.number) ≡ false → IsLinkOf (link_words h) x → IsLinkOf (link_words k) x
-  others_link x other it = record {
-    state = subst (λ f. IsState f x.state) (sym (other_facts x.number other)) it.state;
-    frames = it.frames ∙ sym (opening_waiting h legal e is_made yes st begins x.number other);
-    idle = it.idle;
-  }
-
-  older : (n : ℕ) → nat_le n (length h.entries) ≡ true → (e.number == n) ≡ false
-  older n below = grind (arith, is_made.number, eqb-true, leb-true)
+  others_link x other it = same_link x (other_facts x.number other) (opening_waiting h legal e is_made yes st begins x.number other) it
 
   each_more : (new : KeptLink) → IsLinkOf (link_words k) new → (xs : List KeptLink) → list_all (λ n. nat_le n (length h.entries)) (map (λ x. x.number) xs) ≡ true → AllByRecursion (IsLinkOf (link_words h)) xs
       → AllByRecursion (IsLinkOf (link_words k)) (xs ++ new ∷ [])
   each_more new it [] below all = (it, tt)
-  each_more new it (x ∷ xs) below all = (others_link x (older x.number (grind arith)) all.0, each_more new it xs (grind arith) all.1)
+  each_more new it (x ∷ xs) below all = (others_link x (grind (arith, is_made.number, eqb-true, leb-true)) all.0, each_more new it xs (grind arith) all.1)
 
   -- one link more
   pub new_follows : (kept : List KeptLink) (new : KeptLink) → LinksFollow (link_words h) kept → new.number ≡ e.number → IsLinkOf (link_words k) new → LinksFollow (link_words k) (kept ++ new ∷ [])

@@ -7,7 +7,7 @@ use Rattle.policy_audit.proofs.LinkFrames.{taken_links}
 use Rattle.policy_audit.proofs.LinksLeft.{taken_numbers}
 use Rattle.node_core.proofs.Entered.{step_follows, made}
 use Rattle.node_core.proofs.Calm.{quiet_next}
-use Rattle.node_core.proofs.KeptOn.{one_follows, stay_follow, filter_set, filter_all, is_kept_at, link_at}
+use Rattle.node_core.proofs.KeptOn.{one_follows, same_link, stay_follow, filter_set, filter_all, is_kept_at, link_at}
 
 -- a link is open unless its state is the end
 pub open_by : (h : History) (l : ℕ) (s : LinkState) → IsState (facts h l) s → is_open l h.entries ≡ not (is_ended s)
@@ -36,7 +36,7 @@ module _ (h : History) (seat j : ℕ) (frames : List OutFrame) (parts : Parts) (
 
   -- of each other link the same frames wait
   other_link : (x : KeptLink) → (j == x.number) ≡ false → IsLinkOf (link_words h) x → IsLinkOf words x
-  other_link x other y = record { state = y.state; frames = y.frames ∙ sym ((taken_links h take refl j refl x.number).waiting_is ∙ ap (λ b. cond b [] (waiting h x.number)) other); idle = y.idle }
+  other_link x other y = same_link x refl ((taken_links h take refl j refl x.number).waiting_is ∙ grind (arith, other)) y
 
   its_frames : (l : ℕ) → l ≡ j → waiting (with_entry h take) l ≡ []
   its_frames l is = (taken_links h take refl j refl l).waiting_is ∙ ap (λ b. cond b [] (waiting h l)) (eq-eqb j l (sym is))

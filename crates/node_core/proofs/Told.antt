@@ -67,9 +67,7 @@ abbrev pub shown_by : LinkFacts → Bool
 shown_by f = (f.open_now && f.whole) && (not f.hidden && option_map_or (λ n. has_bit 0 n.flags) f.said false)
 
 pub shown_is : (f : LinkFacts) (s : LinkState) → IsState f s → is_shown s ≡ shown_by f
-shown_is f (LinkState.Up s) t =
-    let given = t.1.said.1 in
-    given.visible_is ∙ sym (λ i. (t.0.open_now i && t.0.whole i) && (not f.hidden && option_map_or (λ n. has_bit 0 n.flags) (given.said i) false))
+shown_is f (LinkState.Up s) t = grind (arith, t.0.open_now, t.0.whole, t.1.said.1.visible_is, t.1.said.1.said)
 shown_is f LinkState.Ended t = grind (arith, t)
 shown_is f s t = grind (arith, t.0.whole)
 
