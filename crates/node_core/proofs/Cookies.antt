@@ -1,9 +1,8 @@
 -- Cookies and allowed names after the events that set them.
-use Rattle.node_core.proofs.Words.{length-map, lt-leb, Bool, List, None, Option, Some, ap, arith, cond, false, length, nat_le, not, refl, subst, sym, true, ℕ}
-use Rattle.node_core.proofs.Words.{[], ◌++◌, ◌<◌, ◌||◌, ◌∙◌, ◌∷◌, ◌≡◌, ◌≤◌, unwrap_or, le-leb, same_decides, same_sym, same, AdmissionRules, lie, allow_list}
-use Rattle.node_core.proofs.Words.{History, creation, events, first_of, Reply, AdmissionFollows, admission_words, IsCalmFault, bytes_eq, insert_entry}
-use Rattle.node_core.proofs.Words.{max_peers, max_allowed, cookie_of, with_cookie_for, with_allowed, cookie, own_cookie, own_cookie_set, cookie_set_for}
-use Rattle.node_core.proofs.Words.{cookie_peers, different, CoreFault, AdmissionWords, IsCookieRefusal, Event, Rule}
+use Rattle.node_core.proofs.Words.{length-map, lt-leb, Bool, List, None, Some, ap, arith, cond, false, length, nat_le, not, refl, sym, true, ℕ, ◌++◌, ◌<◌, ◌||◌}
+use Rattle.node_core.proofs.Words.{◌∙◌, ◌∷◌, ◌≡◌, ◌≤◌, le-leb, same_decides, same, AdmissionRules, lie, allow_list, History, Reply, AdmissionFollows}
+use Rattle.node_core.proofs.Words.{admission_words, IsCalmFault, bytes_eq, insert_entry, max_peers, cookie_of, with_cookie_for, with_allowed, cookie}
+use Rattle.node_core.proofs.Words.{cookie_peers, different, CoreFault, IsCookieRefusal, Event, Rule}
 use Rattle.std.specs.Map.{lookup}
 use Rattle.admission_rules.proofs.Peers.{lookup_put, lookup_kept}
 use Rattle.node_core.proofs.Calm.{answered}
@@ -12,11 +11,7 @@ use Rattle.node_core.proofs.Once.{entry_once, all_once, names_of, how_many_names
 module _ (h : History) (rules : AdmissionRules) (t : AdmissionFollows (admission_words h) rules) where
   -- the cookie for a name is the policy's
   pub cookie_is : (n : List ℕ) → cookie_of rules n ≡ cookie h n
-  cookie_is n =
-      ap (λ o. cond (same n o) rules.cookie (unwrap_or (lookup (bytes_eq n) rules.peers) rules.cookie)) t.own
-      ∙ ap (λ c. cond (same n h.opening.name) c (unwrap_or (lookup (bytes_eq n) rules.peers) c)) t.own_cookie
-      ∙ ap (λ o. cond (same n h.opening.name) (own_cookie h) (unwrap_or o (own_cookie h))) (t.cookie n)
-      ∙ grind arith
+  cookie_is n = grind (arith, t.own, t.own_cookie, t.cookie n)
 
   -- ---- the limits
 

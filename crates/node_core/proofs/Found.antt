@@ -1,5 +1,5 @@
 -- Elements that pass a test, and their places.
-use Rattle.node_core.proofs.Words.{Bool, List, None, Some, ap, arith, cond, false, find, is_some, map, position, refl, subst, sym, true, ℕ, [], ◌||◌, ◌∙◌, ◌∷◌}
+use Rattle.node_core.proofs.Words.{Bool, List, None, Some, ap, arith, cond, false, find, is_some, map, position, refl, subst, sym, true, [], ◌||◌, ◌∙◌, ◌∷◌}
 use Rattle.node_core.proofs.Words.{◌≡◌, AllByRecursion, list_any, lt-ltb, ltb-true, no_value, ltb-false}
 
 -- the value in an option

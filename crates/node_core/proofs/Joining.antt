@@ -1,13 +1,13 @@
 -- Own processes that join groups and leave them.
 use Rattle.node_core.proofs.Words.{lt-leb, All, Bool, List, None, Option, Some, ap, arith, cond, false, get_or, length, map, nat_le, not, position, refl, set}
-use Rattle.node_core.proofs.Words.{suc, sym, true, zero, ℕ, [], ◌&&◌, ◌++◌, ◌+◌, ◌<◌, ◌==◌, ◌∙◌, ◌∷◌, ◌≡◌, ◌≤◌, list_all, le-leb, leb-true, same_decides}
-use Rattle.node_core.proofs.Words.{listing, mentions, same, pid_cmp, Pid, Message, local_total, all_hold, unbroken, told_numbers, and_left, and_right, checks}
-use Rattle.node_core.proofs.Words.{first_broken, local_rows, row, History, creation, listed, waiting, wide, is_local, is_running, lives, IsAnswered, IsNext}
-use Rattle.node_core.proofs.Words.{is_full, with_entry, Change, Entry, Accepted, Rule, IsCalmFault, Follows, Parts, link_words, KeptLink, IsMoved}
-use Rattle.node_core.proofs.Words.{ProcessesFollow, process_words, Spawned, IsRunningOf, is_number, scope_words, if_among, said_to, max_rows, count_after_join}
-use Rattle.node_core.proofs.Words.{lives_of, joined_links, Running, CoreFault, IsJoinRefusal, own_checks, Event, Reply, Keeps, Kept, nat_lt, subst, ◌-◌, ◌||◌}
-use Rattle.node_core.proofs.Words.{list_any, count_of, local_count, min, count_after_leave, is_any_joined, own, left_links, IsLeaveRefusal, AdmissionFollows}
-use Rattle.node_core.proofs.Words.{admission_words, running_scopes, heard, told, facts, kept_numbers, if_told, Row, answer, is_said, is_empty}
+use Rattle.node_core.proofs.Words.{sym, true, ℕ, [], ◌&&◌, ◌++◌, ◌+◌, ◌==◌, ◌∙◌, ◌∷◌, ◌≡◌, ◌≤◌, list_all, le-leb, leb-true, same_decides, listing, mentions}
+use Rattle.node_core.proofs.Words.{same, pid_cmp, Pid, Message, local_total, all_hold, unbroken, told_numbers, checks, first_broken, local_rows, row, History}
+use Rattle.node_core.proofs.Words.{listed, waiting, wide, is_local, is_running, lives, IsAnswered, IsNext, is_full, with_entry, Change, Entry, Accepted, Rule}
+use Rattle.node_core.proofs.Words.{IsCalmFault, Follows, Parts, link_words, KeptLink, IsMoved, ProcessesFollow, process_words, Spawned, IsRunningOf, is_number}
+use Rattle.node_core.proofs.Words.{scope_words, if_among, said_to, max_rows, count_after_join, lives_of, joined_links, Running, CoreFault, IsJoinRefusal}
+use Rattle.node_core.proofs.Words.{own_checks, Event, Reply, Keeps, Kept, nat_lt, subst, ◌-◌, list_any, count_of, local_count, min, count_after_leave}
+use Rattle.node_core.proofs.Words.{is_any_joined, own, left_links, IsLeaveRefusal, AdmissionFollows, admission_words, running_scopes, heard, told, facts}
+use Rattle.node_core.proofs.Words.{kept_numbers, if_told, Row, answer, is_said, is_empty}
 use Rattle.group_monitors.specs.Follows.{concerns_monitors}
 use Rattle.std.proofs.lemmas.List.Folds.{list_all_at}
 use Rattle.policy_audit.proofs.RowsAfter.{joined_rows, left_rows}

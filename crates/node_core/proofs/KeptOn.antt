@@ -1,8 +1,8 @@
 -- The kept links after an entry: which of them stay, and how one of them or each is changed.
-use Rattle.node_core.proofs.Words.{IsState, Bool, List, Some, ap, arith, cond, false, get_or, length, map, nat_eq, nat_lt, position, refl, set, subst, suc, sym, true}
-use Rattle.node_core.proofs.Words.{zero, ℕ, [], ◌<◌, ◌∙◌, ◌∷◌, ◌≡◌, AllByRecursion, filter, list_all, option_map_or, eqb-true, ltb-true, position-Some, History}
-use Rattle.node_core.proofs.Words.{is_open, challenge_in, IsLinkOf, LinkWords, LinksFollow, facts, KeptLink, IsSameLink, Climbs, None, is_some, list_any}
-use Rattle.node_core.proofs.Words.{kept_among, is_kept, IsLegal, link_words, map-id}
+use Rattle.node_core.proofs.Words.{IsState, Bool, List, Some, ap, arith, cond, false, get_or, length, map, nat_eq, nat_lt, position, refl, set, subst, suc, sym}
+use Rattle.node_core.proofs.Words.{true, zero, ℕ, [], ◌<◌, ◌∙◌, ◌∷◌, ◌≡◌, AllByRecursion, filter, list_all, option_map_or, eqb-true, ltb-true, position-Some}
+use Rattle.node_core.proofs.Words.{History, is_open, challenge_in, IsLinkOf, LinkWords, LinksFollow, facts, KeptLink, IsSameLink, Climbs, None, is_some}
+use Rattle.node_core.proofs.Words.{list_any, kept_among, is_kept, IsLegal, link_words, map-id}
 use Rattle.std.proofs.Math.Seq.{map-set_same}
 use Rattle.std.proofs.lemmas.List.Folds.{list_all-map, list_all_at}
 use Rattle.std.proofs.lemmas.List.Elements.{All-from_recursion}

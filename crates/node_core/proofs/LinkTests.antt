@@ -4,7 +4,7 @@ use Rattle.node_core.proofs.Words.{◌∷◌, ◌≡◌, AllByRecursion, list_an
 use Rattle.node_core.proofs.Words.{allow_list, dial_checks, first_broken, History, is_dialling, is_open, is_unfinished_dial, is_up, IsLegal, awaits, is_name_up}
 use Rattle.node_core.proofs.Words.{is_peer, is_whole, peer_of, AdmissionFollows, admission_words, IsLinkOf, IsState, LinksFollow, facts, link_words, KeptLink}
 use Rattle.node_core.proofs.Words.{dialled_peer, up_peer, allowed, is_dial_to, kept_links, name_up_kept, dialling_kept, LinkState, Awaits, Rule, flat_map}
-use Rattle.node_core.proofs.Words.{option_to_list, Pending, and-true}
+use Rattle.node_core.proofs.Words.{option_to_list, Pending}
 use Rattle.link_states.specs.Checks.{allows}
 use Rattle.policy_audit.proofs.Onward.{is_acceptors, is_diallers, by_peer, by_dial}
 use Rattle.node_core.proofs.Found.{any_map}
@@ -33,9 +33,7 @@ module _ (h : History) (n : List ℕ) where
 
   dialled : (l : ℕ) (m : List ℕ) → is_open l h.entries ≡ true → is_whole l h.entries ≡ false → is_diallers (awaits l h.entries) ≡ true → peer_of l h.entries ≡ Some m → same m n ≡ (is_open l h.entries && is_unfinished_dial n l h.entries)
   dialled l m opens unwhole a of =
-      let it = by_dial l h.entries opens a in
-      ap (λ o. option_map_or (λ x. same x n) o false) (sym of ∙ it.peer_is)
-      ∙ sym (and-true (same it.peer n)) ∙ sym (λ i. opens i && (option_map_or (λ o. is_dial_to n o.start) (it.opened i) false && not (unwhole i)))
+      let it = by_dial l h.entries opens a in grind (arith, it.peer_is, it.opened)
 
   -- a link is an own dial to n exactly where its state says so
   pub dialled_by : (l : ℕ) (s : LinkState) → IsState (facts h l) s → option_map_or (λ m. same m n) (dialled_peer s) false ≡ (is_open l h.entries && is_unfinished_dial n l h.entries)
@@ -80,9 +78,7 @@ module _ (h : History) (rules : AdmissionRules) (t : AdmissionFollows (admission
 -- the first rule that a dial breaks, by what is tested
 pub dial_by : (h : History) (n : List ℕ) (own granted up dials room : Bool) → same n h.opening.name ≡ own → allowed h n ≡ granted → is_name_up n h.entries ≡ up → is_dialling n h.entries ≡ dials → nat_lt (kept_links h) 64 ≡ room
     → first_broken (dial_checks h n) ≡ cond own (Some Rule.OwnName) (cond (not granted) (Some Rule.NotAllowed) (cond up (Some Rule.LinkUp) (cond dials (Some Rule.LinkPending) (cond (not room) (Some Rule.LinksFull) None))))
-dial_by h n own granted up dials room a b c d e =
-    (λ i. cond (not (not (a i))) (Some Rule.OwnName) (cond (not (b i)) (Some Rule.NotAllowed) (cond (not (not (c i))) (Some Rule.LinkUp) (cond (not (not (d i))) (Some Rule.LinkPending) (cond (not (e i)) (Some Rule.LinksFull) None)))))
-    ∙ grind arith
+dial_by h n own granted up dials room a b c d e = grind arith
 
 -- an option that is no value
 pub not_some : {A : Type 0} (o : Option A) → ((x : A) → o ≡ Some x → ⊥) → o ≡ None

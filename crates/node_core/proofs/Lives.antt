@@ -1,7 +1,7 @@
 -- The processes of a node after those that were spawned.
-use Rattle.node_core.proofs.Words.{List, ap, arith, cond, false, length, nat_eq, nat_le, nat_lt, refl, sym, true, ℕ, [], ◌+◌, ◌∙◌, ◌≡◌, leb-true, lt-ltb}
-use Rattle.node_core.proofs.Words.{and_left, and_right, History, creation, lives, IsAnswered, IsLegal, answer, Accepted, Reply, ProcessesFollow, process_words}
-use Rattle.node_core.proofs.Words.{Spawned, is_number, spawned, living, own_pid, Event, leb-false}
+use Rattle.node_core.proofs.Words.{List, arith, cond, false, length, nat_eq, nat_le, nat_lt, refl, sym, true, ℕ, [], ◌+◌, ◌∙◌, ◌≡◌, leb-true, lt-ltb, and_left}
+use Rattle.node_core.proofs.Words.{and_right, History, creation, lives, IsAnswered, IsLegal, answer, Accepted, Reply, ProcessesFollow, process_words, Spawned}
+use Rattle.node_core.proofs.Words.{is_number, spawned, living, own_pid, Event, leb-false}
 use Rattle.policy_audit.proofs.LivesNow.{lives_spawned}
 use Rattle.node_core.proofs.Entered.{made}
 use Rattle.node_core.proofs.Calm.{answered}
@@ -28,10 +28,7 @@ module _ (h : History) (p : Spawned) (t : ProcessesFollow (process_words h) p) w
       → ProcessesFollow (process_words (answered h seat Event.Spawn r)) q
   spawned_follow seat r q legal its more live count = record {
     spawned = let is = t.spawned in omega (arith, more, is);
-    live = λ n.
-        live n ∙ ap (λ k. cond (nat_eq (k + 1) n) true (is_number n p.live)) t.spawned
-        ∙ ap (λ b. cond (nat_eq (spawned h + 1) n) true b) (t.live n)
-        ∙ sym (lives_spawned h (made h seat Event.Spawn (Accepted r) []) its refl legal refl n);
+    live = λ n. grind (arith, live n, t.spawned, t.live n, lives_spawned h (made h seat Event.Spawn (Accepted r) []) its refl legal refl n);
     count = let was = t.count in omega (arith, count, was);
   }
 

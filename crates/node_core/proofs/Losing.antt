@@ -1,18 +1,18 @@
 -- Links that are lost or given up.
-use Rattle.node_core.proofs.Words.{List, None, Option, Some, ap, cond, false, get_or, is_some, length, nat_eq, not, position, refl, subst, sym, true, ℕ, ◌&&◌}
-use Rattle.node_core.proofs.Words.{◌<◌, ◌∙◌, ◌≡◌, filter, option_map_or, position-Some, same, no_value, and_both, History, is_open, is_up, IsAnswered, IsNext}
-use Rattle.node_core.proofs.Words.{is_full, with_entry, is_name_up, is_whole, peer_of, present_link, Change, Entry, Accepted, Follows, Parts, AreCut, AreLost}
-use Rattle.node_core.proofs.Words.{IsLinkOf, IsState, LinksFollow, facts, link_words, KeptLink, up_peer, agrees, LinkState, Running, Event, Reply, Bool, []}
-use Rattle.node_core.proofs.Words.{◌==◌, and-true, eqb-true, Pid, count_after_drop, no_change, stopped_lists, flip, IsChange, heard, told, listed, waiting}
-use Rattle.node_core.proofs.Words.{running_scopes, ArePartings, ScopesFollow, scope_words, IsSameLink, IsHeardNow, arith}
+use Rattle.node_core.proofs.Words.{List, None, Option, Some, ap, cond, false, get_or, length, nat_eq, not, position, refl, subst, sym, true, ℕ, ◌&&◌, ◌<◌, ◌∙◌}
+use Rattle.node_core.proofs.Words.{◌≡◌, filter, option_map_or, position-Some, same, no_value, and_both, History, is_open, is_up, IsAnswered, IsNext, is_full}
+use Rattle.node_core.proofs.Words.{with_entry, is_whole, peer_of, present_link, Change, Entry, Accepted, Follows, Parts, AreCut, AreLost, IsLinkOf, IsState}
+use Rattle.node_core.proofs.Words.{LinksFollow, facts, link_words, KeptLink, up_peer, agrees, LinkState, Running, Event, Reply, Bool, [], ◌==◌, and-true}
+use Rattle.node_core.proofs.Words.{eqb-true, Pid, count_after_drop, no_change, stopped_lists, flip, IsChange, heard, told, listed, waiting, running_scopes}
+use Rattle.node_core.proofs.Words.{ScopesFollow, scope_words, IsSameLink, IsHeardNow, arith}
 use Rattle.policy_audit.proofs.LinkFrames.{lost_links, disconnected_links}
 use Rattle.policy_audit.proofs.LinksLeft.{facts_left, lost_numbers, disconnected_numbers}
 use Rattle.policy_audit.proofs.HeardNow.{lost_heard, disconnected_heard}
 use Rattle.policy_audit.proofs.RowsAfter.{lost_rows, lost_other, disconnected_rows}
 use Rattle.node_core.proofs.Entered.{step_follows, made, accepted_next, answered_by}
-use Rattle.node_core.proofs.Found.{some_is, place_found}
+use Rattle.node_core.proofs.Found.{some_is}
 use Rattle.node_core.proofs.KeptOn.{each_at, facts_same, same_link, is_kept_at, link_at, stay_follow}
-use Rattle.node_core.proofs.LinkTests.{up_is, peer_by_test}
+use Rattle.node_core.proofs.LinkTests.{peer_by_test}
 use Rattle.policy_audit.proofs.KeptNumbers.{kept_numbers}
 use Rattle.node_core.proofs.Partings.{partings_change}
 use Rattle.node_core.proofs.ScopesCutOff.{AreCutOff, cut_off_follow}

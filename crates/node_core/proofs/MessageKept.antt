@@ -3,8 +3,8 @@ use Rattle.node_core.proofs.Words.{Bool, List, None, Some, ap, cond, false, nat_
 use Rattle.node_core.proofs.Words.{option_map_or, eq-eqb, eqb-true, append-nil, Message, kept_climbs, and_left, and_right, flip, IsChange, always, checks}
 use Rattle.node_core.proofs.Words.{first_broken, frame_checks, message_checks, message_taken, History, is_open, is_up, named_by, waiting, IsAnswered, IsLegal}
 use Rattle.node_core.proofs.Words.{IsNext, is_full, up_answer, verdict, with_entry, AwaitMessage, awaits, challenge_in, is_last, is_whole, Change, Entry}
-use Rattle.node_core.proofs.Words.{Accepted, IsState, LinksFollow, facts, kept_numbers, link_words, KeptLink, message_owes, entry_link, framed_numbers, Event}
-use Rattle.node_core.proofs.Words.{Reply, Rule, arith}
+use Rattle.node_core.proofs.Words.{Accepted, IsState, LinksFollow, facts, link_words, KeptLink, message_owes, entry_link, framed_numbers, Event, Reply, Rule}
+use Rattle.node_core.proofs.Words.{arith}
 use Rattle.policy_audit.proofs.Onward.{message_taken_on}
 use Rattle.policy_audit.proofs.LinkFrames.{message_links}
 use Rattle.node_core.proofs.Entered.{made, accepted_now, answered_now, next_now}

@@ -1,13 +1,12 @@
 -- The rules that a message breaks, by what a node keeps of its link and of its scope.
 use Rattle.node_core.proofs.Words.{lt-leb, All, Bool, List, None, Some, ap, arith, cond, false, length, nat_le, not, refl, subst, sym, true, ℕ, [], ◌&&◌, ◌+◌}
-use Rattle.node_core.proofs.Words.{◌<◌, ◌==◌, ◌||◌, ◌∙◌, ◌∷◌, ◌≡◌, ◌≤◌, AllByRecursion, filter, flat_map, list_all, option_map_or, le-leb, same_decides}
-use Rattle.node_core.proofs.Words.{same_sym, is_empty, has_bit, IsPidListing, same, Pid, Row, Name, Message, all_hold, no_value, unbroken, and_left, and_right}
-use Rattle.node_core.proofs.Words.{flip, always, checks, first_broken, message_checks, heard, message_taken, History, is_open, is_up, listed, refusal_owes}
-use Rattle.node_core.proofs.Words.{is_running, AwaitMessage, awaits, is_whole, peer_of, Rule, IsCalmFault, refuses_calmly, KeptLink, up_peer, IsRunningOf}
-use Rattle.node_core.proofs.Words.{is_number, scope_words, IsGroupListing, node_total, max_rows, are_counted, rows_of, is_from, members, groups, peer_rows}
-use Rattle.node_core.proofs.Words.{CoreFault, Running, is_shown, are_of_peer, scope_in, early_checks, IsAddRefusal, IsTakeRefusal, Event, IsBrief}
+use Rattle.node_core.proofs.Words.{◌<◌, ◌==◌, ◌||◌, ◌∙◌, ◌≡◌, ◌≤◌, filter, flat_map, list_all, option_map_or, le-leb, same_decides, same_sym, is_empty}
+use Rattle.node_core.proofs.Words.{IsPidListing, same, Pid, Row, Message, all_hold, no_value, unbroken, and_left, and_right, flip, always, checks, first_broken}
+use Rattle.node_core.proofs.Words.{message_checks, heard, message_taken, History, is_open, is_up, listed, refusal_owes, is_running, AwaitMessage, awaits}
+use Rattle.node_core.proofs.Words.{is_whole, peer_of, Rule, IsCalmFault, refuses_calmly, KeptLink, up_peer, IsRunningOf, is_number, scope_words, IsGroupListing}
+use Rattle.node_core.proofs.Words.{node_total, max_rows, are_counted, rows_of, is_from, members, groups, peer_rows, CoreFault, Running, is_shown, are_of_peer}
+use Rattle.node_core.proofs.Words.{scope_in, early_checks, IsAddRefusal, IsTakeRefusal, Event, IsBrief, get_or}
 use Rattle.std.proofs.lemmas.List.Folds.{list_all_at}
-use Rattle.node_core.proofs.Words.{get_or}
 use Rattle.scope_core.proofs.Members.{length-members}
 use Rattle.policy_audit.specs.Sides.{is_visible}
 use Rattle.policy_audit.proofs.Onward.{whole_is_message}
@@ -53,16 +52,10 @@ left_from h l s rows q = unbroken (list_all (λ r. is_from l h.entries r.pid) ro
 module _ {h : History} {l : ℕ} {x : KeptLink} (here : IsUpHere h l x) where
   -- whether the link is visible
   pub visible_is : is_shown x.state ≡ is_visible h l
-  visible_is =
-      let gave = here.introduced.said.1 in
-      ap is_shown here.is ∙ gave.visible_is ∙ ap (λ b. not h.opening.hidden && b) (sym (ap (λ o. option_map_or {T = Name} {U = Bool} (λ f. has_bit 0 f.flags) o false) gave.said))
+  visible_is = (let gave = here.introduced.said.1 in grind (arith, here.is, gave.visible_is, gave.said))
 
   from_is : (p : Pid) → is_from l h.entries p ≡ (same p.node here.far.peer && p.creation == here.far.creation)
-  from_is p =
-      let gave = here.introduced.said.1 in
-      let made_by = ap (λ n. n == p.creation) (sym gave.creation_is) ∙ flip here.far.creation p.creation in
-      (λ i. option_map_or {T = List ℕ} {U = Bool} (λ m. same m p.node) (here.introduced.peer.peer i) false && option_map_or {T = Name} {U = Bool} (λ f. f.creation == p.creation) (gave.said i) false)
-      ∙ (λ i. same_sym here.far.peer p.node i && made_by i)
+  from_is p = (let gave = here.introduced.said.1 in grind (arith, here.introduced.peer.peer, gave.said, gave.creation_is, same_sym here.far.peer p.node, flip here.far.creation p.creation))
 
   -- whether rows are of its peer
   pub of_peer_is : (rows : List Row) → are_of_peer x.state rows ≡ list_all (λ r. is_from l h.entries r.pid) rows

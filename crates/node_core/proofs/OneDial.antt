@@ -1,11 +1,10 @@
 -- One own dial to a peer is unfinished at a time.
-use Rattle.node_core.proofs.Words.{arith, Bool, List, None, Option, Some, ap, cond, false, not, refl, sym, true, ℕ, [], ◌&&◌, ◌==◌, ◌||◌, ◌∙◌, ◌∷◌, ◌≡◌}
-use Rattle.node_core.proofs.Words.{option_map_or, eqb-true, same_decides, same, all_hold, lie, unbroken, and_left, dial_checks, first_broken, History, past}
-use Rattle.node_core.proofs.Words.{is_dialling, is_open, is_unfinished_dial, links, IsLegal, verdict, Entry, Verdict, Accepted, Refused, Event, Reply, Opening}
-use Rattle.node_core.proofs.Words.{Start, ByPeer, ByDial, Opened, Taken, and_frame, opened, taken, ends, is_dial_to, IsLegalIn, accepted, some_of, was_before}
+use Rattle.node_core.proofs.Words.{arith, Bool, List, None, ap, false, not, refl, sym, true, ℕ, [], ◌&&◌, ◌==◌, ◌∙◌, ◌∷◌, ◌≡◌, eqb-true, same_decides, all_hold}
+use Rattle.node_core.proofs.Words.{lie, unbroken, and_left, dial_checks, first_broken, History, past, is_dialling, is_open, is_unfinished_dial, links, IsLegal}
+use Rattle.node_core.proofs.Words.{verdict, Entry, Verdict, Accepted, Event, Reply, Opening, opened, taken, IsLegalIn, accepted, some_of}
 use Rattle.node_core.proofs.Found.{not_so}
 use Rattle.policy_audit.proofs.Walked.{but, open_opened}
-use Rattle.policy_audit.proofs.Finished.{whole_by, whole_kept}
+use Rattle.policy_audit.proofs.Finished.{whole_kept}
 use Rattle.policy_audit.proofs.KeptLinks.{opened_linked}
 
 -- the link is an own dial to n that is unfinished

@@ -1,16 +1,13 @@
 -- Links that open: the new link follows its opening, and all others are as before.
-use Rattle.node_core.proofs.Words.{le-ltb, not-true, List, None, Some, ap, arith, false, length, map, nat_le, nat_lt, not, refl, subst, sym, true, ℕ, [], ◌++◌}
-use Rattle.node_core.proofs.Words.{◌<◌, ◌==◌, ◌||◌, ◌∙◌, ◌∷◌, ◌≡◌, ◌≤◌, AllByRecursion, list_all, option_map_or, eq-eqb, eqb-true, leb-true, lt-ltb, same}
-use Rattle.node_core.proofs.Words.{AdmissionRules, all_hold, unbroken, no_change, dial_checks, first_broken, History, is_accepted, is_open, is_kept, narrow}
-use Rattle.node_core.proofs.Words.{running_scopes, IsAnswered, IsLegal, IsNext, is_full, next_number, with_entry, challenge_in, Entry, Accepted}
-use Rattle.node_core.proofs.Words.{AdmissionFollows, admission_words, Follows, Parts, IsLinkOf, IsState, LinksFollow, facts, link_words, KeptLink, ScopesFollow}
-use Rattle.node_core.proofs.Words.{scope_words, length-map, map-append, Awaits, listed, Pid, own_flags, Start, ByPeer, ByDial, start_of, own_name_frame}
-use Rattle.node_core.proofs.Words.{kept_links, kept_count, kept_opening, opening_waiting, all_left, all_reverse, opened_waiting, dialled_waiting, dialled_link}
-use Rattle.node_core.proofs.Words.{Event, Reply, LinkState}
+use Rattle.node_core.proofs.Words.{not-true, List, None, Some, ap, arith, false, length, map, nat_le, not, refl, subst, sym, true, ℕ, [], ◌++◌, ◌<◌, ◌==◌, ◌||◌}
+use Rattle.node_core.proofs.Words.{◌∙◌, ◌∷◌, ◌≡◌, AllByRecursion, list_all, option_map_or, eq-eqb, eqb-true, leb-true, lt-ltb, same, all_hold, unbroken}
+use Rattle.node_core.proofs.Words.{no_change, dial_checks, first_broken, History, is_accepted, is_open, is_kept, narrow, running_scopes, IsAnswered, IsLegal}
+use Rattle.node_core.proofs.Words.{IsNext, is_full, next_number, with_entry, challenge_in, Entry, Accepted, Follows, Parts, IsLinkOf, LinksFollow, facts}
+use Rattle.node_core.proofs.Words.{link_words, KeptLink, ScopesFollow, scope_words, length-map, map-append, Awaits, listed, Pid, own_flags, Start, ByPeer}
+use Rattle.node_core.proofs.Words.{ByDial, start_of, kept_links, kept_count, kept_opening, opening_waiting, all_left, all_reverse, opened_waiting}
+use Rattle.node_core.proofs.Words.{dialled_waiting, dialled_link, Event, Reply, LinkState}
 use Rattle.handshake_frames.specs.Spelling.{name_bytes}
-use Rattle.link_states.specs.Frames.{own_name}
 use Rattle.policy_audit.proofs.KeptLinks.{links_below}
-use Rattle.policy_audit.proofs.KeptNumbers.{kept_numbers}
 use Rattle.policy_audit.proofs.NewLinks.{IsNewLink, opened_apart, opened_new, opened_open}
 use Rattle.policy_audit.proofs.HeardNow.{opening_heard}
 use Rattle.policy_audit.proofs.RowsAfter.{opened_rows, dialled_rows}

@@ -1,13 +1,13 @@
 -- What is read of the kept links, in the policy's words.
-use Rattle.node_core.proofs.Words.{Bool, List, None, Some, ap, arith, cond, false, is_some, map, nat_eq, refl, sym, true, ℕ, [], ◌&&◌, ◌++◌, ◌∙◌, ◌∷◌, ◌≡◌, ◌≤◌}
-use Rattle.node_core.proofs.Words.{AllByRecursion, flat_map, list_any, option_map_or, option_to_list, eq-eqb, eqb-true, occurrences, same, kept_among, and_left}
-use Rattle.node_core.proofs.Words.{and_right, History, is_open, is_up, awaits, is_name_up, is_peer, is_whole, peer_of, Follows, Parts, IsLinkOf, IsState, facts}
+use Rattle.node_core.proofs.Words.{Bool, List, None, Some, ap, arith, cond, is_some, map, nat_eq, refl, sym, true, ℕ, [], ◌&&◌, ◌++◌, ◌∙◌, ◌∷◌, ◌≡◌, ◌≤◌}
+use Rattle.node_core.proofs.Words.{AllByRecursion, flat_map, list_any, option_to_list, eq-eqb, eqb-true, occurrences, same, kept_among, and_left, and_right}
+use Rattle.node_core.proofs.Words.{History, is_open, is_up, awaits, is_name_up, is_peer, is_whole, peer_of, Follows, Parts, IsLinkOf, IsState, facts}
 use Rattle.node_core.proofs.Words.{kept_numbers, link_words, KeptLink, up_peer, how_many, kept_once, name_up_kept, one_up, LinkState, frame_awaited}
 use Rattle.node_core.specs.Reading.{up_name, up_names, frame_of, awaiting}
 use Rattle.scope_core.proofs.Rising.{all_map}
 use Rattle.node_core.proofs.Found.{any_map}
 use Rattle.node_core.proofs.Told.{map_map, map_same}
-use Rattle.node_core.proofs.LinkTests.{agree, up_is, peer_by_test}
+use Rattle.node_core.proofs.LinkTests.{agree, peer_by_test}
 
 -- ---- what a link's state tells
 

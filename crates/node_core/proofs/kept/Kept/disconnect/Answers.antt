@@ -1,4 +1,4 @@
-use Rattle.node_core.proofs.Words.{is_some, ap, get_or_default, false, length, refl, subst, sym, [], ◌<◌, ◌∙◌, option_map_or, position-Some, same, AreCut, AreLost}
+use Rattle.node_core.proofs.Words.{is_some, ap, get_or_default, false, length, refl, subst, sym, ◌<◌, ◌∙◌, option_map_or, position-Some, same, AreCut, AreLost}
 use Rattle.node_core.proofs.Words.{up_peer, Rule}
 use Rattle.node_core.proofs.Answering.{accepts, refuses}
 use Rattle.node_core.proofs.Found.{place_found}

@@ -1,4 +1,4 @@
-use Rattle.node_core.proofs.Words.{arith, kept_links, le-ltb, length, refl, ◌<◌, ◌∙◌, ◌≤◌, Rule}
+use Rattle.node_core.proofs.Words.{arith, kept_links, le-ltb, length, refl, ◌<◌, ◌∙◌, Rule}
 use Rattle.node_core.proofs.Answering.{accepts, refuses}
 use Rattle.node_core.proofs.Openings.{kept_are, opened_now}
 use Rattle.node_core.proofs.kept.Kept.opened.Goals as goal
