@@ -1,48 +1,65 @@
--- A node that begins anew.
-use Rattle.node_core.proofs.Words.{List, None, Some, ap, arith, cond, false, not, refl, sym, ℕ, [], ◌+◌, ◌==◌, ◌∙◌, ◌≡◌, eq-eqb, eqb-true, Pid}
-use Rattle.node_core.proofs.Words.{no_count, stopped_lists, checks, first_broken, History, creation, listed, IsNext, is_full, with_entry, Change}
-use Rattle.node_core.proofs.Words.{Accepted, Follows, Parts, ArePartings, Opening, follows_cleared, own_pid, Event, Reply, Rule}
+-- A node that has seen nothing, and one that begins anew.
+use Rattle.node_core.proofs.Words.{List, Some, ap, arith, false, refl, sym, ℕ, [], ◌+◌, ◌==◌, ◌∙◌, ◌≡◌, eq-eqb, eqb-true, Pid, no_count, stopped_lists, checks}
+use Rattle.node_core.proofs.Words.{first_broken, History, creation, listed, IsNext, is_full, with_entry, Change, Accepted, Follows, Parts, ArePartings, Opening}
+use Rattle.node_core.proofs.Words.{follows_cleared, own_pid, Event, Reply, Rule, Bool, true, nat_le, ◌&&◌, ◌<◌, leb-true, same, past, ◌^◌, follows_start}
 use Rattle.policy_audit.proofs.LivesNow.{lives_restarted}
-use Rattle.node_core.proofs.Entered.{made, accepted_now, next_now, sound_now}
+use Rattle.node_core.proofs.Entered.{made, accepted_next, answered_by, sound_now}
 use Rattle.node_core.proofs.Partings.{partings_change}
 use Rattle.node_core.proofs.Found.{not_so}
+
+-- no process was spawned
+none_numbered : (a : Bool) (n : ℕ) → false ≡ (a && nat_le 1 n && nat_le n 0 && true)
+none_numbered a n = grind (arith, leb-true 1 n, leb-true n 0)
+
+pub begun : (o : Opening) → o.entries < 2 ^ 32 → Follows (past o []) (record { admission = record { own = o.name; cookie = o.cookie; hidden = o.hidden; creation = o.creation; peers = []; allowed = [] }; processes = record { spawned = 0; live = [] }; scopes = []; links = []; monitors = [] })
+begun o fits = record {
+  sound = record { legal = tt; fits = fits; few = omega arith; few_spawned = omega arith };
+  admission = record {
+    own = refl;
+    hidden = refl;
+    creation = omega arith;
+    own_cookie = refl;
+    cookie = λ n. grind arith;
+    peers = λ n. refl;
+    allowed = λ n. refl;
+  };
+  processes = record { spawned = refl; live = λ n. none_numbered (same o.name o.name && o.creation + 0 == o.creation + 0) n; count = refl };
+  scopes = record { running = refl; each = tt };
+  links = record { numbers = refl; each = tt };
+  monitors = follows_start o;
+}
+
+-- ---- a restart
 
 module _ (h : History) (seat : ℕ) where
   abbrev anew : List Change → History
   anew cs = with_entry h (made h seat Event.Restart (Accepted Reply.Done) cs)
 
   pub creation_spent : creation h ≡ 4294967295 → first_broken (checks h seat Event.Restart) ≡ Some Rule.CreationSpent
-  creation_spent q = ap (λ b. cond (not (not b)) (Some Rule.CreationSpent) None) (eq-eqb (creation h) 4294967295 q)
+  creation_spent q = grind (arith, eq-eqb (creation h) 4294967295 q)
 
-  pub creation_left : (n : ℕ) → n ≡ creation h → (n ≡ 4294967295 → ⊥) → first_broken (checks h seat Event.Restart) ≡ None
-  creation_left n is q = ap (λ b. cond (not (not b)) (Some Rule.CreationSpent) None) (not_so (creation h == 4294967295) (λ e. q (is ∙ eqb-true (creation h) 4294967295 e)))
-
-  creation_more : (cs : List Change) → creation (anew cs) ≡ creation h + 1
-  creation_more cs = omega arith
-
-  module _ (parts : Parts) (t : Follows h parts) (cs : List Change) (gone : ArePartings (λ t. no_count) parts.scopes cs) where
-    pub anew_next : is_full h ≡ false → first_broken (checks h seat Event.Restart) ≡ None → IsNext h (made h seat Event.Restart (Accepted Reply.Done) cs)
-    anew_next space holds = next_now h seat Event.Restart space (Accepted Reply.Done) cs (accepted_now h seat Event.Restart space Reply.Done holds refl)
-        (partings_change h (anew cs) (λ x. no_count) (λ r f g p. sym (nobody r.scope g p)) parts.scopes t.scopes (λ s stopped g p. nobody s g p) cs gone)
-      where
-        nobody : (s g : List ℕ) (p : Pid) → listed (anew cs) s g p ≡ 0
-        nobody s g p = stopped_lists (anew cs) s g p refl
-
-    pub anew_follows : IsNext h (made h seat Event.Restart (Accepted Reply.Done) cs) → (o : Opening) (number : ℕ) → o ≡ h.opening → number ≡ parts.admission.creation + 1
-        → Follows (anew cs) (record { admission = record { own = o.name; cookie = o.cookie; hidden = o.hidden; creation = number; peers = []; allowed = [] }; processes = record { spawned = 0; live = [] }; scopes = []; links = []; monitors = [] })
-    anew_follows next o number same more = record {
-      sound = sound_now h _ t.sound next;
-      admission = record {
-        own = ap (λ x. x.name) same;
-        hidden = ap (λ x. x.hidden) same;
-        creation = (let was : parts.admission.creation ≡ creation h = t.admission.creation in let is : creation (anew cs) ≡ creation h + 1 = creation_more cs in omega (arith, more, was, is));
-        own_cookie = ap (λ x. x.cookie) same;
-        cookie = λ n. grind arith;
-        peers = λ n. refl;
-        allowed = λ n. refl;
-      };
-      processes = record { spawned = refl; live = λ n. sym (lives_restarted h (made h seat Event.Restart (Accepted Reply.Done) cs) (record { room = next.room; number = next.number; verdict = next.verdict }) refl refl (own_pid (anew cs) n)); count = refl };
-      scopes = record { running = refl; each = tt };
-      links = record { numbers = refl; each = tt };
-      monitors = follows_cleared h _ refl refl;
-    }
+  pub anew_now : (parts : Parts) → Follows h parts → (cs : List Change) → ArePartings (λ t. no_count) parts.scopes cs → is_full h ≡ false → (n : ℕ) → n ≡ creation h → (n ≡ 4294967295 → ⊥) → (o : Opening) (number : ℕ) → o ≡ h.opening → number ≡ parts.admission.creation + 1
+      → IsNext h (made h seat Event.Restart (Accepted Reply.Done) cs)
+      × Follows (anew cs) (record { admission = record { own = o.name; cookie = o.cookie; hidden = o.hidden; creation = number; peers = []; allowed = [] }; processes = record { spawned = 0; live = [] }; scopes = []; links = []; monitors = [] })
+  anew_now parts t cs gone space n is left o number same more =
+      let nobody : (s g : List ℕ) (p : Pid) → listed (anew cs) s g p ≡ 0 = λ s g p. stopped_lists (anew cs) s g p refl in
+      let next = accepted_next h seat Event.Restart space Reply.Done cs (rw (not_so (creation h == 4294967295) (λ e. left (is ∙ eqb-true (creation h) 4294967295 e)))) refl
+          (λ its. partings_change h (anew cs) (λ x. no_count) (λ r f g p. sym (nobody r.scope g p)) parts.scopes t.scopes (λ s stopped g p. nobody s g p) cs gone) in (
+        next,
+        record {
+          sound = sound_now h _ t.sound next;
+          admission = record {
+            own = ap (λ x. x.name) same;
+            hidden = ap (λ x. x.hidden) same;
+            creation = (let was : parts.admission.creation ≡ creation h = t.admission.creation in omega (arith, more, was));
+            own_cookie = ap (λ x. x.cookie) same;
+            cookie = λ n. grind arith;
+            peers = λ n. refl;
+            allowed = λ n. refl;
+          };
+          processes = record { spawned = refl; live = λ n. sym (lives_restarted h (made h seat Event.Restart (Accepted Reply.Done) cs) (answered_by next) refl refl (own_pid (anew cs) n)); count = refl };
+          scopes = record { running = refl; each = tt };
+          links = record { numbers = refl; each = tt };
+          monitors = follows_cleared h _ refl refl;
+        },
+      )

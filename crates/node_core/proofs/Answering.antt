@@ -2,11 +2,11 @@
 use Rattle.std.specs.Prelude.{IsErrAnd}
 use Rattle.std.proofs.lemmas.Result.{err_from_is_err_and}
 use Rattle.node_core.proofs.Words.{Err, List, Ok, Result, Some, refl, subst, sym, true, [], ◌∙◌, ◌≡◌, IsNext, checks, first_broken, with_entry, Change}
-use Rattle.node_core.proofs.Words.{Accepted, Refused, Event, Reply, Rule, CoreFault, IsCalmFault, refuses_calmly, Follows, Answered, Answers, Call}
-use Rattle.node_core.proofs.Words.{IsCalled, Keeps, Kept, Says, parts, History}
+use Rattle.node_core.proofs.Words.{Accepted, Refused, Event, Reply, Rule, CoreFault, IsCalmFault, refuses_calmly, Follows, Answered, Answers, Call, IsCalled}
+use Rattle.node_core.proofs.Words.{Keeps, Kept, Says, parts, History}
 use Rattle.node_core.specs.Step.{Enters}
 use Rattle.node_core.proofs.Entered.{made, next_now, refused_now}
-use Rattle.node_core.proofs.Calm.{follows_same, refused_same, refused_change}
+use Rattle.node_core.proofs.Calm.{calm_follows, refused_change}
 
 -- a refusal that ends no link
 module _ {call : Call} {kept : Kept} (called : IsCalled call kept) (e : Event) where
@@ -17,7 +17,7 @@ module _ {call : Call} {kept : Kept} (called : IsCalled call kept) (e : Event) w
         next,
         record {
           opening = called.keeps.opening;
-          follows = follows_same call.past _ (parts kept) (refused_same call.past call.seat e r calm) refl next called.keeps.follows;
+          follows = calm_follows call.past call.seat e r calm called.keeps.follows next;
         },
       )
 

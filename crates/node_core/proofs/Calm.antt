@@ -1,28 +1,13 @@
--- Entries that leave alone all that a node keeps.
-use Rattle.node_core.proofs.Words.{Bool, List, ap, cond, false, length, not, refl, subst, sym, true, ℕ, [], ◌&&◌, ◌++◌, ◌+◌, ◌==◌, ◌||◌, ◌∙◌, ◌∷◌}
-use Rattle.node_core.proofs.Words.{◌≡◌, filter, unwrap_or, eqb-true, append-nil, is_empty, lie, no_change, and_left, and_right, IsChange, History}
-use Rattle.node_core.proofs.Words.{first_of, is_accepted, is_open, links, refusal_owes, waiting, running_scopes, IsNext, with_entry, is_whole, Entry}
-use Rattle.node_core.proofs.Words.{Accepted, Refused, Event, Reply, Rule, AdmissionFollows, admission_words, refuses_calmly, Follows, Parts}
-use Rattle.node_core.proofs.Words.{LinksFollow, facts, link_words, ProcessesFollow, process_words, ScopesFollow, scope_words, reverse, ends, hears}
-use Rattle.node_core.proofs.Words.{tells, talk, owed, is_quiet, entry_rows, is_query, None, AdmissionRules, checks, first_broken, answer, is_full}
-use Rattle.node_core.proofs.Words.{Spawned}
-use Rattle.group_monitors.specs.Follows.{concerns_monitors}
-use Rattle.node_core.proofs.Entered.{step_follows, made, accepted_now, next_now}
-
--- all that the policy's words say of what a node keeps is the same after k as after h
-pub record IsSame (h k : History) : Type 0 where
-  pub admission : admission_words k ≡ admission_words h
-  pub processes : process_words k ≡ process_words h
-  pub scopes : scope_words k ≡ scope_words h
-  pub links : link_words k ≡ link_words h
-
-pub follows_same : (h : History) (e : Entry) (parts : Parts) → IsSame h (with_entry h e) → (is_accepted e.verdict && concerns_monitors e.event) ≡ false → IsNext h e → Follows h parts → Follows (with_entry h e) parts
-follows_same h e parts same calm next t = step_follows t next calm (subst (λ w. AdmissionFollows w parts.admission) (sym same.admission) t.admission)
-    (subst (λ w. ProcessesFollow w parts.processes) (sym same.processes) t.processes)
-    (subst (λ w. ScopesFollow w parts.scopes) (sym same.scopes) t.scopes) (subst (λ w. LinksFollow w parts.links) (sym same.links) t.links)
-
-pub nothing_behind : {A : Type 0} (xs ys : List A) → ys ≡ [] → xs ++ ys ≡ xs
-nothing_behind xs ys q = ap (λ zs. xs ++ zs) q ∙ append-nil xs
+-- Entries that leave alone all that a node keeps of links and scopes.
+use Rattle.node_core.proofs.Words.{arith, Bool, List, false, length, not, refl, subst, sym, true, ℕ, [], ◌&&◌, ◌++◌, ◌+◌, ◌||◌, ◌∷◌, ◌≡◌, filter, unwrap_or}
+use Rattle.node_core.proofs.Words.{eqb-true, append-nil, is_empty, lie, no_change, IsChange, History, first_of, is_open, links, refusal_owes, waiting}
+use Rattle.node_core.proofs.Words.{running_scopes, IsNext, with_entry, is_whole, Accepted, Refused, Event, Reply, Rule, AdmissionFollows, admission_words}
+use Rattle.node_core.proofs.Words.{refuses_calmly, Follows, Parts, LinksFollow, facts, link_words, ProcessesFollow, process_words, ScopesFollow, scope_words}
+use Rattle.node_core.proofs.Words.{reverse, ends, hears, tells, talk, owed, is_quiet, entry_rows, None, AdmissionRules, checks, first_broken, answer, is_full}
+use Rattle.node_core.proofs.Words.{Spawned, IsAnswered, heard, told}
+use Rattle.group_monitors.specs.Follows.{FollowsPolicy}
+use Rattle.group_monitors.specs.declared.monitor.Monitor.{Monitor}
+use Rattle.node_core.proofs.Entered.{step_follows, made, accepted_next, answered_by, sound_now}
 
 -- the words of all links, link by link
 pub same_links : (h k : History) → links k.entries ≡ links h.entries → ((l : ℕ) → facts k l ≡ facts h l) → ((l : ℕ) → waiting k l ≡ waiting h l) → link_words k ≡ link_words h
@@ -34,110 +19,86 @@ same_links h k numbers same frames = λ i. record {
 
 -- ---- refusals
 
-whole_stays : (o w : Bool) → (not o || w) ≡ true → (not (true && not w) && o) ≡ o
-whole_stays true true q = refl
-whole_stays true false q = lie (sym q)
-whole_stays false true q = refl
-whole_stays false false q = refl
-
 empty_is : {A : Type 0} (xs : List A) → is_empty xs ≡ true → xs ≡ []
 empty_is [] q = refl
 empty_is (x ∷ xs) q = lie (sym q)
 
 opens_still : (h : History) (l : ℕ) (r : Rule) (ev : Event) → refuses_calmly h ev r ≡ true → (not (ends l h.entries (Refused r) ev) && is_open l h.entries) ≡ is_open l h.entries
-opens_still h l r (Event.Frame j body) calm = by (j == l) refl
-  where
-    by : (b : Bool) → (j == l) ≡ b → (not (j == l && not (is_whole l h.entries)) && is_open l h.entries) ≡ is_open l h.entries
-    by false q = ap (λ b. not (b && not (is_whole l h.entries)) && is_open l h.entries) q
-    by true q =
-        ap (λ b. not (b && not (is_whole l h.entries)) && is_open l h.entries) q
-        ∙ whole_stays (is_open l h.entries) (is_whole l h.entries) (subst (λ x. (not (is_open x h.entries) || is_whole x h.entries) ≡ true) (eqb-true j l q) (and_left _ _ calm))
+opens_still h l r (Event.Frame j body) calm = grind (arith, eqb-true j l)
 opens_still h l r ev calm = refl
 
 waits_still : (h : History) (l : ℕ) (r : Rule) (ev : Event) → refuses_calmly h ev r ≡ true → (waiting h l ++ owed h l (length h.entries + 1) ev (Refused r)) ≡ waiting h l
-waits_still h l r (Event.Frame j body) calm = nothing_behind (waiting h l) (cond (j == l) (refusal_owes r) []) (by (j == l))
-  where
-    by : (b : Bool) → cond b (refusal_owes r) [] ≡ []
-    by true = empty_is (refusal_owes r) (and_right (not (is_open j h.entries) || is_whole j h.entries) _ calm)
-    by false = refl
+waits_still h l r (Event.Frame j body) calm = grind (arith, append-nil (waiting h l), empty_is (refusal_owes r))
 waits_still h l r ev calm = append-nil (waiting h l)
 
 module _ (h : History) (seat : ℕ) (ev : Event) (r : Rule) (calm : refuses_calmly h ev r ≡ true) where
   abbrev k : History
   k = with_entry h (made h seat ev (Refused r) [])
 
-  still_open : (l : ℕ) → is_open l k.entries ≡ is_open l h.entries
-  still_open l = opens_still h l r ev calm
-
-  still_waiting : (l : ℕ) → waiting k l ≡ waiting h l
-  still_waiting l = waits_still h l r ev calm
-
-  same_facts : (l : ℕ) → facts k l ≡ facts h l
-  same_facts l = λ i. record (facts h l) { open_now = still_open l i }
-
-  pub refused_same : IsSame h k
-  refused_same = record {
-    admission = refl;
-    processes = refl;
-    scopes = λ i. record {
-      own = h.opening.name;
-      running = running_scopes h;
-      listed = λ s g p. entry_rows h (made h seat ev (Refused r) []) refl s g p i;
-      heard = λ l s. (still_open l i && is_whole l h.entries) && unwrap_or (first_of (hears s) (talk l h.entries)) false;
-      told = λ l s. (still_open l i && is_whole l h.entries) && unwrap_or (first_of (tells s) (talk l h.entries)) false;
-    };
-    links = same_links h k refl same_facts still_waiting;
+  same_scopes : scope_words k ≡ scope_words h
+  same_scopes = λ i. record {
+    own = h.opening.name;
+    running = running_scopes h;
+    listed = λ s g p. entry_rows h (made h seat ev (Refused r) []) refl s g p i;
+    heard = λ l s. (opens_still h l r ev calm i && is_whole l h.entries) && unwrap_or (first_of (hears s) (talk l h.entries)) false;
+    told = λ l s. (opens_still h l r ev calm i && is_whole l h.entries) && unwrap_or (first_of (tells s) (talk l h.entries)) false;
   }
 
   pub refused_change : IsChange h k []
   refused_change = no_change h k (λ s g p. sym (entry_rows h (made h seat ev (Refused r) []) refl s g p))
 
--- ---- queries
+  -- what is kept follows the refusal
+  pub calm_follows : {parts : Parts} → Follows h parts → IsNext h (made h seat ev (Refused r) []) → Follows k parts
+  calm_follows {parts} t next = step_follows t next refl t.admission t.processes (subst (λ w. ScopesFollow w parts.scopes) (sym same_scopes) t.scopes)
+      (subst (λ w. LinksFollow w parts.links) (sym (same_links h k refl (λ l. λ i. record (facts h l) { open_now = opens_still h l r ev calm i }) (λ l. waits_still h l r ev calm))) t.links)
+
+-- ---- events that change no row and no link
 
 -- the history with an accepted entry that changes no row
 abbrev pub answered : History → ℕ → Event → Reply → History
 answered h seat ev r = with_entry h (made h seat ev (Accepted r) [])
 
-module _ (h : History) (seat : ℕ) (r : Reply) where
-  pub query_same : (ev : Event) → is_query ev ≡ true → IsSame h (answered h seat ev r)
-  query_same (Event.Members s g) q = record { admission = refl; processes = refl; scopes = refl; links = same_links h (answered h seat (Event.Members s g) r) refl (λ l. refl) (λ l. append-nil (waiting h l)) }
-  query_same (Event.LocalMembers s g) q = record { admission = refl; processes = refl; scopes = refl; links = same_links h (answered h seat (Event.LocalMembers s g) r) refl (λ l. refl) (λ l. append-nil (waiting h l)) }
-  query_same (Event.Groups s) q = record { admission = refl; processes = refl; scopes = refl; links = same_links h (answered h seat (Event.Groups s) r) refl (λ l. refl) (λ l. append-nil (waiting h l)) }
-  query_same (Event.LocalGroups s) q = record { admission = refl; processes = refl; scopes = refl; links = same_links h (answered h seat (Event.LocalGroups s) r) refl (λ l. refl) (λ l. append-nil (waiting h l)) }
-  query_same ev q = lie (sym q)
-
-  pub quiet_change : (ev : Event) → is_quiet ev ≡ true → IsChange h (answered h seat ev r) []
-  quiet_change ev q = no_change h _ (λ s g p. sym (entry_rows h (made h seat ev (Accepted r) []) q s g p))
-
-  pub query_watches : (ev : Event) → is_query ev ≡ true → concerns_monitors ev ≡ false
-  query_watches (Event.Members s g) q = refl
-  query_watches (Event.LocalMembers s g) q = refl
-  query_watches (Event.Groups s) q = refl
-  query_watches (Event.LocalGroups s) q = refl
-  query_watches ev q = lie (sym q)
-
-  pub query_follows : (parts : Parts) → Follows h parts → (ev : Event) → is_query ev ≡ true → IsNext h (made h seat ev (Accepted r) []) → Follows (answered h seat ev r) parts
-  query_follows parts t ev q next = follows_same h _ parts (query_same ev q) (query_watches ev q) next t
-
--- ---- events that change no row and no link
-
 -- an accepted event that changes no row is the next entry
 pub quiet_next : (h : History) (seat : ℕ) (r : Reply) (ev : Event) → is_full h ≡ false → first_broken (checks h seat ev) ≡ None → answer h seat ev ≡ r → is_quiet ev ≡ true → IsNext h (made h seat ev (Accepted r) [])
-quiet_next h seat r ev space holds is quiet = next_now h seat ev space (Accepted r) [] (accepted_now h seat ev space r holds is) (quiet_change h seat r ev quiet)
+quiet_next h seat r ev space holds is quiet = accepted_next h seat ev space r [] holds is (λ its. no_change h (answered h seat ev r) (λ s g p. sym (entry_rows h (made h seat ev (Accepted r) []) quiet s g p)))
 
-module _ (h : History) (seat : ℕ) (r : Reply) (parts : Parts) (t : Follows h parts) where
-  pub set_cookie_follows : (c : List ℕ) (rules : AdmissionRules) → IsNext h (made h seat (Event.SetCookie c) (Accepted r) []) → AdmissionFollows (admission_words (answered h seat (Event.SetCookie c) r)) rules → Follows (answered h seat (Event.SetCookie c) r) (record parts { admission = rules })
-  set_cookie_follows c rules next follows = step_follows t next refl follows t.processes t.scopes
-      (subst (λ w. LinksFollow w parts.links) (sym (same_links h (answered h seat (Event.SetCookie c) r) refl (λ l. refl) (λ l. append-nil (waiting h l)))) t.links)
+-- the event changes no row, and takes no frames
+abbrev pub is_still : Event → Bool
+is_still (Event.Take l) = false
+is_still ev = is_quiet ev
 
-  pub set_cookie_for_follows : (n c : List ℕ) (rules : AdmissionRules) → IsNext h (made h seat (Event.SetCookieFor n c) (Accepted r) []) → AdmissionFollows (admission_words (answered h seat (Event.SetCookieFor n c) r)) rules → Follows (answered h seat (Event.SetCookieFor n c) r) (record parts { admission = rules })
-  set_cookie_for_follows n c rules next follows = step_follows t next refl follows t.processes t.scopes
-      (subst (λ w. LinksFollow w parts.links) (sym (same_links h (answered h seat (Event.SetCookieFor n c) r) refl (λ l. refl) (λ l. append-nil (waiting h l)))) t.links)
+module _ (h : History) (seat : ℕ) (r : Reply) (ev : Event) (still : is_still ev ≡ true) where
+  still_links : link_words (answered h seat ev r) ≡ link_words h
+  still_links = same_links h (answered h seat ev r) (grind arith) (λ l. grind arith) (λ l. grind (arith, append-nil (waiting h l)))
 
-  pub allow_follows : (ns : List (List ℕ)) (rules : AdmissionRules) → IsNext h (made h seat (Event.Allow ns) (Accepted r) []) → AdmissionFollows (admission_words (answered h seat (Event.Allow ns) r)) rules → Follows (answered h seat (Event.Allow ns) r) (record parts { admission = rules })
-  allow_follows ns rules next follows = step_follows t next refl follows t.processes t.scopes
-      (subst (λ w. LinksFollow w parts.links) (sym (same_links h (answered h seat (Event.Allow ns) r) refl (λ l. refl) (λ l. append-nil (waiting h l)))) t.links)
+  still_scopes : scope_words (answered h seat ev r) ≡ scope_words h
+  still_scopes =
+      let runs : running_scopes (answered h seat ev r) ≡ running_scopes h = grind arith in
+      let hear : (l : ℕ) (s : List ℕ) → heard l s (answered h seat ev r).entries ≡ heard l s h.entries = λ l s. grind arith in
+      let tell : (l : ℕ) (s : List ℕ) → told l s (answered h seat ev r).entries ≡ told l s h.entries = λ l s. grind arith in
+      λ i. record {
+        own = h.opening.name;
+        running = runs i;
+        listed = λ s g p. entry_rows h (made h seat ev (Accepted r) []) (grind arith) s g p i;
+        heard = λ l s. hear l s i;
+        told = λ l s. tell l s i;
+      }
 
-  pub spawn_follows : (processes : Spawned) → IsNext h (made h seat Event.Spawn (Accepted r) []) → ProcessesFollow (process_words (answered h seat Event.Spawn r)) processes → Follows (answered h seat Event.Spawn r) (record parts { processes = processes })
-  spawn_follows processes next follows = step_follows t next refl t.admission follows t.scopes
-      (subst (λ w. LinksFollow w parts.links) (sym (same_links h (answered h seat Event.Spawn r) refl (λ l. refl) (λ l. append-nil (waiting h l)))) t.links)
+-- such an event is the next entry, and what is kept of links and scopes follows
+pub entered : {h : History} {parts : Parts} (t : Follows h parts) (seat : ℕ) {r : Reply} (ev : Event) → is_still ev ≡ true → is_full h ≡ false → first_broken (checks h seat ev) ≡ None → answer h seat ev ≡ r
+    → {a : AdmissionRules} {p : Spawned} {ms : List (ℕ × Monitor)}
+    → (IsAnswered h (made h seat ev (Accepted r) []) → AdmissionFollows (admission_words (answered h seat ev r)) a × ProcessesFollow (process_words (answered h seat ev r)) p × FollowsPolicy (answered h seat ev r) ms)
+    → IsNext h (made h seat ev (Accepted r) []) × Follows (answered h seat ev r) (record parts { admission = a; processes = p; monitors = ms })
+entered {h} {parts} t seat {r} ev still space holds is rest =
+    let next = quiet_next h seat r ev space holds is (grind arith) in
+    let others = rest (answered_by next) in (
+      next,
+      record {
+        sound = sound_now h _ t.sound next;
+        admission = others.0;
+        processes = others.1;
+        scopes = subst (λ w. ScopesFollow w parts.scopes) (sym (still_scopes h seat r ev still)) t.scopes;
+        links = subst (λ w. LinksFollow w parts.links) (sym (still_links h seat r ev still)) t.links;
+        monitors = others.2;
+      },
+    )

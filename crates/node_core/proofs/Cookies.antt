@@ -1,9 +1,8 @@
 -- Cookies and allowed names after the events that set them.
-use Rattle.node_core.proofs.Words.{length-map, lt-leb, Bool, List, None, Option, Some, ap, arith, cond, false, length, nat_le, not, refl, subst, sym}
-use Rattle.node_core.proofs.Words.{true, ℕ, [], ◌++◌, ◌<◌, ◌||◌, ◌∙◌, ◌∷◌, ◌≡◌, ◌≤◌, unwrap_or, le-leb, same_decides, same_sym, same, AdmissionRules}
-use Rattle.node_core.proofs.Words.{lie, allow_list, History, creation, events, first_of, Reply, AdmissionFollows, admission_words, IsCalmFault}
-use Rattle.node_core.proofs.Words.{bytes_eq, insert_entry, max_peers, max_allowed, cookie_of, with_cookie_for, with_allowed, cookie, own_cookie}
-use Rattle.node_core.proofs.Words.{own_cookie_set, cookie_set_for, cookie_peers, different, CoreFault, AdmissionWords, IsCookieRefusal, Event, Rule}
+use Rattle.node_core.proofs.Words.{length-map, lt-leb, Bool, List, None, Some, ap, arith, cond, false, length, nat_le, not, refl, sym, true, ℕ, ◌++◌, ◌<◌, ◌||◌}
+use Rattle.node_core.proofs.Words.{◌∙◌, ◌∷◌, ◌≡◌, ◌≤◌, le-leb, same_decides, same, AdmissionRules, lie, allow_list, History, Reply, AdmissionFollows}
+use Rattle.node_core.proofs.Words.{admission_words, IsCalmFault, bytes_eq, insert_entry, max_peers, cookie_of, with_cookie_for, with_allowed, cookie}
+use Rattle.node_core.proofs.Words.{cookie_peers, different, CoreFault, IsCookieRefusal, Event, Rule}
 use Rattle.std.specs.Map.{lookup}
 use Rattle.admission_rules.proofs.Peers.{lookup_put, lookup_kept}
 use Rattle.node_core.proofs.Calm.{answered}
@@ -12,51 +11,21 @@ use Rattle.node_core.proofs.Once.{entry_once, all_once, names_of, how_many_names
 module _ (h : History) (rules : AdmissionRules) (t : AdmissionFollows (admission_words h) rules) where
   -- the cookie for a name is the policy's
   pub cookie_is : (n : List ℕ) → cookie_of rules n ≡ cookie h n
-  cookie_is n =
-      ap (λ o. cond (same n o) rules.cookie (unwrap_or (lookup (bytes_eq n) rules.peers) rules.cookie)) t.own
-      ∙ ap (λ c. cond (same n h.opening.name) c (unwrap_or (lookup (bytes_eq n) rules.peers) c)) t.own_cookie
-      ∙ ap (λ o. cond (same n h.opening.name) (own_cookie h) (unwrap_or o (own_cookie h))) (t.cookie n)
-      ∙ apart (same n h.opening.name) (first_of (cookie_set_for n) (events h.entries))
-    where
-      apart : (b : Bool) (o : Option (List ℕ)) → cond b (own_cookie h) (unwrap_or (cond b None o) (own_cookie h)) ≡ cond b (own_cookie h) (unwrap_or o (own_cookie h))
-      apart b o = grind arith
+  cookie_is n = grind (arith, t.own, t.own_cookie, t.cookie n)
 
   -- ---- the limits
 
-  names_counted : (ns : List (List ℕ)) → length (with_allowed rules ns).allowed ≡ different (ns ++ allow_list h)
+  pub names_counted : (ns : List (List ℕ)) → length (with_allowed rules ns).allowed ≡ different (ns ++ allow_list h)
   names_counted ns = how_many_names (with_allowed rules ns).allowed (ns ++ allow_list h) (all_once ns rules.allowed (allow_list h) t.allowed)
-
-  pub names_full : (ns : List (List ℕ)) → max_allowed < length (with_allowed rules ns).allowed → nat_le (different (ns ++ allow_list h)) 1024 ≡ false
-  names_full ns over = lt-leb _ 1024 (let is = names_counted ns in omega (arith, is, over))
-
-  pub names_fit : (ns : List (List ℕ)) → length (with_allowed rules ns).allowed ≤ max_allowed → nat_le (different (ns ++ allow_list h)) 1024 ≡ true
-  names_fit ns few = le-leb _ 1024 (let is = names_counted ns in omega (arith, is, few))
 
   peers_counted : (n c : List ℕ) → length (insert_entry bytes_eq rules.peers n c) ≡ different (n ∷ cookie_peers h)
   peers_counted n c = sym (length-map (insert_entry bytes_eq rules.peers n c) (λ p. p.0)) ∙ how_many_names (names_of (insert_entry bytes_eq rules.peers n c)) (n ∷ cookie_peers h) (entry_once n c rules.peers (cookie_peers h) t.peers)
 
-  put_for : (n c : List ℕ) → Bool → AdmissionRules
-  put_for n c b = cond b (record rules { cookie = c }) (record rules { peers = insert_entry bytes_eq rules.peers n c })
-
-  put_is : (n c : List ℕ) → with_cookie_for rules n c ≡ put_for n c (same n h.opening.name)
-  unfolding put_for
-  put_is n c = ap (λ o. cond (same n o) (record rules { cookie = c }) (record rules { peers = insert_entry bytes_eq rules.peers n c })) t.own
-
   peers_full : (n c : List ℕ) → length rules.peers ≤ max_peers → max_peers < length (with_cookie_for rules n c).peers → (same n h.opening.name || nat_le (different (n ∷ cookie_peers h)) 1024) ≡ false
-  unfolding put_for
-  peers_full n c few over = by (same n h.opening.name) (subst (λ rs. max_peers < length rs.peers) (put_is n c) over)
-    where
-      by : (b : Bool) → max_peers < length (put_for n c b).peers → (b || nat_le (different (n ∷ cookie_peers h)) 1024) ≡ false
-      by true more = absurd (omega (arith, few, more))
-      by false more = lt-leb _ 1024 (let is = peers_counted n c in omega (arith, is, more))
+  peers_full n c few over = grind (arith, t.own, peers_counted n c, lt-leb (different (n ∷ cookie_peers h)) 1024)
 
   pub peers_fit : (n c : List ℕ) → length (with_cookie_for rules n c).peers ≤ max_peers → (same n h.opening.name || nat_le (different (n ∷ cookie_peers h)) 1024) ≡ true
-  unfolding put_for
-  peers_fit n c few = by (same n h.opening.name) (subst (λ rs. length rs.peers ≤ max_peers) (put_is n c) few)
-    where
-      by : (b : Bool) → length (put_for n c b).peers ≤ max_peers → (b || nat_le (different (n ∷ cookie_peers h)) 1024) ≡ true
-      by true within = refl
-      by false within = le-leb _ 1024 (let is = peers_counted n c in omega (arith, is, within))
+  peers_fit n c few = grind (arith, t.own, peers_counted n c, le-leb (different (n ∷ cookie_peers h)) 1024)
 
   -- what is refused is the first rule that is broken
   pub cookie_calm : (seat : ℕ) (n c : List ℕ) (f : CoreFault) → IsCookieRefusal rules (with_cookie_for rules n c) f → IsCalmFault h seat (Event.SetCookieFor n c) f
@@ -68,68 +37,20 @@ module _ (h : History) (rules : AdmissionRules) (t : AdmissionFollows (admission
     cookie_follows c = record { own = t.own; hidden = t.hidden; creation = t.creation; own_cookie = refl; cookie = t.cookie; peers = t.peers; allowed = t.allowed }
 
     pub names_follow : (ns : List (List ℕ)) → AdmissionFollows (admission_words (answered h seat (Event.Allow ns) r)) (with_allowed rules ns)
-    names_follow ns = record {
-      own = t.own;
-      hidden = t.hidden;
-      creation = t.creation;
-      own_cookie = t.own_cookie;
-      cookie = t.cookie;
-      peers = t.peers;
-      allowed = all_once ns rules.allowed (allow_list h) t.allowed;
-    }
+    names_follow ns = record { own = t.own; hidden = t.hidden; creation = t.creation; own_cookie = t.own_cookie; cookie = t.cookie; peers = t.peers; allowed = all_once ns rules.allowed (allow_list h) t.allowed }
 
-    -- the words after a cookie for n, which is the own name or isn't
-    abbrev words_with : List ℕ → List ℕ → Bool → AdmissionWords
-    words_with n c b = record {
-      own = h.opening.name;
-      hidden = h.opening.hidden;
-      creation = creation h;
-      own_cookie = unwrap_or (elim (cond b (Some c) None) [ Some y ↦ Some y | None ↦ first_of (own_cookie_set h.opening.name) (events h.entries) ]) h.opening.cookie;
-      cookie_set = λ m. first_of (cookie_set_for m) (Event.SetCookieFor n c ∷ events h.entries);
-      peers = cond b [] (n ∷ []) ++ cookie_peers h;
-      allowed = allow_list h;
-    }
-
-    -- what was set last, of two
-    abbrev newer : Bool → List ℕ → Option (List ℕ) → Option (List ℕ)
-    newer b c o = elim (cond b (Some c) None) [ Some y ↦ Some y | None ↦ o ]
+    -- a cookie for another node is kept for that node alone
+    peer : (n c m : List ℕ) (a : Bool) → same n m ≡ a → lookup (bytes_eq m) (insert_entry bytes_eq rules.peers n c) ≡ cond a (Some c) (lookup (bytes_eq m) rules.peers)
+    peer n c m true f = ap (λ x. lookup (bytes_eq x) (insert_entry bytes_eq rules.peers n c)) (sym ((same_decides n m).0 f)) ∙ lookup_put rules.peers n c
+    peer n c m false f = lookup_kept rules.peers n c m (λ q. lie (sym ((same_decides n m).1 (sym q)) ∙ f))
 
     pub cookie_for_follows : (n c : List ℕ) → AdmissionFollows (admission_words (answered h seat (Event.SetCookieFor n c) r)) (with_cookie_for rules n c)
-    cookie_for_follows n c = subst (λ o. AdmissionFollows (words_with n c (same n h.opening.name)) (cond (same n o) (record rules { cookie = c }) (record rules { peers = insert_entry bytes_eq rules.peers n c }))) (sym t.own) (by (same n h.opening.name) refl)
-      where
-        own_name : List ℕ
-        own_name = h.opening.name
-
-        set_before : List ℕ → Option (List ℕ)
-        set_before m = first_of (cookie_set_for m) (events h.entries)
-
-        -- the own name is no peer
-        not_own : (m : List ℕ) → same n h.opening.name ≡ true → (a : Bool) → same m h.opening.name ≡ a → cond a None (set_before m) ≡ cond a None (newer (same n m) c (set_before m))
-        not_own m e true f = refl
-        not_own m e false f = ap (λ b. newer b c (set_before m)) (sym (ap (λ x. same x m) ((same_decides n h.opening.name).0 e) ∙ same_sym h.opening.name m ∙ f))
-
-        peer : (m : List ℕ) → same n h.opening.name ≡ false → (a : Bool) → same n m ≡ a → lookup (bytes_eq m) (insert_entry bytes_eq rules.peers n c) ≡ cond (same m h.opening.name) None (newer a c (set_before m))
-        peer m e true f =
-            ap (λ x. lookup (bytes_eq x) (insert_entry bytes_eq rules.peers n c)) (sym ((same_decides n m).0 f)) ∙ lookup_put rules.peers n c
-            ∙ sym (ap (λ b. cond b None (Some c)) (ap (λ x. same x h.opening.name) (sym ((same_decides n m).0 f)) ∙ e))
-        peer m e false f = lookup_kept rules.peers n c m (λ q. lie (sym ((same_decides n m).1 (sym q)) ∙ f)) ∙ t.cookie m
-
-        by : (b : Bool) → same n h.opening.name ≡ b → AdmissionFollows (words_with n c b) (cond b (record rules { cookie = c }) (record rules { peers = insert_entry bytes_eq rules.peers n c }))
-        by true e = record {
-          own = t.own;
-          hidden = t.hidden;
-          creation = t.creation;
-          own_cookie = refl;
-          cookie = λ m. t.cookie m ∙ not_own m e (same m h.opening.name) refl;
-          peers = t.peers;
-          allowed = t.allowed;
-        }
-        by false e = record {
-          own = t.own;
-          hidden = t.hidden;
-          creation = t.creation;
-          own_cookie = t.own_cookie;
-          cookie = λ m. peer m e (same n m) refl;
-          peers = entry_once n c rules.peers (cookie_peers h) t.peers;
-          allowed = t.allowed;
-        }
+    cookie_for_follows n c = record {
+      own = grind (arith, t.own);
+      hidden = grind (arith, t.hidden);
+      creation = grind (arith, t.creation);
+      own_cookie = grind (arith, t.own, t.own_cookie);
+      cookie = λ m. grind (arith, t.own, t.cookie m, peer n c m (same n m) refl, same_decides n m, same_decides n h.opening.name, same_decides m h.opening.name);
+      peers = λ q. grind (arith, t.own, t.peers q, entry_once n c rules.peers (cookie_peers h) t.peers q);
+      allowed = λ q. grind (arith, t.allowed q);
+    }

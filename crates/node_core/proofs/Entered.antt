@@ -1,9 +1,8 @@
 -- A history with one entry more: what the policy says of it, and what is kept then.
-use Rattle.node_core.proofs.Words.{Bool, List, None, Option, Some, ap, arith, cond, false, length, map, nat_lt, not, refl, subst, suc, sym}
-use Rattle.node_core.proofs.Words.{true, ℕ, [], ◌<◌, ◌∙◌, ◌∷◌, ◌≡◌, ◌≤◌, ltb-true, IsChange, checks, first_broken, History, events, is_accepted}
-use Rattle.node_core.proofs.Words.{IsAnswered, IsNext, answer, is_full, verdict, with_entry, Change, Entry, Verdict, Accepted, Refused}
-use Rattle.node_core.proofs.Words.{Event, Reply, Rule, how_many, Moment, present, is_restart, is_spawn, judged, IsSound, Follows, Parts}
-use Rattle.node_core.proofs.Words.{◌&&◌, AdmissionFollows, AdmissionRules, KeptLink, LinksFollow, ProcessesFollow, Running, ScopesFollow, Spawned}
+use Rattle.node_core.proofs.Words.{List, None, Option, Some, ap, arith, cond, false, length, refl, subst, suc, sym, ℕ, ◌<◌, ◌∙◌, ◌∷◌, ◌≡◌, ◌≤◌, ltb-true}
+use Rattle.node_core.proofs.Words.{IsChange, checks, first_broken, History, events, is_accepted, IsAnswered, IsNext, answer, is_full, verdict, with_entry}
+use Rattle.node_core.proofs.Words.{Change, Entry, Verdict, Accepted, Refused, Event, Reply, Rule, how_many, is_restart, is_spawn, judged, IsSound, Follows}
+use Rattle.node_core.proofs.Words.{Parts, ◌&&◌, AdmissionFollows, AdmissionRules, KeptLink, LinksFollow, ProcessesFollow, Running, ScopesFollow, Spawned}
 use Rattle.node_core.proofs.Words.{admission_words, follows_other, link_words, process_words, scope_words}
 use Rattle.group_monitors.specs.Follows.{concerns_monitors}
 pub use Rattle.node_core.specs.Step.{made}
@@ -18,15 +17,8 @@ module _ (h : History) (seat : ℕ) (ev : Event) (space : is_full h ≡ false) w
   pub refused_now : (r : Rule) → first_broken (checks h seat ev) ≡ Some r → Refused r ≡ verdict h seat ev
   refused_now r found = sym (judge (Some r) found)
 
-  room : (b : Bool) → nat_lt (length h.entries) h.opening.entries ≡ b → not b ≡ false → length h.entries < h.opening.entries
-  room true q n = ltb-true _ _ q
-  room false q n = absurd (true_isnt (n))
-    where
-      true_isnt : true ≡ false → ⊥
-      true_isnt q = subst (λ b. cond b (Unit {0}) ⊥) q tt
-
   pub space_is : length h.entries < h.opening.entries
-  space_is = room (nat_lt (length h.entries) h.opening.entries) refl space
+  space_is = grind (arith, ltb-true)
 
   pub answered_now : (v : Verdict) (cs : List Change) → v ≡ verdict h seat ev → IsAnswered h (made h seat ev v cs)
   answered_now v cs is = record { room = space_is; number = refl; verdict = is }
@@ -34,16 +26,19 @@ module _ (h : History) (seat : ℕ) (ev : Event) (space : is_full h ≡ false) w
   pub next_now : (v : Verdict) (cs : List Change) → v ≡ verdict h seat ev → IsChange h (with_entry h (made h seat ev v cs)) cs → IsNext h (made h seat ev v cs)
   next_now v cs is changes = record { room = space_is; number = refl; verdict = is; change = changes }
 
--- at most one more was spawned
-more_spawned : (m : Moment) (ms : List Moment) (a b c : Bool) → is_spawn m.event ≡ c
-    → how_many is_spawn (map (λ x. x.event) (cond a (cond b [] (m ∷ ms)) ms)) ≤ suc (how_many is_spawn (map (λ x. x.event) ms))
-more_spawned m ms true true c q = omega arith
-more_spawned m ms true false true q = rw q (omega arith)
-more_spawned m ms true false false q = rw q (omega arith)
-more_spawned m ms false b c q = omega arith
+  -- an accepted event is the next entry, where its changes follow from its being made
+  pub accepted_next : (r : Reply) (cs : List Change) → first_broken (checks h seat ev) ≡ None → answer h seat ev ≡ r
+      → (IsAnswered h (made h seat ev (Accepted r) cs) → IsChange h (with_entry h (made h seat ev (Accepted r) cs)) cs) → IsNext h (made h seat ev (Accepted r) cs)
+  accepted_next r cs holds is changes =
+      let now = accepted_now r holds is in
+      next_now (Accepted r) cs now (changes (answered_now (Accepted r) cs now))
 
+pub answered_by : {h : History} {e : Entry} → IsNext h e → IsAnswered h e
+answered_by next = record { room = next.room; number = next.number; verdict = next.verdict }
+
+-- at most one more was spawned
 spawned_more : (e : Entry) (es : List Entry) → how_many is_spawn (events (e ∷ es)) ≤ suc (how_many is_spawn (events es))
-spawned_more e es = more_spawned (record { number = e.number; seat = e.seat; event = e.event; before = es }) (present es) (is_accepted e.verdict) (is_restart e.event) (is_spawn e.event) refl
+spawned_more e es = grind (arith, is_restart e.event, is_spawn e.event)
 
 pub sound_now : (h : History) (e : Entry) → IsSound h → IsNext h e → IsSound (with_entry h e)
 sound_now h e sound next = record {

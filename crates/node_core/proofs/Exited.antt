@@ -1,61 +1,69 @@
 -- A process that ends.
-use Rattle.node_core.proofs.Words.{Bool, List, None, Option, Some, ap, arith, cond, false, length, nat_eq, not, refl, sym, true, ℕ, [], ◌++◌, ◌+◌}
-use Rattle.node_core.proofs.Words.{◌==◌, ◌∙◌, ◌∷◌, ◌≡◌, AllByRecursion, AllZip, filter, flat_map, same_decides, same, same_pid, Pid, count_after_exit}
-use Rattle.node_core.proofs.Words.{Table, stopped_lists, told_numbers, and_left, IsChange, checks, first_broken, local_rows, heard, told, History}
-use Rattle.node_core.proofs.Words.{creation, listed, OutFrame, waiting, wide, is_local, lives, IsAnswered, IsNext, is_full, with_entry, Change, Entry}
-use Rattle.node_core.proofs.Words.{Accepted, Rule, Follows, Parts, all_frames, exit_frames, link_words, KeptLink, IsParting, rows_left, Spawned}
-use Rattle.node_core.proofs.Words.{IsRunningOf, is_number, scope_words, if_told, lives_of, exited_links, Running, AreExitsTold, count_but, HasParted}
-use Rattle.node_core.proofs.Words.{Message, Event, Reply}
+use Rattle.node_core.proofs.Words.{Bool, List, None, Option, Some, ap, arith, cond, false, length, nat_eq, not, refl, sym, true, ℕ, [], ◌++◌, ◌+◌, ◌==◌, ◌∙◌}
+use Rattle.node_core.proofs.Words.{◌∷◌, ◌≡◌, AllByRecursion, AllZip, filter, flat_map, same_decides, same, same_pid, Pid, count_after_exit, Table}
+use Rattle.node_core.proofs.Words.{stopped_lists, told_numbers, and_left, IsChange, local_rows, heard, told, History, creation, listed, OutFrame, waiting, wide}
+use Rattle.node_core.proofs.Words.{is_local, IsAnswered, IsNext, is_full, with_entry, Change, Entry, Accepted, Rule, Follows, Parts, all_frames, exit_frames}
+use Rattle.node_core.proofs.Words.{link_words, KeptLink, IsParting, rows_left, Spawned, IsRunningOf, is_number, scope_words, if_told, lives_of, exited_links}
+use Rattle.node_core.proofs.Words.{Running, AreExitsTold, count_but, HasParted, Message, Event, Reply, append-nil, append_assoc, ArePrepared, AreExits}
+use Rattle.node_core.proofs.Words.{IsDifference, GroupChange, is_empty, count_of, subst}
+use Rattle.scope_core.proofs.Rising.{all_map}
 use Rattle.policy_audit.proofs.LivesNow.{exits_more, lives_exited, spawned_exited}
 use Rattle.policy_audit.proofs.RowsAfter.{exited_rows}
 use Rattle.node_core.specs.declared.changes.Part.{Part}
-use Rattle.node_core.proofs.Entered.{step_follows, made, accepted_now, answered_now, next_now}
+use Rattle.node_core.proofs.Entered.{step_follows, made, accepted_next, answered_by}
 use Rattle.node_core.proofs.Moved.{told_frames}
-use Rattle.node_core.proofs.Partings.{partings_change}
+use Rattle.node_core.proofs.Partings.{one_parting, partings_change}
 use Rattle.node_core.proofs.RowsGone.{left_are}
 use Rattle.node_core.proofs.Starting.{names}
-use Rattle.node_core.proofs.Told.{told_follow}
-use Rattle.node_core.proofs.Zipped.{zipped_map, zipped_weaker, zipped_each}
+use Rattle.node_core.proofs.Told.{told_follow, prepared_on}
+use Rattle.node_core.proofs.Zipped.{zipped_map, zipped_each}
+
+-- ---- the Leaves of a process, scope by scope
+
+frames_end : (p : Pid) (rs : List Running) (cs : List Change) (r : Running) (c : Change) (l : ℕ) → AllZip (IsParting (λ x. count_after_exit x p)) rs cs → all_frames (rs ++ r ∷ []) (cs ++ c ∷ []) l ≡ all_frames rs cs l ++ exit_frames r c.groups l
+frames_end p [] [] r c l a = append-nil (exit_frames r c.groups l)
+frames_end p (q ∷ qs) (d ∷ ds) r c l a = ap (λ f. exit_frames q d.groups l ++ f) (frames_end p qs ds r c l a.1) ∙ sym (append_assoc (exit_frames q d.groups l) (all_frames qs ds l) (exit_frames r c.groups l))
+frames_end p qs ds r c l a = absurd a
+
+-- one scope more
+pub exits_on : (p : Pid) (rs : List Running) (r : Running) (old mid new : List KeptLink) (cs ds : List Change) (gs : List GroupChange) → AreExits p rs old mid cs
+    → IsDifference (count_of r.table) (count_after_exit r.table p) gs → ArePrepared (exit_frames r gs) mid new → ds ≡ cs ++ cond (not (is_empty gs)) (record { scope = r.scope; groups = gs } ∷ []) [] → AreExits p (rs ++ r ∷ []) old new ds
+exits_on p rs r old mid new cs ds gs t d prepared more =
+    let parted = one_parting (λ x. count_after_exit x p) rs cs r gs (record { all = t.all; each = t.each; some = t.some }) d in
+    record {
+      all = parted.all;
+      each = parted.each;
+      some = more ∙ parted.some;
+      links = subst (λ (f : ℕ → List OutFrame). ArePrepared f old new) (λ i l. sym (frames_end p rs t.all r (record { scope = r.scope; groups = gs }) l t.each) i) (prepared_on (all_frames rs t.all) (exit_frames r gs) old mid new t.links prepared);
+    }
 
 -- ---- the rules
 
-module _ (h : History) (seat : ℕ) (p : Pid) where
-  abbrev exit_broken : Bool → Bool → Option Rule
-  exit_broken local alive = cond (not local) (Some Rule.NotLocal) (cond (not alive) (Some Rule.NoProcess) None)
+abbrev exit_broken : Bool → Bool → Option Rule
+exit_broken local alive = cond (not local) (Some Rule.NotLocal) (cond (not alive) (Some Rule.NoProcess) None)
 
 module _ (h : History) (seat : ℕ) (parts : Parts) (t : Follows h parts) (p : Pid) (local : is_local h p ≡ true) where
-  alive : (b : Bool) → is_number p.number parts.processes.live ≡ b → lives h p ≡ b
-  alive b q = lives_of h p local ∙ sym (t.processes.live p.number) ∙ q
-
-  pub exit_holds : is_number p.number parts.processes.live ≡ true → first_broken (checks h seat (Event.Exit p)) ≡ None
-  exit_holds q = λ i. exit_broken h seat p (local i) (alive true q i)
-
   own_node : p.node ≡ h.opening.name
   own_node = (same_decides p.node h.opening.name).0 (and_left (same p.node h.opening.name) (p.creation == creation h) local)
 
   -- the scopes are of the node of the process
   pub exit_own : AllByRecursion (λ r. r.table.own ≡ p.node) parts.scopes
-  exit_own = all parts.scopes t.scopes.each
-    where
-      all : (rs : List Running) → AllByRecursion (IsRunningOf (scope_words h)) rs → AllByRecursion (λ r. r.table.own ≡ p.node) rs
-      all [] a = tt
-      all (r ∷ rs) a = (a.0.own ∙ sym own_node, all rs a.1)
+  exit_own = all_map (IsRunningOf (scope_words h)) (λ r. r.table.own ≡ p.node) (λ r a. a.own ∙ sym own_node) parts.scopes t.scopes.each
 
   -- ---- what is told
 
   abbrev policy_frames : ℕ → List (List ℕ) → List OutFrame
   policy_frames l ss = flat_map (λ s. if_told h l s (Message.Leave s) (filter (λ w. same_pid w.pid p) (local_rows h s))) ss
 
+  its_frames : (l : ℕ) (r : Running) (c : Change) → IsRunningOf (scope_words h) r → IsParting (λ u. count_after_exit u p) r c → if_told h l r.scope (Message.Leave r.scope) (filter (λ w. same_pid w.pid p) (local_rows h r.scope)) ≡ exit_frames r c.groups l
+  its_frames l r c a z =
+      ap (λ rows. if_told h l r.scope (Message.Leave r.scope) rows) (sym (left_are h r a t.sound.legal p (a.own ∙ sym own_node) c.groups z.groups))
+      ∙ told_frames (rows_left c.groups) r.told.items (wide (Message.Leave r.scope (rows_left c.groups))) l (told l r.scope h.entries) (a.told l)
+
   frames_are : (l : ℕ) (rs : List Running) (cs : List Change) → AllByRecursion (IsRunningOf (scope_words h)) rs → AllZip (IsParting (λ u. count_after_exit u p)) rs cs → policy_frames l (names rs) ≡ all_frames rs cs l
   frames_are l [] [] a z = refl
-  frames_are l [] (c ∷ cs) a z = absurd z
-  frames_are l (r ∷ rs) [] a z = absurd z
-  frames_are l (r ∷ rs) (c ∷ cs) a z = λ i. one i ++ frames_are l rs cs a.1 z.1 i
-    where
-      one : if_told h l r.scope (Message.Leave r.scope) (filter (λ w. same_pid w.pid p) (local_rows h r.scope)) ≡ exit_frames r c.groups l
-      one =
-          ap (λ rows. if_told h l r.scope (Message.Leave r.scope) rows) (sym (left_are h r a.0 t.sound.legal p (a.0.own ∙ sym own_node) c.groups z.0.groups))
-          ∙ told_frames (rows_left c.groups) r.told.items (wide (Message.Leave r.scope (rows_left c.groups))) l (told l r.scope h.entries) (a.0.told l)
+  frames_are l (r ∷ rs) (c ∷ cs) a z = λ i. its_frames l r c a.0 z.0 i ++ frames_are l rs cs a.1 z.1 i
+  frames_are l rs cs a z = absurd z
 
   module _ (links : List KeptLink) (cs : List Change) (told_so : AreExitsTold p parts.scopes parts.links links cs) where
     abbrev exit_entry : Entry
@@ -74,38 +82,36 @@ module _ (h : History) (seat : ℕ) (parts : Parts) (t : Follows h parts) (p : P
           parts.scopes t.scopes (λ s none g x. now_listed s g x ∙ ap (cond (same_pid x p) 0) (stopped_lists h s g x none) ∙ (grind arith)) cs
           (record { all = told_so.all; each = told_so.each; some = told_so.some })
 
-    pub exit_next : is_full h ≡ false → is_number p.number parts.processes.live ≡ true → IsNext h exit_entry
-    exit_next space living =
-        let verdict = accepted_now h seat (Event.Exit p) space Reply.Done (exit_holds living) refl in
-        next_now h seat (Event.Exit p) space (Accepted Reply.Done) cs verdict (exit_change (answered_now h seat (Event.Exit p) space (Accepted Reply.Done) cs verdict))
-
-    module _ (next : IsNext h exit_entry) where
-      it : IsAnswered h exit_entry
-      it = record { room = next.room; number = next.number; verdict = next.verdict }
-
       module _ (away : Part) (is : (x : Table) (f : List ℕ) (q : Pid) → count_but away x f q ≡ count_after_exit x p f q) where
         parted : (r new : Running) → HasParted away r new → IsRunningOf (scope_words h) r → IsRunningOf (scope_words exited) new
         parted r new z a = record {
           own = z.rows.own ∙ a.own;
-          rows = λ g x. z.rows.counts g x ∙ is r.table g x ∙ ap (λ n. cond (same_pid x p) 0 n) (a.rows g x) ∙ sym (now_listed it r.scope g x) ∙ ap (λ s. listed exited s g x) (sym z.scope);
+          rows = λ g x. z.rows.counts g x ∙ is r.table g x ∙ ap (λ n. cond (same_pid x p) 0 n) (a.rows g x) ∙ sym (now_listed r.scope g x) ∙ ap (λ s. listed exited s g x) (sym z.scope);
           heard = λ l. ap (is_number l) z.heard ∙ a.heard l ∙ ap (λ s. heard l s h.entries) (sym z.scope);
           told = λ l. ap (is_number l) z.told ∙ a.told l ∙ ap (λ s. told l s h.entries) (sym z.scope);
         }
 
-        pub exit_follows : (new : List Running) → AllZip (HasParted away) parts.scopes new → (q : Spawned) → q.spawned ≡ parts.processes.spawned
-            → ((n : ℕ) → is_number n q.live ≡ cond (nat_eq p.number n) false (is_number n parts.processes.live)) → length q.live + 1 ≡ length parts.processes.live
-            → Follows exited (record parts { scopes = new; links = links; processes = q })
-        exit_follows new z q same live fewer = step_follows t next refl t.admission
-            (record {
-              spawned = same ∙ t.processes.spawned ∙ sym (spawned_exited h exit_entry it refl p refl);
-              live = λ n. live n ∙ ap (λ b. cond (nat_eq p.number n) false b) (t.processes.live n) ∙ sym (lives_exited h exit_entry it refl p refl n);
-              count = (let was = t.processes.count in let more = exits_more h exit_entry it refl p refl in let still = spawned_exited h exit_entry it refl p refl in omega (arith, was, more, still, fewer));
-            })
-            (record {
-              running = zipped_map (λ r. r.scope) (λ r. r.scope) parts.scopes new (zipped_weaker (HasParted away) (λ r q. q.scope ≡ r.scope) (λ r q x. x.scope) parts.scopes new z) ∙ t.scopes.running;
-              each = zipped_each (HasParted away) (IsRunningOf (scope_words h)) (IsRunningOf (scope_words exited)) parted parts.scopes new z t.scopes.each;
-            })
-            (told_follow (link_words h) (link_words exited) (all_frames parts.scopes told_so.all) (λ l. refl)
-            (told_numbers h exit_entry it refl refl (λ l. (exited_links h exit_entry it refl p refl l).kept_is)) parts.links links
-            (λ l near. ap (λ f. waiting h l ++ f) (ap (policy_frames l) (sym t.scopes.running) ∙ frames_are l parts.scopes told_so.all t.scopes.each told_so.each))
-            told_so.links t.links)
+    pub exit_now : is_full h ≡ false → is_number p.number parts.processes.live ≡ true → (away : Part) → ((x : Table) (f : List ℕ) (q : Pid) → count_but away x f q ≡ count_after_exit x p f q)
+        → (new : List Running) → AllZip (HasParted away) parts.scopes new → (q : Spawned) → q.spawned ≡ parts.processes.spawned
+        → ((n : ℕ) → is_number n q.live ≡ cond (nat_eq p.number n) false (is_number n parts.processes.live)) → length q.live + 1 ≡ length parts.processes.live
+        → IsNext h exit_entry × Follows exited (record parts { scopes = new; links = links; processes = q })
+    exit_now space living away is new z q same live fewer =
+        let alive = lives_of h p local ∙ sym (t.processes.live p.number) ∙ living in
+        let next = accepted_next h seat (Event.Exit p) space Reply.Done cs (λ i. exit_broken (local i) (alive i)) refl exit_change in
+        let it = answered_by next in (
+          next,
+          step_follows t next refl t.admission
+              (record {
+                spawned = same ∙ t.processes.spawned ∙ sym (spawned_exited h exit_entry it refl p refl);
+                live = λ n. live n ∙ ap (λ b. cond (nat_eq p.number n) false b) (t.processes.live n) ∙ sym (lives_exited h exit_entry it refl p refl n);
+                count = (let was = t.processes.count in let more = exits_more h exit_entry it refl p refl in let still = spawned_exited h exit_entry it refl p refl in omega (arith, was, more, still, fewer));
+              })
+              (record {
+                running = zipped_map (HasParted away) (λ r. r.scope) (λ r. r.scope) (λ r q x. x.scope) parts.scopes new z ∙ t.scopes.running;
+                each = zipped_each (HasParted away) (IsRunningOf (scope_words h)) (IsRunningOf (scope_words exited)) (parted it away is) parts.scopes new z t.scopes.each;
+              })
+              (told_follow (link_words h) (link_words exited) (all_frames parts.scopes told_so.all) (λ l. refl)
+              (told_numbers h exit_entry it refl refl (λ l. (exited_links h exit_entry it refl p refl l).kept_is)) parts.links links
+              (λ l. ap (λ f. waiting h l ++ f) (ap (policy_frames l) (sym t.scopes.running) ∙ frames_are l parts.scopes told_so.all t.scopes.each told_so.each))
+              told_so.links t.links),
+        )

@@ -1,7 +1,6 @@
 -- Elements that pass a test, and their places.
-use Rattle.node_core.proofs.Words.{Bool, List, None, Some, ap, arith, cond, false, find, is_some, length, map, nat_lt, position, refl, subst, suc}
-use Rattle.node_core.proofs.Words.{sym, true, ℕ, [], ◌+◌, ◌||◌, ◌∙◌, ◌∷◌, ◌≡◌, AllByRecursion, list_any, lt-ltb, ltb-true, no_value, ltb-false}
-use Rattle.node_core.proofs.Words.{position_or_len}
+use Rattle.node_core.proofs.Words.{Bool, List, None, Some, ap, arith, cond, false, find, is_some, map, position, refl, subst, sym, true, [], ◌||◌, ◌∙◌, ◌∷◌}
+use Rattle.node_core.proofs.Words.{◌≡◌, AllByRecursion, list_any, lt-ltb, ltb-true, no_value, ltb-false}
 
 -- the value in an option
 pub some_is : {A : Type 0} {x y : A} → Some x ≡ Some y → x ≡ y
@@ -25,11 +24,8 @@ module _ {A : Type 0} (test : A → Bool) where
       by false e later = later (sym (first_is false y ys e) ∙ q)
 
   pub found_passes : (xs : List A) (x : A) → find test xs ≡ Some x → test x ≡ true
-  found_passes xs x q = (found_in (λ a. Unit {0}) xs (all xs) x q).0
-    where
-      all : (ys : List A) → AllByRecursion (λ a. Unit {0}) ys
-      all [] = tt
-      all (y ∷ ys) = (tt, all ys)
+  found_passes [] x q = no_value (sym q)
+  found_passes (y ∷ ys) x q = grind (arith, found_passes ys x)
 
   -- where nothing is found, nothing passes
   pub none_found : (xs : List A) → find test xs ≡ None → list_any test xs ≡ false
@@ -48,22 +44,8 @@ any_map test f (x ∷ xs) = ap (λ b. test (f x) || b) (any_map test f xs)
 
 -- ---- places
 
-one_less : (n m : ℕ) → nat_lt (1 + n) (suc m) ≡ nat_lt n m
-one_less n m = grind (arith, ltb-true, lt-ltb, ltb-false)
-
--- a place is found where one passes
 module _ {A : Type 0} (test : A → Bool) where
-  place_by : (xs : List A) → (nat_lt (position_or_len test xs) (length xs) ≡ list_any test xs)
-  place_by [] = refl
-  place_by (x ∷ xs) = grind (arith, place_by xs, one_less (position_or_len test xs) (length xs), lt-ltb 0 (suc (length xs)))
-
+  -- a place is found where one passes
   pub place_found : (xs : List A) → is_some (position test xs) ≡ list_any test xs
-  place_found xs = rw (← place_by xs) (grind arith)
-
-  -- where no place is found, none passes
-  pub no_place : (xs : List A) → position test xs ≡ None → list_any test xs ≡ false
-  no_place xs none = sym (place_found xs) ∙ ap is_some none
-
-  -- where one is found, one passes, and it is within the list
-  pub some_place : (xs : List A) (p : ℕ) → position test xs ≡ Some p → list_any test xs ≡ true
-  some_place xs p found = sym (place_found xs) ∙ ap is_some found
+  place_found [] = refl
+  place_found (x ∷ xs) = grind (arith, place_found xs, lt-ltb, ltb-true, ltb-false)

@@ -1,15 +1,19 @@
--- Own processes that join groups.
-use Rattle.node_core.proofs.Words.{lt-leb, All, Bool, List, None, Option, Some, ap, arith, cond, false, get_or, length, map, nat_le, not, position}
-use Rattle.node_core.proofs.Words.{refl, set, suc, sym, true, zero, ℕ, [], ◌&&◌, ◌++◌, ◌+◌, ◌<◌, ◌==◌, ◌∙◌, ◌∷◌, ◌≡◌, ◌≤◌, list_all, le-leb, leb-true}
-use Rattle.node_core.proofs.Words.{same_decides, listing, mentions, same, pid_cmp, Pid, Message, local_total, all_hold, unbroken, told_numbers}
-use Rattle.node_core.proofs.Words.{and_left, and_right, checks, first_broken, local_rows, row, History, creation, listed, waiting, wide, is_local}
-use Rattle.node_core.proofs.Words.{is_running, lives, IsAnswered, IsNext, is_full, with_entry, Change, Entry, Accepted, Rule, IsCalmFault, Follows}
-use Rattle.node_core.proofs.Words.{Parts, link_words, KeptLink, IsMoved, ProcessesFollow, process_words, Spawned, IsRunningOf, is_number, scope_words}
-use Rattle.node_core.proofs.Words.{if_among, said_to, max_rows, count_after_join, lives_of, joined_links, Running, CoreFault, IsJoinRefusal}
-use Rattle.node_core.proofs.Words.{own_checks, Event, Reply, Keeps, Kept}
-use Rattle.policy_audit.proofs.RowsAfter.{joined_rows}
-use Rattle.node_core.proofs.Entered.{step_follows, made, accepted_now, answered_now, next_now}
+-- Own processes that join groups and leave them.
+use Rattle.node_core.proofs.Words.{lt-leb, All, Bool, List, None, Option, Some, ap, arith, cond, false, get_or, length, map, nat_le, not, position, refl, set}
+use Rattle.node_core.proofs.Words.{sym, true, ℕ, [], ◌&&◌, ◌++◌, ◌+◌, ◌==◌, ◌∙◌, ◌∷◌, ◌≡◌, ◌≤◌, list_all, le-leb, leb-true, same_decides, listing, mentions}
+use Rattle.node_core.proofs.Words.{same, pid_cmp, Pid, Message, local_total, all_hold, unbroken, told_numbers, checks, first_broken, local_rows, row, History}
+use Rattle.node_core.proofs.Words.{listed, waiting, wide, is_local, is_running, lives, IsAnswered, IsNext, is_full, with_entry, Change, Entry, Accepted, Rule}
+use Rattle.node_core.proofs.Words.{IsCalmFault, Follows, Parts, link_words, KeptLink, IsMoved, ProcessesFollow, process_words, Spawned, IsRunningOf, is_number}
+use Rattle.node_core.proofs.Words.{scope_words, if_among, said_to, max_rows, count_after_join, lives_of, joined_links, Running, CoreFault, IsJoinRefusal}
+use Rattle.node_core.proofs.Words.{own_checks, Event, Reply, Keeps, Kept, nat_lt, subst, ◌-◌, list_any, count_of, local_count, min, count_after_leave}
+use Rattle.node_core.proofs.Words.{is_any_joined, own, left_links, IsLeaveRefusal, AdmissionFollows, admission_words, running_scopes, heard, told, facts}
+use Rattle.node_core.proofs.Words.{kept_numbers, if_told, Row, answer, is_said, is_empty}
+use Rattle.group_monitors.specs.Follows.{concerns_monitors}
+use Rattle.std.proofs.lemmas.List.Folds.{list_all_at}
+use Rattle.policy_audit.proofs.RowsAfter.{joined_rows, left_rows}
+use Rattle.node_core.proofs.Entered.{step_follows, made, accepted_next, answered_by}
 use Rattle.node_core.proofs.RowsGone.{rows_total}
+use Rattle.node_core.proofs.Scopes.{own_counts}
 use Rattle.node_core.proofs.MessagePlaces.{scope_here, runs_here}
 use Rattle.node_core.proofs.Told.{told_follow}
 use Rattle.node_core.proofs.Moved.{moved_change, moved_frames, moved_scopes}
@@ -21,14 +25,53 @@ local_by keeps p = λ i. same p.node (keeps.opening i).name && p.creation == kee
 -- own processes live where their numbers do
 pub alive_all : (h : History) (p : Spawned) → ProcessesFollow (process_words h) p → (ps : List Pid) → list_all (is_local h) ps ≡ true → list_all (λ q. is_number q.number p.live) ps ≡ list_all (lives h) ps
 alive_all h p t [] local = refl
-alive_all h p t (q ∷ qs) local =
-    (λ i. (t.live q.number ∙ sym (lives_of h q (and_left (is_local h q) (list_all (is_local h) qs) local))) i && alive_all h p t qs (and_right (is_local h q) (list_all (is_local h) qs) local) i)
+alive_all h p t (q ∷ qs) local = grind (arith, alive_all h p t qs, t.live q.number, lives_of h q)
 
 -- own processes are of the own node
 pub own_nodes : (h : History) (n : List ℕ) → n ≡ h.opening.name → (ps : List Pid) → list_all (is_local h) ps ≡ true → All (λ p. p.node ≡ n) ps
-own_nodes h n is [] local k d l = absurd (omega (arith, l))
-own_nodes h n is (q ∷ qs) local zero d l = (same_decides q.node h.opening.name).0 (and_left (same q.node h.opening.name) (q.creation == creation h) (and_left (is_local h q) (list_all (is_local h) qs) local)) ∙ sym is
-own_nodes h n is (q ∷ qs) local (suc k) d l = own_nodes h n is qs (and_right (is_local h q) (list_all (is_local h) qs) local) k d (omega (arith, l))
+own_nodes h n is ps local k d l = grind (arith, is, list_all_at (is_local h) ps k d, same_decides (get_or ps k d).node h.opening.name)
+
+-- ---- rows of a scope that an event moves
+
+module _ {h : History} (seat : ℕ) {parts : Parts} (t : Follows h parts) (s : List ℕ) {p : ℕ} (here : position (λ r. same r.scope s) parts.scopes ≡ Some p) {a : Running} (at : a ≡ get_or parts.scopes p a) where
+  abbrev there : IsRunningOf (scope_words h) a
+  there = (scope_here t s here at).running
+
+  abbrev its_scope : a.scope ≡ s
+  its_scope = (scope_here t s here at).named
+
+  -- as an accepted event says, which tells of the rows that are brought
+  module _ (ev : Event) (say : List ℕ → List Row → Message) (brought : List Row) (after : ℕ → List ℕ → Pid → ℕ) (b : Running) (links : List KeptLink) (cs : List Change)
+      (moved : IsMoved (say a.scope brought) (λ f q. after (count_of a.table f q) f q) a b parts.links links cs) where
+    abbrev entry : Entry
+    entry = made h seat ev (Accepted Reply.Done) cs
+
+    abbrev now : History
+    now = with_entry h entry
+
+    module _ (rows : IsAnswered h entry → (u f : List ℕ) (q : Pid) → listed now u f q ≡ cond (same u s) (after (listed h u f q) f q) (listed h u f q)) where
+      rows_now : IsAnswered h entry → (f : List ℕ) (q : Pid) → listed now s f q ≡ after (count_of a.table f q) f q
+      rows_now its f q = rows its s f q ∙ grind (arith, (same_decides s s).1 refl) ∙ ap (λ n. after n f q) (sym (there.rows f q ∙ ap (λ u. listed h u f q) its_scope))
+
+      others_now : IsAnswered h entry → (u f : List ℕ) (q : Pid) → same u s ≡ false → listed h u f q ≡ listed now u f q
+      others_now its u f q other = sym (rows its u f q ∙ grind (arith, other))
+
+      moves_now : is_full h ≡ false → first_broken (checks h seat ev) ≡ None → answer h seat ev ≡ Reply.Done → concerns_monitors ev ≡ false → is_said (say a.scope brought) ≡ not (is_empty brought) → (admission_words now ≡ admission_words h) × (process_words now ≡ process_words h) × (running_scopes now ≡ running_scopes h)
+          → ((l : ℕ) (u : List ℕ) → heard l u now.entries ≡ heard l u h.entries) → ((l : ℕ) (u : List ℕ) → told l u now.entries ≡ told l u h.entries) → ((l : ℕ) → facts now l ≡ facts h l)
+          → (IsAnswered h entry → kept_numbers now ≡ kept_numbers h) → ((l : ℕ) → waiting now l ≡ waiting h l ++ if_told h l s (say s) brought)
+          → IsNext h entry × Follows now (record parts { scopes = set parts.scopes p b; links = links })
+      moves_now space holds done calm brings same_words hears tells same_facts numbers waits =
+          let m = say a.scope brought in
+          let count : List ℕ → Pid → ℕ = λ f q. after (count_of a.table f q) f q in
+          let next = accepted_next h seat ev space Reply.Done cs holds done (λ its. moved_change h seat parts t s p here a b at m count links cs moved now (rows_now its) (others_now its)) in
+          let its = answered_by next in (
+            next,
+            step_follows t next calm (subst (λ w. AdmissionFollows w parts.admission) (sym same_words.0) t.admission) (subst (λ w. ProcessesFollow w parts.processes) (sym same_words.1) t.processes)
+                (moved_scopes h seat parts t s p here a b at m count links cs moved now (rows_now its) (others_now its) same_words.2 refl hears tells)
+                (told_follow (link_words h) (link_words now) (if_among (said_to a.told.items m) (wide m)) same_facts (numbers its) parts.links links
+                (λ l. waits l ∙ ap (λ f. waiting h l ++ f) (moved_frames h seat parts t s p here a b at m count links cs moved say brought l ∙ ap (λ c. if_among (cond c a.told.items []) (wide m) l) (sym brings)))
+                moved.links t.links),
+          )
 
 -- ---- the rules of a Join
 
@@ -36,91 +79,77 @@ module _ (h : History) (seat : ℕ) (s g : List ℕ) (ps : List Pid) where
   abbrev join_broken : Bool → Bool → Bool → Bool → Option Rule
   join_broken runs local alive fit = cond (not runs) (Some Rule.NoScope) (cond (not local) (Some Rule.NotLocal) (cond (not alive) (Some Rule.NoProcess) (cond (not fit) (Some Rule.RowsFull) None)))
 
-  pub join_nowhere : is_running h s ≡ false → first_broken (checks h seat (Event.Join s g ps)) ≡ Some Rule.NoScope
-  join_nowhere q = ap (λ b. join_broken b (list_all (is_local h) ps) (list_all (lives h) ps) (nat_le (length (local_rows h s) + length ps) 4096)) q
-
   -- the first rule that processes break by themselves
   pub join_own : is_running h s ≡ true → (r : Rule) → first_broken (own_checks h ps) ≡ Some r → first_broken (checks h seat (Event.Join s g ps)) ≡ Some r
   join_own runs r q =
       ap (λ b. join_broken b (list_all (is_local h) ps) (list_all (lives h) ps) (nat_le (length (local_rows h s) + length ps) 4096)) runs
       ∙ grind (arith, leb-true, le-leb, lt-leb)
 
-  module _ (runs : is_running h s ≡ true) (q : first_broken (own_checks h ps) ≡ None) where
-    pub all_local : list_all (is_local h) ps ≡ true
-    all_local = unbroken (list_all (is_local h) ps) (all_hold (own_checks h ps) q).0
-
-    all_alive : list_all (lives h) ps ≡ true
-    all_alive = unbroken (list_all (lives h) ps) (all_hold (own_checks h ps) q).1.0
-
-    join_full : 4096 < length (local_rows h s) + length ps → first_broken (checks h seat (Event.Join s g ps)) ≡ Some Rule.RowsFull
-    join_full many = λ i. join_broken (runs i) (all_local i) (all_alive i) (lt-leb (length (local_rows h s) + length ps) 4096 many i)
-
-    pub join_holds : length (local_rows h s) + length ps ≤ 4096 → first_broken (checks h seat (Event.Join s g ps)) ≡ None
-    join_holds few = λ i. join_broken (runs i) (all_local i) (all_alive i) (le-leb (length (local_rows h s) + length ps) 4096 few i)
-
-more_rows : (rows held more : ℕ) → rows ≡ held → max_rows < held + more → 4096 < rows + more
-more_rows rows held more is over = omega (arith, is, over)
+  -- where they break none, there is room for them or not
+  join_left : is_running h s ≡ true → first_broken (own_checks h ps) ≡ None → first_broken (checks h seat (Event.Join s g ps)) ≡ cond (nat_le (length (local_rows h s) + length ps) 4096) None (Some Rule.RowsFull)
+  join_left runs q =
+      ap (λ b. join_broken b (list_all (is_local h) ps) (list_all (lives h) ps) (nat_le (length (local_rows h s) + length ps) 4096)) runs
+      ∙ grind arith
 
 -- ---- a Join
 
 module _ {h : History} (seat : ℕ) {parts : Parts} (t : Follows h parts) (s g : List ℕ) (ps : List Pid) {p : ℕ} (here : position (λ r. same r.scope s) parts.scopes ≡ Some p) {a : Running} (at : a ≡ get_or parts.scopes p a) where
-  abbrev there : IsRunningOf (scope_words h) a
-  there = (scope_here t s here at).running
-
-  abbrev its_scope : a.scope ≡ s
-  its_scope = (scope_here t s here at).named
-
-  runs : is_running h s ≡ true
-  runs = runs_here t s p here
-
   own_total : length (local_rows h s) ≡ local_total a.table
-  own_total = rows_total h s a its_scope there t.sound.legal
+  own_total = rows_total h s a (its_scope seat t s here at) (there seat t s here at) t.sound.legal
 
   pub joins_own : first_broken (own_checks h ps) ≡ None → All (λ q. q.node ≡ a.table.own) ps
-  joins_own q = own_nodes h a.table.own there.own ps (all_local h seat s g ps runs q)
+  joins_own q = own_nodes h a.table.own (there seat t s here at).own ps (unbroken (list_all (is_local h) ps) (all_hold (own_checks h ps) q).0)
 
   -- what the table refuses is the first rule that is broken
   pub join_calm : first_broken (own_checks h ps) ≡ None → (f : CoreFault) → IsJoinRefusal a.table ps f → IsCalmFault h seat (Event.Join s g ps) f
-  join_calm q (CoreFault.Refused r) over = (join_full h seat s g ps runs q (more_rows _ _ _ own_total over.1) ∙ ap Some (sym over.0), refl)
+  join_calm q (CoreFault.Refused r) over = (join_left h seat s g ps (runs_here t s p here) q ∙ rw (lt-leb (length (local_rows h s) + length ps) 4096 (let is = own_total in let many = over.1 in omega (arith, is, many))) (ap Some (sym over.0)), refl)
   join_calm q CoreFault.OutOfMemory over = tt
 
-  abbrev said_joined : Message
-  said_joined = Message.Join a.scope (map (row g) (listing pid_cmp (λ q. mentions q ps) ps))
+  pub joined : (b : Running) (links : List KeptLink) (cs : List Change) → IsMoved (Message.Join a.scope (map (row g) (listing pid_cmp (λ q. mentions q ps) ps))) (count_after_join a.table g ps) a b parts.links links cs
+      → is_full h ≡ false → first_broken (own_checks h ps) ≡ None → local_total a.table + length ps ≤ max_rows
+      → IsNext h (made h seat (Event.Join s g ps) (Accepted Reply.Done) cs) × Follows (with_entry h (made h seat (Event.Join s g ps) (Accepted Reply.Done) cs)) (record parts { scopes = set parts.scopes p b; links = links })
+  joined b links cs moved space q few =
+      let e = made h seat (Event.Join s g ps) (Accepted Reply.Done) cs in
+      moves_now seat t s here at (Event.Join s g ps) Message.Join (map (row g) (listing pid_cmp (λ q. mentions q ps) ps)) (λ n f q. n + cond (same f g) (mentions q ps) 0) b links cs moved
+      (λ its. joined_rows h e its refl s g ps refl) space (join_left h seat s g ps (runs_here t s p here) q ∙ rw (le-leb (length (local_rows h s) + length ps) 4096 (let is = own_total in omega (arith, is, few)))) refl refl refl (refl, refl, refl) (λ l u. refl) (λ l u. refl) (λ l. refl)
+      (λ its. told_numbers h e its refl refl (λ l. (joined_links h e its refl s g ps refl l).kept_is)) (λ l. refl)
 
-  module _ (b : Running) (links : List KeptLink) (cs : List Change) (moved : IsMoved said_joined (count_after_join a.table g ps) a b parts.links links cs) where
-    abbrev joined_entry : Entry
-    joined_entry = made h seat (Event.Join s g ps) (Accepted Reply.Done) cs
+-- ---- a Leave
 
-    abbrev pub joined_now : History
-    joined_now = with_entry h joined_entry
+module _ {h : History} (seat : ℕ) {parts : Parts} (t : Follows h parts) (s g : List ℕ) (ps : List Pid) where
+  abbrev leave_broken : Bool → Bool → Bool → Option Rule
+  leave_broken runs local some = cond (not runs) (Some Rule.NoScope) (cond (not local) (Some Rule.NotLocal) (cond (not some) (Some Rule.NotJoined) None))
 
-    module _ (its : IsAnswered h joined_entry) where
-      rows_now : (f : List ℕ) (q : Pid) → listed joined_now s f q ≡ count_after_join a.table g ps f q
-      rows_now f q =
-          joined_rows h joined_entry its refl s g ps refl s f q
-          ∙ ap (λ c. cond c (listed h s f q + cond (same f g) (mentions q ps) 0) (listed h s f q)) ((same_decides s s).1 refl)
-          ∙ ap (λ n. n + cond (same f g) (mentions q ps) 0) (sym (there.rows f q ∙ ap (λ u. listed h u f q) its_scope))
+  pub leave_foreign : is_running h s ≡ true → list_all (is_local h) ps ≡ false → first_broken (checks h seat (Event.Leave s g ps)) ≡ Some Rule.NotLocal
+  leave_foreign runs q = λ i. leave_broken (runs i) (q i) (list_any (λ x. nat_lt 0 (own h s g x)) ps)
 
-      others_now : (u f : List ℕ) (q : Pid) → same u s ≡ false → listed h u f q ≡ listed joined_now u f q
-      others_now u f q other = sym (joined_rows h joined_entry its refl s g ps refl u f q ∙ ap (λ c. cond c (listed h u f q + cond (same f g) (mentions q ps) 0) (listed h u f q)) other)
+  module _ {p : ℕ} (here : position (λ r. same r.scope s) parts.scopes ≡ Some p) {a : Running} (at : a ≡ get_or parts.scopes p a) where
+    abbrev counts : local_count a.table ≡ own h s
+    counts = own_counts h s a (its_scope seat t s here at) (there seat t s here at) t.sound.legal
 
-    join_next : is_full h ≡ false → first_broken (own_checks h ps) ≡ None → local_total a.table + length ps ≤ max_rows → IsNext h joined_entry
-    join_next space q few =
-        let holds = join_holds h seat s g ps runs q (let is = own_total in omega (arith, is, few)) in
-        let verdict = accepted_now h seat (Event.Join s g ps) space Reply.Done holds refl in
-        let its = answered_now h seat (Event.Join s g ps) space (Accepted Reply.Done) cs verdict in
-        next_now h seat (Event.Join s g ps) space (Accepted Reply.Done) cs verdict
-        (moved_change h seat parts t s p here a b at said_joined (count_after_join a.table g ps) links cs moved joined_now (rows_now its) (others_now its))
+    -- whether own processes are joined is what the table says
+    any_joined : (qs : List Pid) → list_all (is_local h) qs ≡ true → list_any (λ x. nat_lt 0 (own h s g x)) qs ≡ is_any_joined a.table g qs
+    any_joined [] local = refl
+    any_joined (q ∷ qs) local = grind (arith, any_joined qs, ap (λ f. f g q) counts, (there seat t s here at).own)
 
-    join_follows : IsNext h joined_entry → Follows joined_now (record parts { scopes = set parts.scopes p b; links = links })
-    join_follows next =
-        let its : IsAnswered h joined_entry = record { room = next.room; number = next.number; verdict = next.verdict } in
-        step_follows t next refl t.admission t.processes
-        (moved_scopes h seat parts t s p here a b at said_joined (count_after_join a.table g ps) links cs moved joined_now (rows_now its) (others_now its) refl refl (λ l u. refl) (λ l u. refl))
-        (told_follow (link_words h) (link_words joined_now) (if_among (said_to a.told.items said_joined) (wide said_joined)) (λ l. refl)
-        (told_numbers h joined_entry its refl refl (λ l. (joined_links h joined_entry its refl s g ps refl l).kept_is)) parts.links links
-        (λ l near. ap (λ f. waiting h l ++ f) (moved_frames h seat parts t s p here a b at said_joined (count_after_join a.table g ps) links cs moved Message.Join (map (row g) (listing pid_cmp (λ q. mentions q ps) ps)) l))
-        moved.links t.links)
+    module _ (local : list_all (is_local h) ps ≡ true) where
+      pub leaves_own : All (λ q. q.node ≡ a.table.own) ps
+      leaves_own = own_nodes h a.table.own (there seat t s here at).own ps local
 
-    pub joined : is_full h ≡ false → first_broken (own_checks h ps) ≡ None → local_total a.table + length ps ≤ max_rows → IsNext h joined_entry × Follows joined_now (record parts { scopes = set parts.scopes p b; links = links })
-    joined space q few = (join_next space q few, join_follows (join_next space q few))
+      leave_left : first_broken (checks h seat (Event.Leave s g ps)) ≡ cond (is_any_joined a.table g ps) None (Some Rule.NotJoined)
+      leave_left = (λ i. leave_broken (runs_here t s p here i) (local i) (any_joined ps local i)) ∙ grind arith
+
+      -- what the table refuses is the first rule that is broken
+      pub leave_calm : (f : CoreFault) → IsLeaveRefusal a.table g ps f → IsCalmFault h seat (Event.Leave s g ps) f
+      leave_calm (CoreFault.Refused r) none = (leave_left ∙ rw none.1 (ap Some (sym none.0)), refl)
+      leave_calm CoreFault.OutOfMemory none = tt
+
+    pub left : (b : Running) (links : List KeptLink) (cs : List Change) → IsMoved (Message.Leave a.scope (map (row g) (listing pid_cmp (λ q. min (mentions q ps) (local_count a.table g q)) ps))) (count_after_leave a.table g ps) a b parts.links links cs
+        → is_full h ≡ false → list_all (is_local h) ps ≡ true → is_any_joined a.table g ps ≡ true
+        → IsNext h (made h seat (Event.Leave s g ps) (Accepted Reply.Done) cs) × Follows (with_entry h (made h seat (Event.Leave s g ps) (Accepted Reply.Done) cs)) (record parts { scopes = set parts.scopes p b; links = links })
+    left b links cs moved space local some =
+        let e = made h seat (Event.Leave s g ps) (Accepted Reply.Done) cs in
+        moves_now seat t s here at (Event.Leave s g ps) Message.Leave (map (row g) (listing pid_cmp (λ q. min (mentions q ps) (own h s g q)) ps)) (λ n f q. n - cond (same f g) (mentions q ps) 0) b links cs
+        (subst (λ c. IsMoved (Message.Leave a.scope (map (row g) (listing pid_cmp (λ q. min (mentions q ps) (c g q)) ps))) (count_after_leave a.table g ps) a b parts.links links cs) counts moved)
+        (λ its. left_rows h e its refl s g ps refl) space (leave_left local ∙ rw some) refl refl refl (refl, refl, refl) (λ l u. refl) (λ l u. refl) (λ l. refl)
+        (λ its. told_numbers h e its refl refl (λ l. (left_links h e its refl s g ps refl l).kept_is)) (λ l. refl)

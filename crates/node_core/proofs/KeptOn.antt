@@ -1,8 +1,11 @@
 -- The kept links after an entry: which of them stay, and how one of them or each is changed.
-use Rattle.node_core.proofs.Words.{Bool, List, Some, ap, arith, cond, false, get_or, length, map, nat_eq, nat_lt, position, refl, set, subst, suc}
-use Rattle.node_core.proofs.Words.{sym, true, zero, ℕ, [], ◌<◌, ◌∙◌, ◌∷◌, ◌≡◌, AllByRecursion, filter, list_all, option_map_or, eqb-true, ltb-true}
-use Rattle.node_core.proofs.Words.{position-Some, and_left, and_right, History, is_open, challenge_in, IsLinkOf, LinkWords, LinksFollow, facts}
-use Rattle.node_core.proofs.Words.{KeptLink, IsSameLink, Climbs, None, is_some, list_any, kept_among, is_kept, IsLegal, link_words, map-id}
+use Rattle.node_core.proofs.Words.{IsState, Bool, List, Some, ap, arith, cond, false, get_or, length, map, nat_eq, nat_lt, position, refl, set, subst, suc, sym}
+use Rattle.node_core.proofs.Words.{true, zero, ℕ, [], ◌<◌, ◌∙◌, ◌∷◌, ◌≡◌, AllByRecursion, filter, list_all, option_map_or, eqb-true, ltb-true, position-Some}
+use Rattle.node_core.proofs.Words.{History, is_open, challenge_in, IsLinkOf, LinkWords, LinksFollow, facts, KeptLink, IsSameLink, Climbs, None, is_some}
+use Rattle.node_core.proofs.Words.{list_any, kept_among, is_kept, IsLegal, link_words, map-id}
+use Rattle.std.proofs.Math.Seq.{map-set_same}
+use Rattle.std.proofs.lemmas.List.Folds.{list_all-map, list_all_at}
+use Rattle.std.proofs.lemmas.List.Elements.{All-from_recursion}
 use Rattle.node_core.proofs.Found.{any_map, place_found}
 
 -- what is said of a link is the same, where its words are
@@ -18,6 +21,10 @@ facts_same h k opening l it opens = λ i. record {
   challenge = option_map_or (λ o. challenge_in o.start) (it.opened i) 0;
 }
 
+-- and so is the link
+pub same_link : {w v : LinkWords} (x : KeptLink) → v.facts x.number ≡ w.facts x.number → v.waiting x.number ≡ w.waiting x.number → IsLinkOf w x → IsLinkOf v x
+same_link x facts waits it = record { state = subst (λ f. IsState f x.state) (sym facts) it.state; frames = it.frames ∙ sym waits; idle = it.idle }
+
 -- ---- all links
 
 module _ (w v : LinkWords) (f : KeptLink → KeptLink) (stays : ℕ → Bool) (same : (x : KeptLink) → (f x).number ≡ x.number) where
@@ -27,12 +34,8 @@ module _ (w v : LinkWords) (f : KeptLink → KeptLink) (stays : ℕ → Bool) (s
 
   each_on : ((x : KeptLink) → stays x.number ≡ true → IsLinkOf w x → IsLinkOf v (f x)) → (kept : List KeptLink) → AllByRecursion (IsLinkOf w) kept → AllByRecursion (IsLinkOf v) (filter (λ x. stays x.number) (map f kept))
   each_on on [] a = tt
-  each_on on (x ∷ xs) a = by (stays (f x).number) refl (each_on on xs a.1)
-    where
-      by : (b : Bool) → stays (f x).number ≡ b → AllByRecursion (IsLinkOf v) (filter (λ y. stays y.number) (map f xs))
-          → AllByRecursion (IsLinkOf v) (cond b (f x ∷ filter (λ y. stays y.number) (map f xs)) (filter (λ y. stays y.number) (map f xs)))
-      by true e later = (on x (ap stays (sym (same x)) ∙ e) a.0, later)
-      by false e later = later
+  each_on on (x ∷ xs) a = elim (stays (f x).number) as (λ b. stays (f x).number ≡ b → AllByRecursion (IsLinkOf v) (cond b (f x ∷ filter (λ y. stays y.number) (map f xs)) (filter (λ y. stays y.number) (map f xs))))
+      [ true ↦ λ e. (on x (ap stays (sym (same x)) ∙ e) a.0, each_on on xs a.1) | false ↦ λ e. each_on on xs a.1 ] refl
 
   pub all_follow : (kept : List KeptLink) → LinksFollow w kept → v.numbers ≡ filter stays w.numbers
       → ((x : KeptLink) → stays x.number ≡ true → IsLinkOf w x → IsLinkOf v (f x))
@@ -50,21 +53,17 @@ place_is kept j p d q = let is = position-Some (λ x. nat_eq x.number j) kept p 
 
 -- what holds of each holds of the one at a place
 pub each_at : {A : Type 0} (P : A → Type 0) (xs : List A) (p : ℕ) (d : A) → AllByRecursion P xs → p < length xs → P (get_or xs p d)
-each_at P [] p d a less = absurd (omega (arith, less))
-each_at P (x ∷ xs) zero d a less = a.0
-each_at P (x ∷ xs) (suc p) d a less = each_at P xs p d a.1 (omega (arith, less))
+each_at P xs p d a less = All-from_recursion P xs a p d less
 
 -- numbers that climb stay above the one before them
 pub below : (n : ℕ) (xs : List KeptLink) (p : ℕ) (d : KeptLink) → list_all (λ m. nat_lt n m) (map (λ x. x.number) xs) ≡ true → p < length xs → n < (get_or xs p d).number
-below n [] p d l less = absurd (omega (arith, less))
-below n (x ∷ xs) zero d l less = ltb-true n x.number (and_left (nat_lt n x.number) (list_all (λ m. nat_lt n m) (map (λ z. z.number) xs)) l)
-below n (x ∷ xs) (suc p) d l less = below n xs p d (and_right (nat_lt n x.number) (list_all (λ m. nat_lt n m) (map (λ z. z.number) xs)) l) (omega (arith, less))
+below n xs p d l less = ltb-true n (get_or xs p d).number (grind (arith, list_all-map (λ m. nat_lt n m) (λ x. x.number) xs, list_all_at (λ x. nat_lt n x.number) xs p d))
 
 -- one link is changed, all others are as before
 module _ (w v : LinkWords) (y : KeptLink) (here : IsLinkOf v y) (on : (x : KeptLink) → nat_eq x.number y.number ≡ false → IsLinkOf w x → IsLinkOf v x) where
   above : (n : ℕ) (xs : List KeptLink) → list_all (λ m. nat_lt n m) (map (λ x. x.number) xs) ≡ true → n ≡ y.number → AllByRecursion (IsLinkOf w) xs → AllByRecursion (IsLinkOf v) xs
   above n [] l e a = tt
-  above n (x ∷ xs) l e a = (on x (grind (arith, eqb-true x.number y.number, ltb-true n x.number)) a.0, above n xs (and_right (nat_lt n x.number) (list_all (λ m. nat_lt n m) (map (λ z. z.number) xs)) l) e a.1)
+  above n (x ∷ xs) l e a = (on x (grind (arith, eqb-true x.number y.number, ltb-true n x.number)) a.0, above n xs (grind arith) e a.1)
 
   changed : (xs : List KeptLink) (p : ℕ) (d : KeptLink) → Climbs (map (λ x. x.number) xs) → AllByRecursion (IsLinkOf w) xs → p < length xs → y.number ≡ (get_or xs p d).number → AllByRecursion (IsLinkOf v) (set xs p y)
   changed [] p d c a less is = tt
@@ -73,14 +72,9 @@ module _ (w v : LinkWords) (y : KeptLink) (here : IsLinkOf v y) (on : (x : KeptL
       let above_it = below x.number xs p d c.0 (omega (arith, less)) in
       (on x (grind (arith, eqb-true x.number y.number, above_it)) a.0, changed xs p d c.1 a.1 (omega (arith, less)) is)
 
-  same_numbers : (xs : List KeptLink) (p : ℕ) (d : KeptLink) → p < length xs → y.number ≡ (get_or xs p d).number → map (λ x. x.number) (set xs p y) ≡ map (λ x. x.number) xs
-  same_numbers [] p d less is = refl
-  same_numbers (x ∷ xs) zero d less is = ap (λ n. n ∷ map (λ z. z.number) xs) is
-  same_numbers (x ∷ xs) (suc p) d less is = ap (λ ns. x.number ∷ ns) (same_numbers xs p d (omega (arith, less)) is)
-
   pub one_follows : (kept : List KeptLink) (p : ℕ) (d : KeptLink) → LinksFollow w kept → Climbs w.numbers → v.numbers ≡ w.numbers → p < length kept → y.number ≡ (get_or kept p d).number → LinksFollow v (set kept p y)
   one_follows kept p d t climbs numbers less is = record {
-    numbers = same_numbers kept p d less is ∙ t.numbers ∙ sym numbers;
+    numbers = map-set_same (λ x. x.number) kept p y d is ∙ t.numbers ∙ sym numbers;
     each = changed kept p d (subst Climbs (sym t.numbers) climbs) t.each less is;
   }
 

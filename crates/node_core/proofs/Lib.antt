@@ -2,7 +2,6 @@
 pub mod Words
 pub mod Entered
 pub mod Calm
-pub mod Begun
 pub mod Anew
 pub mod StepAnswers
 pub mod Answering
@@ -15,7 +14,6 @@ pub mod LinkTests
 pub mod ReadLinks
 pub mod MovedOn
 pub mod Told
-pub mod Preparing
 pub mod Openings
 pub mod Losing
 pub mod Taking
@@ -45,15 +43,10 @@ pub mod Stopping
 -- own rows
 pub mod Lives
 pub mod RowsGone
-pub mod GroupRows
 pub mod Said
 pub mod Moved
 pub mod Joining
-pub mod Leaving
-pub mod Exits
 pub mod Exited
 -- admission
 pub mod Once
 pub mod Cookies
--- monitors
-pub mod Watching

@@ -1,11 +1,10 @@
 -- Which peers are up and which are dialled, by the states of the kept links.
-use Rattle.node_core.proofs.Words.{Bool, List, None, Option, Some, ap, arith, cond, false, length, nat_lt, not, refl, sym, true, ℕ, [], ◌&&◌, ◌==◌}
-use Rattle.node_core.proofs.Words.{◌||◌, ◌∙◌, ◌∷◌, ◌≡◌, AllByRecursion, list_any, option_map_or, eqb-true, same_decides, is_empty, is_among, same}
-use Rattle.node_core.proofs.Words.{AdmissionRules, lie, and_false, allow_list, dial_checks, first_broken, History, is_dialling, is_open}
-use Rattle.node_core.proofs.Words.{is_unfinished_dial, is_up, IsLegal, awaits, is_name_up, is_peer, is_whole, peer_of, AdmissionFollows}
-use Rattle.node_core.proofs.Words.{admission_words, IsLinkOf, IsState, LinksFollow, facts, link_words, KeptLink, dialled_peer, up_peer, allowed}
-use Rattle.node_core.proofs.Words.{opened, is_dial_to, kept_links, name_up_kept, dialling_kept, LinkState, Awaits, Rule, ◌++◌, flat_map}
-use Rattle.node_core.proofs.Words.{option_to_list, Pending, and-true}
+use Rattle.node_core.proofs.Words.{Bool, List, None, Option, Some, ap, arith, cond, false, length, nat_lt, not, refl, sym, true, ℕ, [], ◌&&◌, ◌==◌, ◌||◌, ◌∙◌}
+use Rattle.node_core.proofs.Words.{◌∷◌, ◌≡◌, AllByRecursion, list_any, option_map_or, eqb-true, same_decides, is_empty, is_among, same, AdmissionRules, lie}
+use Rattle.node_core.proofs.Words.{allow_list, dial_checks, first_broken, History, is_dialling, is_open, is_unfinished_dial, is_up, IsLegal, awaits, is_name_up}
+use Rattle.node_core.proofs.Words.{is_peer, is_whole, peer_of, AdmissionFollows, admission_words, IsLinkOf, IsState, LinksFollow, facts, link_words, KeptLink}
+use Rattle.node_core.proofs.Words.{dialled_peer, up_peer, allowed, is_dial_to, kept_links, name_up_kept, dialling_kept, LinkState, Awaits, Rule, flat_map}
+use Rattle.node_core.proofs.Words.{option_to_list, Pending}
 use Rattle.link_states.specs.Checks.{allows}
 use Rattle.policy_audit.proofs.Onward.{is_acceptors, is_diallers, by_peer, by_dial}
 use Rattle.node_core.proofs.Found.{any_map}
@@ -23,48 +22,43 @@ agree P f g each [] a = refl
 agree P f g each (x ∷ xs) a = λ i. each x a.0 i || agree P f g each xs a.1 i
 
 module _ (h : History) (n : List ℕ) where
-  down : (l : ℕ) → is_whole l h.entries ≡ false → false ≡ (is_up l h.entries && is_peer n l h.entries)
-  down l unwhole = sym (ap (λ b. (is_open l h.entries && b) && is_peer n l h.entries) unwhole ∙ ap (λ b. b && is_peer n l h.entries) (and_false (is_open l h.entries)))
-
   -- a link is up with n exactly where its state says so
   pub up_by : (l : ℕ) (s : LinkState) → IsState (facts h l) s → option_map_or (λ m. same m n) (up_peer s) false ≡ (is_up l h.entries && is_peer n l h.entries)
   up_by l (LinkState.Up s) t = sym (λ i. (t.0.open_now i && t.0.whole i) && option_map_or (λ m. same m n) (t.1.peer.peer i) false)
-  up_by l LinkState.Ended t = sym (ap (λ b. (b && is_whole l h.entries) && is_peer n l h.entries) t)
-  up_by l s t = down l t.0.whole
+  up_by l LinkState.Ended t = grind (arith, t)
+  up_by l s t = grind (arith, t.0.whole)
 
   undialled : (l : ℕ) → Awaits (facts h l) (awaits l h.entries) false → is_acceptors (awaits l h.entries) ≡ true → false ≡ (is_open l h.entries && is_unfinished_dial n l h.entries)
   undialled l t a = sym ((λ i. t.open_now i && (option_map_or (λ o. is_dial_to n o.start) ((by_peer l h.entries t.open_now a).opened i) false && not (is_whole l h.entries))))
 
   dialled : (l : ℕ) (m : List ℕ) → is_open l h.entries ≡ true → is_whole l h.entries ≡ false → is_diallers (awaits l h.entries) ≡ true → peer_of l h.entries ≡ Some m → same m n ≡ (is_open l h.entries && is_unfinished_dial n l h.entries)
   dialled l m opens unwhole a of =
-      let it = by_dial l h.entries opens a in
-      ap (λ o. option_map_or (λ x. same x n) o false) (sym of ∙ it.peer_is)
-      ∙ sym (and-true (same it.peer n)) ∙ sym (λ i. opens i && (option_map_or (λ o. is_dial_to n o.start) (it.opened i) false && not (unwhole i)))
+      let it = by_dial l h.entries opens a in grind (arith, it.peer_is, it.opened)
 
   -- a link is an own dial to n exactly where its state says so
   pub dialled_by : (l : ℕ) (s : LinkState) → IsState (facts h l) s → option_map_or (λ m. same m n) (dialled_peer s) false ≡ (is_open l h.entries && is_unfinished_dial n l h.entries)
   dialled_by l (LinkState.Status s) t = dialled l s.peer t.0.open_now t.0.whole (ap is_diallers t.0.awaited) t.1.peer.peer
   dialled_by l (LinkState.Challenge s) t = dialled l s.peer t.0.open_now t.0.whole (ap is_diallers t.0.awaited) t.1.peer.peer
   dialled_by l (LinkState.Ack s) t = dialled l s.peer t.0.open_now t.0.whole (ap is_diallers t.0.awaited) t.1.peer.peer
-  dialled_by l (LinkState.Up s) t = sym (ap (λ b. is_open l h.entries && (option_map_or (λ o. is_dial_to n o.start) (opened l h.entries) false && not b)) t.0.whole
-      ∙ ap (λ b. is_open l h.entries && b) (and_false (option_map_or (λ o. is_dial_to n o.start) (opened l h.entries) false)) ∙ and_false (is_open l h.entries))
-  dialled_by l LinkState.Ended t = sym (ap (λ b. b && is_unfinished_dial n l h.entries) t)
+  dialled_by l (LinkState.Up s) t = grind (arith, t.0.whole)
+  dialled_by l LinkState.Ended t = grind (arith, t)
   dialled_by l s t = undialled l (record { open_now = t.0.open_now; whole = t.0.whole; awaited = refl }) (ap is_acceptors t.0.awaited)
 
   module _ (legal : IsLegal h) (kept : List KeptLink) (t : LinksFollow (link_words h) kept) where
+    -- what a test of the states says, the words say of the numbers
+    by_links : (f : LinkState → Option (List ℕ)) (g : ℕ → Bool) → ((l : ℕ) (s : LinkState) → IsState (facts h l) s → option_map_or (λ m. same m n) (f s) false ≡ g l)
+        → list_any (λ x. option_map_or (λ m. same m n) (f x.state) false) kept ≡ list_any g (link_words h).numbers
+    by_links f g each =
+        agree (IsLinkOf (link_words h)) (λ x. option_map_or (λ m. same m n) (f x.state) false) (λ x. g x.number) (λ x it. each x.number x.state it.state) kept t.each
+        ∙ sym (any_map g (λ x. x.number) kept) ∙ ap (list_any g) t.numbers
+
     -- a peer is up where a kept link is up with it
     pub up_is : list_any (λ x. option_map_or (λ m. same m n) (up_peer x.state) false) kept ≡ is_name_up n h.entries
-    up_is =
-        agree (IsLinkOf (link_words h)) (λ x. option_map_or (λ m. same m n) (up_peer x.state) false) (λ x. is_up x.number h.entries && is_peer n x.number h.entries) (λ x it. up_by x.number x.state it.state) kept t.each
-        ∙ sym (any_map (λ l. is_up l h.entries && is_peer n l h.entries) (λ x. x.number) kept)
-        ∙ ap (list_any (λ l. is_up l h.entries && is_peer n l h.entries)) t.numbers ∙ sym (name_up_kept h legal n)
+    up_is = by_links up_peer (λ l. is_up l h.entries && is_peer n l h.entries) up_by ∙ sym (name_up_kept h legal n)
 
     -- a peer is dialled where a kept link is a dial to it
     pub dialling_is : list_any (λ x. option_map_or (λ m. same m n) (dialled_peer x.state) false) kept ≡ is_dialling n h.entries
-    dialling_is =
-        agree (IsLinkOf (link_words h)) (λ x. option_map_or (λ m. same m n) (dialled_peer x.state) false) (λ x. is_open x.number h.entries && is_unfinished_dial n x.number h.entries) (λ x it. dialled_by x.number x.state it.state) kept t.each
-        ∙ sym (any_map (λ l. is_open l h.entries && is_unfinished_dial n l h.entries) (λ x. x.number) kept)
-        ∙ ap (list_any (λ l. is_open l h.entries && is_unfinished_dial n l h.entries)) t.numbers ∙ sym (dialling_kept h legal n)
+    dialling_is = by_links dialled_peer (λ l. is_open l h.entries && is_unfinished_dial n l h.entries) dialled_by ∙ sym (dialling_kept h legal n)
 
 -- ---- who is allowed
 
@@ -84,9 +78,7 @@ module _ (h : History) (rules : AdmissionRules) (t : AdmissionFollows (admission
 -- the first rule that a dial breaks, by what is tested
 pub dial_by : (h : History) (n : List ℕ) (own granted up dials room : Bool) → same n h.opening.name ≡ own → allowed h n ≡ granted → is_name_up n h.entries ≡ up → is_dialling n h.entries ≡ dials → nat_lt (kept_links h) 64 ≡ room
     → first_broken (dial_checks h n) ≡ cond own (Some Rule.OwnName) (cond (not granted) (Some Rule.NotAllowed) (cond up (Some Rule.LinkUp) (cond dials (Some Rule.LinkPending) (cond (not room) (Some Rule.LinksFull) None))))
-dial_by h n own granted up dials room a b c d e =
-    (λ i. cond (not (not (a i))) (Some Rule.OwnName) (cond (not (b i)) (Some Rule.NotAllowed) (cond (not (not (c i))) (Some Rule.LinkUp) (cond (not (not (d i))) (Some Rule.LinkPending) (cond (not (e i)) (Some Rule.LinksFull) None)))))
-    ∙ grind arith
+dial_by h n own granted up dials room a b c d e = grind arith
 
 -- an option that is no value
 pub not_some : {A : Type 0} (o : Option A) → ((x : A) → o ≡ Some x → ⊥) → o ≡ None
@@ -97,13 +89,8 @@ not_some (Some x) f = absurd (f x refl)
 
 -- what is said of a list of options is said of those that are there
 any_some : {A B : Type 0} (test : B → Bool) (f : A → Option B) (xs : List A) → list_any test (flat_map (λ x. option_to_list (f x)) xs) ≡ list_any (λ x. option_map_or test (f x) false) xs
-any_some {B = B} test f [] = refl
-any_some {B = B} test f (x ∷ xs) = by (f x) (any_some test f xs)
-  where
-    by : (o : Option B) → list_any test (flat_map (λ y. option_to_list (f y)) xs) ≡ list_any (λ y. option_map_or test (f y) false) xs
-        → list_any test (option_to_list o ++ flat_map (λ y. option_to_list (f y)) xs) ≡ (option_map_or test o false || list_any (λ y. option_map_or test (f y) false) xs)
-    by None later = later
-    by (Some y) later = ap (λ b. test y || b) later
+any_some test f [] = refl
+any_some test f (x ∷ xs) = grind (arith, any_some test f xs)
 
 module _ (h : History) (legal : IsLegal h) (kept : List KeptLink) (t : LinksFollow (link_words h) kept) (n : List ℕ) where
   module _ (p : Pending) where

@@ -1,7 +1,7 @@
 -- The processes of a node after those that were spawned.
-use Rattle.node_core.proofs.Words.{List, ap, arith, cond, false, length, nat_eq, nat_le, nat_lt, refl, sym, true, ℕ, [], ◌+◌, ◌∙◌, ◌≡◌, leb-true}
-use Rattle.node_core.proofs.Words.{lt-ltb, and_left, and_right, History, creation, lives, IsLegal, IsNext, answer, Accepted, Reply, ProcessesFollow}
-use Rattle.node_core.proofs.Words.{process_words, Spawned, is_number, spawned, living, own_pid, Event, leb-false}
+use Rattle.node_core.proofs.Words.{List, arith, cond, false, length, nat_eq, nat_le, nat_lt, refl, sym, true, ℕ, [], ◌+◌, ◌∙◌, ◌≡◌, leb-true, lt-ltb, and_left}
+use Rattle.node_core.proofs.Words.{and_right, History, creation, lives, IsAnswered, IsLegal, answer, Accepted, Reply, ProcessesFollow, process_words, Spawned}
+use Rattle.node_core.proofs.Words.{is_number, spawned, living, own_pid, Event, leb-false}
 use Rattle.policy_audit.proofs.LivesNow.{lives_spawned}
 use Rattle.node_core.proofs.Entered.{made}
 use Rattle.node_core.proofs.Calm.{answered}
@@ -23,15 +23,12 @@ module _ (h : History) (p : Spawned) (t : ProcessesFollow (process_words h) p) w
       let is = t.spawned in
       omega (arith, within, is))
 
-  pub spawned_follow : (seat : ℕ) (r : Reply) (q : Spawned) → IsLegal h → IsNext h (made h seat Event.Spawn (Accepted r) []) → q.spawned ≡ p.spawned + 1
+  pub spawned_follow : (seat : ℕ) (r : Reply) (q : Spawned) → IsLegal h → IsAnswered h (made h seat Event.Spawn (Accepted r) []) → q.spawned ≡ p.spawned + 1
       → ((n : ℕ) → is_number n q.live ≡ cond (nat_eq (p.spawned + 1) n) true (is_number n p.live)) → length q.live ≡ length p.live + 1
       → ProcessesFollow (process_words (answered h seat Event.Spawn r)) q
-  spawned_follow seat r q legal next more live count = record {
+  spawned_follow seat r q legal its more live count = record {
     spawned = let is = t.spawned in omega (arith, more, is);
-    live = λ n.
-        live n ∙ ap (λ k. cond (nat_eq (k + 1) n) true (is_number n p.live)) t.spawned
-        ∙ ap (λ b. cond (nat_eq (spawned h + 1) n) true b) (t.live n)
-        ∙ sym (lives_spawned h (made h seat Event.Spawn (Accepted r) []) (record { room = next.room; number = next.number; verdict = next.verdict }) refl legal refl n);
+    live = λ n. grind (arith, live n, t.spawned, t.live n, lives_spawned h (made h seat Event.Spawn (Accepted r) []) its refl legal refl n);
     count = let was = t.count in omega (arith, count, was);
   }
 

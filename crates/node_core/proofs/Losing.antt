@@ -1,19 +1,18 @@
 -- Links that are lost or given up.
-use Rattle.node_core.proofs.Words.{List, None, Option, Some, ap, cond, false, get_or, is_some, length, nat_eq, not, position, refl, subst, sym, true}
-use Rattle.node_core.proofs.Words.{ℕ, ◌&&◌, ◌<◌, ◌∙◌, ◌≡◌, filter, option_map_or, position-Some, same, no_value, and_both, and_false, History}
-use Rattle.node_core.proofs.Words.{is_open, is_up, IsAnswered, IsNext, is_full, with_entry, is_name_up, is_whole, peer_of, present_link, Change}
-use Rattle.node_core.proofs.Words.{Entry, Accepted, Follows, Parts, AreCut, AreLost, IsLinkOf, IsState, LinksFollow, facts, link_words, KeptLink}
-use Rattle.node_core.proofs.Words.{up_peer, agrees, LinkState, Running, Event, Reply, Rule, Bool, [], ◌==◌, unwrap_or, and-true, eqb-true, Pid}
-use Rattle.node_core.proofs.Words.{count_after_drop, no_change, stopped_lists, flip, IsChange, heard, told, first_of, listed, waiting, running_scopes}
-use Rattle.node_core.proofs.Words.{ArePartings, ScopesFollow, scope_words, hears, talk, tells, IsSameLink, IsHeardNow, arith}
+use Rattle.node_core.proofs.Words.{List, None, Option, Some, ap, cond, false, get_or, length, nat_eq, not, position, refl, subst, sym, true, ℕ, ◌&&◌, ◌<◌, ◌∙◌}
+use Rattle.node_core.proofs.Words.{◌≡◌, filter, option_map_or, position-Some, same, no_value, and_both, History, is_open, is_up, IsAnswered, IsNext, is_full}
+use Rattle.node_core.proofs.Words.{with_entry, is_whole, peer_of, present_link, Change, Entry, Accepted, Follows, Parts, AreCut, AreLost, IsLinkOf, IsState}
+use Rattle.node_core.proofs.Words.{LinksFollow, facts, link_words, KeptLink, up_peer, agrees, LinkState, Running, Event, Reply, Bool, [], ◌==◌, and-true}
+use Rattle.node_core.proofs.Words.{eqb-true, Pid, count_after_drop, no_change, stopped_lists, flip, IsChange, heard, told, listed, waiting, running_scopes}
+use Rattle.node_core.proofs.Words.{ScopesFollow, scope_words, IsSameLink, IsHeardNow, arith}
 use Rattle.policy_audit.proofs.LinkFrames.{lost_links, disconnected_links}
 use Rattle.policy_audit.proofs.LinksLeft.{facts_left, lost_numbers, disconnected_numbers}
 use Rattle.policy_audit.proofs.HeardNow.{lost_heard, disconnected_heard}
 use Rattle.policy_audit.proofs.RowsAfter.{lost_rows, lost_other, disconnected_rows}
-use Rattle.node_core.proofs.Entered.{step_follows, made, accepted_now, answered_now, next_now}
-use Rattle.node_core.proofs.Found.{some_is, place_found}
-use Rattle.node_core.proofs.KeptOn.{each_at, facts_same, is_kept_at, link_at, stay_follow}
-use Rattle.node_core.proofs.LinkTests.{up_is, peer_by_test}
+use Rattle.node_core.proofs.Entered.{step_follows, made, accepted_next, answered_by}
+use Rattle.node_core.proofs.Found.{some_is}
+use Rattle.node_core.proofs.KeptOn.{each_at, facts_same, same_link, is_kept_at, link_at, stay_follow}
+use Rattle.node_core.proofs.LinkTests.{peer_by_test}
 use Rattle.policy_audit.proofs.KeptNumbers.{kept_numbers}
 use Rattle.node_core.proofs.Partings.{partings_change}
 use Rattle.node_core.proofs.ScopesCutOff.{AreCutOff, cut_off_follow}
@@ -35,11 +34,7 @@ module _ (h k : History) (j : ℕ) (gone : IsGone h k j) where
   other_facts l other = facts_same h k gone.name l (gone.same l) (gone.opens l ∙ ap (λ b. is_open l h.entries && not b) other ∙ and-true (is_open l h.entries))
 
   other_link : (x : KeptLink) → (j == x.number) ≡ false → IsLinkOf (link_words h) x → IsLinkOf (link_words k) x
-  other_link x other it = record {
-    state = subst (λ f. IsState f x.state) (sym (other_facts x.number other)) it.state;
-    frames = it.frames ∙ sym (gone.waits x.number ∙ ap (λ b. cond b [] (waiting h x.number)) other);
-    idle = it.idle;
-  }
+  other_link x other it = same_link x (other_facts x.number other) (gone.waits x.number ∙ grind (arith, other)) it
 
   pub gone_links : (kept : List KeptLink) → LinksFollow (link_words h) kept → LinksFollow (link_words k) (filter (λ x. not (nat_eq x.number j)) kept)
   gone_links kept t = stay_follow (link_words h) (link_words k) (λ l. not (nat_eq l j)) kept t
@@ -49,17 +44,16 @@ module _ (h k : History) (j : ℕ) (gone : IsGone h k j) where
   -- ---- a link that isn't up
 
   module _ (down : is_up j h.entries ≡ false) (rows : (s g : List ℕ) (p : Pid) → listed k s g p ≡ listed h s g p) where
-    unless_gone : (l : ℕ) (x : Bool) → (is_up l h.entries ≡ false → x ≡ false) → (b : Bool) → (j == l) ≡ b → (x && not b) ≡ x
-    unless_gone l x quiet false q = and-true x
-    unless_gone l x quiet true q = and_false x ∙ sym (quiet (sym (ap (λ y. is_up y h.entries) (eqb-true j l q)) ∙ down))
+    unless_gone : (l : ℕ) (x : Bool) → (is_up l h.entries ≡ false → x ≡ false) → (x && not (j == l)) ≡ x
+    unless_gone l x quiet = grind (arith, eqb-true j l)
 
     still_scopes : scope_words k ≡ scope_words h
     still_scopes = λ i. record {
       own = (gone.name i).name;
       running = gone.running i;
       listed = λ s g p. rows s g p i;
-      heard = λ l s. ((gone.heard l s).heard_is ∙ unless_gone l (heard l s h.entries) (λ d. ap (λ b. b && unwrap_or (first_of (hears s) (talk l h.entries)) false) d) (j == l) refl) i;
-      told = λ l s. ((gone.heard l s).told_is ∙ unless_gone l (told l s h.entries) (λ d. ap (λ b. b && unwrap_or (first_of (tells s) (talk l h.entries)) false) d) (j == l) refl) i;
+      heard = λ l s. ((gone.heard l s).heard_is ∙ unless_gone l (heard l s h.entries) (λ d. rw d refl)) i;
+      told = λ l s. ((gone.heard l s).told_is ∙ unless_gone l (told l s h.entries) (λ d. rw d refl)) i;
     }
 
   -- ---- a link that was up with n
@@ -74,11 +68,6 @@ module _ (h k : History) (j : ℕ) (gone : IsGone h k j) where
       told = λ l s. (gone.heard l s).told_is ∙ ap (λ b. told l s h.entries && not b) (flip j l);
     }
 
-    lost_change : (rs : List Running) (cs : List Change) → ArePartings (λ t. count_after_drop t n) rs cs → ScopesFollow (scope_words h) rs → IsChange h k cs
-    lost_change rs cs a t = partings_change h k (λ x. count_after_drop x n)
-        (λ r u g p. ap (cond (same p.node n) 0) (u.rows g p) ∙ sym (rows r.scope g p))
-        rs t (λ s stopped g p. rows s g p ∙ ap (cond (same p.node n) 0) (stopped_lists h s g p stopped) ∙ (grind arith)) cs a
-
   -- ---- both
 
   -- how often a process is listed now that the link is gone, which was up with this peer if it was up
@@ -88,7 +77,9 @@ module _ (h k : History) (j : ℕ) (gone : IsGone h k j) where
 
   pub gone_change : (o : Option (List ℕ)) → RowsGone o → (rs : List Running) (cs : List Change) → AreLost o rs cs → ScopesFollow (scope_words h) rs → IsChange h k cs
   gone_change None rows rs cs none t = subst (IsChange h k) (sym none) (no_change h k (λ s g p. sym (rows s g p)))
-  gone_change (Some n) rows rs cs lost t = lost_change n rows rs cs lost t
+  gone_change (Some n) rows rs cs lost t = partings_change h k (λ x. count_after_drop x n)
+      (λ r u g p. ap (cond (same p.node n) 0) (u.rows g p) ∙ sym (rows r.scope g p))
+      rs t (λ s stopped g p. rows s g p ∙ ap (cond (same p.node n) 0) (stopped_lists h s g p stopped) ∙ (grind arith)) cs lost
 
   pub gone_scopes : (o : Option (List ℕ)) → (o ≡ None → is_up j h.entries ≡ false) → RowsGone o → (old new : List Running) → AreCut j o old new → ScopesFollow (scope_words h) old → ScopesFollow (scope_words k) new
   gone_scopes None down rows old new same_scopes t = subst (λ w. ScopesFollow w new) (sym (still_scopes (down refl) rows)) (subst (ScopesFollow (scope_words h)) (sym same_scopes) t)
@@ -96,13 +87,10 @@ module _ (h k : History) (j : ℕ) (gone : IsGone h k j) where
 
 -- ---- whether a link is up, by its state
 
-unfinished : (h : History) (l : ℕ) → is_whole l h.entries ≡ false → is_up l h.entries ≡ false
-unfinished h l q = ap (λ b. is_open l h.entries && b) q ∙ and_false (is_open l h.entries)
-
 pub down_by : (h : History) (l : ℕ) (s : LinkState) → IsState (facts h l) s → up_peer s ≡ None → is_up l h.entries ≡ false
 down_by h l (LinkState.Up s) t q = no_value q
-down_by h l LinkState.Ended t q = ap (λ b. b && is_whole l h.entries) t
-down_by h l s t q = unfinished h l t.0.whole
+down_by h l LinkState.Ended t q = grind (arith, t)
+down_by h l s t q = grind (arith, t.0.whole)
 
 -- the link is up with n, which is another node
 pub record IsUpWith (h : History) (l : ℕ) (n : List ℕ) : Type 0 where
@@ -144,27 +132,21 @@ module _ (h : History) (seat j : ℕ) (cs : List Change) (parts : Parts) (t : Fo
   lost_listed answered None q = lost_other h t.sound.legal loss answered refl j refl (down_by h j link.state its_state q)
   lost_listed answered (Some n) q = (let up = up_with h j link.state n its_state q in lost_rows h t.sound.legal loss answered refl j n refl up.up up.peer up.other)
 
-  pub lost_next : is_full h ≡ false → AreLost (up_peer link.state) parts.scopes cs → IsNext h loss
-  lost_next space lost =
-      let now = accepted_now h seat (Event.Lost j) space Reply.Done (ap (λ b. cond (not b) (Some Rule.NoSuchLink) None) (is_kept_at h t.sound.legal parts.links t.links j p found)) refl in
-      next_now h seat (Event.Lost j) space (Accepted Reply.Done) cs now
-      (gone_change h (with_entry h loss) j lost_gone (up_peer link.state) (lost_listed (answered_now h seat (Event.Lost j) space (Accepted Reply.Done) cs now) (up_peer link.state) refl) parts.scopes cs lost t.scopes)
-
-  pub lost_follows : IsNext h loss → (scopes : List Running) → AreCut link.number (up_peer link.state) parts.scopes scopes
-      → Follows (with_entry h loss) (record parts { scopes = scopes; links = filter (λ x. not (nat_eq x.number j)) parts.links })
-  lost_follows next scopes cuts = step_follows t next refl t.admission t.processes
-      (gone_scopes h (with_entry h loss) j lost_gone (up_peer link.state) (down_by h j link.state its_state)
-      (lost_listed (record { room = next.room; number = next.number; verdict = next.verdict }) (up_peer link.state) refl) parts.scopes scopes
-      (subst (λ l. AreCut l (up_peer link.state) parts.scopes scopes) it.1 cuts) t.scopes)
-      (gone_links h (with_entry h loss) j lost_gone parts.links t.links)
+  pub lost : is_full h ≡ false → AreLost (up_peer link.state) parts.scopes cs → (scopes : List Running) → AreCut link.number (up_peer link.state) parts.scopes scopes
+      → IsNext h loss × Follows (with_entry h loss) (record parts { scopes = scopes; links = filter (λ x. not (nat_eq x.number j)) parts.links })
+  lost space gone scopes cuts =
+      let next = accepted_next h seat (Event.Lost j) space Reply.Done cs (rw (is_kept_at h t.sound.legal parts.links t.links j p found)) refl
+          (λ its. gone_change h (with_entry h loss) j lost_gone (up_peer link.state) (lost_listed its (up_peer link.state) refl) parts.scopes cs gone t.scopes) in (
+        next,
+        step_follows t next refl t.admission t.processes
+            (gone_scopes h (with_entry h loss) j lost_gone (up_peer link.state) (down_by h j link.state its_state) (lost_listed (answered_by next) (up_peer link.state) refl)
+            parts.scopes scopes (subst (λ l. AreCut l (up_peer link.state) parts.scopes scopes) it.1 cuts) t.scopes)
+            (gone_links h (with_entry h loss) j lost_gone parts.links t.links),
+      )
 
 -- ---- a link that is given up
 
 module _ (h : History) (seat : ℕ) (n : List ℕ) (cs : List Change) (parts : Parts) (t : Follows h parts) where
-  -- no link of n is up where no kept link is up with it
-  pub not_up : position (λ x. option_map_or (λ m. same m n) (up_peer x.state) false) parts.links ≡ None → is_name_up n h.entries ≡ false
-  not_up none = sym (up_is h n t.sound.legal parts.links t.links) ∙ sym (place_found (λ x. option_map_or (λ m. same m n) (up_peer x.state) false) parts.links) ∙ ap is_some none
-
   module _ (p : ℕ) (d : KeptLink) (found : position (λ x. option_map_or (λ m. same m n) (up_peer x.state) false) parts.links ≡ Some p) where
     abbrev parting : Entry
     parting = made h seat (Event.Disconnect n) (Accepted Reply.Done) cs
@@ -201,15 +183,13 @@ module _ (h : History) (seat : ℕ) (n : List ℕ) (cs : List Change) (parts : P
     parting_listed : IsAnswered h parting → RowsGone h (with_entry h parting) last.number parting_gone (up_peer last.state)
     parting_listed answered = subst (RowsGone h (with_entry h parting) last.number parting_gone) (sym peer_is) (disconnected_rows h t.sound.legal parting answered refl n refl its_up.other)
 
-    pub parting_next : is_full h ≡ false → AreLost (up_peer last.state) parts.scopes cs → IsNext h parting
-    parting_next space lost =
-        let now = accepted_now h seat (Event.Disconnect n) space Reply.Done (ap (λ x. cond (not (is_some x)) (Some Rule.NoLinkTo) None) present) refl in
-        next_now h seat (Event.Disconnect n) space (Accepted Reply.Done) cs now
-        (gone_change h (with_entry h parting) last.number parting_gone (up_peer last.state) (parting_listed (answered_now h seat (Event.Disconnect n) space (Accepted Reply.Done) cs now)) parts.scopes cs lost t.scopes)
-
-    pub parting_follows : IsNext h parting → (scopes : List Running) (number : ℕ) → number ≡ last.number → AreCut last.number (up_peer last.state) parts.scopes scopes
-        → Follows (with_entry h parting) (record parts { scopes = scopes; links = filter (λ x. not (nat_eq x.number number)) parts.links })
-    parting_follows next scopes number is cuts = step_follows t next refl t.admission t.processes
-        (gone_scopes h (with_entry h parting) last.number parting_gone (up_peer last.state) (down_by h last.number last.state here.state)
-        (parting_listed (record { room = next.room; number = next.number; verdict = next.verdict })) parts.scopes scopes cuts t.scopes)
-        (subst (λ l. LinksFollow (link_words (with_entry h parting)) (filter (λ x. not (nat_eq x.number l)) parts.links)) (sym is) (gone_links h (with_entry h parting) last.number parting_gone parts.links t.links))
+    pub parted : is_full h ≡ false → AreLost (up_peer last.state) parts.scopes cs → (scopes : List Running) (number : ℕ) → number ≡ last.number → AreCut last.number (up_peer last.state) parts.scopes scopes
+        → IsNext h parting × Follows (with_entry h parting) (record parts { scopes = scopes; links = filter (λ x. not (nat_eq x.number number)) parts.links })
+    parted space lost scopes number is cuts =
+        let next = accepted_next h seat (Event.Disconnect n) space Reply.Done cs (rw present) refl
+            (λ its. gone_change h (with_entry h parting) last.number parting_gone (up_peer last.state) (parting_listed its) parts.scopes cs lost t.scopes) in (
+          next,
+          step_follows t next refl t.admission t.processes
+              (gone_scopes h (with_entry h parting) last.number parting_gone (up_peer last.state) (down_by h last.number last.state here.state) (parting_listed (answered_by next)) parts.scopes scopes cuts t.scopes)
+              (rw is (gone_links h (with_entry h parting) last.number parting_gone parts.links t.links)),
+        )

@@ -1,17 +1,15 @@
 -- What a node keeps after a message that is accepted.
-use Rattle.node_core.proofs.Words.{Bool, List, None, Some, ap, cond, false, get_or, length, nat_eq, position, refl, set, subst, sym, true, ℕ, []}
-use Rattle.node_core.proofs.Words.{◌++◌, ◌<◌, ◌==◌, ◌∙◌, ◌≡◌, option_map_or, eq-eqb, eqb-true, append-nil, same, Pid, Message, kept_climbs}
-use Rattle.node_core.proofs.Words.{running_rises, and_left, and_right, flip, IsChange, always, checks, first_broken, frame_checks, message_checks}
-use Rattle.node_core.proofs.Words.{heard, message_taken, told, History, is_open, is_up, links, named_by, listed, waiting, IsAnswered, IsLegal, IsNext}
-use Rattle.node_core.proofs.Words.{is_full, up_answer, verdict, with_entry, AwaitMessage, awaits, challenge_in, is_last, is_whole, Change, Entry}
-use Rattle.node_core.proofs.Words.{Accepted, Follows, Parts, IsState, LinksFollow, facts, kept_numbers, link_words, KeptLink, IsRunningOf}
-use Rattle.node_core.proofs.Words.{ScopesFollow, scope_words, message_owes, entry_link, framed_numbers, Running, Event, Reply, Rule, arith}
+use Rattle.node_core.proofs.Words.{Bool, List, None, Some, ap, cond, false, nat_eq, position, refl, set, subst, sym, true, ℕ, [], ◌++◌, ◌==◌, ◌∙◌, ◌≡◌}
+use Rattle.node_core.proofs.Words.{option_map_or, eq-eqb, eqb-true, append-nil, Message, kept_climbs, and_left, and_right, flip, IsChange, always, checks}
+use Rattle.node_core.proofs.Words.{first_broken, frame_checks, message_checks, message_taken, History, is_open, is_up, named_by, waiting, IsAnswered, IsLegal}
+use Rattle.node_core.proofs.Words.{IsNext, is_full, up_answer, verdict, with_entry, AwaitMessage, awaits, challenge_in, is_last, is_whole, Change, Entry}
+use Rattle.node_core.proofs.Words.{Accepted, IsState, LinksFollow, facts, link_words, KeptLink, message_owes, entry_link, framed_numbers, Event, Reply, Rule}
+use Rattle.node_core.proofs.Words.{arith}
 use Rattle.policy_audit.proofs.Onward.{message_taken_on}
 use Rattle.policy_audit.proofs.LinkFrames.{message_links}
-use Rattle.node_core.proofs.Entered.{step_follows, made, accepted_now, answered_now, next_now}
+use Rattle.node_core.proofs.Entered.{made, accepted_now, answered_now, next_now}
 use Rattle.node_core.proofs.Calm.{same_links}
-use Rattle.node_core.proofs.KeptOn.{facts_same, one_follows, place_is}
-use Rattle.node_core.proofs.OneScope.{one_scope_follows}
+use Rattle.node_core.proofs.KeptOn.{facts_same, one_follows, place_is, same_link}
 use Rattle.node_core.proofs.MessagePlaces.{IsUpHere}
 
 -- the rules for a message on a link that awaits one
@@ -42,9 +40,6 @@ module _ (h : History) (seat l : ℕ) (body : List ℕ) (m : Message) (space : i
 
   -- ---- links
 
-  whole : is_whole l h.entries ≡ true
-  whole = and_right (is_open l h.entries) (is_whole l h.entries) up
-
   -- what the policy's words say of each link is the same
   same_facts : (j : ℕ) → facts now j ≡ facts h j
   same_facts j = by (l == j) refl
@@ -59,7 +54,7 @@ module _ (h : History) (seat l : ℕ) (body : List ℕ) (m : Message) (space : i
           subst (λ x. is_open x now.entries ≡ is_open x h.entries → facts now x ≡ facts h x) here
           (λ still. λ i. record (facts h l) {
             open_now = still i;
-            whole = (it.whole ∙ sym whole) i;
+            whole = (it.whole ∙ sym (and_right (is_open l h.entries) (is_whole l h.entries) up)) i;
             awaited = (it.awaits ∙ sym awaited) i;
             peer = it.peer i;
             said = it.given i;
@@ -69,9 +64,6 @@ module _ (h : History) (seat l : ℕ) (body : List ℕ) (m : Message) (space : i
 
   waits : (j : ℕ) → waiting now j ≡ cond (l == j) (waiting h j ++ message_owes h j m) (waiting h j)
   waits j = (message_links h entry its_answered refl l body refl awaited j).waiting_is ∙ ap (λ o. cond (l == j) (waiting h j ++ option_map_or (message_owes h j) o []) (waiting h j)) says
-
-  same_numbers : kept_numbers now ≡ kept_numbers h
-  same_numbers = framed_numbers h entry refl its_answered l body refl (ap is_last awaited) (ap (λ a. named_by a body) awaited)
 
   -- a message to which nothing is owed leaves the links
   pub silent_links : ((j : ℕ) → message_owes h j m ≡ []) → (kept : List KeptLink) → LinksFollow (link_words h) kept → LinksFollow (link_words now) kept
@@ -88,34 +80,8 @@ module _ (h : History) (seat l : ℕ) (body : List ℕ) (m : Message) (space : i
         frames = frames ∙ ap (λ fs. fs ++ message_owes h l m) (here.link.frames ∙ ap (waiting h) here.number) ∙ sym (its_own y.number (number ∙ here.number));
         idle = idle;
       })
-      (λ z apart t. record {
-        state = subst (λ f. IsState f z.state) (sym (same_facts z.number)) t.state;
-        frames = t.frames ∙ sym (waits z.number ∙ ap (λ b. cond b (waiting h z.number ++ message_owes h z.number m) (waiting h z.number)) (flip l z.number ∙ ap (λ n. nat_eq z.number n) (sym (number ∙ here.number)) ∙ apart));
-        idle = t.idle;
-      })
-      kept p x t (kept_climbs h legal) same_numbers place.0 (number ∙ here.number ∙ sym place.1)
+      (λ z apart t. same_link z (same_facts z.number) (waits z.number ∙ ap (λ b. cond b (waiting h z.number ++ message_owes h z.number m) (waiting h z.number)) (flip l z.number ∙ ap (λ n. nat_eq z.number n) (sym (number ∙ here.number)) ∙ apart)) t)
+      kept p x t (kept_climbs h legal) (framed_numbers h entry refl its_answered l body refl (ap is_last awaited) (ap (λ a. named_by a body) awaited)) place.0 (number ∙ here.number ∙ sym place.1)
     where
       its_own : (n : ℕ) → n ≡ l → waiting now n ≡ waiting h l ++ message_owes h l m
       its_own n e = ap (waiting now) e ∙ waits l ∙ ap (λ b. cond b (waiting h l ++ message_owes h l m) (waiting h l)) (eq-eqb l l refl)
-
-  -- ---- scopes
-
-  -- one scope has changed, all others list the same and have the same links
-  pub scope_on : (rs : List Running) → ScopesFollow (scope_words h) rs → (p : ℕ) (d y : Running) (s : List ℕ) → p < length rs → (get_or rs p d).scope ≡ s → y.scope ≡ s → IsRunningOf (scope_words now) y
-      → ((t : List ℕ) → same t s ≡ false → (g : List ℕ) (x : Pid) → listed now t g x ≡ listed h t g x)
-      → ((t : List ℕ) → same t s ≡ false → (j : ℕ) → heard j t now.entries ≡ heard j t h.entries)
-      → ((t : List ℕ) → same t s ≡ false → (j : ℕ) → told j t now.entries ≡ told j t h.entries)
-      → ScopesFollow (scope_words now) (set rs p y)
-  scope_on rs t p d y s within is named here rows hears tells = one_scope_follows (scope_words h) (scope_words now) s y here named
-      (λ r apart u. record {
-        own = u.own;
-        rows = λ g x. u.rows g x ∙ sym (rows r.scope apart g x);
-        heard = λ j. u.heard j ∙ sym (hears r.scope apart j);
-        told = λ j. u.told j ∙ sym (tells r.scope apart j);
-      })
-      rs p d t (running_rises h) refl within is
-
-  -- ---- all that is kept
-
-  pub message_follows : (parts : Parts) (rs : List Running) (kept : List KeptLink) → Follows h parts → IsNext h entry → ScopesFollow (scope_words now) rs → LinksFollow (link_words now) kept → Follows now (record parts { scopes = rs; links = kept })
-  message_follows parts rs kept t next scopes links = step_follows t next refl t.admission t.processes scopes links

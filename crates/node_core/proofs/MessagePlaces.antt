@@ -1,9 +1,9 @@
 -- Where the link and the scope of a message are kept.
-use Rattle.node_core.proofs.Words.{arith, Follows, Parts, List, None, Some, ap, cond, false, get_or, is_some, length, nat_eq, position, refl, subst, sym}
-use Rattle.node_core.proofs.Words.{true, ℕ, ◌<◌, ◌∙◌, ◌≡◌, get_or_default, position-Some, same_decides, same, Linked, lie, and_left}
-use Rattle.node_core.proofs.Words.{and_right, History, is_open, is_up, is_kept, waiting, is_running, AwaitMessage, awaits, is_whole, IsIntroduced}
-use Rattle.node_core.proofs.Words.{IsLinkOf, IsState, LinkFacts, facts, link_words, KeptLink, IsRunningOf, scope_words, Running, LinkState}
-use Rattle.node_core.proofs.Found.{no_place, place_found, some_place}
+use Rattle.node_core.proofs.Words.{arith, Follows, Parts, List, None, Some, ap, cond, false, get_or, is_some, length, nat_eq, position, refl, subst, sym, true}
+use Rattle.node_core.proofs.Words.{ℕ, ◌<◌, ◌∙◌, ◌≡◌, get_or_default, position-Some, same_decides, same, Linked, lie, and_left, and_right, History, is_open}
+use Rattle.node_core.proofs.Words.{is_up, is_kept, waiting, is_running, AwaitMessage, awaits, is_whole, IsIntroduced, IsLinkOf, IsState, LinkFacts, facts}
+use Rattle.node_core.proofs.Words.{link_words, KeptLink, IsRunningOf, scope_words, Running, LinkState}
+use Rattle.node_core.proofs.Found.{place_found}
 use Rattle.node_core.proofs.Scopes.{runs_is}
 use Rattle.node_core.proofs.KeptOn.{each_at, not_kept, is_kept_at, link_at}
 
@@ -43,14 +43,14 @@ pub record IsScopeHere (h : History) (rs : List Running) (s : List ℕ) (p : ℕ
   pub running : IsRunningOf (scope_words h) r
 
 module _ {h : History} {parts : Parts} (t : Follows h parts) (s : List ℕ) where
-  pub stopped_here : position (λ r. same r.scope s) parts.scopes ≡ None → is_running h s ≡ false
-  stopped_here q = sym (runs_is h parts.scopes s t.scopes) ∙ no_place (λ r. same r.scope s) parts.scopes q
-
-  pub runs_here : (p : ℕ) → position (λ r. same r.scope s) parts.scopes ≡ Some p → is_running h s ≡ true
-  runs_here p q = sym (runs_is h parts.scopes s t.scopes) ∙ some_place (λ r. same r.scope s) parts.scopes p q
-
   pub placed_is : is_some (position (λ r. same r.scope s) parts.scopes) ≡ is_running h s
   placed_is = place_found (λ r. same r.scope s) parts.scopes ∙ runs_is h parts.scopes s t.scopes
+
+  pub stopped_here : position (λ r. same r.scope s) parts.scopes ≡ None → is_running h s ≡ false
+  stopped_here q = sym placed_is ∙ ap is_some q
+
+  pub runs_here : (p : ℕ) → position (λ r. same r.scope s) parts.scopes ≡ Some p → is_running h s ≡ true
+  runs_here p q = sym placed_is ∙ ap is_some q
 
   pub scope_here : {p : ℕ} {r : Running} → position (λ x. same x.scope s) parts.scopes ≡ Some p → r ≡ get_or parts.scopes p r → IsScopeHere h parts.scopes s p r
   scope_here {p} {r} q is =

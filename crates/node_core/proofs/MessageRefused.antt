@@ -1,13 +1,12 @@
 -- The rules that a message breaks, by what a node keeps of its link and of its scope.
-use Rattle.node_core.proofs.Words.{lt-leb, All, Bool, List, None, Some, ap, arith, cond, false, length, nat_le, not, refl, subst, sym, true, ℕ, []}
-use Rattle.node_core.proofs.Words.{◌&&◌, ◌++◌, ◌+◌, ◌<◌, ◌==◌, ◌||◌, ◌∙◌, ◌∷◌, ◌≡◌, ◌≤◌, AllByRecursion, filter, flat_map, list_all, option_map_or}
-use Rattle.node_core.proofs.Words.{le-leb, same_decides, same_sym, is_empty, has_bit, IsPidListing, same, Pid, Row, Name, Message, all_hold, no_value}
-use Rattle.node_core.proofs.Words.{unbroken, and_left, and_right, flip, always, checks, first_broken, message_checks, heard, message_taken, History}
-use Rattle.node_core.proofs.Words.{is_open, is_up, listed, refusal_owes, is_running, AwaitMessage, awaits, is_whole, peer_of, Rule, IsCalmFault}
-use Rattle.node_core.proofs.Words.{refuses_calmly, facts, KeptLink, up_peer, IsRunningOf, is_number, scope_words, IsGroupListing, node_total}
-use Rattle.node_core.proofs.Words.{max_rows, are_counted, rows_of, is_from, members, groups, Check, unless, peer_rows, are_listed, CoreFault, Running}
-use Rattle.node_core.proofs.Words.{is_shown, are_of_peer, IsGiven, scope_in, early_checks, IsAddRefusal, IsTakeRefusal, Event, IsBrief}
-use Rattle.std.proofs.lemmas.List.Elements.{All-from_recursion}
+use Rattle.node_core.proofs.Words.{lt-leb, All, Bool, List, None, Some, ap, arith, cond, false, length, nat_le, not, refl, subst, sym, true, ℕ, [], ◌&&◌, ◌+◌}
+use Rattle.node_core.proofs.Words.{◌<◌, ◌==◌, ◌||◌, ◌∙◌, ◌≡◌, ◌≤◌, filter, flat_map, list_all, option_map_or, le-leb, same_decides, same_sym, is_empty}
+use Rattle.node_core.proofs.Words.{IsPidListing, same, Pid, Row, Message, all_hold, no_value, unbroken, and_left, and_right, flip, always, checks, first_broken}
+use Rattle.node_core.proofs.Words.{message_checks, heard, message_taken, History, is_open, is_up, listed, refusal_owes, is_running, AwaitMessage, awaits}
+use Rattle.node_core.proofs.Words.{is_whole, peer_of, Rule, IsCalmFault, refuses_calmly, KeptLink, up_peer, IsRunningOf, is_number, scope_words, IsGroupListing}
+use Rattle.node_core.proofs.Words.{node_total, max_rows, are_counted, rows_of, is_from, members, groups, peer_rows, CoreFault, Running, is_shown, are_of_peer}
+use Rattle.node_core.proofs.Words.{scope_in, early_checks, IsAddRefusal, IsTakeRefusal, Event, IsBrief, get_or}
+use Rattle.std.proofs.lemmas.List.Folds.{list_all_at}
 use Rattle.scope_core.proofs.Members.{length-members}
 use Rattle.policy_audit.specs.Sides.{is_visible}
 use Rattle.policy_audit.proofs.Onward.{whole_is_message}
@@ -20,29 +19,10 @@ use Rattle.node_core.proofs.MessageKept.{message_rules}
 
 -- ---- checks
 
--- the rules that the table tells
-abbrev pub late_checks : History → ℕ → Message → List Check
-late_checks h l (Message.Join s rows) = unless (nat_le (peer_rows h l s + length rows) 4096) Rule.RowsFull ∷ []
-late_checks h l (Message.Leave s rows) = are_listed h s rows ∷ []
-late_checks h l m = []
-
-split : (h : History) (l : ℕ) (m : Message) → message_checks h l m ≡ early_checks h l m ++ late_checks h l m
-split h l (Message.Discover s) = refl
-split h l m = refl
-
-broken_first : (cs ds : List Check) (r : Rule) → first_broken cs ≡ Some r → first_broken (cs ++ ds) ≡ Some r
-broken_first [] ds r q = no_value (sym q)
-broken_first (c ∷ cs) ds r q = grind (arith, broken_first cs ds r)
-
-broken_later : (cs ds : List Check) → first_broken cs ≡ None → first_broken (cs ++ ds) ≡ first_broken ds
-broken_later [] ds q = refl
-broken_later (c ∷ cs) ds q = grind (arith, broken_later cs ds)
-
+-- what a message breaks early, it breaks first
 pub early_broken : (h : History) (l : ℕ) (m : Message) (r : Rule) → first_broken (early_checks h l m) ≡ Some r → first_broken (message_checks h l m) ≡ Some r
-early_broken h l m r q = ap first_broken (split h l m) ∙ broken_first (early_checks h l m) (late_checks h l m) r q
-
-pub early_held : (h : History) (l : ℕ) (m : Message) → first_broken (early_checks h l m) ≡ None → first_broken (message_checks h l m) ≡ first_broken (late_checks h l m)
-early_held h l m q = ap first_broken (split h l m) ∙ broken_later (early_checks h l m) (late_checks h l m) q
+early_broken h l (Message.Discover s) r q = q
+early_broken h l m r q = grind arith
 
 -- a frame that is a message breaks what the message does
 pub says_broken : (h : History) (seat l : ℕ) (body : List ℕ) (m : Message) (r : Rule) → is_up l h.entries ≡ true → awaits l h.entries ≡ AwaitMessage → message_taken body ≡ Some m → first_broken (message_checks h l m) ≡ Some r
@@ -69,28 +49,13 @@ joined_from h l s rows q = unbroken (list_all (λ r. is_from l h.entries r.pid) 
 pub left_from : (h : History) (l : ℕ) (s : List ℕ) (rows : List Row) → first_broken (early_checks h l (Message.Leave s rows)) ≡ None → list_all (λ r. is_from l h.entries r.pid) rows ≡ true
 left_from h l s rows q = unbroken (list_all (λ r. is_from l h.entries r.pid) rows) (all_hold (early_checks h l (Message.Leave s rows)) q).1.1.1.0
 
-turned : {A : Type 0} (b : Bool) (x y : A) → cond (not b) x y ≡ cond b y x
-turned true x y = refl
-turned false x y = refl
-
 module _ {h : History} {l : ℕ} {x : KeptLink} (here : IsUpHere h l x) where
   -- whether the link is visible
   pub visible_is : is_shown x.state ≡ is_visible h l
-  visible_is = ap is_shown here.is ∙ gave.1.visible_is ∙ ap (λ b. not h.opening.hidden && b) (sym (ap (λ o. option_map_or {T = Name} {U = Bool} (λ f. has_bit 0 f.flags) o false) gave.1.said))
-    where
-      gave : (n : Name) × IsGiven (facts h l) n here.far.peer here.far.creation here.far.visible
-      gave = here.introduced.said
+  visible_is = (let gave = here.introduced.said.1 in grind (arith, here.is, gave.visible_is, gave.said))
 
   from_is : (p : Pid) → is_from l h.entries p ≡ (same p.node here.far.peer && p.creation == here.far.creation)
-  from_is p =
-      (λ i. option_map_or {T = List ℕ} {U = Bool} (λ m. same m p.node) (here.introduced.peer.peer i) false && option_map_or {T = Name} {U = Bool} (λ f. f.creation == p.creation) (gave.1.said i) false)
-      ∙ (λ i. same_sym here.far.peer p.node i && made_by i)
-    where
-      gave : (n : Name) × IsGiven (facts h l) n here.far.peer here.far.creation here.far.visible
-      gave = here.introduced.said
-
-      made_by : (gave.0.creation == p.creation) ≡ (p.creation == here.far.creation)
-      made_by = ap (λ n. n == p.creation) (sym gave.1.creation_is) ∙ flip here.far.creation p.creation
+  from_is p = (let gave = here.introduced.said.1 in grind (arith, here.introduced.peer.peer, gave.said, gave.creation_is, same_sym here.far.peer p.node, flip here.far.creation p.creation))
 
   -- whether rows are of its peer
   pub of_peer_is : (rows : List Row) → are_of_peer x.state rows ≡ list_all (λ r. is_from l h.entries r.pid) rows
@@ -98,17 +63,11 @@ module _ {h : History} {l : ℕ} {x : KeptLink} (here : IsUpHere h l x) where
 
   -- then each of their processes is of that node
   pub all_of_peer : (rows : List Row) → list_all (λ r. is_from l h.entries r.pid) rows ≡ true → All (λ r. r.pid.node ≡ here.far.peer) rows
-  all_of_peer rows q = All-from_recursion (λ r. r.pid.node ≡ here.far.peer) rows (each rows q)
-    where
-      each : (rs : List Row) → list_all (λ r. is_from l h.entries r.pid) rs ≡ true → AllByRecursion (λ r. r.pid.node ≡ here.far.peer) rs
-      each [] q = tt
-      each (r ∷ rs) q = grind (arith, each rs, from_is r.pid, same_decides)
+  all_of_peer rows q k d within = grind (arith, list_all_at (λ r. is_from l h.entries r.pid) rows k d, from_is (get_or rows k d).pid, same_decides (get_or rows k d).pid.node here.far.peer)
 
   -- the first rule that is broken, but for those that the table tells
   pub refusal_is : (hs : List ℕ) (m : Message) → is_visible h l ≡ true → is_running h (scope_in m) ≡ true → is_number l hs ≡ heard l (scope_in m) h.entries → first_broken (early_checks h l m) ≡ refusal x hs m
   refusal_is hs (Message.Discover s) v q hears = rw (v, q) refl
-  refusal_is hs (Message.Down s) v q hears = rw (v, q) refl
-  refusal_is hs (Message.Sync s rows) v q hears = rw (v, q, ← of_peer_is rows) (turned (are_of_peer x.state rows) (Some Rule.ForeignPid) None)
   refusal_is hs m v q hears = grind (arith, here.number, of_peer_is)
 
 -- ---- refusals end no link
@@ -133,19 +92,18 @@ module _ (h : History) (l : ℕ) (s : List ℕ) (r : Running) (named : r.scope �
   pub counted_is : (rows : List Row) → are_counted r.table rows ≡ list_all (λ w. nat_le (rows_of w.group w.pid rows) (listed h s w.group w.pid)) rows
   counted_is rows = λ i. list_all (λ w. nat_le (rows_of w.group w.pid rows) (counts_listed h s r named t i w.group w.pid)) rows
 
-  -- a Join that makes too many rows
+  -- a Join that makes too many rows or not, and a Leave of rows that are listed or not
   join_full : (rows : List Row) (n : List ℕ) → peer_of l h.entries ≡ Some n → max_rows < node_total r.table n + length rows → first_broken (early_checks h l (Message.Join s rows)) ≡ None → first_broken (message_checks h l (Message.Join s rows)) ≡ Some Rule.RowsFull
-  join_full rows n of many q = early_held h l (Message.Join s rows) q ∙ ap (λ b. cond (not b) (Some Rule.RowsFull) None) (lt-leb (peer_rows h l s + length rows) 4096 (let is = total_is n of in omega (arith, is, many)))
+  join_full rows n of many q = (let is = total_is n of in let out = lt-leb (peer_rows h l s + length rows) 4096 (omega (arith, is, many)) in grind (arith, out))
 
   pub join_fits : (rows : List Row) (n : List ℕ) → peer_of l h.entries ≡ Some n → node_total r.table n + length rows ≤ max_rows → first_broken (early_checks h l (Message.Join s rows)) ≡ None → first_broken (message_checks h l (Message.Join s rows)) ≡ None
-  join_fits rows n of few q = early_held h l (Message.Join s rows) q ∙ ap (λ b. cond (not b) (Some Rule.RowsFull) None) (le-leb (peer_rows h l s + length rows) 4096 (let is = total_is n of in omega (arith, is, few)))
+  join_fits rows n of few q = (let is = total_is n of in let fits = le-leb (peer_rows h l s + length rows) 4096 (omega (arith, is, few)) in grind (arith, fits))
 
-  -- a Leave of rows that aren't listed
-  leave_unlisted : (rows : List Row) → are_counted r.table rows ≡ false → first_broken (early_checks h l (Message.Leave s rows)) ≡ None → first_broken (message_checks h l (Message.Leave s rows)) ≡ Some Rule.NotListed
-  leave_unlisted rows out q = early_held h l (Message.Leave s rows) q ∙ ap (λ b. cond (not b) (Some Rule.NotListed) None) (sym (counted_is rows) ∙ out)
+  leave_rules : (rows : List Row) → first_broken (early_checks h l (Message.Leave s rows)) ≡ None → first_broken (message_checks h l (Message.Leave s rows)) ≡ cond (are_counted r.table rows) None (Some Rule.NotListed)
+  leave_rules rows q = grind (arith, counted_is rows)
 
   pub leave_listed : (rows : List Row) → are_counted r.table rows ≡ true → first_broken (early_checks h l (Message.Leave s rows)) ≡ None → first_broken (message_checks h l (Message.Leave s rows)) ≡ None
-  leave_listed rows all q = early_held h l (Message.Leave s rows) q ∙ ap (λ b. cond (not b) (Some Rule.NotListed) None) (sym (counted_is rows) ∙ all)
+  leave_listed rows all q = leave_rules rows q ∙ ap (λ b. cond b None (Some Rule.NotListed)) all
 
 -- what the table refuses is the first rule that is broken, and ends no link
 module _ (h : History) (seat l : ℕ) (body : List ℕ) (up : is_up l h.entries ≡ true) (awaited : awaits l h.entries ≡ AwaitMessage) (s : List ℕ) (r : Running) (named : r.scope ≡ s) (t : IsRunningOf (scope_words h) r) (rows : List Row) where
@@ -154,7 +112,7 @@ module _ (h : History) (seat l : ℕ) (body : List ℕ) (up : is_up l h.entries 
   add_calm n of says early CoreFault.OutOfMemory q = tt
 
   pub take_calm : message_taken body ≡ Some (Message.Leave s rows) → first_broken (early_checks h l (Message.Leave s rows)) ≡ None → (f : CoreFault) → IsTakeRefusal r.table rows f → IsCalmFault h seat (Event.Frame l body) f
-  take_calm says early (CoreFault.Refused x) q = (says_broken h seat l body (Message.Leave s rows) x up awaited says (leave_unlisted h l s r named t rows q.1 early ∙ ap Some (sym q.0)), calm h l body up x (ap refusal_owes q.0))
+  take_calm says early (CoreFault.Refused x) q = (says_broken h seat l body (Message.Leave s rows) x up awaited says (leave_rules h l s r named t rows early ∙ ap (λ b. cond b None (Some Rule.NotListed)) q.1 ∙ ap Some (sym q.0)), calm h l body up x (ap refusal_owes q.0))
   take_calm says early CoreFault.OutOfMemory q = tt
 
 -- ---- the peer of a link that is up
@@ -176,7 +134,5 @@ frame_unread h seat l body up none = message_rules h seat l body up (up_awaits h
 -- what a body spells brings no more rows than a scope has of one node
 pub is_brief : (m : Message) → IsMessage m → IsBrief m
 is_brief (Message.Discover s) it = tt
-is_brief (Message.Sync s rows) it = it.1.count
-is_brief (Message.Join s rows) it = it.1.count
-is_brief (Message.Leave s rows) it = it.1.count
 is_brief (Message.Down s) it = tt
+is_brief m it = it.1.count

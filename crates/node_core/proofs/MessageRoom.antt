@@ -1,9 +1,9 @@
 -- Room that is made for a message, and the answer to a Discover.
-use Rattle.node_core.proofs.Words.{Follows, Parts, same, early_checks, List, None, Some, ap, cond, false, get_or, nat_eq, position, refl, set}
-use Rattle.node_core.proofs.Words.{subst, sym, true, ℕ, [], ◌++◌, ◌∙◌, ◌∷◌, ◌≡◌, IsRowListing, count_of, kept_climbs}
-use Rattle.node_core.proofs.Words.{running_rises, first_broken, local_rows, message_taken, History, is_up, OutFrame, wide, is_full, with_entry}
-use Rattle.node_core.proofs.Words.{Accepted, IsLinkOf, LinksFollow, link_words, KeptLink, with_frames, with_room, ScopesFollow, scope_words}
-use Rattle.node_core.proofs.Words.{message_owes, Running, with_number, HasBecome, AnswersDiscover, Message, Event, Reply}
+use Rattle.node_core.proofs.Words.{Follows, Parts, same, early_checks, List, None, Some, ap, cond, false, get_or, nat_eq, position, refl, set, subst, sym, true}
+use Rattle.node_core.proofs.Words.{ℕ, [], ◌++◌, ◌∙◌, ◌∷◌, ◌≡◌, IsRowListing, count_of, kept_climbs, running_rises, first_broken, local_rows, message_taken}
+use Rattle.node_core.proofs.Words.{History, is_up, OutFrame, wide, is_full, with_entry, Accepted, IsLinkOf, LinksFollow, link_words, KeptLink, with_frames}
+use Rattle.node_core.proofs.Words.{with_room, ScopesFollow, scope_words, message_owes, Running, with_number, HasBecome, AnswersDiscover, Message, Event, Reply}
+use Rattle.node_core.proofs.Words.{IsNext}
 use Rattle.policy_audit.proofs.OwnRows.{sync_listing}
 use Rattle.node_core.proofs.Entered.{made}
 use Rattle.node_core.proofs.KeptOn.{one_follows, place_is}
@@ -11,7 +11,7 @@ use Rattle.node_core.proofs.OneScope.{one_scope_follows}
 use Rattle.node_core.proofs.Scopes.{own_counts}
 use Rattle.node_core.proofs.MessagePlaces.{IsUpHere, up_here, scope_here, same_there}
 use Rattle.node_core.proofs.MessageKept.{owed_links}
-use Rattle.node_core.proofs.MessageScopes.{counted, heard_there, told_there, becomes_running, discovered_follows}
+use Rattle.node_core.proofs.MessageScopes.{counted, heard_there, told_there, becomes_running, discovered_next, discovered_follows}
 
 -- ---- nothing but room has changed
 
@@ -54,12 +54,14 @@ module _ {h : History} {parts : Parts} (t : Follows h parts) (seat l : ℕ) (bod
       a.frames_are ∙ (λ i. wide (Message.Sync s (rows_are i)) ∷ cond (heard_is i) [] (wide (Message.Discover s) ∷ []))
 
   -- the link has been given room and then the frames
-  pub answered_follows : HasBecome r y (count_of r.table) r.heard.items (with_number l r.told.items) → {o : Running} {a z : KeptLink} {frames : List OutFrame} → o ≡ get_or parts.scopes p o → AnswersDiscover o l s frames
+  pub answered_now : HasBecome r y (count_of r.table) r.heard.items (with_number l r.told.items) → {o : Running} {a z : KeptLink} {frames : List OutFrame} → o ≡ get_or parts.scopes p o → AnswersDiscover o l s frames
       → a ≡ with_room x a.room → z ≡ with_room (with_frames a frames) z.room
-      → Follows (with_entry h (made h seat (Event.Frame l body) (Accepted Reply.Done) [])) (record parts { scopes = set parts.scopes p y; links = set parts.links pl z })
-  answered_follows becomes {o} {a} {z} {frames} o_is answers same owed =
+      → IsNext h (made h seat (Event.Frame l body) (Accepted Reply.Done) []) × Follows (with_entry h (made h seat (Event.Frame l body) (Accepted Reply.Done) [])) (record parts { scopes = set parts.scopes p y; links = set parts.links pl z })
+  answered_now becomes {o} {a} {z} {frames} o_is answers same owed =
       let is : z ≡ with_room (with_frames x frames) z.room = owed ∙ ap (λ w. with_room (with_frames w frames) z.room) same in
-      let answer = answer_is (subst (λ w. AnswersDiscover w l s frames) (same_there h parts.scopes s p r o (scope_here t s at r_is) o_is) answers) in
-      discovered_follows t seat l body space up placed x_is s y at r_is says early becomes (set parts.links pl z)
-      (owed_links h seat l body (Message.Discover s) space up here.awaited says early [] parts.links t.sound.legal t.links pl x z placed here
-      (ap (λ w. w.number) is) (ap (λ w. w.state) is) (ap (λ w. w.prepared) is ∙ here.link.idle) (ap (λ w. w.frames) is ∙ ap (λ fs. x.frames ++ fs) answer))
+      let answer = answer_is (subst (λ w. AnswersDiscover w l s frames) (same_there h parts.scopes s p r o (scope_here t s at r_is) o_is) answers) in (
+        discovered_next t seat l body space up placed x_is s y at r_is says early,
+        discovered_follows t seat l body space up placed x_is s y at r_is says early becomes (set parts.links pl z)
+            (owed_links h seat l body (Message.Discover s) space up here.awaited says early [] parts.links t.sound.legal t.links pl x z placed here
+            (ap (λ w. w.number) is) (ap (λ w. w.state) is) (ap (λ w. w.prepared) is ∙ here.link.idle) (ap (λ w. w.frames) is ∙ ap (λ fs. x.frames ++ fs) answer)),
+      )

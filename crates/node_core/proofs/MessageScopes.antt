@@ -1,21 +1,21 @@
 -- What each accepted message makes of its scope and of its link.
-use Rattle.node_core.proofs.Words.{Bool, List, arith, message_owes, position, length, ◌≤◌, early_checks, up_peer, node_total, max_rows, are_counted}
-use Rattle.node_core.proofs.Words.{CoreFault, IsAddRefusal, IsTakeRefusal, IsCalmFault, None, Some, ap, cond, false, get_or, nat_eq, not, refl, set}
-use Rattle.node_core.proofs.Words.{subst, sym, true, ℕ, [], ◌&&◌, ◌+◌, ◌-◌, ◌==◌, ◌||◌, ◌∙◌, ◌∷◌, ◌≡◌, and-true, eqb-true, same_decides, same_sym}
-use Rattle.node_core.proofs.Words.{IsDifference, occurrences, same, same_row, GroupChange, Pid, Row, count_after_drop, count_of, no_change, and_false}
-use Rattle.node_core.proofs.Words.{flip, if_some, first_broken, message_checks, row, heard, message_taken, told, History, is_up, listed, IsAnswered}
-use Rattle.node_core.proofs.Words.{IsNext, is_full, with_entry, peer_of, Entry, Accepted, Follows, Parts, LinksFollow, link_words, KeptLink, IsCutOff}
-use Rattle.node_core.proofs.Words.{IsRunningOf, is_number, scope_words, count_after_sync, count_after_add, count_after_take, IsHeardNow, Running}
-use Rattle.node_core.proofs.Words.{with_number, without, HasBecome, Message, Event, Reply}
+use Rattle.node_core.proofs.Words.{Bool, List, arith, message_owes, position, length, ◌≤◌, early_checks, up_peer, node_total, max_rows, are_counted, CoreFault}
+use Rattle.node_core.proofs.Words.{IsAddRefusal, IsTakeRefusal, IsCalmFault, None, Some, ap, cond, false, get_or, nat_eq, not, refl, set, subst, sym, true, ℕ}
+use Rattle.node_core.proofs.Words.{[], ◌&&◌, ◌+◌, ◌-◌, ◌==◌, ◌||◌, ◌∙◌, ◌∷◌, ◌≡◌, and-true, eqb-true, same_decides, same_sym, IsDifference, occurrences, same}
+use Rattle.node_core.proofs.Words.{same_row, GroupChange, Pid, Row, count_after_drop, count_of, no_change, flip, if_some, first_broken, message_checks, row}
+use Rattle.node_core.proofs.Words.{heard, message_taken, told, History, is_up, listed, IsAnswered, IsNext, is_full, with_entry, peer_of, Entry, Accepted}
+use Rattle.node_core.proofs.Words.{Follows, Parts, LinksFollow, link_words, KeptLink, IsCutOff, IsRunningOf, is_number, scope_words, count_after_sync}
+use Rattle.node_core.proofs.Words.{count_after_add, count_after_take, IsHeardNow, Running, with_number, without, running_rises, HasBecome, Message, Event}
+use Rattle.node_core.proofs.Words.{Reply}
 use Rattle.std.proofs.lemmas.List.Folds.{list_any-append}
 use Rattle.policy_audit.proofs.HeardSaid.{synced_heard, discovered_heard, downed_heard, joined_heard, left_heard}
 use Rattle.policy_audit.proofs.MessageRows.{discovered_rows, synced_rows, added_rows, taken_rows, downed_rows}
-use Rattle.node_core.proofs.Entered.{made}
+use Rattle.node_core.proofs.Entered.{made, step_follows}
 use Rattle.node_core.proofs.MessagePlaces.{IsUpHere, IsScopeHere, up_here, scope_here, same_there}
 use Rattle.node_core.proofs.MessageRefused.{peer_is, join_fits, leave_listed, add_calm, take_calm}
-use Rattle.node_core.proofs.OneScope.{scope_change}
+use Rattle.node_core.proofs.OneScope.{one_scope_follows, scope_change}
 use Rattle.node_core.proofs.ScopesCutOff.{number_left}
-use Rattle.node_core.proofs.MessageKept.{its_answered, its_next, silent_links, scope_on, message_follows}
+use Rattle.node_core.proofs.MessageKept.{its_answered, its_next, silent_links}
 
 -- ---- numbers
 
@@ -83,26 +83,32 @@ module _ {h : History} {parts : Parts} (t : Follows h parts) (seat l : ℕ) (bod
     itself = (same_decides s s).1 refl
 
     its_own : (j : ℕ) → (l == j) ≡ (l == j && same s s)
-    its_own j = sym (ap (λ b. l == j && b) itself ∙ and-true (l == j))
+    its_own j = grind (arith, itself)
 
     elsewhere : (j : ℕ) (u : List ℕ) → same u s ≡ false → (l == j && same s u) ≡ false
-    elsewhere j u apart = ap (λ b. l == j && b) (same_sym s u ∙ apart) ∙ and_false (l == j)
+    elsewhere j u apart = grind (arith, same_sym s u)
 
     rows_here : (g : List ℕ) (q : Pid) → counts (count_of r.table g q) g q ≡ listed (after_it gs) s g q
-    rows_here g q = ap (λ n. counts n g q) (counted h s r there.named there.running g q) ∙ sym (rows so s g q ∙ ap (λ a. cond a (counts (listed h s g q) g q) (listed h s g q)) itself)
+    rows_here g q = ap (λ n. counts n g q) (counted h s r there.named there.running g q) ∙ sym (rows so s g q ∙ grind (arith, itself))
 
     rows_apart : (u : List ℕ) → same u s ≡ false → (g : List ℕ) (q : Pid) → listed (after_it gs) u g q ≡ listed h u g q
-    rows_apart u apart g q = rows so u g q ∙ ap (λ a. cond a (counts (listed h u g q) g q) (listed h u g q)) apart
+    rows_apart u apart g q = rows so u g q ∙ grind (arith, apart)
+
+    still : (z : Running) → same z.scope s ≡ false → IsRunningOf (scope_words h) z → IsRunningOf (scope_words (after_it gs)) z
+    still z apart u = record {
+      own = u.own;
+      rows = λ g q. u.rows g q ∙ sym (rows_apart z.scope apart g q);
+      heard = λ j. u.heard j ∙ sym ((talk so j z.scope).heard_is ∙ ap (hears (heard j z.scope h.entries)) (elsewhere j z.scope apart) ∙ (plain (heard j z.scope h.entries)).0);
+      told = λ j. u.told j ∙ sym ((talk so j z.scope).told_is ∙ ap (tells (told j z.scope h.entries)) (elsewhere j z.scope apart) ∙ (plain (told j z.scope h.entries)).1);
+    }
 
     follows : IsNext h (entry gs) → (kept : List KeptLink) → LinksFollow (link_words (after_it gs)) kept → Follows (after_it gs) (record parts { scopes = set parts.scopes p y; links = kept })
-    follows next kept links = message_follows h seat l body m space up here.awaited says holds (if_some s gs) parts (set parts.scopes p y) kept t next
-        (scope_on h seat l body m space up here.awaited says holds (if_some s gs) parts.scopes t.scopes p r y s there.within (ap (λ z. z.scope) (sym there.is) ∙ there.named) (b.scope ∙ there.named)
+    follows next kept links = step_follows t next refl t.admission t.processes
+        (one_scope_follows (scope_words h) (scope_words (after_it gs)) s y
         (becomes_running h s r there.named there.running (after_it gs) refl y (λ g q. counts (count_of r.table g q) g q) hs ts b rows_here
         (λ j. heard_so j ∙ (λ i. hears (heard_there h s r there.named there.running j i) (its_own j i)) ∙ sym (talk so j s).heard_is)
         (λ j. told_so j ∙ (λ i. tells (told_there h s r there.named there.running j i) (its_own j i)) ∙ sym (talk so j s).told_is))
-        rows_apart
-        (λ u apart j. (talk so j u).heard_is ∙ ap (hears (heard j u h.entries)) (elsewhere j u apart) ∙ (plain (heard j u h.entries)).0)
-        (λ u apart j. (talk so j u).told_is ∙ ap (tells (told j u h.entries)) (elsewhere j u apart) ∙ (plain (told j u h.entries)).1))
+        (b.scope ∙ there.named) still parts.scopes p r t.scopes (running_rises h) refl there.within (ap (λ z. z.scope) (sym there.is) ∙ there.named))
         links
 
     -- nothing is owed to it
@@ -116,17 +122,13 @@ module _ {h : History} {parts : Parts} (t : Follows h parts) (seat l : ℕ) (bod
     listed_so : IsAnswered h (entry []) → (u g : List ℕ) (q : Pid) → listed (after_it []) u g q ≡ listed h u g q
     listed_so so = discovered_rows h t.sound.legal (entry []) so refl l body refl here.far.peer here.awaited here.introduced.peer.peer here.introduced.peer.other s says
 
-    either : {A : Type 0} (b : Bool) (z : A) → z ≡ cond b z z
-    either true z = refl
-    either false z = refl
-
     pub discovered_next : IsNext h (entry [])
     discovered_next = its_next h seat l body (Message.Discover s) space up here.awaited says early []
         (no_change h (after_it []) (λ u g q. sym (listed_so (its_answered h seat l body (Message.Discover s) space up here.awaited says early []) u g q)))
 
     pub discovered_follows : HasBecome r y (count_of r.table) r.heard.items (with_number l r.told.items) → (kept : List KeptLink) → LinksFollow (link_words (after_it [])) kept
         → Follows (after_it []) (record parts { scopes = set parts.scopes p y; links = kept })
-    discovered_follows b = follows (Message.Discover s) says early [] (λ n g q. n) (λ b c. b) (λ b c. c || b) (λ b. (refl, refl)) (λ so u g q. listed_so so u g q ∙ either (same u s) (listed h u g q))
+    discovered_follows b = follows (Message.Discover s) says early [] (λ n g q. n) (λ b c. b) (λ b c. c || b) (λ b. (refl, refl)) (λ so u g q. listed_so so u g q ∙ grind arith)
         (λ so j u. discovered_heard h t.sound.legal (entry []) so refl l body refl here.awaited j u s says)
         r.heard.items (with_number l r.told.items) b (λ j. refl) (λ j. number_on j l r.told.items) discovered_next
 

@@ -1,6 +1,6 @@
 -- Names that are kept once each.
-use Rattle.node_core.proofs.Words.{List, ap, arith, cond, length, map, refl, ℕ, [], ◌++◌, ◌+◌, ◌||◌, ◌∙◌, ◌∷◌, ◌≡◌, list_any, same_decides, same_sym}
-use Rattle.node_core.proofs.Words.{is_among, occurrences, same, bytes_eq, insert_entry, different, occurs_stands, AreOnce}
+use Rattle.node_core.proofs.Words.{List, ap, arith, cond, length, map, refl, ℕ, [], ◌++◌, ◌+◌, ◌||◌, ◌∙◌, ◌∷◌, ◌≡◌, list_any, same_decides, same_sym, is_among}
+use Rattle.node_core.proofs.Words.{occurrences, same, bytes_eq, insert_entry, different, occurs_stands, AreOnce}
 use Rattle.indexmap.specs.IndexSet.{insert_all}
 use Rattle.policy_audit.proofs.Named.{stands_occurs}
 use Rattle.policy_audit.proofs.Different.{different_is}

@@ -1,9 +1,10 @@
 -- What leaves the scopes, one scope after the other.
-use Rattle.node_core.proofs.Words.{List, ap, arith, cond, false, length, not, refl, subst, sym, true, ℕ, [], ◌++◌, ◌==◌, ◌∙◌, ◌∷◌, ◌≡◌, eq-eqb}
-use Rattle.node_core.proofs.Words.{eqb-true, append-nil, IsDifference, is_empty, GroupChange, Pid, Table, count_of, lie, Change, ArePartings}
-use Rattle.node_core.proofs.Words.{IsParting, filter_append, Running, map, Rises, is_among, text_cmp, stopped_lists, running_among, running_rises}
-use Rattle.node_core.proofs.Words.{IsChange, History, listed, is_running, running_scopes, IsRunningOf, ScopesFollow, scope_words, changes_are}
-use Rattle.node_core.proofs.Zipped.{zipped_on, zipped_map, zipped_weaker, zipped_each}
+use Rattle.node_core.proofs.Words.{List, ap, arith, cond, false, length, not, refl, subst, sym, ℕ, [], ◌++◌, ◌==◌, ◌∙◌, ◌∷◌, ◌≡◌, eq-eqb, eqb-true}
+use Rattle.node_core.proofs.Words.{IsDifference, is_empty, GroupChange, Pid, Table, count_of, Change, ArePartings, IsParting, filter_append, Running, map}
+use Rattle.node_core.proofs.Words.{Rises, is_among, text_cmp, stopped_lists, running_among, running_rises, IsChange, History, listed, is_running}
+use Rattle.node_core.proofs.Words.{running_scopes, IsRunningOf, ScopesFollow, scope_words, changes_are}
+use Rattle.indexmap.proofs.SetLemmas.{AllZip-push}
+use Rattle.node_core.proofs.Zipped.{zipped_map, zipped_each}
 use Rattle.node_core.proofs.Scopes.{counts_listed}
 
 module _ (h k : History) (left : Table → List ℕ → Pid → ℕ) (leaves : (r : Running) → IsRunningOf (scope_words h) r → (g : List ℕ) (p : Pid) → left r.table g p ≡ listed k r.scope g p) where
@@ -17,38 +18,25 @@ module _ (h k : History) (left : Table → List ℕ → Pid → ℕ) (leaves : (
   pub partings_change : (rs : List Running) → ScopesFollow (scope_words h) rs → ((s : List ℕ) → is_running h s ≡ false → (g : List ℕ) (p : Pid) → listed k s g p ≡ 0)
       → (cs : List Change) → ArePartings left rs cs → IsChange h k cs
   partings_change rs t others cs a =
-      let scopes : map (λ c. c.scope) a.all ≡ running_scopes h = zipped_map (λ r. r.scope) (λ c. c.scope) rs a.all (zipped_weaker (IsParting left) (λ r c. c.scope ≡ r.scope) (λ r c x. x.scope) rs a.all a.each) ∙ t.running in
+      let scopes : map (λ c. c.scope) a.all ≡ running_scopes h = zipped_map (IsParting left) (λ r. r.scope) (λ c. c.scope) (λ r c x. x.scope) rs a.all a.each ∙ t.running in
       subst (IsChange h k) (sym a.some)
       (changes_are h k a.all (subst (Rises text_cmp) (sym scopes) (running_rises h)) (zipped_each (IsParting left) (IsRunningOf (scope_words h)) (λ c. IsDifference (listed h c.scope) (listed k c.scope) c.groups) parting_is rs a.all a.each t.each)
       (λ s none g p.
       let stopped = sym (running_among h s) ∙ sym (ap (is_among s) scopes) ∙ none in
       stopped_lists h s g p stopped ∙ sym (others s stopped g p)))
 
-module _ (left : Table → List ℕ → Pid → ℕ) where
-  -- one scope more, which changes or not
-  pub one_parting : (rs : List Running) (cs : List Change) (r : Running) (gs : List GroupChange) → ArePartings left rs cs → IsDifference (count_of r.table) (left r.table) gs
-      → ArePartings left (rs ++ r ∷ []) (cs ++ cond (not (is_empty gs)) (record { scope = r.scope; groups = gs } ∷ []) [])
-  one_parting rs cs r gs a d = record {
-    all = a.all ++ record { scope = r.scope; groups = gs } ∷ [];
-    each = zipped_on (IsParting left) rs a.all r (record { scope = r.scope; groups = gs }) a.each (record { scope = refl; groups = d });
-    some =
-        ap (λ xs. xs ++ cond (not (is_empty gs)) (record { scope = r.scope; groups = gs } ∷ []) []) a.some
-        ∙ sym (filter_append (λ c. not (is_empty c.groups)) a.all (record { scope = r.scope; groups = gs } ∷ []));
-  }
+-- one scope more, which changes or not
+abbrev pub one_parting : (left : Table → List ℕ → Pid → ℕ) (rs : List Running) (cs : List Change) (r : Running) (gs : List GroupChange) → ArePartings left rs cs → IsDifference (count_of r.table) (left r.table) gs
+    → ArePartings left (rs ++ r ∷ []) (cs ++ cond (not (is_empty gs)) (record { scope = r.scope; groups = gs } ∷ []) [])
+one_parting left rs cs r gs a d = record {
+  all = a.all ++ record { scope = r.scope; groups = gs } ∷ [];
+  each = AllZip-push (IsParting left) rs a.all r (record { scope = r.scope; groups = gs }) a.each (record { scope = refl; groups = d });
+  some =
+      ap (λ xs. xs ++ cond (not (is_empty gs)) (record { scope = r.scope; groups = gs } ∷ []) []) a.some
+      ∙ sym (filter_append (λ c. not (is_empty c.groups)) a.all (record { scope = r.scope; groups = gs } ∷ []));
+}
 
-  pub parted_some : (rs : List Running) (cs : List Change) (r : Running) (gs : List GroupChange) → ArePartings left rs cs → IsDifference (count_of r.table) (left r.table) gs → is_empty gs ≡ false
-      → ArePartings left (rs ++ r ∷ []) (cs ++ record { scope = r.scope; groups = gs } ∷ [])
-  parted_some rs cs r gs a d some = subst (λ b. ArePartings left (rs ++ r ∷ []) (cs ++ cond (not b) (record { scope = r.scope; groups = gs } ∷ []) [])) some (one_parting rs cs r gs a d)
-
-  pub parted_none : (rs : List Running) (cs : List Change) (r : Running) (gs : List GroupChange) → ArePartings left rs cs → IsDifference (count_of r.table) (left r.table) gs → is_empty gs ≡ true
-      → ArePartings left (rs ++ r ∷ []) cs
-  parted_none rs cs r gs a d none = subst (λ xs. ArePartings left (rs ++ r ∷ []) xs) (append-nil cs) (subst (λ b. ArePartings left (rs ++ r ∷ []) (cs ++ cond (not b) (record { scope = r.scope; groups = gs } ∷ []) [])) none (one_parting rs cs r gs a d))
-
--- whether there are groups
-pub none_there : {A : Type 0} (n : ℕ) (xs : List A) → n ≡ length xs → true ≡ (n == 0) → is_empty xs ≡ true
-none_there n [] long q = refl
-none_there n (x ∷ xs) long q = absurd (let none : n ≡ 0 = eqb-true n 0 (sym q) in omega (arith, none, long))
-
-pub some_there : {A : Type 0} (n : ℕ) (xs : List A) → n ≡ length xs → false ≡ (n == 0) → is_empty xs ≡ false
-some_there n [] long q = lie (sym (q ∙ eq-eqb n 0 long))
-some_there n (x ∷ xs) long q = refl
+-- whether there are groups, by their number
+pub none_by : {A : Type 0} (xs : List A) (n : ℕ) → length xs ≡ n → (n == 0) ≡ is_empty xs
+none_by [] n long = eq-eqb n 0 (sym long)
+none_by (x ∷ xs) n long = grind (arith, long, eqb-true n 0)

@@ -1,12 +1,13 @@
 -- What is read of the kept links, in the policy's words.
-use Rattle.node_core.proofs.Words.{Bool, List, None, Some, ap, arith, cond, false, is_some, map, nat_eq, not, refl, subst, suc, sym, true, ℕ, []}
-use Rattle.node_core.proofs.Words.{◌&&◌, ◌++◌, ◌||◌, ◌∙◌, ◌∷◌, ◌≡◌, ◌≤◌, AllByRecursion, flat_map, list_any, option_map_or, option_to_list, eq-eqb}
-use Rattle.node_core.proofs.Words.{eqb-true, is_empty, occurrences, same, kept_among, and_false, and_left, and_right, History, is_open, is_up}
-use Rattle.node_core.proofs.Words.{waiting, awaits, is_name_up, is_peer, is_whole, peer_of, Follows, Parts, IsLinkOf, IsState, facts, kept_numbers}
-use Rattle.node_core.proofs.Words.{link_words, KeptLink, up_peer, how_many, kept_once, name_up_kept, one_up, LinkState, frame_awaited}
+use Rattle.node_core.proofs.Words.{Bool, List, None, Some, ap, arith, cond, is_some, map, nat_eq, refl, sym, true, ℕ, [], ◌&&◌, ◌++◌, ◌∙◌, ◌∷◌, ◌≡◌, ◌≤◌}
+use Rattle.node_core.proofs.Words.{AllByRecursion, flat_map, list_any, option_to_list, eq-eqb, eqb-true, occurrences, same, kept_among, and_left, and_right}
+use Rattle.node_core.proofs.Words.{History, is_open, is_up, awaits, is_name_up, is_peer, is_whole, peer_of, Follows, Parts, IsLinkOf, IsState, facts}
+use Rattle.node_core.proofs.Words.{kept_numbers, link_words, KeptLink, up_peer, how_many, kept_once, name_up_kept, one_up, LinkState, frame_awaited}
 use Rattle.node_core.specs.Reading.{up_name, up_names, frame_of, awaiting}
+use Rattle.scope_core.proofs.Rising.{all_map}
 use Rattle.node_core.proofs.Found.{any_map}
-use Rattle.node_core.proofs.LinkTests.{agree, up_is, peer_by_test}
+use Rattle.node_core.proofs.Told.{map_map, map_same}
+use Rattle.node_core.proofs.LinkTests.{agree, peer_by_test}
 
 -- ---- what a link's state tells
 
@@ -39,14 +40,10 @@ counts_less f g on (x ∷ xs) = grind (arith, counts_less f g on xs, on x)
 -- where one number at most passes, and each is there once, one is counted where there is one
 counts_one : (test : ℕ → Bool) → ((a b : ℕ) → test a ≡ true → test b ≡ true → a ≡ b) → (xs : List ℕ) → ((l : ℕ) → how_many (nat_eq l) xs ≤ 1) → how_many test xs ≡ cond (list_any test xs) 1 0
 counts_one test one [] once = refl
-counts_one test one (x ∷ xs) once = by (test x) refl (counts_one test one xs (λ l. grind (arith, once l)))
-  where
-    by : (b : Bool) → test x ≡ b → how_many test xs ≡ cond (list_any test xs) 1 0 → cond b (suc (how_many test xs)) (how_many test xs) ≡ cond (b || list_any test xs) 1 0
-    by false e rest = rest
-    by true e rest =
-        let few = counts_less test (nat_eq x) (λ y q. eq-eqb x y (one x y e q)) xs in
-        let own = subst (λ b. cond b (suc (how_many (nat_eq x) xs)) (how_many (nat_eq x) xs) ≤ 1) (eq-eqb x x refl) (once x) in
-        omega (arith, few, own)
+counts_one test one (x ∷ xs) once =
+    let later = counts_one test one xs (λ l. grind (arith, once l)) in
+    let few : test x ≡ true → how_many test xs ≤ how_many (nat_eq x) xs = λ e. counts_less test (nat_eq x) (λ y q. eq-eqb x y (one x y e q)) xs in
+    grind (arith, later, few, once x, eq-eqb x x refl)
 
 names_count : (h : History) (n : List ℕ) (xs : List ℕ) → occurrences same n (flat_map (up_name h) xs) ≡ how_many (λ l. is_up l h.entries && is_peer n l h.entries) xs
 names_count h n [] = refl
@@ -62,14 +59,7 @@ module _ {h : History} {parts : Parts} (t : Follows h parts) where
       ∙ ap (list_any (λ k. nat_eq k l && is_up k h.entries)) t.links.numbers
       ∙ any_here (λ k. is_up k h.entries) l (kept_numbers h)
       ∙ ap (λ b. b && is_up l h.entries) (sym (kept_among h t.sound.legal l))
-      ∙ open_kept (is_open l h.entries) (is_whole l h.entries) (not (is_empty (waiting h l)))
-    where
-      open_kept : (a w b : Bool) → ((a || b) && (a && w)) ≡ (a && w)
-      open_kept true w b = refl
-      open_kept false w b = and_false b
-
-  pub peer_up : (n : List ℕ) → list_any (λ x. option_map_or (λ m. same m n) (up_peer x.state) false) parts.links ≡ is_name_up n h.entries
-  peer_up n = up_is h n t.sound.legal parts.links t.links
+      ∙ grind arith
 
   pub names_are : flat_map (λ x. option_to_list (up_peer x.state)) parts.links ≡ up_names h
   names_are = all parts.links t.links.each ∙ ap (flat_map (up_name h)) t.links.numbers
@@ -88,8 +78,7 @@ module _ {h : History} {parts : Parts} (t : Follows h parts) where
       alone a b p q = one_up h t.sound.legal n a b (and_left _ _ p) (and_left _ _ q) (peer_by_test n (peer_of a h.entries) (and_right (is_up a h.entries) _ p)) (peer_by_test n (peer_of b h.entries) (and_right (is_up b h.entries) _ q))
 
   pub links_are : map (λ x. record { link = x.number; frame = frame_awaited x.state }) parts.links ≡ map (awaiting h) (kept_numbers h)
-  links_are = all parts.links t.links.each ∙ ap (map (awaiting h)) t.links.numbers
-    where
-      all : (xs : List KeptLink) → AllByRecursion (IsLinkOf (link_words h)) xs → map (λ x. record { link = x.number; frame = frame_awaited x.state }) xs ≡ map (awaiting h) (map (λ x. x.number) xs)
-      all [] a = refl
-      all (x ∷ xs) a = λ i. record { link = x.number; frame = frame_told h x.number x.state a.0.state i } ∷ all xs a.1 i
+  links_are =
+      map_same (λ x. record { link = x.number; frame = frame_awaited x.state }) (λ x. awaiting h x.number) parts.links
+      (all_map (IsLinkOf (link_words h)) (λ x. record { link = x.number; frame = frame_awaited x.state } ≡ awaiting h x.number) (λ x it. λ i. record { link = x.number; frame = frame_told h x.number x.state it.state i }) parts.links t.links.each)
+      ∙ sym (map_map (awaiting h) (λ x. x.number) parts.links) ∙ ap (map (awaiting h)) t.links.numbers

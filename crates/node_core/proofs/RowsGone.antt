@@ -1,9 +1,9 @@
 -- The rows that leave with a process.
-use Rattle.node_core.proofs.Words.{List, ap, arith, cond, false, length, map, refl, ℕ, [], ◌++◌, ◌+◌, ◌∙◌, ◌∷◌, ◌≡◌, ◌≤◌, AllByRecursion, filter}
-use Rattle.node_core.proofs.Words.{Less, same_decides, same_pid_decides, IsDifference, Rises, occurrences, same_pid, same_row, pid_cmp, row_cmp}
-use Rattle.node_core.proofs.Words.{text_cmp, GroupChange, Pid, Row, count_after_exit, Table, count_of, local_count, local_total, local_rows, row}
-use Rattle.node_core.proofs.Words.{History, IsLegal, rows_left, IsRunningOf, scope_words, Ordering, is_gt, IsProper, times_left, Ascends}
-use Rattle.node_core.proofs.Words.{count_in_group, Running, Bool, sym, true, IsListing, spread, total, same_length, same_row_decides, is_of_node}
+use Rattle.node_core.proofs.Words.{List, ap, arith, cond, false, length, map, refl, ℕ, [], ◌++◌, ◌+◌, ◌∙◌, ◌∷◌, ◌≡◌, ◌≤◌, AllByRecursion, filter, Less}
+use Rattle.node_core.proofs.Words.{same_decides, same_pid_decides, IsDifference, Rises, occurrences, same_pid, same_row, pid_cmp, row_cmp, text_cmp}
+use Rattle.node_core.proofs.Words.{GroupChange, Pid, Row, count_after_exit, Table, count_of, local_count, local_total, local_rows, row, History, IsLegal}
+use Rattle.node_core.proofs.Words.{rows_left, IsRunningOf, scope_words, Ordering, is_gt, IsProper, times_left, Ascends, count_in_group, Running, sym, IsListing}
+use Rattle.node_core.proofs.Words.{spread, total, same_length, same_row_decides, is_of_node}
 use Rattle.std.specs.Ordering.{ordering_then}
 use Rattle.dist_types.proofs.Listings.{all_append, fewer_length, length-spread, spread_counts}
 use Rattle.dist_types.proofs.Totals.{how_many_append}
@@ -16,26 +16,9 @@ use Rattle.scope_core.specs.declared.counted.Counted.{Counted}
 abbrev pub own_rows : Table → List Row
 own_rows t = spread (λ c. c.row) (λ c. cond (is_of_node t.own c.row) c.count 0) t.rows
 
-nothing : (b : Bool) → cond {A = ℕ} b 0 0 ≡ 0
-nothing true = refl
-nothing false = refl
-
 own_shares : (own : List ℕ) (r : Row) (cs : List Counted) → total (λ c. cond (same_row c.row r) (cond (is_of_node own c.row) c.count 0) 0) cs ≡ cond (is_of_node own r) (total (λ c. cond (same_row c.row r) c.count 0) cs) 0
-own_shares own r [] = sym (nothing (is_of_node own r))
-own_shares own r (c ∷ cs) = by (same_row c.row r) refl (is_of_node own r) refl (own_shares own r cs)
-  where
-    its : same_row c.row r ≡ true → is_of_node own c.row ≡ is_of_node own r
-    its s = ap (is_of_node own) ((same_row_decides c.row r).0 s)
-
-    by : (a : Bool) → same_row c.row r ≡ a → (b : Bool) → is_of_node own r ≡ b
-        → total (λ x. cond (same_row x.row r) (cond (is_of_node own x.row) x.count 0) 0) cs ≡ cond (is_of_node own r) (total (λ x. cond (same_row x.row r) x.count 0) cs) 0
-        → cond a (cond (is_of_node own c.row) c.count 0) 0 + total (λ x. cond (same_row x.row r) (cond (is_of_node own x.row) x.count 0) 0) cs ≡ cond b (cond a c.count 0 + total (λ x. cond (same_row x.row r) x.count 0) cs) 0
-    by true s true o later =
-        (λ i. cond ((its s ∙ o) i) c.count 0 + later i) ∙ ap (λ b. c.count + cond b (total (λ x. cond (same_row x.row r) x.count 0) cs) 0) o
-    by true s false o later =
-        (λ i. cond ((its s ∙ o) i) c.count 0 + later i) ∙ (let none : cond (is_of_node own r) (total (λ x. cond (same_row x.row r) x.count 0) cs) 0 ≡ 0 = ap (λ b. cond b (total (λ x. cond (same_row x.row r) x.count 0) cs) 0) o in omega (arith, none))
-    by false s true o later = (let is : cond (is_of_node own r) (total (λ x. cond (same_row x.row r) x.count 0) cs) 0 ≡ total (λ x. cond (same_row x.row r) x.count 0) cs = ap (λ b. cond b (total (λ x. cond (same_row x.row r) x.count 0) cs) 0) o in omega (arith, is, later))
-    by false s false o later = (let none : cond (is_of_node own r) (total (λ x. cond (same_row x.row r) x.count 0) cs) 0 ≡ 0 = ap (λ b. cond b (total (λ x. cond (same_row x.row r) x.count 0) cs) 0) o in omega (arith, none, later))
+own_shares own r [] = grind arith
+own_shares own r (c ∷ cs) = grind (arith, own_shares own r cs, same_row_decides c.row r)
 
 pub own_occurs : (t : Table) (r : Row) → occurrences same_row r (own_rows t) ≡ local_count t r.group r.pid
 own_occurs t r = spread_counts same_row (λ c. c.row) (λ c. cond (is_of_node t.own c.row) c.count 0) r t.rows ∙ own_shares t.own r t.rows

@@ -1,15 +1,15 @@
 -- Messages of own rows, and the links that are told them.
-use Rattle.node_core.proofs.Words.{Bool, List, OnErr, ap, arith, cond, false, length, map, not, refl, subst, sym, true, ℕ, [], ◌++◌, ◌<◌, ◌∙◌, ◌∷◌}
-use Rattle.node_core.proofs.Words.{◌≡◌, AllZip, same_pid_decides, is_empty, IsListing, IsPidListing, IsRowListing, listing, mentions, same, same_pid}
-use Rattle.node_core.proofs.Words.{pid_cmp, Pid, Row, Message, Table, lie, row, OutFrame, KeptLink, prepared_for, unroomed, with_prepared, is_number}
-use Rattle.node_core.proofs.Words.{Alike, AreIdle, min, stands_in, exact_pids, pids_total, IsJoinFault, IsLeaveFault, occurs_stands, Running, IsBrief}
-use Rattle.node_core.proofs.Words.{is_said, fault_of, IsJoinRefusal, IsLeaveRefusal}
+use Rattle.node_core.proofs.Words.{List, OnErr, ap, arith, cond, length, map, not, refl, subst, sym, true, ℕ, [], ◌<◌, ◌∙◌, ◌∷◌, ◌≡◌, same_pid_decides}
+use Rattle.node_core.proofs.Words.{is_empty, IsListing, IsPidListing, IsRowListing, listing, mentions, same, same_pid, pid_cmp, Pid, Row, Message, Table, lie}
+use Rattle.node_core.proofs.Words.{row, KeptLink, Alike, min, stands_in, exact_pids, pids_total, IsJoinFault, IsLeaveFault, occurs_stands, Running, IsBrief}
+use Rattle.node_core.proofs.Words.{is_said, fault_of, IsJoinRefusal, IsLeaveRefusal, length-map, same_sym, occurrences, same_row, row_cmp, same_row_decides}
+use Rattle.node_core.proofs.Words.{same_length, count_in_group}
 use Rattle.std.proofs.Common.{Result}
 use Rattle.dist_types.proofs.Listings.{listing_counts}
 use Rattle.link_frames.specs.Spelling.{HasSpelling}
 use Rattle.scope_core.specs.declared.fault.TableFault.{TableFault}
 use Rattle.policy_audit.proofs.OwnRows.{one_row_listing, rows_in_group}
-use Rattle.node_core.proofs.Told.{at_errors, zip_map}
+use Rattle.scope_core.proofs.NodeLists.{on_err}
 
 some_left : {A : Type 0} (xs : List A) → not (is_empty xs) ≡ true → 0 < length xs
 some_left [] q = lie (sym q)
@@ -40,6 +40,17 @@ left_rows_are g ps gone count rows left a =
     moved_listing g ps (λ p. min (mentions p ps) (count p)) rows (λ p some. occurs_stands same_pid p ps (omega (arith, some)))
     (subst (λ (c : Pid → ℕ). IsRowListing (λ f q. cond (same f g) (c q) 0) rows) (λ i q. IsListing.counts left q i) a)
 
+-- the rows of processes, in order
+module _ (g : List ℕ) (pids : List Pid) (rows sorted : List Row) (is : rows ≡ map (row g) pids) (listing : IsListing row_cmp same_row (λ r. occurrences same_row r rows) sorted) where
+  pub rows_listing : IsRowListing (λ f p. cond (same f g) (mentions p pids) 0) sorted
+  rows_listing = record {
+    ascends = IsListing.ascends listing;
+    counts = λ r. IsListing.counts listing r ∙ ap (occurrences same_row r) is ∙ count_in_group r g pids ∙ ap (λ b. cond b (mentions r.pid pids) 0) (same_sym g r.group);
+  }
+
+  pub rows_length : length sorted ≡ length pids
+  rows_length = same_length same_row same_row_decides sorted rows (λ r. IsListing.counts listing r) ∙ ap length is ∙ length-map pids (row g)
+
 -- ---- faults
 
 pub join_fault : (t : Table) (ps : List Pid) (f : TableFault) → IsJoinFault t ps f → IsJoinRefusal t ps (fault_of f)
@@ -52,21 +63,6 @@ leave_fault t g ps TableFault.NotJoined q = (refl, q)
 leave_fault t g ps TableFault.OutOfMemory q = tt
 leave_fault t g ps f q = absurd q
 
--- what is prepared and then dropped leaves all as it was
-pub dropped_again : (numbers : List ℕ) (frame : OutFrame) (old mid new : List KeptLink) → AreIdle old → map unroomed mid ≡ map (λ x. unroomed (prepared_for numbers frame x)) old
-    → map unroomed new ≡ map (λ x. unroomed (with_prepared x [])) mid → Alike old new
-dropped_again numbers frame old mid new idle prepared dropped = dropped ∙ all old mid idle (zip_map unroomed (λ x. unroomed (prepared_for numbers frame x)) old mid prepared)
-  where
-    all : (xs ys : List KeptLink) → AreIdle xs → AllZip (λ x y. unroomed y ≡ unroomed (prepared_for numbers frame x)) xs ys → map (λ x. unroomed (with_prepared x [])) ys ≡ map unroomed xs
-    all [] [] idle a = refl
-    all [] (y ∷ ys) idle a = absurd a
-    all (x ∷ xs) [] idle a = absurd a
-    all (x ∷ xs) (y ∷ ys) idle a = λ i. (ap (λ z. with_prepared z []) a.0 ∙ by x idle.0 (is_number x.number numbers)) i ∷ all xs ys idle.1 a.1 i
-      where
-        by : (x : KeptLink) → x.prepared ≡ [] → (b : Bool) → with_prepared (unroomed (cond b (with_prepared x (x.prepared ++ frame ∷ [])) x)) [] ≡ unroomed x
-        by x idle true = λ i. record (unroomed x) { prepared = sym idle i }
-        by x idle false = λ i. record (unroomed x) { prepared = sym idle i }
-
 -- where a message finds no memory, nothing has changed
 pub untold : {T E : Type 0} (o : Result T E) (r : Running) (old new : List KeptLink) → Alike old new → OnErr o ((r ≡ r) × Alike old new)
-untold o r old new same = at_errors {P = (r ≡ r) × Alike old new} o (refl, same)
+untold o r old new same = on_err {P = (r ≡ r) × Alike old new} o (refl, same)

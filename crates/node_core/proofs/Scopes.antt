@@ -1,9 +1,9 @@
 -- The scopes that run, as a node keeps them.
-use Rattle.node_core.proofs.Words.{List, None, Option, Some, ap, cond, false, find, map, refl, subst, sym, true, ℕ, [], ◌∙◌, ◌∷◌, ◌≡◌, AllByRecursion}
-use Rattle.node_core.proofs.Words.{list_any, option_map, same_decides, same_pid_decides, IsPidListing, is_among, same, same_pid, pid_cmp, Pid}
-use Rattle.node_core.proofs.Words.{count_of, local_count, running_among, History, events, listed, is_running, IsLegal, IsRunningOf, ScopesFollow}
-use Rattle.node_core.proofs.Words.{scope_words, IfSome, IfNone, Running, IsGroupListing, pids_total, exact_pids, groups_named, pids_named, members}
-use Rattle.node_core.proofs.Words.{groups, contents, local_members, local_groups, own}
+use Rattle.node_core.proofs.Words.{List, None, Option, Some, ap, cond, false, find, map, refl, subst, sym, true, ℕ, [], ◌∙◌, ◌∷◌, ◌≡◌, AllByRecursion, list_any}
+use Rattle.node_core.proofs.Words.{option_map, same_decides, same_pid_decides, IsPidListing, is_among, same, same_pid, pid_cmp, Pid, count_of, local_count}
+use Rattle.node_core.proofs.Words.{running_among, History, events, listed, is_running, IsLegal, IsRunningOf, ScopesFollow, scope_words, IfSome, IfNone, Running}
+use Rattle.node_core.proofs.Words.{IsGroupListing, pids_total, exact_pids, groups_named, pids_named, members, groups, contents, local_members, local_groups}
+use Rattle.node_core.proofs.Words.{own}
 use Rattle.policy_audit.specs.declared.reply.GroupPids.{GroupPids}
 use Rattle.std.specs.Borrow.{Bor}
 use Rattle.dist_types.proofs.Listings.{one_listing}

@@ -1,7 +1,7 @@
 -- The scopes after a link of a peer is gone, or another of its links has come up.
-use Rattle.node_core.proofs.Words.{List, ap, cond, nat_eq, not, refl, sym, ℕ, [], ◌&&◌, ◌==◌, ◌∙◌, ◌∷◌, ◌≡◌, AllZip, eq-eqb, eqb-true, same, Pid}
-use Rattle.node_core.proofs.Words.{flip, IsCutOff, IsRunningOf, ScopeWords, ScopesFollow, is_number, Running, without, arith}
-use Rattle.node_core.proofs.Zipped.{zipped_map, zipped_weaker, zipped_each}
+use Rattle.node_core.proofs.Words.{List, ap, cond, nat_eq, not, refl, sym, ℕ, [], ◌&&◌, ◌==◌, ◌∙◌, ◌∷◌, ◌≡◌, AllZip, eq-eqb, eqb-true, same, Pid, flip}
+use Rattle.node_core.proofs.Words.{IsCutOff, IsRunningOf, ScopeWords, ScopesFollow, is_number, Running, without, arith}
+use Rattle.node_core.proofs.Zipped.{zipped_map, zipped_each}
 
 -- whether a number is left of these
 pub number_left : (l j : ℕ) (ns : List ℕ) → is_number l (without j ns) ≡ (is_number l ns && not (j == l))
@@ -27,6 +27,6 @@ module _ (m : ℕ) (n : List ℕ) (w v : ScopeWords) (a : AreCutOff m n w v) whe
 
   pub cut_off_follow : (old new : List Running) → ScopesFollow w old → AllZip (IsCutOff m n) old new → ScopesFollow v new
   cut_off_follow old new t c = record {
-    running = zipped_map (λ r. r.scope) (λ r. r.scope) old new (zipped_weaker (IsCutOff m n) (λ r q. q.scope ≡ r.scope) (λ r q x. x.scope) old new c) ∙ t.running ∙ sym a.running;
+    running = zipped_map (IsCutOff m n) (λ r. r.scope) (λ r. r.scope) (λ r q x. x.scope) old new c ∙ t.running ∙ sym a.running;
     each = zipped_each (IsCutOff m n) (IsRunningOf w) (IsRunningOf v) one_cut_off old new c t.each;
   }

@@ -1,17 +1,18 @@
 -- A scope that starts.
-use Rattle.node_core.proofs.Words.{Bool, List, None, Option, Some, ap, arith, cond, false, get_or, length, map, not, refl, suc, sym, true, zero, ℕ}
-use Rattle.node_core.proofs.Words.{[], ◌++◌, ◌<◌, ◌||◌, ◌∙◌, ◌∷◌, ◌≡◌, ◌≤◌, AllByRecursion, Less, le-ltb, lt-ltb, same_decides, Rises, is_among, same}
-use Rattle.node_core.proofs.Words.{text_cmp, Pid, count_of, lie, no_change, stopped_lists, told_numbers, running_among, checks, first_broken, heard}
-use Rattle.node_core.proofs.Words.{told, History, listed, waiting, wide, is_running, running_scopes, IsAnswered, IsNext, is_full, with_entry, Entry}
-use Rattle.node_core.proofs.Words.{Accepted, Rule, Follows, Parts, link_words, KeptLink, IsRunningOf, ScopesFollow, is_number, scope_words, AreTold}
-use Rattle.node_core.proofs.Words.{if_among, shown_numbers, Ordering, Equal, Greater, insert, placed, texts_total, started_links, running_started}
-use Rattle.node_core.proofs.Words.{Running, put_scope, Message, Event, Reply, length-map}
+use Rattle.node_core.proofs.Words.{Bool, List, None, Option, Some, ap, arith, cond, false, get_or, length, map, not, refl, suc, sym, true, zero, ℕ, [], ◌++◌}
+use Rattle.node_core.proofs.Words.{◌<◌, ◌∙◌, ◌∷◌, ◌≡◌, ◌≤◌, AllByRecursion, Less, le-ltb, lt-ltb, same_decides, Rises, is_among, text_cmp, Pid, count_of}
+use Rattle.node_core.proofs.Words.{no_change, stopped_lists, told_numbers, running_among, checks, first_broken, heard, told, History, listed, waiting, wide}
+use Rattle.node_core.proofs.Words.{is_running, running_scopes, IsAnswered, IsNext, is_full, with_entry, Entry, Accepted, Rule, Follows, Parts, link_words}
+use Rattle.node_core.proofs.Words.{KeptLink, IsRunningOf, ScopesFollow, is_number, scope_words, AreTold, if_among, shown_numbers, insert, placed, texts_total}
+use Rattle.node_core.proofs.Words.{started_links, running_started, Running, put_scope, Message, Event, Reply, length-map}
 use Rattle.std.proofs.lemmas.Map.Lookups.{exact_bytes}
-use Rattle.std.specs.Ordering.{is_lt, ordering_reverse, match_ordering}
+use Rattle.std.specs.Ordering.{is_lt}
 use Rattle.std.specs.List.Sorted.{IsPartitionedBy, IsPartitionPoint}
 use Rattle.policy_audit.proofs.KeptLinks.{told_runs, heard_runs'}
 use Rattle.policy_audit.proofs.RowsAfter.{started_rows}
-use Rattle.node_core.proofs.Entered.{step_follows, made, accepted_now, answered_now, next_now}
+use Rattle.scope_core.proofs.Rising.{all_map, all_unmapped}
+use Rattle.node_core.proofs.Entered.{step_follows, made, accepted_next, answered_by}
+use Rattle.node_core.proofs.KeptOn.{each_at}
 use Rattle.node_core.proofs.Told.{told_follow, shown_number}
 
 -- ---- a scope put among others
@@ -26,38 +27,19 @@ names rs = map (λ r. r.scope) rs
 
 pub put_names : (r : Running) (xs : List Running) → is_among r.scope (names xs) ≡ false → names (put_scope r xs) ≡ placed text_cmp r.scope (names xs)
 put_names r [] none = refl
-put_names r (x ∷ xs) none = by (put_names r xs) (text_cmp r.scope x.scope) refl (same x.scope r.scope) refl none
-  where
-    by : (is_among r.scope (names xs) ≡ false → names (put_scope r xs) ≡ placed text_cmp r.scope (names xs)) → (o : Ordering) → text_cmp r.scope x.scope ≡ o → (b : Bool) → same x.scope r.scope ≡ b → (b || is_among r.scope (names xs)) ≡ false
-        → names (cond (is_lt (text_cmp x.scope r.scope)) (x ∷ put_scope r xs) (r ∷ x ∷ xs)) ≡ placed text_cmp r.scope (x.scope ∷ names xs)
-    by others o e true s n = lie n
-    by others Less e false s n =
-        ap (λ o. names (cond (is_lt o) (x ∷ put_scope r xs) (r ∷ x ∷ xs))) (texts_total.antisymm x.scope r.scope ∙ ap ordering_reverse e)
-        ∙ sym (ap (λ o. match_ordering o (r.scope ∷ x.scope ∷ names xs) (x.scope ∷ names xs) (x.scope ∷ placed text_cmp r.scope (names xs))) e)
-    by others Equal e false s n = lie (sym ((same_decides x.scope r.scope).1 (sym (exact_bytes r.scope x.scope e))) ∙ s)
-    by others Greater e false s n =
-        ap (λ o. names (cond (is_lt o) (x ∷ put_scope r xs) (r ∷ x ∷ xs))) (texts_total.antisymm x.scope r.scope ∙ ap ordering_reverse e)
-        ∙ ap (λ ys. x.scope ∷ ys) (others n)
-        ∙ sym (ap (λ o. match_ordering o (r.scope ∷ x.scope ∷ names xs) (x.scope ∷ names xs) (x.scope ∷ placed text_cmp r.scope (names xs))) e)
+put_names r (x ∷ xs) none = grind (arith, put_names r xs, texts_total.antisymm x.scope r.scope, exact_bytes r.scope x.scope, same_decides x.scope r.scope)
 
 -- whether a scope comes before s
 abbrev pub is_before : List ℕ → Running → Bool
 is_before s r = is_lt (text_cmp r.scope s)
 
 all_names : (P : List ℕ → Type 0) (rs : List Running) (j : ℕ) (d : Running) → AllByRecursion P (names rs) → j < length rs → P (get_or rs j d).scope
-all_names P [] j d a l = absurd (omega (arith, l))
-all_names P (r ∷ rs) zero d a l = a.0
-all_names P (r ∷ rs) (suc j) d a l = all_names P rs j d a.1 (omega (arith, l))
+all_names P rs j d a l = each_at (λ r. P r.scope) rs j d (all_unmapped P (λ r. r.scope) rs a) l
 
 rising_before : (s : List ℕ) (rs : List Running) → Rises text_cmp (names rs) → (i j : ℕ) (d : Running) → i ≤ j → j < length rs → is_before s (get_or rs i d) ≡ false → is_before s (get_or rs j d) ≡ false
 rising_before s [] r i j d l h n = absurd (omega (arith, h))
 rising_before s (x ∷ xs) r zero zero d l h n = n
-rising_before s (x ∷ xs) r zero (suc j) d l h n = by (text_cmp (get_or xs j d).scope s) refl
-  where
-    by : (o : Ordering) → text_cmp (get_or xs j d).scope s ≡ o → is_lt o ≡ false
-    by Less e = lie (sym (ap is_lt (texts_total.trans x.scope (get_or xs j d).scope s (all_names (λ t. text_cmp x.scope t ≡ Less) xs j d r.0 (omega (arith, h))) e)) ∙ n)
-    by Equal e = refl
-    by Greater e = refl
+rising_before s (x ∷ xs) r zero (suc j) d l h n = grind (arith, texts_total.trans x.scope (get_or xs j d).scope s (all_names (λ t. text_cmp x.scope t ≡ Less) xs j d r.0 (omega (arith, h))))
 rising_before s (x ∷ xs) r (suc i) zero d l h n = absurd (omega (arith, l))
 rising_before s (x ∷ xs) r (suc i) (suc j) d l h n = rising_before s xs r.1 i j d (omega (arith, l)) (omega (arith, h)) n
 
@@ -89,20 +71,10 @@ module _ (h : History) (seat : ℕ) (s : List ℕ) where
   checked runs room = cond (not (not runs)) (Some Rule.ScopeRunning) (cond (not room) (Some Rule.ScopesFull) None)
 
   module _ (parts : Parts) (t : Follows h parts) (stopped : is_running h s ≡ false) where
-    pub scopes_fit : length parts.scopes < 64 → first_broken (checks h seat (Event.StartScope s)) ≡ None
-    scopes_fit few = λ i. checked (stopped i) (lt-ltb (length (running_scopes h)) 64 (let is = running_length h parts.scopes t.scopes in omega (arith, is, few)) i)
-
     pub scopes_full : 64 ≤ length parts.scopes → first_broken (checks h seat (Event.StartScope s)) ≡ Some Rule.ScopesFull
     scopes_full many = λ i. checked (stopped i) (le-ltb (length (running_scopes h)) 64 (let is = running_length h parts.scopes t.scopes in omega (arith, is, many)) i)
 
-    pub start_next : is_full h ≡ false → length parts.scopes < 64 → IsNext h e
-    start_next space few = next_now h seat (Event.StartScope s) space (Accepted Reply.Done) [] (accepted_now h seat (Event.StartScope s) space Reply.Done (scopes_fit few) refl)
-        (no_change h started (λ u g p. sym (started_rows h t.sound.legal e (answered_now h seat (Event.StartScope s) space (Accepted Reply.Done) [] (accepted_now h seat (Event.StartScope s) space Reply.Done (scopes_fit few) refl)) refl s refl u g p)))
-
-    module _ (next : IsNext h e) where
-      its : IsAnswered h e
-      its = record { room = next.room; number = next.number; verdict = next.verdict }
-
+    module _ (its : IsAnswered h e) where
       still : (r : Running) → IsRunningOf (scope_words h) r → IsRunningOf (scope_words started) r
       still r q = record {
         own = q.own;
@@ -111,13 +83,8 @@ module _ (h : History) (seat : ℕ) (s : List ℕ) where
         told = q.told;
       }
 
-      all_still : (rs : List Running) → AllByRecursion (IsRunningOf (scope_words h)) rs → AllByRecursion (IsRunningOf (scope_words started)) rs
-      all_still [] a = tt
-      all_still (r ∷ rs) a = (still r a.0, all_still rs a.1)
-
       nobody : (b : Bool) → (b ≡ true → is_running h s ≡ true) → false ≡ b
-      nobody false f = refl
-      nobody true f = lie (sym (f refl) ∙ stopped)
+      nobody b f = grind (arith, stopped)
 
       new_one : (r : Running) → r.scope ≡ s → r.table.own ≡ h.opening.name → ((g : List ℕ) (p : Pid) → count_of r.table g p ≡ 0) → r.heard.items ≡ [] → r.told.items ≡ [] → IsRunningOf (scope_words started) r
       new_one r named own none unheard untold = record {
@@ -127,17 +94,24 @@ module _ (h : History) (seat : ℕ) (s : List ℕ) where
         told = λ l. ap (is_number l) untold ∙ nobody (told l s h.entries) (told_runs h t.sound.legal l s) ∙ ap (λ x. told l x h.entries) (sym named);
       }
 
-      pub start_follows : (r : Running) → r.scope ≡ s → r.table.own ≡ h.opening.name → ((g : List ℕ) (p : Pid) → count_of r.table g p ≡ 0) → r.heard.items ≡ [] → r.told.items ≡ []
-          → (links : List KeptLink) → AreTold (if_among (shown_numbers parts.links) (wide (Message.Discover s))) parts.links links
-          → Follows started (record parts { scopes = put_scope r parts.scopes; links = links })
-      start_follows r named own none unheard untold links tells = step_follows t next refl t.admission t.processes
-          (record {
-            running =
-                put_names r parts.scopes (ap (λ x. is_among x (names parts.scopes)) named ∙ ap (is_among s) t.scopes.running ∙ running_among h s ∙ stopped)
-                ∙ (λ i. placed text_cmp (named i) (t.scopes.running i)) ∙ sym (running_started h e refl s refl);
-            each = put_each (IsRunningOf (scope_words started)) r parts.scopes (new_one r named own none unheard untold) (all_still parts.scopes t.scopes.each);
-          })
-          (told_follow (link_words h) (link_words started) (if_among (shown_numbers parts.links) (wide (Message.Discover s))) (λ l. refl)
-          (told_numbers h e its refl refl (λ l. (started_links h e its refl s refl l).kept_is)) parts.links links
-          (λ l here. ap (λ b. waiting h l ++ cond b (wide (Message.Discover s) ∷ []) []) (sym (shown_number (link_words h) parts.links t.links l here)))
-          tells t.links)
+    pub start_now : is_full h ≡ false → length parts.scopes < 64 → (r : Running) → r.scope ≡ s → r.table.own ≡ h.opening.name → ((g : List ℕ) (p : Pid) → count_of r.table g p ≡ 0) → r.heard.items ≡ [] → r.told.items ≡ []
+        → (links : List KeptLink) → AreTold (if_among (shown_numbers parts.links) (wide (Message.Discover s))) parts.links links
+        → IsNext h e × Follows started (record parts { scopes = put_scope r parts.scopes; links = links })
+    start_now space few r named own none unheard untold links tells =
+        let fits = lt-ltb (length (running_scopes h)) 64 (let is = running_length h parts.scopes t.scopes in omega (arith, is, few)) in
+        let next = accepted_next h seat (Event.StartScope s) space Reply.Done [] (λ i. checked (stopped i) (fits i)) refl (λ its. no_change h started (λ u g p. sym (started_rows h t.sound.legal e its refl s refl u g p))) in
+        let its = answered_by next in
+        let others = all_map (IsRunningOf (scope_words h)) (IsRunningOf (scope_words started)) (still its) parts.scopes t.scopes.each in (
+          next,
+          step_follows t next refl t.admission t.processes
+              (record {
+                running =
+                    put_names r parts.scopes (ap (λ x. is_among x (names parts.scopes)) named ∙ ap (is_among s) t.scopes.running ∙ running_among h s ∙ stopped)
+                    ∙ (λ i. placed text_cmp (named i) (t.scopes.running i)) ∙ sym (running_started h e refl s refl);
+                each = put_each (IsRunningOf (scope_words started)) r parts.scopes (new_one its r named own none unheard untold) others;
+              })
+              (told_follow (link_words h) (link_words started) (if_among (shown_numbers parts.links) (wide (Message.Discover s))) (λ l. refl)
+              (told_numbers h e its refl refl (λ l. (started_links h e its refl s refl l).kept_is)) parts.links links
+              (λ l. ap (λ b. waiting h l ++ cond b (wide (Message.Discover s) ∷ []) []) (sym (shown_number h parts.links t.sound.legal t.links l)))
+              tells t.links),
+        )

@@ -1,12 +1,10 @@
 -- What a step answers, from what it enters.
-use Rattle.node_core.proofs.Words.{Bool, Err, List, Ok, Result, ap, cond, false, length, refl, subst, sym, true, ℕ, [], ◌+◌, ◌∙◌, ◌∷◌, ◌≡◌, IsLegal}
-use Rattle.node_core.proofs.Words.{IsNext, checks, first_broken, History, is_full, past, verdict, with_entry, Verdict, Accepted, Refused, Event, Reply}
-use Rattle.node_core.proofs.Words.{judged, after, entry_of, CoreFault, Rule, next_is, Opening, Change, Entry, Follows, parts}
+use Rattle.node_core.proofs.Words.{arith, Err, List, Ok, Result, ap, cond, false, length, refl, subst, sym, true, ℕ, [], ◌+◌, ◌∙◌, ◌∷◌, ◌≡◌, IsLegal, IsNext}
+use Rattle.node_core.proofs.Words.{checks, first_broken, History, is_full, past, verdict, with_entry, Verdict, Accepted, Refused, Event, Reply, judged, after}
+use Rattle.node_core.proofs.Words.{entry_of, CoreFault, Rule, next_is, Opening, Change, Entry, Follows, parts, Answered, Kept, Answers, Call}
 use Rattle.policy_audit.proofs.ScopeChanges.{next_is_after}
-use Rattle.node_core.specs.declared.entering.Answered.{Answered}
-use Rattle.node_core.specs.declared.kept.Kept.{Kept}
 use Rattle.node_core.specs.Core.{IsCore}
-use Rattle.node_core.specs.Step.{Answers, Call, IsStepped, entered, made, reply_of}
+use Rattle.node_core.specs.Step.{IsStepped, entered, made, reply_of}
 
 module _ (call : Call) (space : is_full call.past ≡ false) (e : Event) where
   abbrev h : History
@@ -51,52 +49,36 @@ full_step old seat e full = (
   sym (ap (λ b. cond b old (with_entry old (entry_of old seat e))) full),
 )
 
+opening_is : (call : Call) (e : Event) (kept : Kept) (answered : Result Answered CoreFault) → Answers call e kept answered → kept.opening ≡ call.past.opening
+unfolding Answers
+opening_is call e kept (Ok a) t = t.1.1.opening
+opening_is call e kept (Err (CoreFault.Refused r)) t = t.1.opening
+opening_is call e kept (Err CoreFault.OutOfMemory) t = t.opening
+
 -- the same of what a step has in hand
 module _ (call : Call) (e : Event) (kept : Kept) (answered : Result Answered CoreFault) (t : Answers call e kept answered) (space : is_full call.past ≡ false)
     {entries : List Entry} (pushed : entries ≡ entered call.past.entries call.seat e answered) where
   pub step_so : {now : History} → call.past ≡ now → {ev : Event} → e ≡ ev → {result : Result Reply CoreFault} → result ≡ reply_of answered → IsStepped now call.seat ev (past kept.opening entries) result
   step_so {now} before {ev} event {result} is = rw (is, pushed, ← event, ← before) (answered_step call space e kept answered t)
 
-  opening_is : kept.opening ≡ call.past.opening
-  unfolding Answers
-  opening_is = by answered t
-    where
-      by : (a : Result Answered CoreFault) → Answers call e kept a → kept.opening ≡ call.past.opening
-      by (Ok a) t = t.1.1.opening
-      by (Err (CoreFault.Refused r)) t = t.1.opening
-      by (Err CoreFault.OutOfMemory) t = t.opening
-
   pub core_so : {limit : ℕ} → limit ≡ call.past.opening.entries → IsCore (past kept.opening entries) limit kept
   core_so within = record {
-    within = within ∙ ap (λ o. o.entries) (sym opening_is);
+    within = within ∙ ap (λ o. o.entries) (sym (opening_is call e kept answered t));
     follows = rw pushed (answered_follows call space e kept answered t);
   }
 
 -- ---- what a step leaves of a history
 
-module _ (h : History) (seat : ℕ) (e : Event) where
-  after_legal : IsLegal h → IsLegal (after h seat e)
-  after_legal legal = by (is_full h) refl
-    where
-      by : (b : Bool) → is_full h ≡ b → IsLegal (cond b h (with_entry h (entry_of h seat e)))
-      by true q = legal
-      by false q = (next_is h seat e q, legal)
+module _ (old new : History) (seat : ℕ) (e : Event) where
+  -- what holds before and after the event holds of what a step leaves
+  leaves : (P : History → Type 0) → P old → P (after old seat e) → (result : Result Reply CoreFault) → IsStepped old seat e new result → P new
+  unfolding IsStepped
+  leaves P was now (Ok reply) t = subst P (sym t.1) now
+  leaves P was now (Err (CoreFault.Refused rule)) t = subst P (sym t.1) now
+  leaves P was now (Err CoreFault.OutOfMemory) t = subst P (sym t.1) was
 
-  after_opening : (after h seat e).opening ≡ h.opening
-  after_opening = by (is_full h)
-    where
-      by : (b : Bool) → (cond b h (with_entry h (entry_of h seat e))).opening ≡ h.opening
-      by true = refl
-      by false = refl
+  pub stepped_legal : (result : Result Reply CoreFault) → IsLegal old → IsStepped old seat e new result → IsLegal new
+  stepped_legal result legal t = leaves IsLegal legal (elim (is_full old) as (λ b. is_full old ≡ b → IsLegal (cond b old (with_entry old (entry_of old seat e)))) [ true ↦ λ q. legal | false ↦ λ q. (next_is old seat e q, legal) ] refl) result t
 
-pub stepped_legal : (old new : History) (seat : ℕ) (e : Event) (result : Result Reply CoreFault) → IsLegal old → IsStepped old seat e new result → IsLegal new
-unfolding IsStepped
-stepped_legal old new seat e (Ok reply) legal t = subst IsLegal (sym t.1) (after_legal old seat e legal)
-stepped_legal old new seat e (Err (CoreFault.Refused rule)) legal t = subst IsLegal (sym t.1) (after_legal old seat e legal)
-stepped_legal old new seat e (Err CoreFault.OutOfMemory) legal t = subst IsLegal (sym t.1) legal
-
-pub stepped_opening : (old new : History) (seat : ℕ) (e : Event) (result : Result Reply CoreFault) → IsStepped old seat e new result → new.opening ≡ old.opening
-unfolding IsStepped
-stepped_opening old new seat e (Ok reply) t = ap (λ h. h.opening) t.1 ∙ after_opening old seat e
-stepped_opening old new seat e (Err (CoreFault.Refused rule)) t = ap (λ h. h.opening) t.1 ∙ after_opening old seat e
-stepped_opening old new seat e (Err CoreFault.OutOfMemory) t = ap (λ h. h.opening) t.1
+  pub stepped_opening : (result : Result Reply CoreFault) → IsStepped old seat e new result → new.opening ≡ old.opening
+  stepped_opening result t = leaves (λ h. h.opening ≡ old.opening) refl (grind arith) result t

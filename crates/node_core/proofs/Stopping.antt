@@ -1,13 +1,12 @@
 -- A scope that stops.
-use Rattle.node_core.proofs.Words.{List, None, Some, ap, cond, false, not, refl, subst, sym, true, ℕ, [], ◌&&◌, ◌++◌, ◌∙◌, ◌∷◌, ◌≡◌, AllByRecursion}
-use Rattle.node_core.proofs.Words.{filter, and-true, same_decides, same_sym, IsDifference, same, GroupChange, no_count, told_numbers, if_some, checks}
-use Rattle.node_core.proofs.Words.{first_broken, heard, told, History, listed, waiting, wide, is_running, IsAnswered, IsNext, is_full, with_entry}
-use Rattle.node_core.proofs.Words.{Entry, Accepted, Follows, Parts, link_words, KeptLink, IsRunningOf, scope_words, AreTold, if_among, shown_numbers}
-use Rattle.node_core.proofs.Words.{follows_dropped, stopped_links, running_stopped, Running, Message, Event, Reply, Rule, arith}
+use Rattle.node_core.proofs.Words.{List, ap, cond, false, not, refl, subst, sym, true, ℕ, [], ◌++◌, ◌∙◌, ◌∷◌, ◌≡◌, AllByRecursion, filter, same_decides}
+use Rattle.node_core.proofs.Words.{same_sym, IsDifference, same, GroupChange, no_count, told_numbers, if_some, History, listed, waiting, wide, is_running}
+use Rattle.node_core.proofs.Words.{IsAnswered, IsNext, is_full, with_entry, Entry, Accepted, Follows, Parts, link_words, KeptLink, IsRunningOf, scope_words}
+use Rattle.node_core.proofs.Words.{AreTold, if_among, shown_numbers, follows_dropped, stopped_links, running_stopped, Running, Message, Event, Reply, arith}
 use Rattle.group_monitors.specs.Monitors.{without_scope}
 use Rattle.policy_audit.proofs.HeardNow.{stopped_heard}
 use Rattle.policy_audit.proofs.RowsAfter.{stopped_rows}
-use Rattle.node_core.proofs.Entered.{made, accepted_now, answered_now, next_now, sound_now}
+use Rattle.node_core.proofs.Entered.{made, accepted_next, answered_by, sound_now}
 use Rattle.node_core.proofs.OneScope.{scope_change}
 use Rattle.node_core.proofs.Starting.{names}
 use Rattle.node_core.proofs.Told.{told_follow, shown_number}
@@ -30,28 +29,18 @@ module _ (h : History) (seat : ℕ) (s : List ℕ) (gs : List GroupChange) where
   stopped = with_entry h e
 
   module _ (parts : Parts) (t : Follows h parts) (runs : is_running h s ≡ true) (groups : IsDifference (listed h s) no_count gs) where
-    holds : first_broken (checks h seat (Event.StopScope s)) ≡ None
-    holds = ap (λ b. cond (not b) (Some Rule.NoScope) None) runs
+    stop_next : is_full h ≡ false → IsNext h e
+    stop_next space = accepted_next h seat (Event.StopScope s) space Reply.Done (if_some s gs) (rw runs) refl (λ its. scope_change h stopped s gs
+        (subst (λ f. IsDifference (listed h s) f gs) (λ i g p. sym (stopped_rows h t.sound.legal e its refl s refl s g p ∙ ap (λ b. cond b 0 (listed h s g p)) ((same_decides s s).1 refl)) i) groups)
+        (λ u g p other. sym (stopped_rows h t.sound.legal e its refl s refl u g p ∙ ap (λ b. cond b 0 (listed h u g p)) other)))
 
-    pub stop_next : is_full h ≡ false → IsNext h e
-    stop_next space =
-        let verdict = accepted_now h seat (Event.StopScope s) space Reply.Done holds refl in
-        let made_so = answered_now h seat (Event.StopScope s) space (Accepted Reply.Done) (if_some s gs) verdict in
-        next_now h seat (Event.StopScope s) space (Accepted Reply.Done) (if_some s gs) verdict
-        (scope_change h stopped s gs
-        (subst (λ f. IsDifference (listed h s) f gs) (λ i g p. sym (stopped_rows h t.sound.legal e made_so refl s refl s g p ∙ ap (λ b. cond b 0 (listed h s g p)) ((same_decides s s).1 refl)) i) groups)
-        (λ u g p other. sym (stopped_rows h t.sound.legal e made_so refl s refl u g p ∙ ap (λ b. cond b 0 (listed h u g p)) other)))
-
-    module _ (next : IsNext h e) where
-      its : IsAnswered h e
-      its = record { room = next.room; number = next.number; verdict = next.verdict }
-
+    module _ (its : IsAnswered h e) where
       still : (r : Running) → same r.scope s ≡ false → IsRunningOf (scope_words h) r → IsRunningOf (scope_words stopped) r
       still r other q = record {
         own = q.own;
         rows = λ g p. q.rows g p ∙ sym (stopped_rows h t.sound.legal e its refl s refl r.scope g p ∙ ap (λ b. cond b 0 (listed h r.scope g p)) other);
-        heard = λ l. q.heard l ∙ sym ((stopped_heard h e refl s refl l r.scope).heard_is ∙ ap (λ b. heard l r.scope h.entries && not b) (same_sym s r.scope ∙ other) ∙ and-true (heard l r.scope h.entries));
-        told = λ l. q.told l ∙ sym ((stopped_heard h e refl s refl l r.scope).told_is ∙ ap (λ b. told l r.scope h.entries && not b) (same_sym s r.scope ∙ other) ∙ and-true (told l r.scope h.entries));
+        heard = λ l. q.heard l ∙ sym ((stopped_heard h e refl s refl l r.scope).heard_is ∙ grind (arith, same_sym s r.scope, other));
+        told = λ l. q.told l ∙ sym ((stopped_heard h e refl s refl l r.scope).told_is ∙ grind (arith, same_sym s r.scope, other));
       }
 
       all_still : (rs : List Running) → AllByRecursion (IsRunningOf (scope_words h)) rs → AllByRecursion (IsRunningOf (scope_words stopped)) (all_but s rs)
@@ -59,19 +48,24 @@ module _ (h : History) (seat : ℕ) (s : List ℕ) (gs : List GroupChange) where
       all_still (r ∷ rs) a = elim (same r.scope s) as (λ b. same r.scope s ≡ b → AllByRecursion (IsRunningOf (scope_words stopped)) (cond (not b) (r ∷ all_but s rs) (all_but s rs)))
           [ true ↦ λ q. all_still rs a.1 | false ↦ λ q. (still r q a.0, all_still rs a.1) ] refl
 
-      pub stop_follows : (links : List KeptLink) → AreTold (if_among (shown_numbers parts.links) (wide (Message.Down s))) parts.links links
-          → Follows stopped (record parts { scopes = all_but s parts.scopes; links = links; monitors = without_scope s parts.monitors })
-      stop_follows links tells = record {
-        sound = sound_now h e t.sound next;
-        admission = t.admission;
-        processes = t.processes;
-        scopes = record {
-          running = names_left s parts.scopes ∙ ap (filter (λ u. not (same u s))) t.scopes.running ∙ sym (running_stopped h e refl s refl);
-          each = all_still parts.scopes t.scopes.each;
-        };
-        links = told_follow (link_words h) (link_words stopped) (if_among (shown_numbers parts.links) (wide (Message.Down s))) (λ l. refl)
-            (told_numbers h e its refl refl (λ l. (stopped_links h e its refl s refl l).kept_is)) parts.links links
-            (λ l here. ap (λ b. waiting h l ++ cond b (wide (Message.Down s) ∷ []) []) (sym (shown_number (link_words h) parts.links t.links l here)))
-            tells t.links;
-        monitors = follows_dropped h e parts.monitors next.number t.monitors refl s refl;
-      }
+    pub stop_now : is_full h ≡ false → (links : List KeptLink) → AreTold (if_among (shown_numbers parts.links) (wide (Message.Down s))) parts.links links
+        → IsNext h e × Follows stopped (record parts { scopes = all_but s parts.scopes; links = links; monitors = without_scope s parts.monitors })
+    stop_now space links tells =
+        let next = stop_next space in
+        let its = answered_by next in (
+          next,
+          record {
+            sound = sound_now h e t.sound next;
+            admission = t.admission;
+            processes = t.processes;
+            scopes = record {
+              running = names_left s parts.scopes ∙ ap (filter (λ u. not (same u s))) t.scopes.running ∙ sym (running_stopped h e refl s refl);
+              each = all_still its parts.scopes t.scopes.each;
+            };
+            links = told_follow (link_words h) (link_words stopped) (if_among (shown_numbers parts.links) (wide (Message.Down s))) (λ l. refl)
+                (told_numbers h e its refl refl (λ l. (stopped_links h e its refl s refl l).kept_is)) parts.links links
+                (λ l. ap (λ b. waiting h l ++ cond b (wide (Message.Down s) ∷ []) []) (sym (shown_number h parts.links t.sound.legal t.links l)))
+                tells t.links;
+            monitors = follows_dropped h e parts.monitors next.number t.monitors refl s refl;
+          },
+        )

@@ -1,13 +1,13 @@
 -- The frames that wait for a link are handed over.
-use Rattle.node_core.proofs.Words.{Bool, List, None, Some, ap, cond, false, get_or, length, nat_eq, not, position, refl, set, subst, sym, true, ℕ, []}
-use Rattle.node_core.proofs.Words.{◌&&◌, ◌<◌, ◌==◌, ◌∙◌, ◌≡◌, filter, eq-eqb, eqb-true, kept_climbs, flip, History, is_open, OutFrame, waiting}
-use Rattle.node_core.proofs.Words.{IsNext, is_full, with_entry, Entry, Accepted, Follows, Parts, IsLinkOf, IsState, LinksFollow, facts, link_words}
-use Rattle.node_core.proofs.Words.{KeptLink, LinkState, is_ended, without_ended, Event, Reply, Rule, arith}
+use Rattle.node_core.proofs.Words.{Bool, List, Some, ap, cond, false, get_or, length, nat_eq, not, position, refl, set, subst, sym, true, ℕ, [], ◌&&◌, ◌<◌}
+use Rattle.node_core.proofs.Words.{◌==◌, ◌∙◌, ◌≡◌, filter, eq-eqb, eqb-true, kept_climbs, flip, History, is_open, OutFrame, waiting, IsNext, is_full}
+use Rattle.node_core.proofs.Words.{with_entry, Entry, Accepted, Follows, Parts, IsLinkOf, IsState, LinksFollow, facts, link_words, KeptLink, LinkState}
+use Rattle.node_core.proofs.Words.{is_ended, without_ended, Event, Reply, arith, LinkWords}
 use Rattle.policy_audit.proofs.LinkFrames.{taken_links}
 use Rattle.policy_audit.proofs.LinksLeft.{taken_numbers}
 use Rattle.node_core.proofs.Entered.{step_follows, made}
 use Rattle.node_core.proofs.Calm.{quiet_next}
-use Rattle.node_core.proofs.KeptOn.{one_follows, stay_follow, filter_set, filter_all, is_kept_at, link_at}
+use Rattle.node_core.proofs.KeptOn.{one_follows, same_link, stay_follow, filter_set, filter_all, is_kept_at, link_at}
 
 -- a link is open unless its state is the end
 pub open_by : (h : History) (l : ℕ) (s : LinkState) → IsState (facts h l) s → is_open l h.entries ≡ not (is_ended s)
@@ -28,52 +28,40 @@ module _ (h : History) (seat j : ℕ) (frames : List OutFrame) (parts : Parts) (
   it : IsLinkOf (link_words h) link × (link.number ≡ j) × (p < length parts.links)
   it = link_at h t.sound.legal parts.links t.links j p d found
 
-  -- what waits for it
-  pub taken_frames : link.frames ≡ waiting h j
-  taken_frames = it.0.frames ∙ ap (waiting h) it.1
-
-  pub taken_next : is_full h ≡ false → frames ≡ link.frames → IsNext h take
-  taken_next space is = quiet_next h seat (Reply.Out frames) (Event.Take j) space (ap (λ b. cond (not b) (Some Rule.NoSuchLink) None) (is_kept_at h t.sound.legal parts.links t.links j p found)) (ap Reply.Out (sym (is ∙ taken_frames))) refl
-
   opens : (ended : Bool) → is_ended link.state ≡ ended → is_open j h.entries ≡ not ended
   opens ended is = sym (ap (λ l. is_open l h.entries) it.1) ∙ open_by h link.number link.state it.0.state ∙ ap not is
 
+  abbrev words : LinkWords
+  words = link_words (with_entry h take)
+
   -- of each other link the same frames wait
-  other_link : (x : KeptLink) → (j == x.number) ≡ false → IsLinkOf (link_words h) x → IsLinkOf (link_words (with_entry h take)) x
-  other_link x other y = record { state = y.state; frames = y.frames ∙ sym ((taken_links h take refl j refl x.number).waiting_is ∙ ap (λ b. cond b [] (waiting h x.number)) other); idle = y.idle }
+  other_link : (x : KeptLink) → (j == x.number) ≡ false → IsLinkOf (link_words h) x → IsLinkOf words x
+  other_link x other y = same_link x refl ((taken_links h take refl j refl x.number).waiting_is ∙ grind (arith, other)) y
 
   its_frames : (l : ℕ) → l ≡ j → waiting (with_entry h take) l ≡ []
   its_frames l is = (taken_links h take refl j refl l).waiting_is ∙ ap (λ b. cond b [] (waiting h l)) (eq-eqb j l (sym is))
 
-  module _ (next : IsNext h take) where
-    -- all but the links
-    taken_parts : (kept : List KeptLink) → LinksFollow (link_words (with_entry h take)) kept → Follows (with_entry h take) (record parts { links = kept })
-    taken_parts kept follows = step_follows t next refl t.admission t.processes t.scopes follows
+  -- an open link is kept
+  open_taken : (room : ℕ) → is_ended link.state ≡ false → LinksFollow words (set parts.links p (emptied link room))
+  open_taken room opened = one_follows (link_words h) words (emptied link room) (record { state = it.0.state; frames = sym (its_frames link.number it.1); idle = refl })
+      (λ x other y. other_link x (flip j x.number ∙ ap (λ l. nat_eq x.number l) (sym it.1) ∙ other) y) parts.links p d t.links (kept_climbs h t.sound.legal)
+      (taken_numbers h take refl j refl ∙ filter_all (λ l. not (j == l && not (is_open l h.entries))) (λ l. grind (arith, eqb-true j l, opens false opened)) (link_words h).numbers) it.2 refl
 
-    -- an open link is kept
-    pub open_taken : (room : ℕ) → is_ended link.state ≡ false → Follows (with_entry h take) (record parts { links = set parts.links p (emptied link room) })
-    open_taken room opened = taken_parts (set parts.links p (emptied link room))
-        (one_follows (link_words h) (link_words (with_entry h take)) (emptied link room) (record { state = it.0.state; frames = sym (its_frames link.number it.1); idle = refl })
-        (λ x other y. other_link x (flip j x.number ∙ ap (λ l. nat_eq x.number l) (sym it.1) ∙ other) y) parts.links p d t.links (kept_climbs h t.sound.legal)
-        (taken_numbers h take refl j refl ∙ filter_all (λ l. not (j == l && not (is_open l h.entries))) (λ l. grind (arith, eqb-true j l, opens false opened)) (link_words h).numbers) it.2 refl)
+  -- an ended one is gone
+  ended_taken : (room : ℕ) → is_ended link.state ≡ true → LinksFollow words (filter (λ x. not (nat_eq x.number j)) (set parts.links p (emptied link room)))
+  ended_taken room ended =
+      let goes : (l : ℕ) → (j == l && not (is_open l h.entries)) ≡ nat_eq l j = λ l. grind (arith, eqb-true j l, flip j l, opens true ended) in
+      rw (filter_set (λ x. not (nat_eq x.number j)) parts.links p d (emptied link room) it.2 (ap not (eq-eqb link.number j it.1)) (ap not (eq-eqb link.number j it.1)))
+      (stay_follow (link_words h) words (λ l. not (nat_eq l j)) parts.links t.links (taken_numbers h take refl j refl ∙ (λ i. filter (λ l. not (goes l i)) (link_words h).numbers))
+      (λ x stays y. other_link x (grind (arith, flip j x.number)) y))
 
-    -- an ended one is gone
-    pub ended_taken : (room : ℕ) → is_ended link.state ≡ true → Follows (with_entry h take) (record parts { links = filter (λ x. not (nat_eq x.number j)) (set parts.links p (emptied link room)) })
-    ended_taken room ended = taken_parts (filter (λ x. not (nat_eq x.number j)) (set parts.links p (emptied link room)))
-        (subst (LinksFollow (link_words (with_entry h take))) (sym (filter_set (λ x. not (nat_eq x.number j)) parts.links p d (emptied link room) it.2 (ap not (eq-eqb link.number j it.1)) (ap not (eq-eqb link.number j it.1))))
-        (stay_follow (link_words h) (link_words (with_entry h take)) (λ l. not (nat_eq l j)) parts.links t.links
-        (taken_numbers h take refl j refl ∙ (λ i. filter (λ l. not (goes l i)) (link_words h).numbers))
-        (λ x stays y. other_link x (grind (arith, flip j x.number)) y)))
-      where
-        goes : (l : ℕ) → (j == l && not (is_open l h.entries)) ≡ nat_eq l j
-        goes l = grind (arith, eqb-true j l, flip j l, opens true ended)
+  one_taken : (room : ℕ) (b : Bool) → is_ended link.state ≡ b → LinksFollow words (without_ended (emptied link room) (set parts.links p (emptied link room)))
+  one_taken room false e = rw e (open_taken room e)
+  one_taken room true e = rw e (subst (λ l. LinksFollow words (filter (λ x. not (nat_eq x.number l)) (set parts.links p (emptied link room)))) (sym it.1) (ended_taken room e))
 
-    -- the link is changed, and gone if it has ended
-    pub taken_follows : (new at : KeptLink) (room : ℕ) → new ≡ emptied link room → at ≡ new → Follows (with_entry h take) (record parts { links = without_ended at (set parts.links p new) })
-    taken_follows new at room is same = subst (λ x. Follows (with_entry h take) (record parts { links = without_ended x (set parts.links p new) })) (sym same)
-        (subst (λ x. Follows (with_entry h take) (record parts { links = without_ended x (set parts.links p x) })) (sym is) (by (is_ended link.state) refl))
-      where
-        by : (b : Bool) → is_ended link.state ≡ b → Follows (with_entry h take) (record parts { links = without_ended (emptied link room) (set parts.links p (emptied link room)) })
-        by false e = subst (λ xs. Follows (with_entry h take) (record parts { links = xs })) (sym (ap (λ b. cond b (filter (λ x. not (nat_eq x.number link.number)) (set parts.links p (emptied link room))) (set parts.links p (emptied link room))) e)) (open_taken room e)
-        by true e = subst (λ xs. Follows (with_entry h take) (record parts { links = xs })) (sym (ap (λ b. cond b (filter (λ x. not (nat_eq x.number link.number)) (set parts.links p (emptied link room))) (set parts.links p (emptied link room))) e
-            ∙ ap (λ l. filter (λ x. not (nat_eq x.number l)) (set parts.links p (emptied link room))) it.1)) (ended_taken room e)
+  -- the link is changed, and gone if it has ended
+  pub taken_now : is_full h ≡ false → frames ≡ link.frames → (new at : KeptLink) (room : ℕ) → new ≡ emptied link room → at ≡ new
+      → IsNext h take × Follows (with_entry h take) (record parts { links = without_ended at (set parts.links p new) })
+  taken_now space handed new at room is same =
+      let next = quiet_next h seat (Reply.Out frames) (Event.Take j) space (rw (is_kept_at h t.sound.legal parts.links t.links j p found)) (ap Reply.Out (sym (handed ∙ it.0.frames ∙ ap (waiting h) it.1))) refl in
+      (next, step_follows t next refl t.admission t.processes t.scopes (rw (same, is) (one_taken room (is_ended link.state) refl)))

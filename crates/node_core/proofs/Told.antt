@@ -1,139 +1,49 @@
--- Links for which further frames wait.
-use Rattle.node_core.proofs.Words.{Bool, Err, List, Ok, OnErr, ap, cond, false, map, nat_eq, not, refl, subst, sym, true}
-use Rattle.node_core.proofs.Words.{ℕ, [], ◌&&◌, ◌++◌, ◌||◌, ◌∙◌, ◌∷◌, ◌≡◌, AllByRecursion, AllZip, option_map_or, eq-eqb, eqb-true, has_bit}
-use Rattle.node_core.proofs.Words.{and_false, History, OutFrame, Follows, Parts, IsLinkOf, IsState, LinkFacts, LinkWords, LinksFollow, link_words}
-use Rattle.node_core.proofs.Words.{KeptLink, committed, prepared_for, unroomed, with_frames, with_prepared, is_number, Alike, AreIdle, AreTold}
-use Rattle.node_core.proofs.Words.{if_among, shown_numbers, LinkState, is_shown, arith}
-use Rattle.std.proofs.Common.{Result}
-use Rattle.node_core.proofs.Zipped.{zipped_map}
+-- Links for which further frames wait, or are prepared.
+use Rattle.node_core.proofs.Words.{Bool, List, ap, arith, false, map, nat_eq, not, refl, subst, suc, sym, true, zero, ℕ, [], ◌&&◌, ◌++◌, ◌∙◌, ◌∷◌, ◌≡◌}
+use Rattle.node_core.proofs.Words.{AllByRecursion, list_any, option_map_or, eqb-true, has_bit, and_false, append-nil, append_assoc, flip, kept_among, History}
+use Rattle.node_core.proofs.Words.{OutFrame, Follows, IsLegal, Parts, IsLinkOf, IsState, LinkFacts, LinkWords, LinksFollow, facts, link_words, KeptLink}
+use Rattle.node_core.proofs.Words.{committed, prepared_for, unroomed, with_frames, with_prepared, with_room, is_number, Alike, AreIdle, AreTold, if_among}
+use Rattle.node_core.proofs.Words.{shown_numbers, LinkState, is_shown, bare, ArePrepared}
+use Rattle.scope_core.proofs.Rising.{all_map, all_mapped, all_unmapped}
+use Rattle.node_core.proofs.Zipped.{SoFar}
 
--- ---- over plain values
+-- ---- lists of values
 
--- what holds anyway holds at an error
-pub at_errors : {T E P : Type 0} (r : Result T E) → P → OnErr r P
-at_errors (Ok x) p = tt
-at_errors (Err e) p = p
+pub map_map : {A B C : Type 0} (f : B → C) (g : A → B) (xs : List A) → map f (map g xs) ≡ map (λ x. f (g x)) xs
+map_map f g [] = refl
+map_map f g (x ∷ xs) = ap (λ ys. f (g x) ∷ ys) (map_map f g xs)
 
--- elements that give the same, place by place
-pub zip_map : {A B C : Type 0} (f : A → C) (g : B → C) (xs : List B) (ys : List A) → map f ys ≡ map g xs → AllZip (λ x y. f y ≡ g x) xs ys
-zip_map f g [] [] q = tt
-zip_map f g [] (y ∷ ys) q = absurd (cc)
-zip_map f g (x ∷ xs) [] q = absurd (cc)
-zip_map f g (x ∷ xs) (y ∷ ys) q = ((cc), zip_map f g xs ys (cc))
+pub map_same : {A B : Type 0} (f g : A → B) (xs : List A) → AllByRecursion (λ x. f x ≡ g x) xs → map f xs ≡ map g xs
+map_same f g [] a = refl
+map_same f g (x ∷ xs) a = λ i. a.0 i ∷ map_same f g xs a.1 i
+
+-- what lists give is the same, also by a further step
+through : {A B C D : Type 0} (step : C → D) (f : B → C) (g : A → C) (xs : List A) (ys : List B) → map f ys ≡ map g xs → map (λ y. step (f y)) ys ≡ map (λ x. step (g x)) xs
+through step f g xs ys q = sym (map_map step f ys) ∙ ap (map step) q ∙ map_map step g xs
 
 -- ---- links that follow
 
--- a link is what the words say whatever its room
-roomless : (w : LinkWords) (x y : KeptLink) → unroomed y ≡ unroomed x → IsLinkOf w x → IsLinkOf w y
-roomless w x y q t =
-    let moved = subst (IsLinkOf w) (sym q) (record { state = t.state; frames = t.frames; idle = t.idle }) in
-    record { state = moved.state; frames = moved.frames; idle = moved.idle }
-
-all_roomless : (w : LinkWords) (xs ys : List KeptLink) → AllZip (λ x y. unroomed y ≡ unroomed x) xs ys → AllByRecursion (IsLinkOf w) xs → AllByRecursion (IsLinkOf w) ys
-all_roomless w [] [] a t = tt
-all_roomless w [] (y ∷ ys) a t = absurd a
-all_roomless w (x ∷ xs) [] a t = absurd a
-all_roomless w (x ∷ xs) (y ∷ ys) a t = (roomless w x y a.0 t.0, all_roomless w xs ys a.1 t.1)
-
-same_numbers : (xs ys : List KeptLink) → AllZip (λ x y. y.number ≡ x.number) xs ys → map (λ x. x.number) ys ≡ map (λ x. x.number) xs
-same_numbers xs ys a = zipped_map (λ x. x.number) (λ x. x.number) xs ys a
-
-numbers_of : (g : KeptLink → KeptLink) → ((x : KeptLink) → (g x).number ≡ x.number) → (xs ys : List KeptLink) → AllZip (λ x y. unroomed y ≡ g x) xs ys → AllZip (λ x y. y.number ≡ x.number) xs ys
-numbers_of g keeps [] [] a = tt
-numbers_of g keeps [] (y ∷ ys) a = absurd a
-numbers_of g keeps (x ∷ xs) [] a = absurd a
-numbers_of g keeps (x ∷ xs) (y ∷ ys) a = (ap (λ z. z.number) a.0 ∙ keeps x, numbers_of g keeps xs ys a.1)
-
--- links that are the same but for their room
-pub alike_follow : (w : LinkWords) (old new : List KeptLink) → Alike old new → LinksFollow w old → LinksFollow w new
-alike_follow w old new q t =
-    let a = zip_map unroomed unroomed old new q in
-    record { numbers = same_numbers old new (numbers_of unroomed (λ x. refl) old new a) ∙ t.numbers; each = all_roomless w old new a t.each }
-
--- nothing is prepared for links that follow
-pub follow_idle : (w : LinkWords) (xs : List KeptLink) → AllByRecursion (IsLinkOf w) xs → AreIdle xs
-follow_idle w [] t = tt
-follow_idle w (x ∷ xs) t = (t.0.idle, follow_idle w xs t.1)
-
-or_true : (b : Bool) → (b || true) ≡ true
-or_true true = refl
-or_true false = refl
+module _ (w v : LinkWords) (g : KeptLink → KeptLink) (on : (x : KeptLink) → IsLinkOf w x → IsLinkOf v (g x)) where
+  -- links that have changed by g, whatever their room
+  changed_follow : v.numbers ≡ w.numbers → (old new : List KeptLink) → map (λ x. (g x).number) old ≡ map (λ x. x.number) old → map unroomed new ≡ map (λ x. unroomed (g x)) old → LinksFollow w old → LinksFollow v new
+  changed_follow numbers old new same q t = record {
+    numbers = through (λ z. z.number) unroomed (λ x. unroomed (g x)) old new q ∙ same ∙ t.numbers ∙ sym numbers;
+    each =
+        let roomless = all_map (IsLinkOf w) (λ x. IsLinkOf v (unroomed (g x))) (λ x it. let new = on x it in record { state = new.state; frames = new.frames; idle = new.idle }) old t.each in
+        let moved = subst (AllByRecursion (IsLinkOf v)) (sym q) (all_mapped (IsLinkOf v) (λ x. unroomed (g x)) old roomless) in
+        all_map (λ x. IsLinkOf v (unroomed x)) (IsLinkOf v) (λ x it. record { state = it.state; frames = it.frames; idle = it.idle }) new (all_unmapped (IsLinkOf v) unroomed new moved);
+  }
 
 -- links for which further frames wait, as the words say of each of them
-module _ (w v : LinkWords) (more : ℕ → List OutFrame) (facts : (l : ℕ) → v.facts l ≡ w.facts l) where
-  one_told : (x y : KeptLink) → v.waiting x.number ≡ w.waiting x.number ++ more x.number → unroomed y ≡ unroomed (with_frames x (more x.number)) → IsLinkOf w x → IsLinkOf v y
-  one_told x y waits q t =
-      let moved = subst (IsLinkOf v) (sym q) (record {
-        state = subst (λ f. IsState f x.state) (sym (facts x.number)) t.state;
-        frames = ap (λ f. f ++ more x.number) t.frames ∙ sym waits;
-        idle = t.idle;
-      }) in
-      record { state = moved.state; frames = moved.frames; idle = moved.idle }
-
-  all_told : (xs ys : List KeptLink) → ((l : ℕ) → is_number l (map (λ x. x.number) xs) ≡ true → v.waiting l ≡ w.waiting l ++ more l)
-      → AllZip (λ x y. unroomed y ≡ unroomed (with_frames x (more x.number))) xs ys → AllByRecursion (IsLinkOf w) xs → AllByRecursion (IsLinkOf v) ys
-  all_told [] [] waits a t = tt
-  all_told [] (y ∷ ys) waits a t = absurd a
-  all_told (x ∷ xs) [] waits a t = absurd a
-  all_told (x ∷ xs) (y ∷ ys) waits a t = (
-    one_told x y (waits x.number (ap (λ b. b || is_number x.number (map (λ z. z.number) xs)) (eq-eqb x.number x.number refl))) a.0 t.0,
-    all_told xs ys (λ l q. waits l (ap (λ b. nat_eq l x.number || b) q ∙ or_true (nat_eq l x.number))) a.1 t.1,
-  )
-
-  pub told_follow : v.numbers ≡ w.numbers → (old new : List KeptLink) → ((l : ℕ) → is_number l (map (λ x. x.number) old) ≡ true → v.waiting l ≡ w.waiting l ++ more l)
-      → AreTold more old new → LinksFollow w old → LinksFollow v new
-  told_follow numbers old new waits q t =
-      let a = zip_map unroomed (λ x. unroomed (with_frames x (more x.number))) old new q in
-      record { numbers = same_numbers old new (numbers_of (λ x. unroomed (with_frames x (more x.number))) (λ x. refl) old new a) ∙ t.numbers ∙ sym numbers; each = all_told old new waits a t.each }
-
--- ---- the links that are up and visible
-
--- whether the words say that a link is up and visible
-abbrev pub shown_by : LinkFacts → Bool
-shown_by f = (f.open_now && f.whole) && (not f.hidden && option_map_or (λ n. has_bit 0 n.flags) f.said false)
-
-unshown : (f : LinkFacts) → f.whole ≡ false → false ≡ shown_by f
-unshown f q = sym (
-    ap (λ b. (f.open_now && b) && (not f.hidden && option_map_or (λ n. has_bit 0 n.flags) f.said false)) q
-    ∙ ap (λ b. b && (not f.hidden && option_map_or (λ n. has_bit 0 n.flags) f.said false)) (and_false f.open_now))
-
-pub shown_is : (f : LinkFacts) (s : LinkState) → IsState f s → is_shown s ≡ shown_by f
-shown_is f (LinkState.Up s) t =
-    let given = t.1.said.1 in
-    given.visible_is ∙ sym (λ i. (t.0.open_now i && t.0.whole i) && (not f.hidden && option_map_or (λ n. has_bit 0 n.flags) (given.said i) false))
-shown_is f LinkState.Ended t = sym (ap (λ b. (b && f.whole) && (not f.hidden && option_map_or (λ n. has_bit 0 n.flags) f.said false)) t)
-shown_is f s t = unshown f t.0.whole
-
--- the number of a kept link is one of those shown where the words say so
-shown_among : (w : LinkWords) (xs : List KeptLink) → AllByRecursion (IsLinkOf w) xs → (l : ℕ) → is_number l (shown_numbers xs) ≡ (is_number l (map (λ x. x.number) xs) && shown_by (w.facts l))
-shown_among w [] t l = refl
-shown_among w (x ∷ xs) t l = grind (arith, shown_among w xs t.1 l, shown_is (w.facts x.number) x.state t.0.state, eqb-true l x.number, and_false)
-
-pub shown_number : (w : LinkWords) (xs : List KeptLink) → LinksFollow w xs → (l : ℕ) → is_number l (map (λ x. x.number) xs) ≡ true → is_number l (shown_numbers xs) ≡ shown_by (w.facts l)
-shown_number w xs t l q = shown_among w xs t.each l ∙ ap (λ b. b && shown_by (w.facts l)) q
-
--- ---- frames that are prepared and wait then
-
-module _ (numbers : List ℕ) (frame : OutFrame) where
-  one_committed : (x y : KeptLink) → x.prepared ≡ [] → unroomed y ≡ unroomed (prepared_for numbers frame x) → unroomed (committed y) ≡ unroomed (with_frames x (if_among numbers frame x.number))
-  one_committed x y idle q = ap committed q ∙ by (is_number x.number numbers)
-    where
-      by : (b : Bool) → committed (unroomed (cond b (with_prepared x (x.prepared ++ frame ∷ [])) x)) ≡ unroomed (with_frames x (cond b (frame ∷ []) []))
-      by true = λ i. record { number = x.number; state = x.state; frames = x.frames ++ (idle i ++ frame ∷ []); prepared = sym idle i; room = 0 }
-      by false = λ i. record { number = x.number; state = x.state; frames = x.frames ++ idle i; prepared = sym idle i; room = 0 }
-
-  pub prepared_told : (old mid : List KeptLink) → AreIdle old → map unroomed mid ≡ map (λ x. unroomed (prepared_for numbers frame x)) old → AreTold (if_among numbers frame) old (map committed mid)
-  prepared_told old mid idle q = all old mid idle (zip_map unroomed (λ x. unroomed (prepared_for numbers frame x)) old mid q)
-    where
-      all : (xs ys : List KeptLink) → AreIdle xs → AllZip (λ x y. unroomed y ≡ unroomed (prepared_for numbers frame x)) xs ys → AreTold (if_among numbers frame) xs (map committed ys)
-      all [] [] idle a = refl
-      all [] (y ∷ ys) idle a = absurd a
-      all (x ∷ xs) [] idle a = absurd a
-      all (x ∷ xs) (y ∷ ys) idle a = λ i. one_committed x y idle.0 a.0 i ∷ all xs ys idle.1 a.1 i
-
-pub forgotten : (xs : List KeptLink) → AreIdle xs → map (λ x. unroomed (with_prepared x [])) xs ≡ map unroomed xs
-forgotten [] idle = refl
-forgotten (x ∷ xs) idle = λ i. record { number = x.number; state = x.state; frames = x.frames; prepared = sym idle.0 i; room = 0 } ∷ forgotten xs idle.1 i
+pub told_follow : (w v : LinkWords) (more : ℕ → List OutFrame) → ((l : ℕ) → v.facts l ≡ w.facts l) → v.numbers ≡ w.numbers → (old new : List KeptLink) → ((l : ℕ) → v.waiting l ≡ w.waiting l ++ more l)
+    → AreTold more old new → LinksFollow w old → LinksFollow v new
+told_follow w v more facts numbers old new waits q t = changed_follow w v (λ x. with_frames x (more x.number))
+    (λ x it. record {
+      state = subst (λ f. IsState f x.state) (sym (facts x.number)) it.state;
+      frames = ap (λ f. f ++ more x.number) it.frames ∙ sym (waits x.number);
+      idle = it.idle;
+    })
+    numbers old new refl q t
 
 -- all that a node keeps is as before where its links are the same but for their room
 pub alike_again : (h : History) (parts : Parts) → Follows h parts → (links : List KeptLink) → Alike parts.links links → Follows h (record parts { links = links })
@@ -142,6 +52,100 @@ alike_again h parts t links q = record {
   admission = t.admission;
   processes = t.processes;
   scopes = t.scopes;
-  links = alike_follow (link_words h) parts.links links q t.links;
+  links = changed_follow (link_words h) (link_words h) (λ x. x) (λ x it. it) refl parts.links links refl q t.links;
   monitors = t.monitors;
 }
+
+-- nothing is prepared for links that follow
+pub follow_idle : (w : LinkWords) (xs : List KeptLink) → AllByRecursion (IsLinkOf w) xs → AreIdle xs
+follow_idle w xs t = all_map (IsLinkOf w) (λ x. x.prepared ≡ []) (λ x it. it.idle) xs t
+
+-- ---- the links that are up and visible
+
+-- whether the words say that a link is up and visible
+abbrev pub shown_by : LinkFacts → Bool
+shown_by f = (f.open_now && f.whole) && (not f.hidden && option_map_or (λ n. has_bit 0 n.flags) f.said false)
+
+pub shown_is : (f : LinkFacts) (s : LinkState) → IsState f s → is_shown s ≡ shown_by f
+shown_is f (LinkState.Up s) t = grind (arith, t.0.open_now, t.0.whole, t.1.said.1.visible_is, t.1.said.1.said)
+shown_is f LinkState.Ended t = grind (arith, t)
+shown_is f s t = grind (arith, t.0.whole)
+
+shown_among : (w : LinkWords) (xs : List KeptLink) → AllByRecursion (IsLinkOf w) xs → (l : ℕ) → is_number l (shown_numbers xs) ≡ (is_number l (map (λ x. x.number) xs) && shown_by (w.facts l))
+shown_among w [] t l = refl
+shown_among w (x ∷ xs) t l = grind (arith, shown_among w xs t.1 l, shown_is (w.facts x.number) x.state t.0.state, eqb-true l x.number, and_false)
+
+-- the number of a kept link is one of those shown where the words say so
+pub shown_number : (h : History) (xs : List KeptLink) → IsLegal h → LinksFollow (link_words h) xs → (l : ℕ) → is_number l (shown_numbers xs) ≡ shown_by (facts h l)
+shown_number h xs legal t l = shown_among (link_words h) xs t.each l ∙ grind (arith, ap (is_number l) t.numbers, kept_among h legal l)
+
+-- ---- frames that are prepared and wait then
+
+-- what was prepared is dropped
+pub forgot_bare : (old new : List KeptLink) → map unroomed new ≡ map (λ x. unroomed (with_prepared x [])) old → map bare new ≡ map bare old
+forgot_bare old new q = through bare unroomed (λ x. unroomed (with_prepared x [])) old new q
+
+pub forgotten : (xs : List KeptLink) → AreIdle xs → map (λ x. unroomed (with_prepared x [])) xs ≡ map unroomed xs
+forgotten xs idle = map_same (λ x. unroomed (with_prepared x [])) unroomed xs (all_map (λ x. x.prepared ≡ []) (λ x. bare x ≡ unroomed x) (λ x none. λ i. record (unroomed x) { prepared = sym none i }) xs idle)
+
+module _ (more : ℕ → List OutFrame) where
+  abbrev pub more_prepared : KeptLink → KeptLink
+  more_prepared x = unroomed (with_prepared x (x.prepared ++ more x.number))
+
+  pub prepared_bare : (old new : List KeptLink) → ArePrepared more old new → map bare new ≡ map bare old
+  prepared_bare old new q = through bare unroomed more_prepared old new q
+
+  pub prepared_none : ((l : ℕ) → more l ≡ []) → (xs : List KeptLink) → ArePrepared more xs xs
+  prepared_none none [] = refl
+  prepared_none none (x ∷ xs) = λ i. record (unroomed x) { prepared = (sym (append-nil x.prepared) ∙ ap (λ f. x.prepared ++ f) (sym (none x.number))) i } ∷ prepared_none none xs i
+
+  -- what is prepared waits
+  pub prepared_waits : (old mid : List KeptLink) → AreIdle old → ArePrepared more old mid → AreTold more old (map committed mid)
+  prepared_waits old mid idle q =
+      map_map unroomed committed mid ∙ through (λ z. unroomed (committed z)) unroomed more_prepared old mid q
+      ∙ map_same (λ x. unroomed (committed (more_prepared x))) (λ x. unroomed (with_frames x (more x.number))) old
+      (all_map (λ x. x.prepared ≡ []) (λ x. unroomed (committed (more_prepared x)) ≡ unroomed (with_frames x (more x.number)))
+      (λ x none. λ i. record (unroomed x) { frames = x.frames ++ (none i ++ more x.number); prepared = sym none i }) old idle)
+
+  pub prepared_on : (later : ℕ → List OutFrame) (old mid new : List KeptLink) → ArePrepared more old mid → ArePrepared later mid new → ArePrepared (λ l. more l ++ later l) old new
+  prepared_on later old mid new a b = b ∙ through (λ z. unroomed (with_prepared z (z.prepared ++ later z.number))) unroomed more_prepared old mid a ∙ simp append_assoc
+
+module _ (numbers : List ℕ) (frame : OutFrame) where
+  pub prepared_among : (old new : List KeptLink) → map unroomed new ≡ map (λ x. unroomed (prepared_for numbers frame x)) old → ArePrepared (if_among numbers frame) old new
+  prepared_among old new q = q ∙ all old
+    where
+      all : (xs : List KeptLink) → map (λ x. unroomed (prepared_for numbers frame x)) xs ≡ map (more_prepared (if_among numbers frame)) xs
+      all [] = refl
+      all (x ∷ xs) = grind (arith, all xs, append-nil x.prepared)
+
+  pub prepared_told : (old mid : List KeptLink) → AreIdle old → map unroomed mid ≡ map (λ x. unroomed (prepared_for numbers frame x)) old → AreTold (if_among numbers frame) old (map committed mid)
+  prepared_told old mid idle q = prepared_waits (if_among numbers frame) old mid idle (prepared_among old mid q)
+
+  -- what is prepared and then dropped leaves all as it was
+  pub dropped_again : (old mid new : List KeptLink) → AreIdle old → map unroomed mid ≡ map (λ x. unroomed (prepared_for numbers frame x)) old → map unroomed new ≡ map (λ x. unroomed (with_prepared x [])) mid → Alike old new
+  dropped_again old mid new idle q dropped = dropped ∙ prepared_bare (if_among numbers frame) old mid (prepared_among old mid q) ∙ forgotten old idle
+
+  -- ---- frames that are prepared, one link after the other
+
+  -- what is prepared for a link
+  abbrev pub Prepared : KeptLink → KeptLink → Type 0
+  Prepared x y = unroomed y ≡ unroomed (prepared_for numbers frame x)
+
+  turned : (x : KeptLink) (n : ℕ) (b : Bool) → n ≡ x.number → b ≡ list_any (λ y. nat_eq y n) numbers → list_any (nat_eq x.number) numbers ≡ b
+  turned x n b is q = (λ i. list_any (λ y. flip x.number y i) numbers) ∙ ap (λ m. list_any (λ y. nat_eq y m) numbers) (sym is) ∙ sym q
+
+  -- a link that isn't among these stays
+  pub unprepared : (x : KeptLink) (n : ℕ) → n ≡ x.number → false ≡ list_any (λ y. nat_eq y n) numbers → Prepared x x
+  unprepared x n is q = grind (arith, turned x n false is q)
+
+  pub one_prepared : (x y : KeptLink) (n : ℕ) → n ≡ x.number → true ≡ list_any (λ z. nat_eq z n) numbers → y ≡ with_room (with_prepared x (x.prepared ++ frame ∷ [])) y.room → Prepared x y
+  one_prepared x y n is q made = ap unroomed made ∙ grind (arith, turned x n true is q)
+
+  one_dropped : (x y : KeptLink) → Prepared x y → bare y ≡ bare x
+  one_dropped x y q = grind (arith, ap bare q)
+
+  pub all_dropped : (i : ℕ) (xs ys : List KeptLink) → SoFar Prepared i xs ys → map bare ys ≡ map bare xs
+  all_dropped zero xs ys so_far = ap (map bare) so_far.rest
+  all_dropped (suc i) [] [] so_far = refl
+  all_dropped (suc i) (x ∷ xs) (y ∷ ys) so_far = λ j. one_dropped x y so_far.done.0 j ∷ all_dropped i xs ys (record { done = so_far.done.1; rest = so_far.rest }) j
+  all_dropped i xs ys so_far = absurd so_far.done

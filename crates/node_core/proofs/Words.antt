@@ -3,9 +3,9 @@ pub use Rattle.std.proofs.Common.{All, Bool, Err, List, None, Ok, OnErr, Option,
 pub use Rattle.std.proofs.Common.{map, nat_eq, nat_le, nat_lt, not, position, refl, rules, set, subst, suc, sym, take, tests, true, vec_len, zero, ℕ}
 pub use Rattle.std.proofs.Common.{[], ◌&&◌, ◌++◌, ◌+◌, ◌-◌, ◌<◌, ◌==◌, ◌||◌, ◌∙◌, ◌∷◌, ◌≡◌, ◌≤◌, IfNone, IfSome, IsSome, OnOk, append_assoc}
 pub use Rattle.std.proofs.Common.{if◌then◌else◌, inl, inr, min, reverse, ◌^◌, ◌⊎◌}
-pub use Rattle.std.specs.List.{AllByRecursion, AllZip, filter, flat_map, list_all, list_any, insert, position_from, position_or_len}
+pub use Rattle.std.specs.List.{AllByRecursion, AllZip, filter, flat_map, list_all, list_any, insert}
 pub use Rattle.std.specs.Option.{option_map, option_map_or, option_to_list, unwrap_or}
-pub use Rattle.std.specs.declared.cmp.Ordering.TheVariants.{Less, Equal, Greater}
+pub use Rattle.std.specs.declared.cmp.Ordering.TheVariants.{Less}
 pub use Rattle.std.specs.declared.result.Result.{Result}
 pub use Rattle.std.proofs.Math.Bool.{and-true}
 pub use Rattle.std.proofs.lemmas.Bool.{eq-eqb, eqb-true, le-leb, leb-true, lt-leb, le-ltb, leb-false, not-true, lt-ltb, ltb-true, ltb-false}
@@ -35,7 +35,7 @@ pub use Rattle.handshake_frames.specs.Frame.{Challenge, Name}
 pub use Rattle.handshake_frames.specs.Reading.{challenge_frame, name_frame, reply_frame, status_of, ack_frame}
 pub use Rattle.handshake_frames.specs.declared.frame.ReplyFrame.{ReplyFrame}
 pub use Rattle.handshake_frames.specs.declared.frame.StatusWord.{StatusWord}
-pub use Rattle.admission_rules.specs.Admission.{AdmissionRules, cookie_of, max_allowed, max_peers, with_allowed, with_cookie_for}
+pub use Rattle.admission_rules.specs.Admission.{AdmissionRules, cookie_of, max_peers, with_allowed, with_cookie_for}
 pub use Rattle.indexmap.specs.IndexMap.{insert_entry}
 pub use Rattle.link_states.specs.Peer.{found, introduced, is_visible}
 pub use Rattle.link_states.specs.Pending.{is_dialled}
@@ -45,7 +45,7 @@ pub use Rattle.link_states.specs.declared.state_rule.StateRule.{StateRule}
 pub use Rattle.link_states.specs.declared.await_name.Named.{Named}
 pub use Rattle.link_states.specs.Frames.{ack_owed, refusal_frames, reply_owed, status_owed}
 pub use Rattle.link_frames.specs.declared.message.Message.{Message}
-pub use Rattle.scope_core.specs.Calls.{count_after_drop, count_after_exit, no_count, IsAddFault, IsJoinFault, IsLeaveFault, IsTakeFault, are_counted}
+pub use Rattle.scope_core.specs.Calls.{count_after_drop, count_after_exit, no_count, IsJoinFault, IsLeaveFault, are_counted}
 pub use Rattle.scope_core.specs.Calls.{count_after_add, count_after_join, count_after_leave, count_after_sync, count_after_take, is_any_joined}
 pub use Rattle.scope_core.specs.Table.{Table, count_of, local_count, local_total, is_of_node, max_rows, node_total}
 pub use Rattle.policy_audit.proofs.Accepted.{all_hold, lie, no_value, unbroken, accepted}
@@ -55,26 +55,26 @@ pub use Rattle.policy_audit.proofs.KeptNumbers.{kept_once, kept_opening, name_up
 pub use Rattle.policy_audit.proofs.ScopeFrames.{told_numbers, dialled_waiting, exited_links, joined_links, left_links, opened_waiting, started_links}
 pub use Rattle.policy_audit.proofs.ScopeFrames.{stopped_links}
 pub use Rattle.policy_audit.proofs.ScopesNow.{running_among, running_rises, running_started, running_stopped}
-pub use Rattle.policy_audit.proofs.UpLinks.{and_both, and_false, and_left, and_right, flip, agrees, number_of, was_before}
-pub use Rattle.policy_audit.specs.Admission.{allow_list, allowed, cookie, cookie_peers, cookie_set_for, different, own_cookie, own_cookie_set}
+pub use Rattle.policy_audit.proofs.UpLinks.{and_both, and_false, and_left, and_right, flip, agrees, number_of}
+pub use Rattle.policy_audit.specs.Admission.{allow_list, allowed, cookie, cookie_peers, different}
 pub use Rattle.policy_audit.specs.Changes.{IsChange, if_some}
-pub use Rattle.policy_audit.specs.Checks.{always, checks, dial_checks, first_broken, frame_checks, message_checks, Check, answer_checks, are_from}
-pub use Rattle.policy_audit.specs.Checks.{are_listed, challenge_checks, digest_checks, hears_in, is_peer_up, is_simultaneous, kept_links, name_checks}
-pub use Rattle.policy_audit.specs.Checks.{peer_rows, runs, status_checks, unless}
+pub use Rattle.policy_audit.specs.Checks.{always, checks, dial_checks, first_broken, frame_checks, message_checks, answer_checks}
+pub use Rattle.policy_audit.specs.Checks.{challenge_checks, digest_checks, is_peer_up, is_simultaneous, kept_links, name_checks}
+pub use Rattle.policy_audit.specs.Checks.{peer_rows, status_checks}
 pub use Rattle.policy_audit.specs.Contents.{local_rows, row, contents, groups, groups_named, local_groups, local_members, members, pids_named}
 pub use Rattle.policy_audit.specs.Hearing.{heard, message_taken, told, hears, rows_of, talk, tells}
-pub use Rattle.policy_audit.specs.History.{History, creation, events, first_of, is_accepted, past, Moment, is_restart, present}
+pub use Rattle.policy_audit.specs.History.{History, creation, events, first_of, is_accepted, past, is_restart}
 pub use Rattle.policy_audit.specs.Links.{is_dialling, is_open, is_unfinished_dial, is_up, links, named_by, ends, is_dial_to}
 pub use Rattle.policy_audit.specs.Listed.{listed, is_from}
 pub use Rattle.policy_audit.specs.OutFrame.{OutFrame}
 pub use Rattle.policy_audit.specs.Owed.{digest_for, discovers, frame_owes, is_kept, narrow, own_challenge, refusal_owes, waiting, wide, if_told}
-pub use Rattle.policy_audit.specs.Owed.{message_owes, owed, own_challenge_frame, own_name_frame, status_frame, true_to, welcome}
+pub use Rattle.policy_audit.specs.Owed.{message_owes, owed, own_challenge_frame, status_frame, true_to, welcome}
 pub use Rattle.policy_audit.specs.Own.{is_local, is_running, lives, running_scopes, is_spawn, living, own, spawned}
 pub use Rattle.policy_audit.specs.Policy.{IsAnswered, IsLegal, IsNext, answer, is_full, next_number, up_answer, verdict, with_entry, IsLegalIn, after}
 pub use Rattle.policy_audit.specs.Policy.{entry_of, judged}
 pub use Rattle.policy_audit.specs.Sides.{AwaitMessage, awaits, challenge_in, is_last, is_name_up, is_peer, is_whole, peer_of, present_link}
-pub use Rattle.policy_audit.specs.Sides.{AwaitAnswer, AwaitChallenge, AwaitReply, AwaitStatus, Awaited, ByDial, ByPeer, Opened, Start, Taken}
-pub use Rattle.policy_audit.specs.Sides.{and_frame, given, opened, start_of, taken}
+pub use Rattle.policy_audit.specs.Sides.{AwaitAnswer, AwaitChallenge, AwaitReply, AwaitStatus, Awaited, ByDial, ByPeer, Start}
+pub use Rattle.policy_audit.specs.Sides.{given, opened, start_of, taken}
 pub use Rattle.policy_audit.specs.declared.change.Change.{Change}
 pub use Rattle.policy_audit.specs.declared.entry.Entry.{Entry}
 pub use Rattle.policy_audit.specs.declared.entry.Verdict.{Verdict}
@@ -96,8 +96,8 @@ pub use Rattle.policy_audit.proofs.Named.{occurs_stands}
 pub use Rattle.group_monitors.proofs.Followed.{follows_other, follows_cleared, follows_dropped, follows_free, follows_group, follows_moved}
 pub use Rattle.group_monitors.proofs.Followed.{follows_removed, follows_scope, follows_start}
 pub use Rattle.group_monitors.specs.Monitors.{IsFree, with_place}
-pub use Rattle.node_core.specs.AdmissionFacts.{AdmissionFollows, admission_words, AdmissionWords, AreOnce, IsCookieRefusal}
-pub use Rattle.node_core.specs.Calm.{IsCalmFault, refuses_calmly, is_query}
+pub use Rattle.node_core.specs.AdmissionFacts.{AdmissionFollows, admission_words, AreOnce, IsCookieRefusal}
+pub use Rattle.node_core.specs.Calm.{IsCalmFault, refuses_calmly}
 pub use Rattle.node_core.specs.Core.{Follows, Keeps, Parts, IsSound, parts}
 unfoldable pub use Rattle.node_core.specs.Step.{Answers}
 pub use Rattle.node_core.specs.Step.{Call, IsCalled, Says}

@@ -1,5 +1,4 @@
-use Rattle.node_core.proofs.Words.{◌≡◌, frame_awaited}
-use Rattle.std.specs.Prelude.{take, map}
+use Rattle.node_core.proofs.Words.{◌≡◌, frame_awaited, take, map}
 use Rattle.node_core.proofs.awaiting.awaiting_of.Given as goal
 
 -- the links so far

@@ -1,5 +1,4 @@
-use Rattle.std.specs.Prelude.{take}
-use Rattle.node_core.specs.Parting.{ArePartings, count_but}
+use Rattle.node_core.proofs.Words.{take, ArePartings, count_but}
 use Rattle.node_core.proofs.changes.changes_of.Given as goal
 
 -- the changes of the scopes so far

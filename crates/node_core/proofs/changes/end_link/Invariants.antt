@@ -1,4 +1,4 @@
-use Rattle.node_core.specs.Parting.{IsCutOff}
+use Rattle.node_core.proofs.Words.{IsCutOff}
 use Rattle.node_core.proofs.Zipped.{SoFar}
 use Rattle.node_core.proofs.changes.end_link.Given as goal
 

@@ -1,4 +1,4 @@
-use Rattle.node_core.specs.Parting.{HasParted}
+use Rattle.node_core.proofs.Words.{HasParted}
 use Rattle.node_core.proofs.Zipped.{SoFar}
 use Rattle.node_core.proofs.changes.leave_all.Given as goal
 

@@ -1,5 +1,4 @@
-use Rattle.node_core.proofs.Words.{◌≡◌, ◌++◌, row, rows_left}
-use Rattle.std.specs.Prelude.{take, map}
+use Rattle.node_core.proofs.Words.{◌≡◌, ◌++◌, row, rows_left, take, map}
 use Rattle.node_core.proofs.changes.rows_left.Given as goal
 
 -- the rows of the groups so far

@@ -1,6 +1,6 @@
 use Rattle.node_core.proofs.Words.{ap, map, ◌∙◌, take_all, same_row, row_cmp, row, rows_total}
 use Rattle.dist_types.proofs.Sorts.{sorted_listing}
-use Rattle.node_core.proofs.GroupRows.{rows_listing, rows_length}
+use Rattle.node_core.proofs.Said.{rows_listing, rows_length}
 use Rattle.node_core.proofs.changes.rows_of.Goals as goal
 
 pub returns : goal.returns

@@ -1,5 +1,4 @@
-use Rattle.node_core.proofs.Words.{◌≡◌, ◌++◌, ◌+◌, ◌≤◌, length, vec_capacity, into_iter_items, narrow_frames}
-use Rattle.std.specs.Prelude.{vec_len}
+use Rattle.node_core.proofs.Words.{◌≡◌, ◌++◌, ◌+◌, ◌≤◌, length, vec_capacity, into_iter_items, narrow_frames, vec_len}
 use Rattle.node_core.proofs.link.put_bodies.Given as goal
 
 -- the bodies so far wait as frames, and there is room for the others

@@ -1,5 +1,4 @@
-use Rattle.node_core.proofs.Words.{◌≡◌, ◌++◌, ◌+◌, ◌≤◌, length, vec_capacity, into_iter_items}
-use Rattle.std.specs.Prelude.{vec_len}
+use Rattle.node_core.proofs.Words.{◌≡◌, ◌++◌, ◌+◌, ◌≤◌, length, vec_capacity, into_iter_items, vec_len}
 use Rattle.node_core.proofs.link.put_frames.Given as goal
 
 -- the frames so far wait, and there is room for the others

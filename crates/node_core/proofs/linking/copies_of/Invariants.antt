@@ -1,5 +1,4 @@
-use Rattle.std.proofs.Common.{◌≡◌}
-use Rattle.std.specs.Prelude.{take}
+use Rattle.node_core.proofs.Words.{◌≡◌, take}
 use Rattle.node_core.proofs.linking.copies_of.Given as goal
 
 -- the copies so far

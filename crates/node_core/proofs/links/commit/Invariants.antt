@@ -1,5 +1,4 @@
-use Rattle.node_core.proofs.Words.{◌≡◌, ◌++◌, committed}
-use Rattle.std.specs.Prelude.{take, drop, map}
+use Rattle.node_core.proofs.Words.{◌≡◌, ◌++◌, committed, take, drop, map}
 use Rattle.node_core.proofs.links.commit.Given as goal
 
 -- those so far are committed

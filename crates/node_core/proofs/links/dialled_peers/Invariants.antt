@@ -1,5 +1,4 @@
-use Rattle.node_core.proofs.Words.{◌≡◌, flat_map, option_to_list, dialled_peer}
-use Rattle.std.specs.Prelude.{take}
+use Rattle.node_core.proofs.Words.{◌≡◌, flat_map, option_to_list, dialled_peer, take}
 use Rattle.node_core.proofs.links.dialled_peers.Given as goal
 
 -- the names so far

@@ -1,5 +1,6 @@
-use Rattle.node_core.proofs.Words.{ap, arith, drop, length, [], ◌≡◌, unroomed, with_prepared}
-use Rattle.node_core.proofs.Zipped.{zipped, all_zipped, zipped_map, whole}
+use Rattle.node_core.proofs.Words.{ap, arith, length, [], ◌≡◌, unroomed, with_prepared}
+use Rattle.std.proofs.Math.Seq.{take-append_seam}
+use Rattle.node_core.proofs.Zipped.{zipped, all_zipped, zipped_map}
 use Rattle.node_core.proofs.links.forget.Goals as goal
 
 pub loop-link-preserved : goal.loop-link-preserved
@@ -7,5 +8,6 @@ loop-link-preserved c = zipped (λ x y. unroomed y ≡ unroomed (with_prepared x
 
 pub returns : goal.returns
 returns c =
-    let back = whole c.args.links.now.len c.loop-link.link-items (drop (length c.loop-link.link-items) c.args.links.now.items) (omega arith) in
-    rw back (zipped_map (λ x. unroomed (with_prepared x [])) unroomed c.args.links.now.items c.loop-link.link-items (all_zipped (λ x y. unroomed y ≡ unroomed (with_prepared x [])) c.loop-link.link-index c.args.links.now.items c.loop-link.link-items c.loop-link.invariant (omega arith)))
+    let long : length c.loop-link.link-items ≡ c.args.links.now.len = omega arith in
+    rw (← long, take-append_seam) (zipped_map (λ x y. unroomed y ≡ unroomed (with_prepared x [])) (λ x. unroomed (with_prepared x [])) unroomed (λ x y e. e) c.args.links.now.items c.loop-link.link-items
+    (all_zipped (λ x y. unroomed y ≡ unroomed (with_prepared x [])) c.loop-link.link-index c.args.links.now.items c.loop-link.link-items c.loop-link.invariant (omega arith)))

@@ -1,5 +1,5 @@
 use Rattle.node_core.proofs.Zipped.{SoFar}
-use Rattle.node_core.proofs.Preparing.{Prepared}
+use Rattle.node_core.proofs.Told.{Prepared}
 use Rattle.node_core.proofs.links.prepare_frame.Given as goal
 
 -- the message is prepared for those so far

@@ -1,5 +1,4 @@
-use Rattle.node_core.proofs.Words.{◌≡◌, filter, is_shown}
-use Rattle.std.specs.Prelude.{take, map}
+use Rattle.node_core.proofs.Words.{◌≡◌, filter, is_shown, take, map}
 use Rattle.node_core.proofs.links.shown.Given as goal
 
 -- the numbers so far

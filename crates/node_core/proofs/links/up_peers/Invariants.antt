@@ -1,5 +1,4 @@
-use Rattle.node_core.proofs.Words.{◌≡◌, flat_map, option_to_list, up_peer}
-use Rattle.std.specs.Prelude.{take}
+use Rattle.node_core.proofs.Words.{◌≡◌, flat_map, option_to_list, up_peer, take}
 use Rattle.node_core.proofs.links.up_peers.Given as goal
 
 -- the names so far

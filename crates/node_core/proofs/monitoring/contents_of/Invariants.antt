@@ -1,5 +1,4 @@
-use Rattle.node_core.proofs.Words.{◌++◌, AllByRecursion, into_iter_items, IsPidListing, IsGroupListing, count_of}
-use Rattle.std.specs.Prelude.{map}
+use Rattle.node_core.proofs.Words.{◌++◌, AllByRecursion, into_iter_items, IsPidListing, IsGroupListing, count_of, map}
 use Rattle.node_core.proofs.monitoring.contents_of.Given as goal
 
 -- the groups so far and those to come are all, and those so far have their members

@@ -1,5 +1,4 @@
-use Rattle.std.specs.Prelude.{take}
-use Rattle.node_core.specs.Exiting.{AreExits}
+use Rattle.node_core.proofs.Words.{take, AreExits}
 use Rattle.node_core.proofs.telling.prepare_exit.Given as goal
 
 -- the scopes so far

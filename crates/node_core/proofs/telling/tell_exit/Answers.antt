@@ -1,5 +1,5 @@
-use Rattle.node_core.proofs.Words.{all_frames}
-use Rattle.node_core.proofs.Exits.{prepared_waits, dropped_all}
+use Rattle.node_core.proofs.Words.{all_frames, ◌∙◌}
+use Rattle.node_core.proofs.Told.{forgotten, prepared_waits}
 use Rattle.node_core.proofs.telling.tell_exit.Goals as goal
 
 pub returns-in-Ok : goal.returns-in-Ok
@@ -15,8 +15,5 @@ returns-in-Ok c =
       same = tt;
     }
 
-pub returns-in-Err : goal.returns-in-Err
-returns-in-Err c = record {
-  told = tt;
-  same = dropped_all c.args.links.now.items c.prepare_exit.new.links.items c.forget.new.links.items c.requires.idle c.in-Err.ensures.same c.forget.ensures;
-}
+pub returns-in-Err-clause-same : goal.returns-in-Err-clause-same
+returns-in-Err-clause-same c = c.forget.ensures ∙ c.in-Err.ensures.same ∙ forgotten c.args.links.now.items c.requires.idle

@@ -1,8 +1,7 @@
-use Rattle.node_core.proofs.Words.{refl, Event, Reply, Rule}
+use Rattle.node_core.proofs.Words.{follows_removed, refl, Event, Rule}
 use Rattle.group_monitors.proofs.FromPolicy.{follows_checked, follows_refused}
 use Rattle.node_core.proofs.Answering.{accepts, refuses}
-use Rattle.node_core.proofs.Calm.{quiet_next}
-use Rattle.node_core.proofs.Watching.{unwatched}
+use Rattle.node_core.proofs.Calm.{entered}
 use Rattle.node_core.proofs.kept.Kept.demonitor.Goals as goal
 
 pub returns-in-Ok : goal.returns-in-Ok
@@ -10,8 +9,8 @@ returns-in-Ok g c =
     let h = g.call.past in
     let t = c.requires.0.keeps.follows in
     let holds = (follows_checked h c.args.self.now.monitors t.monitors g.call.seat c.args.number (rw c.requires.1 at c.in-Ok.ensures.ok.0)).1 in
-    let next = quiet_next h g.call.seat Reply.Done (Event.Demonitor c.args.number) c.requires.0.space holds refl refl in
-    accepts c.requires.0 _ _ refl _ _ _ c.done.ensures (next, rw (c.in-Ok.ensures.ok.1, c.requires.1) (unwatched h g.call.seat Reply.Done _ t c.args.number next))
+    accepts c.requires.0 _ _ refl _ _ _ c.done.ensures (rw (c.in-Ok.ensures.ok.1, c.requires.1)
+    (entered t g.call.seat (Event.Demonitor c.args.number) refl c.requires.0.space holds refl (λ its. (t.admission, t.processes, follows_removed h _ _ refl t.monitors refl c.args.number refl))))
 
 pub returns-in-Err : goal.returns-in-Err
 returns-in-Err g c = rw c.in-Err.ensures.same (refuses c.requires.0 _ Rule.NoMonitor

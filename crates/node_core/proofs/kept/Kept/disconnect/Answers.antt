@@ -1,13 +1,17 @@
-use Rattle.node_core.proofs.Words.{None, Some, ap, cond, false, length, not, refl, subst, sym, [], ◌<◌, ◌∙◌, option_map_or, position-Some, same}
-use Rattle.node_core.proofs.Words.{AreCut, AreLost, up_peer, Rule}
+use Rattle.node_core.proofs.Words.{is_some, ap, get_or_default, false, length, refl, subst, sym, ◌<◌, ◌∙◌, option_map_or, position-Some, same, AreCut, AreLost}
+use Rattle.node_core.proofs.Words.{up_peer, Rule}
 use Rattle.node_core.proofs.Answering.{accepts, refuses}
-use Rattle.node_core.proofs.Preparing.{same_at}
-use Rattle.node_core.proofs.Losing.{not_up, parting_next, parting_follows}
+use Rattle.node_core.proofs.Found.{place_found}
+use Rattle.node_core.proofs.LinkTests.{up_is}
+use Rattle.node_core.proofs.Losing.{parted}
 use Rattle.node_core.proofs.kept.Kept.disconnect.Goals as goal
 
 pub returns-in_default : goal.returns-in_default
-returns-in_default g c = refuses c.requires _ Rule.NoLinkTo (ap (λ b. cond (not b) (Some Rule.NoLinkTo) None)
-    (not_up g.call.past g.call.seat c.args.peer.now [] _ c.requires.keeps.follows (rw c.deref.ensures.value at (sym c.place_of_up.ensures ∙ c.in_default.is)))) refl
+returns-in_default g c =
+    let t = c.requires.keeps.follows in
+    let none = rw c.deref.ensures.value at (sym c.place_of_up.ensures ∙ c.in_default.is) in
+    refuses c.requires _ Rule.NoLinkTo (rw (sym (up_is g.call.past c.args.peer.now t.sound.legal c.args.self.now.links.items t.links)
+    ∙ sym (place_found (λ x. option_map_or (λ m. same m c.args.peer.now) (up_peer x.state) false) c.args.self.now.links.items) ∙ ap is_some none)) refl
 
 pub returns : goal.returns
 returns g c =
@@ -19,12 +23,8 @@ returns g c =
     let found = rw c.deref.ensures.value at (sym c.place_of_up.ensures ∙ c.in-Some.is) in
     let at = position-Some (λ x. option_map_or (λ m. same m peer) (up_peer x.state) false) links c.in-Some.place c.index.result.now found in
     let within : c.in-Some.place < length links = at.0 in
-    let lost = subst (λ x. AreLost (up_peer x.state) scopes c.in_ok-changes.changes.items) (c.index-2.ensures ∙ same_at links c.in-Some.place c.index-2.result.now c.index.result.now within) (rw c.deref-2.ensures.value at c.in_ok-changes.ensures) in
-    let cuts = subst (λ x. AreCut x.number (up_peer x.state) scopes c.cut_link.new.scopes.items) (c.index-3.ensures ∙ same_at links c.in-Some.place c.index-3.result.now c.index.result.now within) c.cut_link.ensures in
+    let lost = subst (λ x. AreLost (up_peer x.state) scopes c.in_ok-changes.changes.items) (c.index-2.ensures ∙ get_or_default links c.in-Some.place c.index-2.result.now c.index.result.now within) (rw c.deref-2.ensures.value at c.in_ok-changes.ensures) in
+    let cuts = subst (λ x. AreCut x.number (up_peer x.state) scopes c.cut_link.new.scopes.items) (c.index-3.ensures ∙ get_or_default links c.in-Some.place c.index-3.result.now c.index.result.now within) c.cut_link.ensures in
     let number = c.number-number.ensures ∙ ap (λ x. x.number) c.index.ensures in
-    let next = parting_next h g.call.seat peer c.in_ok-changes.changes.items _ t c.in-Some.place c.index.result.now found c.requires.space lost in
-    accepts c.requires _ _ refl _ _ _ c.changed.ensures (
-      next,
-      rw c.remove.ensures
-          (parting_follows h g.call.seat peer c.in_ok-changes.changes.items _ t c.in-Some.place c.index.result.now found next c.cut_link.new.scopes.items c.number-number.result number cuts),
-    )
+    accepts c.requires _ _ refl _ _ _ c.changed.ensures (rw c.remove.ensures
+    (parted h g.call.seat peer c.in_ok-changes.changes.items _ t c.in-Some.place c.index.result.now found c.requires.space lost c.cut_link.new.scopes.items c.number-number.result number cuts))

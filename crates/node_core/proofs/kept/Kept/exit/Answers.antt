@@ -1,13 +1,13 @@
-use Rattle.node_core.proofs.Words.{None, Some, ap, cond, not, refl, sym, ◌∙◌, lives, link_words, lives_of, Rule}
+use Rattle.node_core.proofs.Words.{None, Some, cond, not, refl, sym, ◌∙◌, link_words, lives_of, Rule}
 use Rattle.node_core.proofs.Answering.{accepts, refuses, wanted}
 use Rattle.node_core.proofs.Joining.{local_by}
 use Rattle.node_core.proofs.Told.{alike_again, follow_idle}
-use Rattle.node_core.proofs.Exited.{exit_own, exit_next, exit_follows}
+use Rattle.node_core.proofs.Exited.{exit_own, exit_now}
 use Rattle.node_core.proofs.kept.Kept.exit.Goals as goal
 
 pub returns-then-not-is_local : goal.returns-then-not-is_local
 returns-then-not-is_local g c = refuses c.requires _ Rule.NotLocal
-    (ap (λ b. cond (not b) (Some Rule.NotLocal) (cond (not (lives g.call.past c.args.pid.now)) (Some Rule.NoProcess) None)) (sym (local_by c.requires.keeps c.args.pid.now) ∙ sym c.is_local.ensures ∙ c.if-not-is_local.true)) refl
+    (rw (sym (local_by c.requires.keeps c.args.pid.now) ∙ sym c.is_local.ensures ∙ c.if-not-is_local.true)) refl
 
 pub returns-then-not-is_live : goal.returns-then-not-is_live
 returns-then-not-is_live g c =
@@ -34,8 +34,5 @@ returns g c =
     let local = sym (local_by c.requires.keeps pid) ∙ sym c.is_local.ensures ∙ c.if-not-is_local.false in
     let told = rw c.deref.ensures.value at c.in_ok-changes.ensures.told in
     let living = sym c.is_live.ensures ∙ c.if-not-is_live.false in
-    let next = exit_next h g.call.seat _ t pid local c.tell_exit.new.links.items c.in_ok-changes.changes.items told c.requires.space living in
-    accepts c.requires _ _ refl _ _ _ c.changed.ensures (
-      next,
-      exit_follows h g.call.seat _ t pid local c.tell_exit.new.links.items c.in_ok-changes.changes.items told next _ (λ x f q. refl) c.leave_all.new.scopes.items c.leave_all.ensures c.exit.new.self c.exit.ensures.spawned c.exit.ensures.live (c.exit.ensures.count living),
-    )
+    accepts c.requires _ _ refl _ _ _ c.changed.ensures (exit_now h g.call.seat _ t pid local c.tell_exit.new.links.items c.in_ok-changes.changes.items told c.requires.space living
+    _ (λ x f q. refl) c.leave_all.new.scopes.items c.leave_all.ensures c.exit.new.self c.exit.ensures.spawned c.exit.ensures.live (c.exit.ensures.count living))

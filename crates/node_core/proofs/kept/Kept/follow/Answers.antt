@@ -3,8 +3,8 @@ use Rattle.node_core.proofs.Answering.{accepts, failed, wanted}
 use Rattle.node_core.proofs.MessagePlaces.{IsUpHere, up_here}
 use Rattle.node_core.proofs.Moved.{unmoved}
 use Rattle.node_core.proofs.MessageRefused.{rows_from, joined_from, left_from, all_of_peer, peer_is, has_peer}
-use Rattle.node_core.proofs.MessageScopes.{discovered_next, synced, added, added_calm, taken, taken_calm, downed}
-use Rattle.node_core.proofs.MessageRoom.{roomed_links, same_scope, follows_with, answered_follows}
+use Rattle.node_core.proofs.MessageScopes.{synced, added, added_calm, taken, taken_calm, downed}
+use Rattle.node_core.proofs.MessageRoom.{roomed_links, same_scope, follows_with, answered_now}
 use Rattle.node_core.proofs.kept.Kept.follow.Given.{Over}
 use Rattle.node_core.proofs.kept.Kept.follow.Goals as goal
 use Rattle.node_core.proofs.kept.Kept.follow.Goals.{After-index}
@@ -32,11 +32,9 @@ returns-in_ok-frames-in-Discover g c = λ body says.
     let there = rw c.in-Discover.is at c.requires.there in
     let holds = rw c.in-Discover.is at c.requires.holds in
     let made_ready = c.in_ok-frames-in-Discover.ensures in
-    accepts c.requires.on.link.called _ _ refl _ _ _ c.done.ensures (
-      discovered_next t g.call.seat c.args.number body c.requires.on.link.called.space c.requires.on.up c.requires.on.link.here c.index_mut-link.ensures.value c.in-Discover.scope c.ready_to_answer.new.running there c.index_mut-running.ensures.value said holds,
-      answered_follows t g.call.seat c.args.number body c.requires.on.link.called.space c.requires.on.up c.requires.on.link.here c.index_mut-link.ensures.value c.in-Discover.scope c.ready_to_answer.new.running there c.index_mut-running.ensures.value said holds
-          made_ready.told c.index_mut-running.ensures.value made_ready.frames made_ready.roomy c.owe.ensures.owed,
-    )
+    accepts c.requires.on.link.called _ _ refl _ _ _ c.done.ensures
+    (answered_now t g.call.seat c.args.number body c.requires.on.link.called.space c.requires.on.up c.requires.on.link.here c.index_mut-link.ensures.value c.in-Discover.scope c.ready_to_answer.new.running there c.index_mut-running.ensures.value
+    said holds made_ready.told c.index_mut-running.ensures.value made_ready.frames made_ready.roomy c.owe.ensures.owed)
 
 -- ---- a Sync
 

@@ -3,13 +3,12 @@ use Rattle.node_core.proofs.Answering.{accepts, refuses, failed}
 use Rattle.node_core.proofs.Moved.{unmoved}
 use Rattle.node_core.proofs.MessagePlaces.{runs_here, stopped_here}
 use Rattle.node_core.proofs.Told.{follow_idle}
-use Rattle.node_core.proofs.Joining.{join_nowhere, join_own, join_calm, joins_own, joined}
+use Rattle.node_core.proofs.Joining.{join_own, join_calm, joins_own, joined}
 use Rattle.node_core.proofs.Searched.{scopes_ascend}
 use Rattle.node_core.proofs.kept.Kept.join.Goals as goal
 
 pub returns-in_default : goal.returns-in_default
-returns-in_default g c = refuses c.requires _ Rule.NoScope (join_nowhere g.call.past g.call.seat c.args.scope.now c.args.group.now c.args.pids.now
-    (stopped_here c.requires.keeps.follows c.args.scope.now (sym (rw c.deref.ensures.value at c.in_default.ensures)))) refl
+returns-in_default g c = refuses c.requires _ Rule.NoScope (rw (stopped_here c.requires.keeps.follows c.args.scope.now (sym (rw c.deref.ensures.value at c.in_default.ensures)))) refl
 
 pub returns-in-Some-join_refusal : goal.returns-in-Some-join_refusal
 returns-in-Some-join_refusal g c = refuses c.requires _ c.in-Some-join_refusal.rule (join_own g.call.past g.call.seat c.args.scope.now c.args.group.now c.args.pids.now

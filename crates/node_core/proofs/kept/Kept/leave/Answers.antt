@@ -3,13 +3,12 @@ use Rattle.node_core.proofs.Answering.{accepts, refuses, failed}
 use Rattle.node_core.proofs.Moved.{unmoved}
 use Rattle.node_core.proofs.MessagePlaces.{runs_here, stopped_here}
 use Rattle.node_core.proofs.Told.{follow_idle}
-use Rattle.node_core.proofs.Leaving.{leave_nowhere, leave_foreign, leaves_own, leave_calm, left}
+use Rattle.node_core.proofs.Joining.{leave_foreign, leaves_own, leave_calm, left}
 use Rattle.node_core.proofs.Searched.{scopes_ascend}
 use Rattle.node_core.proofs.kept.Kept.leave.Goals as goal
 
 pub returns-in_default : goal.returns-in_default
-returns-in_default g c = refuses c.requires _ Rule.NoScope (leave_nowhere g.call.seat c.requires.keeps.follows c.args.scope.now c.args.group.now c.args.pids.now
-    (stopped_here c.requires.keeps.follows c.args.scope.now (sym (rw c.deref.ensures.value at c.in_default.ensures)))) refl
+returns-in_default g c = refuses c.requires _ Rule.NoScope (rw (stopped_here c.requires.keeps.follows c.args.scope.now (sym (rw c.deref.ensures.value at c.in_default.ensures)))) refl
 
 pub returns-then-not-are_local : goal.returns-then-not-are_local
 returns-then-not-are_local g c = refuses c.requires _ Rule.NotLocal (leave_foreign g.call.seat c.requires.keeps.follows c.args.scope.now c.args.group.now c.args.pids.now

@@ -1,14 +1,13 @@
-use Rattle.node_core.proofs.Words.{None, Some, ap, cond, not, refl, sym, ◌∙◌, Event, Reply, Rule}
+use Rattle.node_core.proofs.Words.{refl, sym, ap, follows_other, Event, Reply, Rule, ◌∙◌}
 use Rattle.node_core.proofs.Answering.{accepts, refuses}
-use Rattle.node_core.proofs.Calm.{quiet_next, query_follows}
+use Rattle.node_core.proofs.Calm.{entered}
 use Rattle.node_core.proofs.MessagePlaces.{runs_here, scope_here, stopped_here}
 use Rattle.node_core.proofs.Scopes.{local_groups_are}
 use Rattle.node_core.proofs.Searched.{scopes_ascend}
 use Rattle.node_core.proofs.kept.Kept.local_groups.Goals as goal
 
 pub returns-in_default : goal.returns-in_default
-returns-in_default g c = refuses c.requires _ Rule.NoScope
-    (ap (λ b. cond (not b) (Some Rule.NoScope) None) (stopped_here c.requires.keeps.follows c.args.scope.now (sym (rw c.deref.ensures.value at c.in_default.ensures)))) refl
+returns-in_default g c = refuses c.requires _ Rule.NoScope (rw (stopped_here c.requires.keeps.follows c.args.scope.now (sym (rw c.deref.ensures.value at c.in_default.ensures)))) refl
 
 pub returns : goal.returns
 returns g c =
@@ -17,10 +16,9 @@ returns g c =
     let scope = c.args.scope.now in
     let placed = sym (rw c.deref.ensures.value at c.in-Some.ensures) in
     let there = scope_here t scope placed c.index.ensures in
-    let runs = ap (λ b. cond (not b) (Some Rule.NoScope) None) (runs_here t scope c.in-Some.place placed) in
     let list = c.in_ok-groups.ensures ∙ local_groups_are h scope c.index.result.now there.named there.running t.sound.legal _ c.in_ok-local_groups.ensures in
-    let next = quiet_next h g.call.seat (Reply.Groups c.in_ok-groups.groups) (Event.LocalGroups scope) c.requires.space runs (ap Reply.Groups (sym list)) refl in
-    accepts c.requires _ _ refl _ _ _ c.in_ok-with.ensures (next, query_follows h g.call.seat (Reply.Groups c.in_ok-groups.groups) _ t (Event.LocalGroups scope) refl next)
+    accepts c.requires _ _ refl _ _ _ c.in_ok-with.ensures (entered t g.call.seat (Event.LocalGroups scope) refl c.requires.space (rw (runs_here t scope c.in-Some.place placed)) (ap Reply.Groups (sym list))
+    (λ its. (t.admission, t.processes, follows_other h _ _ refl t.monitors refl)))
 
 pub place_of-requires : goal.place_of-requires
 place_of-requires g c = rw c.deref.ensures.value (scopes_ascend c.requires.keeps.follows)

@@ -1,6 +1,6 @@
-use Rattle.node_core.proofs.Words.{None, Some, ap, cond, not, refl, sym, Event, Reply, Rule}
+use Rattle.node_core.proofs.Words.{refl, sym, ap, follows_other, Event, Reply, Rule}
 use Rattle.node_core.proofs.Answering.{accepts, refuses}
-use Rattle.node_core.proofs.Calm.{quiet_next, query_follows}
+use Rattle.node_core.proofs.Calm.{entered}
 use Rattle.node_core.proofs.MessagePlaces.{runs_here, scope_here, stopped_here}
 use Rattle.node_core.proofs.Moved.{unmoved}
 use Rattle.node_core.proofs.Scopes.{members_are}
@@ -8,8 +8,7 @@ use Rattle.node_core.proofs.Searched.{scopes_ascend}
 use Rattle.node_core.proofs.kept.Kept.members.Goals as goal
 
 pub returns-in_default : goal.returns-in_default
-returns-in_default g c = refuses c.requires _ Rule.NoScope
-    (ap (λ b. cond (not b) (Some Rule.NoScope) None) (stopped_here c.requires.keeps.follows c.args.scope.now (sym (rw c.deref.ensures.value at c.in_default.ensures)))) refl
+returns-in_default g c = refuses c.requires _ Rule.NoScope (rw (stopped_here c.requires.keeps.follows c.args.scope.now (sym (rw c.deref.ensures.value at c.in_default.ensures)))) refl
 
 pub returns : goal.returns
 returns g c =
@@ -18,12 +17,11 @@ returns g c =
     let scope = c.args.scope.now in
     let placed = sym (rw c.deref.ensures.value at c.in-Some.ensures) in
     let there = scope_here t scope placed c.index_mut.ensures.value in
-    let runs = ap (λ b. cond (not b) (Some Rule.NoScope) None) (runs_here t scope c.in-Some.place placed) in
-    let list = members_are h scope c.index_mut.result.now there.named there.running c.args.group.now _ c.in_ok-pids.ensures.value in
-    let next = quiet_next h g.call.seat (Reply.Pids c.in_ok-pids.pids) (Event.Members scope c.args.group.now) c.requires.space runs (ap Reply.Pids (sym list)) refl in
     let r = c.index_mut.result.now in
+    let list = members_are h scope r there.named there.running c.args.group.now _ c.in_ok-pids.ensures.value in
     let still = unmoved t c.in-Some.place c.index_mut.ensures.value (λ i. record { scope = r.scope; table = c.in_ok-pids.ensures.same i; heard = r.heard; told = r.told }) refl in
-    accepts c.requires _ _ refl _ _ _ c.in_ok-with.ensures (next, query_follows h g.call.seat (Reply.Pids c.in_ok-pids.pids) _ still (Event.Members scope c.args.group.now) refl next)
+    accepts c.requires _ _ refl _ _ _ c.in_ok-with.ensures (entered still g.call.seat (Event.Members scope c.args.group.now) refl c.requires.space (rw (runs_here t scope c.in-Some.place placed)) (ap Reply.Pids (sym list))
+    (λ its. (t.admission, t.processes, follows_other h _ _ refl t.monitors refl)))
 
 pub place_of-requires : goal.place_of-requires
 place_of-requires g c = rw c.deref.ensures.value (scopes_ascend c.requires.keeps.follows)

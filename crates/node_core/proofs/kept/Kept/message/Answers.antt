@@ -4,8 +4,8 @@ use Rattle.node_core.specs.Messages.{refusal}
 use Rattle.node_core.proofs.Answering.{refuses}
 use Rattle.node_core.proofs.MessagePlaces.{up_here, scope_here, runs_here, stopped_here}
 use Rattle.node_core.proofs.MessageScopes.{heard_there}
-use Rattle.node_core.proofs.MessageRefused.{up_awaits, says_broken, early_broken, hidden_first, stopped_first, visible_is, refusal_is, refusal_silent}
-use Rattle.node_core.proofs.MessageRefused.{calm, frame_unread, is_brief}
+use Rattle.node_core.proofs.MessageRefused.{up_awaits, says_broken, early_broken, hidden_first, stopped_first, visible_is, refusal_is, refusal_silent, calm}
+use Rattle.node_core.proofs.MessageRefused.{frame_unread, is_brief}
 use Rattle.node_core.proofs.kept.Kept.message.Given.{Over}
 use Rattle.node_core.proofs.Searched.{scopes_ascend}
 use Rattle.node_core.proofs.kept.Kept.message.Goals as goal

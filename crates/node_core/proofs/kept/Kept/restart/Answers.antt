@@ -1,6 +1,6 @@
 use Rattle.node_core.proofs.Words.{ap, refl, sym, ℕ, ◌+◌, ◌∙◌, Rule}
 use Rattle.node_core.proofs.Answering.{accepts, refuses}
-use Rattle.node_core.proofs.Anew.{creation_spent, creation_left, anew_next, anew_follows}
+use Rattle.node_core.proofs.Anew.{creation_spent, anew_now}
 use Rattle.node_core.proofs.kept.Kept.restart.Goals as goal
 
 pub returns-then-creation : goal.returns-then-creation
@@ -11,9 +11,6 @@ returns g c =
     let h = g.call.past in
     let t = c.requires.keeps.follows in
     let gone = rw c.deref.ensures.value at c.in_ok-changes.ensures in
-    let next = anew_next h g.call.seat _ t c.in_ok-changes.changes.items gone c.requires.space (creation_left h g.call.seat c.creation.result (c.creation.ensures ∙ t.admission.creation) c.if-creation.false) in
-    accepts c.requires _ _ refl _ _ _ c.changed.ensures (
-      next,
-      rw (c.in_ok-self.ensures, c.new.ensures, c.clear.ensures.items, c.clear-2.ensures.items, c.clear-3.ensures)
-          (anew_follows h g.call.seat _ t c.in_ok-changes.changes.items gone next c.args.self.now.opening (c.creation-creation.result + 1) c.requires.keeps.opening (ap (λ (n : ℕ). n + 1) c.creation-creation.ensures)),
-    )
+    accepts c.requires _ _ refl _ _ _ c.changed.ensures (rw (c.in_ok-self.ensures, c.new.ensures, c.clear.ensures.items, c.clear-2.ensures.items, c.clear-3.ensures)
+    (anew_now h g.call.seat _ t c.in_ok-changes.changes.items gone c.requires.space c.creation.result (c.creation.ensures ∙ t.admission.creation) c.if-creation.false
+    c.args.self.now.opening (c.creation-creation.result + 1) c.requires.keeps.opening (ap (λ (n : ℕ). n + 1) c.creation-creation.ensures)))

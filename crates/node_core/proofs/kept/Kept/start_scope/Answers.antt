@@ -1,15 +1,14 @@
-use Rattle.node_core.proofs.Words.{arith, length, refl, subst, sym, ◌<◌, ◌∙◌, Rises, text_cmp, running_rises, link_words, ap, cond, not, nat_lt, running_scopes, Some, None, Rule}
+use Rattle.node_core.proofs.Words.{arith, length, refl, subst, sym, ◌<◌, ◌∙◌, Rises, text_cmp, running_rises, link_words, ap, Rule}
 use Rattle.node_core.proofs.Answering.{accepts, refuses, wanted}
 use Rattle.node_core.proofs.MessagePlaces.{placed_is}
 use Rattle.node_core.proofs.Told.{alike_again, follow_idle}
-use Rattle.node_core.proofs.Starting.{start_next, start_follows, scopes_full}
+use Rattle.node_core.proofs.Starting.{start_now, scopes_full}
 use Rattle.node_core.proofs.Searched.{scopes_ascend}
 use Rattle.node_core.proofs.kept.Kept.start_scope.Goals as goal
 
 pub returns-then-is_some : goal.returns-then-is_some
 returns-then-is_some g c = refuses c.requires _ Rule.ScopeRunning
-    (ap (λ b. cond (not (not b)) (Some Rule.ScopeRunning) (cond (not (nat_lt (length (running_scopes g.call.past)) 64)) (Some Rule.ScopesFull) None))
-    (sym (placed_is c.requires.keeps.follows c.args.scope.now) ∙ sym (rw (c.place_of.ensures, c.deref.ensures.value) at c.is_some.ensures) ∙ c.if-is_some.true)) refl
+    (rw (sym (placed_is c.requires.keeps.follows c.args.scope.now) ∙ sym (rw (c.place_of.ensures, c.deref.ensures.value) at c.is_some.ensures) ∙ c.if-is_some.true)) refl
 
 pub returns-then-len-ge-MAX_SCOPES : goal.returns-then-len-ge-MAX_SCOPES
 returns-then-len-ge-MAX_SCOPES g c =
@@ -33,13 +32,9 @@ returns g c =
     let scope = c.args.scope.now in
     let stopped = sym (placed_is t scope) ∙ sym (rw (c.place_of.ensures, c.deref.ensures.value) at c.is_some.ensures) ∙ c.if-is_some.false in
     let few : length c.args.self.now.scopes.items < 64 = omega (arith, c.len.ensures, c.if-len-ge-MAX_SCOPES.false) in
-    let next = start_next h g.call.seat scope _ t stopped c.requires.space few in
     let new = c.in_ok-running.ensures in
-    accepts c.requires _ _ refl _ _ _ c.done.ensures (
-      next,
-      rw (c.put_in.ensures, c.in_ok-reserve.ensures.items)
-          (start_follows h g.call.seat scope _ t stopped next c.in_ok-running.running new.scope (new.own ∙ ap (λ o. o.name) c.requires.keeps.opening) new.rows new.links.0 new.links.1 c.asked_scope.new.links.items new.told),
-    )
+    accepts c.requires _ _ refl _ _ _ c.done.ensures (rw (c.put_in.ensures, c.in_ok-reserve.ensures.items)
+    (start_now h g.call.seat scope _ t stopped c.requires.space few c.in_ok-running.running new.scope (new.own ∙ ap (λ o. o.name) c.requires.keeps.opening) new.rows new.links.0 new.links.1 c.asked_scope.new.links.items new.told))
 
 pub place_of-requires : goal.place_of-requires
 place_of-requires g c = rw c.deref.ensures.value (scopes_ascend c.requires.keeps.follows)

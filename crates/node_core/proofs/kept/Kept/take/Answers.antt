@@ -1,14 +1,13 @@
-use Rattle.node_core.proofs.Words.{None, Some, ap, cond, length, not, refl, sym, ◌<◌, ◌∙◌, get_or-set_same, Rule}
+use Rattle.node_core.proofs.Words.{ap, get_or_default, length, refl, sym, ◌<◌, ◌∙◌, get_or-set_same, Rule}
 use Rattle.node_core.proofs.Answering.{accepts, refuses}
 use Rattle.node_core.proofs.KeptOn.{not_kept, link_at}
-use Rattle.node_core.proofs.Preparing.{same_at}
-use Rattle.node_core.proofs.Taking.{emptied, taken_next, taken_follows}
+use Rattle.node_core.proofs.Taking.{emptied, taken_now}
 use Rattle.node_core.proofs.Searched.{links_in_order}
 use Rattle.node_core.proofs.kept.Kept.take.Goals as goal
 
 pub returns-in_default : goal.returns-in_default
-returns-in_default g c = refuses c.requires _ Rule.NoSuchLink (ap (λ b. cond (not b) (Some Rule.NoSuchLink) None)
-    (not_kept g.call.past c.requires.keeps.follows.sound.legal c.args.self.now.links.items c.requires.keeps.follows.links c.args.number (rw c.deref.ensures.value at (sym c.place_of.ensures ∙ c.in_default.is)))) refl
+returns-in_default g c = refuses c.requires _ Rule.NoSuchLink
+    (rw (not_kept g.call.past c.requires.keeps.follows.sound.legal c.args.self.now.links.items c.requires.keeps.follows.links c.args.number (rw c.deref.ensures.value at (sym c.place_of.ensures ∙ c.in_default.is)))) refl
 
 pub returns : goal.returns
 returns g c =
@@ -18,16 +17,12 @@ returns g c =
     let found = rw c.deref.ensures.value at (sym c.place_of.ensures ∙ c.in-Some.is) in
     let at = link_at h t.sound.legal links t.links c.args.number c.in-Some.place c.index_mut.result.now found in
     let within : c.in-Some.place < length links = at.2 in
-    let frames = c.in_ok-copies.ensures ∙ c.frames.ensures ∙ ap (λ x. x.frames) (c.index.ensures ∙ same_at links c.in-Some.place c.index.result.now c.index_mut.result.now within) in
+    let frames = c.in_ok-copies.ensures ∙ c.frames.ensures ∙ ap (λ x. x.frames) (c.index.ensures ∙ get_or_default links c.in-Some.place c.index.result.now c.index_mut.result.now within) in
     let handed = c.hand_over-frames.ensures.frames ∙ ap (λ x. x.frames) c.index_mut.ensures.value in
-    let next = taken_next h g.call.seat c.args.number c.hand_over-frames.result _ t c.in-Some.place c.index_mut.result.now found c.requires.space handed in
     let new = c.hand_over-frames.ensures.left ∙ ap (λ x. emptied x c.hand_over-frames.new.self.room) c.index_mut.ensures.value in
     let same = get_or-set_same links c.in-Some.place c.hand_over-frames.new.self c.index_mut.result.now within in
-    accepts c.requires _ _ refl _ _ _ (rw c.new-nothing.ensures.items at c.both.ensures) (
-      next,
-      rw (c.drop_ended.ensures c.index_mut.result.now)
-          (taken_follows h g.call.seat c.args.number c.hand_over-frames.result _ t c.in-Some.place c.index_mut.result.now found next c.hand_over-frames.new.self _ c.hand_over-frames.new.self.room new same),
-    )
+    accepts c.requires _ _ refl _ _ _ (rw c.new-nothing.ensures.items at c.both.ensures) (rw (c.drop_ended.ensures c.index_mut.result.now)
+    (taken_now h g.call.seat c.args.number c.hand_over-frames.result _ t c.in-Some.place c.index_mut.result.now found c.requires.space handed c.hand_over-frames.new.self _ c.hand_over-frames.new.self.room new same))
 
 pub place_of-requires : goal.place_of-requires
 place_of-requires g c = rw c.deref.ensures.value (links_in_order c.requires.keeps.follows)

@@ -1,10 +1,21 @@
-use Rattle.node_core.proofs.Words.{ap, arith, length, refl, ◌≡◌, Event, Reply, Rule, with_place}
+use Rattle.node_core.proofs.Words.{ap, arith, length, refl, subst, sym, ℕ, List, None, Ok, Err, OnErr, OnOk, Option, Result, Some, suc, ◌≡◌, IsSome, lie}
+use Rattle.node_core.proofs.Words.{no_value, option_map, follows_moved, Event, Reply, Rule, with_place}
+use Rattle.group_monitors.specs.declared.monitor.Monitor.{Monitor}
 use Rattle.group_monitors.specs.Monitors.{monitor_of, updates_behind}
 use Rattle.group_monitors.proofs.FromPolicy.{follows_refused, follows_seen, follows_told}
 use Rattle.node_core.proofs.Answering.{accepts, refuses}
-use Rattle.node_core.proofs.Calm.{answered, quiet_next}
-use Rattle.node_core.proofs.Watching.{advanced, fetched, told_one}
+use Rattle.node_core.proofs.Calm.{entered}
 use Rattle.node_core.proofs.kept.Kept.updates.Goals as goal
+
+-- the place of a monitor that is there is moved
+advanced : {E : Type 0} (o : Result (Unit {0}) E) (found : Option Monitor) (ms new : List (ℕ × Monitor)) → IsSome found → OnOk o (IsSome found × (new ≡ ms)) → OnErr o (found ≡ None) → new ≡ ms
+advanced (Ok u) found ms new some ok refused = ok.1
+advanced (Err e) found ms new some ok refused = lie (sym (subst IsSome refused some))
+
+-- what is told is told of a monitor
+told_one : {A : Type 0} (f : Monitor → A) (found : Option Monitor) (a : A) → option_map f found ≡ Some a → IsSome found
+told_one f None a is = no_value (sym is)
+told_one f (Some m) a is = refl
 
 pub updates-requires : goal.updates-requires
 updates-requires g c = rw c.requires.1 (follows_seen g.call.past c.args.self.now.monitors c.requires.0.called.keeps.follows.monitors c.args.seat c.args.number)
@@ -20,9 +31,8 @@ returns g c =
     let monitors = c.args.self.now.monitors in
     let behind = rw (c.requires.1, c.requires.0.seat_is) at c.in-Ok.ensures.ok in
     let told = follows_told h monitors t.monitors g.call.seat c.args.number c.in-Ok.updates behind in
-    let reply = Reply.Updates c.in-Ok.updates in
-    let next = quiet_next h g.call.seat reply (Event.Updates c.args.number) c.requires.0.called.space told.0 (ap Reply.Updates told.1) refl in
     let some = told_one (updates_behind h.entries) (monitor_of monitors g.call.seat c.args.number) c.in-Ok.updates behind in
-    let place : c.args.place ≡ length (answered h g.call.seat (Event.Updates c.args.number) reply).entries = (let is = c.requires.0.number_is in omega (arith, is)) in
+    let place : c.args.place ≡ suc (length h.entries) = (let is = c.requires.0.number_is in omega (arith, is)) in
     let moved = advanced c.advance_to.result (monitor_of monitors g.call.seat c.args.number) (with_place g.call.seat c.args.number c.args.place monitors) c.advance_to.new.self some (rw c.requires.0.seat_is at c.advance_to.ensures.ok) (rw c.requires.0.seat_is at c.advance_to.ensures.refused) in
-    accepts c.requires.0.called _ _ refl _ _ _ c.in_ok-answered.ensures (next, rw (moved, place) (fetched h g.call.seat reply _ t c.args.number next))
+    accepts c.requires.0.called _ _ refl _ _ _ c.in_ok-answered.ensures (rw (moved, place)
+    (entered t g.call.seat (Event.Updates c.args.number) refl c.requires.0.called.space told.0 (ap Reply.Updates told.1) (λ its. (t.admission, t.processes, follows_moved h _ _ refl t.monitors refl c.args.number refl))))

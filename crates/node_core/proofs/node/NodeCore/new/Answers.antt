@@ -1,5 +1,5 @@
 use Rattle.node_core.proofs.Words.{rules}
-use Rattle.node_core.proofs.Begun.{begun}
+use Rattle.node_core.proofs.Anew.{begun}
 use Rattle.node_core.proofs.node.NodeCore.new.Goals as goal
 
 pub invariant_of-result : goal.invariant_of-result
