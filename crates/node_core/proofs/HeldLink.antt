@@ -1,10 +1,11 @@
 -- A link that is taken out of the kept ones, and apart from its state, while it hears a frame.
-use Rattle.node_core.proofs.Words.{is_whole, AdmissionRules, Pending, first_broken, checks, Event, rule_of, state_checks, Rule, Hears, Heard, IsNext, Refused, with_entry, refusal_owes}
-use Rattle.node_core.proofs.Words.{is_full, is_open, true, false, Bool, List, None, Option, Some, ap, arith, cond, find, get_or, length, nat_eq, position}
-use Rattle.node_core.proofs.Words.{refl, set, subst, suc, sym, zero, ℕ, [], ◌∷◌, ◌<◌, ◌∙◌, ◌≡◌, ◌≤◌, ◌++◌, get_or-set_same, option_map, option_map_or}
-use Rattle.node_core.proofs.Words.{kept_climbs, same, is_empty, History, Follows, Parts, IsLinkOf, IsState, facts, link_words}
-use Rattle.node_core.proofs.Words.{KeptLink, StatelessLink, in_state, with_room, LinkState, IsReady, HaveMoved, OutFrame, moved_on, without_link, waiting, Climbs, eq-eqb, eqb-true, filter, list_all, ltb-true, map, nat_lt, not, narrow_frames, HaveEnded}
-use Rattle.node_core.proofs.Words.{dial_beside, dialled_peer, up_peer, older_of}
+use Rattle.node_core.proofs.Words.{is_whole, AdmissionRules, Pending, first_broken, checks, Event, rule_of, state_checks, Rule, Hears, Heard, IsNext}
+use Rattle.node_core.proofs.Words.{Refused, with_entry, refusal_owes, is_full, is_open, true, false, Bool, List, None, Option, Some, ap, arith, cond}
+use Rattle.node_core.proofs.Words.{find, get_or, length, nat_eq, position, refl, set, subst, suc, sym, zero, ℕ, [], ◌∷◌, ◌<◌, ◌∙◌, ◌≡◌, ◌≤◌, ◌++◌}
+use Rattle.node_core.proofs.Words.{get_or-set_same, option_map, option_map_or, kept_climbs, same, is_empty, History, Follows, Parts, IsLinkOf}
+use Rattle.node_core.proofs.Words.{IsState, facts, link_words, KeptLink, StatelessLink, in_state, with_room, LinkState, IsReady, HaveMoved, OutFrame}
+use Rattle.node_core.proofs.Words.{moved_on, without_link, waiting, Climbs, eq-eqb, eqb-true, filter, list_all, ltb-true, map, nat_lt, not}
+use Rattle.node_core.proofs.Words.{narrow_frames, HaveEnded, dial_beside, dialled_peer, up_peer, older_of}
 use Rattle.std.specs.List.{insert, remove}
 use Rattle.node_core.proofs.HeardFrames.{is_there, link_there, state_there}
 use Rattle.node_core.proofs.KeptOn.{below, each_at, filter_set, one_follows}
@@ -135,10 +136,7 @@ module _ {h : History} {parts : Parts} (t : Follows h parts) {j p : ℕ} {v w ou
       by true {gs = gs} q = changed_before parts.links p w
           ∙ sym (others_stay parts.links p v (subst Climbs (sym t.links.numbers) (kept_climbs h t.sound.legal)) here)
           ∙ ap (λ (n : ℕ). filter (λ (x : KeptLink). not (nat_eq x.number n)) parts.links) there
-          ∙ sym (filter_set (λ x. not (nat_eq x.number j)) parts.links p v (moved_on LinkState.Ended gs m.room (get_or parts.links p v)) here unlike unlike)
-        where
-          unlike : not (nat_eq (get_or parts.links p v).number j) ≡ false
-          unlike = ap not (eq-eqb _ j there)
+          ∙ sym (filter_set (λ x. not (nat_eq x.number j)) parts.links p v (moved_on LinkState.Ended gs m.room (get_or parts.links p v)) here (grind (arith, eq-eqb, there)) (grind (arith, eq-eqb, there)))
 
   -- where the frame breaks a rule, it ends
   pub held_broke : (seat : ℕ) (body : List ℕ) → is_whole j h.entries ≡ false → (rules : AdmissionRules) (pending : Pending) → first_broken (checks h seat (Event.Frame j body)) ≡ option_map rule_of (state.first_broken (state_checks rules pending s body))

@@ -1,8 +1,8 @@
 -- What a binary search finds among links and scopes, which are kept in order.
-use Rattle.node_core.proofs.Words.{AllByRecursion, Bool, Climbs, Equal, Err, Follows, Greater, History, Less, List, None, Ok, Ordering, Parts, Result, Rises, Some}
-use Rattle.node_core.proofs.Words.{ap, arith, cond, false, get_or, is_gt, kept_climbs, length, lie, list_all, lt-ltb, map, nat_eq, nat_lt, position, refl}
-use Rattle.node_core.proofs.Words.{running_rises, same, same_decides, subst, suc, sym, text_cmp, texts_total, true, zero, ℕ, [], ◌<◌, ◌∙◌, ◌∷◌, ◌≡◌}
-use Rattle.node_core.proofs.Words.{eq-eqb, eqb-true, ltb-true, ltb-false, find, list_any, position-Some, KeptLink, Running, ◌+◌}
+use Rattle.node_core.proofs.Words.{AllByRecursion, Bool, Climbs, Equal, Err, Follows, Greater, History, Less, List, None, Ok, Ordering, Parts, Result}
+use Rattle.node_core.proofs.Words.{Rises, Some, ap, arith, cond, false, get_or, kept_climbs, length, lie, list_all, lt-ltb, map, nat_eq, nat_lt}
+use Rattle.node_core.proofs.Words.{position, refl, running_rises, same, same_decides, subst, suc, sym, text_cmp, texts_total, true, zero, ℕ, [], ◌<◌}
+use Rattle.node_core.proofs.Words.{◌∙◌, ◌∷◌, ◌≡◌, eq-eqb, eqb-true, ltb-true, ltb-false, find, list_any, position-Some, KeptLink, Running, ◌+◌}
 use Rattle.std.specs.Ordering.{is_lt, nat_cmp, ordering_reverse}
 use Rattle.std.specs.List.{position_or_len}
 use Rattle.std.specs.List.Sorted.{IsBinarySearchResult, IsPartitionPoint, IsSearchInRange, IsSortedBy}
@@ -56,12 +56,8 @@ module _ {X K : Type 0} {cmp : K → K → Ordering} (total : IsTotalOrder cmp) 
 
       at : position_or_len (λ y. same (key y) k) (x ∷ xs) ≡ length (x ∷ xs)
       at = position_or_len_is (λ y. same (key y) k) (x ∷ xs) (length (x ∷ xs)) x (omega arith)
-          (λ n l. apart _ k (λ q. by n l q (nat_lt n i) refl))
+          (λ n l. apart _ k (λ q. grind (arith, q, l, gap.0 n x, gap.1 n x, ltb-true n i, ltb-false n i)))
           (λ l. absurd (omega (arith, l)))
-        where
-          by : (n : ℕ) → n < length (x ∷ xs) → cmp (key (get_or (x ∷ xs) n x)) k ≡ Equal → (c : Bool) → nat_lt n i ≡ c → ⊥
-          by n l q true m = lie (ap is_lt (sym (gap.0 n x (omega arith) (ltb-true n i m)) ∙ q))
-          by n l q false m = lie (ap is_gt (sym (gap.1 n x (omega (arith, ltb-false n i m)) l) ∙ q))
 
 -- what stands at the first place that passes, and that nothing does where there is none
 module _ {A : Type 0} (test : A → Bool) where
