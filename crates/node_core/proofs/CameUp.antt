@@ -104,19 +104,13 @@ module _ (h : History) (legal : IsLegal h) (j : ℕ) (body : List ℕ) (up : Lin
   abbrev k : History
   k = with_entry h e
 
-  open_still : (l : ℕ) → stays_but (present_link up.peer h.entries) l ≡ true → is_open l k.entries ≡ is_open l h.entries
-  open_still l q = grind (arith, (proved_links h e answered yes j body is up.peer c.last c.known.peer.peer l).open_is, replaced_is h legal up.peer j c.unwhole l)
-
-  own_open : is_open j k.entries ≡ is_open j h.entries
-  own_open = grind (arith, (proved_links h e answered yes j body is up.peer c.last c.known.peer.peer j).open_is, eq-eqb j j refl)
-
   pub came_up_moves : AreMoves h k j (LinkState.Up up) (narrow_frames frames ++ discovers h j) (stays_but (present_link up.peer h.entries))
   came_up_moves = record {
     state =
         let on = c.on e answered yes is in
-        (own_awaits h e answered yes j body is on own_open, still_introduced h e answered yes j body is on up.peer up.creation up.visible up.proof c.known);
+        (own_awaits h e answered yes j body is on (grind (arith, (proved_links h e answered yes j body is up.peer c.last c.known.peer.peer j).open_is, eq-eqb j j refl)), still_introduced h e answered yes j body is on up.peer up.creation up.visible up.proof c.known);
     frames = grind (arith, (proved_links h e answered yes j body is up.peer c.last c.known.peer.peer j).waiting_is, eq-eqb j j refl, c.owes);
-    others = λ l apart q. other_facts h e answered yes j body is l apart (open_still l q);
+    others = λ l apart q. other_facts h e answered yes j body is l apart (grind (arith, (proved_links h e answered yes j body is up.peer c.last c.known.peer.peer l).open_is, replaced_is h legal up.peer j c.unwhole l));
     waits = λ l apart q. grind (arith, (proved_links h e answered yes j body is up.peer c.last c.known.peer.peer l).waiting_is, replaced_is h legal up.peer j c.unwhole l);
     numbers =
         proved_numbers h e yes answered j body is up.peer c.last c.known.peer.peer

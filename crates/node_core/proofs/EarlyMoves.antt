@@ -80,10 +80,6 @@ module _ (h : History) (legal : IsLegal h) (rules : AdmissionRules) (t : Admissi
   kept_open : (l : ℕ) → (is_open l h.entries && given_up_by j f h.entries l) ≡ false → is_open l (with_entry h e).entries ≡ is_open l h.entries
   kept_open l q = grind (arith, (named_links h e answered yes j body is f a.0.awaited said l).open_is)
 
-  -- its own link isn't given up
-  not_itself : (is_open j h.entries && given_up_by j f h.entries j) ≡ false
-  not_itself = grind (arith, eq-eqb j j refl)
-
   introduced_now : IsIntroduced (facts (with_entry h e) j) f.name f.creation (is_visible rules f.flags) c
   introduced_now =
       let on = name_taken h e answered yes j body is f a.0.awaited said in
@@ -97,7 +93,7 @@ module _ (h : History) (legal : IsLegal h) (rules : AdmissionRules) (t : Admissi
       → ((l : ℕ) → (is_open l h.entries && given_up_by j f h.entries l) ≡ not (stays_but gone l)) → AreMoves h (with_entry h e) j next more (stays_but gone)
   name_moves next more gone state frames ends = record {
     state = state;
-    frames = grind (arith, (named_links h e answered yes j body is f a.0.awaited said j).waiting_is, not_itself, eq-eqb j j refl, frames);
+    frames = grind (arith, (named_links h e answered yes j body is f a.0.awaited said j).waiting_is, eq-eqb j j refl, frames);
     others = λ l apart stays. other_facts h e answered yes j body is l apart (kept_open l (ends l ∙ ap not stays));
     waits = λ l apart stays. grind (arith, (named_links h e answered yes j body is f a.0.awaited said l).waiting_is, ends l);
     numbers = named_numbers h e yes answered j body is f a.0.awaited said ∙ same_stay (λ l. not (is_open l h.entries && given_up_by j f h.entries l)) (stays_but gone) (kept_numbers h) (λ l. grind (arith, ends l));
@@ -114,7 +110,7 @@ module _ (h : History) (legal : IsLegal h) (rules : AdmissionRules) (t : Admissi
 
   module _ (kept : List KeptLink) (follow : LinksFollow (link_words h) kept) where
     awaited : (up : Bool) → is_name_up f.name h.entries ≡ up → Awaits (facts (with_entry h e) j) (cond up AwaitAnswer AwaitReply) false
-    awaited up u = subst (λ b. Awaits (facts (with_entry h e) j) (cond b AwaitAnswer AwaitReply) false) u (own_awaits h e answered yes j body is (name_taken h e answered yes j body is f a.0.awaited said) (kept_open j not_itself))
+    awaited up u = subst (λ b. Awaits (facts (with_entry h e) j) (cond b AwaitAnswer AwaitReply) false) u (own_awaits h e answered yes j body is (name_taken h e answered yes j body is f a.0.awaited said) (kept_open j (grind (arith, eq-eqb j j refl))))
 
     pub name_goes : (up dialled : Bool) → is_name_up f.name h.entries ≡ up → is_dialling f.name h.entries ≡ dialled → Goes h (with_entry h e) j (λ now. dial_beside now kept) (heard_named (named_of up dialled))
     name_goes true dialled u d = name_moves (LinkState.Answer (introduced rules c f)) (narrow_frames (owes.greeting_owed rules c StatusWord.Alive)) None

@@ -92,15 +92,12 @@ module _ (h : History) (e : Entry) (answered : IsAnswered h e) (yes : is_accepte
 
   -- a frame that ends no link and isn't the last of its side
   module _ (inner : is_last (awaits j h.entries) ≡ false) (unnamed : named_by (awaits j h.entries) body ≡ None) where
-    inner_open : (l : ℕ) → is_open l k.entries ≡ is_open l h.entries
-    inner_open l = (handshake_links h e answered yes j body is inner unnamed l).open_is
-
     pub inner_moves : {gave : Option Name} {of : Option (List ℕ)} {next : Awaited} {ends : Bool} → IsOnward j h.entries e gave of next ends → (now : LinkState) (more : List OutFrame)
         → (Awaits (facts k j) next ends → IsState (facts k j) now) → frame_owes h j body (awaits j h.entries) ≡ more → AreMoves h k j now more (stays_but None)
     inner_moves on now more state owed = record {
-      state = state (own_awaits on (inner_open j));
+      state = state (own_awaits on (handshake_links h e answered yes j body is inner unnamed j).open_is);
       frames = grind (arith, (handshake_links h e answered yes j body is inner unnamed j).waiting_is, eq-eqb j j refl, owed);
-      others = λ l apart stays. other_facts l apart (inner_open l);
+      others = λ l apart stays. other_facts l apart (handshake_links h e answered yes j body is inner unnamed l).open_is;
       waits = λ l apart stays. grind (arith, (handshake_links h e answered yes j body is inner unnamed l).waiting_is);
       numbers = framed_numbers h e yes answered j body is inner unnamed ∙ sym (filter_all (λ x. true) (λ x. refl) (kept_numbers h));
     }
@@ -146,10 +143,7 @@ module _ (h : History) (seat j : ℕ) (body : List ℕ) (r : Rule) where
     }
 
     module _ (parts : Parts) (t : Follows h parts) (p : ℕ) (d : KeptLink) (less : p < length parts.links) (is : (get_or parts.links p d).number ≡ j) where
-      refused_follow : (room : ℕ) → LinksFollow (link_words (with_entry h e)) (without_link gone (set parts.links p (moved_on LinkState.Ended more room (get_or parts.links p d))))
-      refused_follow room = moved_follow h _ t.sound.legal j LinkState.Ended more gone refused_moves parts.links t.links p d less is room
-
       pub refused_follows : IsNext h e → (room : ℕ) (new : List KeptLink) → new ≡ without_link gone (set parts.links p (moved_on LinkState.Ended more room (get_or parts.links p d))) → Follows (with_entry h e) (record parts { links = new })
       refused_follows next room new is_so = step_follows t next refl t.admission t.processes
           (subst (λ w. ScopesFollow w parts.scopes) (sym refused_scopes) t.scopes)
-          (subst (LinksFollow (link_words (with_entry h e))) (sym is_so) (refused_follow room))
+          (subst (LinksFollow (link_words (with_entry h e))) (sym is_so) (moved_follow h _ t.sound.legal j LinkState.Ended more gone refused_moves parts.links t.links p d less is room))

@@ -28,9 +28,8 @@ module _ {X K : Type 0} {cmp : K → K → Ordering} (total : IsTotalOrder cmp) 
 
   rises_at : (xs : List X) → Rises cmp (map key xs) → (i j : ℕ) (d : X) → i < j → j < length xs → cmp (key (get_or xs i d)) (key (get_or xs j d)) ≡ Less
   rises_at [] r i j d l h = absurd (omega (arith, h))
-  rises_at (x ∷ xs) r zero zero d l h = absurd (omega (arith, l))
+  rises_at (x ∷ xs) r i zero d l h = absurd (omega (arith, l))
   rises_at (x ∷ xs) r zero (suc j) d l h = below (key x) xs r.0 j d (omega (arith, h))
-  rises_at (x ∷ xs) r (suc i) zero d l h = absurd (omega (arith, l))
   rises_at (x ∷ xs) r (suc i) (suc j) d l h = rises_at xs r.1 i j d (omega (arith, l)) (omega (arith, h))
 
   sorted : (xs : List X) → Rises cmp (map key xs) → IsSortedBy (λ a b. is_lt (cmp (key a) (key b))) xs

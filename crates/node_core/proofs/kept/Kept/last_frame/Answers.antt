@@ -1,4 +1,4 @@
-use Rattle.node_core.proofs.Words.{arith, ap, length, length-map, refl, ◌∙◌, ◌≡◌, ◌≤◌, ◌+◌, Reply, nobody}
+use Rattle.node_core.proofs.Words.{arith, ap, rules, length, length-map, refl, ◌∙◌, ◌≡◌, ◌≤◌, ◌+◌, Reply, nobody}
 use Rattle.std.specs.List.{insert}
 use Rattle.node_core.proofs.Answering.{accepts, ends, wanted, wants}
 use Rattle.node_core.proofs.HeldLink.{IsHeld, held_ready, held_restored, room_follows}
@@ -10,8 +10,7 @@ use Rattle.node_core.proofs.kept.Kept.last_frame.Goals as goal
 -- the link, with room, taken out and apart from its state
 held : (g : Over) (c : After-into_parts-state g) → IsHeld g.call.past c.args.self.now.links.items c.args.number c.args.place
     c.index_mut.result.now c.make_room.new.self c.remove.result c.into_parts-state.result.0 c.into_parts-state.result.1 c.remove.new.self.items
-held g c = grind (arith, c.requires.link.called.space, c.requires.opens, c.requires.link.here, c.index_mut.ensures.value, c.make_room.ensures.same, c.remove.ensures.value,
-    c.into_parts-state.ensures, c.remove.ensures.items)
+held g c = search rules
 
 pub returns-in_err-make_room : goal.returns-in_err-make_room
 returns-in_err-make_room g c = wanted c.requires.link.called _ _ refl
