@@ -1,26 +1,20 @@
 -- What the last frame of a handshake leads to, by the policy's words.
-use Rattle.node_core.proofs.Words.{Bool, List, None, Option, Some, ap, false, not, refl, subst, sym, true, ℕ, ◌&&◌, ◌++◌, ◌∙◌, ◌≡◌}
-use Rattle.node_core.proofs.Words.{option_map, option_map_or, unwrap_or, reply_frame, AdmissionRules, Linked, Pending, lie}
-use Rattle.node_core.proofs.Words.{checks, first_broken, History, is_accepted, is_open}
-use Rattle.node_core.proofs.Words.{discovers, frame_owes, IsAnswered, answer, AwaitMessage, awaits, is_last}
-use Rattle.node_core.proofs.Words.{is_whole, peer_of, Entry, AdmissionFollows, admission_words, Hears, rule_of, IsIntroduced}
-use Rattle.node_core.proofs.Words.{IsState, facts, known_peer, narrow_frames, up_peer, ack_owed, linked, given, IsOnward, Heard, LinkState}
-use Rattle.node_core.proofs.Words.{Event, Reply, find, nat_eq, eq-eqb, eqb-true, same_decides, same}
-use Rattle.node_core.proofs.Words.{is_up, IsLegal, with_entry, is_peer, present_link, older_of, IsLinkOf, LinksFollow}
+use Rattle.node_core.proofs.Words.{Bool, List, None, Option, Some, ap, false, not, refl, subst, sym, true, ℕ, ◌&&◌, ◌++◌, ◌∙◌, ◌≡◌, option_map}
+use Rattle.node_core.proofs.Words.{option_map_or, unwrap_or, reply_frame, AdmissionRules, Linked, Pending, lie, checks, first_broken, History}
+use Rattle.node_core.proofs.Words.{is_accepted, is_open, discovers, frame_owes, IsAnswered, answer, AwaitMessage, awaits, is_last, is_whole, peer_of}
+use Rattle.node_core.proofs.Words.{Entry, AdmissionFollows, admission_words, Hears, rule_of, IsIntroduced, IsState, facts, known_peer, narrow_frames}
+use Rattle.node_core.proofs.Words.{up_peer, ack_owed, linked, given, IsOnward, Heard, LinkState, Event, Reply, find, nat_eq, eq-eqb, eqb-true}
+use Rattle.node_core.proofs.Words.{same_decides, same, is_up, IsLegal, with_entry, is_peer, present_link, older_of, IsLinkOf, LinksFollow}
 use Rattle.node_core.proofs.Words.{kept_numbers, link_words, KeptLink, agrees, arith}
 use Rattle.policy_audit.specs.Sides.{is_visible}
 use Rattle.policy_audit.proofs.Onward.{reply_taken, ack_taken}
 use Rattle.node_core.proofs.Found.{some_is, found_in, none_found}
-use Rattle.node_core.proofs.FrameRules.{digest_is, other_facts, own_awaits, same_stay, still_introduced}
+use Rattle.node_core.proofs.FrameRules.{digest_is, other_facts, own_awaits, same_stay, still_introduced, last_rules}
 use Rattle.policy_audit.proofs.LinkFrames.{proved_links, replaced_by}
 use Rattle.policy_audit.proofs.LinksLeft.{proved_numbers}
 use Rattle.node_core.proofs.MovedOn.{AreMoves, stays_but}
 use Rattle.node_core.proofs.LinkTests.{up_is, up_by, peer_by_test}
 use Rattle.node_core.proofs.HeardFrames.{by_all, is_last_state}
-use Rattle.node_core.proofs.FrameRules.{last_rules}
-
-pub not_up_yet : (s : LinkState) → is_last_state s ≡ true → up_peer s ≡ None
-not_up_yet s q = grind arith
 
 -- the link comes up with its last frame
 pub record ComesUp (h : History) (j : ℕ) (body : List ℕ) (up : Linked) (frames : List (List ℕ)) : Type 0 where
@@ -110,19 +104,13 @@ module _ (h : History) (legal : IsLegal h) (j : ℕ) (body : List ℕ) (up : Lin
   abbrev k : History
   k = with_entry h e
 
-  open_still : (l : ℕ) → stays_but (present_link up.peer h.entries) l ≡ true → is_open l k.entries ≡ is_open l h.entries
-  open_still l q = grind (arith, (proved_links h e answered yes j body is up.peer c.last c.known.peer.peer l).open_is, replaced_is h legal up.peer j c.unwhole l)
-
-  own_open : is_open j k.entries ≡ is_open j h.entries
-  own_open = grind (arith, (proved_links h e answered yes j body is up.peer c.last c.known.peer.peer j).open_is, eq-eqb j j refl)
-
   pub came_up_moves : AreMoves h k j (LinkState.Up up) (narrow_frames frames ++ discovers h j) (stays_but (present_link up.peer h.entries))
   came_up_moves = record {
     state =
         let on = c.on e answered yes is in
-        (own_awaits h e answered yes j body is on own_open, still_introduced h e answered yes j body is on up.peer up.creation up.visible up.proof c.known);
+        (own_awaits h e answered yes j body is on (grind (arith, (proved_links h e answered yes j body is up.peer c.last c.known.peer.peer j).open_is, eq-eqb j j refl)), still_introduced h e answered yes j body is on up.peer up.creation up.visible up.proof c.known);
     frames = grind (arith, (proved_links h e answered yes j body is up.peer c.last c.known.peer.peer j).waiting_is, eq-eqb j j refl, c.owes);
-    others = λ l apart q. other_facts h e answered yes j body is l apart (open_still l q);
+    others = λ l apart q. other_facts h e answered yes j body is l apart (grind (arith, (proved_links h e answered yes j body is up.peer c.last c.known.peer.peer l).open_is, replaced_is h legal up.peer j c.unwhole l));
     waits = λ l apart q. grind (arith, (proved_links h e answered yes j body is up.peer c.last c.known.peer.peer l).waiting_is, replaced_is h legal up.peer j c.unwhole l);
     numbers =
         proved_numbers h e yes answered j body is up.peer c.last c.known.peer.peer

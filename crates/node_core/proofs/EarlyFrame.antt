@@ -1,17 +1,14 @@
 -- The node after an accepted frame that isn't the last of a handshake.
-use Rattle.node_core.proofs.Words.{leb-true}
-use Rattle.node_core.proofs.Words.{arith, Bool, List, None, Option, Some, ap, cond, false, refl, subst, sym, true, ℕ, [], ◌∙◌, ◌≡◌, option_map}
-use Rattle.node_core.proofs.Words.{same_decides, Pid, challenge_frame, name_frame, status_of}
-use Rattle.node_core.proofs.Words.{AdmissionRules, found, is_dialled, Pending, lie, no_change}
-use Rattle.node_core.proofs.Words.{History, is_dialling, listed, running_scopes, IsAnswered, IsLegal, IsNext, is_full}
-use Rattle.node_core.proofs.Words.{with_entry, awaits, is_last, is_name_up, Entry, Accepted, Rule, AdmissionFollows}
-use Rattle.node_core.proofs.Words.{admission_words, heard_named, rule_of, IsState, LinksFollow, facts, link_words, KeptLink, dial_beside}
-use Rattle.node_core.proofs.Words.{dialled_peer, narrow_frames, scope_words, status_owed, reply_owed, Heard}
-use Rattle.node_core.proofs.Words.{LinkState, state_checks, accepted_as, Event, Reply, length, ◌≤◌, flat_map, option_to_list, Linked}
-use Rattle.node_core.proofs.Words.{is_whole, Refused, Follows, Parts, HaveEnded, Hears, is_handshake, StatelessLink, up_peer}
+use Rattle.node_core.proofs.Words.{leb-true, arith, Bool, List, None, Option, Some, ap, cond, false, refl, subst, sym, true, ℕ, [], ◌∙◌, ◌≡◌}
+use Rattle.node_core.proofs.Words.{option_map, same_decides, Pid, challenge_frame, name_frame, status_of, AdmissionRules, found, is_dialled, Pending}
+use Rattle.node_core.proofs.Words.{lie, no_change, History, is_dialling, listed, running_scopes, IsAnswered, IsLegal, IsNext, is_full, with_entry}
+use Rattle.node_core.proofs.Words.{awaits, is_last, is_name_up, Entry, Accepted, Rule, AdmissionFollows, admission_words, heard_named, rule_of}
+use Rattle.node_core.proofs.Words.{IsState, LinksFollow, facts, link_words, KeptLink, dial_beside, dialled_peer, narrow_frames, scope_words}
+use Rattle.node_core.proofs.Words.{status_owed, reply_owed, Heard, LinkState, state_checks, accepted_as, Event, Reply, length, ◌≤◌, flat_map}
+use Rattle.node_core.proofs.Words.{option_to_list, Linked, is_whole, Refused, Follows, Parts, HaveEnded, Hears, is_handshake, StatelessLink, up_peer}
 use Rattle.node_core.proofs.Words.{ScopesFollow, HaveGoneOn}
 use Rattle.link_states.specs.Named.{named_by}
-use Rattle.link_states.specs.Pending.{is_up, is_up as is_pending_up}
+use Rattle.link_states.specs.Pending.{is_up}
 use Rattle.policy_audit.proofs.Finished.{is_message}
 use Rattle.policy_audit.proofs.HeardNow.{framed_heard}
 use Rattle.policy_audit.proofs.RowsAfter.{unfinished_rows}
@@ -19,13 +16,11 @@ use Rattle.node_core.proofs.EarlyMoves.{answer_moves, status_moves, challenge_mo
 use Rattle.node_core.proofs.Entered.{made, accepted_now, answered_now, step_follows}
 use Rattle.node_core.proofs.Found.{some_is}
 use Rattle.node_core.proofs.MovedOn.{moved_follow}
-use Rattle.node_core.proofs.HeardFrames.{is_early, early_state, is_there}
-use Rattle.node_core.proofs.HeldLink.{IsHeld, held_state, held_moved, beside_same}
+use Rattle.node_core.proofs.HeardFrames.{is_early, early_state, is_there, heard_leads, by_all}
+use Rattle.node_core.proofs.HeldLink.{IsHeld, held_state, held_moved, beside_same, held_broke}
 use Rattle.node_core.proofs.LinkTests.{ups_are, dials_are}
-use Rattle.link_states.specs.Checks as state_checked
-use Rattle.node_core.proofs.HeardFrames.{heard_leads, by_all}
-use Rattle.node_core.proofs.HeldLink.{held_broke}
 use Rattle.node_core.proofs.FrameRules.{early_rules}
+use Rattle.link_states.specs.Checks as state_checked
 
 module _ (h : History) (seat j : ℕ) (body : List ℕ) where
   -- the entry
@@ -62,7 +57,7 @@ module _ (h : History) (seat j : ℕ) (body : List ℕ) where
           → (dialled_peer s ≡ None → (now : LinkState) → dial_beside now kept ≡ beside now) → (r : Heard) → accepted_as rules pending s body ≡ Some r → Goes h k j beside r
       early_goes (LinkState.Name c) early a holds same_dial r q = by_all (Goes h k j beside) (λ f. heard_named (named_by rules pending c f)) (name_frame body) q
           (λ f said. subst (λ b. Goes h k j b (heard_named (named_by rules pending c f))) (λ i now. same_dial refl now i)
-          (name_goes h legal rules t e answered refl j body refl c a f said (grind (arith, holds, said, t.own)) kept follow pending (ups f.name) (dials f.name)))
+          (name_goes h legal rules t e answered refl j body refl c a f said (grind (arith, holds, said, t.own)) kept follow (is_up pending f.name) (is_dialled pending f.name) (sym (ups f.name)) (sym (dials f.name))))
       early_goes (LinkState.Answer s) early a holds same_dial r q = subst (Goes h k j beside) (some_is q) (answer_moves h rules t e answered refl j body refl s a)
       early_goes (LinkState.Status dial) early a holds same_dial r q = by_all (Goes h k j beside) (λ w. Heard.On (LinkState.Challenge dial) (status_owed w) false) (status_of body) q
           (λ w said. status_moves h rules t e answered refl j body refl dial w said a)
@@ -86,7 +81,7 @@ module _ {h : History} {parts : Parts} (t : Follows h parts) (seat : ℕ) (body 
     pub early_never_up : (up_now : Linked) (frames : List (List ℕ)) → Hears parts.admission pending s body (Heard.Up up_now frames) → ⊥
     early_never_up up_now frames hears = lie (sym (heard_leads parts.admission pending body s (Heard.Up up_now frames) hears.1) ∙ (grind (arith, early)))
 
-    ups_so : (n : List ℕ) → is_pending_up pending n ≡ is_name_up n h.entries
+    ups_so : (n : List ℕ) → is_up pending n ≡ is_name_up n h.entries
     ups_so n = ups_are h t.sound.legal parts.links t.links n pending (up ∙ ap (flat_map (λ (x : KeptLink). option_to_list (up_peer x.state))) these)
 
     dials_so : (n : List ℕ) → is_dialled pending n ≡ is_dialling n h.entries

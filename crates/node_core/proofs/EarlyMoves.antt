@@ -1,19 +1,16 @@
 -- What an accepted Status, Challenge or answer to `alive` makes of its link.
 use Rattle.node_core.proofs.Words.{List, None, Some, ap, not, refl, sym, true, ℕ, [], ◌&&◌, ◌++◌, ◌∙◌, ◌∷◌, ◌≡◌, option_map_or, has_bit, Challenge}
-use Rattle.node_core.proofs.Words.{challenge_frame, status_of, StatusWord, AdmissionRules, found, History, is_accepted, named_by, OutFrame}
-use Rattle.node_core.proofs.Words.{narrow, own_challenge, waiting, IsAnswered, with_entry, is_last, Entry, AdmissionFollows}
-use Rattle.node_core.proofs.Words.{admission_words, IsState, facts, narrow_frames, own_flags, is_visible, Dialled, Introduced, AwaitAnswer}
-use Rattle.node_core.proofs.Words.{AwaitStatus, AwaitChallenge, own_challenge_frame, Event, LinkState, if◌then◌else◌, Bool, Option, cond}
-use Rattle.node_core.proofs.Words.{false, nat_eq, subst, option_map, eq-eqb, eqb-true, same, Name, name_frame, is_dialled, Pending, lie}
-use Rattle.node_core.proofs.Words.{is_dialling, is_open, IsLegal, is_name_up, heard_named, IsIntroduced}
-use Rattle.node_core.proofs.Words.{IsLinkOf, LinksFollow, kept_numbers, link_words, KeptLink, dial_beside, dialled_peer, Named, introduced}
-use Rattle.node_core.proofs.Words.{AwaitReply, welcome, Awaits, Heard, dial_to, arith}
+use Rattle.node_core.proofs.Words.{challenge_frame, status_of, StatusWord, AdmissionRules, found, History, is_accepted, named_by, OutFrame, narrow}
+use Rattle.node_core.proofs.Words.{own_challenge, IsAnswered, with_entry, is_last, Entry, AdmissionFollows, admission_words, IsState, facts}
+use Rattle.node_core.proofs.Words.{narrow_frames, own_flags, is_visible, Dialled, Introduced, AwaitAnswer, own_challenge_frame, Event, LinkState}
+use Rattle.node_core.proofs.Words.{if◌then◌else◌, Bool, Option, cond, false, nat_eq, subst, option_map, eq-eqb, eqb-true, same, Name, name_frame, lie}
+use Rattle.node_core.proofs.Words.{is_dialling, is_open, IsLegal, is_name_up, heard_named, IsIntroduced, IsLinkOf, LinksFollow, kept_numbers}
+use Rattle.node_core.proofs.Words.{link_words, KeptLink, dial_beside, dialled_peer, Named, introduced, AwaitReply, welcome, Awaits, Heard, dial_to}
+use Rattle.node_core.proofs.Words.{arith}
 use Rattle.handshake_frames.specs.Spelling.{challenge_bytes}
 use Rattle.policy_audit.proofs.Onward.{answer_taken, status_taken, challenge_taken, hello_of, name_taken}
-use Rattle.node_core.proofs.FrameRules.{own_awaits, same_challenge, still_dialled, still_introduced, inner_open, inner_waiting, inner_moves}
-use Rattle.node_core.proofs.FrameRules.{other_facts, same_stay, digest_is}
+use Rattle.node_core.proofs.FrameRules.{own_awaits, same_challenge, still_dialled, still_introduced, inner_moves, other_facts, same_stay, digest_is}
 use Rattle.node_core.proofs.MovedOn.{AreMoves, stays_but}
-use Rattle.link_states.specs.Pending.{is_up}
 use Rattle.policy_audit.proofs.LinkFrames.{named_links, given_up_by}
 use Rattle.policy_audit.proofs.LinksLeft.{named_numbers}
 use Rattle.node_core.proofs.Found.{found_in, none_found}
@@ -37,38 +34,28 @@ module _ (h : History) (rules : AdmissionRules) (t : AdmissionFollows (admission
 
     pub answer_moves : (s : Introduced) → IsState (facts h j) (LinkState.Answer s) → AreMoves h k j (LinkState.Reply s) (narrow_frames (owes.own_challenge rules s.challenge ∷ [])) (stays_but None)
     answer_moves s a =
-        let inner = ap is_last a.0.awaited in
-        let unnamed = ap (λ x. named_by x body) a.0.awaited in
         let on = answer_taken h e answered yes j body is a.0.awaited in
-        inner_moves h e answered yes j body is inner unnamed (LinkState.Reply s) (narrow_frames (owes.own_challenge rules s.challenge ∷ []))
-        (own_awaits h e answered yes j body is on (inner_open h e answered yes j body is inner unnamed j), still_introduced h e answered yes j body is on s.peer s.creation s.visible s.challenge a.1)
-        (inner_waiting h e answered yes j body is inner unnamed AwaitAnswer a.0.awaited ∙ ap (λ f. waiting h j ++ f ∷ []) (own_challenge_is j s.challenge a.1.challenge))
+        inner_moves h e answered yes j body is (ap is_last a.0.awaited) (ap (λ x. named_by x body) a.0.awaited) on (LinkState.Reply s) (narrow_frames (owes.own_challenge rules s.challenge ∷ []))
+        (λ w. (w, still_introduced h e answered yes j body is on s.peer s.creation s.visible s.challenge a.1)) (grind (arith, a.0.awaited, own_challenge_is j s.challenge a.1.challenge))
 
     pub status_moves : (dial : Dialled) (w : StatusWord) → status_of body ≡ Some w → IsState (facts h j) (LinkState.Status dial) → AreMoves h k j (LinkState.Challenge dial) (narrow_frames (owes.status_owed w)) (stays_but None)
     status_moves dial w said a =
-        let inner = ap is_last a.0.awaited in
-        let unnamed = ap (λ x. named_by x body) a.0.awaited in
         let on = status_taken h e answered yes j body is a.0.awaited in
-        inner_moves h e answered yes j body is inner unnamed (LinkState.Challenge dial) (narrow_frames (owes.status_owed w))
-        (own_awaits h e answered yes j body is on (inner_open h e answered yes j body is inner unnamed j), record { peer = still_dialled h e answered yes j body is on dial.peer a.1.peer; challenge = a.1.challenge ∙ sym (same_challenge h e answered yes j body is on) })
-        (inner_waiting h e answered yes j body is inner unnamed AwaitStatus a.0.awaited ∙ ap (λ fs. waiting h j ++ fs) (grind (arith, said)))
+        inner_moves h e answered yes j body is (ap is_last a.0.awaited) (ap (λ x. named_by x body) a.0.awaited) on (LinkState.Challenge dial) (narrow_frames (owes.status_owed w))
+        (λ w. (w, record { peer = still_dialled h e answered yes j body is on dial.peer a.1.peer; challenge = a.1.challenge ∙ sym (same_challenge h e answered yes j body is on) }))
+        (grind (arith, a.0.awaited, said))
 
     pub challenge_moves : (dial : Dialled) (f : Challenge) → challenge_frame body ≡ Some f → f.name ≡ dial.peer → IsState (facts h j) (LinkState.Challenge dial)
         → AreMoves h k j (LinkState.Ack (found rules dial f)) (narrow_frames (owes.reply_owed rules dial.peer dial.challenge f.challenge)) (stays_but None)
     challenge_moves dial f asked named a =
-        let inner = ap is_last a.0.awaited in
-        let unnamed = ap (λ x. named_by x body) a.0.awaited in
         let on = challenge_taken h e answered yes j body is f a.0.awaited asked in
-        inner_moves h e answered yes j body is inner unnamed (LinkState.Ack (found rules dial f)) (narrow_frames (owes.reply_owed rules dial.peer dial.challenge f.challenge)) (
-          own_awaits h e answered yes j body is on (inner_open h e answered yes j body is inner unnamed j),
+        inner_moves h e answered yes j body is (ap is_last a.0.awaited) (ap (λ x. named_by x body) a.0.awaited) on (LinkState.Ack (found rules dial f)) (narrow_frames (owes.reply_owed rules dial.peer dial.challenge f.challenge)) (λ w. (w,
           record {
             peer = record { peer = on.peer ∙ a.1.peer.peer; other = a.1.peer.other };
             said = (hello_of f, record { said = on.given; name_is = named; creation_is = refl; visible_is = visible_is f.flags });
             challenge = a.1.challenge ∙ sym (same_challenge h e answered yes j body is on);
-          },
-        )
-        (inner_waiting h e answered yes j body is inner unnamed AwaitChallenge a.0.awaited
-        ∙ ap (λ fs. waiting h j ++ fs) (grind (arith, asked, a.1.challenge, digest_is h rules t j dial.peer f.challenge a.1.peer.peer)))
+          }))
+        (grind (arith, a.0.awaited, asked, a.1.challenge, digest_is h rules t j dial.peer f.challenge a.1.peer.peer))
 
 -- ---- what an accepted Name makes of its link, and of the own dial to that peer
 
@@ -93,10 +80,6 @@ module _ (h : History) (legal : IsLegal h) (rules : AdmissionRules) (t : Admissi
   kept_open : (l : ℕ) → (is_open l h.entries && given_up_by j f h.entries l) ≡ false → is_open l (with_entry h e).entries ≡ is_open l h.entries
   kept_open l q = grind (arith, (named_links h e answered yes j body is f a.0.awaited said l).open_is)
 
-  -- its own link isn't given up
-  not_itself : (is_open j h.entries && given_up_by j f h.entries j) ≡ false
-  not_itself = grind (arith, eq-eqb j j refl)
-
   introduced_now : IsIntroduced (facts (with_entry h e) j) f.name f.creation (is_visible rules f.flags) c
   introduced_now =
       let on = name_taken h e answered yes j body is f a.0.awaited said in
@@ -110,14 +93,11 @@ module _ (h : History) (legal : IsLegal h) (rules : AdmissionRules) (t : Admissi
       → ((l : ℕ) → (is_open l h.entries && given_up_by j f h.entries l) ≡ not (stays_but gone l)) → AreMoves h (with_entry h e) j next more (stays_but gone)
   name_moves next more gone state frames ends = record {
     state = state;
-    frames = grind (arith, (named_links h e answered yes j body is f a.0.awaited said j).waiting_is, not_itself, eq-eqb j j refl, frames);
+    frames = grind (arith, (named_links h e answered yes j body is f a.0.awaited said j).waiting_is, eq-eqb j j refl, frames);
     others = λ l apart stays. other_facts h e answered yes j body is l apart (kept_open l (ends l ∙ ap not stays));
     waits = λ l apart stays. grind (arith, (named_links h e answered yes j body is f a.0.awaited said l).waiting_is, ends l);
     numbers = named_numbers h e yes answered j body is f a.0.awaited said ∙ same_stay (λ l. not (is_open l h.entries && given_up_by j f h.entries l)) (stays_but gone) (kept_numbers h) (λ l. grind (arith, ends l));
   }
-
-  where_undialled : is_dialling f.name h.entries ≡ false → (l : ℕ) → (is_open l h.entries && given_up_by j f h.entries l) ≡ false
-  where_undialled free l = grind (arith, is_known_dial f.name h.entries l)
 
   where_dialled : is_name_up f.name h.entries ≡ false → (d : ℕ) → dials f.name h.entries d ≡ true → (l : ℕ) → (is_open l h.entries && given_up_by j f h.entries l) ≡ nat_eq l d
   where_dialled down d here l = grind (arith, one_dial h legal f.name l d, eqb-true l d, eqb-true j l, eq-eqb l d, dialled_by h f.name j (LinkState.Name c) a)
@@ -130,18 +110,15 @@ module _ (h : History) (legal : IsLegal h) (rules : AdmissionRules) (t : Admissi
 
   module _ (kept : List KeptLink) (follow : LinksFollow (link_words h) kept) where
     awaited : (up : Bool) → is_name_up f.name h.entries ≡ up → Awaits (facts (with_entry h e) j) (cond up AwaitAnswer AwaitReply) false
-    awaited up u = subst (λ b. Awaits (facts (with_entry h e) j) (cond b AwaitAnswer AwaitReply) false) u (own_awaits h e answered yes j body is (name_taken h e answered yes j body is f a.0.awaited said) (kept_open j not_itself))
+    awaited up u = subst (λ b. Awaits (facts (with_entry h e) j) (cond b AwaitAnswer AwaitReply) false) u (own_awaits h e answered yes j body is (name_taken h e answered yes j body is f a.0.awaited said) (kept_open j (grind (arith, eq-eqb j j refl))))
 
-    goes_by : (up dialled : Bool) → is_name_up f.name h.entries ≡ up → is_dialling f.name h.entries ≡ dialled → Goes h (with_entry h e) j (λ now. dial_beside now kept) (heard_named (named_of up dialled))
-    goes_by true dialled u d = name_moves (LinkState.Answer (introduced rules c f)) (narrow_frames (owes.greeting_owed rules c StatusWord.Alive)) None
+    pub name_goes : (up dialled : Bool) → is_name_up f.name h.entries ≡ up → is_dialling f.name h.entries ≡ dialled → Goes h (with_entry h e) j (λ now. dial_beside now kept) (heard_named (named_of up dialled))
+    name_goes true dialled u d = name_moves (LinkState.Answer (introduced rules c f)) (narrow_frames (owes.greeting_owed rules c StatusWord.Alive)) None
         (awaited true u, introduced_now) (grind (arith, u)) (λ l. grind (arith, u))
-    goes_by false false u d = name_moves (LinkState.Reply (introduced rules c f)) (narrow_frames (owes.greeting_owed rules c (says.welcome false false))) None
-        (awaited false u, introduced_now) (grind (arith, u, d, own_challenge_is h rules t j c a.1)) (where_undialled d)
-    goes_by false true u d =
+    name_goes false false u d = name_moves (LinkState.Reply (introduced rules c f)) (narrow_frames (owes.greeting_owed rules c (says.welcome false false))) None
+        (awaited false u, introduced_now) (grind (arith, u, d, own_challenge_is h rules t j c a.1)) (λ l. grind (arith, d, is_known_dial f.name h.entries l))
+    name_goes false true u d =
         let dial = find_dial h legal kept follow f.name d in
         subst (λ gone. AreMoves h (with_entry h e) j (LinkState.Reply (introduced rules c f)) (narrow_frames (owes.greeting_owed rules c (says.welcome false true))) (stays_but gone)) (sym dial.1)
         (name_moves (LinkState.Reply (introduced rules c f)) (narrow_frames (owes.greeting_owed rules c (says.welcome false true))) (Some dial.0)
         (awaited false u, introduced_now) (grind (arith, u, d, own_challenge_is h rules t j c a.1)) (λ l. grind (arith, where_dialled u dial.0 dial.2 l)))
-
-    pub name_goes : (pending : Pending) → is_up pending f.name ≡ is_name_up f.name h.entries → is_dialled pending f.name ≡ is_dialling f.name h.entries → Goes h (with_entry h e) j (λ now. dial_beside now kept) (heard_named (says.named_by rules pending c f))
-    name_goes pending up dialled = goes_by (is_up pending f.name) (is_dialled pending f.name) (sym up) (sym dialled)

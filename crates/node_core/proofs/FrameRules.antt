@@ -1,15 +1,13 @@
 -- The rules for a frame of the handshake, as a state knows them, are those of the policy.
-use Rattle.node_core.proofs.Words.{frame_checks, state_checks, name_frame, LinkState, arith}
-use Rattle.node_core.proofs.Words.{Bool, List, None, Option, Some, ap, cond, false, not, refl, sym, true, ℕ, [], ◌&&◌, ◌∙◌, ◌≡◌, option_map}
-use Rattle.node_core.proofs.Words.{option_map_or, same_sym, has_bit, same, text_cmp, Name, AdmissionRules}
-use Rattle.node_core.proofs.Words.{is_dialled, Pending, StateRule, lie, always, first_broken, History, is_dialling, digest_for, own_challenge}
-use Rattle.node_core.proofs.Words.{is_name_up, peer_of, Rule, AdmissionFollows, admission_words, rule_of, is_gt, is_node_name, cookie_of}
-use Rattle.node_core.proofs.Words.{cookie, name_checks}
-use Rattle.node_core.proofs.Words.{◌++◌, ◌==◌, filter, eq-eqb, is_accepted, is_open, named_by, OutFrame, frame_owes, waiting}
-use Rattle.node_core.proofs.Words.{IsAnswered, with_entry, awaits, challenge_in, is_last, Entry, IsIntroduced, IsState, facts, kept_numbers, given}
-use Rattle.node_core.proofs.Words.{Awaited, entry_link, IsOnward, framed_numbers, LinkState, Awaits, IsPeer, Event, get_or, length, set, subst, ◌<◌}
-use Rattle.node_core.proofs.Words.{eqb-true, is_empty, no_change, and_false, flip, checks, refusal_owes, running_scopes, IsNext, is_full, is_whole}
-use Rattle.node_core.proofs.Words.{Refused, Follows, Parts, moved_on, without_link, LinksFollow, link_words, KeptLink, narrow_frames, ScopesFollow}
+use Rattle.node_core.proofs.Words.{frame_checks, state_checks, name_frame, LinkState, arith, Bool, List, None, Option, Some, ap, cond, false, not}
+use Rattle.node_core.proofs.Words.{refl, sym, true, ℕ, [], ◌&&◌, ◌∙◌, ◌≡◌, option_map, option_map_or, same_sym, has_bit, same, text_cmp, Name}
+use Rattle.node_core.proofs.Words.{AdmissionRules, is_dialled, Pending, StateRule, lie, always, first_broken, History, is_dialling, digest_for}
+use Rattle.node_core.proofs.Words.{own_challenge, is_name_up, peer_of, Rule, AdmissionFollows, admission_words, rule_of, is_gt, is_node_name}
+use Rattle.node_core.proofs.Words.{cookie_of, cookie, name_checks, ◌++◌, ◌==◌, filter, eq-eqb, is_accepted, is_open, named_by, OutFrame, frame_owes}
+use Rattle.node_core.proofs.Words.{waiting, IsAnswered, with_entry, awaits, challenge_in, is_last, Entry, IsIntroduced, IsState, facts, kept_numbers}
+use Rattle.node_core.proofs.Words.{given, Awaited, entry_link, IsOnward, framed_numbers, Awaits, IsPeer, Event, get_or, length, set, subst, ◌<◌}
+use Rattle.node_core.proofs.Words.{eqb-true, is_empty, no_change, flip, checks, refusal_owes, running_scopes, IsNext, is_full, is_whole, Refused}
+use Rattle.node_core.proofs.Words.{Follows, Parts, moved_on, without_link, LinksFollow, link_words, KeptLink, narrow_frames, ScopesFollow}
 use Rattle.node_core.proofs.Words.{scope_words, refusal_frames, entry_rows, and-true}
 use Rattle.cookie_digest.specs.Digest.{digest_of}
 use Rattle.link_states.specs.Pending.{is_up}
@@ -22,8 +20,8 @@ use Rattle.node_core.proofs.MovedOn.{AreMoves, stays_but, moved_follow}
 use Rattle.policy_audit.proofs.HeardNow.{refused_heard}
 use Rattle.policy_audit.proofs.LinksLeft.{refused_numbers}
 use Rattle.node_core.proofs.Entered.{step_follows, made, next_now, refused_now}
-use Rattle.link_states.specs.Checks as state
 use Rattle.node_core.proofs.HeardFrames.{is_early, is_last_state}
+use Rattle.link_states.specs.Checks as state
 
 -- the rules for a Name, by what is tested
 name_by : (modern dynamic word : Bool) {own own_too : Bool} → own ≡ own_too → {granted granted_too : Bool} → granted ≡ granted_too → {ranks ranks_too : Bool} → ranks ≡ ranks_too
@@ -94,19 +92,13 @@ module _ (h : History) (e : Entry) (answered : IsAnswered h e) (yes : is_accepte
 
   -- a frame that ends no link and isn't the last of its side
   module _ (inner : is_last (awaits j h.entries) ≡ false) (unnamed : named_by (awaits j h.entries) body ≡ None) where
-    pub inner_open : (l : ℕ) → is_open l k.entries ≡ is_open l h.entries
-    inner_open l = (handshake_links h e answered yes j body is inner unnamed l).open_is
-
-    pub inner_waiting : (a : Awaited) → awaits j h.entries ≡ a → waiting k j ≡ waiting h j ++ frame_owes h j body a
-    inner_waiting a q = (handshake_links h e answered yes j body is inner unnamed j).waiting_is
-        ∙ (λ i. cond (eq-eqb j j refl i) (waiting h j ++ frame_owes h j body (q i)) (waiting h j))
-
-    pub inner_moves : (now : LinkState) (more : List OutFrame) → IsState (facts k j) now → waiting k j ≡ waiting h j ++ more → AreMoves h k j now more (stays_but None)
-    inner_moves now more state frames = record {
-      state = state;
-      frames = frames;
-      others = λ l apart stays. other_facts l apart (inner_open l);
-      waits = λ l apart stays. (handshake_links h e answered yes j body is inner unnamed l).waiting_is ∙ ap (λ b. cond b (waiting h l ++ frame_owes h l body (awaits l h.entries)) (waiting h l)) apart;
+    pub inner_moves : {gave : Option Name} {of : Option (List ℕ)} {next : Awaited} {ends : Bool} → IsOnward j h.entries e gave of next ends → (now : LinkState) (more : List OutFrame)
+        → (Awaits (facts k j) next ends → IsState (facts k j) now) → frame_owes h j body (awaits j h.entries) ≡ more → AreMoves h k j now more (stays_but None)
+    inner_moves on now more state owed = record {
+      state = state (own_awaits on (handshake_links h e answered yes j body is inner unnamed j).open_is);
+      frames = grind (arith, (handshake_links h e answered yes j body is inner unnamed j).waiting_is, eq-eqb j j refl, owed);
+      others = λ l apart stays. other_facts l apart (handshake_links h e answered yes j body is inner unnamed l).open_is;
+      waits = λ l apart stays. grind (arith, (handshake_links h e answered yes j body is inner unnamed l).waiting_is);
       numbers = framed_numbers h e yes answered j body is inner unnamed ∙ sym (filter_all (λ x. true) (λ x. refl) (kept_numbers h));
     }
 
@@ -133,10 +125,10 @@ module _ (h : History) (seat j : ℕ) (body : List ℕ) (r : Rule) where
 
     refused_moves : AreMoves h (with_entry h e) j LinkState.Ended more (stays_but gone)
     refused_moves = record {
-      state = (refused_links h e j body r refl refl unwhole j).open_is ∙ ap (λ b. is_open j h.entries && not b) (eq-eqb j j refl) ∙ and_false (is_open j h.entries);
-      frames = (refused_links h e j body r refl refl unwhole j).waiting_is ∙ (λ i. cond (eq-eqb j j refl i) (waiting h j ++ owed i) (waiting h j));
+      state = grind (arith, (refused_links h e j body r refl refl unwhole j).open_is, eq-eqb j j refl);
+      frames = grind (arith, (refused_links h e j body r refl refl unwhole j).waiting_is, eq-eqb j j refl, owed);
       others = λ l apart stays. λ i. record (facts h l) { open_now = ((refused_links h e j body r refl refl unwhole l).open_is ∙ ap (λ b. is_open l h.entries && not b) apart ∙ and-true (is_open l h.entries)) i };
-      waits = λ l apart stays. (refused_links h e j body r refl refl unwhole l).waiting_is ∙ ap (λ b. cond b (waiting h l ++ refusal_owes r) (waiting h l)) apart;
+      waits = λ l apart stays. grind (arith, (refused_links h e j body r refl refl unwhole l).waiting_is);
       numbers = refused_numbers h e j body r refl refl opens unwhole
           ∙ same_stay (λ l. not (j == l && is_empty (waiting h l ++ refusal_owes r))) (stays_but gone) (kept_numbers h) stays_if;
     }
@@ -151,10 +143,7 @@ module _ (h : History) (seat j : ℕ) (body : List ℕ) (r : Rule) where
     }
 
     module _ (parts : Parts) (t : Follows h parts) (p : ℕ) (d : KeptLink) (less : p < length parts.links) (is : (get_or parts.links p d).number ≡ j) where
-      refused_follow : (room : ℕ) → LinksFollow (link_words (with_entry h e)) (without_link gone (set parts.links p (moved_on LinkState.Ended more room (get_or parts.links p d))))
-      refused_follow room = moved_follow h _ t.sound.legal j LinkState.Ended more gone refused_moves parts.links t.links p d less is room
-
       pub refused_follows : IsNext h e → (room : ℕ) (new : List KeptLink) → new ≡ without_link gone (set parts.links p (moved_on LinkState.Ended more room (get_or parts.links p d))) → Follows (with_entry h e) (record parts { links = new })
       refused_follows next room new is_so = step_follows t next refl t.admission t.processes
           (subst (λ w. ScopesFollow w parts.scopes) (sym refused_scopes) t.scopes)
-          (subst (LinksFollow (link_words (with_entry h e))) (sym is_so) (refused_follow room))
+          (subst (LinksFollow (link_words (with_entry h e))) (sym is_so) (moved_follow h _ t.sound.legal j LinkState.Ended more gone refused_moves parts.links t.links p d less is room))

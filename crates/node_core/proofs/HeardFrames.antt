@@ -1,12 +1,7 @@
 -- A frame of the handshake, as the node hears it: the state of its link, and what is heard of it.
-use Rattle.node_core.proofs.Words.{nat_le}
-use Rattle.node_core.proofs.Words.{List, Some, false, get_or, nat_eq, position, refl, subst, sym, true, ℕ, ◌&&◌, ◌≡◌}
-use Rattle.node_core.proofs.Words.{History, is_last}
-use Rattle.node_core.proofs.Words.{IsState, LinkFacts, facts, link_words, KeptLink}
-use Rattle.node_core.proofs.Words.{LinkState, Bool, None, Option, arith, length, ◌<◌, option_map}
-use Rattle.node_core.proofs.Words.{AdmissionRules}
-use Rattle.node_core.proofs.Words.{Pending, no_value, Follows, Parts, IsLinkOf}
-use Rattle.node_core.proofs.Words.{Heard, accepted_as}
+use Rattle.node_core.proofs.Words.{nat_le, List, Some, false, get_or, nat_eq, position, refl, subst, sym, true, ℕ, ◌&&◌, ◌≡◌, History, is_last}
+use Rattle.node_core.proofs.Words.{IsState, LinkFacts, facts, link_words, KeptLink, LinkState, Bool, None, Option, arith, length, ◌<◌, option_map}
+use Rattle.node_core.proofs.Words.{AdmissionRules, Pending, no_value, Follows, Parts, IsLinkOf, Heard, accepted_as}
 use Rattle.node_core.proofs.KeptOn.{each_at, place_is}
 use Rattle.node_core.proofs.Found.{some_is}
 

@@ -1,13 +1,14 @@
 -- A link that is taken out of the kept ones, and apart from its state, while it hears a frame.
-use Rattle.node_core.proofs.Words.{is_whole, AdmissionRules, Pending, first_broken, checks, Event, rule_of, state_checks, Rule, Hears, Heard, IsNext, Refused, with_entry, refusal_owes}
-use Rattle.node_core.proofs.Words.{is_full, is_open, true, false, Bool, List, None, Option, Some, ap, arith, cond, find, get_or, length, nat_eq, position}
-use Rattle.node_core.proofs.Words.{refl, set, subst, suc, sym, zero, ℕ, [], ◌∷◌, ◌<◌, ◌∙◌, ◌≡◌, ◌≤◌, ◌++◌, get_or-set_same, option_map, option_map_or}
-use Rattle.node_core.proofs.Words.{kept_climbs, same, is_empty, History, Follows, Parts, IsLinkOf, IsState, facts, link_words}
-use Rattle.node_core.proofs.Words.{KeptLink, StatelessLink, in_state, with_room, LinkState, IsReady, HaveMoved, OutFrame, moved_on, without_link, waiting, Climbs, eq-eqb, eqb-true, filter, list_all, ltb-true, map, nat_lt, not, narrow_frames, HaveEnded}
-use Rattle.node_core.proofs.Words.{dial_beside, dialled_peer, up_peer, older_of}
+use Rattle.node_core.proofs.Words.{LinksFollow, is_whole, AdmissionRules, Pending, first_broken, checks, Event, rule_of, state_checks, Rule, Hears}
+use Rattle.node_core.proofs.Words.{Heard, IsNext, Refused, with_entry, refusal_owes, is_full, is_open, true, false, Bool, List, None, Option, Some}
+use Rattle.node_core.proofs.Words.{ap, arith, cond, find, get_or, length, nat_eq, position, refl, set, subst, suc, sym, zero, ℕ, [], ◌∷◌, ◌<◌, ◌∙◌}
+use Rattle.node_core.proofs.Words.{◌≡◌, ◌≤◌, ◌++◌, get_or-set_same, option_map, option_map_or, kept_climbs, same, is_empty, History, Follows, Parts}
+use Rattle.node_core.proofs.Words.{IsLinkOf, IsState, facts, link_words, KeptLink, StatelessLink, in_state, with_room, LinkState, IsReady, HaveMoved}
+use Rattle.node_core.proofs.Words.{OutFrame, moved_on, without_link, waiting, Climbs, eq-eqb, eqb-true, filter, list_all, ltb-true, map, nat_lt, not}
+use Rattle.node_core.proofs.Words.{narrow_frames, HaveEnded, dial_beside, dialled_peer, up_peer, older_of}
 use Rattle.std.specs.List.{insert, remove}
 use Rattle.node_core.proofs.HeardFrames.{is_there, link_there, state_there}
-use Rattle.node_core.proofs.KeptOn.{below, each_at, filter_set, one_follows}
+use Rattle.node_core.proofs.KeptOn.{below, filter_set, one_follows}
 use Rattle.node_core.proofs.FrameRules.{refused_next, refused_follows, owes_alike}
 use Rattle.node_core.proofs.Entered.{made}
 use Rattle.link_states.specs.Checks as state
@@ -59,24 +60,16 @@ pub record IsHeld (h : History) (kept : List KeptLink) (j p : ℕ) (v w out : Ke
 -- more room alone changes nothing
 pub room_follows : {h : History} {parts : Parts} → Follows h parts → (j : ℕ) {p : ℕ} {v w : KeptLink} → position (λ x. nat_eq x.number j) parts.links ≡ Some p → v ≡ get_or parts.links p v → w ≡ with_room v w.room
     → Follows h (record parts { links = set parts.links p w })
-room_follows {h} {parts} t j {p} {v} {w} at is roomy = record {
-  sound = t.sound;
-  admission = t.admission;
-  processes = t.processes;
-  scopes = t.scopes;
-  links = one_follows (link_words h) (link_words h) w (subst (IsLinkOf (link_words h)) (sym now) (record { state = was.state; frames = was.frames; idle = was.idle }))
-      (λ x apart a. a) parts.links p v t.links (kept_climbs h t.sound.legal) refl here (ap (λ (x : KeptLink). x.number) now);
-  monitors = t.monitors;
-}
+room_follows {h} {parts} t j {p} {v} {w} at is roomy = record { sound = t.sound; admission = t.admission; processes = t.processes; scopes = t.scopes; links = links; monitors = t.monitors }
   where
-    here : p < length parts.links
-    here = (is_there h parts t j p at v).0
-
     now : w ≡ with_room (get_or parts.links p v) w.room
     now = roomy ∙ ap (λ (x : KeptLink). with_room x w.room) is
 
-    was : IsLinkOf (link_words h) (get_or parts.links p v)
-    was = each_at (IsLinkOf (link_words h)) parts.links p v t.links.each here
+    links : LinksFollow (link_words h) (set parts.links p w)
+    links =
+        let was = link_there h parts t j p at v in
+        one_follows (link_words h) (link_words h) w (subst (IsLinkOf (link_words h)) (sym now) (record { state = was.state; frames = was.frames; idle = was.idle }))
+        (λ x apart a. a) parts.links p v t.links (kept_climbs h t.sound.legal) refl (is_there h parts t j p at v).0 (ap (λ (x : KeptLink). x.number) now)
 
 module _ {h : History} {parts : Parts} (t : Follows h parts) {j p : ℕ} {v w out : KeptLink} {s : LinkState} {link : StatelessLink} {left : List KeptLink} (held : IsHeld h parts.links j p v w out s link left) where
   here : p < length parts.links
@@ -135,10 +128,7 @@ module _ {h : History} {parts : Parts} (t : Follows h parts) {j p : ℕ} {v w ou
       by true {gs = gs} q = changed_before parts.links p w
           ∙ sym (others_stay parts.links p v (subst Climbs (sym t.links.numbers) (kept_climbs h t.sound.legal)) here)
           ∙ ap (λ (n : ℕ). filter (λ (x : KeptLink). not (nat_eq x.number n)) parts.links) there
-          ∙ sym (filter_set (λ x. not (nat_eq x.number j)) parts.links p v (moved_on LinkState.Ended gs m.room (get_or parts.links p v)) here unlike unlike)
-        where
-          unlike : not (nat_eq (get_or parts.links p v).number j) ≡ false
-          unlike = ap not (eq-eqb _ j there)
+          ∙ sym (filter_set (λ x. not (nat_eq x.number j)) parts.links p v (moved_on LinkState.Ended gs m.room (get_or parts.links p v)) here (grind (arith, eq-eqb, there)) (grind (arith, eq-eqb, there)))
 
   -- where the frame breaks a rule, it ends
   pub held_broke : (seat : ℕ) (body : List ℕ) → is_whole j h.entries ≡ false → (rules : AdmissionRules) (pending : Pending) → first_broken (checks h seat (Event.Frame j body)) ≡ option_map rule_of (state.first_broken (state_checks rules pending s body))

@@ -1,25 +1,21 @@
 -- What the last frame of a handshake makes of a node: its link comes up, or ends.
-use Rattle.node_core.proofs.Words.{leb-true}
-use Rattle.node_core.proofs.Words.{arith, get_or, Bool, List, Some, ap, is_some, length, map, refl, set, subst, sym, true, ℕ, [], ◌∙◌, ◌≡◌, ◌≤◌, AllZip}
-use Rattle.node_core.proofs.Words.{unwrap_or, Linked, Pending, count_after_drop, lie, History, OutFrame, wide, IsNext, answer, with_entry, awaits}
-use Rattle.node_core.proofs.Words.{is_last, Change, Accepted, Refused, Reply, Rule, Follows, Parts, HaveEnded, older_of, Hears, is_handshake}
-use Rattle.node_core.proofs.Words.{KeptLink, StatelessLink, known_peer, narrow_frames, ArePartings, IsCutOff, LinkState, Running, HaveComeUp, Message}
-use Rattle.node_core.proofs.Words.{Event, Heard, cond, false, ◌++◌, ◌<◌, ◌∷◌, same, Pid, stopped_lists, and_left, heard, told, is_up, listed}
+use Rattle.node_core.proofs.Words.{leb-true, arith, get_or, Bool, List, Some, ap, is_some, length, map, refl, set, subst, sym, true, ℕ, [], ◌∙◌, ◌≡◌}
+use Rattle.node_core.proofs.Words.{◌≤◌, AllZip, unwrap_or, Linked, Pending, count_after_drop, lie, History, OutFrame, wide, IsNext, answer}
+use Rattle.node_core.proofs.Words.{with_entry, awaits, is_last, Change, Accepted, Refused, Reply, Rule, Follows, Parts, HaveEnded, older_of, Hears}
+use Rattle.node_core.proofs.Words.{is_handshake, KeptLink, StatelessLink, known_peer, narrow_frames, ArePartings, IsCutOff, LinkState, Running}
+use Rattle.node_core.proofs.Words.{HaveComeUp, Message, Event, Heard, cond, false, ◌++◌, ◌<◌, ◌∷◌, same, Pid, stopped_lists, heard, told, listed}
 use Rattle.node_core.proofs.Words.{discovers, IsAnswered, is_full, present_link, Entry, moved_on, without_link, LinksFollow, link_words, scope_words}
 use Rattle.node_core.proofs.Words.{IsState, facts, get_or-set_same, is_open, nat_eq, position, with_room}
 use Rattle.node_core.proofs.Entered.{made, step_follows, accepted_now, answered_now, next_now}
 use Rattle.node_core.proofs.Found.{some_is}
-use Rattle.node_core.proofs.HeardFrames.{is_there, last_state, state_there}
-use Rattle.node_core.proofs.HeldLink.{IsHeld, held_number, held_seen, held_state, held_moved, older_same}
-use Rattle.node_core.proofs.CameUp.{ComesUp, answered_up, comes, not_up_yet, visible_now}
-use Rattle.node_core.proofs.CameUp.{but_replaced, came_up_moves, older_present}
+use Rattle.node_core.proofs.HeardFrames.{is_there, last_state, state_there, heard_leads, last_facts, is_last_state}
+use Rattle.node_core.proofs.HeldLink.{IsHeld, held_number, held_seen, held_state, held_moved, older_same, held_broke}
+use Rattle.node_core.proofs.CameUp.{ComesUp, answered_up, comes, visible_now, but_replaced, came_up_moves, older_present}
 use Rattle.policy_audit.proofs.HeardNow.{proved_heard}
 use Rattle.policy_audit.proofs.RowsAfter.{up_rows}
 use Rattle.node_core.proofs.MovedOn.{moved_follow}
 use Rattle.node_core.proofs.Partings.{partings_change}
 use Rattle.node_core.proofs.ScopesCutOff.{AreCutOff, cut_off_follow}
-use Rattle.node_core.proofs.HeardFrames.{heard_leads, last_facts, is_last_state}
-use Rattle.node_core.proofs.HeldLink.{held_broke}
 use Rattle.node_core.proofs.FrameRules.{last_rules}
 
 -- a Discover for each scope that runs
@@ -58,21 +54,13 @@ module _ (h : History) (seat j : ℕ) (body : List ℕ) (up : Linked) (frames : 
         own = refl;
         running = refl;
         listed = rows;
-        heard = λ l s. (proved_heard h t.sound.legal e up_answered refl j body refl up.peer c.last c.known.peer.peer l s).heard_is
-            ∙ but_replaced h t.sound.legal up.peer j c.unwhole l (heard l s h.entries) (λ q. and_left (is_up l h.entries) _ q);
-        told = λ l s. (proved_heard h t.sound.legal e up_answered refl j body refl up.peer c.last c.known.peer.peer l s).told_is
-            ∙ but_replaced h t.sound.legal up.peer j c.unwhole l (told l s h.entries) (λ q. and_left (is_up l h.entries) _ q);
+        heard = λ l s. grind (arith, (proved_heard h t.sound.legal e up_answered refl j body refl up.peer c.last c.known.peer.peer l s).heard_is, but_replaced h t.sound.legal up.peer j c.unwhole l (heard l s h.entries));
+        told = λ l s. grind (arith, (proved_heard h t.sound.legal e up_answered refl j body refl up.peer c.last c.known.peer.peer l s).told_is, but_replaced h t.sound.legal up.peer j c.unwhole l (told l s h.entries));
       }
 
       module _ (p : ℕ) (d : KeptLink) (less : p < length parts.links) (there : (get_or parts.links p d).number ≡ j) where
         discovers_are : cond up.visible (map (λ x. wide (Message.Discover x.scope)) parts.scopes) [] ≡ discovers h j
         discovers_are = λ i. cond (sym (visible_now h j body up frames c) i) ((discovers_for parts.scopes ∙ ap (map (λ s. wide (Message.Discover s))) t.scopes.running) i) []
-
-        links_follow : (room : ℕ) → LinksFollow (link_words k) (without_link (older_of up.peer parts.links) (set parts.links p (moved_on (LinkState.Up up) (narrow_frames frames ++ discovers h j) room (get_or parts.links p d))))
-        links_follow room = subst (λ x. LinksFollow (link_words k) (without_link x (set parts.links p (moved_on (LinkState.Up up) (narrow_frames frames ++ discovers h j) room (get_or parts.links p d)))))
-            (sym (older_present h t.sound.legal up.peer parts.links t.links))
-            (moved_follow h k t.sound.legal j (LinkState.Up up) (narrow_frames frames ++ discovers h j) (present_link up.peer h.entries)
-            (came_up_moves h t.sound.legal j body up frames c e up_answered refl refl) parts.links t.links p d less there room)
 
         pub up_follows : IsNext h e → (room : ℕ) (asked : List OutFrame) → asked ≡ map (λ x. wide (Message.Discover x.scope)) parts.scopes → (left new : List KeptLink) → older_of up.peer left ≡ older_of up.peer parts.links
             → new ≡ without_link (older_of up.peer left) (set parts.links p (moved_on (LinkState.Up up) (narrow_frames frames ++ cond up.visible asked []) room (get_or parts.links p d)))
@@ -82,8 +70,9 @@ module _ (h : History) (seat j : ℕ) (body : List ℕ) (up : Linked) (frames : 
             (subst (λ x. AllZip (IsCutOff (unwrap_or x j) up.peer) parts.scopes scopes) (same_older ∙ older_present h t.sound.legal up.peer parts.links t.links) cut))
             (subst (LinksFollow (link_words k)) (sym (
             is
-            ∙ (λ i. without_link (same_older i) (set parts.links p (moved_on (LinkState.Up up) (narrow_frames frames ++ (ap (λ fs. cond up.visible fs []) these ∙ discovers_are) i) room (get_or parts.links p d))))))
-            (links_follow room))
+            ∙ (λ i. without_link ((same_older ∙ older_present h t.sound.legal up.peer parts.links t.links) i) (set parts.links p (moved_on (LinkState.Up up) (narrow_frames frames ++ (ap (λ fs. cond up.visible fs []) these ∙ discovers_are) i) room (get_or parts.links p d))))))
+            (moved_follow h k t.sound.legal j (LinkState.Up up) (narrow_frames frames ++ discovers h j) (present_link up.peer h.entries)
+            (came_up_moves h t.sound.legal j body up frames c e up_answered refl refl) parts.links t.links p d less there room))
 
 -- the peer of a link that awaits the last frame is known, seen while it stands at its place with more room
 pub last_has_peer : {h : History} {parts : Parts} → Follows h parts → (j : ℕ) {p : ℕ} {v w x : KeptLink} → position (λ z. nat_eq z.number j) parts.links ≡ Some p → v ≡ get_or parts.links p v → w ≡ with_room v w.room
@@ -137,6 +126,6 @@ module _ {h : History} {parts : Parts} (t : Follows h parts) (seat : ℕ) (body 
         last_came_up new {asked} discover ups scopes cut =
             let there = is_there h parts t j p held.at v in
             up_follows h seat j body up frames it.0 r cs held.space reply_is parts t p v there.0 there.1
-            last_next ups.room asked (discover ∙ ap (map (λ (x : Running). wide (Message.Discover x.scope))) these) left new (older_same t held (not_up_yet s late) up.peer)
+            last_next ups.room asked (discover ∙ ap (map (λ (x : Running). wide (Message.Discover x.scope))) these) left new (older_same t held (grind (arith, late)) up.peer)
             (held_moved t held (LinkState.Up up) (narrow_frames frames ++ cond up.visible asked []) (older_of up.peer left) new ups)
             scopes (subst (λ n. AllZip (IsCutOff (unwrap_or (older_of up.peer left) n) up.peer) parts.scopes scopes) (held_number t held) cut)

@@ -1,5 +1,5 @@
 -- One scope whose own rows have changed, and the links that are told of it.
-use Rattle.node_core.proofs.Words.{arith, Bool, List, Some, ap, cond, false, get_or, not, position, refl, set, subst, sym, ℕ, [], ◌||◌, ◌∙◌, ◌∷◌, ◌≡◌}
+use Rattle.node_core.proofs.Words.{arith, Bool, List, Some, ap, cond, false, get_or, not, position, set, subst, sym, ℕ, [], ◌||◌, ◌∙◌, ◌∷◌, ◌≡◌}
 use Rattle.node_core.proofs.Words.{IsDifference, is_empty, same, Pid, Row, Message, count_of, IsChange, if_some, heard, told, History, listed}
 use Rattle.node_core.proofs.Words.{OutFrame, wide, running_scopes, Change, Follows, Parts, KeptLink, IsMoved, IsRunningOf, ScopesFollow, is_number}
 use Rattle.node_core.proofs.Words.{scope_words, Alike, if_among, running_rises, set-get_or, if_told, Running}
@@ -11,8 +11,7 @@ use Rattle.node_core.proofs.Told.{alike_again}
 -- ---- what waits for the links that are told
 
 pub told_frames : (rows : List Row) (numbers : List ℕ) (frame : OutFrame) (l : ℕ) (b : Bool) → is_number l numbers ≡ b → (cond (is_empty rows || not b) [] (frame ∷ [])) ≡ if_among (cond (not (is_empty rows)) numbers []) frame l
-told_frames [] numbers frame l b q = refl
-told_frames (r ∷ rs) numbers frame l b q = grind (arith, q)
+told_frames rows numbers frame l b q = grind (arith, q)
 
 -- ---- one scope after a change of its own rows
 

@@ -27,11 +27,11 @@ pub record AreMoves (h k : History) (j : ℕ) (now : LinkState) (more : List Out
 with_words : (w v : LinkWords) (x : KeptLink) → v.facts x.number ≡ w.facts x.number → v.waiting x.number ≡ w.waiting x.number → IsLinkOf w x → IsLinkOf v x
 with_words w v x same_facts same_frames a = record { state = subst (λ f. IsState f x.state) (sym same_facts) a.state; frames = a.frames ∙ sym same_frames; idle = a.idle }
 
-module _ (h k : History) (legal : IsLegal h) (j : ℕ) (state : LinkState) (frames : List OutFrame) (stays : ℕ → Bool) (moves : AreMoves h k j state frames stays)
+module _ (h k : History) (legal : IsLegal h) (j : ℕ) (state : LinkState) (frames : List OutFrame) (gone : Option ℕ) (moves : AreMoves h k j state frames (stays_but gone))
     (kept : List KeptLink) (t : LinksFollow (link_words h) kept) (p : ℕ) (d : KeptLink) (less : p < length kept) (is : (get_or kept p d).number ≡ j) (room : ℕ) where
   -- new words for those that stay, and the old ones for the others
   abbrev pick : {A : Type 0} → (ℕ → A) → (ℕ → A) → ℕ → A
-  pick new old l = cond (j == l || stays l) (new l) (old l)
+  pick new old l = cond (j == l || stays_but gone l) (new l) (old l)
 
   abbrev between : LinkWords
   between = record { numbers = kept_numbers h; facts = pick (facts k) (facts h); waiting = pick (waiting k) (waiting h) }
@@ -40,7 +40,7 @@ module _ (h k : History) (legal : IsLegal h) (j : ℕ) (state : LinkState) (fram
   moved = moved_on state frames room (get_or kept p d)
 
   picked : {A : Type 0} (new old : ℕ → A) (l : ℕ) → j ≡ l → pick new old l ≡ new l
-  picked new old l q = ap (λ b. cond (b || stays l) (new l) (old l)) (eq-eqb j l q)
+  picked new old l q = ap (λ b. cond (b || stays_but gone l) (new l) (old l)) (eq-eqb j l q)
 
   here : IsLinkOf between moved
   here = record {
@@ -52,38 +52,30 @@ module _ (h k : History) (legal : IsLegal h) (j : ℕ) (state : LinkState) (fram
   }
 
   other : (x : KeptLink) → nat_eq x.number moved.number ≡ false → IsLinkOf (link_words h) x → IsLinkOf between x
-  other x apart a = by (stays x.number) refl
+  other x apart a = with_words (link_words h) between x (elsewhere (facts k) (facts h) (moves.others x.number)) (elsewhere (waiting k) (waiting h) (moves.waits x.number)) a
     where
       unlike : (j == x.number) ≡ false
       unlike = flip j x.number ∙ ap (λ (n : ℕ). x.number == n) (sym is) ∙ apart
 
-      by : (b : Bool) → stays x.number ≡ b → IsLinkOf between x
-      by true q = with_words (link_words h) between x ((λ i. cond (unlike i || q i) (facts k x.number) (facts h x.number)) ∙ moves.others x.number unlike q) ((λ i. cond (unlike i || q i) (waiting k x.number) (waiting h x.number)) ∙ moves.waits x.number unlike q) a
-      by false q = with_words (link_words h) between x (λ i. cond (unlike i || q i) (facts k x.number) (facts h x.number)) (λ i. cond (unlike i || q i) (waiting k x.number) (waiting h x.number)) a
+      elsewhere : {A : Type 0} (new old : ℕ → A) → ((j == x.number) ≡ false → stays_but gone x.number ≡ true → new x.number ≡ old x.number) → pick new old x.number ≡ old x.number
+      elsewhere new old same = grind (arith, same, unlike)
 
-  stayed : (x : KeptLink) → stays x.number ≡ true → IsLinkOf between x → IsLinkOf (link_words k) x
+  stayed : (x : KeptLink) → stays_but gone x.number ≡ true → IsLinkOf between x → IsLinkOf (link_words k) x
   stayed x q a = with_words between (link_words k) x (sym (new (facts k) (facts h))) (sym (new (waiting k) (waiting h))) a
     where
       new : {A : Type 0} (f g : ℕ → A) → pick f g x.number ≡ f x.number
       new f g = grind (arith, q)
 
-  pub moves_follow : LinksFollow (link_words k) (filter (λ x. stays x.number) (set kept p moved))
-  moves_follow = stay_follow between (link_words k) stays (set kept p moved) (one_follows (link_words h) between moved here other kept p d t (kept_climbs h legal) refl less refl) moves.numbers stayed
-
--- the same, where at most one link goes
-pub moved_follow : (h k : History) → IsLegal h → (j : ℕ) (state : LinkState) (frames : List OutFrame) (gone : Option ℕ) → AreMoves h k j state frames (stays_but gone)
-    → (kept : List KeptLink) → LinksFollow (link_words h) kept → (p : ℕ) (d : KeptLink) → p < length kept → (get_or kept p d).number ≡ j → (room : ℕ)
-    → LinksFollow (link_words k) (without_link gone (set kept p (moved_on state frames room (get_or kept p d))))
-moved_follow h k legal j state frames gone moves kept t p d less is room =
-    subst (LinksFollow (link_words k)) (without_is gone (set kept p (moved_on state frames room (get_or kept p d)))) (moves_follow h k legal j state frames (stays_but gone) moves kept t p d less is room)
+  pub moved_follow : LinksFollow (link_words k) (without_link gone (set kept p moved))
+  moved_follow = subst (LinksFollow (link_words k)) (without_is gone (set kept p moved))
+      (stay_follow between (link_words k) (stays_but gone) (set kept p moved) (one_follows (link_words h) between moved here other kept p d t (kept_climbs h legal) refl less refl) moves.numbers stayed)
 
 -- ---- a link that moves on, and is put in at its place
 
 -- no element is as many as none
 pub none_is_empty : {A : Type 0} (xs : List A) (b : Bool) → b ≡ (length xs == 0) → is_empty xs ≡ b
 none_is_empty [] b q = sym q
-none_is_empty (x ∷ xs) false q = refl
-none_is_empty (x ∷ xs) true q = absurd (let none : length (x ∷ xs) ≡ 0 = eqb-true (length (x ∷ xs)) 0 (sym q) in omega (arith, none))
+none_is_empty (x ∷ xs) b q = grind (arith, eqb-true (length (x ∷ xs)) 0)
 
 -- a link in a new state, with further frames
 pub stated : {link : StatelessLink} {state : LinkState} {v w : KeptLink} (frames : List OutFrame) → v ≡ in_state state link → link.prepared ≡ [] → w ≡ with_room (with_frames v frames) w.room → w ≡ moved_on state frames w.room (in_state state link)

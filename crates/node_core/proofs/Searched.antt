@@ -1,8 +1,8 @@
 -- What a binary search finds among links and scopes, which are kept in order.
-use Rattle.node_core.proofs.Words.{AllByRecursion, Bool, Climbs, Equal, Err, Follows, Greater, History, Less, List, None, Ok, Ordering, Parts, Result, Rises, Some}
-use Rattle.node_core.proofs.Words.{ap, arith, cond, false, get_or, is_gt, kept_climbs, length, lie, list_all, lt-ltb, map, nat_eq, nat_lt, position, refl}
-use Rattle.node_core.proofs.Words.{running_rises, same, same_decides, subst, suc, sym, text_cmp, texts_total, true, zero, ℕ, [], ◌<◌, ◌∙◌, ◌∷◌, ◌≡◌}
-use Rattle.node_core.proofs.Words.{eq-eqb, eqb-true, ltb-true, ltb-false, find, list_any, position-Some, KeptLink, Running, ◌+◌}
+use Rattle.node_core.proofs.Words.{AllByRecursion, Bool, Climbs, Equal, Err, Follows, Greater, History, Less, List, None, Ok, Ordering, Parts, Result}
+use Rattle.node_core.proofs.Words.{Rises, Some, ap, arith, cond, false, get_or, kept_climbs, length, lie, list_all, lt-ltb, map, nat_eq, nat_lt}
+use Rattle.node_core.proofs.Words.{position, refl, running_rises, same, same_decides, subst, suc, sym, text_cmp, texts_total, true, zero, ℕ, [], ◌<◌}
+use Rattle.node_core.proofs.Words.{◌∙◌, ◌∷◌, ◌≡◌, eq-eqb, eqb-true, ltb-true, ltb-false, find, list_any, position-Some, KeptLink, Running, ◌+◌}
 use Rattle.std.specs.Ordering.{is_lt, nat_cmp, ordering_reverse}
 use Rattle.std.specs.List.{position_or_len}
 use Rattle.std.specs.List.Sorted.{IsBinarySearchResult, IsPartitionPoint, IsSearchInRange, IsSortedBy}
@@ -28,9 +28,8 @@ module _ {X K : Type 0} {cmp : K → K → Ordering} (total : IsTotalOrder cmp) 
 
   rises_at : (xs : List X) → Rises cmp (map key xs) → (i j : ℕ) (d : X) → i < j → j < length xs → cmp (key (get_or xs i d)) (key (get_or xs j d)) ≡ Less
   rises_at [] r i j d l h = absurd (omega (arith, h))
-  rises_at (x ∷ xs) r zero zero d l h = absurd (omega (arith, l))
+  rises_at (x ∷ xs) r i zero d l h = absurd (omega (arith, l))
   rises_at (x ∷ xs) r zero (suc j) d l h = below (key x) xs r.0 j d (omega (arith, h))
-  rises_at (x ∷ xs) r (suc i) zero d l h = absurd (omega (arith, l))
   rises_at (x ∷ xs) r (suc i) (suc j) d l h = rises_at xs r.1 i j d (omega (arith, l)) (omega (arith, h))
 
   sorted : (xs : List X) → Rises cmp (map key xs) → IsSortedBy (λ a b. is_lt (cmp (key a) (key b))) xs
@@ -56,12 +55,8 @@ module _ {X K : Type 0} {cmp : K → K → Ordering} (total : IsTotalOrder cmp) 
 
       at : position_or_len (λ y. same (key y) k) (x ∷ xs) ≡ length (x ∷ xs)
       at = position_or_len_is (λ y. same (key y) k) (x ∷ xs) (length (x ∷ xs)) x (omega arith)
-          (λ n l. apart _ k (λ q. by n l q (nat_lt n i) refl))
+          (λ n l. apart _ k (λ q. grind (arith, q, l, gap.0 n x, gap.1 n x, ltb-true n i, ltb-false n i)))
           (λ l. absurd (omega (arith, l)))
-        where
-          by : (n : ℕ) → n < length (x ∷ xs) → cmp (key (get_or (x ∷ xs) n x)) k ≡ Equal → (c : Bool) → nat_lt n i ≡ c → ⊥
-          by n l q true m = lie (ap is_lt (sym (gap.0 n x (omega arith) (ltb-true n i m)) ∙ q))
-          by n l q false m = lie (ap is_gt (sym (gap.1 n x (omega (arith, ltb-false n i m)) l) ∙ q))
 
 -- what stands at the first place that passes, and that nothing does where there is none
 module _ {A : Type 0} (test : A → Bool) where

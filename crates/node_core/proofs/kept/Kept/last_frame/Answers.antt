@@ -1,25 +1,16 @@
-use Rattle.node_core.proofs.Words.{arith, ap, length, length-map, refl, ◌∙◌, ◌≡◌, ◌≤◌, ◌+◌, Reply, nobody}
+use Rattle.node_core.proofs.Words.{arith, ap, rules, length, length-map, refl, ◌∙◌, ◌≡◌, ◌≤◌, ◌+◌, Reply, nobody}
 use Rattle.std.specs.List.{insert}
 use Rattle.node_core.proofs.Answering.{accepts, ends, wanted, wants}
 use Rattle.node_core.proofs.HeldLink.{IsHeld, held_ready, held_restored, room_follows}
 use Rattle.node_core.proofs.LastHeard.{handshakes, last_has_peer, last_never_on, last_few, last_broke, last_next, last_came_up}
 use Rattle.node_core.proofs.kept.Kept.last_frame.Given.{Over}
-use Rattle.node_core.proofs.kept.Kept.last_frame.Goals as goal
 use Rattle.node_core.proofs.kept.Kept.last_frame.Goals.{After-into_parts-state}
+use Rattle.node_core.proofs.kept.Kept.last_frame.Goals as goal
 
 -- the link, with room, taken out and apart from its state
 held : (g : Over) (c : After-into_parts-state g) → IsHeld g.call.past c.args.self.now.links.items c.args.number c.args.place
     c.index_mut.result.now c.make_room.new.self c.remove.result c.into_parts-state.result.0 c.into_parts-state.result.1 c.remove.new.self.items
-held g c = record {
-  space = c.requires.link.called.space;
-  opens = c.requires.opens;
-  at = c.requires.link.here;
-  first = c.index_mut.ensures.value;
-  roomy = c.make_room.ensures.same;
-  taken = c.remove.ensures.value;
-  apart = c.into_parts-state.ensures;
-  others = c.remove.ensures.items;
-}
+held g c = search rules
 
 pub returns-in_err-make_room : goal.returns-in_err-make_room
 returns-in_err-make_room g c = wanted c.requires.link.called _ _ refl
