@@ -1,8 +1,9 @@
 -- What a binary search finds among links and scopes, which are kept in order.
-use Rattle.node_core.proofs.Words.{AllByRecursion, Bool, Climbs, Equal, Err, Follows, Greater, History, Less, List, None, Ok, Ordering, Parts, Result}
+use Rattle.node_core.proofs.Words.{AllByRecursion, Bool, Climbs, Err, Follows, History, Less, List, None, Ok, Ordering, Parts, Result}
 use Rattle.node_core.proofs.Words.{Rises, Some, ap, arith, cond, false, get_or, kept_climbs, length, lie, list_all, lt-ltb, map, nat_eq, nat_lt}
 use Rattle.node_core.proofs.Words.{position, refl, running_rises, same, same_decides, subst, suc, sym, text_cmp, texts_total, true, zero, ℕ, [], ◌<◌}
-use Rattle.node_core.proofs.Words.{◌∙◌, ◌∷◌, ◌≡◌, eq-eqb, eqb-true, ltb-true, ltb-false, find, list_any, position-Some, KeptLink, Running, ◌+◌}
+use Rattle.node_core.proofs.Words.{◌∙◌, ◌∷◌, ◌≡◌, eq-eqb, eqb-true, ltb-true, ltb-false, find, is_some, list_any, position-Some, KeptLink, Running, ◌+◌}
+use Rattle.std.specs.declared.cmp.Ordering.TheVariants.{Equal, Greater}
 use Rattle.std.specs.Ordering.{is_lt, nat_cmp, ordering_reverse}
 use Rattle.std.specs.List.{position_or_len}
 use Rattle.std.specs.List.Sorted.{IsBinarySearchResult, IsPartitionPoint, IsSearchInRange, IsSortedBy}
@@ -14,7 +15,7 @@ use Rattle.std.proofs.lemmas.List.Sums.{position_or_len_is}
 use Rattle.std.proofs.lemmas.Map.Lookups.{exact_bytes, exact_unsigned}
 use Rattle.node_core.specs.Links.{AreInOrder}
 use Rattle.node_core.specs.ScopeFacts.{AreAscending}
-use Rattle.node_core.proofs.Found.{no_place, not_so}
+use Rattle.node_core.proofs.Found.{not_so, place_found}
 
 module _ {X K : Type 0} {cmp : K → K → Ordering} (total : IsTotalOrder cmp) (exact : (a b : K) → cmp a b ≡ Equal → a ≡ b) (same : K → K → Bool)
     (decides : (a b : K) → (same a b ≡ true → a ≡ b) × (a ≡ b → same a b ≡ true)) (key : X → K) where
@@ -73,7 +74,7 @@ module _ {A : Type 0} (test : A → Bool) where
   nothing (x ∷ xs) q = grind (arith, nothing xs)
 
   pub find_none : (xs : List A) → position test xs ≡ None → find test xs ≡ None
-  find_none xs q = nothing xs (no_place test xs q)
+  find_none xs q = nothing xs (sym (place_found test xs) ∙ ap is_some q)
 
 -- numbers that climb
 climbs_rise : (ns : List ℕ) → Climbs ns → Rises nat_cmp ns
