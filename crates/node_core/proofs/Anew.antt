@@ -44,7 +44,7 @@ module _ (h : History) (seat : ℕ) where
   anew_now parts t cs gone space n is left o number same more =
       let nobody : (s g : List ℕ) (p : Pid) → listed (anew cs) s g p ≡ 0 = λ s g p. stopped_lists (anew cs) s g p refl in
       let next = accepted_next h seat Event.Restart space Reply.Done cs (rw (not_so (creation h == 4294967295) (λ e. left (is ∙ eqb-true (creation h) 4294967295 e)))) refl
-          (λ its. partings_change h (anew cs) (λ x. no_count) (λ r f g p. sym (nobody r.scope g p)) parts.scopes t.scopes (λ s stopped g p. nobody s g p) cs gone) in (
+      (λ its. partings_change h (anew cs) (λ x. no_count) (λ r f g p. sym (nobody r.scope g p)) parts.scopes t.scopes (λ s stopped g p. nobody s g p) cs gone) in (
         next,
         record {
           sound = sound_now h _ t.sound next;

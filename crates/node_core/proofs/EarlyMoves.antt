@@ -1,5 +1,5 @@
 -- What an accepted Status, Challenge or answer to `alive` makes of its link.
-use Rattle.node_core.proofs.Words.{List, None, Some, ap, not, refl, sym, true, ℕ, [], ◌&&◌, ◌++◌, ◌∙◌, ◌∷◌, ◌≡◌, option_map_or, has_bit, Challenge}
+use Rattle.node_core.proofs.Words.{List, None, Some, ap, not, refl, sym, true, ℕ, [], ◌&&◌, ◌∙◌, ◌∷◌, ◌≡◌, option_map_or, has_bit, Challenge}
 use Rattle.node_core.proofs.Words.{challenge_frame, status_of, StatusWord, AdmissionRules, found, History, is_accepted, named_by, OutFrame, narrow}
 use Rattle.node_core.proofs.Words.{own_challenge, IsAnswered, with_entry, is_last, Entry, AdmissionFollows, admission_words, IsState, facts}
 use Rattle.node_core.proofs.Words.{narrow_frames, own_flags, is_visible, Dialled, Introduced, AwaitAnswer, own_challenge_frame, Event, LinkState}
@@ -49,12 +49,14 @@ module _ (h : History) (rules : AdmissionRules) (t : AdmissionFollows (admission
         → AreMoves h k j (LinkState.Ack (found rules dial f)) (narrow_frames (owes.reply_owed rules dial.peer dial.challenge f.challenge)) (stays_but None)
     challenge_moves dial f asked named a =
         let on = challenge_taken h e answered yes j body is f a.0.awaited asked in
-        inner_moves h e answered yes j body is (ap is_last a.0.awaited) (ap (λ x. named_by x body) a.0.awaited) on (LinkState.Ack (found rules dial f)) (narrow_frames (owes.reply_owed rules dial.peer dial.challenge f.challenge)) (λ w. (w,
+        inner_moves h e answered yes j body is (ap is_last a.0.awaited) (ap (λ x. named_by x body) a.0.awaited) on (LinkState.Ack (found rules dial f)) (narrow_frames (owes.reply_owed rules dial.peer dial.challenge f.challenge)) (λ w. (
+          w,
           record {
             peer = record { peer = on.peer ∙ a.1.peer.peer; other = a.1.peer.other };
             said = (hello_of f, record { said = on.given; name_is = named; creation_is = refl; visible_is = visible_is f.flags });
             challenge = a.1.challenge ∙ sym (same_challenge h e answered yes j body is on);
-          }))
+          },
+        ))
         (grind (arith, a.0.awaited, asked, a.1.challenge, digest_is h rules t j dial.peer f.challenge a.1.peer.peer))
 
 -- ---- what an accepted Name makes of its link, and of the own dial to that peer

@@ -8,6 +8,7 @@ pub mod Answering
 -- lists and places
 pub mod Zipped
 pub mod Found
+pub mod Searched
 -- links
 pub mod KeptOn
 pub mod LinkTests
@@ -23,7 +24,6 @@ pub mod OneDial
 pub mod EarlyMoves
 pub mod HeardFrames
 pub mod HeldLink
-pub mod Searched
 pub mod EarlyFrame
 pub mod CameUp
 pub mod LastHeard

@@ -136,7 +136,7 @@ module _ (h : History) (seat j : ℕ) (cs : List Change) (parts : Parts) (t : Fo
       → IsNext h loss × Follows (with_entry h loss) (record parts { scopes = scopes; links = filter (λ x. not (nat_eq x.number j)) parts.links })
   lost space gone scopes cuts =
       let next = accepted_next h seat (Event.Lost j) space Reply.Done cs (rw (is_kept_at h t.sound.legal parts.links t.links j p found)) refl
-          (λ its. gone_change h (with_entry h loss) j lost_gone (up_peer link.state) (lost_listed its (up_peer link.state) refl) parts.scopes cs gone t.scopes) in (
+      (λ its. gone_change h (with_entry h loss) j lost_gone (up_peer link.state) (lost_listed its (up_peer link.state) refl) parts.scopes cs gone t.scopes) in (
         next,
         step_follows t next refl t.admission t.processes
             (gone_scopes h (with_entry h loss) j lost_gone (up_peer link.state) (down_by h j link.state its_state) (lost_listed (answered_by next) (up_peer link.state) refl)
@@ -187,7 +187,7 @@ module _ (h : History) (seat : ℕ) (n : List ℕ) (cs : List Change) (parts : P
         → IsNext h parting × Follows (with_entry h parting) (record parts { scopes = scopes; links = filter (λ x. not (nat_eq x.number number)) parts.links })
     parted space lost scopes number is cuts =
         let next = accepted_next h seat (Event.Disconnect n) space Reply.Done cs (rw present) refl
-            (λ its. gone_change h (with_entry h parting) last.number parting_gone (up_peer last.state) (parting_listed its) parts.scopes cs lost t.scopes) in (
+        (λ its. gone_change h (with_entry h parting) last.number parting_gone (up_peer last.state) (parting_listed its) parts.scopes cs lost t.scopes) in (
           next,
           step_follows t next refl t.admission t.processes
               (gone_scopes h (with_entry h parting) last.number parting_gone (up_peer last.state) (down_by h last.number last.state here.state) (parting_listed (answered_by next)) parts.scopes scopes cuts t.scopes)

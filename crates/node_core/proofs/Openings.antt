@@ -76,7 +76,7 @@ module _ {h : History} {parts : Parts} (t : Follows h parts) (seat c : ℕ) wher
   opened_now space few challenge room same =
       let legal = t.sound.legal in
       let next = accepted_next h seat (Event.Opened c) space (Reply.Link (next_number h)) [] (rw (lt-ltb (kept_links h) 64 (let is = kept_are h parts.links t.links in omega (arith, is, few)))) refl
-          (λ its. no_change h (with_entry h opening) (λ s g p. sym (opened_rows h legal opening its refl c refl s g p))) in
+      (λ its. no_change h (with_entry h opening) (λ s g p. sym (opened_rows h legal opening its refl c refl s g p))) in
       let is = answered_by next in (
         next,
         step_follows t next refl t.admission t.processes
@@ -106,10 +106,13 @@ module _ {h : History} {parts : Parts} (t : Follows h parts) (seat : ℕ) (peer 
             (subst (λ w. ScopesFollow w parts.scopes) (sym (new_scopes h legal dial is refl (ByDial peer c) refl (dialled_rows h legal dial is refl peer c refl) refl)) t.scopes)
             (subst (λ x. LinksFollow (link_words (with_entry h dial)) (parts.links ++ x ∷ [])) (sym made_so)
             (new_follows h legal dial is refl (ByDial peer c) refl parts.links (dialled_link parts.admission (next_number h) peer c link.room) t.links refl (record {
-              state = (awaits_first h legal dial is refl (ByDial peer c) refl, record {
-                peer = record { peer = new.peer; other = not-true (same peer h.opening.name) (unbroken (not (same peer h.opening.name)) (all_hold (dial_checks h peer) holds).0) };
-                challenge = sym (ap (λ o. option_map_or (λ x. challenge_in x.start) o 0) new.opened);
-              });
+              state = (
+                awaits_first h legal dial is refl (ByDial peer c) refl,
+                record {
+                  peer = record { peer = new.peer; other = not-true (same peer h.opening.name) (unbroken (not (same peer h.opening.name)) (all_hold (dial_checks h peer) holds).0) };
+                  challenge = sym (ap (λ o. option_map_or (λ x. challenge_in x.start) o 0) new.opened);
+                },
+              );
               frames = (λ i. narrow (name_bytes (record { flags = own_flags (t.admission.hidden i); creation = t.admission.creation i; name = t.admission.own i })) ∷ []) ∙ sym (dialled_waiting h dial is refl legal peer c refl);
               idle = refl;
             }))),
