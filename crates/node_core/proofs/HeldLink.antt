@@ -1,16 +1,17 @@
 -- A link that is taken out of the kept ones, and apart from its state, while it hears a frame.
-use Rattle.node_core.proofs.Words.{LinksFollow, is_whole, AdmissionRules, Pending, first_broken, checks, Event, rule_of, state_checks, Rule, Hears}
+use Rattle.node_core.proofs.Words.{unroomed, is_whole, AdmissionRules, Pending, first_broken, checks, Event, rule_of, state_checks, Rule, Hears}
 use Rattle.node_core.proofs.Words.{Heard, IsNext, Refused, with_entry, refusal_owes, is_full, is_open, true, false, Bool, List, None, Option, Some}
 use Rattle.node_core.proofs.Words.{ap, arith, cond, find, get_or, length, nat_eq, position, refl, set, subst, suc, sym, zero, ℕ, [], ◌∷◌, ◌<◌, ◌∙◌}
 use Rattle.node_core.proofs.Words.{◌≡◌, ◌≤◌, ◌++◌, get_or-set_same, option_map, option_map_or, kept_climbs, same, is_empty, History, Follows, Parts}
-use Rattle.node_core.proofs.Words.{IsLinkOf, IsState, facts, link_words, KeptLink, StatelessLink, in_state, with_room, LinkState, IsReady, HaveMoved}
-use Rattle.node_core.proofs.Words.{OutFrame, moved_on, without_link, waiting, Climbs, eq-eqb, eqb-true, filter, list_all, ltb-true, map, nat_lt, not}
-use Rattle.node_core.proofs.Words.{narrow_frames, HaveEnded, dial_beside, dialled_peer, up_peer, older_of}
+use Rattle.node_core.proofs.Words.{IsState, facts, KeptLink, StatelessLink, in_state, with_room, LinkState, IsReady, HaveMoved, OutFrame, moved_on}
+use Rattle.node_core.proofs.Words.{without_link, waiting, Climbs, eq-eqb, eqb-true, filter, list_all, ltb-true, map, nat_lt, not, narrow_frames}
+use Rattle.node_core.proofs.Words.{HaveEnded, dial_beside, dialled_peer, up_peer, older_of}
 use Rattle.std.specs.List.{insert, remove}
 use Rattle.node_core.proofs.HeardFrames.{is_there, link_there, state_there}
-use Rattle.node_core.proofs.KeptOn.{below, filter_set, one_follows}
+use Rattle.node_core.proofs.KeptOn.{below, filter_set}
 use Rattle.node_core.proofs.FrameRules.{refused_next, refused_follows, owes_alike}
 use Rattle.node_core.proofs.Entered.{made}
+use Rattle.node_core.proofs.Told.{alike_again}
 use Rattle.link_states.specs.Checks as state
 
 -- ---- an element that is taken out
@@ -57,19 +58,15 @@ pub record IsHeld (h : History) (kept : List KeptLink) (j p : ℕ) (v w out : Ke
   pub apart : in_state s link ≡ out
   pub others : left ≡ remove (set kept p w) p
 
+alike_there : (xs : List KeptLink) (p : ℕ) (d w : KeptLink) → unroomed w ≡ unroomed (get_or xs p d) → map unroomed (set xs p w) ≡ map unroomed xs
+alike_there [] p d w q = refl
+alike_there (x ∷ xs) zero d w q = ap (λ y. y ∷ map unroomed xs) q
+alike_there (x ∷ xs) (suc p) d w q = ap (λ ys. unroomed x ∷ ys) (alike_there xs p d w q)
+
 -- more room alone changes nothing
 pub room_follows : {h : History} {parts : Parts} → Follows h parts → (j : ℕ) {p : ℕ} {v w : KeptLink} → position (λ x. nat_eq x.number j) parts.links ≡ Some p → v ≡ get_or parts.links p v → w ≡ with_room v w.room
     → Follows h (record parts { links = set parts.links p w })
-room_follows {h} {parts} t j {p} {v} {w} at is roomy = record { sound = t.sound; admission = t.admission; processes = t.processes; scopes = t.scopes; links = links; monitors = t.monitors }
-  where
-    now : w ≡ with_room (get_or parts.links p v) w.room
-    now = roomy ∙ ap (λ (x : KeptLink). with_room x w.room) is
-
-    links : LinksFollow (link_words h) (set parts.links p w)
-    links =
-        let was = link_there h parts t j p at v in
-        one_follows (link_words h) (link_words h) w (subst (IsLinkOf (link_words h)) (sym now) (record { state = was.state; frames = was.frames; idle = was.idle }))
-        (λ x apart a. a) parts.links p v t.links (kept_climbs h t.sound.legal) refl (is_there h parts t j p at v).0 (ap (λ (x : KeptLink). x.number) now)
+room_follows {h} {parts} t j {p} {v} {w} at is roomy = alike_again h parts t (set parts.links p w) (alike_there parts.links p v w (ap unroomed (roomy ∙ ap (λ (x : KeptLink). with_room x w.room) is)))
 
 module _ {h : History} {parts : Parts} (t : Follows h parts) {j p : ℕ} {v w out : KeptLink} {s : LinkState} {link : StatelessLink} {left : List KeptLink} (held : IsHeld h parts.links j p v w out s link left) where
   here : p < length parts.links
