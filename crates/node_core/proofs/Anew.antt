@@ -7,10 +7,6 @@ use Rattle.node_core.proofs.Entered.{made, accepted_next, answered_by, sound_now
 use Rattle.node_core.proofs.Partings.{partings_change}
 use Rattle.node_core.proofs.Found.{not_so}
 
--- no process was spawned
-none_numbered : (a : Bool) (n : ℕ) → false ≡ (a && nat_le 1 n && nat_le n 0 && true)
-none_numbered a n = grind (arith, leb-true 1 n, leb-true n 0)
-
 pub begun : (o : Opening) → o.entries < 2 ^ 32 → Follows (past o []) (record { admission = record { own = o.name; cookie = o.cookie; hidden = o.hidden; creation = o.creation; peers = []; allowed = [] }; processes = record { spawned = 0; live = [] }; scopes = []; links = []; monitors = [] })
 begun o fits = record {
   sound = record { legal = tt; fits = fits; few = omega arith; few_spawned = omega arith };
@@ -23,7 +19,7 @@ begun o fits = record {
     peers = λ n. refl;
     allowed = λ n. refl;
   };
-  processes = record { spawned = refl; live = λ n. none_numbered (same o.name o.name && o.creation + 0 == o.creation + 0) n; count = refl };
+  processes = record { spawned = refl; live = λ n. grind (arith, leb-true 1 n, leb-true n 0); count = refl };
   scopes = record { running = refl; each = tt };
   links = record { numbers = refl; each = tt };
   monitors = follows_start o;

@@ -39,9 +39,6 @@ exits_on p rs r old mid new cs ds gs t d prepared more =
 
 -- ---- the rules
 
-abbrev exit_broken : Bool → Bool → Option Rule
-exit_broken local alive = cond (not local) (Some Rule.NotLocal) (cond (not alive) (Some Rule.NoProcess) None)
-
 module _ (h : History) (seat : ℕ) (parts : Parts) (t : Follows h parts) (p : Pid) (local : is_local h p ≡ true) where
   own_node : p.node ≡ h.opening.name
   own_node = (same_decides p.node h.opening.name).0 (and_left (same p.node h.opening.name) (p.creation == creation h) local)
@@ -97,7 +94,7 @@ module _ (h : History) (seat : ℕ) (parts : Parts) (t : Follows h parts) (p : P
         → IsNext h exit_entry × Follows exited (record parts { scopes = new; links = links; processes = q })
     exit_now space living away is new z q same live fewer =
         let alive = lives_of h p local ∙ sym (t.processes.live p.number) ∙ living in
-        let next = accepted_next h seat (Event.Exit p) space Reply.Done cs (λ i. exit_broken (local i) (alive i)) refl exit_change in
+        let next = accepted_next h seat (Event.Exit p) space Reply.Done cs (λ i. cond (not (local i)) (Some Rule.NotLocal) (cond (not (alive i)) (Some Rule.NoProcess) None)) refl exit_change in
         let it = answered_by next in (
           next,
           step_follows t next refl t.admission
