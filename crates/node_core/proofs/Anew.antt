@@ -1,7 +1,7 @@
 -- A node that has seen nothing, and one that begins anew.
 use Rattle.node_core.proofs.Words.{List, Some, ap, arith, false, refl, sym, ℕ, [], ◌+◌, ◌==◌, ◌∙◌, ◌≡◌, eq-eqb, eqb-true, Pid, no_count, stopped_lists, checks}
 use Rattle.node_core.proofs.Words.{first_broken, History, creation, listed, IsNext, is_full, with_entry, Change, Accepted, Follows, Parts, ArePartings, Opening}
-use Rattle.node_core.proofs.Words.{follows_cleared, own_pid, Event, Reply, Rule, Bool, true, nat_le, ◌&&◌, ◌<◌, leb-true, same, past, ◌^◌, follows_start}
+use Rattle.node_core.proofs.Words.{follows_cleared, own_pid, Event, Reply, Rule, ◌<◌, leb-true, same, past, ◌^◌, follows_start}
 use Rattle.policy_audit.proofs.LivesNow.{lives_restarted}
 use Rattle.node_core.proofs.Entered.{made, accepted_next, answered_by, sound_now}
 use Rattle.node_core.proofs.Partings.{partings_change}
