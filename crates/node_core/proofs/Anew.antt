@@ -1,15 +1,11 @@
 -- A node that has seen nothing, and one that begins anew.
 use Rattle.node_core.proofs.Words.{List, Some, ap, arith, false, refl, sym, ℕ, [], ◌+◌, ◌==◌, ◌∙◌, ◌≡◌, eq-eqb, eqb-true, Pid, no_count, stopped_lists, checks}
 use Rattle.node_core.proofs.Words.{first_broken, History, creation, listed, IsNext, is_full, with_entry, Change, Accepted, Follows, Parts, ArePartings, Opening}
-use Rattle.node_core.proofs.Words.{follows_cleared, own_pid, Event, Reply, Rule, Bool, true, nat_le, ◌&&◌, ◌<◌, leb-true, same, past, ◌^◌, follows_start}
+use Rattle.node_core.proofs.Words.{follows_cleared, own_pid, Event, Reply, Rule, ◌<◌, leb-true, same, past, ◌^◌, follows_start}
 use Rattle.policy_audit.proofs.LivesNow.{lives_restarted}
 use Rattle.node_core.proofs.Entered.{made, accepted_next, answered_by, sound_now}
 use Rattle.node_core.proofs.Partings.{partings_change}
 use Rattle.node_core.proofs.Found.{not_so}
-
--- no process was spawned
-none_numbered : (a : Bool) (n : ℕ) → false ≡ (a && nat_le 1 n && nat_le n 0 && true)
-none_numbered a n = grind (arith, leb-true 1 n, leb-true n 0)
 
 pub begun : (o : Opening) → o.entries < 2 ^ 32 → Follows (past o []) (record { admission = record { own = o.name; cookie = o.cookie; hidden = o.hidden; creation = o.creation; peers = []; allowed = [] }; processes = record { spawned = 0; live = [] }; scopes = []; links = []; monitors = [] })
 begun o fits = record {
@@ -23,7 +19,7 @@ begun o fits = record {
     peers = λ n. refl;
     allowed = λ n. refl;
   };
-  processes = record { spawned = refl; live = λ n. none_numbered (same o.name o.name && o.creation + 0 == o.creation + 0) n; count = refl };
+  processes = record { spawned = refl; live = λ n. grind (arith, leb-true 1 n, leb-true n 0); count = refl };
   scopes = record { running = refl; each = tt };
   links = record { numbers = refl; each = tt };
   monitors = follows_start o;

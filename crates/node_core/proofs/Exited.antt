@@ -1,11 +1,11 @@
 -- A process that ends.
-use Rattle.node_core.proofs.Words.{Bool, List, None, Option, Some, ap, arith, cond, false, length, nat_eq, not, refl, sym, true, ℕ, [], ◌++◌, ◌+◌, ◌==◌, ◌∙◌}
-use Rattle.node_core.proofs.Words.{◌∷◌, ◌≡◌, AllByRecursion, AllZip, filter, flat_map, same_decides, same, same_pid, Pid, count_after_exit, Table}
-use Rattle.node_core.proofs.Words.{stopped_lists, told_numbers, and_left, IsChange, local_rows, heard, told, History, creation, listed, OutFrame, waiting, wide}
-use Rattle.node_core.proofs.Words.{is_local, IsAnswered, IsNext, is_full, with_entry, Change, Entry, Accepted, Rule, Follows, Parts, all_frames, exit_frames}
-use Rattle.node_core.proofs.Words.{link_words, KeptLink, IsParting, rows_left, Spawned, IsRunningOf, is_number, scope_words, if_told, lives_of, exited_links}
-use Rattle.node_core.proofs.Words.{Running, AreExitsTold, count_but, HasParted, Message, Event, Reply, append-nil, append_assoc, ArePrepared, AreExits}
-use Rattle.node_core.proofs.Words.{IsDifference, GroupChange, is_empty, count_of, subst}
+use Rattle.node_core.proofs.Words.{List, None, Some, ap, arith, cond, false, length, nat_eq, not, refl, sym, true, ℕ, [], ◌++◌, ◌+◌, ◌==◌, ◌∙◌, ◌∷◌, ◌≡◌}
+use Rattle.node_core.proofs.Words.{AllByRecursion, AllZip, filter, flat_map, same_decides, same, same_pid, Pid, count_after_exit, Table, stopped_lists}
+use Rattle.node_core.proofs.Words.{told_numbers, and_left, IsChange, local_rows, heard, told, History, creation, listed, OutFrame, waiting, wide, is_local}
+use Rattle.node_core.proofs.Words.{IsAnswered, IsNext, is_full, with_entry, Change, Entry, Accepted, Rule, Follows, Parts, all_frames, exit_frames, link_words}
+use Rattle.node_core.proofs.Words.{KeptLink, IsParting, rows_left, Spawned, IsRunningOf, is_number, scope_words, if_told, lives_of, exited_links, Running}
+use Rattle.node_core.proofs.Words.{AreExitsTold, count_but, HasParted, Message, Event, Reply, append-nil, append_assoc, ArePrepared, AreExits, IsDifference}
+use Rattle.node_core.proofs.Words.{GroupChange, is_empty, count_of, subst}
 use Rattle.scope_core.proofs.Rising.{all_map}
 use Rattle.policy_audit.proofs.LivesNow.{exits_more, lives_exited, spawned_exited}
 use Rattle.policy_audit.proofs.RowsAfter.{exited_rows}
@@ -38,9 +38,6 @@ exits_on p rs r old mid new cs ds gs t d prepared more =
     }
 
 -- ---- the rules
-
-abbrev exit_broken : Bool → Bool → Option Rule
-exit_broken local alive = cond (not local) (Some Rule.NotLocal) (cond (not alive) (Some Rule.NoProcess) None)
 
 module _ (h : History) (seat : ℕ) (parts : Parts) (t : Follows h parts) (p : Pid) (local : is_local h p ≡ true) where
   own_node : p.node ≡ h.opening.name
@@ -97,7 +94,7 @@ module _ (h : History) (seat : ℕ) (parts : Parts) (t : Follows h parts) (p : P
         → IsNext h exit_entry × Follows exited (record parts { scopes = new; links = links; processes = q })
     exit_now space living away is new z q same live fewer =
         let alive = lives_of h p local ∙ sym (t.processes.live p.number) ∙ living in
-        let next = accepted_next h seat (Event.Exit p) space Reply.Done cs (λ i. exit_broken (local i) (alive i)) refl exit_change in
+        let next = accepted_next h seat (Event.Exit p) space Reply.Done cs (λ i. cond (not (local i)) (Some Rule.NotLocal) (cond (not (alive i)) (Some Rule.NoProcess) None)) refl exit_change in
         let it = answered_by next in (
           next,
           step_follows t next refl t.admission

@@ -29,11 +29,6 @@ module _ (h : History) (seat : ℕ) (s : List ℕ) (gs : List GroupChange) where
   stopped = with_entry h e
 
   module _ (parts : Parts) (t : Follows h parts) (runs : is_running h s ≡ true) (groups : IsDifference (listed h s) no_count gs) where
-    stop_next : is_full h ≡ false → IsNext h e
-    stop_next space = accepted_next h seat (Event.StopScope s) space Reply.Done (if_some s gs) (rw runs) refl (λ its. scope_change h stopped s gs
-        (subst (λ f. IsDifference (listed h s) f gs) (λ i g p. sym (stopped_rows h t.sound.legal e its refl s refl s g p ∙ ap (λ b. cond b 0 (listed h s g p)) ((same_decides s s).1 refl)) i) groups)
-        (λ u g p other. sym (stopped_rows h t.sound.legal e its refl s refl u g p ∙ ap (λ b. cond b 0 (listed h u g p)) other)))
-
     module _ (its : IsAnswered h e) where
       still : (r : Running) → same r.scope s ≡ false → IsRunningOf (scope_words h) r → IsRunningOf (scope_words stopped) r
       still r other q = record {
@@ -51,7 +46,9 @@ module _ (h : History) (seat : ℕ) (s : List ℕ) (gs : List GroupChange) where
     pub stop_now : is_full h ≡ false → (links : List KeptLink) → AreTold (if_among (shown_numbers parts.links) (wide (Message.Down s))) parts.links links
         → IsNext h e × Follows stopped (record parts { scopes = all_but s parts.scopes; links = links; monitors = without_scope s parts.monitors })
     stop_now space links tells =
-        let next = stop_next space in
+        let next = accepted_next h seat (Event.StopScope s) space Reply.Done (if_some s gs) (rw runs) refl (λ its. scope_change h stopped s gs
+            (subst (λ f. IsDifference (listed h s) f gs) (λ i g p. sym (stopped_rows h t.sound.legal e its refl s refl s g p ∙ ap (λ b. cond b 0 (listed h s g p)) ((same_decides s s).1 refl)) i) groups)
+            (λ u g p other. sym (stopped_rows h t.sound.legal e its refl s refl u g p ∙ ap (λ b. cond b 0 (listed h u g p)) other))) in
         let its = answered_by next in (
           next,
           record {
