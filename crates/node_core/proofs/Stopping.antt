@@ -47,8 +47,8 @@ module _ (h : History) (seat : ℕ) (s : List ℕ) (gs : List GroupChange) where
         → IsNext h e × Follows stopped (record parts { scopes = all_but s parts.scopes; links = links; monitors = without_scope s parts.monitors })
     stop_now space links tells =
         let next = accepted_next h seat (Event.StopScope s) space Reply.Done (if_some s gs) (rw runs) refl (λ its. scope_change h stopped s gs
-            (subst (λ f. IsDifference (listed h s) f gs) (λ i g p. sym (stopped_rows h t.sound.legal e its refl s refl s g p ∙ ap (λ b. cond b 0 (listed h s g p)) ((same_decides s s).1 refl)) i) groups)
-            (λ u g p other. sym (stopped_rows h t.sound.legal e its refl s refl u g p ∙ ap (λ b. cond b 0 (listed h u g p)) other))) in
+        (subst (λ f. IsDifference (listed h s) f gs) (λ i g p. sym (stopped_rows h t.sound.legal e its refl s refl s g p ∙ ap (λ b. cond b 0 (listed h s g p)) ((same_decides s s).1 refl)) i) groups)
+        (λ u g p other. sym (stopped_rows h t.sound.legal e its refl s refl u g p ∙ ap (λ b. cond b 0 (listed h u g p)) other))) in
         let its = answered_by next in (
           next,
           record {
