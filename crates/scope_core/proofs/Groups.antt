@@ -1,7 +1,7 @@
 -- The groups of rows that rise, and those of two lists.
-use Rattle.scope_core.proofs.Words.{◌≡◌, ℕ, ◌+◌, ◌<◌, Bool, true, false, cond, not, ◌&&◌, ◌||◌, nat_lt, ◌-◌, List, [], ◌∷◌, ◌++◌, length, drop}
-use Rattle.scope_core.proofs.Words.{slice_get, Option, Some, None, refl, ap, ◌∙◌, sym, subst, arith, inl, inr, get_or, append_assoc, Less, is_gt}
-use Rattle.scope_core.proofs.Words.{list_any, AllByRecursion, and_parts, or_cases, drop_more, length_push, exact_bytes, Pid, text_cmp, Counted, same}
+use Rattle.scope_core.proofs.Words.{◌≡◌, ℕ, ◌<◌, Bool, true, false, cond, not, ◌&&◌, ◌||◌, nat_lt, ◌-◌, List, [], ◌∷◌, ◌++◌, length}
+use Rattle.scope_core.proofs.Words.{slice_get, Option, Some, None, refl, ap, ◌∙◌, sym, subst, arith, inl, inr, append_assoc, Less, is_gt}
+use Rattle.scope_core.proofs.Words.{list_any, AllByRecursion, and_parts, or_cases, length_push, exact_bytes, Pid, text_cmp, Counted, same}
 use Rattle.scope_core.proofs.Words.{is_among, Rises, IsGroupListing, is_row, tally, counted_cmp, is_in, heads, differs, last_of, texts_total}
 use Rattle.scope_core.proofs.Words.{same_decides, same_pid_decides, dedup, dedup_from, IsSorted, IsPermutation, lt-ltb, occurrences, Ascends}
 use Rattle.scope_core.proofs.Words.{same_sym, sorted_listing, IsUnion}
@@ -26,21 +26,16 @@ last-push : (gs : List (List ℕ)) (g : List ℕ) → slice_get (gs ++ g ∷ [])
 last-push [] g = refl
 last-push (h ∷ gs) g = last-push gs g
 
--- one row on, in a loop over the rows
-pub heads_yes : (gs : List (List ℕ)) (cs : List Counted) (i : ℕ) (c : Counted) → i < length cs → c ≡ get_or cs i c → (nat_lt 0 c.count && differs (last_of gs) c.row.group) ≡ true
-    → (gs ++ c.row.group ∷ []) ++ heads (last_of (gs ++ c.row.group ∷ [])) (drop (i + 1) cs) ≡ gs ++ heads (last_of gs) (drop i cs)
-heads_yes gs cs i c l e t =
+-- one row on, in a loop over the rows: its group is the next
+pub heads_yes : (gs : List (List ℕ)) (c : Counted) (cs : List Counted) → (nat_lt 0 c.count && differs (last_of gs) c.row.group) ≡ true
+    → (gs ++ c.row.group ∷ []) ++ heads (last_of (gs ++ c.row.group ∷ [])) cs ≡ gs ++ heads (last_of gs) (c ∷ cs)
+heads_yes gs c cs t =
     let g = c.row.group in
     let n : length (gs ++ g ∷ []) - 1 ≡ length gs = omega (arith, length_push gs g) in
     let last : last_of (gs ++ g ∷ []) ≡ Some g = ap (slice_get (gs ++ g ∷ [])) n ∙ last-push gs g in
-    append_assoc gs (g ∷ []) (heads (last_of (gs ++ g ∷ [])) (drop (i + 1) cs))
-    ∙ ap (λ o. gs ++ g ∷ heads o (drop (i + 1) cs)) last
-    ∙ sym (ap (λ b. gs ++ cond b (g ∷ heads (Some g) (drop (i + 1) cs)) (heads (last_of gs) (drop (i + 1) cs))) t)
-    ∙ sym (ap (λ xs. gs ++ heads (last_of gs) xs) (drop_more cs i c l ∙ ap (λ x. x ∷ drop (i + 1) cs) (sym e)))
-
-pub heads_no : (gs : List (List ℕ)) (cs : List Counted) (i : ℕ) (c : Counted) → i < length cs → c ≡ get_or cs i c → (nat_lt 0 c.count && differs (last_of gs) c.row.group) ≡ false
-    → gs ++ heads (last_of gs) (drop (i + 1) cs) ≡ gs ++ heads (last_of gs) (drop i cs)
-heads_no gs cs i c l e t = grind (arith, drop_more)
+    append_assoc gs (g ∷ []) (heads (last_of (gs ++ g ∷ [])) cs)
+    ∙ ap (λ o. gs ++ g ∷ heads o cs) last
+    ∙ sym (ap (λ b. gs ++ cond b (g ∷ heads (Some g) cs) (heads (last_of gs) cs)) t)
 
 -- whether a row of g is counted
 abbrev pub has_row : List ℕ → List Counted → Bool

@@ -1,9 +1,7 @@
 -- The nodes of each group, and the rows.
 use Rattle.scope_core.proofs.Words.{◌≡◌, ℕ, ◌≤◌, ◌<◌, ◌&&◌, ◌||◌, ◌+◌, Bool, true, false, cond, not, nat_lt, List, [], ◌∷◌, ◌++◌, refl, sym, ap, ◌∙◌, arith}
 use Rattle.scope_core.proofs.Words.{filter, list_any, length, same, same_decides, GroupChange, Joins, Adds, how_many, Result, take, get_or, take_more, zero, suc, Row, Counted, tally}
-use Rattle.scope_core.proofs.Words.{AllByRecursion, is_in, is_of_node, ◌==◌, of_node, IsNodeList, is_there, has_members, is_named, Covers, is_row_of, has_others}
-use Rattle.scope_core.proofs.Words.{drop, take-append-drop}
-use Rattle.scope_core.proofs.RowEdits.{tally_append}
+use Rattle.scope_core.proofs.Words.{AllByRecursion, is_in, is_of_node, of_node, IsNodeList, is_there, has_members, is_named, Covers, is_row_of, has_others}
 use Rattle.scope_core.proofs.Summed.{tally_le}
 use Rattle.scope_core.proofs.NodeLists.{node_tally, lone_row, own_total}
 use Rattle.scope_core.proofs.Words.{OnOk, Ok, Err, Pid, same_pid, same_pid_decides, list_all, mentions, how_many_append, is_row, Leaves, is_of_one}
@@ -41,13 +39,6 @@ module _ (group node : List ℕ) (rows : List Counted) (was now : List ℕ → L
 
   pub settled_keep : has_members group node rows ≡ true → (g n : List ℕ) → was g n ≡ cond ((same group g && same node n) && not (has_members g n rows)) 0 (was g n)
   settled_keep some g n = grind (arith, same_decides group g, same_decides node n, some)
-
-pub empty_at : (len : ℕ) → (len == 0) ≡ true → len ≡ 0
-empty_at len e = grind arith
-
-pub not_empty_at : (len : ℕ) (h : Bool) → (len == 0) ≡ false → (h ≡ false → len ≡ 0) → h ≡ true
-not_empty_at len true e f = refl
-not_empty_at len false e f = grind (arith, f refl)
 
 -- where a growth is refused, some of them are put in
 pub put_some : (changes : List GroupChange) (i : ℕ) (node : List ℕ) (first old new : List ℕ → List ℕ → ℕ) → ((g n : List ℕ) → old g n ≡ cond (same node n && is_named g (take i changes)) 1 (first g n)) → ((g n : List ℕ) → new g n ≡ old g n)
@@ -179,32 +170,9 @@ pub others_in : (g : List ℕ) (p : Pid) (rows : List Counted) → list_all (λ 
 others_in g p [] = refl
 others_in g p (c ∷ cs) = grind (arith, others_in g p cs)
 
-row_of_append : (g : List ℕ) (p : Pid) (xs ys : List Counted) → list_any (is_row_of g p) (xs ++ ys) ≡ (list_any (is_row_of g p) xs || list_any (is_row_of g p) ys)
-row_of_append g p [] ys = refl
-row_of_append g p (x ∷ xs) ys = grind (arith, row_of_append g p xs ys)
-
-pub unname_more_rows : (rows some : List Counted) (i : ℕ) (x : Counted) → i < length rows → x ≡ get_or rows i x → (p : Pid) (first old new : List ℕ → List ℕ → ℕ)
-    → ((g n : List ℕ) → old g n ≡ cond ((list_any (is_row_of g p) (take i rows) && same p.node n) && not (has_others g p some)) 0 (first g n))
-    → ((g n : List ℕ) → new g n ≡ cond ((is_row_of g p x && same p.node n) && not (has_others g p some)) 0 (old g n))
-    → (g n : List ℕ) → new g n ≡ cond ((list_any (is_row_of g p) (take (i + 1) rows) && same p.node n) && not (has_others g p some)) 0 (first g n)
-unname_more_rows rows some i x l at p first old new so_far took g n = grind (arith, so_far g n, took g n, more)
-  where
-    more : list_any (is_row_of g p) (take (i + 1) rows) ≡ (list_any (is_row_of g p) (take i rows) || is_row_of g p x)
-    more = simp (take_more rows i x l, ← at) (row_of_append g p (take i rows) (x ∷ []) ∙ grind arith)
-
--- how many rows of a process there are up to here
-pub gone_more : (p : Pid) (rows : List Counted) (i : ℕ) (x : Counted) → i < length rows → x ≡ get_or rows i x
-    → tally (λ r. same_pid r.pid p) (take (i + 1) rows) ≡ tally (λ r. same_pid r.pid p) (take i rows) + cond (same_pid x.row.pid p) x.count 0
-gone_more p rows i x l at = simp (take_more rows i x l, ← at) (tally_append (λ r. same_pid r.pid p) (take i rows) (x ∷ []) ∙ grind arith)
-
--- they are no more than the node has
-pub gone_fits : (p : Pid) (rows : List Counted) (i : ℕ) (x : Counted) → i < length rows → x ≡ get_or rows i x → IsNodeList p.node rows
-    → tally (λ r. same_pid r.pid p) (take i rows) + cond (same_pid x.row.pid p) x.count 0 ≤ 4096
-gone_fits p rows i x l at is =
-    let mine = λ (r : Row). same_pid r.pid p in
-    let all = tally_append mine (take (i + 1) rows) (drop (i + 1) rows) in
-    let part = ap (tally mine) (take-append-drop (i + 1) rows) in
-    omega (arith, gone_more p rows i x l at, all, part, tally_le mine rows, own_total p.node rows is, is.kept.few p.node)
+-- a process has no more rows than its node may
+pub gone_few : (p : Pid) (rows : List Counted) → IsNodeList p.node rows → tally (λ r. same_pid r.pid p) rows ≤ 4096
+gone_few p rows is = omega (arith, tally_le (λ (r : Row). same_pid r.pid p) rows, own_total p.node rows is, is.kept.few p.node)
 
 -- who is left of the node in the group
 left_there : (g n : List ℕ) (p : Pid) (rows : List Counted) → AllByRecursion (λ c. c.row.pid.node ≡ n) rows → AllByRecursion (λ c. 0 < c.count) rows

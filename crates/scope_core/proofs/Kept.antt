@@ -59,6 +59,28 @@ any_append : {A : Type 0} (test : A → Bool) (xs ys : List A) → list_any test
 any_append test [] ys = refl
 any_append test (x ∷ xs) ys = grind (arith, any_append test xs ys)
 
+-- what forgets some, and then others, forgets both
+pub forgets_both : (some others : List ℕ → Bool) (was then now : KeptLists) → Forgets some was then → Forgets others then now → Forgets (λ g. some g || others g) was now
+forgets_both some others was then now first second = record {
+  pids = λ g. grind (arith, first.pids g, second.pids g);
+  groups = λ gs e.
+      let after = second.groups gs e in
+      let begun = first.groups gs after.0 in
+      (begun.0, λ g. grind (arith, begun.1 g, after.1 g));
+}
+
+-- once the lists of those to come are forgotten, those of all are
+abbrev pub Forgetting : {A : Type 0} → (List ℕ → A → Bool) → List A → List A → KeptLists → KeptLists → Type 0
+Forgetting test all rest was now = (later : KeptLists) → Forgets (λ g. list_any (test g) rest) now later → Forgets (λ g. list_any (test g) all) was later
+
+module _ {A : Type 0} (test : List ℕ → A → Bool) (all : List A) (was : KeptLists) where
+  pub forgets_next : (x : A) (xs rest : List A) (then now : KeptLists) → rest ≡ x ∷ xs → Forgetting test all rest was then → Forgets (λ g. test g x) then now → Forgetting test all xs was now
+  forgets_next x xs rest then now e so_far one later others = so_far later (rw e (forgets_both (λ g. test g x) (λ g. list_any (test g) xs) then now later one others))
+
+  pub forgets_end : (rest : List A) (now : KeptLists) → length rest ≡ 0 → Forgetting test all rest was now → Forgets (λ g. list_any (test g) all) was now
+  forgets_end [] now e so_far = so_far now (record { pids = λ g. refl; groups = λ gs e. (e, λ g. refl) })
+  forgets_end (x ∷ xs) now e so_far = grind arith
+
 -- one more
 pub forgets_more : {A : Type 0} (test : List ℕ → A → Bool) (xs : List A) (i : ℕ) (x : A) → i < length xs → x ≡ get_or xs i x → (was then now : KeptLists) → Forgets (λ g. list_any (test g) (take i xs)) was then → Forgets (λ g. test g x) then now
     → Forgets (λ g. list_any (test g) (take (i + 1) xs)) was now

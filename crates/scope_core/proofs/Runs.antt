@@ -2,8 +2,7 @@
 use Rattle.scope_core.proofs.Words.{◌≡◌, ℕ, zero, suc, ◌<◌, ◌≤◌, Bool, true, false, List, [], ◌∷◌, take, drop, length, refl, ap, ◌∙◌, sym, arith}
 use Rattle.scope_core.proofs.Words.{get_or, is_gt, is_lt, filter, AllByRecursion, AllWithin, IsPartitionedBy, IsPartitionPoint, upto, tied_itself}
 use Rattle.scope_core.proofs.Words.{get_or-drop, length-drop, exact_bytes, text_cmp, Counted, same, Rises, counted_cmp, is_in, texts_total}
-use Rattle.scope_core.proofs.Words.{same_decides, HoldsAt, length-take-le, take_all}
-use Rattle.std.proofs.lemmas.List.{get_or-take}
+use Rattle.scope_core.proofs.Words.{same_decides, HoldsAt, IsStart, is_before, ◌+◌, ◌-◌, not}
 use Rattle.scope_core.proofs.Rising.{groups_above}
 
 module _ {A : Type 0} (p : A → Bool) where
@@ -27,14 +26,16 @@ module _ {A : Type 0} (p : A → Bool) where
       let back = λ (k : ℕ) (d : A) (m : n ≤ k) (h : k < length xs). b (suc k) d (omega (arith, m)) (omega (arith, h)) in
       grind (arith, a 0 x, filter_takes n xs (omega (arith, l)) front back)
 
-  -- where one fails the test, and with it all behind it, those before it are enough
-  pub nearest_all : (n : ℕ) (xs : List A) → IsPartitionedBy p xs → (n < length xs → HoldsAt (λ x. p x ≡ false) xs n) → filter p (take n xs) ≡ filter p xs
-  nearest_all n [] f h = ap (filter p) (take_all n [] (omega arith))
-  nearest_all zero (x ∷ xs) f h = sym (filter_none (x ∷ xs) (λ k d m b. grind (arith, f 0 k d, h (omega arith) d)))
-  nearest_all (suc n) (x ∷ xs) f h = grind (arith, nearest_all n xs (λ i j d a b. f (suc i) (suc j) d (omega (arith, a)) (omega (arith, b))) (λ l. h (omega (arith, l))))
+  -- those from start to end are all that pass
+  pub run_is : (start end : ℕ) (xs : List A) → start ≤ end → end ≤ length xs → AllWithin (λ x. p x ≡ false) xs 0 start → AllWithin (λ x. p x ≡ true) xs start end → AllWithin (λ x. p x ≡ false) xs end (length xs)
+      → take (end - start) (drop start xs) ≡ filter p xs
+  run_is start end xs l m before run after = sym (filter_skips start xs before ∙ filter_takes (end - start) (drop start xs) (omega (arith, l, m, length-drop start xs)) some rest)
+    where
+      some : AllWithin (λ x. p x ≡ true) (drop start xs) 0 (end - start)
+      some k d a b = ap p (get_or-drop start xs k d) ∙ run (start + k) d (omega arith) (omega (arith, b))
 
-  pub nearest_front : (n : ℕ) (xs : List A) → IsPartitionedBy p xs → n ≤ length xs → IsPartitionedBy p (take n xs)
-  nearest_front n xs f l i j d a b e = grind (arith, f i j d, get_or-take, length-take-le)
+      rest : AllWithin (λ x. p x ≡ false) (drop start xs) (end - start) (length (drop start xs))
+      rest k d a b = ap p (get_or-drop start xs k d) ∙ after (start + k) d (omega (arith, a, l)) (omega (arith, b, length-drop start xs))
 
   -- a test that fails for all after a place where it failed
   partitioned_from : (xs : List A) → ((i j : ℕ) (d : A) → i ≤ j → j < length xs → p (get_or xs i d) ≡ false → p (get_or xs j d) ≡ false) → IsPartitionedBy p xs
@@ -53,17 +54,15 @@ groups_ascend (c ∷ cs) r zero (suc j) d l h = grind (arith, groups_above, all_
 groups_ascend (c ∷ cs) r (suc i) zero d l h = grind arith
 groups_ascend (c ∷ cs) r (suc i) (suc j) d l h = groups_ascend cs r.1 i j d (omega (arith, l)) (omega (arith, h))
 
-pub rises_drop : (n : ℕ) (cs : List Counted) → Rises counted_cmp cs → Rises counted_cmp (drop n cs)
-rises_drop zero cs r = r
-rises_drop (suc n) [] r = tt
-rises_drop (suc n) (c ∷ cs) r = rises_drop n cs r.1
+-- whether a row stands before the end of the group
+abbrev pub is_upto : List ℕ → Counted → Bool
+is_upto g c = not (is_gt (text_cmp c.row.group g))
+
+pub upto_partitions : (g : List ℕ) (cs : List Counted) → Rises counted_cmp cs → IsPartitionedBy (is_upto g) cs
+upto_partitions g cs r i j d l h e = grind (arith, groups_ascend cs r i j d (omega (arith, l)) h, upto texts_total)
 
 turned : (a b : List ℕ) → is_lt (text_cmp a b) ≡ is_gt (text_cmp b a)
 turned a b = grind (arith, texts_total.antisymm)
-
--- whether a row stands before the group
-abbrev pub is_before : List ℕ → Counted → Bool
-is_before g c = is_lt (text_cmp c.row.group g)
 
 pub before_partitions : (g : List ℕ) (cs : List Counted) → Rises counted_cmp cs → IsPartitionedBy (is_before g) cs
 before_partitions g cs r = grind (arith, partitioned_from, groups_ascend, turned, upto texts_total)
@@ -71,16 +70,40 @@ before_partitions g cs r = grind (arith, partitioned_from, groups_ascend, turned
 equal_from : (a b : List ℕ) → is_lt (text_cmp a b) ≡ false → is_gt (text_cmp a b) ≡ false → same a b ≡ true
 equal_from a b l g = grind (arith, same_decides, exact_bytes)
 
-pub group_partitions : (g : List ℕ) (cs : List Counted) → Rises counted_cmp cs → AllWithin (λ c. is_before g c ≡ false) cs 0 (length cs) → IsPartitionedBy (is_in g) cs
-group_partitions g cs r from = grind (arith, same_decides, groups_ascend, equal_from, partitioned_from)
-
 not_same : (g : List ℕ) (c : Counted) → is_before g c ≡ true → is_in g c ≡ false
 not_same g c b = grind (arith, same_decides c.row.group g, tied_itself texts_total g)
 
--- of the rows from the start of the group on, none stands before it
-pub from_start : (g : List ℕ) (cs : List Counted) (start : ℕ) → AllWithin (λ c. is_before g c ≡ false) cs start (length cs) → AllWithin (λ c. is_before g c ≡ false) (drop start cs) 0 (length (drop start cs))
-from_start g cs start a k d l h = grind (arith, get_or-drop, length-drop)
+module _ (g : List ℕ) (cs : List Counted) (r : Rises counted_cmp cs) (start : ℕ) (s : IsStart g cs start) where
+  -- where one behind the start isn't of the group, none from there on is
+  none_from : (n : ℕ) → start ≤ n → (n < length cs → HoldsAt (λ c. is_in g c ≡ false) cs n) → AllWithin (λ c. is_in g c ≡ false) cs n (length cs)
+  none_from n l h k d m b =
+      let past = s.1 n d l (omega (arith, m, b)) in
+      grind (arith, same_decides, equal_from, groups_ascend cs r n k d m b, h (omega (arith, m, b)) d, past)
 
--- of the rows before it none is of the group
-pub run_from : (g : List ℕ) (cs rest : List Counted) (start : ℕ) → IsPartitionPoint (λ c. is_before g c ≡ true) (λ c. is_before g c ≡ false) cs start → rest ≡ drop start cs → filter (is_in g) rest ≡ filter (is_in g) cs
-run_from g cs rest start a e = ap (filter (is_in g)) e ∙ sym (filter_skips (is_in g) start cs (λ k d m h. not_same g (get_or cs k d) (a.0 k d m h)))
+  outside : AllWithin (λ c. is_in g c ≡ false) cs 0 start
+  outside k d m b = not_same g (get_or cs k d) (s.0 k d m b)
+
+  -- none is of the group
+  pub run_of_none : start ≤ length cs → (start < length cs → HoldsAt (λ c. is_in g c ≡ false) cs start) → take (start - start) (drop start cs) ≡ filter (is_in g) cs
+  run_of_none l h = run_is (is_in g) start start cs (omega arith) l outside (λ k d m b. absurd (omega (arith, m, b))) (none_from start (omega arith) h)
+
+  -- one is
+  pub run_of_one : start < length cs → HoldsAt (λ c. is_in g c ≡ true) cs start → (start + 1 < length cs → HoldsAt (λ c. is_in g c ≡ false) cs (start + 1)) → take (start + 1 - start) (drop start cs) ≡ filter (is_in g) cs
+  run_of_one l here h = run_is (is_in g) start (start + 1) cs (omega arith) (omega (arith, l)) outside (λ k d m b. let e : k ≡ start = omega (arith, m, b) in rw e (here d)) (none_from (start + 1) (omega arith) h)
+
+  -- the first is, and all up to where the higher groups begin
+  pub run_to : (end : ℕ) → start < length cs → HoldsAt (λ c. is_in g c ≡ true) cs start → end ≤ length cs → IsPartitionPoint (λ c. is_upto g c ≡ true) (λ c. is_upto g c ≡ false) cs end
+      → (start ≤ end) × (take (end - start) (drop start cs) ≡ filter (is_in g) cs)
+  run_to end l here m e = (from, run_is (is_in g) start end cs from m outside inside above)
+    where
+      from : start ≤ end
+      from =
+          let some : Counted = record { row = record { group = g; pid = record { node = []; creation = 0; number = 0 } }; count = 0 } in
+          let high = λ (a : end ≤ start). e.1 start some a l in
+          grind (arith, high, here some, same_decides, tied_itself texts_total g)
+
+      inside : AllWithin (λ c. is_in g c ≡ true) cs start end
+      inside k d a b = grind (arith, e.0 k d, s.1 k d a, equal_from)
+
+      above : AllWithin (λ c. is_in g c ≡ false) cs end (length cs)
+      above k d a b = grind (arith, e.1 k d a b, same_decides, tied_itself texts_total g)

@@ -1,6 +1,6 @@
 -- The words that the proofs of this crate cite, passed on from one place.
-pub use Rattle.std.specs.Prelude.{All, Bool, Err, IfErr, IfOk, IsOk, List, None, Ok, OnOk, Option, Result, Some, [], codes, cond, drop, false, is_ok}
-pub use Rattle.std.specs.Prelude.{length, map, min, nat_le, nat_lt, not, replicate, slice_get, suc, take, true, vec_capacity, vec_len, zero, ℕ, ◌&&◌}
+pub use Rattle.std.specs.Prelude.{All, Bool, Err, IfErr, IfOk, IsOk, List, None, Ok, OnOk, Option, Result, Some, [], cond, drop, false, is_ok}
+pub use Rattle.std.specs.Prelude.{length, map, min, nat_le, nat_lt, not, replicate, slice_get, suc, take, true, vec_len, zero, ℕ, ◌&&◌}
 pub use Rattle.std.specs.Prelude.{◌++◌, ◌+◌, ◌-◌, ◌<◌, ◌==◌, ◌||◌, ◌∷◌, ◌≡◌, ◌≤◌}
 pub use Rattle.std.proofs.Common.{add-one, ap, append_assoc, arith, get_or, inl, inr, length-append, refl, rules, subst, sym, ◌∙◌}
 pub use Rattle.std.proofs.Math.ListN.{set}
@@ -11,13 +11,13 @@ pub use Rattle.std.proofs.lemmas.Fn.{always_returns_same, filter_same}
 pub use Rattle.std.proofs.lemmas.List.{drop_more, get_or-drop, get_or_default, length-drop, length-map, length-take-le, length_push, take-append-drop}
 pub use Rattle.std.proofs.lemmas.List.{take_all, take_more}
 pub use Rattle.std.proofs.lemmas.List.Sorted.{IsPartitionPoint-from_clause, searchable_from_sorted, sum_by-IsPermutation}
-pub use Rattle.std.proofs.lemmas.List.Sums.{get_or-le-sum_by, length-filter, sum_by-append, sum_by-insert, sum_by-remove, sum_by-set, sum_by_more_le}
+pub use Rattle.std.proofs.lemmas.List.Sums.{get_or-le-sum_by, length-filter, sum_by-append, sum_by-insert, sum_by-remove, sum_by-set}
 pub use Rattle.std.proofs.lemmas.List.Elements.{All-map}
 pub use Rattle.std.proofs.lemmas.Map.Lookups.{exact_bytes}
 pub use Rattle.std.specs.List.{AllByRecursion, AllWithin, HoldsAt, ReversedBelow, dedup, dedup_from, filter, flat_map, insert, list_all, list_any}
 pub use Rattle.std.specs.List.{remove, sum_by}
-pub use Rattle.std.specs.List.Sorted.{IsBinarySearchResult, IsNonDecreasingBy, IsPartitionPoint, IsPartitionedBy, IsPermutation, IsSorted, IsSortedBy}
-pub use Rattle.std.specs.Ordering.{is_gt, is_lt, ordering_index}
+pub use Rattle.std.specs.List.Sorted.{IsBinarySearchResult, IsPartitionPoint, IsPartitionedBy, IsPermutation, IsSorted, IsSortedBy}
+pub use Rattle.std.specs.Ordering.{is_gt, is_lt}
 pub use Rattle.std.specs.declared.cmp.Ordering.{Ordering}
 pub use Rattle.std.specs.declared.cmp.Ordering.TheVariants.{Equal, Less}
 pub use Rattle.dist_types.proofs.Differences.{one_difference}
@@ -40,7 +40,7 @@ pub use Rattle.scope_core.specs.Calls.{Counts, IsAddFault, IsSyncFault, count_af
 pub use Rattle.scope_core.specs.Calls.{count_after_sync, no_count}
 pub use Rattle.scope_core.specs.GroupNodes.{named_groups, node_names, times_named}
 pub use Rattle.scope_core.specs.Indexed.{Covers, has_members, has_others, is_named, is_of_one, is_row_of, is_there}
-pub use Rattle.scope_core.specs.Listed.{IsEmptied, IsUnion, Tells, differs, heads, is_in, last_of, moving, pids_in}
+pub use Rattle.scope_core.specs.Listed.{IsEmptied, IsStart, IsUnion, Tells, differs, heads, is_before, is_in, last_of, moving, pids_in}
 pub use Rattle.scope_core.specs.NodeLists.{IsNodeList, of_node}
 pub use Rattle.scope_core.specs.Table.{AreCounted, IsKept, Table, count_of, counted_cmp, is_of_node, is_row, local_count, local_total, max_rows}
 pub use Rattle.scope_core.specs.Table.{node_total, tally}

@@ -1,6 +1,8 @@
 -- What is read off the rows, in their order.
-use Rattle.std.specs.Prelude.{◌≡◌, ℕ, ◌-◌, Bool, true, cond, not, ◌&&◌, ◌||◌, nat_lt, List, [], ◌∷◌, Option, Some, None, slice_get, length}
+use Rattle.std.specs.Prelude.{◌≡◌, ℕ, ◌-◌, Bool, true, false, cond, not, ◌&&◌, ◌||◌, nat_lt, List, [], ◌∷◌, Option, Some, None, slice_get, length}
 use Rattle.std.specs.List.{filter}
+use Rattle.std.specs.List.Sorted.{IsPartitionPoint}
+use Rattle.std.specs.Ordering.{is_lt}
 use Rattle.dist_types.specs.declared.change.GroupChange.{GroupChange}
 use Rattle.scope_core.specs.declared.counted.Counted.{Counted}
 use Rattle.dist_types.specs.declared.pid.Pid.{Pid}
@@ -12,6 +14,14 @@ use Rattle.scope_core.specs.Table.{is_row, tally}
 -- whether this is a row of the group
 abbrev pub is_in : List ℕ → Counted → Bool
 is_in g c = same c.row.group g
+
+-- whether the row stands before those of the group
+abbrev pub is_before : List ℕ → Counted → Bool
+is_before g c = is_lt (text_cmp c.row.group g)
+
+-- the rows before those of the group end here
+abbrev pub IsStart : List ℕ → List Counted → ℕ → Type 0
+IsStart g rows start = IsPartitionPoint (λ c. is_before g c ≡ true) (λ c. is_before g c ≡ false) rows start
 
 -- whether the group is another than the last
 abbrev pub differs : Option (List ℕ) → List ℕ → Bool

@@ -10,6 +10,7 @@ use crate::counted::BoxedRow;
 use crate::reads::{groups_of, in_group, pids_of};
 use dist_types::{Group, GroupChange, Items, OutOfMemory, Pid, Row, TryClone};
 use std::alloc::Global;
+use std::collections::VecDeque;
 
 /// The change of one group; none where nobody left and nobody joined.
 pub fn one_change(
@@ -35,12 +36,12 @@ pub fn one_change(
 /// The changes where some rows leave, and others join.
 pub fn changes_of(
     alloc: Global,
-    gone: &[BoxedRow],
-    joined: &[BoxedRow],
+    gone: &VecDeque<BoxedRow>,
+    joined: &VecDeque<BoxedRow>,
 ) -> Result<Vec<GroupChange>, OutOfMemory>
-    requires gone { Rises counted_cmp gone.now }
-    requires joined { Rises counted_cmp joined.now }
-    ensures { IfOk result (λ changes. Tells gone.now joined.now changes.items) }
+    requires gone { Rises counted_cmp gone.now.items }
+    requires joined { Rises counted_cmp joined.now.items }
+    ensures { IfOk result (λ changes. Tells gone.now.items joined.now.items changes.items) }
 {
     let groups = groups_moved(alloc, gone, joined)?;
     let mut changes = Vec::with_capacity(alloc, groups.len())?;
@@ -53,10 +54,10 @@ pub fn changes_of(
 /// The groups that processes leave or join.
 fn groups_moved(
     alloc: Global,
-    gone: &[BoxedRow],
-    joined: &[BoxedRow],
+    gone: &VecDeque<BoxedRow>,
+    joined: &VecDeque<BoxedRow>,
 ) -> Result<Vec<Group>, OutOfMemory>
-    ensures { IfOk result (λ groups. IsUnion (heads None gone.now) (heads None joined.now) groups.items) }
+    ensures { IfOk result (λ groups. IsUnion (heads None gone.now.items) (heads None joined.now.items) groups.items) }
 {
     let mut groups = groups_of(alloc, gone)?;
     let mut more = groups_of(alloc, joined)?;
@@ -70,12 +71,12 @@ fn groups_moved(
 fn change_in(
     alloc: Global,
     group: &Group,
-    gone: &[BoxedRow],
-    joined: &[BoxedRow],
+    gone: &VecDeque<BoxedRow>,
+    joined: &VecDeque<BoxedRow>,
 ) -> Result<GroupChange, OutOfMemory>
-    requires gone { Rises counted_cmp gone.now }
-    requires joined { Rises counted_cmp joined.now }
-    ensures { IfOk result (λ change. change ≡ moving gone.now joined.now group.now) }
+    requires gone { Rises counted_cmp gone.now.items }
+    requires joined { Rises counted_cmp joined.now.items }
+    ensures { IfOk result (λ change. change ≡ moving gone.now.items joined.now.items group.now) }
 {
     let left = pids_of(alloc, in_group(gone, group))?;
     let joined = pids_of(alloc, in_group(joined, group))?;

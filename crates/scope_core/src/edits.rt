@@ -1,5 +1,6 @@
 //! What is done to the sorted rows.
-ghost use Rattle.std.specs.Prelude.{◌≡◌, ◌+◌, ◌<◌, ◌≤◌, IsTrue, OnOk, true, [], ◌∷◌, not, vec_len, vec_capacity};
+ghost use Rattle.std.specs.Prelude.{◌≡◌, ◌+◌, ◌<◌, ◌≤◌, IsTrue, OnOk, true, [], ◌∷◌, not, vec_len};
+ghost use Rattle.std.specs.VecDeque.{deque_len, deque_capacity};
 ghost use Rattle.std.specs.List.{filter, HoldsAt};
 ghost use Rattle.dist_types.specs.declared.row.Row.{Row};
 ghost use Rattle.dist_types.specs.Listing.{same_pid};
@@ -12,6 +13,7 @@ use crate::merged::merge;
 use crate::reads::{is_same, place_of};
 use dist_types::{Group, NodeName, OutOfMemory, Pid, Row};
 use std::alloc::Global;
+use std::collections::VecDeque;
 
 /// Where rows are merged, all rows of the list are moved, one after the other. So fewer than these are put in one by one.
 pub const FEW: usize = 64;
@@ -21,7 +23,7 @@ pub const FEW: usize = 64;
 const SINGLES: usize = 4;
 
 /// Takes all rows of a process away.
-pub fn remove_pid(rows: &mut Vec<BoxedRow>, pid: &Pid)
+pub fn remove_pid(rows: &mut VecDeque<BoxedRow>, pid: &Pid)
     ensures { rows.new.items ≡ filter (λ c. not (same_pid c.row.pid pid.now)) rows.old.items }
 {
     rows.retain(|counted| !is_same(&counted.row().pid, pid));
@@ -29,8 +31,8 @@ pub fn remove_pid(rows: &mut Vec<BoxedRow>, pid: &Pid)
 
 /// Puts rows in, into the room that there is: by a merge, where there is spare room for all. Where there are no others, they
 /// need no merge.
-pub fn put_in(rows: &mut Vec<BoxedRow>, more: Vec<BoxedRow>, spare: Vec<BoxedRow>)
-    requires room { vec_len rows.old + vec_len more ≤ vec_capacity rows.old }
+pub fn put_in(rows: &mut VecDeque<BoxedRow>, more: VecDeque<BoxedRow>, spare: VecDeque<BoxedRow>)
+    requires room { deque_len rows.old + deque_len more ≤ deque_capacity rows.old }
     requires empty { spare.items ≡ [] }
     requires kept { IsKept rows.old.items }
     requires more { IsKept more.items }
@@ -48,7 +50,12 @@ pub fn put_in(rows: &mut Vec<BoxedRow>, more: Vec<BoxedRow>, spare: Vec<BoxedRow
 }
 
 /// Takes one away for each mention of a process, as far as it is in the group. Answers how many the node loses.
-pub fn take_all(rows: &mut Vec<BoxedRow>, group: &Group, pids: &[Pid], node: &NodeName) -> usize
+pub fn take_all(
+    rows: &mut VecDeque<BoxedRow>,
+    group: &Group,
+    pids: &[Pid],
+    node: &NodeName,
+) -> usize
     requires { IsKept rows.old.items }
     ensures counts { Leaves group.now pids.now rows.old.items rows.new.items }
     ensures total { tally (is_of_node node.now) rows.new.items + result ≡ tally (is_of_node node.now) rows.old.items }
@@ -65,7 +72,7 @@ pub fn take_all(rows: &mut Vec<BoxedRow>, group: &Group, pids: &[Pid], node: &No
 
 /// What `take_all` does, row by row.
 #[tactic(auto, using(crate::proofs::RowEdits::taken_counts, crate::proofs::RowEdits::taken_total))]
-fn take_each(rows: &mut Vec<BoxedRow>, group: &Group, pids: &[Pid], node: &NodeName) -> usize
+fn take_each(rows: &mut VecDeque<BoxedRow>, group: &Group, pids: &[Pid], node: &NodeName) -> usize
     requires { IsKept rows.old.items }
     ensures counts { Leaves group.now pids.now rows.old.items rows.new.items }
     ensures total { tally (is_of_node node.now) rows.new.items + result ≡ tally (is_of_node node.now) rows.old.items }
@@ -80,7 +87,7 @@ fn take_each(rows: &mut Vec<BoxedRow>, group: &Group, pids: &[Pid], node: &NodeN
 }
 
 /// One less for each row.
-pub fn take_rows(rows: &mut Vec<BoxedRow>, gone: &[Row])
+pub fn take_rows(rows: &mut VecDeque<BoxedRow>, gone: &[Row])
     requires kept { IsKept rows.old.items }
     requires counted { IsTrue (are_all_in rows.old.items gone.now) }
     ensures taken { Adds gone.now rows.new.items rows.old.items }
@@ -95,7 +102,7 @@ pub fn take_rows(rows: &mut Vec<BoxedRow>, gone: &[Row])
 }
 
 /// What `take_rows` does, row by row.
-fn take_each_row(rows: &mut Vec<BoxedRow>, gone: &[Row])
+fn take_each_row(rows: &mut VecDeque<BoxedRow>, gone: &[Row])
     requires kept { IsKept rows.old.items }
     requires counted { IsTrue (are_all_in rows.old.items gone.now) }
     ensures taken { Adds gone.now rows.new.items rows.old.items }
@@ -107,7 +114,7 @@ fn take_each_row(rows: &mut Vec<BoxedRow>, gone: &[Row])
 }
 
 /// Takes one away, if the process is in the group. Answers whether it is.
-pub fn take(rows: &mut Vec<BoxedRow>, group: &Group, pid: &Pid) -> bool
+pub fn take(rows: &mut VecDeque<BoxedRow>, group: &Group, pid: &Pid) -> bool
     requires { IsKept rows.old.items }
     ensures taken { Takes result (row_in group.now pid.now) rows.old.items rows.new.items }
     ensures kept { IsKept rows.new.items }
@@ -123,8 +130,8 @@ pub fn take(rows: &mut Vec<BoxedRow>, group: &Group, pid: &Pid) -> bool
 
 /// One less at this place. The row goes with its last.
 #[tactic(auto, using(crate::proofs::RowEdits::lessens))]
-fn lessen(rows: &mut Vec<BoxedRow>, at: usize)
-    requires bound { at < vec_len rows.old }
+fn lessen(rows: &mut VecDeque<BoxedRow>, at: usize)
+    requires bound { at < deque_len rows.old }
     requires kept { IsKept rows.old.items }
     ensures taken { (row : Row) → HoldsAt (λ c. c.row ≡ row) rows.old.items at → Takes true row rows.old.items rows.new.items }
     ensures kept { IsKept rows.new.items }
@@ -138,8 +145,12 @@ fn lessen(rows: &mut Vec<BoxedRow>, at: usize)
 }
 
 /// Puts rows in, into the room that there is. Each takes a block; where there is no memory for one, those before it are in.
-pub fn add_all(alloc: Global, rows: &mut Vec<BoxedRow>, fresh: Vec<Row>) -> Result<(), OutOfMemory>
-    requires room { vec_len rows.old + vec_len fresh ≤ vec_capacity rows.old }
+pub fn add_all(
+    alloc: Global,
+    rows: &mut VecDeque<BoxedRow>,
+    fresh: Vec<Row>,
+) -> Result<(), OutOfMemory>
+    requires room { deque_len rows.old + vec_len fresh ≤ deque_capacity rows.old }
     requires kept { IsKept rows.old.items }
     requires few { HasRoomFor fresh.items rows.old.items }
     ensures added { OnOk result (Adds fresh.items rows.old.items rows.new.items) }
@@ -154,8 +165,8 @@ pub fn add_all(alloc: Global, rows: &mut Vec<BoxedRow>, fresh: Vec<Row>) -> Resu
 
 /// Puts counted rows in, into the room that there is. The rows behind each are moved.
 #[tactic(auto, using(crate::proofs::RowEdits::last_tally, crate::proofs::RowEdits::last_counted))]
-fn add_each(rows: &mut Vec<BoxedRow>, more: Vec<BoxedRow>)
-    requires room { vec_len rows.old + vec_len more ≤ vec_capacity rows.old }
+fn add_each(rows: &mut VecDeque<BoxedRow>, more: VecDeque<BoxedRow>)
+    requires room { deque_len rows.old + deque_len more ≤ deque_capacity rows.old }
     requires kept { IsKept rows.old.items }
     requires more { AreCounted more.items }
     requires few { HasRoomBeside more.items rows.old.items }
@@ -163,22 +174,22 @@ fn add_each(rows: &mut Vec<BoxedRow>, more: Vec<BoxedRow>)
     ensures kept { IsKept rows.new.items }
 {
     let mut more = more;
-    while let Some(counted) = more.pop() {
+    while let Some(counted) = more.pop_back() {
         add(rows, counted);
     }
 }
 
 /// Puts a counted row in, into the room that there is.
 #[tactic(auto, using(crate::proofs::RowEdits::puts_in))]
-pub fn add(rows: &mut Vec<BoxedRow>, fresh: BoxedRow)
-    requires room { vec_len rows.old < vec_capacity rows.old }
+pub fn add(rows: &mut VecDeque<BoxedRow>, fresh: BoxedRow)
+    requires room { deque_len rows.old < deque_capacity rows.old }
     requires kept { IsKept rows.old.items }
     requires some { 0 < fresh.count }
     requires few { HasRoomBeside (fresh ∷ []) rows.old.items }
     ensures added { Joins (fresh ∷ []) rows.old.items rows.new.items }
     ensures kept { IsKept rows.new.items }
-    ensures room { vec_len rows.new ≤ vec_len rows.old + 1 }
-    ensures capacity { vec_capacity rows.old ≤ vec_capacity rows.new }
+    ensures room { deque_len rows.new ≤ deque_len rows.old + 1 }
+    ensures capacity { deque_capacity rows.old ≤ deque_capacity rows.new }
 {
     match place_of(rows, &fresh.row().group, &fresh.row().pid) {
         Ok(at) => {

@@ -1,5 +1,6 @@
 //! Rows that come, counted, and what they change.
-ghost use Rattle.std.specs.Prelude.{◌≡◌, ◌+◌, ◌≤◌, IfOk, OnOk, Bool, [], vec_len, vec_capacity};
+ghost use Rattle.std.specs.Prelude.{◌≡◌, ◌+◌, ◌≤◌, IfOk, OnOk, Bool, [], vec_len};
+ghost use Rattle.std.specs.VecDeque.{deque_len, deque_capacity};
 ghost use Rattle.dist_types.specs.declared.row.Row.{Row};
 ghost use Rattle.dist_types.specs.Listing.{Rises, how_many};
 ghost use Rattle.scope_core.specs.Table.{counted_cmp, IsKept};
@@ -12,9 +13,10 @@ use crate::edits::{FEW, add_all};
 use crate::reads::count_at;
 use dist_types::{OutOfMemory, Row, TryClone};
 use std::alloc::Global;
+use std::collections::VecDeque;
 
 /// The rows in order, each with its count.
-pub fn counted_rows(alloc: Global, rows: &[Row]) -> Result<Vec<BoxedRow>, OutOfMemory>
+pub fn counted_rows(alloc: Global, rows: &[Row]) -> Result<VecDeque<BoxedRow>, OutOfMemory>
     requires { HasRoomFor rows.now [] }
     ensures added { IfOk result (λ counted. Adds rows.now [] counted.items) }
     ensures kept { IfOk result (λ counted. IsKept counted.items) }
@@ -25,12 +27,12 @@ pub fn counted_rows(alloc: Global, rows: &[Row]) -> Result<Vec<BoxedRow>, OutOfM
 }
 
 /// The same of rows that aren't needed any more.
-pub fn counted_of(alloc: Global, rows: Vec<Row>) -> Result<Vec<BoxedRow>, OutOfMemory>
+pub fn counted_of(alloc: Global, rows: Vec<Row>) -> Result<VecDeque<BoxedRow>, OutOfMemory>
     requires { HasRoomFor rows.items [] }
     ensures added { IfOk result (λ counted. Adds rows.items [] counted.items) }
     ensures kept { IfOk result (λ counted. IsKept counted.items) }
 {
-    let mut counted = Vec::with_capacity(alloc, rows.len())?;
+    let mut counted = VecDeque::with_capacity(alloc, rows.len())?;
     add_all(alloc, &mut counted, falling(rows))?;
     Ok(counted)
 }
@@ -38,16 +40,16 @@ pub fn counted_of(alloc: Global, rows: Vec<Row>) -> Result<Vec<BoxedRow>, OutOfM
 /// Room for so many more rows, and spare room to merge them, unless they are few.
 pub fn room_for(
     alloc: Global,
-    rows: &mut Vec<BoxedRow>,
+    rows: &mut VecDeque<BoxedRow>,
     more: usize,
-) -> Result<Vec<BoxedRow>, OutOfMemory>
+) -> Result<VecDeque<BoxedRow>, OutOfMemory>
     ensures same { rows.new.items ≡ rows.old.items }
-    ensures room { OnOk result (vec_len rows.new + more ≤ vec_capacity rows.new) }
+    ensures room { OnOk result (deque_len rows.new + more ≤ deque_capacity rows.new) }
     ensures empty { IfOk result (λ spare. spare.items ≡ []) }
 {
     rows.reserve(more)?;
     let spare = if more < FEW { 0 } else { rows.capacity() };
-    Ok(Vec::with_capacity(alloc, spare)?)
+    Ok(VecDeque::with_capacity(alloc, spare)?)
 }
 
 /// The rows, the last in order first. So `add_all` moves few rows.
@@ -64,28 +66,28 @@ fn falling(rows: Vec<Row>) -> Vec<Row>
 /// The rows that are counted more often than among the others, and how much more often.
 pub fn beyond(
     alloc: Global,
-    rows: &[BoxedRow],
-    others: &[BoxedRow],
-) -> Result<Vec<BoxedRow>, OutOfMemory>
-    requires { Rises counted_cmp others.now }
-    ensures { IfOk result (λ more. more.items ≡ picked (times_beyond others.now) rows.now) }
+    rows: &VecDeque<BoxedRow>,
+    others: &VecDeque<BoxedRow>,
+) -> Result<VecDeque<BoxedRow>, OutOfMemory>
+    requires { Rises counted_cmp others.now.items }
+    ensures { IfOk result (λ more. more.items ≡ picked (times_beyond others.now.items) rows.now.items) }
 {
-    let mut more = Vec::new(alloc);
+    let mut more = VecDeque::new(alloc);
     let mut next = 0;
     for counted in rows {
         let count = count_beyond(counted, others, &mut next);
         if count > 0 {
             let row = counted.row().try_clone(alloc)?;
-            more.push(BoxedRow::new(alloc, row, count)?)?;
+            more.push_back(BoxedRow::new(alloc, row, count)?)?;
         }
     }
     Ok(more)
 }
 
 /// How much more often a row is counted than among the others.
-fn count_beyond(counted: &BoxedRow, others: &[BoxedRow], next: &mut usize) -> u32
-    requires { Rises counted_cmp others.now }
-    ensures { result ≡ times_beyond others.now counted.now }
+fn count_beyond(counted: &BoxedRow, others: &VecDeque<BoxedRow>, next: &mut usize) -> u32
+    requires { Rises counted_cmp others.now.items }
+    ensures { result ≡ times_beyond others.now.items counted.now }
 {
     let row = counted.row();
     counted

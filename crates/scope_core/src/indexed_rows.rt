@@ -14,6 +14,7 @@ use crate::node_lists::NodeLists;
 use crate::reads::count_at;
 use dist_types::{Group, GroupChange, NodeName, OutOfMemory, Pid, Row};
 use std::alloc::Global;
+use std::collections::VecDeque;
 use std::marker::Model;
 
 /// Rows, with an index of the nodes that have rows of each group.
@@ -47,9 +48,9 @@ impl IndexedRows {
     }
 
     /// The rows of a node, in their order.
-    pub fn of_node(&self, node: &NodeName) -> &[BoxedRow]
-        ensures rows { result.now ≡ of_node node.now self.now }
-        ensures list { IsNodeList node.now result.now }
+    pub fn of_node(&self, node: &NodeName) -> &VecDeque<BoxedRow>
+        ensures rows { result.now.items ≡ of_node node.now self.now }
+        ensures list { IsNodeList node.now result.now.items }
         ensures few { (n : List ℕ) → tally (is_of_node n) self.now ≤ max_rows }
     {
         self.lists.of_node(node)
@@ -113,7 +114,7 @@ impl IndexedRows {
     pub fn join(
         &mut self,
         node: &NodeName,
-        more: Vec<BoxedRow>,
+        more: VecDeque<BoxedRow>,
         changes: &[GroupChange],
     ) -> Result<(), OutOfMemory>
         requires list { IsNodeList node.now more.items }
@@ -139,7 +140,7 @@ impl IndexedRows {
     pub fn replace(
         &mut self,
         node: &NodeName,
-        rows: Vec<BoxedRow>,
+        rows: VecDeque<BoxedRow>,
         changes: &[GroupChange],
     ) -> Result<(), OutOfMemory>
         requires list { IsNodeList node.now rows.items }

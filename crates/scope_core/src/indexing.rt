@@ -3,6 +3,7 @@ ghost use Rattle.std.specs.Prelude.{◌≡◌, ◌≤◌, ◌&&◌, ◌||◌, �
 ghost use Rattle.dist_types.specs.Listing.{same, same_pid, how_many, mentions, Rises};
 ghost use Rattle.dist_types.specs.declared.pid.Pid.{Pid};
 ghost use Rattle.std.specs.List.{list_any, list_all};
+ghost use Rattle.std.specs.VecDeque.Iter.{deque_iter_rest};
 ghost use Rattle.scope_core.specs.Listed.{is_in};
 ghost use Rattle.scope_core.specs.GroupNodes.{times_named};
 ghost use Rattle.scope_core.specs.Table.{counted_cmp, tally, is_row};
@@ -15,6 +16,8 @@ use crate::node_lists::NodeLists;
 use crate::reads::{in_group, is_same, pids_of};
 use dist_types::{Group, GroupChange, NodeName, OutOfMemory, Pid};
 use std::alloc::Global;
+use std::collections::VecDeque;
+use std::collections::vec_deque::Iter;
 
 /// The node is one of each changed group's. Where memory is refused, of some of them.
 pub fn put_all(
@@ -35,7 +38,7 @@ pub fn put_all(
 pub fn settle(lists: &NodeLists, index: &mut GroupNodes, group: &Group, node: &NodeName)
     ensures { (g n : List ℕ) → times_named index.new g n ≡ cond ((same group.now g && same node.now n) && not (has_members g n lists.now)) 0 (times_named index.old g n) }
 {
-    if in_group(lists.of_node(node), group).is_empty() {
+    if in_group(lists.of_node(node), group).len() == 0 {
         index.take(group, node);
     }
 }
@@ -87,8 +90,8 @@ fn settle_other(
 }
 
 /// The node is no group's in which it has one of its rows, which these are.
-pub fn unname(rows: &[BoxedRow], index: &mut GroupNodes, node: &NodeName)
-    ensures { (g n : List ℕ) → times_named index.new g n ≡ cond (list_any (is_in g) rows.now && same node.now n) 0 (times_named index.old g n) }
+pub fn unname(rows: &VecDeque<BoxedRow>, index: &mut GroupNodes, node: &NodeName)
+    ensures { (g n : List ℕ) → times_named index.new g n ≡ cond (list_any (is_in g) rows.now.items && same node.now n) 0 (times_named index.old g n) }
 {
     for counted in rows {
         index.take(&counted.row().group, node);
@@ -96,10 +99,10 @@ pub fn unname(rows: &[BoxedRow], index: &mut GroupNodes, node: &NodeName)
 }
 
 /// The node of a process is no group's in which it has no other process. These are its rows. Answers how many the process has.
-pub fn unname_process(rows: &[BoxedRow], index: &mut GroupNodes, pid: &Pid) -> usize
-    requires { IsNodeList pid.now.node rows.now }
-    ensures gone { result ≡ tally (λ r. same_pid r.pid pid.now) rows.now }
-    ensures unnamed { (g n : List ℕ) → times_named index.new g n ≡ cond ((list_any (is_row_of g pid.now) rows.now && same pid.now.node n) && not (has_others g pid.now rows.now)) 0 (times_named index.old g n) }
+pub fn unname_process(rows: &VecDeque<BoxedRow>, index: &mut GroupNodes, pid: &Pid) -> usize
+    requires { IsNodeList pid.now.node rows.now.items }
+    ensures gone { result ≡ tally (λ r. same_pid r.pid pid.now) rows.now.items }
+    ensures unnamed { (g n : List ℕ) → times_named index.new g n ≡ cond ((list_any (is_row_of g pid.now) rows.now.items && same pid.now.node n) && not (has_others g pid.now rows.now.items)) 0 (times_named index.old g n) }
 {
     let mut gone = 0;
     for counted in rows {
@@ -109,10 +112,15 @@ pub fn unname_process(rows: &[BoxedRow], index: &mut GroupNodes, pid: &Pid) -> u
 }
 
 /// The same for one of the rows.
-fn unname_row(rows: &[BoxedRow], index: &mut GroupNodes, counted: &BoxedRow, pid: &Pid) -> usize
-    requires { IsNodeList pid.now.node rows.now }
+fn unname_row(
+    rows: &VecDeque<BoxedRow>,
+    index: &mut GroupNodes,
+    counted: &BoxedRow,
+    pid: &Pid,
+) -> usize
+    requires { IsNodeList pid.now.node rows.now.items }
     ensures gone { result ≡ cond (same_pid counted.now.row.pid pid.now) counted.now.count 0 }
-    ensures unnamed { (g n : List ℕ) → times_named index.new g n ≡ cond ((is_row_of g pid.now counted.now && same pid.now.node n) && not (has_others g pid.now rows.now)) 0 (times_named index.old g n) }
+    ensures unnamed { (g n : List ℕ) → times_named index.new g n ≡ cond ((is_row_of g pid.now counted.now && same pid.now.node n) && not (has_others g pid.now rows.now.items)) 0 (times_named index.old g n) }
 {
     if !is_same(&counted.row().pid, pid) {
         return 0;
@@ -125,18 +133,18 @@ fn unname_row(rows: &[BoxedRow], index: &mut GroupNodes, counted: &BoxedRow, pid
 }
 
 /// Whether only the process has a row of the group.
-fn is_alone(rows: &[BoxedRow], group: &Group, pid: &Pid) -> bool
-    requires { Rises counted_cmp rows.now }
-    ensures { result ≡ not (has_others group.now pid.now rows.now) }
+fn is_alone(rows: &VecDeque<BoxedRow>, group: &Group, pid: &Pid) -> bool
+    requires { Rises counted_cmp rows.now.items }
+    ensures { result ≡ not (has_others group.now pid.now rows.now.items) }
 {
     are_all_of(in_group(rows, group), pid)
 }
 
 /// Whether all rows are the process's.
-fn are_all_of(rows: &[BoxedRow], pid: &Pid) -> bool
-    ensures { result ≡ list_all (λ c. same_pid c.row.pid pid.now) rows.now }
+fn are_all_of(mut rows: Iter<'_, BoxedRow>, pid: &Pid) -> bool
+    ensures { result ≡ list_all (λ c. same_pid c.row.pid pid.now) (deque_iter_rest rows.entry) }
 {
-    rows.iter().all(|counted| is_same(&counted.row().pid, pid))
+    rows.all(|counted| is_same(&counted.row().pid, pid))
 }
 
 /// The processes of a group, those of a node beside one another.

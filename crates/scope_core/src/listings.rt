@@ -12,6 +12,7 @@ use crate::reads::is_same;
 use dist_types::{Group, GroupChange, OutOfMemory, Pid, Shared, TryClone};
 use indexmap::IndexMap;
 use std::alloc::Global;
+use std::collections::VecDeque;
 use std::marker::Model;
 
 /// For some groups the list of their processes, and perhaps the list of the groups.
@@ -110,9 +111,8 @@ impl Listings {
     }
 
     /// Keeps no list of a group of these rows, nor of the groups if there are rows.
-    #[tactic(auto, using(crate::proofs::Kept::forgets_more))]
-    pub fn forget_rows(&mut self, rows: &[BoxedRow])
-        ensures { Forgets (λ g. list_any (is_in g) rows.now) self.old self.new }
+    pub fn forget_rows(&mut self, rows: &VecDeque<BoxedRow>)
+        ensures { Forgets (λ g. list_any (is_in g) rows.now.items) self.old self.new }
     {
         if self.is_empty() {
             return;
@@ -123,9 +123,8 @@ impl Listings {
     }
 
     /// Keeps no list of a group in which the process has one of these rows, nor of the groups if it has one.
-    #[tactic(auto, using(crate::proofs::Kept::forgets_more))]
-    pub fn forget_process(&mut self, rows: &[BoxedRow], pid: &Pid)
-        ensures { Forgets (λ g. list_any (is_row_of g pid.now) rows.now) self.old self.new }
+    pub fn forget_process(&mut self, rows: &VecDeque<BoxedRow>, pid: &Pid)
+        ensures { Forgets (λ g. list_any (is_row_of g pid.now) rows.now.items) self.old self.new }
     {
         if self.is_empty() {
             return;

@@ -1,5 +1,6 @@
 //! Counts that are lowered for rows that go. The rows stay, so counts can be raised again without memory.
-ghost use Rattle.std.specs.Prelude.{◌≡◌, ◌+◌, ◌<◌, ◌≤◌, ℕ, Bool, true, List, [], ◌∷◌, IsTrue, length, take, vec_len};
+ghost use Rattle.std.specs.Prelude.{◌≡◌, ◌+◌, ◌<◌, ◌≤◌, ℕ, Bool, true, List, [], ◌∷◌, IsTrue, length, take};
+ghost use Rattle.std.specs.VecDeque.{deque_len};
 ghost use Rattle.std.specs.List.{HoldsAt};
 ghost use Rattle.dist_types.specs.declared.pid.Pid.{Pid};
 ghost use Rattle.dist_types.specs.declared.row.Row.{Row};
@@ -10,11 +11,12 @@ ghost use Rattle.scope_core.specs.Added.{row_in, bare_rows, are_all_in, Adds, Ta
 use crate::counted::BoxedRow;
 use crate::reads::{count_at, place_next};
 use dist_types::{Group, NodeName, Pid, Row};
+use std::collections::VecDeque;
 
 /// Whether each row stands in the list at most as often as it is counted. Counts are lowered as far as this goes, and
 /// raised again, unless there is one row alone.
 #[tactic(auto, using(crate::proofs::Lower::still_rises, crate::proofs::Lower::stands_counted, crate::proofs::Lower::same_counts))]
-pub fn are_all_in(rows: &mut Vec<BoxedRow>, gone: &[Row]) -> bool
+pub fn are_all_in(rows: &mut VecDeque<BoxedRow>, gone: &[Row]) -> bool
     requires { IsKept rows.old.items }
     ensures value { result ≡ are_all_in rows.old.items gone.now }
     ensures fit { IsTrue result → HasRoomFor gone.now [] }
@@ -30,9 +32,9 @@ pub fn are_all_in(rows: &mut Vec<BoxedRow>, gone: &[Row]) -> bool
 }
 
 /// Whether the row is counted.
-fn is_counted(rows: &[BoxedRow], row: &Row) -> bool
-    requires { Rises counted_cmp rows.now }
-    ensures { result ≡ are_all_in rows.now (row.now ∷ []) }
+fn is_counted(rows: &VecDeque<BoxedRow>, row: &Row) -> bool
+    requires { Rises counted_cmp rows.now.items }
+    ensures { result ≡ are_all_in rows.now.items (row.now ∷ []) }
 {
     let mut next = 0;
     count_at(rows, &mut next, &row.group, &row.pid) > 0
@@ -40,7 +42,7 @@ fn is_counted(rows: &[BoxedRow], row: &Row) -> bool
 
 /// One less for each row.
 #[tactic(auto, using(crate::proofs::Lower::still_rises))]
-pub fn lower_rows(rows: &mut Vec<BoxedRow>, gone: &[Row])
+pub fn lower_rows(rows: &mut VecDeque<BoxedRow>, gone: &[Row])
     requires kept { IsKept rows.old.items }
     requires counted { IsTrue (are_all_in rows.old.items gone.now) }
     ensures taken { Adds gone.now rows.new.items rows.old.items }
@@ -51,7 +53,12 @@ pub fn lower_rows(rows: &mut Vec<BoxedRow>, gone: &[Row])
 
 /// One less for each mention of a process, as far as it is in the group. Answers how many the node loses.
 #[tactic(auto, using(crate::proofs::RowEdits::taken_counts, crate::proofs::RowEdits::taken_total, crate::proofs::Lower::still_rises, crate::proofs::Lower::takes_less))]
-pub fn lower_all(rows: &mut Vec<BoxedRow>, group: &Group, pids: &[Pid], node: &NodeName) -> usize
+pub fn lower_all(
+    rows: &mut VecDeque<BoxedRow>,
+    group: &Group,
+    pids: &[Pid],
+    node: &NodeName,
+) -> usize
     requires { IsKept rows.old.items }
     ensures counts { Leaves group.now pids.now rows.old.items rows.new.items }
     ensures total { tally (is_of_node node.now) rows.new.items + result ≡ tally (is_of_node node.now) rows.old.items }
@@ -68,7 +75,7 @@ pub fn lower_all(rows: &mut Vec<BoxedRow>, group: &Group, pids: &[Pid], node: &N
 }
 
 /// Rows without a count go.
-pub fn sweep(rows: &mut Vec<BoxedRow>)
+pub fn sweep(rows: &mut VecDeque<BoxedRow>)
     requires rises { Rises counted_cmp rows.old.items }
     requires few { (n : List ℕ) → tally (is_of_node n) rows.old.items ≤ max_rows }
     ensures tallies { (test : Row → Bool) → tally test rows.new.items ≡ tally test rows.old.items }
@@ -79,7 +86,7 @@ pub fn sweep(rows: &mut Vec<BoxedRow>)
 
 /// One less for each row, up to the first that isn't there any more. Answers how many were.
 #[tactic(auto, using(crate::proofs::Lower::takes_more, crate::proofs::Lower::still_rises))]
-fn lower(rows: &mut Vec<BoxedRow>, gone: &[Row]) -> usize
+fn lower(rows: &mut VecDeque<BoxedRow>, gone: &[Row]) -> usize
     requires { Rises counted_cmp rows.old.items }
     ensures bound { result ≤ length gone.now }
     ensures lowered { Adds (take result gone.now) rows.new.items rows.old.items }
@@ -98,7 +105,7 @@ fn lower(rows: &mut Vec<BoxedRow>, gone: &[Row]) -> usize
 }
 
 /// One less of a row. Answers whether there is one.
-fn lower_one(rows: &mut Vec<BoxedRow>, group: &Group, pid: &Pid, next: &mut usize) -> bool
+fn lower_one(rows: &mut VecDeque<BoxedRow>, group: &Group, pid: &Pid, next: &mut usize) -> bool
     requires { Rises counted_cmp rows.old.items }
     ensures taken { Takes result (row_in group.now pid.now) rows.old.items rows.new.items }
     ensures same { bare_rows rows.new.items ≡ bare_rows rows.old.items }
@@ -111,8 +118,8 @@ fn lower_one(rows: &mut Vec<BoxedRow>, group: &Group, pid: &Pid, next: &mut usiz
 
 /// One less at this place. Answers whether there is one.
 #[tactic(auto, using(crate::proofs::RowEdits::less_takes, crate::proofs::RowEdits::same_at, crate::proofs::Places::found_counts, crate::proofs::Lower::set_rows))]
-fn lower_at(rows: &mut Vec<BoxedRow>, at: usize) -> bool
-    requires bound { at < vec_len rows.old }
+fn lower_at(rows: &mut VecDeque<BoxedRow>, at: usize) -> bool
+    requires bound { at < deque_len rows.old }
     requires rises { Rises counted_cmp rows.old.items }
     ensures taken { (row : Row) → HoldsAt (λ c. c.row ≡ row) rows.old.items at → Takes result row rows.old.items rows.new.items }
     ensures same { bare_rows rows.new.items ≡ bare_rows rows.old.items }
@@ -127,7 +134,7 @@ fn lower_at(rows: &mut Vec<BoxedRow>, at: usize) -> bool
 
 /// One more for each row, of rows that stand there.
 #[tactic(auto, using(crate::proofs::Lower::pass_more, crate::proofs::Lower::still_rises))]
-fn raise(rows: &mut Vec<BoxedRow>, back: &[Row])
+fn raise(rows: &mut VecDeque<BoxedRow>, back: &[Row])
     requires rises { Rises counted_cmp rows.old.items }
     requires few { HasRoomFor back.now rows.old.items }
     requires stand { (g : List ℕ) (p : Pid) → 0 < how_many (is_row g p) back.now → 0 < how_many (is_row g p) (bare_rows rows.old.items) }
@@ -142,7 +149,7 @@ fn raise(rows: &mut Vec<BoxedRow>, back: &[Row])
 
 /// One more of a row that stands there.
 #[tactic(auto, using(crate::proofs::RowEdits::count_fits, crate::proofs::RowEdits::tally_more, crate::proofs::Lower::set_rows))]
-fn raise_one(rows: &mut Vec<BoxedRow>, row: &Row, next: &mut usize)
+fn raise_one(rows: &mut VecDeque<BoxedRow>, row: &Row, next: &mut usize)
     requires rises { Rises counted_cmp rows.old.items }
     requires few { HasRoomFor (row.now ∷ []) rows.old.items }
     requires stands { 0 < how_many (is_row row.now.group row.now.pid) (bare_rows rows.old.items) }

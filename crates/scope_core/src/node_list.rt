@@ -13,12 +13,13 @@ use crate::lowered::are_all_in;
 use crate::reads::total_of;
 use dist_types::{Group, NodeName, OutOfMemory, Pid, Row};
 use std::alloc::Global;
+use std::collections::VecDeque;
 use std::marker::Model;
 
 /// A node's rows in order, with their total, which is asked for more often than the rows are gone over.
 #[derive(Debug, Drop)]
 pub struct NodeList {
-    rows: Vec<BoxedRow>,
+    rows: VecDeque<BoxedRow>,
     /// How many rows there are, each as often as it is counted.
     total: usize,
 }
@@ -37,7 +38,7 @@ impl Model for NodeList {
 
 impl NodeList {
     /// A list of these rows.
-    pub fn of(rows: Vec<BoxedRow>) -> NodeList
+    pub fn of(rows: VecDeque<BoxedRow>) -> NodeList
         requires { total (λ c. c.count) rows.items ≤ max_rows }
         ensures { result ≡ rows.items }
     {
@@ -46,8 +47,8 @@ impl NodeList {
     }
 
     /// The rows.
-    pub fn as_slice(&self) -> &[BoxedRow]
-        ensures { result.now ≡ self.now }
+    pub fn rows(&self) -> &VecDeque<BoxedRow>
+        ensures { result.now.items ≡ self.now }
     {
         &self.rows
     }
@@ -60,7 +61,7 @@ impl NodeList {
     }
 
     /// Puts rows in.
-    pub fn join(&mut self, alloc: Global, more: Vec<BoxedRow>) -> Result<(), OutOfMemory>
+    pub fn join(&mut self, alloc: Global, more: VecDeque<BoxedRow>) -> Result<(), OutOfMemory>
         requires kept { IsKept self.old }
         requires more { IsKept more.items }
         requires few { total (λ c. c.count) self.old + total (λ c. c.count) more.items ≤ max_rows }
@@ -76,7 +77,7 @@ impl NodeList {
     }
 
     /// Puts rows in place of these.
-    pub fn replace(&mut self, rows: Vec<BoxedRow>)
+    pub fn replace(&mut self, rows: VecDeque<BoxedRow>)
         requires { total (λ c. c.count) rows.items ≤ max_rows }
         ensures { self.new ≡ rows.items }
     {

@@ -11,6 +11,7 @@ use crate::node_list::NodeList;
 use dist_types::{Group, NodeName, OutOfMemory, Pid, Row, TryClone};
 use indexmap::IndexMap;
 use std::alloc::Global;
+use std::collections::VecDeque;
 use std::marker::Model;
 
 /// Rows, a list for each node. What a call does to one node's rows it does to its list alone, which has at most
@@ -19,6 +20,9 @@ use std::marker::Model;
 pub struct NodeLists {
     alloc: Global,
     lists: IndexMap<NodeName, NodeList>,
+    /// The rows of a node that has no list.
+    none: VecDeque<BoxedRow>,
+    ghost empty: { none.items ≡ [] },
 }
 
 impl Model for NodeLists {
@@ -41,18 +45,19 @@ impl NodeLists {
         NodeLists {
             alloc,
             lists: IndexMap::new(alloc),
+            none: VecDeque::new(alloc),
         }
     }
 
     /// The rows of a node, in their order.
-    pub fn of_node(&self, node: &NodeName) -> &[BoxedRow]
-        ensures rows { result.now ≡ of_node node.now self.now }
-        ensures list { IsNodeList node.now result.now }
+    pub fn of_node(&self, node: &NodeName) -> &VecDeque<BoxedRow>
+        ensures rows { result.now.items ≡ of_node node.now self.now }
+        ensures list { IsNodeList node.now result.now.items }
         ensures few { (n : List ℕ) → tally (is_of_node n) self.now ≤ max_rows }
     {
         match self.lists.get(node) {
-            Some(list) => list.as_slice(),
-            None => &[],
+            Some(list) => list.rows(),
+            None => &self.none,
         }
     }
 
@@ -68,7 +73,7 @@ impl NodeLists {
     }
 
     /// Puts rows of a node in.
-    pub fn join(&mut self, node: &NodeName, more: Vec<BoxedRow>) -> Result<(), OutOfMemory>
+    pub fn join(&mut self, node: &NodeName, more: VecDeque<BoxedRow>) -> Result<(), OutOfMemory>
         requires list { IsNodeList node.now more.items }
         requires few { tally (is_of_node node.now) self.old + tally (is_of_node node.now) more.items ≤ max_rows }
         ensures ok { OnOk result (Joins more.items self.old self.new) }
@@ -82,7 +87,7 @@ impl NodeLists {
     }
 
     /// Puts rows in place of those of a node.
-    pub fn replace(&mut self, node: &NodeName, rows: Vec<BoxedRow>) -> Result<(), OutOfMemory>
+    pub fn replace(&mut self, node: &NodeName, rows: VecDeque<BoxedRow>) -> Result<(), OutOfMemory>
         requires list { IsNodeList node.now rows.items }
         ensures ok { OnOk result (Joins rows.items (without_node node.now self.old) self.new) }
         ensures same { OnErr result (self.new ≡ self.old) }
@@ -95,7 +100,7 @@ impl NodeLists {
     }
 
     /// The first rows of a node.
-    fn begin(&mut self, node: &NodeName, rows: Vec<BoxedRow>) -> Result<(), OutOfMemory>
+    fn begin(&mut self, node: &NodeName, rows: VecDeque<BoxedRow>) -> Result<(), OutOfMemory>
         requires list { IsNodeList node.now rows.items }
         requires first { of_node node.now self.old ≡ [] }
         ensures ok { OnOk result (Joins rows.items self.old self.new) }

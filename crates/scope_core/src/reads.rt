@@ -1,74 +1,63 @@
 //! What is read off the sorted rows.
-ghost use Rattle.std.specs.Prelude.{◌≡◌, ◌++◌, ◌<◌, ◌≤◌, IfOk, IfErr, IsTrue, OnOk, None, false, length, replicate, ◌&&◌, nat_lt};
+ghost use Rattle.std.specs.Prelude.{◌≡◌, ◌++◌, ◌<◌, ◌≤◌, IfOk, IfErr, IsTrue, OnOk, None, true, false, length, replicate, ◌&&◌, nat_lt, slice_range};
 ghost use Rattle.std.specs.List.{filter, HoldsAt};
-ghost use Rattle.std.specs.List.Sorted.{IsPartitionedBy};
+ghost use Rattle.std.specs.VecDeque.Iter.{deque_iter_rest};
 ghost use Rattle.dist_types.specs.Order.{row_cmp};
 ghost use Rattle.dist_types.specs.Listing.{same_pid, total, Rises, spread};
 ghost use Rattle.scope_core.specs.Table.{tally, counted_cmp, is_row, max_rows};
 ghost use Rattle.scope_core.specs.Added.{row_in, IsGap};
-ghost use Rattle.scope_core.specs.Listed.{is_in, differs, last_of, heads};
+ghost use Rattle.scope_core.specs.Listed.{is_in, differs, last_of, heads, IsStart};
 
 use crate::counted::BoxedRow;
 use dist_types::{Group, OutOfMemory, Pid, Row, TryClone};
 use std::alloc::Global;
 use std::cmp::Ordering;
-
-/// Most groups have no row of a node, or one, or a few. So the end of a group is looked for right where it begins, then behind its first
-/// row, then within so many, and only then among all rows: each that is looked at is likely to lie far from the others in memory.
-const NEAR: usize = 8;
+use std::collections::VecDeque;
+use std::collections::vec_deque::Iter;
 
 /// The rows of a group.
-pub fn in_group<'a>(rows: &'a [BoxedRow], group: &Group) -> &'a [BoxedRow]
-    requires { Rises counted_cmp rows.now }
-    ensures { result.now ≡ filter (is_in group.now) rows.now }
+pub fn in_group<'a>(rows: &'a VecDeque<BoxedRow>, group: &Group) -> Iter<'a, BoxedRow>
+    requires { Rises counted_cmp rows.now.items }
+    ensures { deque_iter_rest result ≡ filter (is_in group.now) rows.now.items }
 {
     let start = rows.partition_point(|counted| counted.row().group < *group);
-    let (_, rest) = rows.split_at(start);
-    in_front(rest, group)
+    rows.range(start..end_of(rows, start, group))
 }
 
-/// The rows of a group, which stand in front of all others.
-fn in_front<'a>(rows: &'a [BoxedRow], group: &Group) -> &'a [BoxedRow]
-    requires { IsPartitionedBy (is_in group.now) rows.now }
-    ensures { result.now ≡ filter (is_in group.now) rows.now }
+/// Where a group ends that begins here. Most groups have no row of a node, or one; so the end is looked for here and behind the first
+/// row, and only then among all: each row that is looked at is likely to lie far from the others in memory.
+fn end_of(rows: &VecDeque<BoxedRow>, start: usize, group: &Group) -> usize
+    requires rises { Rises counted_cmp rows.now.items }
+    requires start { IsStart group.now rows.now.items start }
+    requires bound { start ≤ length rows.now.items }
+    ensures from { start ≤ result }
+    ensures bound { result ≤ length rows.now.items }
+    ensures run { slice_range rows.now.items start result ≡ filter (is_in group.now) rows.now.items }
 {
-    let (near, _) = rows.split_at(reach(rows, group));
-    let end = near.partition_point(|counted| counted.row().group == *group);
-    let (run, _) = near.split_at(end);
-    run
-}
-
-/// How many of the first rows to search for the end of a group, which stands in front. The next row, if there is one, is another group's.
-fn reach(rows: &[BoxedRow], group: &Group) -> usize
-    ensures bound { result ≤ length rows.now }
-    ensures past { result < length rows.now → HoldsAt (λ c. is_in group.now c ≡ false) rows.now result }
-{
-    if is_past(rows, 0, group) {
-        0
-    } else if is_past(rows, 1, group) {
-        1
-    } else if is_past(rows, NEAR, group) {
-        NEAR
+    if is_past(rows, start, group) {
+        start
+    } else if is_past(rows, start + 1, group) {
+        start + 1
     } else {
-        rows.len()
+        rows.partition_point(|counted| counted.row().group <= *group)
     }
 }
 
-/// Whether a row of another group is at this place.
-fn is_past(rows: &[BoxedRow], at: usize, group: &Group) -> bool
-    ensures bound { IsTrue result → at < length rows.now }
-    ensures other { IsTrue result → HoldsAt (λ c. is_in group.now c ≡ false) rows.now at }
+/// Whether no row of the group is at this place.
+fn is_past(rows: &VecDeque<BoxedRow>, at: usize, group: &Group) -> bool
+    ensures past { IsTrue result → at < length rows.now.items → HoldsAt (λ c. is_in group.now c ≡ false) rows.now.items at }
+    ensures inside { result ≡ false → (at < length rows.now.items) × HoldsAt (λ c. is_in group.now c ≡ true) rows.now.items at }
 {
     match rows.get(at) {
         Some(counted) => counted.row().group != *group,
-        None => false,
+        None => true,
     }
 }
 
 /// How many rows there are, each as often as it is counted.
-pub fn total_of(rows: &[BoxedRow]) -> usize
-    requires { total (λ c. c.count) rows.now ≤ max_rows }
-    ensures { result ≡ total (λ c. c.count) rows.now }
+pub fn total_of(rows: &VecDeque<BoxedRow>) -> usize
+    requires { total (λ c. c.count) rows.now.items ≤ max_rows }
+    ensures { result ≡ total (λ c. c.count) rows.now.items }
 {
     let mut total = 0;
     for counted in rows {
@@ -78,8 +67,8 @@ pub fn total_of(rows: &[BoxedRow]) -> usize
 }
 
 /// The processes of the rows, each as often as it is counted.
-pub fn pids_of(alloc: Global, rows: &[BoxedRow]) -> Result<Vec<Pid>, OutOfMemory>
-    ensures { IfOk result (λ pids. pids.items ≡ spread (λ c. c.row.pid) (λ c. c.count) rows.now) }
+pub fn pids_of(alloc: Global, rows: Iter<'_, BoxedRow>) -> Result<Vec<Pid>, OutOfMemory>
+    ensures { IfOk result (λ pids. pids.items ≡ spread (λ c. c.row.pid) (λ c. c.count) (deque_iter_rest rows.entry)) }
 {
     let mut pids = Vec::with_capacity(alloc, rows.len())?;
     for counted in rows {
@@ -94,8 +83,8 @@ pub fn pids_of(alloc: Global, rows: &[BoxedRow]) -> Result<Vec<Pid>, OutOfMemory
 }
 
 /// The rows, each as often as it is counted.
-pub fn rows_of(alloc: Global, rows: &[BoxedRow]) -> Result<Vec<Row>, OutOfMemory>
-    ensures { IfOk result (λ copies. copies.items ≡ spread (λ c. c.row) (λ c. c.count) rows.now) }
+pub fn rows_of(alloc: Global, rows: &VecDeque<BoxedRow>) -> Result<Vec<Row>, OutOfMemory>
+    ensures { IfOk result (λ copies. copies.items ≡ spread (λ c. c.row) (λ c. c.count) rows.now.items) }
 {
     let mut copies = Vec::with_capacity(alloc, rows.len())?;
     for counted in rows {
@@ -107,25 +96,24 @@ pub fn rows_of(alloc: Global, rows: &[BoxedRow]) -> Result<Vec<Row>, OutOfMemory
 /// The rows of a process.
 pub fn rows_of_process(
     alloc: Global,
-    rows: &[BoxedRow],
+    rows: &VecDeque<BoxedRow>,
     pid: &Pid,
-) -> Result<Vec<BoxedRow>, OutOfMemory>
-    ensures { IfOk result (λ copies. copies.items ≡ filter (λ c. same_pid c.row.pid pid.now) rows.now) }
+) -> Result<VecDeque<BoxedRow>, OutOfMemory>
+    ensures { IfOk result (λ copies. copies.items ≡ filter (λ c. same_pid c.row.pid pid.now) rows.now.items) }
 {
-    let mut copies = Vec::new(alloc);
+    let mut copies = VecDeque::new(alloc);
     for counted in rows {
         if is_same(&counted.row().pid, pid) {
             let row = counted.row().try_clone(alloc)?;
-            copies.push(BoxedRow::new(alloc, row, counted.count())?)?;
+            copies.push_back(BoxedRow::new(alloc, row, counted.count())?)?;
         }
     }
     Ok(copies)
 }
 
 /// The groups of the rows that are counted.
-#[tactic(auto, using(crate::proofs::Groups::heads_yes, crate::proofs::Groups::heads_no))]
-pub fn groups_of(alloc: Global, rows: &[BoxedRow]) -> Result<Vec<Group>, OutOfMemory>
-    ensures { IfOk result (λ groups. groups.items ≡ heads None rows.now) }
+pub fn groups_of(alloc: Global, rows: &VecDeque<BoxedRow>) -> Result<Vec<Group>, OutOfMemory>
+    ensures { IfOk result (λ groups. groups.items ≡ heads None rows.now.items) }
 {
     let mut groups = Vec::new(alloc);
     for counted in rows {
@@ -159,12 +147,12 @@ pub fn push_copies<T: TryClone + Drop>(
 }
 
 /// Where the row of a group and a process is, or where it goes.
-pub fn place_of(rows: &[BoxedRow], group: &Group, pid: &Pid) -> Result<usize, usize>
-    requires { Rises counted_cmp rows.now }
-    ensures bound { IfOk result (λ i. i < length rows.now) }
-    ensures found { IfOk result (HoldsAt (λ c. c.row ≡ row_in group.now pid.now) rows.now) }
-    ensures end { IfErr result (λ i. i ≤ length rows.now) }
-    ensures gap { IfErr result (IsGap (row_in group.now pid.now) rows.now) }
+pub fn place_of(rows: &VecDeque<BoxedRow>, group: &Group, pid: &Pid) -> Result<usize, usize>
+    requires { Rises counted_cmp rows.now.items }
+    ensures bound { IfOk result (λ i. i < length rows.now.items) }
+    ensures found { IfOk result (HoldsAt (λ c. c.row ≡ row_in group.now pid.now) rows.now.items) }
+    ensures end { IfErr result (λ i. i ≤ length rows.now.items) }
+    ensures gap { IfErr result (IsGap (row_in group.now pid.now) rows.now.items) }
 {
     if is_behind(rows, group, pid) {
         return Err(rows.len());
@@ -174,16 +162,16 @@ pub fn place_of(rows: &[BoxedRow], group: &Group, pid: &Pid) -> Result<usize, us
 
 /// The same for rows that are looked for in their order: each is likely to be at the place behind the last one.
 pub fn place_next(
-    rows: &[BoxedRow],
+    rows: &VecDeque<BoxedRow>,
     next: &mut usize,
     group: &Group,
     pid: &Pid,
 ) -> Result<usize, usize>
-    requires { Rises counted_cmp rows.now }
-    ensures bound { IfOk result (λ i. i < length rows.now) }
-    ensures found { IfOk result (HoldsAt (λ c. c.row ≡ row_in group.now pid.now) rows.now) }
-    ensures end { IfErr result (λ i. i ≤ length rows.now) }
-    ensures gap { IfErr result (IsGap (row_in group.now pid.now) rows.now) }
+    requires { Rises counted_cmp rows.now.items }
+    ensures bound { IfOk result (λ i. i < length rows.now.items) }
+    ensures found { IfOk result (HoldsAt (λ c. c.row ≡ row_in group.now pid.now) rows.now.items) }
+    ensures end { IfErr result (λ i. i ≤ length rows.now.items) }
+    ensures gap { IfErr result (IsGap (row_in group.now pid.now) rows.now.items) }
 {
     let place = if is_at(rows, *next, group, pid) {
         Ok(*next)
@@ -199,9 +187,9 @@ pub fn place_next(
 
 /// How often a process is in a group, for rows that are looked for in their order.
 #[tactic(auto, using(crate::proofs::Places::found_counts))]
-pub fn count_at(rows: &[BoxedRow], next: &mut usize, group: &Group, pid: &Pid) -> u32
-    requires { Rises counted_cmp rows.now }
-    ensures { result ≡ tally (is_row group.now pid.now) rows.now }
+pub fn count_at(rows: &VecDeque<BoxedRow>, next: &mut usize, group: &Group, pid: &Pid) -> u32
+    requires { Rises counted_cmp rows.now.items }
+    ensures { result ≡ tally (is_row group.now pid.now) rows.now.items }
 {
     match place_next(rows, next, group, pid) {
         Ok(at) => rows[at].count(),
@@ -210,9 +198,9 @@ pub fn count_at(rows: &[BoxedRow], next: &mut usize, group: &Group, pid: &Pid) -
 }
 
 /// Whether the row of a group and a process is at this place.
-fn is_at(rows: &[BoxedRow], at: usize, group: &Group, pid: &Pid) -> bool
-    ensures bound { IsTrue result → at < length rows.now }
-    ensures found { IsTrue result → HoldsAt (λ c. c.row ≡ row_in group.now pid.now) rows.now at }
+fn is_at(rows: &VecDeque<BoxedRow>, at: usize, group: &Group, pid: &Pid) -> bool
+    ensures bound { IsTrue result → at < length rows.now.items }
+    ensures found { IsTrue result → HoldsAt (λ c. c.row ≡ row_in group.now pid.now) rows.now.items at }
 {
     match rows.get(at) {
         Some(counted) => is_row(counted.row(), group, pid),
@@ -235,11 +223,11 @@ pub fn is_same(pid: &Pid, other: &Pid) -> bool
 }
 
 /// Whether the row of a group and a process goes behind all others, as each does where rows come in order.
-fn is_behind(rows: &[BoxedRow], group: &Group, pid: &Pid) -> bool
-    requires { Rises counted_cmp rows.now }
-    ensures { IsTrue result → IsGap (row_in group.now pid.now) rows.now (length rows.now) }
+fn is_behind(rows: &VecDeque<BoxedRow>, group: &Group, pid: &Pid) -> bool
+    requires { Rises counted_cmp rows.now.items }
+    ensures { IsTrue result → IsGap (row_in group.now pid.now) rows.now.items (length rows.now.items) }
 {
-    match rows.last() {
+    match rows.back() {
         Some(last) => order_of(last.row(), group, pid).is_lt(),
         None => true,
     }

@@ -15,6 +15,7 @@ use crate::listings::Listings;
 use crate::reads::{groups_of, in_group, pids_of, rows_of, rows_of_process};
 use dist_types::{Group, GroupChange, NodeName, OutOfMemory, Pid, Row, Shared, TryClone};
 use std::alloc::Global;
+use std::collections::VecDeque;
 use std::marker::Model;
 
 /// How often each process is in each group of one scope.
@@ -167,7 +168,7 @@ impl ScopeTable {
             return Err(TableFault::RowsFull);
         }
         let counted = counted_rows(self.alloc, rows)?;
-        let changes = changes_of(self.alloc, &[], &counted)?;
+        let changes = changes_of(self.alloc, &VecDeque::new(self.alloc), &counted)?;
         self.rows.join(peer, counted, &changes)?;
         self.listings.forget_changed(&changes);
         self.own_rows += share_of(&self.own, peer, rows.len());
@@ -191,7 +192,7 @@ impl ScopeTable {
             return Err(TableFault::NotListed);
         }
         let counted = counted_rows(self.alloc, rows)?;
-        let changes = changes_of(self.alloc, &counted, &[])?;
+        let changes = changes_of(self.alloc, &counted, &VecDeque::new(self.alloc))?;
         self.rows.take_rows(peer, rows, &changes);
         self.listings.forget_changed(&changes);
         self.own_rows -= share_of(&self.own, peer, rows.len());
@@ -214,7 +215,7 @@ impl ScopeTable {
         ensures limits { local_total self.now ≤ max_rows }
     {
         let rows = rows_of_process(self.alloc, self.rows.of_node(&pid.node), pid)?;
-        let changes = changes_of(self.alloc, &rows, &[])?;
+        let changes = changes_of(self.alloc, &rows, &VecDeque::new(self.alloc))?;
         Ok(changes)
     }
 
@@ -232,7 +233,11 @@ impl ScopeTable {
     pub fn drop_change(&self, peer: &NodeName) -> Result<Vec<GroupChange>, OutOfMemory>
         ensures { IfOk result (λ changes. IsDifference (count_of self.now) (count_after_drop self.now peer.now) changes.items) }
     {
-        let changes = changes_of(self.alloc, self.rows.of_node(peer), &[])?;
+        let changes = changes_of(
+            self.alloc,
+            self.rows.of_node(peer),
+            &VecDeque::new(self.alloc),
+        )?;
         Ok(changes)
     }
 

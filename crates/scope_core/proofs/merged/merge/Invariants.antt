@@ -1,10 +1,11 @@
-use Rattle.scope_core.proofs.Words.{◌≡◌, ◌+◌, ◌≤◌, Bool, vec_len, vec_capacity, Row, tally, IsKept, AreCounted}
+use Rattle.scope_core.proofs.Words.{◌≡◌, ◌+◌, ◌≤◌, Bool, Row, tally, IsKept, AreCounted}
+use Rattle.std.specs.VecDeque.{deque_len, deque_capacity}
 use Rattle.scope_core.proofs.merged.merge.Given as goal
 
 -- what is merged and what is left are what there was
 abbrev pub invariant-loop-next : goal.invariant-loop-next
 invariant-loop-next l = record {
-  room : vec_len l.rows + vec_len l.more + vec_len l.merged ≤ vec_capacity l.merged;
+  room : deque_len l.rows + deque_len l.more + deque_len l.merged ≤ deque_capacity l.merged;
   kept : IsKept l.merged.items;
   rows : AreCounted l.rows.items;
   more : AreCounted l.more.items;
@@ -12,4 +13,4 @@ invariant-loop-next l = record {
 }
 
 abbrev pub decreases-loop-next : goal.decreases-loop-next
-decreases-loop-next l = vec_len l.rows + vec_len l.more
+decreases-loop-next l = deque_len l.rows + deque_len l.more

@@ -1,6 +1,7 @@
-use Rattle.scope_core.proofs.Words.{◌≡◌, take, sum_by}
+use Rattle.scope_core.proofs.Words.{◌≡◌, ◌+◌, total}
+use Rattle.std.specs.VecDeque.Iter.{deque_iter_rest}
 use Rattle.scope_core.proofs.reads.total_of.Given as goal
 
--- the total so far
+-- the total so far, and that of the rows to come
 abbrev pub invariant-loop-counted : goal.invariant-loop-counted
-invariant-loop-counted l = l.total ≡ sum_by (λ c. c.count) (take l.counted-index l.rows)
+invariant-loop-counted l = l.total + total (λ c. c.count) (deque_iter_rest l.counted-iterator) ≡ total (λ c. c.count) l.rows.items

@@ -1,7 +1,8 @@
-use Rattle.scope_core.proofs.Words.{take, list_any, is_row_of}
-use Rattle.scope_core.specs.Kept.{Forgets}
+use Rattle.scope_core.proofs.Words.{is_row_of}
+use Rattle.scope_core.proofs.Kept.{Forgetting}
+use Rattle.std.specs.VecDeque.Iter.{deque_iter_rest}
 use Rattle.scope_core.proofs.listings.Listings.forget_process.Given as goal
 
--- no list of the process's rows so far is kept
+-- once those of the rows to come are forgotten, those of all rows are
 abbrev pub invariant-loop-counted : goal.invariant-loop-counted
-invariant-loop-counted l = Forgets (λ g. list_any (is_row_of g l.pid) (take l.counted-index l.rows)) l.fn.self l.self
+invariant-loop-counted l = Forgetting (λ g. is_row_of g l.pid) l.rows.items (deque_iter_rest l.counted-iterator) l.fn.self l.self

@@ -10,5 +10,4 @@ put_in-requires-clause-few c = λ node.
 pub invariant_of-self-2 : goal.invariant_of-self-2
 invariant_of-self-2 c =
     let was = ap rows_total_of c.room_for.ensures.same in
-    let more = c.total_of-joined.ensures ∙ ap rows_total_of c.deref.ensures.value in
-    omega (arith, was, more, c.self.invariant, joined_total c.args.more.items c.room_for.new.rows.items c.put_in.new.rows.items c.put_in.ensures.added)
+    omega (arith, was, c.total_of-joined.ensures, c.self.invariant, joined_total c.args.more.items c.room_for.new.rows.items c.put_in.new.rows.items c.put_in.ensures.added)

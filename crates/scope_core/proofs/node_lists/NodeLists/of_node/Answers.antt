@@ -5,14 +5,14 @@ use Rattle.scope_core.proofs.node_lists.NodeLists.of_node.Goals as goal
 pub returns-in-Some-clause-rows : goal.returns-in-Some-clause-rows
 returns-in-Some-clause-rows c =
     rw (← c.self.view_is)
-    (c.as_slice.ensures ∙ sym (own_list c.args.node.now c.self.inside.lists.entries c.in-Some.list.now c.self.invariant (sym c.in-Some.ensures.value)))
+    (c.rows.ensures ∙ sym (own_list c.args.node.now c.self.inside.lists.entries c.in-Some.list.now c.self.invariant (sym c.in-Some.ensures.value)))
 
 pub returns-in-Some-clause-list : goal.returns-in-Some-clause-list
 returns-in-Some-clause-list c =
-    rw (c.as_slice.ensures) (list_found c.args.node.now c.self.inside.lists.entries c.in-Some.list.now c.self.invariant (sym c.in-Some.ensures.value))
+    rw (c.rows.ensures) (list_found c.args.node.now c.self.inside.lists.entries c.in-Some.list.now c.self.invariant (sym c.in-Some.ensures.value))
 
 pub returns-in-None-clause-rows : goal.returns-in-None-clause-rows
-returns-in-None-clause-rows c = rw (← c.self.view_is) (sym (no_list c.args.node.now c.self.inside.lists.entries c.self.invariant (sym c.in-None.ensures.value)))
+returns-in-None-clause-rows c = rw (← c.self.view_is) (c.self.inside.empty ∙ sym (no_list c.args.node.now c.self.inside.lists.entries c.self.invariant (sym c.in-None.ensures.value)))
 
 pub returns-in-Some-clause-few : goal.returns-in-Some-clause-few
 returns-in-Some-clause-few c = λ n. rw (← c.self.view_is) (list_few n c.self.inside.lists.entries c.self.invariant)

@@ -18,5 +18,5 @@ invariant_of-self c =
       total = grind (arith, left, c.share_of.ensures);
       listed =
           still_listed c.self.inside.listings c.forget_rows.new.self (λ g p. tally (is_row g p) rows) (λ g p. tally (is_row g p) (without_node n rows)) c.self.invariant.listed
-          (λ g. list_any (is_in g) c.of_node.result.now) c.forget_rows.ensures (dropped_same n rows c.of_node.result.now c.of_node.ensures.rows);
+          (λ g. list_any (is_in g) c.of_node.result.now.items) c.forget_rows.ensures (dropped_same n rows c.of_node.result.now.items c.of_node.ensures.rows);
     })

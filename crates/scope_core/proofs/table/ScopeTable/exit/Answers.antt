@@ -16,5 +16,5 @@ invariant_of-self c =
       total = rw c.remove_process.ensures at c.total_of-self-inside.ensures.total;
       listed =
           still_listed c.self.inside.listings c.forget_process.new.self (λ g p. tally (is_row g p) rows) (λ g p. tally (is_row g p) (filter (λ x. not (same_pid x.row.pid pid)) rows)) c.self.invariant.listed
-          (λ g. list_any (is_row_of g pid) c.of_node.result.now) c.forget_process.ensures (exited_same pid rows c.of_node.result.now c.of_node.ensures.rows);
+          (λ g. list_any (is_row_of g pid) c.of_node.result.now.items) c.forget_process.ensures (exited_same pid rows c.of_node.result.now.items c.of_node.ensures.rows);
     })
