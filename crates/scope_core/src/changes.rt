@@ -1,5 +1,5 @@
 //! The changes that a call answers.
-ghost use Rattle.std.specs.Prelude.{◌≡◌, IfOk, None, map};
+ghost use Rattle.std.specs.Prelude.{◌≡◌, [], IfOk, None, map};
 ghost use Rattle.dist_types.specs.Listing.{Rises, mentions, IsPidListing};
 ghost use Rattle.scope_core.specs.Added.{row_in};
 ghost use Rattle.scope_core.specs.Table.{counted_cmp};
@@ -30,6 +30,30 @@ pub fn one_change(
         left: Items::of(left),
         joined: Items::of(joined),
     })?;
+    Ok(changes)
+}
+
+/// The changes where rows leave.
+pub fn changes_left(
+    alloc: Global,
+    gone: &VecDeque<BoxedRow>,
+) -> Result<Vec<GroupChange>, OutOfMemory>
+    requires { Rises counted_cmp gone.now.items }
+    ensures { IfOk result (λ changes. Tells gone.now.items [] changes.items) }
+{
+    let changes = changes_of(alloc, gone, &VecDeque::new(alloc))?;
+    Ok(changes)
+}
+
+/// The changes where rows join.
+pub fn changes_joined(
+    alloc: Global,
+    joined: &VecDeque<BoxedRow>,
+) -> Result<Vec<GroupChange>, OutOfMemory>
+    requires { Rises counted_cmp joined.now.items }
+    ensures { IfOk result (λ changes. Tells [] joined.now.items changes.items) }
+{
+    let changes = changes_of(alloc, &VecDeque::new(alloc), joined)?;
     Ok(changes)
 }
 

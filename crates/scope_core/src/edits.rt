@@ -1,16 +1,16 @@
 //! What is done to the sorted rows.
-ghost use Rattle.std.specs.Prelude.{◌≡◌, ◌+◌, ◌<◌, ◌≤◌, IsTrue, OnOk, true, [], ◌∷◌, not, vec_len};
+ghost use Rattle.std.specs.Prelude.{◌≡◌, ◌+◌, ◌<◌, ◌≤◌, IsTrue, OnOk, true, [], ◌∷◌, vec_len};
 ghost use Rattle.std.specs.VecDeque.{deque_len, deque_capacity};
-ghost use Rattle.std.specs.List.{filter, HoldsAt};
+ghost use Rattle.std.specs.List.{HoldsAt};
 ghost use Rattle.dist_types.specs.declared.row.Row.{Row};
-ghost use Rattle.dist_types.specs.Listing.{same_pid};
 ghost use Rattle.scope_core.specs.Table.{tally, is_row, is_of_node, IsKept, AreCounted};
 ghost use Rattle.scope_core.specs.Added.{row_in, are_all_in, Adds, Joins, Takes, Leaves, HasRoomFor, HasRoomBeside};
 
 use crate::counted::BoxedRow;
-use crate::lowered::{lower_all, lower_rows, sweep};
+use crate::lowered::{lower_all, lower_rows};
 use crate::merged::merge;
-use crate::reads::{is_same, place_of};
+use crate::reads::place_of;
+use crate::sweeps::sweep;
 use dist_types::{Group, NodeName, OutOfMemory, Pid, Row};
 use std::alloc::Global;
 use std::collections::VecDeque;
@@ -21,13 +21,6 @@ pub const FEW: usize = 64;
 /// A row that is taken out alone moves those behind it. One pass over the list costs as much as a few of these moves, so only
 /// fewer than these are taken one by one.
 const SINGLES: usize = 4;
-
-/// Takes all rows of a process away.
-pub fn remove_pid(rows: &mut VecDeque<BoxedRow>, pid: &Pid)
-    ensures { rows.new.items ≡ filter (λ c. not (same_pid c.row.pid pid.now)) rows.old.items }
-{
-    rows.retain(|counted| !is_same(&counted.row().pid, pid));
-}
 
 /// Puts rows in, into the room that there is: by a merge, where there is spare room for all. Where there are no others, they
 /// need no merge.

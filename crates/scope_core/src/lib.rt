@@ -17,6 +17,7 @@ mod merged;
 mod node_list;
 mod node_lists;
 mod reads;
+mod sweeps;
 mod table;
 
 pub use fault::TableFault;

@@ -74,16 +74,6 @@ pub fn lower_all(
     lost
 }
 
-/// Rows without a count go.
-pub fn sweep(rows: &mut VecDeque<BoxedRow>)
-    requires rises { Rises counted_cmp rows.old.items }
-    requires few { (n : List ℕ) → tally (is_of_node n) rows.old.items ≤ max_rows }
-    ensures tallies { (test : Row → Bool) → tally test rows.new.items ≡ tally test rows.old.items }
-    ensures kept { IsKept rows.new.items }
-{
-    rows.retain(|counted| counted.count() != 0);
-}
-
 /// One less for each row, up to the first that isn't there any more. Answers how many were.
 #[tactic(auto, using(crate::proofs::Lower::takes_more, crate::proofs::Lower::still_rises))]
 fn lower(rows: &mut VecDeque<BoxedRow>, gone: &[Row]) -> usize

@@ -7,10 +7,11 @@ ghost use Rattle.scope_core.specs.Added.{row_in, are_all_in, Adds, Joins, Takes,
 ghost use Rattle.scope_core.specs.NodeLists.{IsNodeList};
 
 use crate::counted::BoxedRow;
-use crate::edits::{put_in, remove_pid, take, take_all, take_rows};
+use crate::edits::{put_in, take, take_all, take_rows};
 use crate::incoming::room_for;
 use crate::lowered::are_all_in;
 use crate::reads::total_of;
+use crate::sweeps::remove_pid;
 use dist_types::{Group, NodeName, OutOfMemory, Pid, Row};
 use std::alloc::Global;
 use std::collections::VecDeque;

@@ -6,7 +6,7 @@ ghost use Rattle.dist_types.specs.Difference.{IsDifference};
 ghost use Rattle.scope_core.specs.Table.{count_of, local_count, local_total, node_total, max_rows};
 ghost use Rattle.scope_core.specs.Calls.{Counts, is_any_joined, no_count, count_after_join, count_after_leave, count_after_exit, count_after_drop, count_after_sync, count_after_add, count_after_take, are_counted, IsChange, IsJoinFault, IsLeaveFault, IsSyncFault, IsAddFault, IsTakeFault};
 
-use crate::changes::{changes_of, in_order, one_change, rows_in};
+use crate::changes::{changes_joined, changes_left, changes_of, in_order, one_change, rows_in};
 use crate::fault::TableFault;
 use crate::incoming::{beyond, counted_of, counted_rows};
 use crate::indexed_rows::IndexedRows;
@@ -15,7 +15,6 @@ use crate::listings::Listings;
 use crate::reads::{groups_of, in_group, pids_of, rows_of, rows_of_process};
 use dist_types::{Group, GroupChange, NodeName, OutOfMemory, Pid, Row, Shared, TryClone};
 use std::alloc::Global;
-use std::collections::VecDeque;
 use std::marker::Model;
 
 /// How often each process is in each group of one scope.
@@ -168,7 +167,7 @@ impl ScopeTable {
             return Err(TableFault::RowsFull);
         }
         let counted = counted_rows(self.alloc, rows)?;
-        let changes = changes_of(self.alloc, &VecDeque::new(self.alloc), &counted)?;
+        let changes = changes_joined(self.alloc, &counted)?;
         self.rows.join(peer, counted, &changes)?;
         self.listings.forget_changed(&changes);
         self.own_rows += share_of(&self.own, peer, rows.len());
@@ -192,7 +191,7 @@ impl ScopeTable {
             return Err(TableFault::NotListed);
         }
         let counted = counted_rows(self.alloc, rows)?;
-        let changes = changes_of(self.alloc, &counted, &VecDeque::new(self.alloc))?;
+        let changes = changes_left(self.alloc, &counted)?;
         self.rows.take_rows(peer, rows, &changes);
         self.listings.forget_changed(&changes);
         self.own_rows -= share_of(&self.own, peer, rows.len());
@@ -215,7 +214,7 @@ impl ScopeTable {
         ensures limits { local_total self.now ≤ max_rows }
     {
         let rows = rows_of_process(self.alloc, self.rows.of_node(&pid.node), pid)?;
-        let changes = changes_of(self.alloc, &rows, &VecDeque::new(self.alloc))?;
+        let changes = changes_left(self.alloc, &rows)?;
         Ok(changes)
     }
 
@@ -233,11 +232,7 @@ impl ScopeTable {
     pub fn drop_change(&self, peer: &NodeName) -> Result<Vec<GroupChange>, OutOfMemory>
         ensures { IfOk result (λ changes. IsDifference (count_of self.now) (count_after_drop self.now peer.now) changes.items) }
     {
-        let changes = changes_of(
-            self.alloc,
-            self.rows.of_node(peer),
-            &VecDeque::new(self.alloc),
-        )?;
+        let changes = changes_left(self.alloc, self.rows.of_node(peer))?;
         Ok(changes)
     }
 

@@ -14,17 +14,17 @@ join-requires-clause-few c =
 
 pub join-requires-clause-changes : goal.join-requires-clause-changes
 join-requires-clause-changes c =
-    rw c.deref.ensures.value (added_covered c.args.peer.now c.in_ok-counted.counted.items _ (rw c.new.ensures.items at c.in_ok-changes.ensures))
+    rw c.deref.ensures.value (added_covered c.args.peer.now c.in_ok-counted.counted.items _ c.in_ok-changes.ensures)
 
 pub join-requires-clause-named : goal.join-requires-clause-named
 join-requires-clause-named c =
     let list = counted_own c.args.peer.now c.args.rows.now c.requires c.in_ok-counted.counted.items c.in_ok-counted.ensures.added c.in_ok-counted.ensures.kept in
-    rw c.deref.ensures.value (added_named c.args.peer.now c.in_ok-counted.counted.items _ list.own (rw c.new.ensures.items at c.in_ok-changes.ensures))
+    rw c.deref.ensures.value (added_named c.args.peer.now c.in_ok-counted.counted.items _ list.own c.in_ok-changes.ensures)
 
 pub returns-clause-change : goal.returns-clause-change
 returns-clause-change c =
     rw (← c.self.view_is)
-    (added_change c.args.rows.now c.self.inside.rows c.in_ok-counted.counted.items c.join.new.self c.in_ok-changes.changes.items (rw c.new.ensures.items at c.in_ok-changes.ensures) c.in_ok-counted.ensures.added c.in_ok-join.ensures.ok)
+    (added_change c.args.rows.now c.self.inside.rows c.in_ok-counted.counted.items c.join.new.self c.in_ok-changes.changes.items c.in_ok-changes.ensures c.in_ok-counted.ensures.added c.in_ok-join.ensures.ok)
 
 pub invariant_of-self-2 : goal.invariant_of-self-2
 invariant_of-self-2 c =
@@ -35,5 +35,5 @@ invariant_of-self-2 c =
       total = grind (arith, share, c.in_ok-counted.ensures.added (is_of_node own), c.in_ok-join.ensures.ok (is_of_node own), c.self.invariant.total);
       listed =
           changed_listed c.self.inside.listings c.forget_changed.new.self _ _ c.self.invariant.listed c.in_ok-changes.changes.items (rw c.deref-2.ensures.value at c.forget_changed.ensures)
-          (added_change c.args.rows.now c.self.inside.rows c.in_ok-counted.counted.items c.join.new.self c.in_ok-changes.changes.items (rw c.new.ensures.items at c.in_ok-changes.ensures) c.in_ok-counted.ensures.added c.in_ok-join.ensures.ok);
+          (added_change c.args.rows.now c.self.inside.rows c.in_ok-counted.counted.items c.join.new.self c.in_ok-changes.changes.items c.in_ok-changes.ensures c.in_ok-counted.ensures.added c.in_ok-join.ensures.ok);
     }

@@ -11,12 +11,12 @@ returns-in_err-changes-clause-refused c = rw (← c.self.view_is) (let e = sym c
 
 pub take_rows-requires-clause-changes : goal.take_rows-requires-clause-changes
 take_rows-requires-clause-changes c =
-    rw c.deref.ensures.value (none_untold c.args.peer.now c.args.rows.now c.requires c.in_ok-counted.counted.items _ c.in_ok-counted.ensures.added (rw c.new.ensures.items at c.in_ok-changes.ensures))
+    rw c.deref.ensures.value (none_untold c.args.peer.now c.args.rows.now c.requires c.in_ok-counted.counted.items _ c.in_ok-counted.ensures.added c.in_ok-changes.ensures)
 
 pub returns-clause-change : goal.returns-clause-change
 returns-clause-change c =
     rw (← c.self.view_is)
-    (taken_change c.args.rows.now c.self.inside.rows c.in_ok-counted.counted.items c.take_rows.new.self c.in_ok-changes.changes.items (rw c.new.ensures.items at c.in_ok-changes.ensures) c.in_ok-counted.ensures.added (rw c.are_all_in.ensures.same at c.take_rows.ensures))
+    (taken_change c.args.rows.now c.self.inside.rows c.in_ok-counted.counted.items c.take_rows.new.self c.in_ok-changes.changes.items c.in_ok-changes.ensures c.in_ok-counted.ensures.added (rw c.are_all_in.ensures.same at c.take_rows.ensures))
 
 pub overflow_sub-self : goal.overflow_sub-self
 overflow_sub-self c =
@@ -32,5 +32,5 @@ invariant_of-self-2 c =
       total = grind (arith, share, c.take_rows.ensures (is_of_node own), c.are_all_in.ensures.same, c.self.invariant.total);
       listed =
           changed_listed c.self.inside.listings c.forget_changed.new.self _ _ c.self.invariant.listed c.in_ok-changes.changes.items (rw c.deref-2.ensures.value at c.forget_changed.ensures)
-          (taken_change c.args.rows.now c.self.inside.rows c.in_ok-counted.counted.items c.take_rows.new.self c.in_ok-changes.changes.items (rw c.new.ensures.items at c.in_ok-changes.ensures) c.in_ok-counted.ensures.added (rw c.are_all_in.ensures.same at c.take_rows.ensures));
+          (taken_change c.args.rows.now c.self.inside.rows c.in_ok-counted.counted.items c.take_rows.new.self c.in_ok-changes.changes.items c.in_ok-changes.ensures c.in_ok-counted.ensures.added (rw c.are_all_in.ensures.same at c.take_rows.ensures));
     }
