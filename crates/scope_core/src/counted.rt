@@ -12,7 +12,7 @@ pub struct Counted {
     pub count: u32,
 }
 
-/// A counted row in a block of its own: where one comes or goes, a list moves only eight bytes for each behind it.
+/// A counted row in a block of its own: where one comes or goes, a list moves only eight bytes for each that makes room.
 #[derive(Debug, Drop)]
 pub struct BoxedRow {
     counted: Box<Counted>,

@@ -18,7 +18,7 @@ use std::collections::VecDeque;
 /// Where rows are merged, all rows of the list are moved, one after the other. So fewer than these are put in one by one.
 pub const FEW: usize = 64;
 
-/// A row that is taken out alone moves those behind it. One pass over the list costs as much as a few of these moves, so only
+/// A row that is taken out alone moves those on its shorter side. One pass over the list costs as much as a few of these moves, so only
 /// fewer than these are taken one by one.
 const SINGLES: usize = 4;
 
@@ -156,7 +156,7 @@ pub fn add_all(
     Ok(())
 }
 
-/// Puts counted rows in, into the room that there is. The rows behind each are moved.
+/// Puts counted rows in, into the room that there is. The rows on the shorter side of each are moved.
 #[tactic(auto, using(crate::proofs::RowEdits::last_tally, crate::proofs::RowEdits::last_counted))]
 fn add_each(rows: &mut VecDeque<BoxedRow>, more: VecDeque<BoxedRow>)
     requires room { deque_len rows.old + deque_len more ≤ deque_capacity rows.old }

@@ -17,7 +17,8 @@ use std::alloc::Global;
 use std::collections::VecDeque;
 use std::marker::Model;
 
-/// A node's rows in order, with their total, which is asked for more often than the rows are gone over.
+/// A node's rows in order, in a deque, since that moves only the shorter side where one comes or goes; with their total, which is asked
+/// for more often than the rows are gone over.
 #[derive(Debug, Drop)]
 pub struct NodeList {
     rows: VecDeque<BoxedRow>,
