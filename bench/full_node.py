@@ -88,10 +88,18 @@ def figures(program, peers, rows):
         pids = [f"b@h/1/{number}" for number in range(first, first + TIMES)]
         return console.time([line for pid in pids for line in ("spawn", f"join pg g1 {pid}", f"exit {pid}")])
 
-    leave, join = (f"frame {links[0]} {message(kind, row(1, b'p0@h')).hex()}" for kind in (b"L", b"J"))
+    def leaves(place):
+        """A Leave and a Join of the row at this place of the peer's list, which is in the order of the groups' names."""
+        group = sorted(range(rows), key=str)[place]
+        lines = [f"frame {links[0]} {message(kind, row(group, b'p0@h')).hex()}" for kind in (b"L", b"J")]
+        return least(lambda: console.time(lines * TIMES))
+
     yield "an own join and leave of one", least(lambda: console.time([f"join pg g1 {own}", f"leave pg g1 {own}"] * TIMES))
     yield "an own spawn, join and exit", least(exits)
-    yield "a peer's Leave and Join of one", least(lambda: console.time([leave, join] * TIMES))
+    yield "a peer's Leave and Join, at the front", leaves(0)
+    yield "the same at a quarter of its list", leaves(rows // 4)
+    yield "the same in the middle", leaves(rows // 2)
+    yield "the same at the end", leaves(rows - 1)
     yield "groups", least(lambda: console.time(["groups pg"] * 20) * TIMES / 20)
     yield "members, one of each peer", least(lambda: console.time(["members pg g1"] * 200) * TIMES / 200)
     console.process.stdin.close()

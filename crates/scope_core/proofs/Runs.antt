@@ -83,13 +83,10 @@ module _ (g : List ℕ) (cs : List Counted) (r : Rises counted_cmp cs) (start : 
   outside : AllWithin (λ c. is_in g c ≡ false) cs 0 start
   outside k d m b = not_same g (get_or cs k d) (s.0 k d m b)
 
-  -- none is of the group
-  pub run_of_none : start ≤ length cs → (start < length cs → HoldsAt (λ c. is_in g c ≡ false) cs start) → take (start - start) (drop start cs) ≡ filter (is_in g) cs
-  run_of_none l h = run_is (is_in g) start start cs (omega arith) l outside (λ k d m b. absurd (omega (arith, m, b))) (none_from start (omega arith) h)
-
-  -- one is
-  pub run_of_one : start < length cs → HoldsAt (λ c. is_in g c ≡ true) cs start → (start + 1 < length cs → HoldsAt (λ c. is_in g c ≡ false) cs (start + 1)) → take (start + 1 - start) (drop start cs) ≡ filter (is_in g) cs
-  run_of_one l here h = run_is (is_in g) start (start + 1) cs (omega arith) (omega (arith, l)) outside (λ k d m b. let e : k ≡ start = omega (arith, m, b) in rw e (here d)) (none_from (start + 1) (omega arith) h)
+  -- all up to here are of the group, and the next isn't
+  pub run_ends : (end : ℕ) → start ≤ end → end ≤ length cs → AllWithin (λ c. is_in g c ≡ true) cs start end → (end < length cs → HoldsAt (λ c. is_in g c ≡ false) cs end)
+      → (start ≤ end) × (take (end - start) (drop start cs) ≡ filter (is_in g) cs)
+  run_ends end l m inside h = (l, run_is (is_in g) start end cs l m outside inside (none_from end l h))
 
   -- the first is, and all up to where the higher groups begin
   pub run_to : (end : ℕ) → start < length cs → HoldsAt (λ c. is_in g c ≡ true) cs start → end ≤ length cs → IsPartitionPoint (λ c. is_upto g c ≡ true) (λ c. is_upto g c ≡ false) cs end

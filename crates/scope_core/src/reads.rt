@@ -15,6 +15,9 @@ use std::cmp::Ordering;
 use std::collections::VecDeque;
 use std::collections::vec_deque::Iter;
 
+/// How many rows of a group are gone over, one by one, before its end is looked for among all.
+const NEAR: usize = 8;
+
 /// The rows of a group.
 pub fn in_group<'a>(rows: &'a VecDeque<BoxedRow>, group: &Group) -> Iter<'a, BoxedRow>
     requires { Rises counted_cmp rows.now.items }
@@ -24,23 +27,21 @@ pub fn in_group<'a>(rows: &'a VecDeque<BoxedRow>, group: &Group) -> Iter<'a, Box
     rows.range(start..end_of(rows, start, group))
 }
 
-/// Where a group ends that begins here. Most groups have no row of a node, or one; so the end is looked for here and behind the first
-/// row, and only then among all: each row that is looked at is likely to lie far from the others in memory.
+/// Where a group ends that begins here. Most groups have no row of a node, or a few: so the end is looked for behind each of these, and only
+/// then by halves among all rows, each of which is likely to lie far from the others in memory.
 fn end_of(rows: &VecDeque<BoxedRow>, start: usize, group: &Group) -> usize
     requires rises { Rises counted_cmp rows.now.items }
     requires start { IsStart group.now rows.now.items start }
     requires bound { start ≤ length rows.now.items }
-    ensures from { start ≤ result }
     ensures bound { result ≤ length rows.now.items }
-    ensures run { slice_range rows.now.items start result ≡ filter (is_in group.now) rows.now.items }
+    ensures run { (start ≤ result) × (slice_range rows.now.items start result ≡ filter (is_in group.now) rows.now.items) }
 {
-    if is_past(rows, start, group) {
-        start
-    } else if is_past(rows, start + 1, group) {
-        start + 1
-    } else {
-        rows.partition_point(|counted| counted.row().group <= *group)
+    for near in 0..NEAR {
+        if is_past(rows, start + near, group) {
+            return start + near;
+        }
     }
+    rows.partition_point(|counted| counted.row().group <= *group)
 }
 
 /// Whether no row of the group is at this place.
