@@ -2,7 +2,7 @@
 """What a call of one row costs on a node with one peer of 64 rows, and on a full one: 60 peers, each with 4,096 rows in 4,096 groups of one scope.
 
 bench/full_node.py [PROGRAM]. Processor time of `pg_console run`, the reading of lines and the writing of answers in it, in microseconds an
-operation: the least of 5 rounds, of 1,000 changes, 20 lists of groups and 200 of members."""
+operation: the least of 15 rounds, in which both nodes take turns, of 1,000 changes, 20 lists of groups and 200 of members."""
 
 import os
 import struct
@@ -12,7 +12,7 @@ import threading
 
 HERE = os.path.dirname(os.path.realpath(__file__))
 DIGEST = "482c811da5d5b4bc6d497ffa98491e38"  # MD5 of `password123`
-ROUNDS, TIMES = 5, 1000
+ROUNDS, TIMES = 15, 1000
 
 
 def name_frame(peer):
@@ -29,12 +29,17 @@ def row(group, peer):
     return bytes([len(text)]) + text + struct.pack(">H", len(peer)) + peer + struct.pack(">IQ", 5, 1)
 
 
+def pin():
+    """To the last processor that there is: others may have another speed at the time."""
+    os.sched_setaffinity(0, {max(os.sched_getaffinity(0))})
+
+
 class Console:
     """The node `b@h` behind lines, with the scope `pg`."""
 
     def __init__(self, program):
         words = [program, "run", "b@h", "password", "--entries", "3000000"]
-        self.process = subprocess.Popen(words, stdin=subprocess.PIPE, stdout=subprocess.PIPE)
+        self.process = subprocess.Popen(words, stdin=subprocess.PIPE, stdout=subprocess.PIPE, preexec_fn=pin)
         self.ask("start pg")
 
     def ask(self, line):
@@ -74,42 +79,54 @@ class Console:
         return link
 
 
-def least(measure):
-    return min(measure() for _ in range(ROUNDS)) / TIMES
+class Node:
+    """A node with so many peers up, each with so many rows, and a process of its own."""
 
+    def __init__(self, program, peers, rows):
+        self.console = Console(program)
+        self.link = [self.console.link(b"p%d@h" % number, rows) for number in range(peers)][0]
+        self.own = self.console.ask("spawn").split()[1]
+        # The groups of a peer's list, which is in the order of their names.
+        self.groups = sorted(range(rows), key=str)
 
-def figures(program, peers, rows):
-    console = Console(program)
-    links = [console.link(b"p%d@h" % number, rows) for number in range(peers)]
-    own = console.ask("spawn").split()[1]
+    def own_change(self):
+        return [f"join pg g1 {self.own}", f"leave pg g1 {self.own}"] * TIMES
 
-    def exits():
-        first = int(console.ask("spawn").split("/")[-1]) + 1
+    def exits(self):
+        first = int(self.console.ask("spawn").split("/")[-1]) + 1
         pids = [f"b@h/1/{number}" for number in range(first, first + TIMES)]
-        return console.time([line for pid in pids for line in ("spawn", f"join pg g1 {pid}", f"exit {pid}")])
+        return [line for pid in pids for line in ("spawn", f"join pg g1 {pid}", f"exit {pid}")]
 
-    def leaves(place):
-        """A Leave and a Join of the row at this place of the peer's list, which is in the order of the groups' names."""
-        group = sorted(range(rows), key=str)[place]
-        lines = [f"frame {links[0]} {message(kind, row(group, b'p0@h')).hex()}" for kind in (b"L", b"J")]
-        return least(lambda: console.time(lines * TIMES))
+    def change(self, part):
+        """A Leave and a Join of the row that stands behind this part of the first peer's list."""
+        group = self.groups[int(part * (len(self.groups) - 1))]
+        return [f"frame {self.link} {message(kind, row(group, b'p0@h')).hex()}" for kind in (b"L", b"J")] * TIMES
 
-    yield "an own join and leave of one", least(lambda: console.time([f"join pg g1 {own}", f"leave pg g1 {own}"] * TIMES))
-    yield "an own spawn, join and exit", least(exits)
-    yield "a peer's Leave and Join, at the front", leaves(0)
-    yield "the same at a quarter of its list", leaves(rows // 4)
-    yield "the same in the middle", leaves(rows // 2)
-    yield "the same at the end", leaves(rows - 1)
-    yield "groups", least(lambda: console.time(["groups pg"] * 20) * TIMES / 20)
-    yield "members, one of each peer", least(lambda: console.time(["members pg g1"] * 200) * TIMES / 200)
-    console.process.stdin.close()
+
+# What is measured: its title, how many times it is done in a round, and its lines.
+MEASURES = [
+    ("an own join and leave of one", TIMES, Node.own_change),
+    ("an own spawn, join and exit", TIMES, Node.exits),
+    ("a peer's Leave and Join, at the front", TIMES, lambda node: node.change(0)),
+    ("the same at a quarter of its list", TIMES, lambda node: node.change(0.25)),
+    ("the same in the middle", TIMES, lambda node: node.change(0.5)),
+    ("the same at the end", TIMES, lambda node: node.change(1)),
+    ("groups", 20, lambda node: ["groups pg"] * 20),
+    ("members, one of each peer", 200, lambda node: ["members pg g1"] * 200),
+]
 
 
 def main():
     program = sys.argv[1] if len(sys.argv) > 1 else os.path.join(HERE, "../crates/pg_console/out/pg_console")
-    print(f"{'microseconds':<36} {'1 peer, 64 rows':>16} {'60 peers, 4,096 rows each':>26}")
-    for (title, small), (_, full) in zip(figures(program, 1, 64), figures(program, 60, 4096)):
-        print(f"{title:<36} {small:>16.1f} {full:>26.1f}")
+    nodes = [Node(program, 1, 64), Node(program, 60, 4096)]
+    print(f"{'microseconds':<38} {'1 peer, 64 rows':>16} {'60 peers, 4,096 rows each':>26} {'ratio':>6}")
+    for title, times, lines in MEASURES:
+        # The nodes take turns, so that both have a processor of the same speed.
+        rounds = [[node.console.time(lines(node)) / times for node in nodes] for _ in range(ROUNDS)]
+        small, full = map(min, zip(*rounds))
+        print(f"{title:<38} {small:>16.1f} {full:>26.1f} {full / small:>6.2f}")
+    for node in nodes:
+        node.console.process.stdin.close()
 
 
 if __name__ == "__main__":
