@@ -1,11 +1,10 @@
 -- What bodies make of a view, one after the other.
-use Rattle.frame_laws.proofs.Words.{ap, arith, refl, sym, ◌∙◌, lie, is_some, option_map_or, option_to_list, slice_get, Bool, List, None, Option, Some, [], cond, false, length, suc, take, true, zero, ℕ}
+use Rattle.frame_laws.proofs.Words.{append-nil, take-append-add, take-append-le, ap, arith, refl, sym, ◌∙◌, lie, is_some, option_map_or, option_to_list, slice_get, Bool, List, None, Option, Some, [], cond, false, length, suc, take, true, zero, ℕ}
 use Rattle.frame_laws.proofs.Words.{◌++◌, ◌+◌, ◌∷◌, ◌≡◌, Pid, Message, Entry}
 use Rattle.frame_laws.proofs.Words.{heard, message_taken, is_about_rows, says_rows, messages_said, seen_by, view_of}
 use Rattle.frame_laws.specs.Honest.{IsHonest}
 use Rattle.frame_laws.specs.Known.{known}
 use Rattle.frame_laws.proofs.Calm.{seen_apart, said_apart}
-use Rattle.frame_laws.proofs.Places.{append_nil, take_first, take_both}
 use Rattle.std.proofs.lemmas.Option.{slice_get_within}
 use Rattle.policy_audit.specs.Hearing.{stated}
 
@@ -22,10 +21,10 @@ module _ {A : Type 0} where
   stands_last (y ∷ xs) x = stands_last xs x
 
   pub take_last : (xs : List A) (x : A) → take (length xs + 1) (xs ++ x ∷ []) ≡ xs ++ x ∷ []
-  take_last xs x = take_both xs (x ∷ []) 1
+  take_last xs x = take-append-add xs (x ∷ []) 1
 
   pub take_all : (xs : List A) (x : A) → take (length xs) (xs ++ x ∷ []) ≡ xs
-  take_all xs x = (λ i. take (more i) (xs ++ x ∷ [])) ∙ take_both xs (x ∷ []) 0 ∙ append_nil xs
+  take_all xs x = (λ i. take (more i) (xs ++ x ∷ [])) ∙ take-append-add xs (x ∷ []) 0 ∙ append-nil xs
     where
       more : length xs ≡ length xs + 0
       more = omega arith
@@ -36,11 +35,11 @@ honest_first name creation s xs ys it = record {
   few = λ n body q rows.
       let all = it.few n body (stands_first xs ys n body q) rows in
       let less = slice_get_within xs n body q in
-      (all.0, λ g p. ap (view_of s g p) (sym (take_first xs ys (n + 1) (omega (arith, less)))) ∙ all.1 g p, all.2);
+      (all.0, λ g p. ap (view_of s g p) (sym (take-append-le (n + 1) xs ys (omega (arith, less)))) ∙ all.1 g p, all.2);
   there = λ n body rows q says g p.
       let was = it.there n body rows (stands_first xs ys n body q) says g p in
       let less = slice_get_within xs n body q in
-      (was.0, ap (view_of s g p) (sym (take_first xs ys n (omega (arith, less)))) ∙ was.1, was.2);
+      (was.0, ap (view_of s g p) (sym (take-append-le n xs ys (omega (arith, less)))) ∙ was.1, was.2);
 }
 
 -- ---- one body more
@@ -48,7 +47,7 @@ honest_first name creation s xs ys it = record {
 module _ (s g : List ℕ) (p : Pid) where
   pub view_more : (bodies : List (List ℕ)) (body : List ℕ) → view_of s g p (bodies ++ body ∷ []) ≡ seen_by s g p (option_to_list (message_taken body)) (view_of s g p bodies)
   view_more bodies body =
-      ap (λ ms. seen_by s g p ms None) (said_apart bodies (body ∷ []) ∙ ap (λ ms. messages_said bodies ++ ms) (append_nil (option_to_list (message_taken body))))
+      ap (λ ms. seen_by s g p ms None) (said_apart bodies (body ∷ []) ∙ ap (λ ms. messages_said bodies ++ ms) (append-nil (option_to_list (message_taken body))))
       ∙ seen_apart s g p (messages_said bodies) (option_to_list (message_taken body)) None
 
   -- a message that makes something known where nothing was makes the same of all

@@ -1,8 +1,7 @@
 -- What frames make of a view, and which leave it.
-use Rattle.frame_laws.proofs.Words.{ap, arith, refl, sym, ◌∙◌, lie, AllByRecursion, is_some, option_map_or, option_to_list, slice_get, List, Option, Some, [], false, map, suc, zero, ℕ}
+use Rattle.frame_laws.proofs.Words.{append_assoc, map-append, ap, arith, refl, sym, ◌∙◌, lie, AllByRecursion, is_some, option_map_or, option_to_list, slice_get, List, Option, Some, [], false, map, suc, zero, ℕ}
 use Rattle.frame_laws.proofs.Words.{◌++◌, ◌∷◌, ◌≡◌, Pid, Message, OutFrame, message_taken, narrow, wide, is_about_rows, IsMessage, has_rows, says_rows, messages_said, seen, seen_by}
 use Rattle.frame_laws.proofs.Handshakes.{begins_message, first_byte, no_message, reads}
-use Rattle.frame_laws.proofs.Places.{append_assoc}
 
 -- what these frames make of a view
 abbrev pub seen_frames : List ℕ → List ℕ → Pid → List OutFrame → Option ℕ → Option ℕ
@@ -17,13 +16,9 @@ pub said_apart : (xs ys : List (List ℕ)) → messages_said (xs ++ ys) ≡ mess
 said_apart [] ys = refl
 said_apart (x ∷ xs) ys = ap (λ w. option_to_list (message_taken x) ++ w) (said_apart xs ys) ∙ sym (append_assoc (option_to_list (message_taken x)) (messages_said xs) (messages_said ys))
 
-bodies_apart : (xs ys : List OutFrame) → map (λ f. f.body) (xs ++ ys) ≡ map (λ f. f.body) xs ++ map (λ f. f.body) ys
-bodies_apart [] ys = refl
-bodies_apart (x ∷ xs) ys = ap (λ w. x.body ∷ w) (bodies_apart xs ys)
-
 pub frames_seen : (s g : List ℕ) (p : Pid) (xs ys : List OutFrame) (v : Option ℕ) → seen_frames s g p (xs ++ ys) v ≡ seen_frames s g p ys (seen_frames s g p xs v)
 frames_seen s g p xs ys v =
-    ap (λ bs. seen_by s g p (messages_said bs) v) (bodies_apart xs ys)
+    ap (λ bs. seen_by s g p (messages_said bs) v) (map-append (λ f. f.body) xs ys)
     ∙ ap (λ ms. seen_by s g p ms v) (said_apart (map (λ f. f.body) xs) (map (λ f. f.body) ys))
     ∙ seen_apart s g p (messages_said (map (λ f. f.body) xs)) (messages_said (map (λ f. f.body) ys)) v
 

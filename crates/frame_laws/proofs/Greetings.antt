@@ -1,16 +1,15 @@
 -- What a node says of itself: in its Name on a link that it dialled, and in its Challenge on a link that it accepted.
-use Rattle.frame_laws.proofs.Words.{ap, arith, refl, subst, sym, ◌∙◌, eqb-false, eqb-true, lie, but, AllByRecursion, filter, flat_map, is_some, option_map_or, slice_get, Bool, List, None, Option, Some, [], cond, false, length, map, min, not, true, ℕ}
-use Rattle.frame_laws.proofs.Words.{◌&&◌, ◌++◌, ◌+◌, ◌<◌, ◌^◌, ◌==◌, ◌||◌, ◌∷◌, ◌≡◌, ◌≤◌, is_empty, same_pid, listing, mentions, pid_cmp, Row, Message, OutFrame, Opening, Event, Verdict, Accepted, Refused, Entry, History, past}
-use Rattle.frame_laws.proofs.Words.{creation, own, running_scopes, local_rows, row, Opened, Start, ByDial, ByPeer, challenge_in, opened, start_of, awaits, is_open, is_opened_by, is_up, is_visible, heard, told}
-use Rattle.frame_laws.proofs.Words.{frame_owes, if_told, message_owes, narrow, owed, own_challenge, own_name_frame, refusal_owes, status_frame, wide, IsLegalIn, message_bytes}
+use Rattle.frame_laws.proofs.Words.{append-nil, ap, arith, refl, sym, ◌∙◌, eqb-false, eqb-true, lie, but, AllByRecursion, is_some, option_map_or, slice_get, Bool, List, None, Option, Some, [], cond, false, length, map, true, ℕ}
+use Rattle.frame_laws.proofs.Words.{◌++◌, ◌+◌, ◌<◌, ◌^◌, ◌==◌, ◌∷◌, ◌≡◌, ◌≤◌, Message, OutFrame, Opening, Event, Verdict, Accepted, Refused, Entry, History, past}
+use Rattle.frame_laws.proofs.Words.{creation, Opened, Start, ByDial, ByPeer, challenge_in, opened, start_of, is_open, is_opened_by}
+use Rattle.frame_laws.proofs.Words.{narrow, owed, own_challenge, own_name_frame, status_frame, wide, IsLegalIn, message_bytes, verdict}
 use Rattle.frame_laws.proofs.Words.{Owing, out_in, owes, owing, moment, IsNode, IsWritten, hello_in, opening_of, own_hello}
-use Rattle.frame_laws.proofs.Handshakes.{first_byte, HoldsOfHellos, frame_all, refusal_all}
+use Rattle.frame_laws.proofs.Handshakes.{first_byte, HoldsOfHellos}
 use Rattle.frame_laws.proofs.Openings.{opened_number, opening_low, same_creation, unborn_out}
 use Rattle.frame_laws.proofs.OwnLimits.{own_creation_fits}
-use Rattle.frame_laws.proofs.Places.{all_at, append_nil, first_of_both, Parted, InFirst, InSecond, part, owed_here, earlier_moment, this_moment}
-use Rattle.frame_laws.proofs.Spoken.{node_before}
+use Rattle.frame_laws.proofs.Places.{all_at, first_of_both, Parted, InFirst, InSecond, part, owed_here, earlier_moment, this_moment}
+use Rattle.frame_laws.proofs.Spoken.{node_before, owed_hold}
 use Rattle.dist_types.specs.Flags.{own_flags}
-use Rattle.dist_types.proofs.Listings.{all_append}
 use Rattle.handshake_frames.specs.Frame.{Challenge}
 use Rattle.handshake_frames.specs.Reading.{challenge_frame, name_frame}
 use Rattle.handshake_frames.specs.Spelling.{challenge_bytes, name_bytes}
@@ -61,7 +60,7 @@ module _ (h : History) (node : IsNode h) where
 
   -- the own Name is read as it was meant
   name_says : name_frame (name_bytes (own_hello h)) ≡ Some (own_hello h)
-  name_says = name_frame-spelled (name_bytes (own_hello h)) (own_hello h) (record { fits = record { flags = flags_fit h.opening.hidden; creation = own_creation_fits h node; length = name_short }; extra = []; bytes = sym (append_nil (name_bytes (own_hello h))) })
+  name_says = name_frame-spelled (name_bytes (own_hello h)) (own_hello h) (record { fits = record { flags = flags_fit h.opening.hidden; creation = own_creation_fits h node; length = name_short }; extra = []; bytes = sym (append-nil (name_bytes (own_hello h))) })
 
   module _ (l : ℕ) where
     abbrev own_asked : Challenge
@@ -72,7 +71,7 @@ module _ (h : History) (node : IsNode h) where
     asked_says = challenge_frame-spelled (challenge_bytes own_asked) own_asked (record {
       fits = record { flags = flags_fit h.opening.hidden; challenge = challenge_fits h.entries node.written l; creation = own_creation_fits h node; length = name_short };
       extra = [];
-      bytes = sym (append_nil (challenge_bytes own_asked));
+      bytes = sym (append-nil (challenge_bytes own_asked));
     })
 
     -- a frame in which a Challenge says what this node is
@@ -105,52 +104,9 @@ module _ (h : History) (node : IsNode h) where
     says_own : (m : Message) → IsOwn (wide m)
     says_own m g q = absurd (not_asked (message_bytes m) (begins_other m) g q)
 
-    -- ---- all that is owed to a link that was opened before
-
-    abbrev AllOwn : List OutFrame → Type 0
-    AllOwn fs = AllByRecursion IsOwn fs
-
-    one_own : (b : Bool) (m : Message) → AllOwn (cond b (wide m ∷ []) [])
-    one_own true m = (says_own m, tt)
-    one_own false m = tt
-
-    told_own : (s : List ℕ) (say : List Row → Message) (rows : List Row) → AllOwn (if_told h l s say rows)
-    told_own s say rows = by (is_empty rows || not (told l s h.entries))
-      where
-        by : (b : Bool) → AllOwn (cond b [] (wide (say rows) ∷ []))
-        by true = tt
-        by false = (says_own (say rows), tt)
-
-    exits_own : (say : List ℕ → List Row → Message) (rows : List ℕ → List Row) (ss : List (List ℕ)) → AllOwn (flat_map (λ s. if_told h l s (say s) (rows s)) ss)
-    exits_own say rows [] = tt
-    exits_own say rows (s ∷ ss) = all_append IsOwn (if_told h l s (say s) (rows s)) (flat_map (λ t. if_told h l t (say t) (rows t)) ss) (told_own s (say s) (rows s)) (exits_own say rows ss)
-
-    message_own : (m : Message) → AllOwn (message_owes h l m)
-    message_own (Message.Discover s) = by (heard l s h.entries)
-      where
-        by : (b : Bool) → AllOwn (wide (Message.Sync s (local_rows h s)) ∷ cond b [] (wide (Message.Discover s) ∷ []))
-        by true = (says_own (Message.Sync s (local_rows h s)), tt)
-        by false = (says_own (Message.Sync s (local_rows h s)), (says_own (Message.Discover s), tt))
-    message_own m = tt
-
-    owed_own : (number : ℕ) → (number == l) ≡ false → (ev : Event) (v : Verdict) → AllOwn (owed h l number ev v)
-    owed_own number later (Event.StartScope s) (Accepted r) = one_own (is_up l h.entries && is_visible h l) (Message.Discover s)
-    owed_own number later (Event.StopScope s) (Accepted r) = one_own (is_up l h.entries && is_visible h l) (Message.Down s)
-    owed_own number later (Event.Exit p) (Accepted r) = exits_own (λ s. Message.Leave s) (λ s. filter (λ w. same_pid w.pid p) (local_rows h s)) (running_scopes h)
-    owed_own number later (Event.Join s g ps) (Accepted r) = told_own s (Message.Join s) (map (row g) (listing pid_cmp (λ p. mentions p ps) ps))
-    owed_own number later (Event.Leave s g ps) (Accepted r) = told_own s (Message.Leave s) (map (row g) (listing pid_cmp (λ p. min (mentions p ps) (own h s g p)) ps))
-    owed_own number later (Event.Dial n c) (Accepted r) = subst (λ b. AllOwn (cond b (own_name_frame h ∷ []) [])) (sym later) tt
-    owed_own number later (Event.Frame k body) (Accepted r) = by (k == l)
-      where
-        by : (b : Bool) → AllOwn (cond b (frame_owes h l body (awaits l h.entries)) [])
-        by true = frame_all h node l IsOwn hellos (λ s text. says_own (Message.Discover s)) body (awaits l h.entries) (λ q m says. message_own m)
-        by false = tt
-    owed_own number later (Event.Frame k body) (Refused r) = by (k == l)
-      where
-        by : (b : Bool) → AllOwn (cond b (refusal_owes r) [])
-        by true = refusal_all h node l IsOwn hellos (λ s text. says_own (Message.Discover s)) r
-        by false = tt
-    owed_own number later ev v = tt
+    -- all that is owed to a link that was opened before
+    owed_own : (number seat : ℕ) → (number == l) ≡ false → (ev : Event) (v : Verdict) → v ≡ verdict h seat ev → IsWritten ev → AllByRecursion IsOwn (owed h l number ev v)
+    owed_own number seat later ev v = owed_hold h node l IsOwn hellos (λ m is from. says_own m) number seat ev v (λ here. lie (sym here ∙ later))
 
 -- ---- along a history
 
@@ -208,7 +164,7 @@ asked_own o (e ∷ es) node l c opens n x q g says = by (is_opened_by l e) refl 
 
         now : (b : Bool) → is_open l es ≡ b → hello_in g ≡ own_hello (moment l (past o (e ∷ es)))
         now true open_link =
-            all_at (IsOwn (past o es) (node_before o e es node) l) (owed (past o es) l e.number e.event e.verdict) (owed_own (past o es) (node_before o e es node) l e.number (apart o e es l number low) e.event e.verdict) m x.frame it g says
+            all_at (IsOwn (past o es) (node_before o e es node) l) (owed (past o es) l e.number e.event e.verdict) (owed_own (past o es) (node_before o e es node) l e.number e.seat (apart o e es l number low) e.event e.verdict node.legal.0.verdict node.written.0) m x.frame it g says
             ∙ now_hello o e es l node.legal.1 open_link ∙ earlier_hello o e es l low
         now false shut = lie (ap is_some (sym it ∙ ap (λ fs. slice_get fs m) (unowed o es l shut e e.event e.verdict node.legal.0.verdict other)))
 

@@ -1,10 +1,10 @@
 -- What was handed out of a link, and what waits for it, is what was owed to it, in order.
-use Rattle.frame_laws.proofs.Words.{ap, arith, refl, subst, sym, ◌∙◌, eq-eqb, eqb-true, leb-false, leb-true, Bool, List, [], cond, false, is_some}
-use Rattle.frame_laws.proofs.Words.{length, map, nat_le, not, true, ℕ, ◌&&◌, ◌++◌, ◌+◌, ◌<◌, ◌==◌, ◌||◌, ◌∷◌, ◌≡◌, ◌≤◌, OutFrame, Opening, Event, Reply, Rule}
-use Rattle.frame_laws.proofs.Words.{Verdict, Accepted, Refused, Entry, is_accepted, past, start_of, ends, is_open, is_opened_by, drops, owed, waiting}
+use Rattle.frame_laws.proofs.Words.{append-nil, append_assoc, map-append, ap, arith, refl, subst, sym, ◌∙◌, eq-eqb, eqb-true, leb-false, leb-true, Bool, List, [], false}
+use Rattle.frame_laws.proofs.Words.{length, map, nat_le, true, ℕ, ◌&&◌, ◌++◌, ◌+◌, ◌<◌, ◌==◌, ◌∷◌, ◌≡◌, ◌≤◌, OutFrame, Opening, Event, Reply, Rule}
+use Rattle.frame_laws.proofs.Words.{Verdict, Accepted, Refused, Entry, past, ends, is_open, is_opened_by, drops, owed, waiting}
 use Rattle.frame_laws.proofs.Words.{waiting_in, IsLegalIn, verdict, accepted, but, lie, frames_of, handed, out_in, owing, sent}
-use Rattle.frame_laws.proofs.Places.{append_assoc, append_nil, frames_apart, frames_owing}
-use Rattle.policy_audit.proofs.UpLinks.{and_false, and_left}
+use Rattle.frame_laws.proofs.Places.{frames_owing}
+use Rattle.policy_audit.proofs.UpLinks.{and_left}
 use Rattle.policy_audit.proofs.KeptLinks.{unowed, unborn_waiting}
 use Rattle.policy_audit.proofs.Walked.{open_opened, unborn}
 
@@ -22,10 +22,6 @@ pub record IsHanded (o : Opening) (l : ℕ) (es : List Entry) : Type 0 where
 pub unborn_open : (o : Opening) (es : List Entry) → IsLegalIn o es → (l : ℕ) → length es < l → is_open l es ≡ false
 unborn_open o es legal l above = grind (arith, unborn o es legal l above, open_opened l es)
 
-emptied : (d : Bool) (w f : List OutFrame) → w ≡ [] → f ≡ [] → cond d [] (w ++ f) ≡ []
-emptied true w f p q = refl
-emptied false w f p q = λ i. p i ++ q i
-
 apart : (a n l : ℕ) → a ≡ n + 1 → l ≤ n → (a == l) ≡ false
 apart a n l is le = by (a == l) refl
   where
@@ -33,88 +29,65 @@ apart a n l is le = by (a == l) refl
     by false q = refl
     by true q = (let same = eqb-true a l q in absurd (omega (arith, is, le, same)))
 
-over : (a b : ℕ) → nat_le a b ≡ false → b < a
-over a b q = leb-false a b q
-
-gone : (a b c : Bool) → a ≡ false → b ≡ true → (a || (not b && c)) ≡ false
-gone a b c p q = λ i. p i || (not (q i) && c)
-
-stays_shut : (a b c : Bool) → a ≡ false → c ≡ false → (a || (not b && c)) ≡ false
-stays_shut a b c p q = (λ i. p i || (not b && q i)) ∙ and_false (not b)
-
 module _ (o : Opening) (es : List Entry) (e : Entry) (l : ℕ) (legal : IsLegalIn o es) (number : e.number ≡ length es + 1) where
   abbrev now : Event → Verdict → List OutFrame
   now ev v = owed (past o es) l e.number ev v
 
   out_now : (ev : Event) (v : Verdict) → frames_of (out_in o l (but e ev v ∷ es)) ≡ frames_of (out_in o l es) ++ now ev v
-  out_now ev v = frames_apart (out_in o l es) (map (owing e.number) (now ev v)) ∙ ap (λ fs. frames_of (out_in o l es) ++ fs) (frames_owing e.number (now ev v))
+  out_now ev v = map-append (λ x. x.frame) (out_in o l es) (map (owing e.number) (now ev v)) ∙ ap (λ fs. frames_of (out_in o l es) ++ fs) (frames_owing e.number (now ev v))
 
   later : length es < length (e ∷ es)
   later = omega (arith)
 
   unopened : (ev : Event) (v : Verdict) → l ≤ length es → is_opened_by l (but e ev v) ≡ false
-  unopened ev v le = ap (λ b. (is_accepted v && is_some (start_of ev)) && b) (apart e.number (length es) l number le) ∙ and_false (is_accepted v && is_some (start_of ev))
+  unopened ev v le = grind (arith, apart e.number (length es) l number le)
 
   -- an entry that hands nothing out of the link
   module _ (ev : Event) (v : Verdict) (q : v ≡ verdict (past o es) e.seat ev) (none : handed l ev v ≡ []) where
     total_of : (rest : List OutFrame) → sent l es ++ rest ≡ frames_of (out_in o l es) → sent l (but e ev v ∷ es) ++ (rest ++ now ev v) ≡ frames_of (out_in o l (but e ev v ∷ es))
-    total_of rest all =
-        (λ i. (sent l es ++ none i) ++ (rest ++ now ev v)) ∙ ap (λ s. s ++ (rest ++ now ev v)) (append_nil (sent l es)) ∙ sym (append_assoc (sent l es) rest (now ev v))
-        ∙ ap (λ w. w ++ now ev v) all ∙ sym (out_now ev v)
+    total_of rest all = grind (arith, none, append-nil (sent l es), append_assoc (sent l es) rest (now ev v), all, out_now ev v)
 
     stays : drops l es v ev ≡ false → IsHanded o l es → IsHanded o l (but e ev v ∷ es)
     stays d before = record { rest = before.rest ++ now ev v; all = total_of before.rest before.all; is_rest = by before.is_rest }
       where
         by : Rest o l es before.rest → Rest o l (but e ev v ∷ es) (before.rest ++ now ev v)
-        by (Waits w) = Waits (ap (λ x. x ++ now ev v) w ∙ sym (ap (λ b. cond b [] (waiting_in o l es ++ now ev v)) d))
-        by (Dropped w shut le) = Dropped (emptied (drops l es v ev) (waiting_in o l es) (now ev v) w (unowed o es l shut e ev v q (unopened ev v le))) (stays_shut (is_opened_by l (but e ev v)) (ends l es v ev) (is_open l es) (unopened ev v le) shut) (omega (arith, le))
+        by (Waits w) = Waits (grind (arith, w, d))
+        by (Dropped w shut le) = Dropped (grind (arith, w, d, unowed o es l shut e ev v q (unopened ev v le))) (grind (arith, unopened ev v le, shut)) (omega (arith, le))
 
     -- one that ends the link
     drop_now : drops l es v ev ≡ true → ends l es v ev ≡ true → is_opened_by l (but e ev v) ≡ false → IsHanded o l es → IsHanded o l (but e ev v ∷ es)
     drop_now d ended other before = record { rest = before.rest ++ now ev v; all = total_of before.rest before.all; is_rest = by before.is_rest (nat_le l (length es)) refl }
       where
         by : Rest o l es before.rest → (b : Bool) → nat_le l (length es) ≡ b → Rest o l (but e ev v ∷ es) (before.rest ++ now ev v)
-        by r true le = (let low = leb-true l (length es) le in Dropped (ap (λ b. cond b [] (waiting_in o l es ++ now ev v)) d) (gone (is_opened_by l (but e ev v)) (ends l es v ev) (is_open l es) other ended) (omega (arith, low)))
+        by r true le = (let low = leb-true l (length es) le in Dropped (grind (arith, d)) (grind (arith, other, ended)) (omega (arith, low)))
         by (Waits w) false le =
-            let above = over l (length es) le in
-            Waits ((λ i. (w ∙ unborn_waiting (past o es) legal l above) i ++ unowed o es l (unborn_open o es legal l above) e ev v q other i) ∙ sym (ap (λ b. cond b [] (waiting_in o l es ++ now ev v)) d))
-        by (Dropped w shut low) false le = (let above = over l (length es) le in absurd (omega (arith, low, above)))
+            let above = leb-false l (length es) le in
+            Waits (grind (arith, d, w, unborn_waiting (past o es) legal l above, unowed o es l (unborn_open o es legal l above) e ev v q other))
+        by (Dropped w shut low) false le = (let above = leb-false l (length es) le in absurd (omega (arith, low, above)))
 
   -- ---- a Take of the link
 
   -- all that waits is handed out
   module _ (k : ℕ) (frames : List OutFrame) (same : k ≡ l) (are : frames ≡ waiting_in o l es) where
-    here : (k == l) ≡ true
-    here = eq-eqb k l same
-
-    hands : handed l (Event.Take k) (Accepted (Reply.Out frames)) ≡ frames
-    hands = ap (λ b. cond b frames []) here
-
-    clear : drops l es (Accepted (Reply.Out frames)) (Event.Take k) ≡ true
-    clear = ap (λ b. b || (ends l es (Accepted (Reply.Out frames)) (Event.Take k) && is_open l es)) here
-
-    is_empty_now : waiting_in o l (but e (Event.Take k) (Accepted (Reply.Out frames)) ∷ es) ≡ []
-    is_empty_now = ap (λ b. cond b [] (waiting_in o l es ++ [])) clear
-
     taken : IsHanded o l es → IsHanded o l (but e (Event.Take k) (Accepted (Reply.Out frames)) ∷ es)
     taken before = by before.is_rest
       where
-        sum : (rest : List OutFrame) → sent l es ++ rest ≡ frames_of (out_in o l es) → frames ≡ rest → (sent l es ++ handed l (Event.Take k) (Accepted (Reply.Out frames))) ++ [] ≡ frames_of (out_in o l es ++ [])
-        sum rest all is = append_nil (sent l es ++ handed l (Event.Take k) (Accepted (Reply.Out frames))) ∙ ap (λ x. sent l es ++ x) (hands ∙ is) ∙ all ∙ sym (append_nil (frames_of (out_in o l es))) ∙ sym (frames_apart (out_in o l es) [])
-
         by : Rest o l es before.rest → IsHanded o l (but e (Event.Take k) (Accepted (Reply.Out frames)) ∷ es)
-        by (Waits w) = record { rest = []; all = sum before.rest before.all (are ∙ sym w); is_rest = Waits (sym is_empty_now) }
+        by (Waits w) = record {
+          rest = [];
+          all = grind (arith, are, w, before.all, same, eq-eqb k l, append-nil (sent l es ++ frames), append-nil (out_in o l es));
+          is_rest = Waits (grind (arith, same, eq-eqb k l));
+        }
         by (Dropped w shut le) = record {
           rest = before.rest;
-          all = (λ i. (sent l es ++ (hands ∙ are ∙ w) i) ++ before.rest) ∙ ap (λ x. x ++ before.rest) (append_nil (sent l es)) ∙ before.all ∙ sym (append_nil (frames_of (out_in o l es))) ∙ sym (frames_apart (out_in o l es) []);
-          is_rest = Dropped is_empty_now (ap (λ b. b) shut) (omega (arith, le));
+          all = grind (arith, are, w, before.all, append-nil (sent l es), append-nil (out_in o l es));
+          is_rest = Dropped (grind (arith, same, eq-eqb k l)) shut (omega (arith, le));
         }
 
   -- ---- each event
 
   none_refused : (ev : Event) (r : Rule) → handed l ev (Refused r) ≡ []
-  none_refused (Event.Take k) r = refl
-  none_refused ev r = refl
+  none_refused ev r = grind arith
 
   -- an event that ends the link where the test holds
   by_test : (ev : Event) (v : Verdict) → v ≡ verdict (past o es) e.seat ev → handed l ev v ≡ [] → drops l es v ev ≡ (ends l es v ev && is_open l es) → is_opened_by l (but e ev v) ≡ false → IsHanded o l es → IsHanded o l (but e ev v ∷ es)
@@ -125,8 +98,8 @@ module _ (o : Opening) (es : List Entry) (e : Entry) (l : ℕ) (legal : IsLegalI
       by false m = stays ev v q none (d ∙ m) before
 
   lost_by : (k : ℕ) (r : Reply) → Accepted r ≡ verdict (past o es) e.seat (Event.Lost k) → (b : Bool) → (k == l) ≡ b → IsHanded o l es → IsHanded o l (but e (Event.Lost k) (Accepted r) ∷ es)
-  lost_by k r q true m before = drop_now (Event.Lost k) (Accepted r) q refl (ap (λ b. b || (b && is_open l es)) m) m refl before
-  lost_by k r q false m before = stays (Event.Lost k) (Accepted r) q refl (ap (λ b. b || (b && is_open l es)) m) before
+  lost_by k r q true m before = drop_now (Event.Lost k) (Accepted r) q refl (grind (arith, m)) m refl before
+  lost_by k r q false m before = stays (Event.Lost k) (Accepted r) q refl (grind (arith, m)) before
 
   taken_by : (k : ℕ) (r : Reply) → Accepted r ≡ verdict (past o es) e.seat (Event.Take k) → r ≡ Reply.Out (waiting (past o es) k) → (b : Bool) → (k == l) ≡ b → IsHanded o l es
       → IsHanded o l (but e (Event.Take k) (Accepted r) ∷ es)
@@ -135,7 +108,7 @@ module _ (o : Opening) (es : List Entry) (e : Entry) (l : ℕ) (legal : IsLegalI
       (taken k (waiting (past o es) k) (eqb-true k l m) (ap (λ j. waiting_in o j es) (eqb-true k l m)) before)
   taken_by k r q is false m before =
       subst (λ x. IsHanded o l (but e (Event.Take k) (Accepted x) ∷ es)) (sym is)
-      (stays (Event.Take k) (Accepted (Reply.Out (waiting (past o es) k))) (ap Accepted (sym is) ∙ q) (ap (λ b. cond b (waiting (past o es) k) []) m) (ap (λ b. b || (false && is_open l es)) m) before)
+      (stays (Event.Take k) (Accepted (Reply.Out (waiting (past o es) k))) (ap Accepted (sym is) ∙ q) (grind (arith, m)) (grind (arith, m)) before)
 
   step : (ev : Event) (v : Verdict) → v ≡ verdict (past o es) e.seat ev → IsHanded o l es → IsHanded o l (but e ev v ∷ es)
   step ev (Refused r) q before = stays ev (Refused r) q (none_refused ev r) refl before

@@ -1,5 +1,5 @@
 -- What is heard of a node is what it said.
-use Rattle.frame_laws.proofs.Words.{ap, arith, refl, subst, sym, ◌∙◌, eqb-true, lie, but, option_to_list, slice_get, Bool, List, None, Option, Some, [], cond, false, length, take, true, ℕ}
+use Rattle.frame_laws.proofs.Words.{append-nil, take-append-le, ap, arith, refl, subst, sym, ◌∙◌, eqb-true, lie, but, option_to_list, slice_get, Bool, List, None, Option, Some, [], cond, false, length, take, true, ℕ}
 use Rattle.frame_laws.proofs.Words.{◌&&◌, ◌++◌, ◌+◌, ◌==◌, ◌∷◌, ◌≡◌, Pid, Message, Opening, Event, Reply, Rule, Verdict, Accepted, Refused, Entry, History, past}
 use Rattle.frame_laws.proofs.Words.{is_open, is_whole, heard, message_taken, IsLegalIn, IsNext, has_rows, seen_by, view_of}
 use Rattle.frame_laws.specs.Honest.{IsHonest, IsGiven, HasGiven, HeardIsSaid}
@@ -8,7 +8,6 @@ use Rattle.frame_laws.specs.Sent.{came, delivered}
 use Rattle.frame_laws.specs.ToldRows.{tells_rows, told_rows}
 use Rattle.frame_laws.proofs.Accepting.{is_up_there}
 use Rattle.frame_laws.proofs.KnownAfter.{known_after}
-use Rattle.frame_laws.proofs.Places.{append_nil, take_first}
 use Rattle.std.proofs.lemmas.Option.{slice_get_within}
 use Rattle.policy_audit.specs.Hearing.{stated}
 use Rattle.policy_audit.proofs.UpLinks.{and_right}
@@ -37,7 +36,7 @@ module _ (o : Opening) (es : List Entry) (e : Entry) (legal : IsLegalIn o es) (l
   }
     where
       nothing : bodies ++ came l ev ≡ bodies
-      nothing = ap (λ bs. bodies ++ bs) none ∙ append_nil bodies
+      nothing = ap (λ bs. bodies ++ bs) none ∙ append-nil bodies
 
   -- a body came that says nothing of s, and the same is stated
   calm_said : (ev : Event) (v : Verdict) (body : List ℕ) → came l ev ≡ body ∷ [] → tells_rows l s es v ev ≡ false → heard l s (but e ev v ∷ es) ≡ true
@@ -52,7 +51,7 @@ module _ (o : Opening) (es : List Entry) (e : Entry) (legal : IsLegalIn o es) (l
     rows = it.rows;
     behind = λ g p.
         let less = slice_get_within bodies it.place it.body it.stands in
-        ap (view_of s g p) (take_first bodies (came l ev) (it.place + 1) (omega (arith, less))) ∙ it.behind g p ∙ ap Some (sym (same_stated g p));
+        ap (view_of s g p) (take-append-le (it.place + 1) bodies (came l ev) (omega (arith, less))) ∙ it.behind g p ∙ ap Some (sym (same_stated g p));
     now = λ g p. ap (λ bs. view_of s g p (bodies ++ bs)) one ∙ view_more s g p bodies body ∙ stays g p (view_of s g p bodies) ∙ it.now g p ∙ ap Some (sym (same_stated g p));
   }
 

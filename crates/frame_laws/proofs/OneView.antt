@@ -1,5 +1,5 @@
 -- What one node hears of another is its own rows at one moment.
-use Rattle.frame_laws.proofs.Words.{IsProvedLink, None, is_up, Option, Bool, cond, is_local, ◌-◌, ◌==◌, ◌&&◌, same, same_sym, is_whole, is_open, opened, taken, Opened, ap, arith, refl, subst, sym, ◌∙◌, lie, AllByRecursion, option_map, option_map_or, slice_get, List, Some, [], false, length, suc, take, true, zero, ℕ, ◌++◌, ◌+◌, ◌<◌, ◌∷◌, ◌≡◌, ◌≤◌}
+use Rattle.frame_laws.proofs.Words.{take-append-le, IsProvedLink, None, is_up, Option, Bool, cond, is_local, ◌-◌, ◌==◌, ◌&&◌, same, same_sym, is_whole, is_open, opened, taken, Opened, ap, arith, refl, subst, sym, ◌∙◌, lie, AllByRecursion, option_map, option_map_or, slice_get, List, Some, [], false, length, suc, take, true, zero, ℕ, ◌++◌, ◌+◌, ◌<◌, ◌∷◌, ◌≡◌, ◌≤◌}
 use Rattle.frame_laws.proofs.Words.{Pid, OutFrame, History, creation, told, heard, own, IsLegal, IsNode, Owing, bodies_of, out, source_at, moment, has_rows, says_rows, view_of, SaysOne, Hello, Means, PassesThrough}
 use Rattle.frame_laws.specs.HeardMoment.{HearsMoment}
 use Rattle.frame_laws.specs.Honest.{IsHonest, IsGiven, HasGiven, HeardIsSaid}
@@ -14,7 +14,7 @@ use Rattle.frame_laws.proofs.NotRefused.{one_from}
 use Rattle.std.proofs.lemmas.List.{length-drop}
 use Rattle.frame_laws.proofs.HonestNode.{IsBodyOf, frame_of, node_honest, take_bodies}
 use Rattle.frame_laws.proofs.LinksTell.{all_tell}
-use Rattle.frame_laws.proofs.Places.{take_first, holds_then}
+use Rattle.frame_laws.proofs.Places.{holds_then}
 use Rattle.frame_laws.proofs.SaidUp.{IsSaidUp, all_said_up}
 use Rattle.frame_laws.proofs.Sources.{frame_at, is_entry, rises}
 use Rattle.frame_laws.proofs.Spoken.{IsSaid, all_said}
@@ -125,7 +125,7 @@ module _ (A : History) (node : IsNode A) (a : ℕ) (B : History) (legal : IsLega
         less = slice_get_within (delivered b B.entries) it.place it.body it.stands
 
         up_to : (g : List ℕ) (p : Pid) → view_of s g p (take (it.place + 1) (delivered b B.entries)) ≡ view_of s g p (bodies_of (take (it.place + 1) (out A a)))
-        up_to g p = ap (view_of s g p) (sym (take_first (delivered b B.entries) later (it.place + 1) (omega (arith, less))) ∙ ap (take (it.place + 1)) carried ∙ take_bodies (it.place + 1) (out A a))
+        up_to g p = ap (view_of s g p) (sym (take-append-le (it.place + 1) (delivered b B.entries) later (omega (arith, less))) ∙ ap (take (it.place + 1)) carried ∙ take_bodies (it.place + 1) (out A a))
 
         falls : Falls (it.place ∷ it.earlier)
         falls = subst Falls it.last (told_fall b s B.entries).falls

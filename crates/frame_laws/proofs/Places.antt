@@ -3,14 +3,6 @@ use Rattle.frame_laws.proofs.Words.{ap, arith, refl, subst, sym, ◌∙◌, lie,
 use Rattle.frame_laws.proofs.Words.{◌++◌, ◌+◌, ◌-◌, ◌<◌, ◌∷◌, ◌≡◌, ◌≤◌, OutFrame, Opening, Entry, past, History, IsLegalIn, owed, Owing, frames_of, moment, out_in, owes, owing}
 
 module _ {A : Type 0} where
-  pub append_assoc : (xs ys zs : List A) → (xs ++ ys) ++ zs ≡ xs ++ (ys ++ zs)
-  append_assoc [] ys zs = refl
-  append_assoc (x ∷ xs) ys zs = ap (λ w. x ∷ w) (append_assoc xs ys zs)
-
-  pub append_nil : (xs : List A) → xs ++ [] ≡ xs
-  append_nil [] = refl
-  append_nil (x ∷ xs) = ap (λ w. x ∷ w) (append_nil xs)
-
   -- a place in two lists is one in the first or in the second
   pub data Parted (xs ys : List A) (n : ℕ) (x : A) : Type 0 where
     InFirst : slice_get xs n ≡ Some x → n < length xs → Parted xs ys n x
@@ -31,19 +23,6 @@ module _ {A : Type 0} where
   take_to (y ∷ xs) zero x q = grind arith
   take_to (y ∷ xs) (suc n) x q = ap (λ w. y ∷ w) (take_to xs n x q)
 
-  pub take_first : (xs ys : List A) (n : ℕ) → n ≤ length xs → take n (xs ++ ys) ≡ take n xs
-  take_first [] ys zero le = refl
-  take_first [] ys (suc n) le = absurd (omega (arith, le))
-  take_first (x ∷ xs) ys zero le = refl
-  take_first (x ∷ xs) ys (suc n) le = ap (λ w. x ∷ w) (take_first xs ys n (omega (arith, le)))
-
-  pub take_both : (xs ys : List A) (m : ℕ) → take (length xs + m) (xs ++ ys) ≡ xs ++ take m ys
-  take_both [] ys m = ap (λ n. take n ys) (omega arith)
-  take_both (x ∷ xs) ys m = (λ i. take (more i) (x ∷ xs ++ ys)) ∙ ap (λ w. x ∷ w) (take_both xs ys m)
-    where
-      more : length (x ∷ xs) + m ≡ suc (length xs + m)
-      more = omega arith
-
   -- what holds of all holds at each place
   pub all_at : (P : A → Type 0) (xs : List A) → AllByRecursion P xs → (n : ℕ) (x : A) → slice_get xs n ≡ Some x → P x
   all_at P [] all n x q = lie (sym (ap is_some q))
@@ -55,10 +34,6 @@ module _ {A : Type 0} where
   first_of_both (y ∷ xs) ys x q = q
 
 -- ---- owed frames
-
-pub frames_apart : (xs ys : List Owing) → frames_of (xs ++ ys) ≡ frames_of xs ++ frames_of ys
-frames_apart [] ys = refl
-frames_apart (x ∷ xs) ys = ap (λ zs. x.frame ∷ zs) (frames_apart xs ys)
 
 pub frames_owing : (n : ℕ) (fs : List OutFrame) → frames_of (map (owing n) fs) ≡ fs
 frames_owing n [] = refl

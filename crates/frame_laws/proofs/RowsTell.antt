@@ -1,5 +1,5 @@
 -- What a Join, a Leave and an Exit say of a scope to a link.
-use Rattle.frame_laws.proofs.Words.{◌≤◌, ap, arith, refl, subst, sym, ◌∙◌, leb-true, lie, unbroken, accepted, all_hold, but, AllByRecursion, filter, flat_map, list_all, same_decides, same_pid_decides}
+use Rattle.frame_laws.proofs.Words.{append-nil, append_assoc, ◌≤◌, ap, arith, refl, subst, sym, ◌∙◌, leb-true, lie, unbroken, accepted, all_hold, but, AllByRecursion, filter, flat_map, list_all, same_decides, same_pid_decides}
 use Rattle.frame_laws.proofs.Words.{same_row_decides, same_sym, Bool, List, Some, [], cond, false, length, nat_le, not, true, ℕ, ◌++◌, ◌+◌, ◌-◌, ◌||◌, ◌∷◌, ◌≡◌}
 use Rattle.frame_laws.proofs.Words.{is_among, is_empty, IsListing, occurrences, same, same_pid, same_row, Rises, text_cmp, Less, Pid, Row, Message, OutFrame, Opening, Event, Reply, Verdict, Accepted, Entry}
 use Rattle.frame_laws.proofs.Words.{History, past, is_running, own, lives, running_scopes, local_rows, row, told, rows_of, seen, join_checks, if_told, wide, IsNext}
@@ -7,7 +7,6 @@ use Rattle.frame_laws.proofs.Words.{IsText, IsMessage, IsNode, IsWritten, is_abo
 use Rattle.frame_laws.proofs.Calm.{message_seen, AllCalm, IsCalm, calm_message}
 use Rattle.frame_laws.proofs.Handshakes.{reads}
 use Rattle.frame_laws.proofs.OwnLimits.{scope_text, scopes_text}
-use Rattle.frame_laws.proofs.Places.{append_assoc, append_nil}
 use Rattle.frame_laws.proofs.Spoken.{join_rows, leave_rows, exit_rows, join_listing, leave_listing, join_is, leave_is, exit_is}
 use Rattle.frame_laws.proofs.Telling.{Tells, Silent, Moved, EntryTells}
 use Rattle.dist_types.proofs.Listings.{all_append}
@@ -98,7 +97,7 @@ module _ (o : Opening) (es : List Entry) (e : Entry) (node : IsNode (past o es))
         (λ q f p. (let none = nothing_of f p (join_rows h node g ps) q in let is = joined_now runs f p in omega (arith, none, is)))
         (λ f p. added s f p (join_rows h node g ps) (own h s f p) ∙ ap Some (sym (joined_now runs f p)))
         (λ left q f p. absurd (join_no_leave s (join_rows h node g ps) left q))
-        [] [] (if_told h l s (Message.Join s) (join_rows h node g ps)) (sym (append_nil (if_told h l s (Message.Join s) (join_rows h node g ps)))) tt tt
+        [] [] (if_told h l s (Message.Join s) (join_rows h node g ps)) (sym (append-nil (if_told h l s (Message.Join s) (join_rows h node g ps)))) tt tt
 
     pub join_tells : (t : List ℕ) → IsNext h (but e (Event.Join t g ps) (Accepted r)) → IsWritten (Event.Join t g ps) → TellsOf (Event.Join t g ps) (Accepted r)
     join_tells t next text = by (same t s) refl
@@ -126,7 +125,7 @@ module _ (o : Opening) (es : List Entry) (e : Entry) (node : IsNode (past o es))
         (λ q f p. (let none = nothing_of f p (leave_rows h node s g ps) q in let is = left_now f p in omega (arith, none, is)))
         (λ f p. taken_off s f p (leave_rows h node s g ps) (own h s f p) ∙ ap Some (sym (left_now f p)))
         (there_of s (leave_rows h node s g ps) (own h s) (λ f p. grind (arith, same_decides f g, IsListing.counts (leave_listing h node s g ps) (row f p))))
-        [] [] (if_told h l s (Message.Leave s) (leave_rows h node s g ps)) (sym (append_nil (if_told h l s (Message.Leave s) (leave_rows h node s g ps)))) tt tt
+        [] [] (if_told h l s (Message.Leave s) (leave_rows h node s g ps)) (sym (append-nil (if_told h l s (Message.Leave s) (leave_rows h node s g ps)))) tt tt
 
     pub leave_tells : (t : List ℕ) → IsWritten (Event.Leave t g ps) → TellsOf (Event.Leave t g ps) (Accepted r)
     leave_tells t text = by (same t s) refl

@@ -1,9 +1,9 @@
 -- A message is owed to a link after it was proved, and no restart comes between.
 use Rattle.frame_laws.proofs.Words.{ap, arith, refl, sym, ◌∙◌, eqb-true, lie, list_all, flat_map, filter, is_some, slice_get}
-use Rattle.frame_laws.proofs.Words.{Bool, List, Some, [], cond, false, length, map, min, not, true, zero, suc, ℕ, ◌&&◌, ◌++◌, ◌+◌, ◌==◌, ◌∷◌, ◌≡◌, ◌≤◌}
-use Rattle.frame_laws.proofs.Words.{same_pid, mentions, listing, pid_cmp, Row, Message, OutFrame, Opening, Event, Reply, Verdict, Accepted, Refused, Entry, Rule, History}
-use Rattle.frame_laws.proofs.Words.{is_accepted, is_restart, past, own, running_scopes, local_rows, row, Awaited, AwaitReply}
-use Rattle.frame_laws.proofs.Words.{AwaitAck, AwaitMessage, awaits, is_whole, frame_owes, if_told, if_visible, owed, own_name_frame, refusal_owes, ltb-true, IsTrue, IsAnswered, IsLegalIn, but}
+use Rattle.frame_laws.proofs.Words.{Bool, List, Some, [], cond, false, length, not, true, zero, suc, ℕ, ◌&&◌, ◌+◌, ◌==◌, ◌∷◌, ◌≡◌, ◌≤◌}
+use Rattle.frame_laws.proofs.Words.{same_pid, Row, Message, OutFrame, Opening, Event, Reply, Verdict, Accepted, Refused, Entry, Rule, History}
+use Rattle.frame_laws.proofs.Words.{is_accepted, is_restart, past, running_scopes, local_rows, Awaited, AwaitReply}
+use Rattle.frame_laws.proofs.Words.{AwaitAck, AwaitMessage, awaits, is_whole, frame_owes, if_told, owed, refusal_owes, ltb-true, IsTrue, IsAnswered, IsLegalIn, but}
 use Rattle.frame_laws.proofs.Words.{IsProvedLink, is_restarted_after}
 use Rattle.frame_laws.proofs.Places.{AllOwed}
 use Rattle.policy_audit.proofs.Onward.{ack_taken, message_taken_on, reply_taken}
@@ -73,58 +73,39 @@ refusals_narrow : (r : Rule) → are_narrow (refusal_owes r) ≡ true
 refusals_narrow r = grind arith
 
 module _ (o : Opening) (es : List Entry) (e : Entry) (l : ℕ) where
-  -- what is owed to a link that isn't whole
-  spoken : (fs : List OutFrame) → (is_whole l es ≡ false → fs ≡ []) → (m : ℕ) (f : OutFrame) → slice_get fs m ≡ Some f → is_whole l es ≡ true
-  spoken fs none m f q = by (is_whole l es) refl
-    where
-      by : (b : Bool) → is_whole l es ≡ b → is_whole l es ≡ true
-      by true w = w
-      by false w = lie (ap is_some (sym q ∙ ap (λ x. slice_get x m) (none w)))
-
-  untold : is_whole l es ≡ false → (s : List ℕ) (say : List Row → Message) (rows : List Row) → if_told (past o es) l s say rows ≡ []
-  untold w s say rows = grind arith
-
   all_untold : is_whole l es ≡ false → (say : List ℕ → List Row → Message) (rows : List ℕ → List Row) (ss : List (List ℕ)) → flat_map (λ s. if_told (past o es) l s (say s) (rows s)) ss ≡ []
-  all_untold w say rows [] = refl
-  all_untold w say rows (s ∷ ss) = λ i. untold w s (say s) (rows s) i ++ all_untold w say rows ss i
+  all_untold un say rows [] = refl
+  all_untold un say rows (s ∷ ss) = grind (arith, un, all_untold un say rows ss)
 
-  unseen : is_whole l es ≡ false → (say : Message) → if_visible (past o es) l say ≡ []
-  unseen w say = grind arith
+  framed : (k : ℕ) (body : List ℕ) (r : Reply) → IsAnswered (past o es) (but e (Event.Frame k body) (Accepted r)) → (k == l) ≡ true → is_whole l (but e (Event.Frame k body) (Accepted r) ∷ es) ≡ false
+      → (a : Awaited) → awaits l es ≡ a → are_narrow (frame_owes (past o es) l body a) ≡ true
+  framed k body r made is un AwaitReply a = lie (sym (reply_taken (past o es) (but e (Event.Frame k body) (Accepted r)) made refl l body (ap (λ j. Event.Frame j body) (eqb-true k l is)) a).whole ∙ un)
+  framed k body r made is un AwaitAck a = lie (sym (ack_taken (past o es) (but e (Event.Frame k body) (Accepted r)) made refl l body (ap (λ j. Event.Frame j body) (eqb-true k l is)) a).whole ∙ un)
+  framed k body r made is un AwaitMessage a = lie (sym (message_taken_on (past o es) (but e (Event.Frame k body) (Accepted r)) made refl l body (ap (λ j. Event.Frame j body) (eqb-true k l is)) a).whole ∙ un)
+  framed k body r made is un x a = early_narrow (past o es) l body x refl
 
-  framed : (k : ℕ) (body : List ℕ) (r : Reply) → IsAnswered (past o es) (but e (Event.Frame k body) (Accepted r)) → k ≡ l → (a : Awaited) → awaits l es ≡ a
-      → (m : ℕ) (f : OutFrame) → slice_get (frame_owes (past o es) l body a) m ≡ Some f → f.wide ≡ true → is_whole l (but e (Event.Frame k body) (Accepted r) ∷ es) ≡ true
-  framed k body r made is AwaitReply a m f q w = (reply_taken (past o es) (but e (Event.Frame k body) (Accepted r)) made refl l body (ap (λ j. Event.Frame j body) is) a).whole
-  framed k body r made is AwaitAck a m f q w = (ack_taken (past o es) (but e (Event.Frame k body) (Accepted r)) made refl l body (ap (λ j. Event.Frame j body) is) a).whole
-  framed k body r made is AwaitMessage a m f q w = (message_taken_on (past o es) (but e (Event.Frame k body) (Accepted r)) made refl l body (ap (λ j. Event.Frame j body) is) a).whole
-  framed k body r made is x a m f q w = lie (sym w ∙ narrow_at (frame_owes (past o es) l body x) m f (early_narrow (past o es) l body x refl) q)
+  -- while the link isn't whole no message is owed to it
+  unsaid : (ev : Event) (v : Verdict) → IsAnswered (past o es) (but e ev v) → is_whole l (but e ev v ∷ es) ≡ false → are_narrow (owed (past o es) l e.number ev v) ≡ true
+  unsaid (Event.StartScope s) (Accepted r) made un = grind (arith, un)
+  unsaid (Event.StopScope s) (Accepted r) made un = grind (arith, un)
+  unsaid (Event.Exit p) (Accepted r) made un = ap are_narrow (all_untold un (λ s. Message.Leave s) (λ s. filter (λ x. same_pid x.pid p) (local_rows (past o es) s)) (running_scopes (past o es)))
+  unsaid (Event.Join s g ps) (Accepted r) made un = grind (arith, un)
+  unsaid (Event.Leave s g ps) (Accepted r) made un = grind (arith, un)
+  unsaid (Event.Dial n c) (Accepted r) made un = grind arith
+  unsaid (Event.Frame k body) (Accepted r) made un = by (k == l) refl
+    where
+      by : (b : Bool) → (k == l) ≡ b → are_narrow (cond b (frame_owes (past o es) l body (awaits l es)) []) ≡ true
+      by true is = framed k body r made is un (awaits l es) refl
+      by false is = refl
+  unsaid (Event.Frame k body) (Refused r) made un = grind (arith, refusals_narrow r)
+  unsaid ev v made un = refl
 
-  by_frame : (k : ℕ) (body : List ℕ) (r : Reply) → IsAnswered (past o es) (but e (Event.Frame k body) (Accepted r)) → (b : Bool) → (k == l) ≡ b
-      → (m : ℕ) (f : OutFrame) → slice_get (cond b (frame_owes (past o es) l body (awaits l es)) []) m ≡ Some f → f.wide ≡ true → is_whole l (but e (Event.Frame k body) (Accepted r) ∷ es) ≡ true
-  by_frame k body r made true is m f q w = framed k body r made (eqb-true k l is) (awaits l es) refl m f q w
-  by_frame k body r made false is m f q w = lie (sym (ap is_some q))
-
-  by_refusal : (r : Rule) (b : Bool) (m : ℕ) (f : OutFrame) → slice_get (cond b (refusal_owes r) []) m ≡ Some f → f.wide ≡ false
-  by_refusal r true m f q = narrow_at (refusal_owes r) m f (refusals_narrow r) q
-  by_refusal r false m f q = lie (sym (ap is_some q))
-
-  by_dial : (b : Bool) (name : OutFrame) (m : ℕ) (f : OutFrame) → name.wide ≡ false → slice_get (cond b (name ∷ []) []) m ≡ Some f → f.wide ≡ false
-  by_dial true name m f narrow q = narrow_at (name ∷ []) m f (ap (λ b. not b && true) narrow) q
-  by_dial false name m f narrow q = lie (sym (ap is_some q))
-
-  whole_when_said : (ev : Event) (v : Verdict) → IsAnswered (past o es) (but e ev v) → (m : ℕ) (f : OutFrame) → slice_get (owed (past o es) l e.number ev v) m ≡ Some f → f.wide ≡ true
-      → is_whole l (but e ev v ∷ es) ≡ true
-  whole_when_said (Event.StartScope s) (Accepted r) made m f q w = spoken (if_visible (past o es) l (Message.Discover s)) (λ un. unseen un (Message.Discover s)) m f q
-  whole_when_said (Event.StopScope s) (Accepted r) made m f q w = spoken (if_visible (past o es) l (Message.Down s)) (λ un. unseen un (Message.Down s)) m f q
-  whole_when_said (Event.Exit p) (Accepted r) made m f q w =
-      spoken (owed (past o es) l e.number (Event.Exit p) (Accepted r)) (λ un. all_untold un (λ s. Message.Leave s) (λ s. filter (λ x. same_pid x.pid p) (local_rows (past o es) s)) (running_scopes (past o es))) m f q
-  whole_when_said (Event.Join s g ps) (Accepted r) made m f q w =
-      spoken (owed (past o es) l e.number (Event.Join s g ps) (Accepted r)) (λ un. untold un s (Message.Join s) (map (row g) (listing pid_cmp (λ p. mentions p ps) ps))) m f q
-  whole_when_said (Event.Leave s g ps) (Accepted r) made m f q w =
-      spoken (owed (past o es) l e.number (Event.Leave s g ps) (Accepted r)) (λ un. untold un s (Message.Leave s) (map (row g) (listing pid_cmp (λ p. min (mentions p ps) (own (past o es) s g p)) ps))) m f q
-  whole_when_said (Event.Dial n c) (Accepted r) made m f q w = lie (sym w ∙ by_dial (e.number == l) (own_name_frame (past o es)) m f refl q)
-  whole_when_said (Event.Frame k body) (Accepted r) made m f q w = by_frame k body r made (k == l) refl m f q w
-  whole_when_said (Event.Frame k body) (Refused r) made m f q w = lie (sym w ∙ by_refusal r (k == l) m f q)
-  whole_when_said ev v made m f q w = lie (sym (ap is_some q))
+  whole_when_said : IsAnswered (past o es) e → (m : ℕ) (f : OutFrame) → slice_get (owed (past o es) l e.number e.event e.verdict) m ≡ Some f → f.wide ≡ true → is_whole l (e ∷ es) ≡ true
+  whole_when_said made m f q wide = by (is_whole l (e ∷ es)) refl
+    where
+      by : (b : Bool) → is_whole l (e ∷ es) ≡ b → is_whole l (e ∷ es) ≡ true
+      by true whole = whole
+      by false un = lie (sym wide ∙ narrow_at (owed (past o es) l e.number e.event e.verdict) m f (unsaid e.event e.verdict made un) q)
 
 -- ---- along a history
 
@@ -136,6 +117,6 @@ all_said_up o [] legal l = tt
 all_said_up o (e ∷ es) legal l = (
   λ m f q w.
       let made : IsAnswered (past o es) e = record { room = legal.0.room; number = legal.0.number; verdict = legal.0.verdict } in
-      was_proved o (e ∷ es) legal l (whole_when_said o es e l e.event e.verdict made m f q w),
+      was_proved o (e ∷ es) legal l (whole_when_said o es e l made m f q w),
   all_said_up o es legal.1 l,
 )

@@ -1,14 +1,14 @@
 -- Each frame that is owed is one of the handshake, or a message within the grammar.
-use Rattle.frame_laws.proofs.Words.{is_some, ◌∙◌, creation, is_local, is_of, ◌==◌, ap, arith, refl, subst, sym, leb-true, lie, unbroken, accepted, all_hold, fewer_length, AllByRecursion, filter, flat_map, list_all}
-use Rattle.frame_laws.proofs.Words.{option_map_or, same_decides, same_pid_decides, same_row_decides, same_sym, eqb-true, Bool, List, None, Some, [], cond, false, length, map, min, nat_le, not, true, suc, ℕ}
+use Rattle.frame_laws.proofs.Words.{length-map, is_some, ◌∙◌, creation, is_local, is_of, ◌==◌, ap, arith, refl, subst, sym, leb-true, lie, unbroken, accepted, all_hold, fewer_length, AllByRecursion, filter, flat_map, list_all}
+use Rattle.frame_laws.proofs.Words.{option_map_or, same_decides, same_pid_decides, same_row_decides, same_sym, eqb-true, Bool, List, None, Some, [], cond, false, length, map, min, nat_le, not, true, ℕ}
 use Rattle.frame_laws.proofs.Words.{◌&&◌, ◌+◌, ◌<◌, ◌==◌, ◌||◌, ◌∷◌, ◌≡◌, ◌≤◌, is_empty, IsListing, IsRowListing, listing, mentions, occurrences, same, same_pid, same_row, pid_cmp}
 use Rattle.frame_laws.proofs.Words.{Pid, Row, Message, OutFrame, Opening, Event, Rule, Verdict, Accepted, Refused, Entry, History, past, is_running, own, lives, running_scopes, local_rows, row}
 use Rattle.frame_laws.proofs.Words.{Awaited, AwaitMessage, awaits, is_open, is_up, is_visible, heard, message_taken, join_checks, frame_checks, message_checks}
-use Rattle.frame_laws.proofs.Words.{frame_owes, if_told, if_visible, message_owes, narrow, owed, refusal_owes, wide, told, first_broken, always}
+use Rattle.frame_laws.proofs.Words.{frame_owes, if_told, if_visible, message_owes, narrow, owed, own_name_frame, refusal_owes, wide, told, first_broken, always}
 use Rattle.frame_laws.proofs.Words.{verdict, IsText, IsRow, AreRows, IsMessage, SaysOne, Hello, Means, IsNode, IsWritten}
 use Rattle.frame_laws.proofs.FewRows.{few, few_local}
 use Rattle.frame_laws.proofs.OwnLimits.{all_counted, are_rows, living_row, local_are, own_row, own_rows, scope_text, scopes_text}
-use Rattle.frame_laws.proofs.Handshakes.{begins_message, dial_all, first_byte, frame_all, of_hellos, no_message, reads, refusal_all}
+use Rattle.frame_laws.proofs.Handshakes.{HoldsOfHellos, begins_message, first_byte, frame_all, of_hellos, no_message, reads, refusal_all}
 use Rattle.frame_laws.proofs.Places.{AllOwed, all_at}
 use Rattle.dist_types.proofs.Listings.{all_append, listing_counts}
 use Rattle.dist_types.proofs.Orders.{exact_pids, pids_total}
@@ -37,18 +37,11 @@ means h m is from = record {
   own = λ n says. subst (λ x. is_of h.opening.name (creation h) x ≡ true) (same_message m n (sym (reads m is) ∙ says)) from;
 }
 
-discover_says : (h : History) (s : List ℕ) → IsText s → IsSpoken h (wide (Message.Discover s))
-discover_says h s text = means h (Message.Discover s) text refl
-
 -- ---- rows that join and leave
 
 some_rows : (rows : List Row) → is_empty rows ≡ false → 0 < length rows
 some_rows [] q = lie q
 some_rows (r ∷ rows) q = omega arith
-
-length_mapped : (g : List ℕ) (ps : List Pid) → length (map (row g) ps) ≡ length ps
-length_mapped g [] = refl
-length_mapped g (p ∷ ps) = ap suc (length_mapped g ps)
 
 length_filter : (test : Row → Bool) (rows : List Row) → length (filter test rows) ≤ length rows
 length_filter test [] = omega arith
@@ -83,7 +76,7 @@ module _ (h : History) (node : IsNode h) where
       count : length (join_rows g ps) ≤ 4096
       count =
           let all = fewer_length same_row same_row_decides (join_rows g ps) (map (row g) ps) (λ r. grind (arith, its r, count_in_group r g ps, same_sym r.group g)) in
-          let long = length_mapped g ps in
+          let long = length-map ps (row g) in
           omega (arith, all, long, small)
 
       each : (r : Row) → 0 < occurrences same_row r (join_rows g ps) → IsRow r
@@ -166,69 +159,81 @@ module _ (h : History) (node : IsNode h) where
 
   -- ---- the frames of each event
 
-  abbrev AllSay : List OutFrame → Type 0
-  AllSay fs = AllByRecursion (IsSpoken h) fs
+  -- what holds of each frame of the handshake and of each message that the node may say holds of all that an entry owes
+  module _ (l : ℕ) (P : OutFrame → Type 0) (hellos : HoldsOfHellos h l P) (said : (m : Message) → IsMessage m → is_of h.opening.name (creation h) m ≡ true → P (wide m)) where
+    abbrev AllHold : List OutFrame → Type 0
+    AllHold fs = AllByRecursion P fs
 
-  if_told_say : (l : ℕ) (s : List ℕ) (say : List Row → Message) (rows : List Row) → (is_empty rows ≡ false → IsMessage (say rows)) → is_of h.opening.name (creation h) (say rows) ≡ true → AllSay (if_told h l s say rows)
-  if_told_say l s say rows is from = by (is_empty rows) refl (told l s h.entries)
-    where
-      by : (b : Bool) → is_empty rows ≡ b → (c : Bool) → AllSay (cond (b || not c) [] (wide (say rows) ∷ []))
-      by true q c = tt
-      by false q false = tt
-      by false q true = (means h (say rows) (is q) from, tt)
+    asks : (s : List ℕ) → IsText s → P (wide (Message.Discover s))
+    asks s text = said (Message.Discover s) text refl
 
-  if_visible_say : (l : ℕ) (m : Message) → IsMessage m → is_of h.opening.name (creation h) m ≡ true → AllSay (if_visible h l m)
-  if_visible_say l m is from = by (is_up l h.entries && is_visible h l)
-    where
-      by : (b : Bool) → AllSay (cond b (wide m ∷ []) [])
-      by true = (means h m is from, tt)
-      by false = tt
+    told_hold : (s : List ℕ) (say : List Row → Message) (rows : List Row) → (is_empty rows ≡ false → IsMessage (say rows)) → is_of h.opening.name (creation h) (say rows) ≡ true → AllHold (if_told h l s say rows)
+    told_hold s say rows is from = by (is_empty rows) refl (told l s h.entries)
+      where
+        by : (b : Bool) → is_empty rows ≡ b → (c : Bool) → AllHold (cond (b || not c) [] (wide (say rows) ∷ []))
+        by true q c = tt
+        by false q false = tt
+        by false q true = (said (say rows) (is q) from, tt)
 
-  exits_say : (l : ℕ) (p : Pid) (ss : List (List ℕ)) → AllByRecursion IsText ss → AllSay (flat_map (λ s. if_told h l s (Message.Leave s) (exit_rows s p)) ss)
-  exits_say l p [] texts = tt
-  exits_say l p (s ∷ ss) texts = all_append (IsSpoken h) (if_told h l s (Message.Leave s) (exit_rows s p)) (flat_map (λ t. if_told h l t (Message.Leave t) (exit_rows t p)) ss)
-      (if_told_say l s (Message.Leave s) (exit_rows s p) (exit_is s p texts.0) (exit_own s p)) (exits_say l p ss texts.1)
+    visible_hold : (m : Message) → IsMessage m → is_of h.opening.name (creation h) m ≡ true → AllHold (if_visible h l m)
+    visible_hold m is from = by (is_up l h.entries && is_visible h l)
+      where
+        by : (b : Bool) → AllHold (cond b (wide m ∷ []) [])
+        by true = (said m is from, tt)
+        by false = tt
 
-  message_say : (l : ℕ) (m : Message) → first_broken (message_checks h l m) ≡ None → AllSay (message_owes h l m)
-  message_say l (Message.Discover s) q = by (heard l s h.entries)
-    where
-      text : IsText s
-      text = scope_text h node s (unbroken (is_running h s) (all_hold (message_checks h l (Message.Discover s)) q).1.0)
+    exits_hold : (p : Pid) (ss : List (List ℕ)) → AllByRecursion IsText ss → AllHold (flat_map (λ s. if_told h l s (Message.Leave s) (exit_rows s p)) ss)
+    exits_hold p [] texts = tt
+    exits_hold p (s ∷ ss) texts = all_append P (if_told h l s (Message.Leave s) (exit_rows s p)) (flat_map (λ t. if_told h l t (Message.Leave t) (exit_rows t p)) ss)
+        (told_hold s (Message.Leave s) (exit_rows s p) (exit_is s p texts.0) (exit_own s p)) (exits_hold p ss texts.1)
 
-      by : (b : Bool) → AllSay (wide (Message.Sync s (local_rows h s)) ∷ cond b [] (wide (Message.Discover s) ∷ []))
-      by true = (means h (Message.Sync s (local_rows h s)) (sync_is s text) (sync_own s), tt)
-      by false = (means h (Message.Sync s (local_rows h s)) (sync_is s text) (sync_own s), (discover_says h s text, tt))
-  message_say l m q = tt
+    message_hold : (m : Message) → first_broken (message_checks h l m) ≡ None → AllHold (message_owes h l m)
+    message_hold (Message.Discover s) q = by (heard l s h.entries)
+      where
+        text : IsText s
+        text = scope_text h node s (unbroken (is_running h s) (all_hold (message_checks h l (Message.Discover s)) q).1.0)
 
-  -- an accepted message met its rules
-  message_met : (l : ℕ) (body : List ℕ) (a : Awaited) → a ≡ AwaitMessage → (m : Message) → message_taken body ≡ Some m → first_broken (frame_checks h l body a) ≡ None → first_broken (message_checks h l m) ≡ None
-  message_met l body a awaited m says q =
-      subst (λ x. first_broken (option_map_or (message_checks h l) x (always Rule.BadFrame)) ≡ None) says (subst (λ x. first_broken (frame_checks h l body x) ≡ None) awaited q)
+        by : (b : Bool) → AllHold (wide (Message.Sync s (local_rows h s)) ∷ cond b [] (wide (Message.Discover s) ∷ []))
+        by true = (said (Message.Sync s (local_rows h s)) (sync_is s text) (sync_own s), tt)
+        by false = (said (Message.Sync s (local_rows h s)) (sync_is s text) (sync_own s), (asks s text, tt))
+    message_hold m q = tt
 
-  -- each frame that an entry owes
-  pub owed_say : (number seat l : ℕ) (ev : Event) (v : Verdict) → v ≡ verdict h seat ev → IsWritten ev → AllSay (owed h l number ev v)
-  owed_say number seat l (Event.StartScope s) (Accepted r) q text = if_visible_say l (Message.Discover s) text refl
-  owed_say number seat l (Event.StopScope s) (Accepted r) q text = if_visible_say l (Message.Down s) text refl
-  owed_say number seat l (Event.Exit p) (Accepted r) q text = exits_say l p (running_scopes h) (scopes_text h node)
-  owed_say number seat l (Event.Join s g ps) (Accepted r) q text =
-      let held = all_hold (join_checks h s g ps) (accepted h seat (Event.Join s g ps) r q).0 in
-      let room = leb-true (length (local_rows h s) + length ps) 4096 (unbroken (nat_le (length (local_rows h s) + length ps) 4096) held.1.1.1.0) in
-      if_told_say l s (Message.Join s) (join_rows g ps) (join_is s g ps text.0 text.1 (unbroken (list_all (lives h) ps) held.1.1.0) (omega (arith, room))) (join_own g ps (unbroken (list_all (lives h) ps) held.1.1.0))
-  owed_say number seat l (Event.Leave s g ps) (Accepted r) q text = if_told_say l s (Message.Leave s) (leave_rows s g ps) (leave_is s g ps text.0) (leave_own s g ps)
-  owed_say number seat l (Event.Dial n c) (Accepted r) q text = dial_all h node l (IsSpoken h) (of_hellos h l (IsSpoken h) (hello h)) (discover_says h) (hello h _ refl) (number == l)
-  owed_say number seat l (Event.Frame k body) (Accepted r) q text = by (k == l) refl
-    where
-      by : (b : Bool) → (k == l) ≡ b → AllSay (cond b (frame_owes h l body (awaits l h.entries)) [])
-      by true is =
-          let found = open_first (is_open k h.entries) (frame_checks h k body (awaits k h.entries)) (accepted h seat (Event.Frame k body) r q).0 in
-          frame_all h node l (IsSpoken h) (of_hellos h l (IsSpoken h) (hello h)) (discover_says h) body (awaits l h.entries) (λ a m says. message_say l m (message_met l body (awaits l h.entries) a m says (subst (λ j. first_broken (frame_checks h j body (awaits j h.entries)) ≡ None) (eqb-true k l is) found.1)))
-      by false is = tt
-  owed_say number seat l (Event.Frame k body) (Refused r) q text = by (k == l)
-    where
-      by : (b : Bool) → AllSay (cond b (refusal_owes r) [])
-      by true = refusal_all h node l (IsSpoken h) (of_hellos h l (IsSpoken h) (hello h)) (discover_says h) r
-      by false = tt
-  owed_say number seat l ev v q text = tt
+    -- an accepted message met its rules
+    message_met : (body : List ℕ) (a : Awaited) → a ≡ AwaitMessage → (m : Message) → message_taken body ≡ Some m → first_broken (frame_checks h l body a) ≡ None → first_broken (message_checks h l m) ≡ None
+    message_met body a awaited m says q =
+        subst (λ x. first_broken (option_map_or (message_checks h l) x (always Rule.BadFrame)) ≡ None) says (subst (λ x. first_broken (frame_checks h l body x) ≡ None) awaited q)
+
+    -- each frame that an entry owes
+    pub owed_hold : (number seat : ℕ) (ev : Event) (v : Verdict) → ((number == l) ≡ true → P (own_name_frame h)) → v ≡ verdict h seat ev → IsWritten ev → AllHold (owed h l number ev v)
+    owed_hold number seat (Event.StartScope s) (Accepted r) name q text = visible_hold (Message.Discover s) text refl
+    owed_hold number seat (Event.StopScope s) (Accepted r) name q text = visible_hold (Message.Down s) text refl
+    owed_hold number seat (Event.Exit p) (Accepted r) name q text = exits_hold p (running_scopes h) (scopes_text h node)
+    owed_hold number seat (Event.Join s g ps) (Accepted r) name q text =
+        let held = all_hold (join_checks h s g ps) (accepted h seat (Event.Join s g ps) r q).0 in
+        let room = leb-true (length (local_rows h s) + length ps) 4096 (unbroken (nat_le (length (local_rows h s) + length ps) 4096) held.1.1.1.0) in
+        told_hold s (Message.Join s) (join_rows g ps) (join_is s g ps text.0 text.1 (unbroken (list_all (lives h) ps) held.1.1.0) (omega (arith, room))) (join_own g ps (unbroken (list_all (lives h) ps) held.1.1.0))
+    owed_hold number seat (Event.Leave s g ps) (Accepted r) name q text = told_hold s (Message.Leave s) (leave_rows s g ps) (leave_is s g ps text.0) (leave_own s g ps)
+    owed_hold number seat (Event.Dial n c) (Accepted r) name q text = by (number == l) refl
+      where
+        by : (b : Bool) → (number == l) ≡ b → AllHold (cond b (own_name_frame h ∷ []) [])
+        by true is = (name is, tt)
+        by false is = tt
+    owed_hold number seat (Event.Frame k body) (Accepted r) name q text = by (k == l) refl
+      where
+        by : (b : Bool) → (k == l) ≡ b → AllHold (cond b (frame_owes h l body (awaits l h.entries)) [])
+        by true is =
+            let found = open_first (is_open k h.entries) (frame_checks h k body (awaits k h.entries)) (accepted h seat (Event.Frame k body) r q).0 in
+            frame_all h node l P hellos asks body (awaits l h.entries) (λ a m says. message_hold m (message_met body (awaits l h.entries) a m says (subst (λ j. first_broken (frame_checks h j body (awaits j h.entries)) ≡ None) (eqb-true k l is) found.1)))
+        by false is = tt
+    owed_hold number seat (Event.Frame k body) (Refused r) name q text = by (k == l)
+      where
+        by : (b : Bool) → AllHold (cond b (refusal_owes r) [])
+        by true = refusal_all h node l P hellos asks r
+        by false = tt
+    owed_hold number seat ev v name q text = tt
+
+  pub owed_say : (number seat l : ℕ) (ev : Event) (v : Verdict) → v ≡ verdict h seat ev → IsWritten ev → AllByRecursion (IsSpoken h) (owed h l number ev v)
+  owed_say number seat l ev v = owed_hold l (IsSpoken h) (of_hellos h l (IsSpoken h) (hello h)) (means h) number seat ev v (λ is. hello h _ refl)
 
 -- ---- along a history
 

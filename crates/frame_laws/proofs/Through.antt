@@ -1,8 +1,8 @@
 -- Where each entry tells what it does, the frames pass through the sender's rows.
-use Rattle.frame_laws.proofs.Words.{ap, arith, refl, sym, ◌∙◌, lie, is_some, slice_get, List, None, Option, Some, [], length, map, suc, take, true, zero, ℕ, ◌++◌, ◌+◌, ◌∷◌, ◌≡◌}
+use Rattle.frame_laws.proofs.Words.{take-append-le, append-nil, take-append-add, ap, arith, refl, sym, ◌∙◌, lie, is_some, slice_get, List, None, Option, Some, [], length, map, suc, take, true, zero, ℕ, ◌++◌, ◌+◌, ◌∷◌, ◌≡◌}
 use Rattle.frame_laws.proofs.Words.{same_decides, option_map_or, false, rows_of, message_taken, says_rows, ◌≤◌, Message, Row, Pid, OutFrame, Opening, Entry, past, own, told, owed, IsLegalIn, Owing, bodies_of, out_in, owes, owing, moment, has_rows, messages_said, seen_by, view_of, PassesThrough}
 use Rattle.frame_laws.proofs.Calm.{seen_frames, seen_apart, said_apart, frames_seen, AllCalm, all_stay, calm_rows, no_rows_at}
-use Rattle.frame_laws.proofs.Places.{append_nil, Parted, InFirst, InSecond, part, take_first, take_both, owed_here, earlier_moment, this_moment}
+use Rattle.frame_laws.proofs.Places.{Parted, InFirst, InSecond, part, owed_here, earlier_moment, this_moment}
 use Rattle.frame_laws.proofs.Sources.{is_entry}
 use Rattle.frame_laws.proofs.Telling.{Silent, Synced, Moved, Ended, EntryTells, AllTell}
 
@@ -42,7 +42,7 @@ module _ (s : List ℕ) (before : List OutFrame) (f : OutFrame) (after : List Ou
   at_rows fs is m x q has = ap (λ y. seen_frames s g p (take (suc m) y) v) is ∙ by (part before (f ∷ after) m x (ap (λ y. slice_get y m) (sym is) ∙ q))
     where
       behind : (k : ℕ) → m ≡ length before + k → slice_get (f ∷ after) k ≡ Some x → seen_frames s g p (take (suc m) (before ++ f ∷ after)) v ≡ Some n
-      behind zero at r = ap (λ j. seen_frames s g p (take j (before ++ f ∷ after)) v) (let j : suc m ≡ length before + 1 = omega (arith, at) in j) ∙ ap (λ y. seen_frames s g p y v) (take_both before (f ∷ after) 1) ∙ up_to
+      behind zero at r = ap (λ j. seen_frames s g p (take j (before ++ f ∷ after)) v) (let j : suc m ≡ length before + 1 = omega (arith, at) in j) ∙ ap (λ y. seen_frames s g p y v) (take-append-add before (f ∷ after) 1) ∙ up_to
       behind (suc k) at r = lie (sym has ∙ no_rows_at s after (calm_rows s after late) k x r)
 
       by : Parted before (f ∷ after) m x → seen_frames s g p (take (suc m) (before ++ f ∷ after)) v ≡ Some n
@@ -64,7 +64,7 @@ module _ (s : List ℕ) (x : OutFrame) (rows : List Row) (leaves : message_taken
       behind zero at r =
           let same_frame : f ≡ x = grind (arith, r) in (
             was g p,
-            (λ i. seen_frames s g p (take (at i) (is i)) v) ∙ ap (λ y. seen_frames s g p y v) (take_both front (f ∷ back) 0 ∙ append_nil front) ∙ all_stay s front early g p v ∙ seen,
+            (λ i. seen_frames s g p (take (at i) (is i)) v) ∙ ap (λ y. seen_frames s g p y v) (take-append-add front (f ∷ back) 0 ∙ append-nil front) ∙ all_stay s front early g p v ∙ seen,
             there rows (ap (λ y. message_taken y.body) same_frame ∙ leaves) g p,
           )
       behind (suc k) at r = lie (sym leave_rows_said ∙ no_rows_at s back (calm_rows s back late) k x r)
@@ -122,13 +122,13 @@ module _ (o : Opening) (l : ℕ) (s : List ℕ) where
           by : Parted (out_in o l es) (owes (past o es) l e) n x → (k : ℕ) × (view_of s g p (bodies_of (take n (out_in o l (e ∷ es)))) ≡ Some k) × (rows_of g p rows ≤ k)
           by (InFirst r less) =
               let was = before.there n x r rows leaves g p in
-              (was.0, ap (λ xs. view_of s g p (bodies_of xs)) (take_first (out_in o l es) (owes (past o es) l e) n (omega (arith, less))) ∙ was.1, was.2)
+              (was.0, ap (λ xs. view_of s g p (bodies_of xs)) (take-append-le n (out_in o l es) (owes (past o es) l e) (omega (arith, less))) ∙ was.1, was.2)
           by (InSecond m at r) =
               let here = owed_here e.number fs m x r in
               let it = there_seen tells m x.frame here.frame rows leaves g p in (
                 it.0,
                 ap (λ j. view_of s g p (bodies_of (take j (out_in o l (e ∷ es))))) at
-                    ∙ ap (λ xs. view_of s g p (bodies_of xs)) (take_both (out_in o l es) (owes (past o es) l e) m ∙ ap (λ ys. out_in o l es ++ ys) (take_owing e.number m fs))
+                    ∙ ap (λ xs. view_of s g p (bodies_of xs)) (take-append-add (out_in o l es) (owes (past o es) l e) m ∙ ap (λ ys. out_in o l es ++ ys) (take_owing e.number m fs))
                     ∙ view_after s g p (out_in o l es) e.number (take m fs) ∙ it.1,
                 it.2,
               )
@@ -139,14 +139,14 @@ module _ (o : Opening) (l : ℕ) (s : List ℕ) where
         where
           by : Parted (out_in o l es) (owes (past o es) l e) n x → view_of s g p (bodies_of (take (n + 1) (out_in o l (e ∷ es)))) ≡ Some (own (moment x.source (past o (e ∷ es))) s g p)
           by (InFirst r less) =
-              ap (λ xs. view_of s g p (bodies_of xs)) (take_first (out_in o l es) (owes (past o es) l e) (n + 1) (omega (arith, less)))
+              ap (λ xs. view_of s g p (bodies_of xs)) (take-append-le (n + 1) (out_in o l es) (owes (past o es) l e) (omega (arith, less)))
               ∙ before.moments n x r has g p
               ∙ ap (λ h. Some (own h s g p)) (sym (earlier_moment o e es x.source (is_entry o l es legal n x r).within))
           by (InSecond m at r) =
               let here = owed_here e.number fs m x r in
               let places : n + 1 ≡ length (out_in o l es) + suc m = omega (arith, at) in
               ap (λ j. view_of s g p (bodies_of (take j (out_in o l (e ∷ es))))) places
-              ∙ ap (λ xs. view_of s g p (bodies_of xs)) (take_both (out_in o l es) (owes (past o es) l e) (suc m) ∙ ap (λ ys. out_in o l es ++ ys) (take_owing e.number (suc m) fs))
+              ∙ ap (λ xs. view_of s g p (bodies_of xs)) (take-append-add (out_in o l es) (owes (past o es) l e) (suc m) ∙ ap (λ ys. out_in o l es ++ ys) (take_owing e.number (suc m) fs))
               ∙ view_after s g p (out_in o l es) e.number (take (suc m) fs)
               ∙ then_seen tells m x.frame here.frame has g p
               ∙ ap (λ h. Some (own h s g p)) (sym (this_moment o e es x.source (here.source ∙ number)))

@@ -1,7 +1,8 @@
 -- The words that the proofs of this crate speak in: those of std, of the crates below and of its own specs, passed on from one place.
 pub use Rattle.std.proofs.Common.{ap, arith, refl, subst, sym, ◌∙◌}
 pub use Rattle.std.proofs.lemmas.Bool.{and_parts, eq-eqb, eqb-false, eqb-true, leb-false, leb-true, le-leb, ltb-true, not-false, or_parts}
-pub use Rattle.std.proofs.lemmas.List.{length-append}
+pub use Rattle.std.proofs.lemmas.List.{append-nil, append_assoc, length-append, length-map, map-append, take-append-le}
+pub use Rattle.std.proofs.Math.Seq.{take-append-add}
 pub use Rattle.std.specs.List.{AllByRecursion, filter, flat_map, list_all, list_any}
 pub use Rattle.std.specs.Option.{option_and_then, option_map, option_map_or, option_to_list, unwrap_or}
 pub use Rattle.std.specs.Prelude.{Bool, IsTrue, List, None, Option, Some, [], cond, drop, false, get_or, is_some, length, map, min, nat_le}

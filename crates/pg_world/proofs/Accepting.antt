@@ -1,26 +1,12 @@
 -- An accepted wire keeps the invariant: the link that is opened is its other end, or the opening is refused.
-use Rattle.std.proofs.Common.{◌≡◌, ◌++◌, ℕ, true, List, ◌∷◌, Option, Some, None, Ok, Err, ap, sym, refl, subst, ◌∙◌}
-use Rattle.std.specs.Prelude.{slice_get}
-use Rattle.std.specs.declared.result.Result.{Result}
+use Rattle.pg_world.proofs.Words.{◌≡◌, ◌++◌, ℕ, true, List, ◌∷◌, Option, Some, None, Ok, Err, ap, sym, refl, subst, ◌∙◌, slice_get, Result, Entry}
+use Rattle.pg_world.proofs.Words.{Verdict, Accepted, Refused, History, is_accepted, ByPeer, start_of, IsLegal, IsNext, with_entry, no_value}
+use Rattle.pg_world.proofs.Words.{opening_of, IsWritten, Side, WorldFault, Wire, Nodes, world, with_link, link_opened, asks_opened, opener}
+use Rattle.pg_world.proofs.Words.{wire_opener, turn_of, changed, IsWorld, IsWired, IsEnd, HasEnd, Carries, came_of, handed_of, gets_of, bodies}
 use Rattle.policy_audit.specs.declared.event.Event.TheVariants as event
-use Rattle.policy_audit.specs.declared.entry.Entry.{Entry}
-use Rattle.policy_audit.specs.declared.entry.Verdict.{Verdict}
-use Rattle.policy_audit.specs.declared.entry.Verdict.TheVariants.{Accepted, Refused}
-use Rattle.policy_audit.specs.History.{History, is_accepted}
-use Rattle.policy_audit.specs.Sides.{ByPeer, start_of}
-use Rattle.policy_audit.specs.Policy.{IsLegal, IsNext, with_entry}
-use Rattle.policy_audit.proofs.Accepted.{no_value}
-use Rattle.frame_laws.specs.Hellos.{opening_of}
-use Rattle.frame_laws.specs.Written.{IsWritten}
-use Rattle.pg_world.specs.declared.side.Side.{Side}
 use Rattle.pg_world.specs.declared.side.Side.TheVariants as side
 use Rattle.pg_world.specs.declared.world_step.WorldStep.TheVariants as step
-use Rattle.pg_world.specs.declared.fault.WorldFault.{WorldFault}
 use Rattle.pg_world.specs.declared.fault.WorldFault.TheVariants as fault
-use Rattle.pg_world.specs.World.{Wire, Nodes, world, with_link}
-use Rattle.pg_world.specs.Queues.{link_opened}
-use Rattle.pg_world.specs.Steps.{asks_opened, opener, wire_opener, turn_of, changed}
-use Rattle.pg_world.specs.Sound.{IsWorld, IsWired, IsEnd, HasEnd, Carries, came_of, handed_of, gets_of, bodies}
 use Rattle.pg_world.proofs.Calling.{IsApart, apart_kept, refused_none}
 use Rattle.pg_world.proofs.Entering.{stays_wired}
 use Rattle.pg_world.proofs.Next.{says, Keeps}

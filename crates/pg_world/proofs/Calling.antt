@@ -1,23 +1,11 @@
 -- A call and a restart leave the wires, and keep the invariant.
-use Rattle.std.proofs.Common.{◌≡◌, ◌&&◌, ℕ, Bool, true, false, cond, List, [], Option, Some, None, ap, sym, refl, subst, ◌∙◌}
-use Rattle.std.specs.Prelude.{slice_get, slice_set, ◌==◌, is_some}
-use Rattle.policy_audit.specs.History.{History, is_accepted}
-use Rattle.policy_audit.specs.declared.event.Event.{Event}
+use Rattle.pg_world.proofs.Words.{◌≡◌, ◌&&◌, ℕ, Bool, true, false, cond, List, [], Option, Some, None, ap, sym, refl, subst, ◌∙◌, slice_get}
+use Rattle.pg_world.proofs.Words.{slice_set, ◌==◌, is_some, History, is_accepted, Event, Entry, Verdict, start_of, is_opened_by, IsNext, with_entry}
+use Rattle.pg_world.proofs.Words.{lie, handed, came, IsWritten, WorldStep, Nodes, world, Turn, Refuses, Asks, is_wrong, asks, turn_of, IsWorld}
+use Rattle.pg_world.proofs.Words.{IsLate}
 use Rattle.policy_audit.specs.declared.event.Event.TheVariants as event
-use Rattle.policy_audit.specs.declared.entry.Entry.{Entry}
-use Rattle.policy_audit.specs.declared.entry.Verdict.{Verdict}
-use Rattle.policy_audit.specs.Sides.{start_of}
-use Rattle.policy_audit.specs.Links.{is_opened_by}
-use Rattle.policy_audit.specs.Policy.{IsNext, with_entry}
-use Rattle.policy_audit.proofs.Accepted.{lie}
-use Rattle.frame_laws.specs.Sent.{handed, came}
-use Rattle.frame_laws.specs.Written.{IsWritten}
-use Rattle.pg_world.specs.declared.world_step.WorldStep.{WorldStep}
 use Rattle.pg_world.specs.declared.world_step.WorldStep.TheVariants as step
 use Rattle.pg_world.specs.declared.fault.WorldFault.TheVariants as fault
-use Rattle.pg_world.specs.World.{Nodes, world}
-use Rattle.pg_world.specs.Steps.{Turn, Refuses, Asks, is_wrong, asks, turn_of}
-use Rattle.pg_world.specs.Sound.{IsWorld, IsLate}
 use Rattle.pg_world.proofs.Next.{KeptBy, Keeps}
 use Rattle.pg_world.proofs.Steady.{quiet}
 

@@ -1,27 +1,12 @@
 -- A cut keeps the invariant: what is under way to a link that ends, or isn't kept, is dropped.
-use Rattle.std.proofs.Common.{◌≡◌, ◌&&◌, ◌||◌, not, ℕ, Bool, true, false, cond, [], ◌∷◌, ◌++◌, Some, None, ap, sym, refl, subst, ◌∙◌}
-use Rattle.std.specs.Prelude.{slice_get, is_some}
-use Rattle.std.proofs.lemmas.Bool.{eq-eqb}
-use Rattle.dist_types.specs.Difference.{is_empty}
-use Rattle.policy_audit.specs.History.{History, is_accepted}
+use Rattle.pg_world.proofs.Words.{◌≡◌, ◌&&◌, ◌||◌, not, ℕ, Bool, true, false, cond, [], ◌∷◌, ◌++◌, Some, None, ap, sym, refl, subst, ◌∙◌, slice_get}
+use Rattle.pg_world.proofs.Words.{is_some, eq-eqb, is_empty, History, is_accepted, Rule, Entry, Verdict, Accepted, Refused, start_of, is_open}
+use Rattle.pg_world.proofs.Words.{is_opened_by, ends, waiting, is_kept, IsLegal, IsNext, verdict, is_full, judged, with_entry, lie, IsWritten, Side}
+use Rattle.pg_world.proofs.Words.{Wire, Nodes, node_at, link_at, under_way, other, is_gone, cut_by, Asks, turn_of, changed_queue, wires_after}
+use Rattle.pg_world.proofs.Words.{IsWorld, bodies, gets_of}
 use Rattle.policy_audit.specs.declared.event.Event.TheVariants as event
-use Rattle.policy_audit.specs.declared.rule.Rule.{Rule}
 use Rattle.policy_audit.specs.declared.rule.Rule.TheVariants as rule
-use Rattle.policy_audit.specs.declared.entry.Entry.{Entry}
-use Rattle.policy_audit.specs.declared.entry.Verdict.{Verdict}
-use Rattle.policy_audit.specs.declared.entry.Verdict.TheVariants.{Accepted, Refused}
-use Rattle.policy_audit.specs.Sides.{start_of}
-use Rattle.policy_audit.specs.Links.{is_open, is_opened_by, ends}
-use Rattle.policy_audit.specs.Owed.{waiting, is_kept}
-use Rattle.policy_audit.specs.Policy.{IsLegal, IsNext, verdict, is_full, judged, with_entry}
-use Rattle.policy_audit.proofs.Accepted.{lie}
-use Rattle.frame_laws.specs.Written.{IsWritten}
-use Rattle.pg_world.specs.declared.side.Side.{Side}
 use Rattle.pg_world.specs.declared.world_step.WorldStep.TheVariants as step
-use Rattle.pg_world.specs.World.{Wire, Nodes, node_at, link_at, under_way, other}
-use Rattle.pg_world.specs.Queues.{is_gone, cut_by}
-use Rattle.pg_world.specs.Steps.{Asks, turn_of, changed_queue, wires_after}
-use Rattle.pg_world.specs.Sound.{IsWorld, bodies, gets_of}
 use Rattle.pg_world.proofs.Calling.{IsApart, starts_none}
 use Rattle.pg_world.proofs.Entering.{new_came, new_handed, none_came, none_handed}
 use Rattle.pg_world.proofs.Next.{says, Keeps, at_wire}
@@ -69,27 +54,27 @@ module _ (w : Nodes) (sound : IsWorld w) (n : ℕ) (at : Side) (seat : ℕ) wher
     abbrev now : Wire
     now = changed_queue at (cut_by (says e.verdict)) x
 
-    none_in : (k : ℕ) (to : Side) (y : Wire) → new_came w.nodes i h e here next.number legal k (link_at to y) ≡ []
+    none_in : (k : ℕ) (to : Side) (y : Wire) → new_came e i k (link_at to y) ≡ []
     none_in k to y = none_came w.nodes i h e here next.number legal apart.none_in k (link_at to y)
 
-    none_out : (k : ℕ) (to : Side) (y : Wire) → new_handed w.nodes i h e here next.number legal k (link_at to y) ≡ []
+    none_out : (k : ℕ) (to : Side) (y : Wire) → new_handed e i k (link_at to y) ≡ []
     none_out k to y = none_handed w.nodes i h e here next.number legal (λ m. apart.none_out m e.verdict) k (link_at to y)
 
     -- what is under way to a link that is open afterwards is still so
-    same_queue : (to : Side) → IsSide at to → gets_of (slice_get (after w sound i h e here next written (apart.late h.entries)) (node_at to x)) (link_at to x) ≡ true → under_way to now ≡ under_way to x
+    same_queue : (to : Side) → IsSide at to → gets_of (slice_get (after w i h e) (node_at to x)) (link_at to x) ≡ true → under_way to now ≡ under_way to x
     same_queue to (There q) gets = subst (λ s. under_way s now ≡ under_way s x) (sym q) (queue_there (cut_by (says e.verdict) (under_way at x)) x at)
     same_queue to (Here q) gets = subst (λ s. under_way s now ≡ under_way s x) (sym q)
         (queue_here (cut_by (says e.verdict) (under_way at x)) x at ∙ ap (λ b. cond b [] (under_way at x)) (not_gone h e l is next (opens l) open_now))
       where
         open_now : is_open l (e ∷ h.entries) ≡ true
         open_now =
-            ap (λ o. gets_of o (Some l)) (sym (get_same w.nodes i (with_entry h e) h here)) ∙ ap (gets_of (slice_get (after w sound i h e here next written (apart.late h.entries)) i)) (sym link)
-            ∙ subst (λ s. gets_of (slice_get (after w sound i h e here next written (apart.late h.entries)) (node_at s x)) (link_at s x) ≡ true) q gets
+            ap (λ o. gets_of o (Some l)) (sym (get_same w.nodes i (with_entry h e) h here)) ∙ ap (gets_of (slice_get (after w i h e) i)) (sym link)
+            ∙ subst (λ s. gets_of (slice_get (after w i h e) (node_at s x)) (link_at s x) ≡ true) q gets
 
-    cut_kept : IsWorld (record { nodes = after w sound i h e here next written (apart.late h.entries); wires = wires_after (step.Cut n at seat) (says e.verdict) w.wires })
+    cut_kept : IsWorld (record { nodes = after w i h e; wires = wires_after (step.Cut n at seat) (says e.verdict) w.wires })
     cut_kept = queued w sound i h e here next written (apart.late h.entries) n at (cut_by (says e.verdict)) x stands opens
-        (λ to gets. ap (λ q. new_came w.nodes i h e here next.number legal (node_at to x) (link_at to x) ++ bodies q) (same_queue to (side_of at to) gets)
-        ∙ still_fits (new_came w.nodes i h e here next.number legal (node_at to x) (link_at to x)) (new_handed w.nodes i h e here next.number legal (node_at (other to) x) (link_at (other to) x)) (bodies (under_way to x)) (none_in (node_at to x) to x) (none_out (node_at (other to) x) (other to) x))
+        (λ to gets. ap (λ q. new_came e i (node_at to x) (link_at to x) ++ bodies q) (same_queue to (side_of at to) gets)
+        ∙ still_fits (new_came e i (node_at to x) (link_at to x)) (new_handed e i (node_at (other to) x) (link_at (other to) x)) (bodies (under_way to x)) (none_in (node_at to x) to x) (none_out (node_at (other to) x) (other to) x))
         (λ m y other_wire its to. (none_in (node_at to y) to y, none_out (node_at to y) to y))
 
   pub cuts : Keeps w (step.Cut n at seat) (turn_of w (step.Cut n at seat))

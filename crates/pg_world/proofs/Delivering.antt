@@ -1,22 +1,10 @@
 -- A world stays one where the oldest frame of a queue comes.
-use Rattle.std.proofs.Common.{◌≡◌, ◌++◌, ℕ, true, cond, List, [], ◌∷◌, Option, Some, ap, sym, refl, subst, ◌∙◌, drop}
-use Rattle.std.specs.Prelude.{slice_get, is_some}
-use Rattle.std.proofs.lemmas.Bool.{eq-eqb}
-use Rattle.policy_audit.specs.OutFrame.{OutFrame}
-use Rattle.policy_audit.specs.History.{History}
+use Rattle.pg_world.proofs.Words.{◌≡◌, ◌++◌, ℕ, true, cond, List, [], ◌∷◌, Option, Some, ap, sym, refl, subst, ◌∙◌, drop, slice_get, is_some, eq-eqb}
+use Rattle.pg_world.proofs.Words.{OutFrame, History, Entry, start_of, IsLegal, IsNext, handed, came, IsWritten, append-nil, Side, Wire, Nodes}
+use Rattle.pg_world.proofs.Words.{node_at, link_at, under_way, other, leaves, left_by, turn_of, queue_at, asks_frame, changed_queue, wires_after}
+use Rattle.pg_world.proofs.Words.{IsWorld, IsLate, bodies}
 use Rattle.policy_audit.specs.declared.event.Event.TheVariants as event
-use Rattle.policy_audit.specs.declared.entry.Entry.{Entry}
-use Rattle.policy_audit.specs.Sides.{start_of}
-use Rattle.policy_audit.specs.Policy.{IsLegal, IsNext}
-use Rattle.frame_laws.specs.Sent.{handed, came}
-use Rattle.frame_laws.specs.Written.{IsWritten}
-use Rattle.frame_laws.proofs.Places.{append_nil}
-use Rattle.pg_world.specs.declared.side.Side.{Side}
 use Rattle.pg_world.specs.declared.world_step.WorldStep.TheVariants as step
-use Rattle.pg_world.specs.World.{Wire, Nodes, node_at, link_at, under_way, other}
-use Rattle.pg_world.specs.Queues.{leaves, left_by}
-use Rattle.pg_world.specs.Steps.{turn_of, queue_at, asks_frame, changed_queue, wires_after}
-use Rattle.pg_world.specs.Sound.{IsWorld, IsLate, bodies}
 use Rattle.pg_world.proofs.Calling.{starts_none}
 use Rattle.pg_world.proofs.Entering.{ends_low, new_came, new_handed, none_handed, came_once}
 use Rattle.pg_world.proofs.Handing.{apart_sides, this_wire, this_side}
@@ -42,10 +30,10 @@ module _ (w : Nodes) (sound : IsWorld w) (n : ℕ) (at : Side) (seat : ℕ) wher
     late = subst (IsLate h.entries) (sym is) (ends_low w.nodes i h e here next.number legal x (sound.wired n x stands) at l link refl)
 
     abbrev came_at : ℕ → Option ℕ → List (List ℕ)
-    came_at k o = new_came w.nodes i h e here next.number legal k o
+    came_at k o = new_came e i k o
 
     abbrev handed_at : ℕ → Option ℕ → List (List ℕ)
-    handed_at k o = new_handed w.nodes i h e here next.number legal k o
+    handed_at k o = new_handed e i k o
 
     abbrev now : Wire
     now = changed_queue at (left_by (says e.verdict)) x
@@ -73,7 +61,7 @@ module _ (w : Nodes) (sound : IsWorld w) (n : ℕ) (at : Side) (seat : ℕ) wher
         ap (λ v. v ++ bodies (under_way at now)) came_here
         ∙ ap (λ q. f.body ∷ bodies q) rest
         ∙ ap bodies (sym queue)
-        ∙ sym (append_nil (bodies (under_way at x)))
+        ∙ sym (append-nil (bodies (under_way at x)))
         ∙ ap (λ v. bodies (under_way at x) ++ v) (sym (none_out (node_at (other at) x) (link_at (other at) x)))
 
     fits : (to : Side) → IsSide at to → came_at (node_at to x) (link_at to x) ++ bodies (under_way to now) ≡ bodies (under_way to x) ++ handed_at (node_at (other to) x) (link_at (other to) x)
@@ -84,7 +72,7 @@ module _ (w : Nodes) (sound : IsWorld w) (n : ℕ) (at : Side) (seat : ℕ) wher
         ∙ still_fits (came_at (node_at to x) (link_at to x)) (handed_at (node_at (other to) x) (link_at (other to) x)) (bodies (under_way to x))
         (not_elsewhere (node_at to x) (link_at to x) (λ node its. apart_sides at (sym q ∙ this_side w sound n at x l stands link to node its))) (none_out (node_at (other to) x) (link_at (other to) x))
 
-    frame_kept : IsWorld (record { nodes = after w sound i h e here next written late; wires = wires_after (step.Deliver n at seat) (says e.verdict) w.wires })
+    frame_kept : IsWorld (record { nodes = after w i h e; wires = wires_after (step.Deliver n at seat) (says e.verdict) w.wires })
     frame_kept = queued w sound i h e here next written late n at (left_by (says e.verdict)) x stands (starts_none e (ap (λ v. is_some (start_of v)) is))
         (λ to gets. fits to (side_of at to))
         (λ m y other_wire its to. (not_elsewhere (node_at to y) (link_at to y) (λ node same. other_wire (this_wire w sound n at x l stands link m y its to node same)), none_out (node_at to y) (link_at to y)))

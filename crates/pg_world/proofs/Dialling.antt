@@ -1,24 +1,12 @@
 -- A dial keeps the invariant: it makes a wire of its link, or is refused.
-use Rattle.std.proofs.Common.{◌≡◌, ℕ, true, List, [], ◌∷◌, ◌++◌, Option, Some, None, Ok, ap, sym, refl, subst, ◌∙◌, length}
-use Rattle.std.specs.Prelude.{slice_get}
+use Rattle.pg_world.proofs.Words.{◌≡◌, ℕ, true, List, [], ◌∷◌, ◌++◌, Option, Some, None, Ok, ap, sym, refl, subst, ◌∙◌, length, slice_get, Entry}
+use Rattle.pg_world.proofs.Words.{Verdict, Accepted, Refused, History, is_accepted, ByDial, start_of, IsLegal, IsNext, with_entry, no_value}
+use Rattle.pg_world.proofs.Words.{IsWritten, append-nil, Side, Wire, Nodes, world, dialled, link_opened, Turn, Refuses, asks, turn_of, new_wire}
+use Rattle.pg_world.proofs.Words.{IsWorld, IsWired, IsEnd, Carries, came_of}
 use Rattle.policy_audit.specs.declared.event.Event.TheVariants as event
-use Rattle.policy_audit.specs.declared.entry.Entry.{Entry}
-use Rattle.policy_audit.specs.declared.entry.Verdict.{Verdict}
-use Rattle.policy_audit.specs.declared.entry.Verdict.TheVariants.{Accepted, Refused}
-use Rattle.policy_audit.specs.History.{History, is_accepted}
-use Rattle.policy_audit.specs.Sides.{ByDial, start_of}
-use Rattle.policy_audit.specs.Policy.{IsLegal, IsNext, with_entry}
-use Rattle.policy_audit.proofs.Accepted.{no_value}
-use Rattle.frame_laws.specs.Written.{IsWritten}
-use Rattle.frame_laws.proofs.Places.{append_nil}
-use Rattle.pg_world.specs.declared.side.Side.{Side}
 use Rattle.pg_world.specs.declared.side.Side.TheVariants as side
 use Rattle.pg_world.specs.declared.world_step.WorldStep.TheVariants as step
 use Rattle.pg_world.specs.declared.fault.WorldFault.TheVariants as fault
-use Rattle.pg_world.specs.World.{Wire, Nodes, world, dialled}
-use Rattle.pg_world.specs.Queues.{link_opened}
-use Rattle.pg_world.specs.Steps.{Turn, Refuses, asks, turn_of, new_wire}
-use Rattle.pg_world.specs.Sound.{IsWorld, IsWired, IsEnd, Carries, came_of}
 use Rattle.pg_world.proofs.Calling.{IsApart, apart_kept, asks_kept, refused_none}
 use Rattle.pg_world.proofs.Entering.{onward, stays_wired}
 use Rattle.pg_world.proofs.Next.{says, Keeps}
@@ -58,9 +46,9 @@ module _ (w : Nodes) (sound : IsWorld w) (i j seat c : ℕ) (written : IsWritten
 
     made_carries : (to : Side) → Carries now made to
     made_carries side.Dialler gets =
-        append_nil (came_of (slice_get now i) (Some x.number)) ∙ came_none w sound i h x here next its_written apart ∙ sym (no_link_handed (slice_get now j))
+        append-nil (came_of (slice_get now i) (Some x.number)) ∙ came_none w sound i h x here next its_written apart ∙ sym (no_link_handed (slice_get now j))
     made_carries side.Acceptor gets =
-        append_nil (came_of (slice_get now j) None) ∙ no_link_came (slice_get now j) ∙ sym (handed_none w sound i h x here next its_written apart)
+        append-nil (came_of (slice_get now j) None) ∙ no_link_came (slice_get now j) ∙ sym (handed_none w sound i h x here next its_written apart)
 
     abbrev wires : List Wire
     wires = w.wires ++ made ∷ []
@@ -100,7 +88,7 @@ module _ (w : Nodes) (sound : IsWorld w) (i j seat c : ℕ) (written : IsWritten
 
     dial_kept : (v : Verdict) → x.verdict ≡ v → IsWorld (world now (w.wires ++ new_wire i j (link_opened (says v))))
     dial_kept (Accepted r) q = subst (λ a. IsWorld (world now (w.wires ++ new_wire i j (link_opened (Ok a))))) (sym (number_answered h x (event.Dial k.opening.name c) r is next q refl)) (dial_opens (ap is_accepted q))
-    dial_kept (Refused r) q = subst (λ ys. IsWorld (world now ys)) (sym (append_nil w.wires)) (apart_kept w sound i h x here next its_written apart (refused_none x (ap is_accepted q)))
+    dial_kept (Refused r) q = subst (λ ys. IsWorld (world now ys)) (sym (append-nil w.wires)) (apart_kept w sound i h x here next its_written apart (refused_none x (ap is_accepted q)))
 
   pub dials : Keeps w (step.Dial i j seat c) (turn_of w (step.Dial i j seat c))
   dials = by (slice_get w.nodes j) refl

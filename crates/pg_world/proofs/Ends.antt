@@ -1,51 +1,26 @@
 -- What is known at both ends of a wire: what came was owed at the other end, and who is there.
-use Rattle.std.proofs.Common.{◌≡◌, ◌<◌, ◌==◌, ◌++◌, arith, ℕ, Bool, true, false, cond, List, [], ◌∷◌, Option, Some, None, ap, sym, refl, ◌∙◌, length}
-use Rattle.std.specs.Prelude.{slice_get, is_some}
-use Rattle.std.specs.Option.{option_map, option_map_or}
-use Rattle.std.proofs.lemmas.Bool.{eqb-true}
-use Rattle.handshake_frames.specs.Frame.{Name}
+use Rattle.pg_world.proofs.Words.{◌≡◌, ◌<◌, ◌++◌, arith, ℕ, Bool, true, false, cond, List, [], ◌∷◌, Option, Some, None, ap, sym, refl, ◌∙◌, length}
+use Rattle.pg_world.proofs.Words.{slice_get, is_some, option_map, option_map_or, eqb-true, Name, OutFrame, History, creation, Opening, Entry, Verdict}
+use Rattle.pg_world.proofs.Words.{Accepted, Refused, Event, Start, ByDial, ByPeer, Opened, opened, taken, given, peer_of, is_whole}
+use Rattle.pg_world.proofs.Words.{is_whole_in, IsLegalIn, lie, no_value, but, Owing, sent, delivered, came, out, bodies_of, frames_of}
+use Rattle.pg_world.proofs.Words.{moment, opening_of, own_hello, hello_in, IsGiven, HasGiven, IsNode, stands_first, named_first, asked_once}
+use Rattle.pg_world.proofs.Words.{named_own, asked_own, all_handed, frame_of, opened_number, opening_low, opening_is, append_assoc, FramesAreLate}
+use Rattle.pg_world.proofs.Words.{IsLate, bodies}
+use Rattle.std.proofs.Common.{◌==◌}
+use Rattle.std.proofs.lemmas.List.{map-append}
 use Rattle.handshake_frames.specs.Reading.{name_frame, challenge_frame}
-use Rattle.policy_audit.specs.OutFrame.{OutFrame}
-use Rattle.policy_audit.specs.History.{History, creation}
-use Rattle.policy_audit.specs.declared.opening.Opening.{Opening}
-use Rattle.policy_audit.specs.declared.entry.Entry.{Entry}
-use Rattle.policy_audit.specs.declared.entry.Verdict.{Verdict}
-use Rattle.policy_audit.specs.declared.entry.Verdict.TheVariants.{Accepted, Refused}
-use Rattle.policy_audit.specs.declared.event.Event.{Event}
 use Rattle.policy_audit.specs.declared.event.Event.TheVariants as event
-use Rattle.policy_audit.specs.Sides.{Start, ByDial, ByPeer, Opened, opened, taken, start_of, given, peer_of, is_whole, is_whole_in}
-use Rattle.policy_audit.specs.Links.{is_opened_by}
-use Rattle.policy_audit.specs.Policy.{IsLegalIn}
-use Rattle.policy_audit.proofs.Accepted.{lie, no_value}
-use Rattle.policy_audit.proofs.Walked.{but}
-use Rattle.frame_laws.specs.Sent.{Owing, sent, delivered, came, out, bodies_of, frames_of}
-use Rattle.frame_laws.specs.Moments.{moment}
-use Rattle.frame_laws.specs.Hellos.{opening_of, own_hello, hello_in}
-use Rattle.frame_laws.specs.Honest.{IsGiven, HasGiven}
-use Rattle.frame_laws.specs.Written.{IsNode}
-use Rattle.frame_laws.proofs.Bodies.{stands_first}
-use Rattle.frame_laws.proofs.Giving.{named_first, asked_once}
-use Rattle.frame_laws.proofs.Greetings.{named_own, asked_own}
-use Rattle.frame_laws.proofs.Handing.{all_handed}
-use Rattle.frame_laws.proofs.HonestNode.{frame_of}
-use Rattle.frame_laws.proofs.Openings.{opened_number, opening_low, opening_is}
-use Rattle.frame_laws.proofs.Places.{append_assoc}
-use Rattle.pg_world.specs.Sound.{FramesAreLate, IsLate, bodies}
 use Rattle.pg_world.proofs.Puts.{value_of}
 
 -- ---- nothing came before a link was opened
 
 pub none_early : (es : List Entry) → FramesAreLate es → (l : ℕ) → length es < l → delivered l es ≡ []
 none_early [] late l above = refl
-none_early (e ∷ es) late l above = by (none_early es late.1 l (omega (arith, above))) e.event late.0
+none_early (e ∷ es) late l above = by e.event late.0 (none_early es late.1 l)
   where
-    by : delivered l es ≡ [] → (ev : Event) → IsLate es ev → delivered l es ++ came l ev ≡ []
-    by before (event.Frame k body) low = comes (k == l) refl
-      where
-        comes : (b : Bool) → (k == l) ≡ b → delivered l es ++ cond b (body ∷ []) [] ≡ []
-        comes false q = (λ i. before i ++ [])
-        comes true q = (let same = eqb-true k l q in absurd (omega (arith, same, low, above)))
-    by before ev low = (λ i. before i ++ [])
+    by : (ev : Event) → IsLate es ev → (length es < l → delivered l es ≡ []) → delivered l es ++ came l ev ≡ []
+    by (event.Frame k body) low so_far = grind (arith, so_far, eqb-true k l, low, above)
+    by ev low so_far = grind (arith, so_far, above)
 
 opened_early : (o : Opening) (es : List Entry) → IsLegalIn o es → FramesAreLate es → (l : ℕ) (x : Opened) → opened l es ≡ Some x → delivered l x.before ≡ []
 opened_early o [] legal late l x q = lie (sym (ap is_some q))
@@ -96,15 +71,7 @@ module _ (S : History) (node : IsNode S) (a : ℕ) (o : Opening) (b : ℕ) (star
   gave es f is gives peer = record { peer = peer; creation_is = ap (option_map (λ g. g.creation)) gives ∙ ap (λ g. Some (Name.creation g)) is }
 
   kept_opening : (e : Entry) (es : List Entry) → IsLegalIn o (e ∷ es) → (st : Start) → opening_of b es ≡ Some st → opening_of b (e ∷ es) ≡ Some st
-  kept_opening e es legal st q = by (is_opened_by b e) refl
-    where
-      by : (c : Bool) → is_opened_by b e ≡ c → cond c (start_of e.event) (opening_of b es) ≡ Some st
-      by false p = q
-      by true p =
-          let its = opened_number b e p in
-          let low = opening_low o es legal.1 b st q in
-          let number = legal.0.number in
-          absurd (omega (arith, its, number, low))
+  kept_opening e es legal st q = grind (arith, q, opened_number b e, opening_low o es legal.1 b st q, legal.0.number)
 
   earlier : (e : Entry) (es : List Entry) → IsLegalIn o (e ∷ es) → Since (e ∷ es) → Since es
   earlier e es legal since = record {
@@ -154,10 +121,6 @@ pub bodies_all : (xs : List Owing) → bodies (frames_of xs) ≡ bodies_of xs
 bodies_all [] = refl
 bodies_all (x ∷ xs) = ap (λ v. x.frame.body ∷ v) (bodies_all xs)
 
-bodies_both : (xs ys : List OutFrame) → bodies (xs ++ ys) ≡ bodies xs ++ bodies ys
-bodies_both [] ys = refl
-bodies_both (x ∷ xs) ys = ap (λ v. x.body ∷ v) (bodies_both xs ys)
-
 -- a beginning of what the sender owed came at the receiver, whose peer has given the sender's name and creation
 pub record IsJoined (S : History) (a : ℕ) (R : History) (b : ℕ) : Type 0 where
   pub later : List (List ℕ)
@@ -170,7 +133,7 @@ module _ (S R : History) (sender : IsNode S) (receiver : IsNode R) (late : Frame
       let out_of = all_handed S.opening S.entries sender.legal a in
       record {
         later = bodies q ++ bodies out_of.rest;
-        carried = sym (append_assoc (delivered b R.entries) (bodies q) (bodies out_of.rest)) ∙ ap (λ v. v ++ bodies out_of.rest) carries ∙ sym (bodies_both (sent a S.entries) out_of.rest) ∙ ap bodies out_of.all ∙ bodies_all (out S a);
+        carried = sym (append_assoc (delivered b R.entries) (bodies q) (bodies out_of.rest)) ∙ ap (λ v. v ++ bodies out_of.rest) carries ∙ sym (map-append (λ f. f.body) (sent a S.entries) out_of.rest) ∙ ap bodies out_of.all ∙ bodies_all (out S a);
         only = λ st p. value_of st start (sym p ∙ opens);
       }
 

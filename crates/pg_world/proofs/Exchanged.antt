@@ -1,21 +1,14 @@
 -- Two nodes exchange their rows: the whole run is computed by the checker, MD5 included.
-use Rattle.std.proofs.Common.{◌≡◌, arith, ℕ, zero, suc, Bool, true, false, List, [], ◌∷◌, ◌++◌, Some, ap, sym, refl, subst, ◌∙◌, codes, get_or}
+use Rattle.pg_world.proofs.Words.{◌≡◌, arith, ℕ, zero, suc, Bool, true, false, List, [], ◌∷◌, ◌++◌, Some, ap, sym, refl, subst, ◌∙◌, codes, get_or}
+use Rattle.pg_world.proofs.Words.{AllByRecursion, slice_get, bytes_eq, IsText, IsNodeName, texts_compute, names_compute, History, lie, no_value}
+use Rattle.pg_world.proofs.Words.{IsNode, WorldStep, Nodes, DifferInName, IsWorld, IsWrittenStep, fresh, two_nodes, exchange, join_again, Comes}
+use Rattle.pg_world.proofs.Words.{IsExchanged, IsBehind}
 use Rattle.std.specs.Fmt.{digits}
-use Rattle.std.specs.List.{AllByRecursion}
-use Rattle.std.specs.Prelude.{slice_get, bytes_eq, drop}
+use Rattle.std.specs.Prelude.{drop}
 use Rattle.md5.specs.Md5.{md5, digest_bytes, hash_after, compress, rounds, block_words}
-use Rattle.dist_types.specs.Text.{IsText, IsNodeName}
-use Rattle.dist_types.proofs.LimitLemmas.{texts_compute, names_compute}
 use Rattle.handshake_frames.specs.Reading.{name_frame, challenge_frame, reply_frame, ack_frame, status_of}
 use Rattle.link_frames.specs.Reading.{message as read_message}
-use Rattle.policy_audit.specs.History.{History}
-use Rattle.policy_audit.proofs.Accepted.{lie, no_value}
-use Rattle.frame_laws.specs.Written.{IsNode}
-use Rattle.pg_world.specs.declared.world_step.WorldStep.{WorldStep}
 use Rattle.pg_world.specs.declared.world_step.WorldStep.TheVariants as step
-use Rattle.pg_world.specs.World.{Nodes, DifferInName}
-use Rattle.pg_world.specs.Sound.{IsWorld, IsWrittenStep}
-use Rattle.pg_world.specs.Exchange.{fresh, two_nodes, exchange, join_again, Comes, IsExchanged, IsBehind}
 use Rattle.pg_world.proofs.Playing.{play, plays, play_sound}
 use Rattle.pg_world.proofs.Puts.{value_of}
 use Rattle.pg_world.proofs.Starting.{starts}

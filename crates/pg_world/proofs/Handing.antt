@@ -1,26 +1,12 @@
 -- A world stays one where a node hands out what waits for a link.
-use Rattle.std.proofs.Common.{◌≡◌, ◌++◌, ℕ, cond, List, [], Option, Some, ap, sym, refl, subst, ◌∙◌}
-use Rattle.std.specs.Prelude.{slice_get, is_some}
-use Rattle.std.proofs.lemmas.Bool.{eq-eqb}
-use Rattle.policy_audit.specs.OutFrame.{OutFrame}
-use Rattle.policy_audit.specs.History.{History}
+use Rattle.pg_world.proofs.Words.{◌≡◌, ◌++◌, ℕ, cond, List, [], Option, Some, ap, sym, refl, subst, ◌∙◌, slice_get, is_some, eq-eqb, OutFrame}
+use Rattle.pg_world.proofs.Words.{History, Entry, Verdict, Accepted, Refused, start_of, IsLegal, IsNext, handed, came, IsWritten, append-nil, Side}
+use Rattle.pg_world.proofs.Words.{Wire, Nodes, node_at, link_at, under_way, other, joined_by, turn_of, Asks, changed_queue, wires_after, IsWorld}
+use Rattle.pg_world.proofs.Words.{IsLate, bodies}
 use Rattle.policy_audit.specs.declared.event.Event.TheVariants as event
 use Rattle.policy_audit.specs.declared.reply.Reply.TheVariants as reply
-use Rattle.policy_audit.specs.declared.entry.Entry.{Entry}
-use Rattle.policy_audit.specs.declared.entry.Verdict.{Verdict}
-use Rattle.policy_audit.specs.declared.entry.Verdict.TheVariants.{Accepted, Refused}
-use Rattle.policy_audit.specs.Sides.{start_of}
-use Rattle.policy_audit.specs.Policy.{IsLegal, IsNext}
-use Rattle.frame_laws.specs.Sent.{handed, came}
-use Rattle.frame_laws.specs.Written.{IsWritten}
-use Rattle.frame_laws.proofs.Places.{append_nil}
-use Rattle.pg_world.specs.declared.side.Side.{Side}
 use Rattle.pg_world.specs.declared.side.Side.TheVariants as side
 use Rattle.pg_world.specs.declared.world_step.WorldStep.TheVariants as step
-use Rattle.pg_world.specs.World.{Wire, Nodes, node_at, link_at, under_way, other}
-use Rattle.pg_world.specs.Queues.{joined_by}
-use Rattle.pg_world.specs.Steps.{turn_of, Asks, changed_queue, wires_after}
-use Rattle.pg_world.specs.Sound.{IsWorld, IsLate, bodies}
 use Rattle.pg_world.proofs.Calling.{starts_none}
 use Rattle.pg_world.proofs.Entering.{bodies_apart, new_came, new_handed, none_came, handed_once}
 use Rattle.pg_world.proofs.Next.{says, Keeps, at_wire}
@@ -53,7 +39,7 @@ module _ (w : Nodes) (sound : IsWorld w) (n : ℕ) (at : Side) (x : Wire) (l : �
 joined : (l : ℕ) (v : Verdict) (q : List OutFrame) → joined_by (says v) q ≡ q ++ handed l (event.Take l) v
 joined l (Accepted (reply.Out frames)) q = ap (λ b. q ++ cond b frames []) (sym (eq-eqb l l refl))
 joined l (Accepted r) q = refl
-joined l (Refused r) q = sym (append_nil q)
+joined l (Refused r) q = sym (append-nil q)
 
 module _ (w : Nodes) (sound : IsWorld w) (n : ℕ) (at : Side) (seat : ℕ) where
   module _ (x : Wire) (l : ℕ) (stands : slice_get w.wires n ≡ Some x) (link : link_at at x ≡ Some l) (h : History) (e : Entry) (here : slice_get w.nodes (node_at at x) ≡ Some h) (is : e.event ≡ event.Take l) (next : IsNext h e) where
@@ -70,10 +56,10 @@ module _ (w : Nodes) (sound : IsWorld w) (n : ℕ) (at : Side) (seat : ℕ) wher
     late = subst (IsLate h.entries) (sym is) tt
 
     abbrev came_at : ℕ → Option ℕ → List (List ℕ)
-    came_at k o = new_came w.nodes i h e here next.number legal k o
+    came_at k o = new_came e i k o
 
     abbrev handed_at : ℕ → Option ℕ → List (List ℕ)
-    handed_at k o = new_handed w.nodes i h e here next.number legal k o
+    handed_at k o = new_handed e i k o
 
     abbrev now : Wire
     now = changed_queue (other at) (joined_by (says e.verdict)) x
@@ -108,7 +94,7 @@ module _ (w : Nodes) (sound : IsWorld w) (n : ℕ) (at : Side) (seat : ℕ) wher
         ∙ still_fits (came_at (node_at to x) (link_at to x)) (handed_at (node_at (other to) x) (link_at (other to) x)) (bodies (under_way to x)) (none_in (node_at to x) (link_at to x))
         (not_elsewhere (node_at (other to) x) (link_at (other to) x) (λ node its. apart_sides at (ap other (sym (q ∙ other_other at)) ∙ this_side w sound n at x l stands link (other to) node its)))
 
-    hand_kept : IsWorld (record { nodes = after w sound i h e here next written late; wires = wires_after (step.Hand n at seat) (says e.verdict) w.wires })
+    hand_kept : IsWorld (record { nodes = after w i h e; wires = wires_after (step.Hand n at seat) (says e.verdict) w.wires })
     hand_kept = queued w sound i h e here next written late n (other at) (joined_by (says e.verdict)) x stands (starts_none e (ap (λ v. is_some (start_of v)) is))
         (λ to gets. fits to (side_of (other at) to))
         (λ m y other_wire its to. (none_in (node_at to y) (link_at to y), not_elsewhere (node_at to y) (link_at to y) (λ node same. other_wire (this_wire w sound n at x l stands link m y its to node same))))

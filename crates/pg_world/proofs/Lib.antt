@@ -1,3 +1,4 @@
+mod Words
 pub mod Stepping
 pub mod Queues
 pub mod Turning

@@ -1,34 +1,11 @@
 -- What the nodes of a world list of each other.
-use Rattle.std.proofs.Common.{◌≡◌, ◌++◌, ◌==◌, arith, ℕ, Bool, true, false, cond, List, [], Option, Some, None, ap, sym, refl, subst, ◌∙◌}
-use Rattle.std.specs.Prelude.{slice_get, ◌&&◌}
-use Rattle.std.specs.Option.{option_map_or}
-use Rattle.dist_types.specs.declared.pid.Pid.{Pid}
-use Rattle.dist_types.specs.Listing.{same}
-use Rattle.dist_types.proofs.Orders.{same_decides}
-use Rattle.policy_audit.specs.OutFrame.{OutFrame}
-use Rattle.policy_audit.specs.History.{History, creation}
-use Rattle.policy_audit.specs.Own.{own, is_local, is_running}
-use Rattle.policy_audit.specs.Sides.{ByDial, ByPeer, present_link, peer_of, is_whole}
-use Rattle.policy_audit.specs.Links.{is_open, is_up}
-use Rattle.policy_audit.specs.Hearing.{heard}
-use Rattle.policy_audit.specs.Listed.{listed, listed_by}
-use Rattle.policy_audit.specs.Owed.{waiting}
-use Rattle.policy_audit.proofs.UpLinks.{agrees, and_left, and_right}
-use Rattle.frame_laws.specs.Sent.{delivered, sent, bodies_of, out}
-use Rattle.frame_laws.specs.HeardMoment.{HearsMoment}
-use Rattle.frame_laws.specs.Hellos.{opening_of}
-use Rattle.frame_laws.specs.Moments.{moment}
-use Rattle.frame_laws.specs.Written.{IsNode}
-use Rattle.frame_laws.proofs.Accepting.{is_up_there}
-use Rattle.frame_laws.proofs.Handing.{all_handed, open_rest}
-use Rattle.frame_laws.proofs.Hearing.{given_here}
-use Rattle.frame_laws.proofs.OneView.{heard_moment, listed_now}
-use Rattle.frame_laws.proofs.Places.{append_nil}
-use Rattle.pg_world.specs.declared.side.Side.{Side}
+use Rattle.pg_world.proofs.Words.{◌≡◌, ◌++◌, arith, ℕ, true, false, List, [], Option, Some, None, ap, sym, refl, subst, ◌∙◌, slice_get}
+use Rattle.pg_world.proofs.Words.{Pid, same, same_decides, OutFrame, History, creation, is_local, ByDial, ByPeer}
+use Rattle.pg_world.proofs.Words.{present_link, peer_of, is_whole, is_open, is_up, heard, listed, waiting, agrees, and_left, and_right}
+use Rattle.pg_world.proofs.Words.{delivered, sent, bodies_of, out, HearsMoment, opening_of, moment, IsNode, is_up_there, all_handed, open_rest}
+use Rattle.pg_world.proofs.Words.{given_here, heard_moment, listed_now, append-nil, Side, Wire, Nodes, node_at, link_at, under_way, other, IsWorld}
+use Rattle.pg_world.proofs.Words.{IsWired, IsEnd, bodies, came_of, handed_of, gets_of, AreEnds, ListMoments, ListNow, hears_node}
 use Rattle.pg_world.specs.declared.side.Side.TheVariants as side
-use Rattle.pg_world.specs.World.{Wire, Nodes, node_at, link_at, under_way, other}
-use Rattle.pg_world.specs.Sound.{IsWorld, IsWired, IsEnd, bodies, came_of, handed_of, gets_of}
-use Rattle.pg_world.specs.Views.{AreEnds, ListMoments, ListNow, hears_node}
 use Rattle.pg_world.proofs.Ends.{IsJoined, joined_acceptor, joined_dialler, bodies_all, dialled_some}
 use Rattle.pg_world.proofs.Puts.{value_of}
 
@@ -143,25 +120,10 @@ module _ (w : Nodes) (sound : IsWorld w) (i j : ℕ) (A B : History) (at_a : sli
     node_is = (same_decides p.node A.opening.name).0 its
 
     foreign : is_local B p ≡ false
-    foreign = by (same p.node B.opening.name) refl
-      where
-        by : (c : Bool) → same p.node B.opening.name ≡ c → (c && (p.creation == creation B)) ≡ false
-        by false q = refl
-        by true q = absurd (apart (sound.names i j A B at_a at_b (sym node_is ∙ (same_decides p.node B.opening.name).0 q)))
+    foreign = grind (arith, same_decides p.node B.opening.name, node_is, apart, sound.names i j A B at_a at_b)
 
     pub lists_none : hears_node B A.opening.name s ≡ false → listed B s g p ≡ 0
-    lists_none deaf = ap (λ c. cond c (own B s g p) (cond (is_running B s) (option_map_or (listed_by B s g p) (present_link p.node B.entries) 0) 0)) foreign ∙ runs (is_running B s) ∙ refl
-      where
-        link : (o : Option ℕ) → option_map_or (λ l. heard l s B.entries) o false ≡ false → option_map_or (listed_by B s g p) o 0 ≡ 0
-        link None q = refl
-        link (Some l) q = grind (arith, q)
-
-        none : option_map_or (listed_by B s g p) (present_link p.node B.entries) 0 ≡ 0
-        none = ap (λ m. option_map_or (listed_by B s g p) (present_link m B.entries) 0) node_is ∙ link (present_link A.opening.name B.entries) deaf
-
-        runs : (c : Bool) → cond c (option_map_or (listed_by B s g p) (present_link p.node B.entries) 0) 0 ≡ 0
-        runs true = none
-        runs false = refl
+    lists_none deaf = grind (arith, foreign, node_is, deaf)
 
 pub lists_moments : (w : Nodes) → IsWorld w → ListMoments w
 lists_moments w sound = record {
@@ -176,8 +138,8 @@ all_came : (S R : History) → (sound : IsNode S) → (a b : ℕ) (q : List OutF
     → delivered b R.entries ≡ bodies_of (out S a)
 all_came S R node a b q empty opens none carries =
     let handed = open_rest S.opening S.entries a opens (all_handed S.opening S.entries node.legal a) in
-    sym (append_nil (delivered b R.entries)) ∙ sym (ap (λ v. delivered b R.entries ++ bodies v) empty) ∙ carries
-    ∙ ap bodies (sym (append_nil (sent a S.entries)) ∙ sym (ap (λ v. sent a S.entries ++ v) none) ∙ handed) ∙ bodies_all (out S a)
+    sym (append-nil (delivered b R.entries)) ∙ sym (ap (λ v. delivered b R.entries ++ bodies v) empty) ∙ carries
+    ∙ ap bodies (sym (append-nil (sent a S.entries)) ∙ sym (ap (λ v. sent a S.entries ++ v) none) ∙ handed) ∙ bodies_all (out S a)
 
 pub lists_now : (w : Nodes) → IsWorld w → ListNow w
 lists_now w sound n x stands A B b at_a at_b accepted none_there none_here s there here =

@@ -1,13 +1,6 @@
 -- Names that two nodes share.
-use Rattle.std.proofs.Common.{◌≡◌, ◌≢◌, ◌<◌, ℕ, Bool, true, false, List, Some, None, ap, sym, ◌∙◌, refl, get_or, length, nat_eq}
-use Rattle.std.specs.Prelude.{slice_get}
-use Rattle.std.specs.Cmp.Lexicographic.{pointwise}
-use Rattle.std.proofs.lemmas.Option.{slice_get_read}
-use Rattle.std.specs.Bool.{Decides}
-use Rattle.std.proofs.lemmas.Bool.Decides.{Decides-eqb}
-use Rattle.std.proofs.lemmas.Slice.Eq.{slice_eq-Decides}
-use Rattle.policy_audit.specs.History.{History}
-use Rattle.pg_world.specs.World.{ShareAName}
+use Rattle.pg_world.proofs.Words.{◌≡◌, ◌≢◌, ◌<◌, ℕ, Bool, true, false, List, Some, None, ap, sym, ◌∙◌, refl, get_or, length, nat_eq, slice_get}
+use Rattle.pg_world.proofs.Words.{pointwise, slice_get_read, Decides, Decides-eqb, slice_eq-Decides, History, ShareAName}
 
 -- the comparison of two names decides
 alike : (x y : List ℕ) → Decides (pointwise nat_eq x y) (x ≡ y)

@@ -1,25 +1,10 @@
 -- A world stays one with an entry that opens a link, which becomes the end of one wire.
-use Rattle.std.proofs.Common.{◌≡◌, ◌≤◌, ◌<◌, ◌&&◌, arith, ℕ, true, cond, List, [], ◌∷◌, ◌++◌, Option, Some, None, ap, sym, refl, subst, ◌∙◌, length}
-use Rattle.std.specs.Prelude.{slice_get, is_some}
-use Rattle.std.proofs.lemmas.Bool.{eq-eqb}
-use Rattle.policy_audit.specs.declared.reply.Reply.{Reply}
+use Rattle.pg_world.proofs.Words.{◌≡◌, ◌≤◌, ◌<◌, ◌&&◌, arith, ℕ, true, cond, List, [], ◌∷◌, ◌++◌, Option, Some, None, ap, sym, refl, subst, ◌∙◌}
+use Rattle.pg_world.proofs.Words.{length, slice_get, is_some, eq-eqb, Reply, Event, Entry, Accepted, History, is_accepted, Start, start_of}
+use Rattle.pg_world.proofs.Words.{is_opened_by, IsLegal, IsNext, with_entry, answer, next_number, accepted, no_value, sent, frames_of, opening_of}
+use Rattle.pg_world.proofs.Words.{IsWritten, all_handed, opened_number, unborn_out, Side, Wire, Nodes, world, node_at, link_at, under_way, other}
+use Rattle.pg_world.proofs.Words.{IsWorld, IsWired, IsEnd, HasEnd, Carries, came_of, handed_of, gets_of, bodies}
 use Rattle.policy_audit.specs.declared.reply.Reply.TheVariants as reply
-use Rattle.policy_audit.specs.declared.event.Event.{Event}
-use Rattle.policy_audit.specs.declared.entry.Entry.{Entry}
-use Rattle.policy_audit.specs.declared.entry.Verdict.TheVariants.{Accepted}
-use Rattle.policy_audit.specs.History.{History, is_accepted}
-use Rattle.policy_audit.specs.Sides.{Start, start_of}
-use Rattle.policy_audit.specs.Links.{is_opened_by}
-use Rattle.policy_audit.specs.Policy.{IsLegal, IsNext, with_entry, answer, next_number}
-use Rattle.policy_audit.proofs.Accepted.{accepted, no_value}
-use Rattle.frame_laws.specs.Sent.{sent, frames_of}
-use Rattle.frame_laws.specs.Hellos.{opening_of}
-use Rattle.frame_laws.specs.Written.{IsWritten}
-use Rattle.frame_laws.proofs.Handing.{all_handed}
-use Rattle.frame_laws.proofs.Openings.{opened_number, unborn_out}
-use Rattle.pg_world.specs.declared.side.Side.{Side}
-use Rattle.pg_world.specs.World.{Wire, Nodes, world, node_at, link_at, under_way, other}
-use Rattle.pg_world.specs.Sound.{IsWorld, IsWired, IsEnd, HasEnd, Carries, came_of, handed_of, gets_of, bodies}
 use Rattle.pg_world.proofs.Calling.{IsApart}
 use Rattle.pg_world.proofs.Ends.{none_early}
 use Rattle.pg_world.proofs.Entering.{new_came, new_handed, none_came, none_handed, ends_low, carries_on}
@@ -61,7 +46,7 @@ module _ (w : Nodes) (sound : IsWorld w) (i : ℕ) (h : History) (e : Entry) (he
   legal = (sound.nodes i h here).legal
 
   abbrev pub nodes_now : List History
-  nodes_now = after w sound i h e here next written (apart.late h.entries)
+  nodes_now = after w i h e
 
   pub now_here : slice_get nodes_now i ≡ Some (with_entry h e)
   now_here = get_same w.nodes i (with_entry h e) h here
@@ -85,7 +70,7 @@ module _ (w : Nodes) (sound : IsWorld w) (i : ℕ) (h : History) (e : Entry) (he
   -- the wires that stay carry what they did
   pub still_carries : (m : ℕ) (y : Wire) → slice_get w.wires m ≡ Some y → (to : Side) → Carries nodes_now y to
   still_carries m y its to = carries_on w.nodes i h e here next.number legal y y (same_ends y) (sound.wired m y its) to (sound.carried m y its to)
-      (λ gets. still_fits (new_came w.nodes i h e here next.number legal (node_at to y) (link_at to y)) (new_handed w.nodes i h e here next.number legal (node_at (other to) y) (link_at (other to) y)) (bodies (under_way to y))
+      (λ gets. still_fits (new_came e i (node_at to y) (link_at to y)) (new_handed e i (node_at (other to) y) (link_at (other to) y)) (bodies (under_way to y))
       (none_came w.nodes i h e here next.number legal apart.none_in (node_at to y) (link_at to y))
       (none_handed w.nodes i h e here next.number legal (λ l. apart.none_out l e.verdict) (node_at (other to) y) (link_at (other to) y)))
 

@@ -1,27 +1,14 @@
 -- A list of steps, played: each step has an answer, and where the first world is one, so is the last.
-use Rattle.std.proofs.Common.{◌≡◌, ℕ, Bool, true, false, cond, List, [], ◌∷◌, Option, Some, None, Err, ap, sym, refl, subst}
-use Rattle.std.specs.Prelude.{slice_get, slice_set}
-use Rattle.std.specs.List.{AllByRecursion}
-use Rattle.std.specs.declared.result.Result.{Result}
-use Rattle.policy_audit.specs.declared.event.Event.{Event}
-use Rattle.policy_audit.specs.declared.event.Event.TheVariants as event
-use Rattle.policy_audit.specs.declared.entry.Verdict.{Verdict}
-use Rattle.policy_audit.specs.declared.entry.Verdict.TheVariants.{Accepted, Refused}
-use Rattle.policy_audit.specs.OutFrame.{OutFrame}
-use Rattle.policy_audit.specs.History.{History}
-use Rattle.policy_audit.specs.Policy.{verdict, after}
+use Rattle.pg_world.proofs.Words.{◌≡◌, ℕ, Bool, true, false, cond, List, [], ◌∷◌, Option, Some, None, Err, ap, sym, refl, subst, slice_get, slice_set}
+use Rattle.pg_world.proofs.Words.{AllByRecursion, Result, Event, Verdict, Accepted, Refused, OutFrame, History, verdict, after, Side, End, WorldStep}
+use Rattle.pg_world.proofs.Words.{WorldReply, WorldFault, Wire, Nodes, world, node_at, link_at, Turn, Refuses, Asks, Turns, turn_of, is_wrong, asks}
+use Rattle.pg_world.proofs.Words.{asks_opened, asks_frame, queue_at, at_end, link_end, wire_end, opener, wire_opener, wires_after, answer_of, IsWorld}
+use Rattle.pg_world.proofs.Words.{IsWrittenStep, Comes}
 use Rattle.node_core.specs.Step.{IsStepped}
-use Rattle.pg_world.specs.declared.side.Side.{Side}
-use Rattle.pg_world.specs.declared.side.End.{End}
-use Rattle.pg_world.specs.declared.world_step.WorldStep.{WorldStep}
+use Rattle.pg_world.specs.Steps.{IsWorldStep}
+use Rattle.policy_audit.specs.declared.event.Event.TheVariants as event
 use Rattle.pg_world.specs.declared.world_step.WorldStep.TheVariants as step
-use Rattle.pg_world.specs.declared.world_step.WorldReply.{WorldReply}
-use Rattle.pg_world.specs.declared.fault.WorldFault.{WorldFault}
 use Rattle.pg_world.specs.declared.fault.WorldFault.TheVariants as fault
-use Rattle.pg_world.specs.World.{Wire, Nodes, world, node_at, link_at}
-use Rattle.pg_world.specs.Steps.{Turn, Refuses, Asks, Turns, IsWorldStep, turn_of, is_wrong, asks, asks_opened, asks_frame, queue_at, at_end, link_end, wire_end, opener, wire_opener, wires_after, answer_of}
-use Rattle.pg_world.specs.Sound.{IsWorld, IsWrittenStep}
-use Rattle.pg_world.specs.Exchange.{Comes}
 use Rattle.pg_world.proofs.Next.{says}
 use Rattle.pg_world.proofs.Staying.{stays}
 

@@ -1,10 +1,6 @@
 -- What stands in a list after one element was put, and in the wires after one has changed.
-use Rattle.std.proofs.Common.{◌≡◌, ◌<◌, arith, ℕ, zero, suc, Bool, true, false, List, [], ◌∷◌, ◌++◌, Some, None, ap, sym, refl, subst, ◌∙◌, length}
-use Rattle.std.specs.Prelude.{slice_get, slice_set, ◌==◌}
-use Rattle.std.proofs.lemmas.Bool.{eqb-true, eqb-false}
-use Rattle.policy_audit.proofs.Accepted.{no_value}
-use Rattle.pg_world.specs.World.{Wire}
-use Rattle.pg_world.specs.Steps.{changed}
+use Rattle.pg_world.proofs.Words.{◌≡◌, ◌<◌, arith, ℕ, zero, suc, Bool, true, false, List, [], ◌∷◌, ◌++◌, Some, None, ap, sym, refl, subst, ◌∙◌}
+use Rattle.pg_world.proofs.Words.{length, slice_get, slice_set, ◌==◌, eqb-true, eqb-false, no_value, Wire, changed}
 
 module _ {A : Type 0} where
   pub value_of : (x y : A) → Some x ≡ Some y → x ≡ y

@@ -1,18 +1,8 @@
 -- A world stays one with an entry of one node and one queue that changed.
-use Rattle.std.proofs.Common.{◌≡◌, ◌++◌, ℕ, true, false, List, [], Some, ap, sym, refl, subst, ◌∙◌}
-use Rattle.std.specs.Prelude.{slice_get}
-use Rattle.policy_audit.specs.OutFrame.{OutFrame}
-use Rattle.policy_audit.specs.History.{History}
-use Rattle.policy_audit.specs.declared.entry.Entry.{Entry}
-use Rattle.policy_audit.specs.Links.{is_opened_by}
-use Rattle.policy_audit.specs.Policy.{IsLegal, IsNext}
-use Rattle.frame_laws.specs.Written.{IsWritten}
-use Rattle.frame_laws.proofs.Places.{append_nil}
-use Rattle.pg_world.specs.declared.side.Side.{Side}
+use Rattle.pg_world.proofs.Words.{◌≡◌, ◌++◌, ℕ, true, false, List, [], Some, ap, sym, refl, subst, ◌∙◌, slice_get, OutFrame, History, Entry}
+use Rattle.pg_world.proofs.Words.{is_opened_by, IsLegal, IsNext, IsWritten, append-nil, Side, Wire, Nodes, world, node_at, link_at, under_way, other}
+use Rattle.pg_world.proofs.Words.{with_queue, changed, changed_queue, IsWorld, IsLate, Carries, gets_of, bodies}
 use Rattle.pg_world.specs.declared.side.Side.TheVariants as side
-use Rattle.pg_world.specs.World.{Wire, Nodes, world, node_at, link_at, under_way, other, with_queue}
-use Rattle.pg_world.specs.Steps.{changed, changed_queue}
-use Rattle.pg_world.specs.Sound.{IsWorld, IsLate, Carries, gets_of, bodies}
 use Rattle.pg_world.proofs.Entering.{SameEnds, new_came, new_handed, carries_on}
 use Rattle.pg_world.proofs.Puts.{value_of, Compared, Same, Apart, compare, IsFound, Changed, Kept, found, changed_here, changed_there}
 use Rattle.pg_world.proofs.Steady.{after, same_ends, steady}
@@ -45,7 +35,7 @@ side_of side.Acceptor side.Acceptor = Here refl
 
 -- where nothing comes and nothing is handed out
 pub still_fits : (cs hs q : List (List ℕ)) → cs ≡ [] → hs ≡ [] → cs ++ q ≡ q ++ hs
-still_fits cs hs q none_in none_out = ap (λ v. v ++ q) none_in ∙ sym (append_nil q) ∙ ap (λ v. q ++ v) (sym none_out)
+still_fits cs hs q none_in none_out = ap (λ v. v ++ q) none_in ∙ sym (append-nil q) ∙ ap (λ v. q ++ v) (sym none_out)
 
 -- ---- a world
 
@@ -77,19 +67,19 @@ module _ (w : Nodes) (sound : IsWorld w) (i : ℕ) (h : History) (e : Entry) (he
       by (Apart apart) = (v, changed_there w.wires n (changed_queue at f) x stands m v apart q, same_ends v)
 
   -- with the entry, what came or was handed out on this wire and is under way there fits, and nothing came or was handed out on others
-  pub queued : ((to : Side) → gets_of (slice_get (after w sound i h e here next written late) (node_at to x)) (link_at to x) ≡ true
-      → new_came w.nodes i h e here next.number legal (node_at to x) (link_at to x) ++ bodies (under_way to (changed_queue at f x)) ≡ bodies (under_way to x) ++ new_handed w.nodes i h e here next.number legal (node_at (other to) x) (link_at (other to) x))
-      → ((m : ℕ) (y : Wire) → (m ≡ n → ⊥) → slice_get w.wires m ≡ Some y → (to : Side) → (new_came w.nodes i h e here next.number legal (node_at to y) (link_at to y) ≡ []) × (new_handed w.nodes i h e here next.number legal (node_at to y) (link_at to y) ≡ []))
-      → IsWorld (world (after w sound i h e here next written late) wires)
+  pub queued : ((to : Side) → gets_of (slice_get (after w i h e) (node_at to x)) (link_at to x) ≡ true
+      → new_came e i (node_at to x) (link_at to x) ++ bodies (under_way to (changed_queue at f x)) ≡ bodies (under_way to x) ++ new_handed e i (node_at (other to) x) (link_at (other to) x))
+      → ((m : ℕ) (y : Wire) → (m ≡ n → ⊥) → slice_get w.wires m ≡ Some y → (to : Side) → (new_came e i (node_at to y) (link_at to y) ≡ []) × (new_handed e i (node_at to y) (link_at to y) ≡ []))
+      → IsWorld (world (after w i h e) wires)
   queued fits others = steady w sound i h e here next written late wires opens_none back forth carried
     where
-      carried : (m : ℕ) (y : Wire) → slice_get wires m ≡ Some y → (to : Side) → Carries (after w sound i h e here next written late) y to
+      carried : (m : ℕ) (y : Wire) → slice_get wires m ≡ Some y → (to : Side) → Carries (after w i h e) y to
       carried m y q to = by (found w.wires n (changed_queue at f) x stands m y q)
         where
-          by : IsFound w.wires n (changed_queue at f) m y → Carries (after w sound i h e here next written late) y to
+          by : IsFound w.wires n (changed_queue at f) m y → Carries (after w i h e) y to
           by (Changed v is its made) =
               let same : v ≡ x = value_of v x (sym its ∙ stands) in
-              subst (λ u. Carries (after w sound i h e here next written late) u to) (ap (changed_queue at f) (sym same) ∙ sym made)
+              subst (λ u. Carries (after w i h e) u to) (ap (changed_queue at f) (sym same) ∙ sym made)
               (carries_on w.nodes i h e here next.number legal x (changed_queue at f x) (ends_same x) (sound.wired n x stands) to (sound.carried n x stands to) (fits to))
           by (Kept apart its) = carries_on w.nodes i h e here next.number legal y y (same_ends y) (sound.wired m y its) to (sound.carried m y its to)
-              (λ gets. still_fits (new_came w.nodes i h e here next.number legal (node_at to y) (link_at to y)) (new_handed w.nodes i h e here next.number legal (node_at (other to) y) (link_at (other to) y)) (bodies (under_way to y)) (others m y apart its to).0 (others m y apart its (other to)).1)
+              (λ gets. still_fits (new_came e i (node_at to y) (link_at to y)) (new_handed e i (node_at (other to) y) (link_at (other to) y)) (bodies (under_way to y)) (others m y apart its to).0 (others m y apart its (other to)).1)

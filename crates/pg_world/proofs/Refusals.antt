@@ -1,27 +1,15 @@
 -- What a refused step leaves as it was.
-use Rattle.std.proofs.Common.{◌≡◌, ℕ, List, Option, Some, None, Ok, Err, ap, sym, refl, subst, ◌∙◌, IsTrue, arith}
-use Rattle.std.specs.Prelude.{slice_get, slice_set}
-use Rattle.std.proofs.lemmas.List.{set-get_or, append-nil}
-use Rattle.std.proofs.lemmas.Option.{get_or_from_slice_get}
-use Rattle.std.specs.declared.result.Result.{Result}
-use Rattle.policy_audit.specs.declared.event.Event.{Event}
-use Rattle.policy_audit.specs.declared.reply.Reply.{Reply}
-use Rattle.policy_audit.specs.declared.rule.Rule.TheVariants as rule
-use Rattle.policy_audit.specs.OutFrame.{OutFrame}
-use Rattle.policy_audit.specs.History.{History}
-use Rattle.node_core.specs.declared.fault.CoreFault.{CoreFault}
-use Rattle.node_core.specs.declared.fault.CoreFault.TheVariants as core_fault
+use Rattle.pg_world.proofs.Words.{◌≡◌, ℕ, List, Option, Some, None, Ok, Err, ap, sym, refl, subst, ◌∙◌, IsTrue, arith, slice_get, slice_set}
+use Rattle.pg_world.proofs.Words.{set-get_or, append-nil, get_or_from_slice_get, Result, Event, Reply, OutFrame, History, CoreFault, Side, WorldStep}
+use Rattle.pg_world.proofs.Words.{WorldFault, Wire, Nodes, with_queue, under_way, other, left_by, cut_by, Turn, Refuses, Asks, Turns, turn_of}
+use Rattle.pg_world.proofs.Words.{changed, changed_queue, wires_after, answer_of, keeps_wires}
 use Rattle.node_core.specs.Step.{IsStepped}
-use Rattle.pg_world.specs.declared.side.Side.{Side}
+use Rattle.pg_world.specs.Steps.{IsWorldStep}
+use Rattle.policy_audit.specs.declared.rule.Rule.TheVariants as rule
+use Rattle.node_core.specs.declared.fault.CoreFault.TheVariants as core_fault
 use Rattle.pg_world.specs.declared.side.Side.TheVariants as side
-use Rattle.pg_world.specs.declared.world_step.WorldStep.{WorldStep}
 use Rattle.pg_world.specs.declared.world_step.WorldStep.TheVariants as step
-use Rattle.pg_world.specs.declared.fault.WorldFault.{WorldFault}
 use Rattle.pg_world.specs.declared.fault.WorldFault.TheVariants as fault
-use Rattle.pg_world.specs.World.{Wire, Nodes, with_queue, under_way, other}
-use Rattle.pg_world.specs.Queues.{left_by, cut_by}
-use Rattle.pg_world.specs.Steps.{Turn, Refuses, Asks, Turns, IsWorldStep, turn_of, changed, changed_queue, wires_after, answer_of}
-use Rattle.pg_world.specs.Refusals.{keeps_wires}
 
 -- ---- lists
 

@@ -1,13 +1,6 @@
 -- A world of nodes that have seen nothing, without wires.
-use Rattle.std.proofs.Common.{◌≡◌, arith, ℕ, Bool, true, false, List, [], Some, ap, sym, refl, subst, ◌∙◌}
-use Rattle.std.specs.Prelude.{slice_get, nat_lt}
-use Rattle.std.proofs.lemmas.Bool.{ltb-true}
-use Rattle.policy_audit.specs.History.{History}
-use Rattle.policy_audit.specs.Links.{is_open}
-use Rattle.policy_audit.proofs.Accepted.{lie, no_value}
-use Rattle.frame_laws.specs.Written.{IsNode}
-use Rattle.pg_world.specs.World.{world, DifferInName}
-use Rattle.pg_world.specs.Sound.{IsWorld, FramesAreLate}
+use Rattle.pg_world.proofs.Words.{◌≡◌, arith, ℕ, Bool, true, false, List, [], Some, ap, sym, refl, subst, ◌∙◌, slice_get, nat_lt, ltb-true, History}
+use Rattle.pg_world.proofs.Words.{is_open, lie, no_value, IsNode, world, DifferInName, IsWorld, FramesAreLate}
 
 module _ (hs : List History) (differ : DifferInName hs) (nodes : (i : ℕ) (h : History) → slice_get hs i ≡ Some h → IsNode h) (unused : (i : ℕ) (h : History) → slice_get hs i ≡ Some h → h.entries ≡ []) where
   named : (i j : ℕ) (h k : History) → slice_get hs i ≡ Some h → slice_get hs j ≡ Some k → h.opening.name ≡ k.opening.name → i ≡ j

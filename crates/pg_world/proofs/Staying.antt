@@ -1,12 +1,7 @@
 -- A world stays one with each of its steps.
-use Rattle.std.specs.declared.result.Result.{Result}
-use Rattle.pg_world.specs.declared.world_step.WorldStep.{WorldStep}
+use Rattle.pg_world.proofs.Words.{Result, WorldStep, WorldReply, WorldFault, Nodes, turn_of, IsWorld, IsWrittenStep}
+use Rattle.pg_world.specs.Steps.{IsWorldStep}
 use Rattle.pg_world.specs.declared.world_step.WorldStep.TheVariants as step
-use Rattle.pg_world.specs.declared.world_step.WorldReply.{WorldReply}
-use Rattle.pg_world.specs.declared.fault.WorldFault.{WorldFault}
-use Rattle.pg_world.specs.World.{Nodes}
-use Rattle.pg_world.specs.Steps.{IsWorldStep, turn_of}
-use Rattle.pg_world.specs.Sound.{IsWorld, IsWrittenStep}
 use Rattle.pg_world.proofs.Accepting.{accepts}
 use Rattle.pg_world.proofs.Calling.{calls, restarts}
 use Rattle.pg_world.proofs.Cutting.{cuts}

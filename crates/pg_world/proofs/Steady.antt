@@ -1,42 +1,37 @@
 -- A world stays one with an entry of one node.
-use Rattle.std.proofs.Common.{◌≡◌, ◌++◌, ◌&&◌, ◌||◌, not, ℕ, Bool, true, false, List, [], Some, ap, sym, refl, subst, ◌∙◌}
-use Rattle.std.specs.Prelude.{slice_get, slice_set}
-use Rattle.policy_audit.specs.History.{History}
-use Rattle.policy_audit.specs.declared.entry.Entry.{Entry}
-use Rattle.policy_audit.specs.Links.{is_open, is_opened_by, ends}
-use Rattle.policy_audit.specs.Policy.{IsLegal, IsNext, with_entry}
-use Rattle.policy_audit.proofs.Accepted.{lie}
-use Rattle.frame_laws.specs.Sent.{handed, came}
-use Rattle.frame_laws.specs.Written.{IsNode, IsWritten}
-use Rattle.frame_laws.proofs.Places.{append_nil}
-use Rattle.pg_world.specs.declared.side.Side.{Side}
-use Rattle.pg_world.specs.World.{Wire, Nodes, world, node_at, link_at, under_way, other}
-use Rattle.pg_world.specs.Sound.{IsWorld, IsEnd, HasEnd, Carries, IsLate, FramesAreLate, bodies}
+use Rattle.pg_world.proofs.Words.{◌≡◌, ◌++◌, ◌&&◌, ◌||◌, not, ℕ, Bool, true, false, List, [], Some, ap, sym, refl, subst, ◌∙◌, slice_get, slice_set}
+use Rattle.pg_world.proofs.Words.{History, Entry, is_open, is_opened_by, ends, IsLegal, IsNext, with_entry, lie, handed, came, IsNode, IsWritten}
+use Rattle.pg_world.proofs.Words.{append-nil, Side, Wire, Nodes, world, node_at, link_at, under_way, other, IsWorld, IsEnd, HasEnd, Carries, IsLate}
+use Rattle.pg_world.proofs.Words.{FramesAreLate, bodies}
 use Rattle.pg_world.proofs.Entering.{SameEnds, same_node, same_link, stays_wired, carries_on, none_came, none_handed}
 use Rattle.pg_world.proofs.Puts.{get_same, get_other, value_of, Compared, Same, Apart, compare}
 
 pub same_ends : (x : Wire) → SameEnds x x
 same_ends x = record { from = refl; to = refl; dialled = refl; accepted = refl }
 
+-- the histories after an entry of node i
+abbrev pub after : Nodes → ℕ → History → Entry → List History
+after w i h e = slice_set w.nodes i (with_entry h e)
+
 module _ (w : Nodes) (sound : IsWorld w) (i : ℕ) (h : History) (e : Entry) (here : slice_get w.nodes i ≡ Some h) (next : IsNext h e) (written : IsWritten e.event) (late : IsLate h.entries e.event) where
   legal : IsLegal h
   legal = (sound.nodes i h here).legal
 
-  abbrev pub after : List History
-  after = slice_set w.nodes i (with_entry h e)
+  abbrev later : List History
+  later = after w i h e
 
-  now_here : slice_get after i ≡ Some (with_entry h e)
+  now_here : slice_get later i ≡ Some (with_entry h e)
   now_here = get_same w.nodes i (with_entry h e) h here
 
   -- what holds of each history holds so
-  each : (P : History → Type 0) → ((k : ℕ) (g : History) → slice_get w.nodes k ≡ Some g → P g) → P (with_entry h e) → (k : ℕ) (g : History) → slice_get after k ≡ Some g → P g
+  each : (P : History → Type 0) → ((k : ℕ) (g : History) → slice_get w.nodes k ≡ Some g → P g) → P (with_entry h e) → (k : ℕ) (g : History) → slice_get later k ≡ Some g → P g
   each P all this k g q = by (compare k i)
     where
       by : Compared k i → P g
-      by (Same is) = subst P (value_of (with_entry h e) g (sym now_here ∙ ap (slice_get after) (sym is) ∙ q)) this
+      by (Same is) = subst P (value_of (with_entry h e) g (sym now_here ∙ ap (slice_get later) (sym is) ∙ q)) this
       by (Apart apart) = all k g (sym (get_other w.nodes i (with_entry h e) k apart) ∙ q)
 
-  pub nodes_after : (k : ℕ) (g : History) → slice_get after k ≡ Some g → IsNode g
+  pub nodes_after : (k : ℕ) (g : History) → slice_get later k ≡ Some g → IsNode g
   nodes_after = each IsNode sound.nodes (let node = sound.nodes i h here in record {
     legal = (next, node.legal);
     name = node.name;
@@ -45,7 +40,7 @@ module _ (w : Nodes) (sound : IsWorld w) (i : ℕ) (h : History) (e : Entry) (he
     written = (written, node.written);
   })
 
-  pub late_after : (k : ℕ) (g : History) → slice_get after k ≡ Some g → FramesAreLate g.entries
+  pub late_after : (k : ℕ) (g : History) → slice_get later k ≡ Some g → FramesAreLate g.entries
   late_after = each (λ g. FramesAreLate g.entries) sound.late (late, sound.late i h here)
 
   -- a history as it was, with its opening
@@ -54,14 +49,14 @@ module _ (w : Nodes) (sound : IsWorld w) (i : ℕ) (h : History) (e : Entry) (he
     stands : slice_get w.nodes k ≡ Some before
     opening : before.opening ≡ g.opening
 
-  was : (k : ℕ) (g : History) → slice_get after k ≡ Some g → Was k g
+  was : (k : ℕ) (g : History) → slice_get later k ≡ Some g → Was k g
   was k g q = by (compare k i)
     where
       by : Compared k i → Was k g
-      by (Same is) = record { before = h; stands = ap (slice_get w.nodes) is ∙ here; opening = ap (λ v. v.opening) (value_of (with_entry h e) g (sym now_here ∙ ap (slice_get after) (sym is) ∙ q)) }
+      by (Same is) = record { before = h; stands = ap (slice_get w.nodes) is ∙ here; opening = ap (λ v. v.opening) (value_of (with_entry h e) g (sym now_here ∙ ap (slice_get later) (sym is) ∙ q)) }
       by (Apart apart) = record { before = g; stands = sym (get_other w.nodes i (with_entry h e) k apart) ∙ q; opening = refl }
 
-  pub names_after : (k j : ℕ) (f g : History) → slice_get after k ≡ Some f → slice_get after j ≡ Some g → f.opening.name ≡ g.opening.name → k ≡ j
+  pub names_after : (k j : ℕ) (f g : History) → slice_get later k ≡ Some f → slice_get later j ≡ Some g → f.opening.name ≡ g.opening.name → k ≡ j
   names_after k j f g p q named =
       let a = was k f p in
       let b = was j g q in
@@ -72,7 +67,7 @@ module _ (w : Nodes) (sound : IsWorld w) (i : ℕ) (h : History) (e : Entry) (he
     WasOpen : (g : History) → slice_get w.nodes k ≡ Some g → is_open l g.entries ≡ true → IsOpenFrom k l
     OpenedNow : k ≡ i → is_opened_by l e ≡ true → IsOpenFrom k l
 
-  pub open_from : (k : ℕ) (g : History) → slice_get after k ≡ Some g → (l : ℕ) → is_open l g.entries ≡ true → IsOpenFrom k l
+  pub open_from : (k : ℕ) (g : History) → slice_get later k ≡ Some g → (l : ℕ) → is_open l g.entries ≡ true → IsOpenFrom k l
   open_from k g q l opens = by (compare k i)
     where
       now : k ≡ i → (a : Bool) → is_opened_by l e ≡ a → (b c : Bool) → is_open l h.entries ≡ c → (a || (not b && c)) ≡ true → IsOpenFrom k l
@@ -83,7 +78,7 @@ module _ (w : Nodes) (sound : IsWorld w) (i : ℕ) (h : History) (e : Entry) (he
 
       by : Compared k i → IsOpenFrom k l
       by (Same is) = now is (is_opened_by l e) refl (ends l h.entries e.verdict e.event) (is_open l h.entries) refl
-          (subst (λ v. is_open l v.entries ≡ true) (sym (value_of (with_entry h e) g (sym now_here ∙ ap (slice_get after) (sym is) ∙ q))) opens)
+          (subst (λ v. is_open l v.entries ≡ true) (sym (value_of (with_entry h e) g (sym now_here ∙ ap (slice_get later) (sym is) ∙ q))) opens)
       by (Apart apart) = WasOpen g (sym (get_other w.nodes i (with_entry h e) k apart) ∙ q) opens
 
   -- ---- the wires have the ends that they had
@@ -91,7 +86,7 @@ module _ (w : Nodes) (sound : IsWorld w) (i : ℕ) (h : History) (e : Entry) (he
   module _ (ys : List Wire) (opens_none : (l : ℕ) → is_opened_by l e ≡ false)
       (back : (n : ℕ) (y : Wire) → slice_get ys n ≡ Some y → (x : Wire) × (slice_get w.wires n ≡ Some x) × SameEnds x y)
       (forth : (n : ℕ) (x : Wire) → slice_get w.wires n ≡ Some x → (y : Wire) × (slice_get ys n ≡ Some y) × SameEnds x y)
-      (carried : (n : ℕ) (y : Wire) → slice_get ys n ≡ Some y → (to : Side) → Carries after y to) where
+      (carried : (n : ℕ) (y : Wire) → slice_get ys n ≡ Some y → (to : Side) → Carries later y to) where
     end_was : (x y : Wire) → SameEnds x y → (at : Side) (k l : ℕ) → IsEnd y at k l → IsEnd x at k l
     end_was x y same at k l it = record { node = sym (same_node x y same at) ∙ it.node; link = sym (same_link x y same at) ∙ it.link }
 
@@ -105,7 +100,7 @@ module _ (w : Nodes) (sound : IsWorld w) (i : ℕ) (h : History) (e : Entry) (he
         let y = forth it.number it.wire it.stands in
         record { number = it.number; wire = y.0; at = it.at; stands = y.1; ends = end_now it.wire y.0 y.2 it.at k l it.ends }
 
-    pub steady : IsWorld (world after ys)
+    pub steady : IsWorld (world later ys)
     steady = record {
       nodes = nodes_after;
       late = late_after;
@@ -120,8 +115,8 @@ module _ (w : Nodes) (sound : IsWorld w) (i : ℕ) (h : History) (e : Entry) (he
     }
 
   -- nothing came, was handed out or was opened: the wires are as they were
-  pub quiet : ((l : ℕ) → is_opened_by l e ≡ false) → ((l : ℕ) → came l e.event ≡ []) → ((l : ℕ) → handed l e.event e.verdict ≡ []) → IsWorld (world after w.wires)
+  pub quiet : ((l : ℕ) → is_opened_by l e ≡ false) → ((l : ℕ) → came l e.event ≡ []) → ((l : ℕ) → handed l e.event e.verdict ≡ []) → IsWorld (world later w.wires)
   quiet opens none_in none_out = steady w.wires opens (λ n y q. (y, q, same_ends y)) (λ n x q. (x, q, same_ends x)) (λ n y q to.
       carries_on w.nodes i h e here next.number legal y y (same_ends y) (sound.wired n y q) to (sound.carried n y q to)
-      (λ gets. ap (λ v. v ++ bodies (under_way to y)) (none_came w.nodes i h e here next.number legal none_in (node_at to y) (link_at to y)) ∙ sym (append_nil (bodies (under_way to y)))
+      (λ gets. ap (λ v. v ++ bodies (under_way to y)) (none_came w.nodes i h e here next.number legal none_in (node_at to y) (link_at to y)) ∙ sym (append-nil (bodies (under_way to y)))
       ∙ ap (λ v. bodies (under_way to y) ++ v) (sym (none_handed w.nodes i h e here next.number legal none_out (node_at (other to) y) (link_at (other to) y)))))

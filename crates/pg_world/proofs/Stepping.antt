@@ -1,17 +1,11 @@
 -- What a node's step says of its answer.
-use Rattle.std.proofs.Common.{◌≡◌, ℕ, Bool, true, false, not, cond, Some, None, Ok, Err, ap, sym, refl, arith}
-use Rattle.policy_audit.specs.declared.event.Event.{Event}
+use Rattle.pg_world.proofs.Words.{◌≡◌, ℕ, Bool, true, false, not, cond, Some, None, Ok, Err, ap, sym, refl, arith, Event, Reply, Accepted, Refused}
+use Rattle.pg_world.proofs.Words.{History, waiting, is_kept, checks, first_broken, is_full, judged, with_entry, entry_of}
+use Rattle.node_core.specs.Step.{IsStepped}
 use Rattle.policy_audit.specs.declared.event.Event.TheVariants as event
-use Rattle.policy_audit.specs.declared.reply.Reply.{Reply}
 use Rattle.policy_audit.specs.declared.reply.Reply.TheVariants as reply
 use Rattle.policy_audit.specs.declared.rule.Rule.TheVariants as rule
-use Rattle.policy_audit.specs.declared.entry.Verdict.TheVariants.{Accepted, Refused}
-use Rattle.policy_audit.specs.History.{History}
-use Rattle.policy_audit.specs.Owed.{waiting, is_kept}
-use Rattle.policy_audit.specs.Checks.{checks, first_broken}
-use Rattle.policy_audit.specs.Policy.{is_full, judged, with_entry, entry_of}
 use Rattle.node_core.specs.declared.fault.CoreFault.TheVariants as core_fault
-use Rattle.node_core.specs.Step.{IsStepped}
 
 -- a full audit refuses every event, and nothing is entered
 pub full_step : (h : History) (seat : ℕ) (e : Event) → is_full h ≡ true → IsStepped h seat e h (Err (core_fault.Refused rule.EntriesFull))

@@ -1,26 +1,14 @@
 -- A step of a world from what it comes to, and from where it happens.
-use Rattle.std.proofs.Common.{◌≡◌, ◌≢◌, ◌<◌, ◌≤◌, ℕ, Bool, true, false, ◌∷◌, [], List, Option, Some, None, Ok, Err, ap, sym, refl, subst, ◌∙◌, get_or, length}
-use Rattle.std.specs.Prelude.{slice_get, slice_set}
-use Rattle.std.proofs.lemmas.List.{set-get_or}
-use Rattle.std.proofs.lemmas.Option.{slice_get-get_or, slice_get_past}
-use Rattle.std.specs.declared.result.Result.{Result}
-use Rattle.policy_audit.specs.declared.event.Event.{Event}
-use Rattle.policy_audit.specs.declared.event.Event.TheVariants as event
-use Rattle.policy_audit.specs.declared.reply.Reply.{Reply}
-use Rattle.policy_audit.specs.OutFrame.{OutFrame}
-use Rattle.policy_audit.specs.History.{History}
-use Rattle.node_core.specs.declared.fault.CoreFault.{CoreFault}
+use Rattle.pg_world.proofs.Words.{◌≡◌, ◌≢◌, ◌<◌, ◌≤◌, ℕ, Bool, true, false, ◌∷◌, [], List, Option, Some, None, Ok, Err, ap, sym, refl, subst, ◌∙◌}
+use Rattle.pg_world.proofs.Words.{get_or, length, slice_get, slice_set, set-get_or, slice_get-get_or, slice_get_past, Result, Event, Reply, OutFrame}
+use Rattle.pg_world.proofs.Words.{History, CoreFault, Side, End, WorldStep, WorldReply, WorldFault, Wire, Nodes, world, under_way, Answers, oldest}
+use Rattle.pg_world.proofs.Words.{Turn, Refuses, Asks, Turns, IsAsked, turn_of, asks, end_at, at_end, opener_at, queue_at, asks_frame, asks_opened}
+use Rattle.pg_world.proofs.Words.{changed, wires_after, answer_of}
 use Rattle.node_core.specs.Step.{IsStepped}
-use Rattle.pg_world.specs.declared.side.Side.{Side}
-use Rattle.pg_world.specs.declared.side.End.{End}
-use Rattle.pg_world.specs.declared.world_step.WorldStep.{WorldStep}
+use Rattle.pg_world.specs.Steps.{IsWorldStep}
+use Rattle.policy_audit.specs.declared.event.Event.TheVariants as event
 use Rattle.pg_world.specs.declared.world_step.WorldStep.TheVariants as step
-use Rattle.pg_world.specs.declared.world_step.WorldReply.{WorldReply}
-use Rattle.pg_world.specs.declared.fault.WorldFault.{WorldFault}
 use Rattle.pg_world.specs.declared.fault.WorldFault.TheVariants as fault
-use Rattle.pg_world.specs.World.{Wire, Nodes, world, under_way}
-use Rattle.pg_world.specs.Queues.{Answers, oldest}
-use Rattle.pg_world.specs.Steps.{Turn, Refuses, Asks, Turns, IsAsked, IsWorldStep, turn_of, asks, end_at, at_end, opener_at, queue_at, asks_frame, asks_opened, changed, wires_after, answer_of}
 
 -- ---- what it comes to
 

@@ -1,25 +1,14 @@
 -- Both nodes of each wire are there, whatever steps were made.
-use Rattle.std.proofs.Common.{◌≡◌, ◌≢◌, ◌<◌, arith, ℕ, zero, suc, List, [], ◌∷◌, ◌++◌, Option, Some, None, Err, ap, sym, refl, subst, ◌∙◌, length}
-use Rattle.std.specs.Prelude.{slice_get, slice_set}
-use Rattle.std.proofs.lemmas.List.{length-set}
-use Rattle.std.proofs.lemmas.Option.{slice_get_within, slice_get-get_or}
-use Rattle.std.specs.declared.result.Result.{Result}
+use Rattle.pg_world.proofs.Words.{◌≡◌, ◌≢◌, ◌<◌, arith, ℕ, zero, suc, List, [], ◌∷◌, ◌++◌, Option, Some, None, Err, ap, sym, refl, subst, ◌∙◌, length}
+use Rattle.pg_world.proofs.Words.{slice_get, slice_set, length-set, slice_get_within, slice_get-get_or, Result, Reply, OutFrame, History, CoreFault}
+use Rattle.pg_world.proofs.Words.{Side, End, WorldStep, WorldReply, WorldFault, Wire, Nodes, world, HaveNodes, node_at, link_at, dialled, other}
+use Rattle.pg_world.proofs.Words.{with_link, link_opened, joined_by, left_by, cut_by, Turn, Refuses, Asks, Turns, turn_of, changed, changed_queue}
+use Rattle.pg_world.proofs.Words.{new_wire, wires_after, link_end, wire_end, end_at, opener, wire_opener, opener_at}
+use Rattle.pg_world.specs.Steps.{IsWorldStep}
 use Rattle.policy_audit.specs.declared.event.Event.TheVariants as event
-use Rattle.policy_audit.specs.declared.reply.Reply.{Reply}
-use Rattle.policy_audit.specs.OutFrame.{OutFrame}
-use Rattle.policy_audit.specs.History.{History}
-use Rattle.node_core.specs.declared.fault.CoreFault.{CoreFault}
-use Rattle.pg_world.specs.declared.side.Side.{Side}
 use Rattle.pg_world.specs.declared.side.Side.TheVariants as side
-use Rattle.pg_world.specs.declared.side.End.{End}
-use Rattle.pg_world.specs.declared.world_step.WorldStep.{WorldStep}
 use Rattle.pg_world.specs.declared.world_step.WorldStep.TheVariants as step
-use Rattle.pg_world.specs.declared.world_step.WorldReply.{WorldReply}
-use Rattle.pg_world.specs.declared.fault.WorldFault.{WorldFault}
 use Rattle.pg_world.specs.declared.fault.WorldFault.TheVariants as fault
-use Rattle.pg_world.specs.World.{Wire, Nodes, world, HaveNodes, node_at, link_at, dialled, other, with_link}
-use Rattle.pg_world.specs.Queues.{link_opened, joined_by, left_by, cut_by}
-use Rattle.pg_world.specs.Steps.{Turn, Refuses, Asks, Turns, IsWorldStep, turn_of, changed, changed_queue, new_wire, wires_after, link_end, wire_end, end_at, opener, wire_opener, opener_at}
 
 -- ---- each wire of a list
 

@@ -4,7 +4,7 @@ use Rattle.policy_audit.specs.History.{History}
 use Rattle.frame_laws.specs.Written.{IsNode}
 use Rattle.pg_world.specs.declared.fault.NodesFault.{NodesFault}
 use Rattle.pg_world.specs.declared.fault.NodesFault.TheVariants as nodes_fault
-use Rattle.pg_world.specs.World.{ShareAName}
+use Rattle.pg_world.specs.World.{DifferInName, ShareAName}
 
 -- a node that has seen nothing
 pub record IsNew (h : History) : Type 0 where
@@ -22,7 +22,7 @@ pub record HaveEntries (hs : List History) : Type 0 where
   pub stands : slice_get hs place ≡ Some node
   pub some : node.entries ≢ []
 
--- why they make no world
+-- why they make no world: names come first
 abbrev pub IsNodesFault : NodesFault → List History → Type 0
 IsNodesFault nodes_fault.SameName hs = ShareAName hs
-IsNodesFault nodes_fault.HasEntries hs = HaveEntries hs
+IsNodesFault nodes_fault.HasEntries hs = DifferInName hs × HaveEntries hs

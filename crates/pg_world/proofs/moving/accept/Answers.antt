@@ -1,9 +1,5 @@
-use Rattle.std.proofs.Common.{Err, Ok, sym, refl}
-use Rattle.std.proofs.lemmas.Result.{err_from_is_err_and}
-use Rattle.policy_audit.specs.declared.event.Event.{Event}
+use Rattle.pg_world.proofs.Words.{Err, Ok, sym, refl, err_from_is_err_and, Event, world, with_link, link_opened, plain}
 use Rattle.pg_world.specs.declared.world_step.WorldStep.TheVariants as step
-use Rattle.pg_world.specs.World.{world, with_link}
-use Rattle.pg_world.specs.Queues.{link_opened, plain}
 use Rattle.pg_world.proofs.Turning.{refused, on_wire, accept_turn}
 use Rattle.pg_world.proofs.moving.accept.Goals as goal
 

@@ -1,8 +1,6 @@
-use Rattle.std.proofs.Common.{sym, ◌∙◌, subst, ap, cond}
+use Rattle.pg_world.proofs.Words.{sym, ◌∙◌, subst, ap, cond, WorldFault, world, Turns, Refuses, asks}
+use Rattle.pg_world.specs.Steps.{IsWorldStep}
 use Rattle.pg_world.specs.declared.world_step.WorldStep.TheVariants as step
-use Rattle.pg_world.specs.declared.fault.WorldFault.{WorldFault}
-use Rattle.pg_world.specs.World.{world}
-use Rattle.pg_world.specs.Steps.{IsWorldStep, Turns, Refuses, asks}
 use Rattle.pg_world.proofs.Turning.{refused}
 use Rattle.pg_world.proofs.moving.call.Goals as goal
 

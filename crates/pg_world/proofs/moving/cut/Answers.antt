@@ -1,10 +1,5 @@
-use Rattle.std.proofs.Common.{Err, Ok, sym, refl}
-use Rattle.std.proofs.lemmas.Result.{err_from_is_err_and}
-use Rattle.policy_audit.specs.declared.event.Event.{Event}
+use Rattle.pg_world.proofs.Words.{Err, Ok, sym, refl, err_from_is_err_and, Event, world, cut_by, plain, changed_queue}
 use Rattle.pg_world.specs.declared.world_step.WorldStep.TheVariants as step
-use Rattle.pg_world.specs.World.{world}
-use Rattle.pg_world.specs.Queues.{cut_by, plain}
-use Rattle.pg_world.specs.Steps.{changed_queue}
 use Rattle.pg_world.proofs.Turning.{refused, on_wire, cut_turn}
 use Rattle.pg_world.proofs.moving.cut.Goals as goal
 

@@ -1,12 +1,6 @@
-use Rattle.std.proofs.Common.{Err, sym, refl, get_or}
-use Rattle.std.proofs.lemmas.List.{set-get_or}
-use Rattle.std.proofs.lemmas.Result.{err_from_is_err_and}
-use Rattle.policy_audit.specs.declared.event.Event.{Event}
+use Rattle.pg_world.proofs.Words.{Err, sym, refl, get_or, set-get_or, err_from_is_err_and, Event, WorldFault, world, under_way, left_by, plain}
+use Rattle.pg_world.proofs.Words.{oldest, changed_queue}
 use Rattle.pg_world.specs.declared.world_step.WorldStep.TheVariants as step
-use Rattle.pg_world.specs.declared.fault.WorldFault.{WorldFault}
-use Rattle.pg_world.specs.World.{world, under_way}
-use Rattle.pg_world.specs.Queues.{left_by, plain, oldest}
-use Rattle.pg_world.specs.Steps.{changed_queue}
 use Rattle.pg_world.proofs.Turning.{refused, on_wire, deliver_turn, no_frame, a_frame, none_left}
 use Rattle.pg_world.proofs.moving.deliver.Goals as goal
 

@@ -1,14 +1,6 @@
-use Rattle.std.proofs.Common.{◌++◌, length, ap, sym, refl, ◌∙◌, get_or}
-use Rattle.std.proofs.lemmas.List.{append-nil}
-use Rattle.std.proofs.lemmas.Option.{slice_get-get_or}
-use Rattle.policy_audit.specs.declared.event.Event.{Event}
-use Rattle.policy_audit.specs.declared.rule.Rule.{Rule}
-use Rattle.node_core.specs.declared.fault.CoreFault.{CoreFault}
-use Rattle.pg_world.specs.declared.fault.WorldFault.{WorldFault}
+use Rattle.pg_world.proofs.Words.{◌++◌, length, ap, sym, refl, ◌∙◌, get_or, append-nil, slice_get-get_or, Event, Rule, CoreFault, WorldFault, world}
+use Rattle.pg_world.proofs.Words.{place_dialled, Asks, new_wire}
 use Rattle.pg_world.specs.declared.world_step.WorldStep.TheVariants as step
-use Rattle.pg_world.specs.World.{world}
-use Rattle.pg_world.specs.Queues.{place_dialled}
-use Rattle.pg_world.specs.Steps.{Asks, new_wire}
 use Rattle.pg_world.proofs.Stepping.{full_step, memory_step}
 use Rattle.pg_world.proofs.Turning.{refused, unanswered, turned, dials_nobody, nobody_dials, dial_turn}
 use Rattle.pg_world.proofs.moving.dial.Goals as goal

@@ -1,10 +1,5 @@
-use Rattle.std.proofs.Common.{Err, Ok, sym, refl}
-use Rattle.std.proofs.lemmas.Result.{err_from_is_err_and}
-use Rattle.policy_audit.specs.declared.event.Event.{Event}
+use Rattle.pg_world.proofs.Words.{Err, Ok, sym, refl, err_from_is_err_and, Event, world, other, joined_by, count_handed, changed_queue}
 use Rattle.pg_world.specs.declared.world_step.WorldStep.TheVariants as step
-use Rattle.pg_world.specs.World.{world, other}
-use Rattle.pg_world.specs.Queues.{joined_by, count_handed}
-use Rattle.pg_world.specs.Steps.{changed_queue}
 use Rattle.pg_world.proofs.Turning.{refused, on_wire, hand_turn}
 use Rattle.pg_world.proofs.moving.hand.Goals as goal
 

@@ -1,4 +1,4 @@
-use Rattle.pg_world.specs.World.{world}
+use Rattle.pg_world.proofs.Words.{world}
 use Rattle.pg_world.proofs.Turning.{restart_is}
 use Rattle.pg_world.proofs.moving.restart.Goals as goal
 

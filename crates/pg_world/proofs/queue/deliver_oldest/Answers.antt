@@ -1,9 +1,5 @@
-use Rattle.std.proofs.Common.{Err, refl, sym, ap, subst, cond, drop, ◌∙◌}
-use Rattle.policy_audit.specs.declared.event.Event.{Event}
-use Rattle.policy_audit.specs.declared.rule.Rule.{Rule}
-use Rattle.node_core.specs.declared.fault.CoreFault.{CoreFault}
+use Rattle.pg_world.proofs.Words.{Err, refl, sym, ap, subst, cond, drop, ◌∙◌, Event, Rule, CoreFault, oldest}
 use Rattle.node_core.specs.Step.{IsStepped}
-use Rattle.pg_world.specs.Queues.{oldest}
 use Rattle.pg_world.proofs.Stepping.{full_step, memory_step}
 use Rattle.pg_world.proofs.queue.deliver_oldest.Goals as goal
 use Rattle.pg_world.proofs.queue.deliver_oldest.Goals.{then-leaves, else-leaves}

@@ -1,8 +1,4 @@
-use Rattle.std.proofs.Common.{Err, refl, ap, sym, ◌∙◌}
-use Rattle.policy_audit.specs.declared.event.Event.{Event}
-use Rattle.policy_audit.specs.declared.rule.Rule.{Rule}
-use Rattle.node_core.specs.declared.fault.CoreFault.{CoreFault}
-use Rattle.pg_world.specs.Queues.{frames_in}
+use Rattle.pg_world.proofs.Words.{Err, refl, ap, sym, ◌∙◌, Event, Rule, CoreFault, frames_in}
 use Rattle.pg_world.proofs.Stepping.{full_step, memory_step, taken}
 use Rattle.pg_world.proofs.queue.hand_over.Goals as goal
 

@@ -1,8 +1,4 @@
-use Rattle.std.proofs.Common.{◌≡◌, ◌∙◌, Some, sym, refl, subst, length, arith}
-use Rattle.std.specs.Prelude.{slice_get}
-use Rattle.std.proofs.lemmas.Option.{slice_get_read, slice_get_within}
-use Rattle.policy_audit.specs.History.{History}
-use Rattle.pg_world.specs.Starting.{IsNew}
+use Rattle.pg_world.proofs.Words.{◌≡◌, ◌∙◌, Some, sym, refl, subst, length, arith, slice_get, slice_get_read, slice_get_within, History, IsNew}
 use Rattle.pg_world.proofs.Puts.{value_of}
 use Rattle.pg_world.proofs.world.have_entries.Goals as goal
 use borrow.Author.Count.{below_more}

@@ -1,6 +1,4 @@
-use Rattle.std.proofs.Common.{◌≡◌, ◌≢◌, Some, arith}
-use Rattle.std.specs.Prelude.{slice_get}
-use Rattle.policy_audit.specs.History.{History}
+use Rattle.pg_world.proofs.Words.{◌≡◌, ◌≢◌, Some, arith, slice_get, History}
 use Rattle.pg_world.proofs.Naming.{shared, apart}
 use Rattle.pg_world.proofs.world.is_named_before.Goals as goal
 use borrow.Author.Count.{below_more}

@@ -1,6 +1,4 @@
-use Rattle.std.proofs.Common.{◌≡◌, ◌<◌, ℕ, Some, ◌≢◌}
-use Rattle.std.specs.Prelude.{slice_get}
-use Rattle.policy_audit.specs.History.{History}
+use Rattle.pg_world.proofs.Words.{◌≡◌, ◌<◌, ℕ, Some, ◌≢◌, slice_get, History}
 use Rattle.pg_world.proofs.world.share_a_name.Given as goal
 
 abbrev pub invariant-loop-place : goal.invariant-loop-place

@@ -1,6 +1,4 @@
-use Rattle.std.proofs.Common.{refl}
-use Rattle.pg_world.specs.declared.side.Side.{Side}
-use Rattle.pg_world.specs.Queues.{cut_by}
+use Rattle.pg_world.proofs.Words.{refl, Side, cut_by}
 use Rattle.pg_world.proofs.Queues.{put}
 use Rattle.pg_world.proofs.wire.Wire.cut.Goals as goal
 

@@ -1,7 +1,4 @@
-use Rattle.std.proofs.Common.{ap, refl}
-use Rattle.pg_world.specs.declared.side.Side.{Side}
-use Rattle.pg_world.specs.World.{other}
-use Rattle.pg_world.specs.Queues.{joined_by}
+use Rattle.pg_world.proofs.Words.{ap, refl, Side, other, joined_by}
 use Rattle.pg_world.proofs.Queues.{put}
 use Rattle.pg_world.proofs.wire.Wire.hand.Goals as goal
 

@@ -1,7 +1,4 @@
-use Rattle.std.proofs.Common.{sym, subst}
-use Rattle.pg_world.specs.World.{world, DifferInName}
-use Rattle.pg_world.specs.Sound.{IsWorld}
-use Rattle.pg_world.specs.Starting.{AreNew}
+use Rattle.pg_world.proofs.Words.{sym, subst, world, DifferInName, IsWorld, AreNew}
 use Rattle.pg_world.proofs.Starting.{starts}
 use Rattle.pg_world.proofs.world.World.new.Goals as goal
 

@@ -1,5 +1,4 @@
-use Rattle.std.proofs.Common.{subst}
-use Rattle.pg_world.specs.Views.{ListMoments, ListNow}
+use Rattle.pg_world.proofs.Words.{subst, ListMoments, ListNow}
 use Rattle.pg_world.proofs.Moments.{lists_moments, lists_now}
 use Rattle.pg_world.proofs.world.World.node.Goals as goal
 

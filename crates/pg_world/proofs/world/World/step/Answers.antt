@@ -1,8 +1,5 @@
-use Rattle.std.proofs.Common.{◌≡◌, ◌∙◌, sym, subst, length, take, drop, ◌++◌}
-use Rattle.std.proofs.lemmas.List.{take_at}
-use Rattle.pg_world.specs.World.{world}
+use Rattle.pg_world.proofs.Words.{◌≡◌, ◌∙◌, sym, subst, length, take, drop, ◌++◌, take_at, world, IsWorld}
 use Rattle.pg_world.specs.Steps.{IsWorldStep}
-use Rattle.pg_world.specs.Sound.{IsWorld}
 use Rattle.pg_world.proofs.Staying.{stays}
 use Rattle.pg_world.proofs.Moments.{lists_moments, lists_now}
 use Rattle.pg_world.proofs.world.World.step.Goals as goal

@@ -1,0 +1,81 @@
+-- The words that the proofs of this crate speak in, passed on from one place.
+pub use Rattle.std.proofs.Common.{Bool, Err, IsTrue, List, None, Ok, Option, Some, [], ap, arith, codes, cond, drop, false, get_or, length, nat_eq}
+pub use Rattle.std.proofs.Common.{not, refl, subst, suc, sym, take, true, zero, ℕ, ◌&&◌, ◌++◌, ◌+◌, ◌<◌, ◌||◌, ◌∙◌, ◌∷◌, ◌≡◌, ◌≢◌, ◌≤◌}
+pub use Rattle.std.proofs.lemmas.Bool.{eq-eqb, eqb-false, eqb-true, ltb-true}
+pub use Rattle.std.proofs.lemmas.Bool.Decides.{Decides-eqb}
+pub use Rattle.std.proofs.lemmas.List.{append-nil, append_assoc, length-set, set-get_or, take_at}
+pub use Rattle.std.proofs.lemmas.Option.{get_or_from_slice_get, slice_get-get_or, slice_get_past, slice_get_read, slice_get_within}
+pub use Rattle.std.proofs.lemmas.Result.{err_from_is_err_and}
+pub use Rattle.std.proofs.lemmas.Slice.Eq.{slice_eq-Decides}
+pub use Rattle.std.specs.Bool.{Decides}
+pub use Rattle.std.specs.Cmp.Lexicographic.{pointwise}
+pub use Rattle.std.specs.List.{AllByRecursion}
+pub use Rattle.std.specs.Option.{option_map, option_map_or}
+pub use Rattle.std.specs.Prelude.{bytes_eq, is_some, nat_lt, slice_get, slice_set, ◌==◌}
+pub use Rattle.std.specs.declared.result.Result.{Result}
+pub use Rattle.dist_types.proofs.LimitLemmas.{names_compute, texts_compute}
+pub use Rattle.dist_types.proofs.Orders.{same_decides}
+pub use Rattle.dist_types.specs.Difference.{is_empty}
+pub use Rattle.dist_types.specs.Listing.{same}
+pub use Rattle.dist_types.specs.Text.{IsNodeName, IsText}
+pub use Rattle.dist_types.specs.declared.pid.Pid.{Pid}
+pub use Rattle.frame_laws.proofs.Accepting.{is_up_there}
+pub use Rattle.frame_laws.proofs.Bodies.{stands_first}
+pub use Rattle.frame_laws.proofs.Giving.{asked_once, named_first}
+pub use Rattle.frame_laws.proofs.Greetings.{asked_own, named_own}
+pub use Rattle.frame_laws.proofs.Handing.{all_handed, open_rest}
+pub use Rattle.frame_laws.proofs.Hearing.{given_here}
+pub use Rattle.frame_laws.proofs.HonestNode.{frame_of}
+pub use Rattle.frame_laws.proofs.OneView.{heard_moment, listed_now}
+pub use Rattle.frame_laws.proofs.Openings.{opened_number, opening_is, opening_low, unborn_out}
+pub use Rattle.frame_laws.specs.HeardMoment.{HearsMoment}
+pub use Rattle.frame_laws.specs.Hellos.{hello_in, opening_of, own_hello}
+pub use Rattle.frame_laws.specs.Honest.{HasGiven, IsGiven}
+pub use Rattle.frame_laws.specs.Moments.{moment}
+pub use Rattle.frame_laws.specs.Sent.{Owing, bodies_of, came, delivered, frames_of, handed, out, sent}
+pub use Rattle.frame_laws.specs.Written.{IsNode, IsWritten}
+pub use Rattle.handshake_frames.specs.Frame.{Name}
+pub use Rattle.handshake_frames.specs.declared.frame.StatusWord.{StatusWord}
+pub use Rattle.link_frames.specs.declared.message.Message.{Message}
+pub use Rattle.node_core.specs.declared.fault.CoreFault.{CoreFault}
+pub use Rattle.pg_world.specs.Exchange.{Comes, IsBehind, IsExchanged, exchange, fresh, join_again, two_nodes}
+pub use Rattle.pg_world.specs.Queues.{Answers, count_handed, cut_by, frames_in, is_gone, joined_by, leaves, left_by, link_opened, oldest}
+pub use Rattle.pg_world.specs.Queues.{place_dialled, plain}
+pub use Rattle.pg_world.specs.Refusals.{keeps_wires}
+pub use Rattle.pg_world.specs.Sound.{Carries, FramesAreLate, HasEnd, IsEnd, IsLate, IsWired, IsWorld, IsWrittenStep, bodies, came_of, gets_of}
+pub use Rattle.pg_world.specs.Sound.{handed_of}
+pub use Rattle.pg_world.specs.Starting.{AreNew, IsNew}
+pub use Rattle.pg_world.specs.Steps.{Asks, IsAsked, Refuses, Turn, Turns, answer_of, asks, asks_frame, asks_opened, at_end, changed, changed_queue}
+pub use Rattle.pg_world.specs.Steps.{end_at, is_wrong, link_end, new_wire, opener, opener_at, queue_at, turn_of, wire_end, wire_opener, wires_after}
+pub use Rattle.pg_world.specs.Views.{AreEnds, ListMoments, ListNow, hears_node}
+pub use Rattle.pg_world.specs.World.{DifferInName, HaveNodes, Nodes, ShareAName, Wire, dialled, link_at, node_at, other, under_way, with_link}
+pub use Rattle.pg_world.specs.World.{with_queue, world}
+pub use Rattle.pg_world.specs.declared.fault.WorldFault.{WorldFault}
+pub use Rattle.pg_world.specs.declared.side.End.{End}
+pub use Rattle.pg_world.specs.declared.side.Side.{Side}
+pub use Rattle.pg_world.specs.declared.world_step.WorldReply.{WorldReply}
+pub use Rattle.pg_world.specs.declared.world_step.WorldStep.{WorldStep}
+pub use Rattle.policy_audit.proofs.Accepted.{accepted, lie, no_value}
+pub use Rattle.policy_audit.proofs.ChangeLemmas.{next_is}
+pub use Rattle.policy_audit.proofs.UpLinks.{agrees, and_left, and_right}
+pub use Rattle.policy_audit.proofs.Walked.{but}
+pub use Rattle.policy_audit.specs.Checks.{Check, always, answer_checks, challenge_checks, checks, digest_checks, first_broken, frame_checks}
+pub use Rattle.policy_audit.specs.Checks.{is_peer_up, message_checks, name_checks, status_checks}
+pub use Rattle.policy_audit.specs.Hearing.{heard, message_taken}
+pub use Rattle.policy_audit.specs.History.{History, creation, is_accepted}
+pub use Rattle.policy_audit.specs.Links.{ends, is_open, is_opened_by, is_up}
+pub use Rattle.policy_audit.specs.Listed.{listed, listed_by}
+pub use Rattle.policy_audit.specs.OutFrame.{OutFrame}
+pub use Rattle.policy_audit.specs.Owed.{is_kept, waiting}
+pub use Rattle.policy_audit.specs.Own.{is_local, is_running, own}
+pub use Rattle.policy_audit.specs.Policy.{IsLegal, IsLegalIn, IsNext, after, answer, entry_of, is_full, judged, next_number, verdict, with_entry}
+pub use Rattle.policy_audit.specs.Sides.{AwaitAck, AwaitAnswer, AwaitChallenge, AwaitMessage, AwaitName, AwaitReply, AwaitStatus, Awaited, ByDial}
+pub use Rattle.policy_audit.specs.Sides.{ByPeer, Opened, Start, awaits, given, is_whole, is_whole_in, opened, peer_of, present_link, start_of}
+pub use Rattle.policy_audit.specs.Sides.{taken}
+pub use Rattle.policy_audit.specs.declared.entry.Entry.{Entry}
+pub use Rattle.policy_audit.specs.declared.entry.Verdict.{Verdict}
+pub use Rattle.policy_audit.specs.declared.entry.Verdict.TheVariants.{Accepted, Refused}
+pub use Rattle.policy_audit.specs.declared.event.Event.{Event}
+pub use Rattle.policy_audit.specs.declared.opening.Opening.{Opening}
+pub use Rattle.policy_audit.specs.declared.reply.Reply.{Reply}
+pub use Rattle.policy_audit.specs.declared.rule.Rule.{Rule}
