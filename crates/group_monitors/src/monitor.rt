@@ -1,5 +1,6 @@
 //! One monitor.
 use dist_types::{Group, Scope};
+use policy_audit::Place;
 
 /// What a seat watches, and how far it has been told.
 #[derive(Debug, Drop)]
@@ -8,6 +9,6 @@ pub struct Monitor {
     pub scope: Scope,
     /// One group of the scope, or all of them.
     pub group: Option<Group>,
-    /// How many entries of the audit it has seen.
-    pub place: usize,
+    /// It has seen the entries of the audit before it.
+    pub place: Place,
 }

@@ -9,7 +9,7 @@ use crate::monitor::Monitor;
 use crate::told::told_by;
 use dist_types::{Group, OutOfMemory, Scope};
 use indexmap::IndexMap;
-use policy_audit::{Audit, Updates};
+use policy_audit::{Audit, Place, Updates};
 use std::alloc::Global;
 use std::marker::Model;
 
@@ -88,7 +88,7 @@ impl Monitors {
         ensures refused { IfErr result (λ fault. IsUpdatesFault fault (monitor_of self.now seat number)) }
     {
         let monitor = self.find(seat, number)?;
-        let later = audit.after(monitor.place);
+        let later = audit.behind(&monitor.place);
         let updates = told_by(*self.monitors.allocator(), monitor, later)?;
         Ok(Updates::of(updates)?)
     }
@@ -115,7 +115,7 @@ impl Monitors {
         if monitor.seat != seat {
             return Err(NoMonitor);
         }
-        monitor.place = place;
+        monitor.place = Place::behind(place);
         Ok(())
     }
 
@@ -150,7 +150,7 @@ impl Monitors {
         ensures ok { OnOk result (self.new ≡ self.old ++ (number, record { seat = seat; scope = scope; group = group; place = number }) ∷ []) }
         ensures same { OnErr result (self.new ≡ self.old) }
     {
-        let place = number as usize;
+        let place = Place::behind(number as usize);
         self.monitors.insert(
             number,
             Monitor {

@@ -14,6 +14,7 @@ use crate::fault::{CoreFault, OpenFault};
 use crate::kept::Kept;
 use crate::links::place_of;
 use crate::processes::Processes;
+use crate::running::let_go;
 use admission_rules::Admission;
 use dist_types::{NodeName, OutOfMemory, Scope, TryClone};
 use group_monitors::Monitors;
@@ -136,6 +137,13 @@ impl NodeCore {
     {
         let place = place_of(&self.kept.links, link)?;
         Some(self.kept.links[place].frames().len())
+    }
+
+    /// Lets go of what is only kept to answer sooner, so that others find memory. It takes none.
+    pub fn let_go(&mut self)
+        ensures { self.new ≡ self.old }
+    {
+        let_go(&mut self.kept.scopes);
     }
 
     /// Answers an event of a seat by the written policy, and enters it with what it changed. `Refused` names the first rule

@@ -38,3 +38,12 @@ pub fn place_of(scopes: &[Running], scope: &Scope) -> Option<usize>
         .binary_search_by(|running| running.scope.cmp(scope))
         .ok()
 }
+
+/// Lets go of the listings that the scopes keep.
+pub fn let_go(scopes: &mut Vec<Running>)
+    ensures { scopes.new.items ≡ scopes.old.items }
+{
+    for running in scopes.iter_mut() {
+        running.table.let_go();
+    }
+}

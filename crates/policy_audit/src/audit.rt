@@ -10,6 +10,7 @@ use crate::entry::{Entry, Verdict};
 use crate::event::Event;
 use crate::later::Later;
 use crate::page::{PAGE_SIZE, Page, push_last};
+use crate::place::Place;
 use std::alloc::{AllocError, Global};
 use std::marker::Model;
 use thiserror::Error;
@@ -135,7 +136,15 @@ impl Audit {
         ensures rest { result ≡ later_than number self.now.entries }
         ensures bound { length result < 2 ^ 64 }
     {
-        Later::new(self.pages.as_slice(), number)
+        self.behind(&Place::behind(number))
+    }
+
+    /// The entries behind a place, in their order.
+    pub fn behind(&self, place: &Place) -> Later<'_>
+        ensures rest { result ≡ later_than place.now self.now.entries }
+        ensures bound { length result < 2 ^ 64 }
+    {
+        Later::new(self.pages.as_slice(), place)
     }
 
     fn is_full(&self) -> bool

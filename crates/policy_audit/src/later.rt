@@ -7,7 +7,8 @@ ghost use Rattle.policy_audit.specs.Pages.{entries_in, IsPaged};
 
 use crate::changing::Changing;
 use crate::entry::Entry;
-use crate::page::{PAGE_SIZE, Page};
+use crate::page::Page;
+use crate::place::Place;
 use std::marker::Model;
 
 /// Entries of an audit in their order, up to its end. Contracts see it as the list of those that are left.
@@ -30,14 +31,14 @@ impl<'a> Model for Later<'a> {
 }
 
 impl<'a> Later<'a> {
-    /// The entries behind the first of these pages, as many as the number says.
-    pub(crate) fn new(pages: &'a [Page], number: usize) -> Later<'a>
+    /// The entries of these pages behind a place.
+    pub(crate) fn new(pages: &'a [Page], place: &Place) -> Later<'a>
         requires { IsPaged pages.now }
-        ensures { result ≡ drop number (entries_in pages.now) }
+        ensures { result ≡ drop place.now (entries_in pages.now) }
     {
-        match behind(pages, number / PAGE_SIZE).split_first() {
+        match behind(pages, place.page()).split_first() {
             Some((page, pages)) => Later {
-                page: behind(page.as_slice(), number % PAGE_SIZE),
+                page: behind(page.as_slice(), place.entries()),
                 pages,
             },
             None => Later {

@@ -11,6 +11,7 @@ mod laws;
 mod opening;
 mod out_frame;
 mod page;
+mod place;
 mod reply;
 mod rule;
 
@@ -26,5 +27,6 @@ pub use laws::{
 };
 pub use opening::Opening;
 pub use out_frame::{OutFrame, OutFrames};
+pub use place::Place;
 pub use reply::{Contents, GroupPids, Groups, Members, Reply, Update, Updates};
 pub use rule::Rule;

@@ -245,6 +245,13 @@ impl ScopeTable {
         self.own_rows = 0;
     }
 
+    /// Lets go of the listings that are kept, so that others find memory. It takes none.
+    pub fn let_go(&mut self)
+        ensures { self.new ≡ self.old }
+    {
+        self.listings.clear();
+    }
+
     /// What `clear` will change.
     pub fn clear_change(&self) -> Result<Vec<GroupChange>, OutOfMemory>
         ensures { IfOk result (λ changes. IsDifference (count_of self.now) no_count changes.items) }

@@ -1,3 +1,5 @@
+use Rattle.std.proofs.Common.{◌≡◌, ◌++◌, ◌∷◌, [], ℕ, subst}
+use Rattle.group_monitors.specs.declared.monitor.Monitor.{Monitor}
 use Rattle.group_monitors.proofs.Words.{◌∙◌, nat_eq, insert_entry-new}
 use Rattle.group_monitors.proofs.Found.{free_not_found}
 use Rattle.group_monitors.proofs.monitors.Monitors.add.Goals as goal
@@ -5,4 +7,9 @@ use Rattle.group_monitors.proofs.monitors.Monitors.add.Goals as goal
 pub returns-clause-ok : goal.returns-clause-ok
 returns-clause-ok c =
     let absent = free_not_found c.args.number c.self.inside.monitors.entries (rw c.self.view_is c.requires) in
-    rw (← c.self.view_is) (c.in_ok-insert.ensures.entries ∙ insert_entry-new nat_eq c.self.inside.monitors c.args.number _ absent)
+    let inserted = c.in_ok-insert.ensures.entries ∙ insert_entry-new nat_eq c.self.inside.monitors c.args.number _ absent in
+    let added : ℕ → Monitor = λ place. record { seat = c.args.seat; scope = c.args.scope; group = c.args.group; place = place } in
+    rw (← c.self.view_is)
+    (subst
+    (λ place. c.insert.new.self.entries ≡ c.self.inside.monitors.entries ++ (c.args.number, added place) ∷ [])
+    c.behind-place.ensures inserted)

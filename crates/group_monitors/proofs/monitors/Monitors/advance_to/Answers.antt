@@ -21,5 +21,5 @@ pub returns-clause-ok : goal.returns-clause-ok
 returns-clause-ok c =
     let found : monitor_of c.self.inside.monitors.entries c.args.seat c.args.number ≡ Some c.in-Some.monitor.now =
     own_found c.args.seat c.args.number c.in-Some.monitor.now c.self.inside.monitors.entries (sym c.in-Some.ensures.value) c.if-monitor-seat.false in
-    rw (← c.self.view_is)
+    rw (← c.self.view_is, c.behind-monitor.ensures)
     (ap is_some found, (c.get_mut.follows.holds _).0 ∙ moved c.args.seat c.args.number c.args.place c.in-Some.monitor.now c.self.inside.monitors.entries c.self.invariant found)

@@ -4,7 +4,7 @@ use Rattle.policy_audit.proofs.InPages.{behind}
 use Rattle.policy_audit.proofs.later.Later.new.Goals as goal
 
 pub returns-in-Some : goal.returns-in-Some
-returns-in-Some c = grind (arith, common_steps, behind c.args.pages.now c.requires c.args.number)
+returns-in-Some c = grind (arith, common_steps, behind c.args.pages.now c.requires c.args.place.now)
 
 pub returns-in-None : goal.returns-in-None
-returns-in-None c = grind (arith, common_steps, behind c.args.pages.now c.requires c.args.number)
+returns-in-None c = grind (arith, common_steps, behind c.args.pages.now c.requires c.args.place.now)
