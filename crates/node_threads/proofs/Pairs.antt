@@ -57,7 +57,7 @@ none_served (p ∷ pairs) = (record { opens = opens_none p.reader p.reader refl;
 
 -- ---- the pairs of a door, in turn
 
-at_work : (link : ℕ) (pair : Pair) (held : Held) (pair' : Pair) → IsAtWork link pair held → Finishes held pair' → Works link pair pair'
+pub at_work : (link : ℕ) (pair : Pair) (held : Held) (pair' : Pair) → IsAtWork link pair held → Finishes held pair' → Works link pair pair'
 at_work link pair (Running thread) pair' is works = subst (λ p. Works link p pair') is.1 (subst (λ l. Works l thread.promise.pair.value pair') is.0 works)
 at_work link pair (Ended served) pair' is works = subst (Works link pair) (sym works) is
 

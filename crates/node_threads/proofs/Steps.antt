@@ -1,31 +1,35 @@
 -- A reader's steps, one after another.
-use Rattle.std.proofs.Common.{◌≡◌, ◌≢◌, ℕ, ◌<◌, ◌≤◌, Bool, true, false, List, [], ◌∷◌, ◌++◌, ◌||◌, length, take, drop, Option, Some, None, Ok, Err, IfSome, refl, sym, ap, subst, ◌∙◌, inl, append-nil, append_assoc, arith}
+use Rattle.std.proofs.Common.{◌≡◌, ◌≢◌, ℕ, ◌<◌, ◌≤◌, Bool, true, false, List, [], ◌∷◌, ◌++◌, ◌||◌, length, take, drop, Option, Some, None, Ok, Err, refl, sym, ap, subst, ◌∙◌, inl, inr, append-nil, append_assoc, arith}
 use Rattle.std.specs.Int.{w16}
 use Rattle.std.specs.List.{list_any}
 use Rattle.std.specs.Option.{option_to_list}
 use Rattle.std.proofs.lemmas.List.{map-append, take-append-drop}
 use Rattle.std.proofs.lemmas.List.Elements.{All-nil}
 use Rattle.std.proofs.lemmas.List.Folds.{list_any-append}
-use Rattle.std.proofs.lemmas.Option.{IfSome_then}
 use Rattle.handshake_frames.specs.Stream.{IsFed}
 use Rattle.handshake_frames.proofs.StreamLemmas.{reads_16, goes_on, IsPartial-empty}
 use Rattle.link_frames.specs.declared.fault.FeedFault.{FeedFault}
 use Rattle.link_frames.specs.declared.fault.FeedFault.TheVariants as faults
 use Rattle.link_frames.specs.Stream.{SplitsLink}
 use Rattle.link_frames.proofs.LinkLemmas.{goes_on as link_goes_on, IsRest-empty}
-use Rattle.policy_audit.specs.declared.entry.Verdict.TheVariants.{Refused}
+use Rattle.policy_audit.specs.declared.entry.Verdict.{Verdict}
+use Rattle.policy_audit.specs.declared.rule.Rule.{Rule}
+use Rattle.policy_audit.specs.declared.rule.Rule.TheVariants as rules
+use Rattle.node_core.specs.declared.fault.CoreFault.TheVariants.{Refused, OutOfMemory}
+use Rattle.node_threads.specs.declared.fault.CallFault.{CallFault}
+use Rattle.node_threads.specs.declared.fault.CallFault.TheVariants.{StrangePass, Core}
 use Rattle.policy_audit.specs.declared.event.Event.TheVariants.{Frame}
 use Rattle.node_threads.specs.declared.cutter.Cutter.{Cutter}
 use Rattle.node_threads.specs.declared.cutter.Cutter.TheVariants.{Handshake, Messages}
 use Rattle.node_threads.specs.declared.ends.ReadEnd.{ReadEnd}
 use Rattle.node_threads.specs.declared.ends.ReadEnd.TheVariants as ends
 use Rattle.node_threads.specs.declared.pass.Call.{Call}
-use Rattle.node_threads.specs.Calls.{Record, Gains, is_up}
+use Rattle.node_threads.specs.Calls.{Record, Gains, is_up, is_up_answer}
 use Rattle.node_threads.specs.Cutting.{is_done, CutsOff}
-use Rattle.node_threads.specs.Ends.{rule_of, read_end_of_feed}
-use Rattle.node_threads.specs.Reading.{AreFrames, OfHandshake, IsRead, Moves, ReadsOn, LastIs, IsAnswerOf, Stops, Gave, ReadsTo, ReadsAs}
-use Rattle.node_threads.specs.Retreat.{MayLose}
-use Rattle.node_threads.proofs.Answered.{gains_none, gains_more}
+use Rattle.node_threads.specs.Ends.{end_of, reader_gives_up, read_end_of_feed}
+use Rattle.node_threads.specs.Entered.{verdict_in, IsEntry, Enters}
+use Rattle.node_threads.specs.Reading.{AreFrames, OfHandshake, IsRead, Moves, ReadsOn, HasReason, Stops, Gave, ReadsTo}
+use Rattle.node_threads.proofs.Answered.{gains_none, gains_more, fault_refuses, ends_at, ends_then}
 
 frames_more : (link : ℕ) (bodies others : List (List ℕ)) (calls more : List Call) → AreFrames link bodies calls → AreFrames link others more → AreFrames link (bodies ++ others) (calls ++ more)
 frames_more link bodies others calls more a b = rw (map-append (λ (c : Call). c.event) calls more, map-append (Frame link) bodies others, a, b) refl
@@ -123,32 +127,34 @@ reads_then link p mid p' old between new xs ys first then = record {
       (then.moves (before ++ xs) (calls ++ first.more) (first.moves before calls was)));
 }
 
-last_then : (end : ReadEnd) (xs ys : List Call) → IsAnswerOf end ys → IsAnswerOf end (xs ++ ys)
-last_then end xs ys last = IfSome_then (rule_of end) last (λ rule l. (xs ++ l.0, l.1, ap (λ cs. xs ++ cs) l.2 ∙ sym (append_assoc xs l.0 (l.1 ∷ [])), l.3))
+-- the reason stays, whatever was called before
+reason_then : (link : ℕ) (done : Bool) (p mid p' : Record) (xs ys : List Call) (stop : ReadEnd) → Gains p xs mid → HasReason link done mid ys stop p' → HasReason link done p (xs ++ ys) stop p'
+reason_then link done p mid p' xs ys stop gains (inl own) = inl own
+reason_then link done p mid p' xs ys stop gains (inr last) = inr (last.0, last.1, ends_then (Frame link last.0) last.1 p mid p' xs ys gains last.2, last.3)
 
-pub stops_then : (link : ℕ) (p mid p' : Record) (old between : Cutter) (bytes xs ys : List ℕ) (end : ReadEnd) → bytes ≡ xs ++ ys → ReadsOn link p old xs mid between → Stops link mid between ys end p'
-    → Stops link p old bytes end p'
+pub stops_then : (link : ℕ) (p mid p' : Record) (old between : Cutter) (bytes xs ys : List ℕ) (stop : ReadEnd) → bytes ≡ xs ++ ys → ReadsOn link p old xs mid between → Stops link mid between ys stop p'
+    → Stops link p old bytes stop p'
 unfolding reads_then
-stops_then link p mid p' old between bytes xs ys end is first stops = record {
+stops_then link p mid p' old between bytes xs ys stop is first stops = record {
   used = xs ++ stops.used;
   unused = stops.unused;
   cutter = stops.cutter;
   whole = is ∙ ap (λ bs. xs ++ bs) stops.whole ∙ sym (append_assoc xs stops.used stops.unused);
   reads = reads_then link p mid p' old between stops.cutter xs stops.used first stops.reads;
-  answer = last_then end first.more stops.reads.more stops.answer;
+  reason = reason_then link (is_done stops.cutter) p mid p' first.more stops.reads.more stop first.gains stops.reason;
   unclosed = stops.unclosed;
 }
 
 -- nothing more was read
-pub stops_here : (link : ℕ) (p p' : Record) (cutter : Cutter) (bytes : List ℕ) (end : ReadEnd) → p' ≡ p → IsAnswerOf end [] → end ≢ ends.Closed → Stops link p cutter bytes end p'
+pub stops_here : (link : ℕ) (p p' : Record) (cutter : Cutter) (bytes : List ℕ) (stop : ReadEnd) → p' ≡ p → HasReason link (is_done cutter) p [] stop p' → stop ≢ ends.Closed → Stops link p cutter bytes stop p'
 unfolding reads_none
-stops_here link p p' cutter bytes end is answer unclosed = record {
+stops_here link p p' cutter bytes stop is reason unclosed = record {
   used = [];
   unused = bytes;
   cutter = cutter;
   whole = refl;
   reads = reads_none link p p' cutter is;
-  answer = answer;
+  reason = reason;
   unclosed = unclosed;
 }
 
@@ -156,8 +162,22 @@ stops_here link p p' cutter bytes end is answer unclosed = record {
 
 -- the piece had a body that is too long, or memory was wanting
 pub stops_unfed : (link : ℕ) (p : Record) (cutter : Cutter) (piece : List ℕ) (fault : FeedFault) → Stops link p cutter piece (read_end_of_feed fault) p
-stops_unfed link p cutter piece faults.TooLong = stops_here link p p cutter piece ends.TooLong refl tt (λ q. cc)
-stops_unfed link p cutter piece faults.OutOfMemory = stops_here link p p cutter piece ends.Memory refl tt (λ q. cc)
+stops_unfed link p cutter piece faults.TooLong = stops_here link p p cutter piece ends.TooLong refl (inl refl) (λ q. cc)
+stops_unfed link p cutter piece faults.OutOfMemory = stops_here link p p cutter piece ends.Memory refl (inl refl) (λ q. cc)
+
+-- bytes that have ended aren't an answer
+unclosed : (fault : CallFault) (done : Bool) → end_of fault done ≢ Some ends.Closed
+unclosed StrangePass done = λ q. cc
+unclosed (Core OutOfMemory) done = λ q. cc
+unclosed (Core (Refused rules.EntriesFull)) done = λ q. cc
+unclosed (Core (Refused rules.NoSuchLink)) done = λ q. cc
+unclosed (Core (Refused rule)) true = λ q. cc
+unclosed (Core (Refused rule)) false = λ q. cc
+
+-- a cutter stays of its kind
+same_kind : (old : Cutter) (piece : List ℕ) (used : ℕ) (body : Option (List ℕ)) (new : Cutter) → CutsOff old piece used body new → is_done new ≡ is_done old
+same_kind (Handshake rest) piece used body new cuts = ap is_done cuts.1
+same_kind (Messages reader) piece used body new cuts = ap is_done cuts.1
 
 module _ (link : ℕ) (piece : List ℕ) (used : ℕ) (p p' : Record) (old mid : Cutter) where
   -- what a piece has brought, with what the pass has gained
@@ -180,8 +200,8 @@ module _ (link : ℕ) (piece : List ℕ) (used : ℕ) (p p' : Record) (old mid :
     cut : CutsOff old piece used (Some body) mid
     cut = subst (λ b. CutsOff old piece used b mid) is cuts
 
-    pub handed_on : (up : Bool) → Gave link body p (Ok up) p' → (is_done mid ≡ false → up ≡ false) → Handing mid
-    handed_on up gave early =
+    pub handed_on : (up done : Bool) → Gave link body done p (Ok up) p' → (is_done mid ≡ false → up ≡ false) → Handing mid
+    handed_on up done gave early =
         let within = cuts_within link piece used old (Some body) mid cut in (
           within.0,
           within.1,
@@ -192,8 +212,8 @@ module _ (link : ℕ) (piece : List ℕ) (used : ℕ) (p p' : Record) (old mid :
           },
         )
 
-    pub handed_up : (new : Cutter) → new ≡ Messages (record { rest = []; too_long = false }) → Gave link body p (Ok true) p' → is_done mid ≡ false → Handing new
-    handed_up new messages gave early =
+    pub handed_up : (new : Cutter) (done : Bool) → new ≡ Messages (record { rest = []; too_long = false }) → Gave link body done p (Ok true) p' → is_done mid ≡ false → Handing new
+    handed_up new done messages gave early =
         let within = cuts_within link piece used old (Some body) mid cut in (
           within.0,
           within.1,
@@ -204,24 +224,41 @@ module _ (link : ℕ) (piece : List ℕ) (used : ℕ) (p p' : Record) (old mid :
           },
         )
 
-    pub handed_end : (end : ReadEnd) → Gave link body p (Err end) p' → Stops link p old piece end p'
-    handed_end end gave = by gave.0 gave.1 gave.2 gave.3
+    pub handed_end : (done : Bool) (stop : ReadEnd) → done ≡ is_done mid → Gave link body done p (Err stop) p' → Stops link p old piece stop p'
+    handed_end done stop kind gave = by (verdict_in (Err gave.0)) refl gave.2.entry
       where
-        by : (more : Option Call) → Gains p (option_to_list more) p' → IfSome more (λ c. (c.event ≡ Frame link body) × (is_up c ≡ false)) → IsAnswerOf end (option_to_list more) → Stops link p old piece end p'
-        by None gains frame answer = stops_here link p p' old piece end (gains ∙ ap (λ cs. record { seat = p.seat; calls = cs }) (append-nil p.calls)) answer gave.4
-        by (Some c) gains frame answer = record {
-          used = take used piece;
-          unused = drop used piece;
-          cutter = mid;
-          whole = sym (take-append-drop used piece);
-          reads = record {
-            more = c ∷ [];
-            gains = gains;
-            moves = reads_more link piece used old (Some body) mid (c ∷ []) cut (ap (λ e. e ∷ []) frame.0) (λ q. ap (λ b. b || false) frame.1);
-          };
-          answer = answer;
-          unclosed = gave.4;
-        }
+        ended : end_of gave.0 (is_done mid) ≡ Some stop
+        ended = subst (λ d. end_of gave.0 d ≡ Some stop) kind gave.3
+
+        still_open : stop ≢ ends.Closed
+        still_open = λ q. unclosed gave.0 (is_done mid) (ended ∙ ap (λ s. Some s) q)
+
+        none : gave.1 ≡ [] → Stops link p old piece stop p'
+        none is =
+            let entered = subst (λ cs. Enters p (Frame link body) (Err gave.0) cs p') is gave.2 in
+            let before : end_of gave.0 (is_done old) ≡ Some stop = subst (λ d. end_of gave.0 d ≡ Some stop) (same_kind old piece used (Some body) mid cut) ended in
+            let same : p' ≡ p = entered.gains ∙ ap (λ cs. record { seat = p.seat; calls = cs }) (append-nil p.calls) in
+            stops_here link p p' old piece stop same (inr (body, gave.0, ends_at (Frame link body) gave.0 p [] p' entered, before)) still_open
+
+        one : (c : Call) → gave.1 ≡ c ∷ [] → c.event ≡ Frame link body → is_up c ≡ false → Stops link p old piece stop p'
+        one c is event down =
+            let entered = subst (λ cs. Enters p (Frame link body) (Err gave.0) cs p') is gave.2 in record {
+              used = take used piece;
+              unused = drop used piece;
+              cutter = mid;
+              whole = sym (take-append-drop used piece);
+              reads = record {
+                more = c ∷ [];
+                gains = entered.gains;
+                moves = reads_more link piece used old (Some body) mid (c ∷ []) cut (ap (λ e. e ∷ []) event) (λ q. ap (λ b. b || false) down);
+              };
+              reason = inr (body, gave.0, ends_at (Frame link body) gave.0 p (c ∷ []) p' entered, ended);
+              unclosed = still_open;
+            }
+
+        by : (v : Option Verdict) → verdict_in (Err gave.0) ≡ v → IsEntry (Frame link body) v gave.1 → Stops link p old piece stop p'
+        by None q entry = none entry
+        by (Some v) q entry = one entry.0 entry.1 entry.2 (ap is_up_answer (entry.3 ∙ (fault_refuses gave.0 v q).1))
 
 -- ---- the whole
 
@@ -232,8 +269,8 @@ unread link = record {
 }
 
 -- all was read
-pub reads_to_end : (link : ℕ) (p p' : Record) (bytes : List ℕ) (cutter : Cutter) (end : ReadEnd) → IfSome (rule_of end) (λ rule. ⊥) → ReadsOn link p (Handshake []) bytes p' cutter → ReadsTo link p bytes end p'
-reads_to_end link p p' bytes cutter end no_rule reads = record {
+pub reads_to_end : (link : ℕ) (p p' : Record) (bytes : List ℕ) (cutter : Cutter) (stop : ReadEnd) → reader_gives_up stop ≡ true → ReadsOn link p (Handshake []) bytes p' cutter → ReadsTo link p bytes stop p'
+reads_to_end link p p' bytes cutter stop own reads = record {
   used = bytes;
   unused = [];
   frames = reads.more;
@@ -241,13 +278,13 @@ reads_to_end link p p' bytes cutter end no_rule reads = record {
   whole = sym (append-nil bytes);
   read = reads.moves [] [] (unread link);
   gains = reads.gains;
-  answer = IfSome_then (rule_of end) no_rule (λ rule never. absurd never);
+  reason = inl own;
   closed = λ q. refl;
 }
 
--- there was an end before
-pub reads_to_stop : (link : ℕ) (p p' : Record) (bytes : List ℕ) (end : ReadEnd) → Stops link p (Handshake []) bytes end p' → ReadsTo link p bytes end p'
-reads_to_stop link p p' bytes end stops = record {
+-- the reader stopped before
+pub reads_to_stop : (link : ℕ) (p p' : Record) (bytes : List ℕ) (stop : ReadEnd) → Stops link p (Handshake []) bytes stop p' → ReadsTo link p bytes stop p'
+reads_to_stop link p p' bytes stop stops = record {
   used = stops.used;
   unused = stops.unused;
   frames = stops.reads.more;
@@ -255,39 +292,6 @@ reads_to_stop link p p' bytes end stops = record {
   whole = stops.whole;
   read = stops.reads.moves [] [] (unread link);
   gains = stops.reads.gains;
-  answer = stops.answer;
+  reason = stops.reason;
   closed = λ q. absurd (stops.unclosed q);
-}
-
--- no Lost was called
-pub reads_unlost : (link : ℕ) (p p' : Record) (bytes : List ℕ) (end : ReadEnd) → ReadsTo link p bytes end p' → ReadsAs link p bytes end p'
-reads_unlost link p p' bytes end reads = record {
-  used = reads.used;
-  unused = reads.unused;
-  frames = reads.frames;
-  lost = [];
-  cutter = reads.cutter;
-  whole = reads.whole;
-  read = reads.read;
-  at_most = inl refl;
-  gains = rw (append-nil reads.frames) reads.gains;
-  answer = IfSome_then (rule_of end) reads.answer (λ rule last. (refl, last));
-  closed = reads.closed;
-}
-
--- a Lost was called, and may be an entry
-pub reads_lost : (link : ℕ) (p mid p' : Record) (bytes : List ℕ) (end after : ReadEnd) → rule_of after ≡ None → (after ≡ ends.Closed → end ≡ ends.Closed) → ReadsTo link p bytes end mid → MayLose link mid p'
-    → ReadsAs link p bytes after p'
-reads_lost link p mid p' bytes end after none same reads lost = record {
-  used = reads.used;
-  unused = reads.unused;
-  frames = reads.frames;
-  lost = lost.0;
-  cutter = reads.cutter;
-  whole = reads.whole;
-  read = reads.read;
-  at_most = lost.1;
-  gains = gains_more p mid p' reads.frames lost.0 reads.gains lost.2;
-  answer = subst (λ o. IfSome o (λ rule. (lost.0 ≡ []) × LastIs (Refused rule) reads.frames)) (sym none) tt;
-  closed = λ q. reads.closed (same q);
 }

@@ -1,8 +1,7 @@
 -- A writer's steps, one after another.
-use Rattle.std.proofs.Common.{◌≡◌, ◌≢◌, ℕ, List, [], ◌∷◌, ◌++◌, Option, Some, None, Ok, Err, IfSome, refl, sym, ap, subst, ◌∙◌, inl, inr, append-nil, append_assoc}
+use Rattle.std.proofs.Common.{◌≡◌, ℕ, true, List, [], ◌∷◌, ◌++◌, Option, Some, None, Ok, Err, refl, sym, ap, subst, ◌∙◌, inl, inr, append-nil}
 use Rattle.std.specs.Io.KnownBytes.{Keeps, Appends}
 use Rattle.std.specs.List.{flat_map}
-use Rattle.std.specs.Option.{option_to_list}
 use Rattle.std.proofs.KnownBytes.{Appends-nil, Appends-trans, Appends-kept}
 use Rattle.std.proofs.lemmas.Grind.{flat_map-append}
 use Rattle.std.proofs.lemmas.List.Elements.{All-nil, All-cons, All-append}
@@ -11,17 +10,17 @@ use Rattle.policy_audit.specs.Wire.{wire_bytes}
 use Rattle.policy_audit.specs.declared.event.Event.TheVariants.{Take}
 use Rattle.policy_audit.specs.declared.reply.Reply.{Reply}
 use Rattle.policy_audit.specs.declared.reply.Reply.TheVariants.{Out}
-use Rattle.node_core.specs.declared.fault.CoreFault.TheVariants.{Refused, OutOfMemory}
+use Rattle.policy_audit.specs.declared.entry.Verdict.{Verdict}
 use Rattle.node_threads.specs.declared.fault.CallFault.{CallFault}
-use Rattle.node_threads.specs.declared.fault.CallFault.TheVariants.{StrangePass, Core}
 use Rattle.node_threads.specs.declared.ends.WriteEnd.{WriteEnd}
 use Rattle.node_threads.specs.declared.ends.WriteEnd.TheVariants as ends
 use Rattle.node_threads.specs.declared.pass.Call.{Call}
 use Rattle.node_threads.specs.Applied.{Called}
 use Rattle.node_threads.specs.Calls.{Record, Gains}
-use Rattle.node_threads.specs.Retreat.{MayLose}
-use Rattle.node_threads.specs.Writing.{AreTakes, frames_in, wires, EndsRefused, TakeEnd, Took, WritesTo, WritesAs}
-use Rattle.node_threads.proofs.Answered.{gains_none, gains_more, accepted, refused, unheard, strange}
+use Rattle.node_threads.specs.Ends.{take_end, writer_gives_up}
+use Rattle.node_threads.specs.Entered.{verdict_in, IsEntry}
+use Rattle.node_threads.specs.Writing.{AreTakes, frames_in, wires, IsSent, HasReason, Took, WritesTo}
+use Rattle.node_threads.proofs.Answered.{gains_none, gains_more, accepted, enters, fault_refuses, ends_at, ends_then}
 
 wires-append : (xs ys : List Call) → wires (xs ++ ys) ≡ wires xs ++ wires ys
 wires-append xs ys = ap (flat_map wire_bytes) (flat_map-append (λ (c : Call). frames_in c.verdict) xs ys) ∙ flat_map-append wire_bytes (flat_map (λ (c : Call). frames_in c.verdict) xs) (flat_map (λ (c : Call). frames_in c.verdict) ys)
@@ -45,33 +44,54 @@ written_more link p mid p' known now later was took = record {
   written = rw (wires-append was.takes (took.0 ∷ [])) (Appends-trans known now later (wires was.takes) (wires (took.0 ∷ [])) was.written took.3);
 }
 
-optional_takes : (link : ℕ) (more : Option Call) → IfSome more (λ c. c.event ≡ Take link) → AreTakes link (option_to_list more)
-optional_takes link None is = All-nil (Takes link)
-optional_takes link (Some c) is = All-cons (Takes link) c [] is (All-nil (Takes link))
+sent_then : (link : ℕ) (p mid p' : Record) (xs ys : List Call) (stop : WriteEnd) → Gains p xs mid → IsSent link mid ys stop p' → IsSent link p (xs ++ ys) stop p'
+sent_then link p mid p' xs ys stop gains (inl stuck) = inl stuck
+sent_then link p mid p' xs ys stop gains (inr last) = inr (last.0, ends_then (Take link) last.0 p mid p' xs ys gains last.1, last.2)
 
-refused_then : (xs ys : List Call) → EndsRefused ys → EndsRefused (xs ++ ys)
-refused_then xs ys is = (xs ++ is.0, is.1, is.2, ap (λ cs. xs ++ cs) is.3 ∙ sym (append_assoc xs is.0 (is.1 ∷ [])), is.4)
+reason_then : (link : ℕ) (p mid p' : Record) (xs ys : List Call) (known now later : Option (List ℕ)) (stop : WriteEnd) → Gains p xs mid → Appends known now (wires xs) → HasReason link mid ys now stop later p'
+    → HasReason link p (xs ++ ys) known stop later p'
+reason_then link p mid p' xs ys known now later stop gains written (inl own) = inl own
+reason_then link p mid p' xs ys known now later stop gains written (inr sent) = inr (
+  sent_then link p mid p' xs ys stop gains sent.0,
+  rw (wires-append xs ys) (Appends-trans known now later (wires xs) (wires ys) written sent.1),
+)
 
-pub writes_to : (link : ℕ) (p mid p' : Record) (known now later : Option (List ℕ)) (end : WriteEnd) → HasWritten link p known now mid → Took link mid now (Err end) later p' → WritesTo link p known end later p'
-writes_to link p mid p' known now later end was took = record {
-  takes = was.takes ++ option_to_list took.0;
-  are_takes = All-append (Takes link) was.takes (option_to_list took.0) was.are_takes (optional_takes link took.0 took.2);
-  gains = gains_more p mid p' was.takes (option_to_list took.0) was.gains took.1;
-  gone = λ q.
-      let gone = took.3 q in (
-        refused_then was.takes (option_to_list took.0) gone.0,
-        rw (wires-append was.takes (option_to_list took.0)) (Appends-trans known now later (wires was.takes) (wires (option_to_list took.0)) was.written gone.1),
-      );
+pub writes_to : (link : ℕ) (p mid p' : Record) (known now later : Option (List ℕ)) (stop : WriteEnd) → HasWritten link p known now mid → Took link mid now (Err stop) later p' → WritesTo link p known stop later p'
+writes_to link p mid p' known now later stop was took = record {
+  takes = was.takes ++ took.0;
+  are_takes = All-append (Takes link) was.takes took.0 was.are_takes took.1;
+  gains = gains_more p mid p' was.takes took.0 was.gains took.2;
+  reason = reason_then link p mid p' was.takes took.0 known now later stop was.gains was.written took.3;
 }
+
+-- some link of the node is stuck
+pub writes_stuck : (link : ℕ) (p p' : Record) (known now : Option (List ℕ)) → HasWritten link p known now p' → WritesTo link p known ends.StuckLink now p'
+writes_stuck link p p' known now was = record { takes = was.takes; are_takes = was.are_takes; gains = was.gains; reason = inr (inl refl, was.written) }
+
+-- nothing is written after the stop
+pub writes_kept : (link : ℕ) (p p' : Record) (known now later : Option (List ℕ)) (stop : WriteEnd) → Keeps now later → WritesTo link p known stop now p' → WritesTo link p known stop later p'
+writes_kept link p p' known now later stop kept writes = record { takes = writes.takes; are_takes = writes.are_takes; gains = writes.gains; reason = by writes.reason }
+  where
+    by : HasReason link p writes.takes known stop now p' → HasReason link p writes.takes known stop later p'
+    by (inl own) = inl own
+    by (inr sent) = inr (sent.0, Appends-kept known now later (wires writes.takes) sent.1 kept)
 
 -- ---- one Take
 
+no_frames : (link : ℕ) (fault : CallFault) (v : Option Verdict) (calls : List Call) → verdict_in (Err fault) ≡ v → IsEntry (Take link) v calls → wires calls ≡ []
+no_frames link fault None calls q entry = ap wires entry
+no_frames link fault (Some v) calls q entry = ap wires entry.1 ∙ ap (λ w. flat_map wire_bytes (frames_in w ++ [])) (entry.3 ∙ (fault_refuses fault v q).1)
+
+entered_takes : (link : ℕ) (v : Option Verdict) (calls : List Call) → IsEntry (Take link) v calls → AreTakes link calls
+entered_takes link None calls entry = subst (AreTakes link) (sym entry) (All-nil (Takes link))
+entered_takes link (Some v) calls entry = subst (AreTakes link) (sym entry.1) (All-cons (Takes link) entry.0 [] entry.2 (All-nil (Takes link)))
+
 module _ (link : ℕ) (p p' : Record) where
   -- frames were answered, and not written
-  pub took_unwritten : (reply : Reply) (end : WriteEnd) (known known' : Option (List ℕ)) → end ≢ ends.Gone → Called p (Take link) (Ok reply) p' → Took link p known (Err end) known' p'
-  took_unwritten reply end known known' other called =
+  pub took_unwritten : (reply : Reply) (stop : WriteEnd) (known known' : Option (List ℕ)) → writer_gives_up stop ≡ true → Called p (Take link) (Ok reply) p' → Took link p known (Err stop) known' p'
+  took_unwritten reply stop known known' own called =
       let a = accepted p p' (Take link) reply called in
-      (Some a.0, a.3, a.1, λ q. absurd (other q))
+      (a.0 ∷ [], All-cons (Takes link) a.0 [] a.1 (All-nil (Takes link)), a.3, inl own)
 
   -- frames were answered, and written
   pub took_written : (frames : List OutFrame) (bytes : List ℕ) (known known' : Option (List ℕ)) → bytes ≡ flat_map wire_bytes frames → Appends known known' bytes → Called p (Take link) (Ok (Out frames)) p'
@@ -81,41 +101,13 @@ module _ (link : ℕ) (p p' : Record) where
       let all : bytes ≡ flat_map wire_bytes (frames ++ []) = rw (append-nil frames) are in
       (a.0, a.1, a.3, subst (λ v. Appends known known' (flat_map wire_bytes (frames_in v ++ []))) (sym a.2) (subst (λ bs. Appends known known' bs) all written))
 
-  -- there was no answer, and nothing was written
-  pub took_end : (fault : CallFault) (end : WriteEnd) (known : Option (List ℕ)) → TakeEnd fault end → Called p (Take link) (Err fault) p' → Took link p known (Err end) known p'
-  took_end StrangePass end known is called = (None, gains_none p p' (strange p p' (Take link) called), tt, λ q. cc)
-  took_end (Core OutOfMemory) end known is called = (None, gains_none p p' (unheard p p' (Take link) called), tt, λ q. cc)
-  took_end (Core (Refused rule)) end known is called = elim (refused p p' (Take link) rule called) [
-    | inl full ↦ (None, gains_none p p' full.0, tt, λ q. absurd (is q full.1))
-    | inr a ↦ (
-      Some a.0,
-      a.3,
-      a.1,
-      λ q. (([], a.0, rule, refl, a.2), subst (λ v. Appends known known (flat_map wire_bytes (frames_in v ++ []))) (sym a.2) (Appends-nil known)),
-    )
-  ]
-
--- ---- the whole
-
--- no Lost was called
-pub writes_unlost : (link : ℕ) (p p' : Record) (known now later : Option (List ℕ)) (end : WriteEnd) → WritesTo link p known end now p' → Keeps now later → WritesAs link p known end later p'
-writes_unlost link p p' known now later end writes kept = record {
-  takes = writes.takes;
-  lost = [];
-  are_takes = writes.are_takes;
-  at_most = inl refl;
-  gains = rw (append-nil writes.takes) writes.gains;
-  gone = λ q. (refl, (writes.gone q).0, Appends-kept known now later (wires writes.takes) (writes.gone q).1 kept);
-}
-
--- a Lost was called, and may be an entry
-pub writes_lost : (link : ℕ) (p mid p' : Record) (known now later : Option (List ℕ)) (end after : WriteEnd) → after ≢ ends.Gone → WritesTo link p known end now mid → MayLose link mid p'
-    → WritesAs link p known after later p'
-writes_lost link p mid p' known now later end after other writes lost = record {
-  takes = writes.takes;
-  lost = lost.0;
-  are_takes = writes.are_takes;
-  at_most = lost.1;
-  gains = gains_more p mid p' writes.takes lost.0 writes.gains lost.2;
-  gone = λ q. absurd (other q);
-}
+  -- there was no reply, and nothing was written
+  pub took_end : (fault : CallFault) (stop : WriteEnd) (known : Option (List ℕ)) → stop ≡ take_end fault → Called p (Take link) (Err fault) p' → Took link p known (Err stop) known p'
+  took_end fault stop known is called =
+      let all = enters p p' (Take link) (Err fault) called in
+      let nothing : wires all.0 ≡ [] = no_frames link fault (verdict_in (Err fault)) all.0 refl all.1.entry in (
+        all.0,
+        entered_takes link (verdict_in (Err fault)) all.0 all.1.entry,
+        all.1.gains,
+        inr (inr (fault, ends_at (Take link) fault p all.0 p' all.1, is), subst (λ bs. Appends known known bs) (sym nothing) (Appends-nil known)),
+      )

@@ -1,5 +1,5 @@
 -- What becomes of the pairs of passes that serve the connections of a door.
-use Rattle.std.specs.Prelude.{◌≡◌, ◌≢◌, ◌⊎◌, ℕ, zero, suc, All, List, [], ◌∷◌, ◌++◌, length, Option, Some, None}
+use Rattle.std.specs.Prelude.{◌≡◌, ◌≢◌, ◌⊎◌, ⊤, ℕ, zero, suc, All, List, [], ◌∷◌, ◌++◌, length, Option, Some, None}
 use Rattle.policy_audit.specs.declared.event.Event.{Event}
 use Rattle.policy_audit.specs.declared.event.Event.TheVariants as events
 use Rattle.policy_audit.specs.declared.reply.Reply.TheVariants.{Link}
@@ -10,6 +10,7 @@ use Rattle.node_core.specs.declared.fault.CoreFault.TheVariants.{Refused, OutOfM
 use Rattle.node_threads.specs.declared.fault.CallFault.{CallFault}
 use Rattle.node_threads.specs.declared.fault.CallFault.TheVariants.{StrangePass, Core}
 use Rattle.node_threads.specs.declared.pass.Call.{Call}
+use Rattle.node_threads.specs.declared.accepting.AcceptEnd.{AcceptEnd}
 use Rattle.node_threads.specs.declared.accepting.AcceptEnd.TheVariants as ends
 use Rattle.node_threads.specs.declared.accepting.Opening.{Opening}
 use Rattle.node_threads.specs.declared.accepting.Opening.TheVariants as openings
@@ -18,6 +19,7 @@ use Rattle.node_threads.specs.declared.accepting.Pair.{Pair}
 use Rattle.node_threads.specs.declared.accepting.Held.{Held}
 use Rattle.node_threads.specs.declared.accepting.Held.TheVariants.{Running, Ended}
 use Rattle.node_threads.specs.Calls.{Record, Gains}
+use Rattle.node_threads.specs.Drawing.{new_challenges}
 
 -- ---- a link is opened
 
@@ -34,11 +36,18 @@ abbrev pub Opens : Option ℕ → Record → Record → Type 0
 Opens (Some link) pass pass' = (refused : List Call) × (c : Call) × All IsRefusal refused × IsOpening link c × Gains pass (refused ++ c ∷ []) pass'
 Opens None pass pass' = (refused : List Call) × All IsRefusal refused × Gains pass refused pass'
 
--- the same of one answer; passes aren't used up by it
-abbrev pub Asked : Record → Opening → Record → Type 0
-Asked pass (openings.Link link) pass' = Opens (Some link) pass pass'
-Asked pass openings.Refused pass' = Opens None pass pass'
-Asked pass (openings.End end) pass' = Opens None pass pass' × (end ≢ ends.PassesUsed)
+-- ends at an Opened that may have made no entry
+abbrev pub IsUnentered : AcceptEnd → Type 0
+IsUnentered ends.EntriesFull = ⊤
+IsUnentered ends.StrangePass = ⊤
+IsUnentered ends.Memory = ⊤
+IsUnentered end = ⊥
+
+-- the same of one answer to an Opened of this challenge, which is then that of the call
+abbrev pub Asked : ℕ → Record → Opening → Record → Type 0
+Asked challenge pass (openings.Link link) pass' = Opens (Some link) pass pass' × (new_challenges pass pass' ≡ challenge ∷ [])
+Asked challenge pass openings.Refused pass' = Opens None pass pass' × (new_challenges pass pass' ≡ challenge ∷ [])
+Asked challenge pass (openings.End end) pass' = Opens None pass pass' × IsUnentered end × ((new_challenges pass pass' ≡ challenge ∷ []) ⊎ (new_challenges pass pass' ≡ []))
 
 -- what an Opened without a reply makes of its connection: a full audit, a strange pass and want of memory are ends
 abbrev pub IsUnopened : CallFault → Opening → Type 0

@@ -1,11 +1,13 @@
 -- When passes are all that was done behind a lock.
-use Rattle.std.specs.Prelude.{◌≡◌, ◌==◌, ℕ, ◌<◌, ◌≤◌, List, length}
+use Rattle.std.specs.Prelude.{◌≡◌, ◌==◌, ℕ, ◌<◌, ◌≤◌, List, [], length, map, slice_index_or}
+use Rattle.std.specs.Borrow.{Bor}
 use Rattle.std.specs.List.{filter, All}
 use Rattle.policy_audit.specs.declared.entry.Entry.{Entry}
 use Rattle.policy_audit.specs.History.{History}
+use Rattle.node_threads.specs.declared.pass.Call.{Call}
 use Rattle.node_threads.specs.declared.close.CloseRule.{CloseRule}
 use Rattle.node_threads.specs.declared.close.CloseRule.TheVariants.{MissingPass, DoublePass, Mismatch}
-use Rattle.node_threads.specs.Calls.{Record, calls_of}
+use Rattle.node_threads.specs.Calls.{Record, of, call_of, calls_of}
 use Rattle.node_threads.specs.Room.{Room, IsSound}
 
 -- how many of the passes are of this seat
@@ -55,3 +57,13 @@ IsClosed h ps = (counts : List ℕ) × IsSound (record { history = h; counts = c
 -- there is a room for which that is why they don't
 abbrev pub IsRefused : CloseRule → List Record → Type 0
 IsRefused rule ps = (room : Room) × IsSound room × IsCloseFault rule room ps
+
+-- ---- while an audit is gone over
+
+-- what lists, one for each seat, have for this one
+abbrev pub at_seat : ℕ → List (Bor (List Call)) → List Call
+at_seat seat lists = slice_index_or (map (λ calls. calls.now) lists) seat []
+
+-- for each seat they are the calls that made these entries, which have the oldest first
+abbrev pub AreLeft : ℕ → List (Bor (List Call)) → List Entry → Type 0
+AreLeft seats lists es = (seat : ℕ) → seat < seats → at_seat seat lists ≡ map call_of (filter (of seat) es)

@@ -1,6 +1,7 @@
 pub mod Calls
 pub mod Room
 pub mod Applied
+pub mod Entered
 pub mod Lending
 pub mod Opened
 pub mod Closing
@@ -10,4 +11,6 @@ pub mod Retreat
 pub mod Reading
 pub mod Writing
 pub mod Serving
+pub mod Drawing
 pub mod Accepting
+pub mod Challenges

@@ -1,9 +1,15 @@
 -- A new node, and why there is none.
-use Rattle.std.specs.Prelude.{◌≡◌, ℕ, ◌<◌, ◌≤◌, List, [], length, slice_get, Some}
+use Rattle.std.specs.Prelude.{◌≡◌, ℕ, ◌<◌, ◌≤◌, List, [], length, replicate, slice_get, Some}
 use Rattle.policy_audit.specs.declared.opening.Opening.{Opening}
 use Rattle.node_threads.specs.declared.fault.NewFault.{NewFault}
 use Rattle.node_threads.specs.declared.fault.NewFault.TheVariants.{BadSeats, BadLimit, OutOfMemory}
+use Rattle.policy_audit.specs.History.{past}
 use Rattle.node_threads.specs.Calls.{Record}
+use Rattle.node_threads.specs.Room.{Room}
+
+-- a node with this opening that has seen nothing, and that many seats without an entry
+abbrev pub new_room : Opening → ℕ → Room
+new_room opening seats = record { history = past opening []; counts = replicate seats 0 }
 
 -- a pass for each seat, in the order of the seats, with no calls
 pub record IsOpened (seats : ℕ) (passes : List Record) : Type 0 where

@@ -1,21 +1,22 @@
 -- What the reader of a link adds to its pass.
-use Rattle.std.specs.Prelude.{◌≡◌, ◌≢◌, ℕ, ◌<◌, ◌≤◌, Bool, true, false, List, [], ◌∷◌, ◌++◌, length, map, take, Option, IfSome, Result, Ok, Err}
+use Rattle.std.specs.Prelude.{◌≡◌, ◌≢◌, ℕ, ◌<◌, ◌≤◌, Bool, true, false, List, [], ◌∷◌, ◌++◌, length, map, take, ◌⊎◌, Some, Result, Ok, Err}
 use Rattle.std.specs.Int.{w16}
 use Rattle.std.specs.List.{list_any}
-use Rattle.std.specs.Option.{option_to_list}
 use Rattle.handshake_frames.specs.Stream.{Splits}
 use Rattle.link_frames.specs.Stream.{SplitsLink}
 use Rattle.policy_audit.specs.declared.event.Event.TheVariants.{Frame}
-use Rattle.policy_audit.specs.declared.entry.Verdict.{Verdict}
-use Rattle.policy_audit.specs.declared.entry.Verdict.TheVariants.{Refused}
 use Rattle.node_threads.specs.declared.cutter.Cutter.{Cutter}
 use Rattle.node_threads.specs.declared.cutter.Cutter.TheVariants.{Handshake, Messages}
+use Rattle.node_threads.specs.declared.fault.CallFault.{CallFault}
 use Rattle.node_threads.specs.declared.ends.ReadEnd.{ReadEnd}
 use Rattle.node_threads.specs.declared.ends.ReadEnd.TheVariants as ends
 use Rattle.node_threads.specs.declared.pass.Call.{Call}
+use Rattle.node_threads.specs.declared.retreat.RetreatStep.{RetreatStep}
 use Rattle.node_threads.specs.Calls.{Record, Gains, is_up}
-use Rattle.node_threads.specs.Ends.{rule_of}
-use Rattle.node_threads.specs.Retreat.{AtMostLost}
+use Rattle.node_threads.specs.Cutting.{is_done}
+use Rattle.node_threads.specs.Ends.{end_of, reader_gives_up, read_end_after}
+use Rattle.node_threads.specs.Entered.{Enters, EndsAt}
+use Rattle.node_threads.specs.Retreat.{Leaves}
 
 -- the calls are frames of the link: these bodies, in order
 abbrev pub AreFrames : ℕ → List (List ℕ) → List Call → Type 0
@@ -69,41 +70,35 @@ pub record ReadsOn (link : ℕ) (pass : Record) (old : Cutter) (bytes : List ℕ
   pub gains : Gains pass more pass'
   pub moves : Moves link old bytes more new
 
--- the verdict is that of the last call
-abbrev pub LastIs : Verdict → List Call → Type 0
-LastIs v calls = (before : List Call) × (c : Call) × (calls ≡ before ++ c ∷ []) × (c.verdict ≡ v)
+-- the reader stops for a reason of its own; or the last that was called is a frame whose answer ends it, the handshake being done or not
+abbrev pub HasReason : ℕ → Bool → Record → List Call → ReadEnd → Record → Type 0
+HasReason link done pass frames stop pass' =
+    (reader_gives_up stop ≡ true) ⊎ ((body : List ℕ) × (fault : CallFault) × EndsAt (Frame link body) fault pass frames pass' × (end_of fault done ≡ Some stop))
 
--- where a rule ended the reader, the last call was refused by it
-abbrev pub IsAnswerOf : ReadEnd → List Call → Type 0
-IsAnswerOf end calls = IfSome (rule_of end) (λ rule. LastIs (Refused rule) calls)
-
--- some of the bytes were read, and then there was an end
-pub record Stops (link : ℕ) (pass : Record) (old : Cutter) (bytes : List ℕ) (end : ReadEnd) (pass' : Record) : Type 0 where
+-- some of the bytes were read, and then the reader stopped
+pub record Stops (link : ℕ) (pass : Record) (old : Cutter) (bytes : List ℕ) (stop : ReadEnd) (pass' : Record) : Type 0 where
   pub used : List ℕ
   pub unused : List ℕ
   pub cutter : Cutter
   pub whole : bytes ≡ used ++ unused
   pub reads : ReadsOn link pass old used pass' cutter
-  pub answer : IsAnswerOf end reads.more
-  pub unclosed : end ≢ ends.Closed
+  pub reason : HasReason link (is_done cutter) pass reads.more stop pass'
+  pub unclosed : stop ≢ ends.Closed
 
--- a body was handed in, and answered; or its frame was refused, or not entered, and there is an end
-abbrev pub Gave : ℕ → List ℕ → Record → Result Bool ReadEnd → Record → Type 0
-Gave link body pass (Ok up) pass' = (c : Call) × (c.event ≡ Frame link body) × (is_up c ≡ up) × Gains pass (c ∷ []) pass'
-Gave link body pass (Err end) pass' =
-    (more : Option Call) × Gains pass (option_to_list more) pass'
-    × IfSome more (λ c. (c.event ≡ Frame link body) × (is_up c ≡ false))
-    × IsAnswerOf end (option_to_list more) × (end ≢ ends.Closed)
+-- a body was handed in, and the reader goes on; or the answer to its frame ends it
+abbrev pub Gave : ℕ → List ℕ → Bool → Record → Result Bool ReadEnd → Record → Type 0
+Gave link body done pass (Ok up) pass' = (c : Call) × (c.event ≡ Frame link body) × (is_up c ≡ up) × Gains pass (c ∷ []) pass'
+Gave link body done pass (Err stop) pass' = (fault : CallFault) × (more : List Call) × Enters pass (Frame link body) (Err fault) more pass' × (end_of fault done ≡ Some stop)
 
 -- a body at most was cut off and handed in: so many bytes were used
 abbrev pub Handed : ℕ → Record → Cutter → List ℕ → Result ℕ ReadEnd → Record → Cutter → Type 0
 Handed link pass old piece (Ok used) pass' new = (used ≤ length piece) × (0 < length piece → 0 < used) × ReadsOn link pass old (take used piece) pass' new
-Handed link pass old piece (Err end) pass' new = Stops link pass old piece end pass'
+Handed link pass old piece (Err stop) pass' new = Stops link pass old piece stop pass'
 
 -- ---- the whole
 
 -- of what was read, the pass has gained the frames of the first bodies; where the bytes have ended, of all whole ones
-pub record ReadsTo (link : ℕ) (pass : Record) (bytes : List ℕ) (end : ReadEnd) (pass' : Record) : Type 0 where
+pub record ReadsTo (link : ℕ) (pass : Record) (bytes : List ℕ) (stop : ReadEnd) (pass' : Record) : Type 0 where
   pub used : List ℕ
   pub unused : List ℕ
   pub frames : List Call
@@ -111,19 +106,15 @@ pub record ReadsTo (link : ℕ) (pass : Record) (bytes : List ℕ) (end : ReadEn
   pub whole : bytes ≡ used ++ unused
   pub read : IsRead link used frames cutter
   pub gains : Gains pass frames pass'
-  pub answer : IsAnswerOf end frames
-  pub closed : end ≡ ends.Closed → unused ≡ []
+  pub reason : HasReason link (is_done cutter) pass frames stop pass'
+  pub closed : stop ≡ ends.Closed → unused ≡ []
 
--- the same, and after the frames at most one Lost; after a frame whose rule ended the reader, none
+-- the same; then a reader that stops for a reason of its own gives its link up, and tells what that came to
 pub record ReadsAs (link : ℕ) (pass : Record) (bytes : List ℕ) (end : ReadEnd) (pass' : Record) : Type 0 where
-  pub used : List ℕ
-  pub unused : List ℕ
-  pub frames : List Call
+  pub stop : ReadEnd
+  pub mid : Record
   pub lost : List Call
-  pub cutter : Cutter
-  pub whole : bytes ≡ used ++ unused
-  pub read : IsRead link used frames cutter
-  pub at_most : AtMostLost link lost
-  pub gains : Gains pass (frames ++ lost) pass'
-  pub answer : IfSome (rule_of end) (λ rule. (lost ≡ []) × LastIs (Refused rule) frames)
-  pub closed : end ≡ ends.Closed → unused ≡ []
+  pub step : RetreatStep
+  pub reads : ReadsTo link pass bytes stop mid
+  pub leaves : Leaves link (reader_gives_up stop) mid lost step pass'
+  pub end_is : end ≡ read_end_after step stop

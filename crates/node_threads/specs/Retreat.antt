@@ -1,5 +1,5 @@
 -- A link that is given up.
-use Rattle.std.specs.Prelude.{◌≡◌, ◌⊎◌, ℕ, ◌+◌, nat_lt, min, cond, List, [], ◌∷◌, Result, Ok, Err}
+use Rattle.std.specs.Prelude.{◌≡◌, ℕ, ◌+◌, nat_lt, min, cond, Bool, true, false, List, [], Result, Ok, Err}
 use Rattle.policy_audit.specs.declared.event.Event.TheVariants.{Lost}
 use Rattle.policy_audit.specs.declared.reply.Reply.{Reply}
 use Rattle.policy_audit.specs.declared.rule.Rule.TheVariants.{EntriesFull}
@@ -9,7 +9,8 @@ use Rattle.node_threads.specs.declared.fault.CallFault.TheVariants.{StrangePass,
 use Rattle.node_threads.specs.declared.pass.Call.{Call}
 use Rattle.node_threads.specs.declared.retreat.RetreatStep.{RetreatStep}
 use Rattle.node_threads.specs.declared.retreat.RetreatStep.TheVariants as steps
-use Rattle.node_threads.specs.Calls.{Record, Gains}
+use Rattle.node_threads.specs.Calls.{Record}
+use Rattle.node_threads.specs.Entered.{Enters}
 
 -- how many wants of memory there were, up to 64
 abbrev pub tries_after : ℕ → Result Reply CallFault → ℕ
@@ -26,10 +27,13 @@ step_after tries (Err (Core (Refused rule))) = steps.Settled
 step_after tries (Err StrangePass) = steps.Settled
 step_after tries (Ok reply) = steps.Settled
 
--- at most one call, a Lost of the link
-abbrev pub AtMostLost : ℕ → List Call → Type 0
-AtMostLost link calls = (calls ≡ []) ⊎ ((c : Call) × (calls ≡ c ∷ []) × (c.event ≡ Lost link))
+-- the link was given up: the last that was called is its Lost, which the pass has gained where it is an entry; the answer says what follows
+pub record GivesUp (link : ℕ) (pass : Record) (lost : List Call) (step : RetreatStep) (pass' : Record) : Type 0 where
+  pub answer : Result Reply CallFault
+  pub enters : Enters pass (Lost link) answer lost pass'
+  pub step_is : step ≡ step_after 63 answer
 
--- the pass has gained at most one Lost of the link
-abbrev pub MayLose : ℕ → Record → Record → Type 0
-MayLose link pass pass' = (lost : List Call) × AtMostLost link lost × Gains pass lost pass'
+-- a worker leaves its link: it gives it up where it is to, and else calls nothing
+abbrev pub Leaves : ℕ → Bool → Record → List Call → RetreatStep → Record → Type 0
+Leaves link true pass lost step pass' = GivesUp link pass lost step pass'
+Leaves link false pass lost step pass' = (lost ≡ []) × (step ≡ steps.Settled) × (pass' ≡ pass)

@@ -16,10 +16,11 @@ pub record AreCounted (counts : List ℕ) (es : List Entry) : Type 0 where
   pub seated : AllByRecursion (λ e. e.seat < length counts) es
   pub each : (seat : ℕ) → seat < length counts → slice_index counts seat ≡ entries_of seat es
 
--- the history is one that the policy makes, and its entries are counted
+-- the history is one that the policy makes, and its entries are counted, of 1 to 256 seats
 pub record IsSound (room : Room) : Type 0 where
   pub legal : IsLegal room.history
   pub counted : AreCounted room.counts room.history.entries
+  pub some : 0 < length room.counts
   pub few : length room.counts ≤ 256
 
 -- one more for this seat

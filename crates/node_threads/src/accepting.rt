@@ -3,6 +3,9 @@ ghost use Rattle.std.specs.Prelude.{◌≡◌, ◌≢◌, ◌≤◌, [], vec_len
 ghost use Rattle.std.specs.List.{AllZip};
 ghost use Rattle.node_threads.specs.declared.accepting.AcceptEnd.TheVariants as ends;
 ghost use Rattle.node_threads.specs.Accepting.{Opens, Asked, IsUnopened, Works, IsAtWork, Finishes, Turns, HaveServed};
+ghost use Rattle.rand_core.specs.Stream.{Stream};
+ghost use Rattle.node_threads.specs.Drawing.{Draws, AreNext, new_challenges};
+ghost use Rattle.node_threads.specs.Challenges.{opened_with, HaveDrawn, Spends};
 
 use crate::ends::{Gate, LinkOut};
 use crate::fault::CallFault;
@@ -65,8 +68,8 @@ pub struct Accepted {
     pub end: AcceptEnd,
 }
 
-/// Takes connections from a door, opens a link for each with a challenge of the source, and serves it with the next pair, on
-/// threads of its own; where no thread can be made, on this one. A connection is hung up where the node has no room for its link,
+/// Takes connections from a door, opens a link for each with the next challenge of the source, and serves it with the next pair,
+/// on threads of its own; where no thread can be made, on this one. A connection is hung up where the node has no room for its link,
 /// and the next one is taken. Returns when no more are taken and all links have ended.
 pub fn accept_links<R, D, S, G>(
     rt: &R,
@@ -84,6 +87,7 @@ where
     G: Gate + Sync,
     ensures served { HaveServed result.served pairs.items result.pairs.items }
     ensures used { result.end ≡ ends.PassesUsed → result.served ≡ vec_len pairs }
+    ensures drawn { AreNext (S.stream source.old) (opened_with pairs.items result.pairs.items) }
 {
     let Ok(held) = Vec::with_capacity(alloc, pairs.len()) else {
         return unserved(pairs);
@@ -96,7 +100,9 @@ where
         rt,
         |scope| -> Accepted
             requires { (held.items ≡ []) × (back.items ≡ []) × (vec_len pairs ≤ vec_capacity held) × (vec_len pairs ≤ vec_capacity back) }
-            ensures { HaveServed result.served pairs.items result.pairs.items × (result.end ≡ ends.PassesUsed → result.served ≡ vec_len pairs) }
+            ensures served { HaveServed result.served pairs.items result.pairs.items }
+            ensures used { result.end ≡ ends.PassesUsed → result.served ≡ vec_len pairs }
+            ensures drawn { AreNext (S.stream source.entry.now) (opened_with pairs.items result.pairs.items) }
         {
             serve_all(
                 scope, rt, alloc, node, pairs, door, source, gate, held, back,
@@ -108,6 +114,7 @@ where
 fn unserved(pairs: Vec<Pair>) -> Accepted
     ensures served { HaveServed result.served pairs.items result.pairs.items }
     ensures used { result.end ≢ ends.PassesUsed }
+    ensures drawn { (stream : Stream) → AreNext stream (opened_with pairs.items result.pairs.items) }
 {
     Accepted {
         pairs,
@@ -139,6 +146,8 @@ where
     requires { (held.items ≡ []) × (back.items ≡ []) × (vec_len pairs ≤ vec_capacity held) × (vec_len pairs ≤ vec_capacity back) }
     ensures served { HaveServed result.served pairs.items result.pairs.items }
     ensures used { result.end ≡ ends.PassesUsed → result.served ≡ vec_len pairs }
+    ensures drawn { AreNext (S.stream source.old) (opened_with pairs.items result.pairs.items) }
+    ensures left { HaveDrawn result.end (S.stream source.old) (opened_with pairs.items result.pairs.items) (S.stream source.new) }
 {
     let mut stop = None;
     for pair in pairs {
@@ -205,7 +214,8 @@ where
     D::Output: 's,
     S: Rng,
     G: Gate + Sync + 's,
-    ensures { Turns pair place stop.old result stop.new }
+    ensures turn { Turns pair place stop.old result stop.new }
+    ensures drawn { Spends pair stop.old (S.stream source.old) result stop.new (S.stream source.new) }
 {
     if stop.is_some() {
         return Held::Ended(pair);
@@ -236,7 +246,9 @@ fn open_next<R: Wait, D: Door, S: Rng>(
     source: &mut ChallengeSource<S>,
 ) -> Result<Connection<D::Input, D::Output>, AcceptEnd>
     ensures ok { IfOk result (λ opened. Opens (Some opened.link) reader.old reader.new) }
+    ensures drawn { IfOk result (λ _. Draws (S.stream source.old) (new_challenges reader.old reader.new) (S.stream source.new)) }
     ensures none { IfErr result (λ end. Opens None reader.old reader.new × (end ≢ ends.PassesUsed)) }
+    ensures left { IfErr result (λ end. HaveDrawn end (S.stream source.old) (new_challenges reader.old reader.new) (S.stream source.new)) }
 {
     for _ in rt.forever() {
         let (input, mut output) = next_of(door)?;
@@ -278,7 +290,7 @@ enum Opening {
 }
 
 fn open<R: Wait>(rt: &R, node: &Node, reader: &mut Pass, challenge: u32) -> Opening
-    ensures { Asked reader.old result reader.new }
+    ensures { Asked challenge reader.old result reader.new }
 {
     match reader.call(node, rt, Event::Opened(challenge)) {
         Ok(Reply::Link(link)) => Opening::Link(*link),

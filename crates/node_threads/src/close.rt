@@ -1,9 +1,11 @@
 //! The end of a node.
-ghost use Rattle.std.specs.Prelude.{◌≡◌, ◌↔◌, IsTrue, IsFalse, IfOk, IfErr, OnOk};
-ghost use Rattle.std.specs.List.{All};
-ghost use Rattle.node_threads.specs.Calls.{call_of, calls_of};
+ghost use Rattle.std.specs.Prelude.{◌≡◌, ◌≢◌, ◌∷◌, List, ◌<◌, ◌≤◌, ◌↔◌, [], reverse, IsTrue, IsFalse, IfOk, IfErr, OnOk};
+ghost use Rattle.std.specs.List.{All, AllByRecursion};
+ghost use Rattle.std.specs.Option.{MatchOption};
+ghost use Rattle.node_threads.specs.declared.pass.Call.{Call};
+ghost use Rattle.node_threads.specs.Calls.{call_of};
 ghost use Rattle.node_threads.specs.Room.{IsSound};
-ghost use Rattle.node_threads.specs.Closing.{passes_of, IsOwn, IsSettled, IsCloseFault, IsClosed, IsRefused, LacksOne, HasTwo, HaveEach, HaveOne};
+ghost use Rattle.node_threads.specs.Closing.{passes_of, IsOwn, IsSettled, IsCloseFault, IsClosed, IsRefused, LacksOne, HasTwo, HaveEach, HaveOne, at_seat, AreLeft};
 
 use crate::node::Node;
 use crate::pass::{Call, Pass};
@@ -23,6 +25,14 @@ pub enum CloseRule {
     /// The pass isn't of this node.
     #[error("the calls of a pass aren't the entries of its seat")]
     Mismatch,
+}
+
+/// What lay behind a lock and isn't closed, with the passes that were handed in.
+#[derive(Drop)]
+pub struct Unsettled {
+    pub rule: CloseRule,
+    pub shared: Shared,
+    pub passes: Vec<Pass>,
 }
 
 /// A node that isn't closed, with the passes that were handed in.
@@ -60,23 +70,46 @@ impl Shared {
         }
         Ok(())
     }
+
+    /// Hands out the node, where these are the passes of all seats, each once, and each has exactly the entries of its seat.
+    /// Else all comes back as it was. It takes no memory.
+    pub fn close(self, passes: Vec<Pass>) -> Result<Closed, Unsettled>
+        ensures ok { IfOk result (λ closed. (closed.core ≡ self.history) × IsSettled self passes.items) }
+        ensures refused { IfErr result (λ fault. IsCloseFault fault.rule self passes.items) }
+        ensures passes { IfOk result (λ closed. closed.passes ≡ passes) }
+        ensures back { IfErr result (λ fault. (fault.shared ≡ self) × (fault.passes ≡ passes)) }
+        ensures sound { IsSound self }
+    {
+        if let Err(rule) = self.settles(passes.as_slice()) {
+            return Err(Unsettled {
+                rule,
+                shared: self,
+                passes,
+            });
+        }
+        Ok(Closed {
+            core: self.into_core(),
+            passes,
+        })
+    }
 }
 
 impl Node {
-    /// Hands out what is left of a node, where these are the passes of all seats, each once, and each has exactly the entries
-    /// of its seat. Else node and passes come back. It takes no memory.
+    /// `Shared::close` of what lies behind the lock. Where passes don't settle it, node and passes come back.
     pub fn close(self, passes: Vec<Pass>) -> Result<Closed, CloseFault>
         ensures ok { IfOk result (λ closed. IsClosed closed.core closed.passes.items × (closed.passes ≡ passes)) }
         ensures refused { IfErr result (λ fault. IsRefused fault.rule fault.passes.items × (fault.passes ≡ passes)) }
     {
         let Node { shared, moved } = self;
-        let shared = shared.into_inner();
-        match shared.settles(passes.as_slice()) {
-            Ok(()) => Ok(Closed {
-                core: shared.into_core(),
-                passes,
-            }),
-            Err(rule) => Err(CloseFault {
+        match shared.into_inner().close(passes) {
+            Ok(closed) => Ok(closed),
+            Err(
+                Unsettled {
+                    rule,
+                    shared,
+                    passes,
+                },
+            ) => Err(CloseFault {
                 rule,
                 node: Node {
                     shared: Mutex::new(shared),
@@ -121,27 +154,68 @@ fn have_one(passes: &[Pass], seats: u32) -> bool
     true
 }
 
-/// Whether each pass is of one of the seats, and has exactly the entries of that seat.
+/// Whether each pass is of one of the seats, and has exactly the entries of that seat. It goes over the audit once.
 fn are_own(audit: &Audit, seats: u32, passes: &[Pass]) -> bool
+    requires each { HaveEach seats passes.now }
+    requires one { HaveOne seats passes.now }
+    requires seated { AllByRecursion (λ e. e.seat < seats) audit.now.entries }
+    requires few { seats ≤ 256 }
     ensures { IsTrue result ↔ All (IsOwn seats audit.now.entries) passes.now }
 {
-    passes.iter().all(|pass| pass.seat() < seats && is_own(audit, pass.seat(), pass.calls()))
+    are_seated(passes, seats) && are_entries(audit, seats, calls_by_seat(passes, seats))
 }
 
-/// Whether these are the calls that made the entries of a seat.
-fn is_own(audit: &Audit, seat: u32, calls: &[Call]) -> bool
-    ensures { IsTrue result ↔ (calls.now ≡ calls_of seat audit.now.entries) }
+/// Whether each pass is of one of the seats.
+fn are_seated(passes: &[Pass], seats: u32) -> bool
+    ensures { IsTrue result ↔ All (λ p. p.seat < seats) passes.now }
 {
-    let mut rest = calls;
+    passes.iter().all(|pass| pass.seat() < seats)
+}
+
+/// The calls of each seat's pass.
+fn calls_by_seat(passes: &[Pass], seats: u32) -> [&[Call]; 256]
+    requires seated { All (λ p. p.seat < seats) passes.now }
+    requires one { HaveOne seats passes.now }
+    requires few { seats ≤ 256 }
+    ensures { All (λ p. at_seat p.seat result ≡ p.calls) passes.now }
+{
+    let none: &[Call] = &[];
+    let mut calls = [none; 256];
+    for pass in passes {
+        calls[pass.seat() as usize] = pass.calls();
+    }
+    calls
+}
+
+/// Whether these are, seat by seat, the calls that made the entries.
+fn are_entries(audit: &Audit, seats: u32, mut left: [&[Call]; 256]) -> bool
+    requires seated { AllByRecursion (λ e. e.seat < seats) audit.now.entries }
+    requires few { seats ≤ 256 }
+    ensures { IsTrue result ↔ AreLeft seats left.entry (reverse audit.now.entries) }
+{
     for entry in audit.after(0) {
-        if entry.seat == seat {
-            match rest.split_first() {
-                Some((call, later)) if is_call_of(call, entry) => rest = later,
-                _ => return false,
-            }
+        match behind_call(left[entry.seat as usize], entry) {
+            Some(later) => left[entry.seat as usize] = later,
+            None => return false,
         }
     }
-    rest.is_empty()
+    are_empty(&left[..seats as usize])
+}
+
+fn are_empty(left: &[&[Call]]) -> bool
+    ensures { IsTrue result ↔ All (λ calls. calls.now ≡ []) left.now }
+{
+    left.iter().all(|calls| calls.is_empty())
+}
+
+/// The calls behind the one that made the entry, if it is the first of these.
+fn behind_call<'a>(calls: &'a [Call], entry: &Entry) -> Option<&'a [Call]>
+    ensures { MatchOption result ((later : List Call) → calls.now ≢ call_of entry.now ∷ later) (λ later. calls.now ≡ call_of entry.now ∷ later.now) }
+{
+    match calls.split_first() {
+        Some((call, later)) if is_call_of(call, entry) => Some(later),
+        _ => None,
+    }
 }
 
 /// Whether this is the call that made the entry.

@@ -1,8 +1,9 @@
 //! Why the workers of a link stop, and who is told of their work.
-ghost use Rattle.std.specs.Prelude.{◌≡◌};
+ghost use Rattle.std.specs.Prelude.{◌≡◌, ⊤};
 ghost use Rattle.std.specs.Io.KnownBytes.{Keeps};
-ghost use Rattle.node_threads.specs.Ends.{read_end_of_feed};
+ghost use Rattle.node_threads.specs.Ends.{read_end_of_feed, reader_gives_up, writer_gives_up, read_end_after, write_end_after};
 
+use crate::retreat::RetreatStep;
 use link_frames::FeedFault;
 use policy_audit::Rule;
 use std::io::Write;
@@ -48,6 +49,49 @@ pub enum WriteEnd {
     StuckLink,
 }
 
+impl ReadEnd {
+    /// Whether a reader that stops so gives its link up: it stops for a reason of its own.
+    pub(crate) fn gives_up(self) -> bool
+        ensures { result ≡ reader_gives_up self }
+    {
+        matches!(
+            self,
+            ReadEnd::Closed | ReadEnd::TooLong | ReadEnd::ReadFault | ReadEnd::Memory
+        )
+    }
+
+    /// What a reader that stops so tells, where giving its link up came to this.
+    pub(crate) fn after(self, step: RetreatStep) -> ReadEnd
+        ensures { result ≡ read_end_after step self }
+    {
+        match step {
+            RetreatStep::Stuck => ReadEnd::StuckLink,
+            RetreatStep::Full => ReadEnd::EntriesFull,
+            RetreatStep::Again | RetreatStep::Settled => self,
+        }
+    }
+}
+
+impl WriteEnd {
+    /// Whether a writer that stops so gives its link up.
+    pub(crate) fn gives_up(self) -> bool
+        ensures { result ≡ writer_gives_up self }
+    {
+        matches!(self, WriteEnd::WriteFault | WriteEnd::Memory)
+    }
+
+    /// What a writer that stops so tells, where giving its link up came to this.
+    pub(crate) fn after(self, step: RetreatStep) -> WriteEnd
+        ensures { result ≡ write_end_after step self }
+    {
+        match step {
+            RetreatStep::Stuck => WriteEnd::StuckLink,
+            RetreatStep::Full => WriteEnd::EntriesFull,
+            RetreatStep::Again | RetreatStep::Settled => self,
+        }
+    }
+}
+
 /// Is told of each read and of each call of a reader. No lock is held then.
 pub trait Gate {
     /// The reader of that link is about to read.
@@ -59,9 +103,13 @@ pub trait Gate {
 
 /// What a writer writes to, and hangs up at its end.
 pub trait LinkOut: Write {
+    // What hanging up makes true of the output.
+    ghost is_hung_up: { Self → Type 0 } = { λ _. ⊤ };
+
     /// Ends the link in both directions, so that its reader comes to an end, too.
     fn hang_up(&mut self)
-        ensures { Keeps (Self.contents self.old) (Self.contents self.new) };
+        ensures bytes { Keeps (Self.contents self.old) (Self.contents self.new) }
+        ensures hung_up { is_hung_up self.new };
 }
 
 impl LinkOut for TcpStream {

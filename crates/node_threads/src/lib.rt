@@ -17,7 +17,7 @@ mod shared;
 mod writing;
 
 pub use accepting::{AcceptEnd, Accepted, Door, Pair, accept_links};
-pub use close::{CloseFault, CloseRule, Closed};
+pub use close::{CloseFault, CloseRule, Closed, Unsettled};
 pub use ends::{Gate, LinkOut, ReadEnd, WriteEnd};
 pub use fault::{CallFault, NewFault};
 pub use node::Node;

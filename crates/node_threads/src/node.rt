@@ -1,6 +1,6 @@
 //! A node for many threads.
 ghost use Rattle.std.specs.Prelude.{◌≡◌, ◌<◌, ◌≤◌, IfOk, IfErr, OnOk};
-ghost use Rattle.node_threads.specs.Opened.{IsOpened, IsNewFault, HasBounds};
+ghost use Rattle.node_threads.specs.Opened.{new_room, IsOpened, IsNewFault, HasBounds};
 
 use crate::fault::NewFault;
 use crate::pass::Pass;
@@ -20,13 +20,15 @@ pub struct Node {
     pub moved: Condvar,
 }
 
-impl Node {
-    pub const MAX_SEATS: u32 = 256;
-
-    /// A node that has seen nothing, with a pass for each seat, in the order of the seats. `BadSeats` where there are none or
-    /// more than 256, and then `BadLimit` where the opening allows no entry.
-    pub fn new(alloc: Global, opening: Opening, seats: u32) -> Result<(Node, Vec<Pass>), NewFault>
-        ensures ok { IfOk result (λ made. IsOpened seats made.1.items) }
+impl Shared {
+    /// What a new node has behind its lock, where it has seen nothing, with a pass for each seat, in the order of the seats.
+    /// `BadSeats` where there are none or more than 256, and then `BadLimit` where the opening allows no entry.
+    pub fn open(
+        alloc: Global,
+        opening: Opening,
+        seats: u32,
+    ) -> Result<(Shared, Vec<Pass>), NewFault>
+        ensures ok { IfOk result (λ made. (made.0 ≡ new_room opening seats) × IsOpened seats made.1.items) }
         ensures bounds { OnOk result (HasBounds seats × (0 < opening.entries)) }
         ensures refused { IfErr result (λ fault. IsNewFault fault opening seats) }
     {
@@ -44,6 +46,20 @@ impl Node {
         let Ok(shared) = Shared::new(alloc, core, seats) else {
             return Err(NewFault::OutOfMemory);
         };
+        Ok((shared, passes))
+    }
+}
+
+impl Node {
+    pub const MAX_SEATS: u32 = 256;
+
+    /// `Shared::open` behind a lock.
+    pub fn new(alloc: Global, opening: Opening, seats: u32) -> Result<(Node, Vec<Pass>), NewFault>
+        ensures ok { IfOk result (λ made. IsOpened seats made.1.items) }
+        ensures bounds { OnOk result (HasBounds seats × (0 < opening.entries)) }
+        ensures refused { IfErr result (λ fault. IsNewFault fault opening seats) }
+    {
+        let (shared, passes) = Shared::open(alloc, opening, seats)?;
         let node = Node {
             shared: Mutex::new(shared),
             moved: Condvar::new(),

@@ -3,7 +3,7 @@ ghost use Rattle.std.specs.Prelude.{◌≡◌, ℕ, List, IfErr, OnOk};
 ghost use Rattle.std.specs.Io.KnownBytes.{Consumes, IsAtEnd};
 ghost use Rattle.node_threads.specs.declared.ends.ReadEnd.TheVariants as ends;
 ghost use Rattle.node_threads.specs.Calls.{is_up_reply};
-ghost use Rattle.node_threads.specs.Ends.{EndOf};
+ghost use Rattle.node_threads.specs.Ends.{end_of};
 ghost use Rattle.node_threads.specs.Reading.{Gave, Handed, ReadsOn, Stops, ReadsTo, ReadsAs};
 
 use crate::cutter::Cutter;
@@ -11,7 +11,7 @@ use crate::ends::{Gate, ReadEnd};
 use crate::fault::CallFault;
 use crate::node::Node;
 use crate::pass::Pass;
-use crate::retreat::{RetreatStep, lose};
+use crate::retreat::leave;
 use dist_types::Body;
 use handshake_frames::Fed;
 use node_core::CoreFault;
@@ -22,6 +22,9 @@ use std::sync::Wait;
 
 /// The most bytes of a read.
 const PIECE: usize = 4096;
+
+/// The most reads of a link.
+const TURNS: u64 = 1 << 32;
 
 /// Reads the bytes of a link and hands in the frame of each body, until there is an end. Up to the frame that is answered `Up`
 /// bodies stand behind lengths of 2 bytes, after it behind lengths of 4. Where the bytes end, a read fails, a body is too long or
@@ -38,17 +41,9 @@ pub fn read_link<R: Wait, I: Read, G: Gate>(
     ensures bytes { (bytes : List ℕ) × Consumes (I.remaining input.old) (I.remaining input.new) bytes × ReadsAs link pass.old bytes result pass.new }
     ensures closed { result ≡ ends.Closed → IsAtEnd (I.remaining input.new) }
 {
-    let end = read_on(rt, alloc, node, pass, link, input, gate);
-    match end {
-        ReadEnd::Closed | ReadEnd::TooLong | ReadEnd::ReadFault | ReadEnd::Memory => {
-            match lose(rt, node, pass, link) {
-                RetreatStep::Stuck => ReadEnd::StuckLink,
-                RetreatStep::Full => ReadEnd::EntriesFull,
-                RetreatStep::Settled | RetreatStep::Again => end,
-            }
-        }
-        _ => end,
-    }
+    let stop = read_on(rt, alloc, node, pass, link, input, gate);
+    let step = leave(rt, node, pass, link, stop.gives_up());
+    stop.after(step)
 }
 
 /// Reads until there is an end, in pieces.
@@ -66,7 +61,7 @@ fn read_on<R: Wait, I: Read, G: Gate>(
 {
     let mut piece = [0u8; PIECE];
     let mut cutter = Cutter::new(alloc);
-    for _ in 0..u32::MAX {
+    for _ in 0..TURNS {
         gate.reading(link);
         let count = match input.read(&mut piece) {
             Ok(0) => return ReadEnd::Closed,
@@ -147,7 +142,7 @@ fn give<R: Wait>(
     body: Body,
     done: bool,
 ) -> Result<bool, ReadEnd>
-    ensures { Gave link body pass.old result pass.new }
+    ensures { Gave link body done pass.old result pass.new }
 {
     match pass.call(node, rt, Event::Frame(link, body)) {
         Ok(reply) => Ok(is_up(reply)),
@@ -166,7 +161,7 @@ fn is_up(reply: &Reply) -> bool
 
 /// Which end follows on a frame without a reply, if one does: a link whose handshake is done outlives the refusals of its messages.
 fn end_of(fault: CallFault, done: bool) -> Option<ReadEnd>
-    ensures { EndOf fault result }
+    ensures { result ≡ end_of fault done }
 {
     match fault {
         CallFault::StrangePass => Some(ReadEnd::StrangePass),

@@ -1,10 +1,11 @@
 //! What follows on the answer to a `Lost`.
-ghost use Rattle.std.specs.Prelude.{◌≡◌, ◌+◌, ◌<◌, Err};
+ghost use Rattle.std.specs.Prelude.{◌≡◌, ◌+◌, ◌<◌, List, Err};
 ghost use Rattle.node_core.specs.declared.fault.CoreFault.TheVariants as core_faults;
 ghost use Rattle.node_threads.specs.declared.fault.CallFault.TheVariants as faults;
 ghost use Rattle.node_threads.specs.declared.retreat.RetreatStep.TheVariants as steps;
 ghost use Rattle.node_threads.specs.Applied.{answer_now};
-ghost use Rattle.node_threads.specs.Retreat.{tries_after, step_after, MayLose};
+ghost use Rattle.node_threads.specs.declared.pass.Call.{Call};
+ghost use Rattle.node_threads.specs.Retreat.{tries_after, step_after, GivesUp, Leaves};
 
 use crate::fault::CallFault;
 use crate::node::Node;
@@ -77,8 +78,8 @@ impl Retreat {
 }
 
 /// Calls `Lost` until it is settled. Where memory is wanting to the end, all writers of the node are told.
-pub(crate) fn lose<R: Wait>(rt: &R, node: &Node, pass: &mut Pass, link: u32) -> RetreatStep
-    ensures { MayLose link pass.old pass.new }
+fn lose<R: Wait>(rt: &R, node: &Node, pass: &mut Pass, link: u32) -> RetreatStep
+    ensures { (lost : List Call) × GivesUp link pass.old lost result pass.new }
 {
     let mut retreat = Retreat::new();
     loop {
@@ -90,5 +91,22 @@ pub(crate) fn lose<R: Wait>(rt: &R, node: &Node, pass: &mut Pass, link: u32) -> 
             }
             step => return step,
         }
+    }
+}
+
+/// Gives the link up, where its worker is to.
+pub(crate) fn leave<R: Wait>(
+    rt: &R,
+    node: &Node,
+    pass: &mut Pass,
+    link: u32,
+    gives_up: bool,
+) -> RetreatStep
+    ensures { (lost : List Call) × Leaves link gives_up pass.old lost result pass.new }
+{
+    if gives_up {
+        lose(rt, node, pass, link)
+    } else {
+        RetreatStep::Settled
     }
 }

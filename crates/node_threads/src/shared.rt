@@ -1,5 +1,7 @@
 //! What lies behind the lock.
 ghost use Rattle.std.specs.Prelude.{◌≡◌, ◌+◌, ◌<◌, ◌≤◌, ◌↔◌, ◌++◌, ◌∷◌, [], false, replicate, length, vec_len, vec_capacity, slice_index, slice_set, Some, IsTrue, IsSome, IfOk, IfErr, IfSome, OnOk, OnErr};
+ghost use Rattle.node_core.specs.declared.fault.CoreFault.TheVariants as core_faults;
+ghost use Rattle.node_threads.specs.declared.fault.CallFault.TheVariants as faults;
 ghost use Rattle.policy_audit.specs.Policy.{verdict, after, is_full, next_number, IsLegal};
 ghost use Rattle.node_threads.specs.Calls.{last_reply};
 ghost use Rattle.node_threads.specs.Room.{IsSound, AreCounted, one_more};
@@ -13,6 +15,9 @@ use policy_audit::{Event, Rule, Verdict};
 use std::alloc::Global;
 use std::marker::Model;
 
+/// So often in a row memory is wanting for events until it is taken to be so for good.
+const LASTING: u32 = 2;
+
 /// A node, and how many entries each seat has.
 pub struct Shared {
     alloc: Global,
@@ -20,6 +25,8 @@ pub struct Shared {
     counts: Vec<u32>,
     /// The writers of all links are to hang up. No contract rests on it.
     stuck: bool,
+    /// How often in a row memory was wanting for an event. No contract rests on it.
+    wants: u32,
 }
 
 impl Drop for Shared {
@@ -29,6 +36,7 @@ impl Drop for Shared {
             core: _,
             counts: _,
             stuck: _,
+            wants: _,
         } = self;
     }
 }
@@ -47,6 +55,7 @@ impl Shared {
     /// A node that has seen nothing, for that many seats.
     pub(crate) fn new(alloc: Global, core: NodeCore, seats: u32) -> Result<Shared, OutOfMemory>
         requires unused { core.entries ≡ [] }
+        requires some { 0 < seats }
         requires few { seats ≤ 256 }
         ensures { IfOk result (λ shared. shared ≡ record { history = core; counts = replicate seats 0 }) }
     {
@@ -56,6 +65,7 @@ impl Shared {
             core,
             counts,
             stuck: false,
+            wants: 0,
         })
     }
 
@@ -65,6 +75,37 @@ impl Shared {
         ensures sound { IsSound self.now }
     {
         &self.core
+    }
+
+    /// Whether memory was wanting for an event, and again for the next one, after the node had let go what it can.
+    pub fn wants_memory(&self) -> bool {
+        self.wants >= LASTING
+    }
+
+    /// Lets go what the node can do without.
+    pub fn let_go(&mut self)
+        ensures { self.new ≡ self.old }
+    {
+        self.core.let_go();
+    }
+
+    /// Notes that memory was wanting for an event, and lets go what the node can do without.
+    fn note_want(&mut self) -> CallFault
+        ensures fault { result ≡ faults.Core core_faults.OutOfMemory }
+        ensures same { self.new ≡ self.old }
+    {
+        self.let_go();
+        self.wants = LASTING.min(self.wants.saturating_add(1));
+        CallFault::Core(CoreFault::OutOfMemory)
+    }
+
+    /// Notes that there was memory for an event.
+    fn note_plenty(&mut self)
+        ensures { self.new ≡ self.old }
+    {
+        if self.wants < LASTING {
+            self.wants = 0;
+        }
     }
 
     pub(crate) fn is_stuck(&self) -> bool {
@@ -97,6 +138,7 @@ impl Shared {
             core,
             counts: _,
             stuck: _,
+            wants: _,
         } = self;
         core
     }
@@ -109,6 +151,13 @@ impl Shared {
             Some(count) => *count as usize == pass.calls.len(),
             None => false,
         }
+    }
+
+    /// Whether a call with the pass would be taken: its seat is one of the node's, which has as many entries of it as the pass has calls.
+    pub fn knows(&self, pass: &Pass) -> bool
+        ensures { IsTrue result ↔ Fits self.now pass.now }
+    {
+        self.fits(pass)
     }
 
     /// Applies an event for the seat of the pass, and leaves the answer in the pass. All that grows has grown before the step.
@@ -129,12 +178,13 @@ impl Shared {
         }
         let Ok(copy) = room_and_copy(self.alloc, &mut pass.calls, &event) else {
             drop(event);
-            return Err(CallFault::Core(CoreFault::OutOfMemory));
+            return Err(self.note_want());
         };
         let Ok((number, verdict)) = self.advance(pass.seat, event) else {
             drop(copy);
-            return Err(CallFault::Core(CoreFault::OutOfMemory));
+            return Err(self.note_want());
         };
+        self.note_plenty();
         let call = Call {
             number,
             event: copy,

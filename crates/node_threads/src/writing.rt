@@ -2,13 +2,14 @@
 ghost use Rattle.std.specs.Prelude.{◌≡◌, IfOk};
 ghost use Rattle.std.specs.List.{flat_map};
 ghost use Rattle.policy_audit.specs.Wire.{wire_bytes};
-ghost use Rattle.node_threads.specs.Writing.{TakeEnd, Took, WritesTo, WritesAs};
+ghost use Rattle.node_threads.specs.Ends.{take_end};
+ghost use Rattle.node_threads.specs.Writing.{Took, WritesTo, WritesAs};
 
 use crate::ends::{LinkOut, WriteEnd};
 use crate::fault::CallFault;
 use crate::node::Node;
 use crate::pass::Pass;
-use crate::retreat::{RetreatStep, lose};
+use crate::retreat::leave;
 use dist_types::OutOfMemory;
 use node_core::CoreFault;
 use policy_audit::{Event, OutFrame, Reply, Rule};
@@ -25,19 +26,13 @@ pub fn write_link<R: Wait, W: LinkOut>(
     link: u32,
     output: &mut W,
 ) -> WriteEnd
-    ensures { WritesAs link pass.old (W.contents output.old) result (W.contents output.new) pass.new }
+    ensures takes { WritesAs link pass.old (W.contents output.old) result (W.contents output.new) pass.new }
+    ensures hung_up { W.is_hung_up output.new }
 {
-    let end = write_on(rt, alloc, node, pass, link, output);
-    let end = match end {
-        WriteEnd::WriteFault | WriteEnd::Memory => match lose(rt, node, pass, link) {
-            RetreatStep::Stuck => WriteEnd::StuckLink,
-            RetreatStep::Full => WriteEnd::EntriesFull,
-            RetreatStep::Settled | RetreatStep::Again => end,
-        },
-        _ => end,
-    };
+    let stop = write_on(rt, alloc, node, pass, link, output);
+    let step = leave(rt, node, pass, link, stop.gives_up());
     output.hang_up();
-    end
+    stop.after(step)
 }
 
 /// Takes and writes until there is an end.
@@ -110,7 +105,7 @@ fn wire_of(alloc: Global, frames: &[OutFrame]) -> Result<Vec<u8>, OutOfMemory>
 
 /// Which end follows on a Take without a reply. A Take is refused by no other rules than these.
 fn end_of(fault: CallFault) -> WriteEnd
-    ensures { TakeEnd fault result }
+    ensures { result ≡ take_end fault }
 {
     match fault {
         CallFault::StrangePass => WriteEnd::StrangePass,

@@ -1,4 +1,6 @@
 //! A reader that gives a byte a read, and a writer that takes a byte a write, each until it fails.
+ghost use Rattle.std.specs.Prelude.{◌≡◌, true};
+
 use dist_types::OutOfMemory;
 use node_threads::{Gate, LinkOut};
 use std::alloc::Global;
@@ -70,6 +72,8 @@ impl Write for Taking {
 }
 
 impl LinkOut for Taking {
+    ghost is_hung_up = { λ taking. taking.is_hung_up ≡ true };
+
     fn hang_up(&mut self) {
         self.is_hung_up = true;
     }

@@ -1,5 +1,6 @@
 //! Callers on threads of their own. What can't be played for want of memory is None; the assertions stand in the tests.
 mod accepting;
+mod challenges;
 mod close;
 mod retreat;
 mod worker;

@@ -13,7 +13,7 @@ use std::thread::Threads;
 use std::{io, thread};
 
 /// The name frame of a@h behind its length.
-const NAME: [u8; 20] = [
+pub(super) const NAME: [u8; 20] = [
     0, 18, 0x4e, 0, 0, 0, 0, 1, 0, 0, 1, 0, 0, 0, 5, 0, 3, 0x61, 0x40, 0x68,
 ];
 

@@ -1,5 +1,9 @@
 use Rattle.node_threads.proofs.Pairs.{none_served}
+use Rattle.node_threads.proofs.Drawn.{none_drawn}
 use Rattle.node_threads.proofs.accepting.unserved.Goals as goal
 
 pub returns-clause-served : goal.returns-clause-served
 returns-clause-served c = none_served c.args.pairs.items
+
+pub returns-clause-drawn : goal.returns-clause-drawn
+returns-clause-drawn c = λ stream. none_drawn c.args.pairs.items stream

@@ -14,14 +14,14 @@ returns-in-Ok-eq0-clause-bytes g c =
     let now = g.I.Read.remaining c.read.new.self in
     let none : Consumes mid now [] = subst (λ (n : ℕ). Consumes mid now (take n c.read.new.buf)) c.in-Ok-eq0.field-0-test (rw c.in-Ok-eq0.is at c.read.ensures.bytes).0 in
     let all : Consumes was now so_far.0 = subst (λ (bs : List ℕ). Consumes was now bs) (append-nil so_far.0) (Consumes-trans was mid now so_far.0 [] so_far.1 none) in
-    (so_far.0, all, reads_to_end c.args.link c.args.pass.now c.loop.pass so_far.0 c.loop.cutter ends.Closed tt so_far.2)
+    (so_far.0, all, reads_to_end c.args.link c.args.pass.now c.loop.pass so_far.0 c.loop.cutter ends.Closed refl so_far.2)
 
 pub returns-in-Err-2-clause-bytes : goal.returns-in-Err-2-clause-bytes
 returns-in-Err-2-clause-bytes g c =
     let so_far = c.loop.invariant in (
       so_far.0,
       Consumes-kept (g.I.Read.remaining c.args.input.now) (g.I.Read.remaining c.loop.input) (g.I.Read.remaining c.read.new.self) so_far.0 so_far.1 c.in-Err-2.ensures.bytes,
-      reads_to_end c.args.link c.args.pass.now c.loop.pass so_far.0 c.loop.cutter ends.ReadFault tt so_far.2,
+      reads_to_end c.args.link c.args.pass.now c.loop.pass so_far.0 c.loop.cutter ends.ReadFault refl so_far.2,
     )
 
 pub returns-in-Err-hand_in_all-clause-bytes : goal.returns-in-Err-hand_in_all-clause-bytes
@@ -47,4 +47,4 @@ loop-preserved g c =
 pub returns-clause-bytes : goal.returns-clause-bytes
 returns-clause-bytes g c =
     let so_far = c.loop.invariant in
-    (so_far.0, so_far.1, reads_to_end c.args.link c.args.pass.now c.loop.pass so_far.0 c.loop.cutter ends.ReadFault tt so_far.2)
+    (so_far.0, so_far.1, reads_to_end c.args.link c.args.pass.now c.loop.pass so_far.0 c.loop.cutter ends.ReadFault refl so_far.2)

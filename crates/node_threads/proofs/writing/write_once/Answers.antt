@@ -1,4 +1,4 @@
-use Rattle.std.proofs.Common.{rules}
+use Rattle.std.proofs.Common.{rules, refl}
 use Rattle.node_threads.specs.declared.ends.WriteEnd.TheVariants as ends
 use Rattle.node_threads.proofs.Written.{took_written, took_unwritten, took_end}
 use Rattle.node_threads.proofs.writing.write_once.Goals as goal
@@ -15,10 +15,10 @@ returns-in-Err g c =
 
 pub returns-in_default : goal.returns-in_default
 returns-in_default g c =
-    took_unwritten c.args.link c.args.pass.now c.call.follows.lender-at-none _ ends.Memory (g.W.Write.contents c.args.output.now) (g.W.Write.contents c.args.output.now) (λ q. cc)
+    took_unwritten c.args.link c.args.pass.now c.call.follows.lender-at-none _ ends.Memory (g.W.Write.contents c.args.output.now) (g.W.Write.contents c.args.output.now) refl
     (rw c.in-Ok-Out.is at c.call.follows.holds-at-none)
 
 pub returns-then-is_err : goal.returns-then-is_err
 returns-then-is_err g c =
-    took_unwritten c.args.link c.args.pass.now c.call.follows.lender-at-none _ ends.WriteFault (g.W.Write.contents c.args.output.now) (g.W.Write.contents c.write_all.new.self) (λ q. cc)
+    took_unwritten c.args.link c.args.pass.now c.call.follows.lender-at-none _ ends.WriteFault (g.W.Write.contents c.args.output.now) (g.W.Write.contents c.write_all.new.self) refl
     (rw c.in-Ok-Out.is at c.call.follows.holds-at-none)

@@ -1,22 +1,11 @@
-use Rattle.std.proofs.Common.{List, refl, subst, sym}
+use Rattle.std.proofs.Common.{subst, sym}
 use Rattle.policy_audit.specs.History.{History}
-use Rattle.node_threads.specs.Calls.{Record}
-use Rattle.node_threads.specs.Closing.{IsCloseFault, IsClosed, IsSettled}
+use Rattle.node_threads.specs.Closing.{IsClosed}
 use Rattle.node_threads.proofs.node.Node.close.Goals as goal
-
-pub returns-in-Err-clause-refused : goal.returns-in-Err-clause-refused
-returns-in-Err-clause-refused c = (
-  (
-    c.into_inner-shared.result,
-    c.settles.ensures.sound,
-    subst (λ (ps : List Record). IsCloseFault c.in-Err.rule c.into_inner-shared.result ps) c.as_slice.ensures.value c.in-Err.ensures.refused,
-  ),
-  refl,
-)
 
 pub returns-in-Ok-clause-ok : goal.returns-in-Ok-clause-ok
 returns-in-Ok-clause-ok c =
-    let room = c.into_inner-shared.result in
-    let settled = subst (λ (ps : List Record). IsSettled room ps) c.as_slice.ensures.value c.in-Ok.ensures.ok in
-    let closed : IsClosed room.history c.args.passes.items = (room.counts, c.settles.ensures.sound, settled) in
-    (subst (λ (h : History). IsClosed h c.args.passes.items) (sym c.into_core.ensures) closed, refl)
+    let room = c.into_inner.result in
+    let closed : IsClosed room.history c.args.passes.items = (room.counts, c.close.ensures.sound, c.in-Ok.ensures.ok.1) in
+    let of_core = subst (λ (h : History). IsClosed h c.args.passes.items) (sym c.in-Ok.ensures.ok.0) closed in
+    (subst (λ ps. IsClosed c.in-Ok.closed.core ps.items) (sym c.in-Ok.ensures.passes) of_core, c.in-Ok.ensures.passes)

@@ -32,5 +32,6 @@ invariant_of-self-2 c =
       legal = c.audit.ensures.legal;
       counted = subst (λ (es : List Entry). AreCounted (slice_set counts c.args.seat (c.index_mut.result.now + 1)) es) (sym entries)
           (subst (λ (n : ℕ). AreCounted (slice_set counts c.args.seat (n + 1)) (entry ∷ c.self.inside.core.entries)) here entered);
+      some = omega (arith, same, c.self.invariant.some);
       few = omega (arith, same, c.self.invariant.few);
     }

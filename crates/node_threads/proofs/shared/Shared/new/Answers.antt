@@ -12,5 +12,6 @@ invariant_of-result c =
       legal = subst (λ (es : List Entry). IsLegalIn c.args.core.opening es) (sym c.requires.unused) tt;
       counted = subst (λ (es : List Entry). AreCounted c.in_ok-counts.counts.items es) (sym c.requires.unused)
           (subst (λ (ns : List ℕ). AreCounted ns []) (sym zeros) (AreCounted_none c.args.seats));
+      some = omega (arith, c.in_ok-counts.ensures.len, c.requires.some);
       few = omega (arith, c.in_ok-counts.ensures.len, c.requires.few);
     }
