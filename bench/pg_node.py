@@ -19,12 +19,15 @@ sys.dont_write_bytecode = True
 HERE = os.path.dirname(os.path.realpath(__file__))
 sys.path.insert(0, os.path.join(HERE, "../tests/live"))
 
+from cases_crowd import Flood
 from field import Field
 
 JOINS = 500
 PAUSE = 0.02  # seconds between joins that come singly
 STARTS = 11
 BURSTS = {1: 2000, 8: 1000, 60: 200}  # how many joins are told to so many peers
+CALLS = 500
+MEMBERS = 3000  # of the group that a client asks for again and again
 LIMIT = 120
 
 
@@ -169,6 +172,42 @@ def joins_told(field, begin, peers):
     return 2 * pairs / (time.perf_counter() - began)
 
 
+def single_calls(lines, pid):
+    """Milliseconds of calls that come singly: median, and the least that 95 of 100 keep to."""
+    times = []
+    for number in range(CALLS):
+        began = time.perf_counter()
+        lines.ask(f"{'leave' if number % 2 else 'join'} pg quiet {pid}")
+        times.append((time.perf_counter() - began) * 1000)
+        time.sleep(PAUSE / 5)
+    return statistics.median(times), statistics.quantiles(times, n=20)[-1]
+
+
+def calls_alone(field, begin):
+    """Single calls of the only client."""
+    return single_calls(*a_member(begin(field, "hub").ready()))
+
+
+def calls_beside_joins(field, begin):
+    """Single calls beside a client that joins and leaves as fast as it can write lines."""
+    hub = begin(field, "hub").ready()
+    lines, pid = a_member(hub)
+    Flood(field, hub)
+    return single_calls(lines, pid)
+
+
+def calls_beside_lists(field, begin):
+    """Single calls beside two clients that ask for a long list of members as fast as they can."""
+    hub = begin(field, "hub").ready()
+    lines, pid = a_member(hub)
+    for _ in range(MEMBERS // 50):
+        pids = [lines.ask("spawn")[1] for _ in range(50)]
+        lines.ask(f"join pg long {' '.join(pids)}")
+    for _ in range(2):
+        Flood(field, hub, "members pg long\n")
+    return single_calls(lines, pid)
+
+
 def start_to_up(field, begin):
     """Milliseconds from the start of a process to the news of its link at the other end, the median."""
     hub = begin(field, "hub").ready()
@@ -235,6 +274,9 @@ def main():
     table.row("joins and leaves told to 1 peer, a second", joins_told, 1)
     table.row("the same to 8 peers", joins_told, 8, beside=False)
     table.row("the same to 60 peers", joins_told, 60, beside=False)
+    table.row("a single call, milliseconds", calls_alone)
+    table.row("the same beside a client that joins and leaves without end", calls_beside_joins)
+    table.row(f"the same beside two that ask for {MEMBERS} members without end", calls_beside_lists)
     table.row("start of a process to its link up, milliseconds", start_to_up)
     table.row("memory of an idle node, MiB", idle_memory)
     table.row("memory of a link, KiB", link_memory, beside=False)

@@ -5,7 +5,7 @@ from collections import Counter
 
 from console import Console
 from frames import STATUSES
-from history import Out
+from history import Exit, Out
 from model import Model
 from records import record
 from texts import text_of
@@ -14,6 +14,7 @@ REFERRING = ('lost', 'take', 'frame', 'demonitor', 'updates', 'audit')
 MOST_TRIES = 400
 SECONDS = 600
 FRAMES = {'N': 'Name or Challenge', 'r': 'Reply', 'a': 'Ack', 'D': 'Discover', 'S': 'Sync', 'J': 'Join', 'L': 'Leave', 'X': 'Down'}
+EXITS = 'exit told in several scopes'
 
 Played = record('Played', 'transcript status')
 
@@ -126,7 +127,16 @@ def coverage(console):
             seen[f'accepted {type(entry.event).__name__}'] += 1
         if isinstance(entry.answer, Out):
             seen.update(f'owed {frame_kind(body)}' for body in entry.answer.bodies)
-    return seen
+    return seen + Counter({EXITS: exits_in_several_scopes(console)})
+
+
+def exits_in_several_scopes(console):
+    """How many exits owe a link a Leave in each of several scopes."""
+    count, h = 0, console.history
+    while h is not None:
+        count += isinstance(h.said, Exit) and any(len(console.model.exit_owes(h, link)) > 1 for link in console.model.links(h))
+        h = h.past
+    return count
 
 
 def frame_kind(body):

@@ -88,6 +88,11 @@ class joins_before_told(Model):
         return self.if_visible(h, link, kind(scope, rows)) if kind is RowsJoin and rows else super().if_told(h, link, kind, scope, rows)
 
 
+class tells_an_exit_in_the_last_scope_first(Model):
+    def exit_owes(self, h, link):
+        return super().exit_owes(h, link)[::-1]
+
+
 class allow_replaces_the_list(Model):
     @looks_back
     def allow_list(self, h):

@@ -3,6 +3,7 @@
 from random import Random
 
 from faults import FAULTS
+from frames import Discover, message_body
 from history import Monitor, MonitorScope, Opening
 from limits import LIMITS
 from peers import COOKIES, GROUPS, PEERS, SCOPES, Peers
@@ -17,12 +18,12 @@ LINKS = {
 ROWS = {
     'handshake': 2, 'message': 24, 'wrong_message': 6, 'exchange': 8, 'take': 9, 'members': 5, 'groups': 3, 'start': 4, 'stop': 1,
     'spawn': 4, 'join': 8, 'leave': 6, 'exit': 2, 'lost': 1, 'disconnect': 1, 'monitor': 2, 'updates': 3, 'opened': 1, 'dial': 1,
-    'advance': 3, 'broken': 2,
+    'advance': 3, 'broken': 2, 'told_scopes': 3,
 }
 OWN = {
     'start': 4, 'stop': 2, 'spawn': 6, 'exit': 3, 'join': 16, 'leave': 12, 'members': 8, 'groups': 5, 'monitor': 5, 'updates': 9,
     'demonitor': 2, 'seat': 3, 'restart': 2, 'audit': 3, 'cookie': 1, 'cookie_for': 1, 'allow': 1, 'handshake': 1, 'exchange': 1,
-    'take': 2,
+    'take': 2, 'told_scopes': 3,
 }
 MONITORS = {
     'monitor': 8, 'updates': 18, 'updates_of_another': 2, 'demonitor': 3, 'seat': 4, 'start': 3, 'stop': 1, 'spawn': 3, 'join': 8,
@@ -213,6 +214,28 @@ class Generator(Peers):
         scope = self.scope(95).encode()
         self.frame(link, b'D' + bytes([len(scope)]) + scope)
         self.frame(link, b'S' + bytes([len(scope)]) + scope + b'\0\0\0\0')
+
+    def told_scopes(self):
+        """Tells a peer of some scopes, and joins one process in each of them, in any order; mostly it exits."""
+        if (link := self.link(is_up=True)) is None:
+            return self.handshake()
+        scopes = self.rng.sample(SCOPES, self.one_of((2, 2, 3)))
+        for scope in scopes:
+            self.tell_of(link, scope)
+        pid = pid_text(self.own_pid())
+        for scope in self.rng.sample(scopes, len(scopes)):
+            self.say('join', scope, self.one_of(GROUPS), *[pid] * self.one_of((1, 1, 2)))
+        if self.chance(80):
+            self.say('exit', pid)
+        if self.chance(80):
+            self.say('take', link)
+
+    def tell_of(self, link, scope):
+        """Lets a peer discover a scope that runs, where it hasn't yet."""
+        if not self.model.is_running(self.h, scope):
+            self.say('start', scope)
+        if not self.model.tells(self.h, link, scope):
+            self.frame(link, message_body(Discover(scope)))
 
     def some_link(self):
         """A link, mostly one that is kept."""

@@ -1,17 +1,15 @@
 """The program that is tried."""
 
 import os
-import sys
 from pathlib import Path
 
 CRATES = Path(__file__).resolve().parents[2] / 'crates'
 
 
-def tried_program(named, crate='pg_console'):
-    """The program that is named; else the proved one of the crate where there is one, else the one that is built unproved."""
+def tried_program(reader, named, crate='pg_console'):
+    """The program that is named; else the proved one of the crate where there is one, else the one that is built unproved. A command line
+    that leaves none is refused."""
     programs = [named] if named else [CRATES / crate / 'out' / crate, CRATES / crate / 'out' / f'{crate}.unproved']
-    found = [str(path) for path in programs if os.access(path, os.X_OK)]
-    if not found:
-        print(f'no such program: {programs[-1]} (bin/{crate} --version builds one)', file=sys.stderr)
-        sys.exit(2)
-    return found[0]
+    found = next((str(path) for path in programs if os.access(path, os.X_OK)), programs[-1])
+    reader.need_program(found, f'bin/{crate} --version')
+    return found
