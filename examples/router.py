@@ -1,8 +1,10 @@
 #!/usr/bin/env python3
 """A router: router.py CONTROL
 
-It hands each line of its standard input to a worker (worker.py), in turn to each that the pg_node behind the control socket CONTROL lists
-now, and prints the answer, or `nobody`. It prints `here HOST:PORT` and `gone HOST:PORT` when a worker comes or goes.
+It hands each line of its standard input to a worker (worker.py), in turn to each that the pg_node
+behind the control socket CONTROL lists now, and prints the answer, or `nobody`. It prints
+`here HOST:PORT` and `gone HOST:PORT` when a worker comes or goes. At the end of its input it ends
+with status 0; when the node ends, with a line on standard error and status 1.
 """
 
 import collections
@@ -13,6 +15,7 @@ import time
 
 listed = collections.Counter()  # the processes in the group of each worker
 is_known = threading.Event()  # once the node has said who is listed
+has_routed_all = threading.Event()
 
 
 def count(group, number):
@@ -23,13 +26,18 @@ def count(group, number):
 
 
 def watch():
-    """Asks who is listed, and to be told of changes. Whoever was listed before the node began anew is gone."""
+    """Asks who is listed, and to be told of changes. Whoever was listed before the node began anew
+    is gone."""
     for group in +listed:
         count(group, -listed[group])
-    control.sendall(b"start jobs\nmonitor_scope jobs\n")
+    try:
+        control.sendall(b"start jobs\nmonitor_scope jobs\n")
+    except OSError:
+        pass  # the node hung up, and its last words can still be read
 
 
 def follow(words):
+    """What a line from the node says."""
     match words:
         case ["ref", _, *groups]:  # each group, the number of its processes, and the processes
             while groups:
@@ -42,10 +50,12 @@ def follow(words):
             count(group, -int(number))
         case ["!", "restarted" | "ended", _]:
             watch()
+        case ["fault", "full"]:
+            sys.exit("router.py: the node has no room for another client")
 
 
 def done(job, turn):
-    """The answer of a worker that is listed now; of the next one, where the first went this moment."""
+    """The answer of a worker that is listed now; of the next one, where the first went just now."""
     groups = sorted(+listed)
     for place in range(turn, turn + len(groups)):
         host, port = groups[place % len(groups)].removeprefix("jobs/").split(":")
@@ -60,16 +70,31 @@ def done(job, turn):
 
 
 def route():
+    """Hands out the lines of standard input, to their end."""
     is_known.wait()
     for turn, job in enumerate(sys.stdin):
         print(done(job, turn), flush=True)
+    has_routed_all.set()
     control.shutdown(socket.SHUT_RDWR)
 
 
+def follow_all():
+    """Follows the node's lines to their end."""
+    try:
+        for line in control.makefile():
+            follow(line.split())
+    except OSError:
+        pass  # it ended in the middle of something
+
+
+if len(sys.argv) != 2:
+    print("usage: router.py CONTROL", file=sys.stderr)
+    sys.exit(2)
 control = socket.socket(socket.AF_UNIX)
 while control.connect_ex(sys.argv[1]):
     time.sleep(0.1)  # the node isn't there yet
 watch()
 threading.Thread(target=route, daemon=True).start()
-for line in control.makefile():
-    follow(line.split())
+follow_all()
+if not has_routed_all.is_set():
+    sys.exit("router.py: the node is gone")

@@ -1,6 +1,9 @@
--- What the passes of a lane have called.
-use Rattle.std.specs.Prelude.{◌≡◌, ℕ, List, [], ◌∷◌, ⊤, Option, IfSome}
+-- What the passes of a lane have called, and with which challenges.
+use Rattle.std.specs.Prelude.{◌≡◌, ◌⊎◌, ℕ, List, [], ◌∷◌, ◌++◌, ⊤, Option, IfSome}
 use Rattle.std.specs.List.{All, Contains, flat_map}
+use Rattle.rand_core.specs.Stream.{Stream}
+use Rattle.rand_core.specs.Steps.{stream_of, steps_u32}
+use Rattle.rand_chacha.specs.ChaCha.{ChaCha, next_word}
 use Rattle.policy_audit.specs.declared.event.Event.{Event}
 use Rattle.policy_audit.specs.declared.event.Event.TheVariants.{Opened, Dial, Frame, Take, Lost}
 use Rattle.policy_audit.specs.declared.reply.Reply.TheVariants.{Link}
@@ -8,19 +11,22 @@ use Rattle.policy_audit.specs.declared.entry.Verdict.{Verdict}
 use Rattle.policy_audit.specs.declared.entry.Verdict.TheVariants.{Accepted}
 use Rattle.node_threads.specs.declared.pass.Call.{Call}
 use Rattle.node_threads.specs.Calls.{Record, Gains}
+use Rattle.node_threads.specs.Drawing.{Draws, challenges}
 
--- both passes of a lane
+-- both passes of a lane, the challenge for the next link, and what is left of its generator behind that
 pub record Pair : Type 0 where
   pub reader : Record
   pub writer : Record
+  pub challenge : ℕ
+  pub left : ChaCha
 
 -- ---- its links
 
--- the event opens a link
-abbrev pub IsOpening : Event → Type 0
-IsOpening (Opened challenge) = ⊤
-IsOpening (Dial peer challenge) = ⊤
-IsOpening event = ⊥
+-- the event opens a link with this challenge
+abbrev pub IsOpening : ℕ → Event → Type 0
+IsOpening challenge (Opened c) = c ≡ challenge
+IsOpening challenge (Dial peer c) = c ≡ challenge
+IsOpening challenge event = ⊥
 
 abbrev pub link_in : Verdict → List ℕ
 link_in (Accepted (Link link)) = link ∷ []
@@ -50,18 +56,31 @@ IsLinkEvent links event = ⊥
 abbrev pub AreOf : List ℕ → List Call → Type 0
 AreOf links calls = All (λ (c : Call). IsLinkEvent links c.event) calls
 
--- both passes have called nothing else, of no other links than those that the lane has opened
+-- the words that ChaCha with 20 rounds gives from here on
+abbrev pub words_of : ChaCha → Stream
+words_of = stream_of (steps_u32 (next_word 10))
+
+-- both passes have called nothing else, of no other links than those that the lane has opened;
+-- the reader alone has opened links, with words of the generator one after another, each once; the word behind them is for the next link
 pub record IsLane (lane : Pair) : Type 0 where
   pub reader : AreOf (own_links lane.reader.calls) lane.reader.calls
   pub writer : AreOf (own_links lane.reader.calls) lane.writer.calls
+  pub reader_alone : challenges lane.writer.calls ≡ []
+  pub drawn : (given : ChaCha) × Draws (words_of given) (challenges lane.reader.calls ++ lane.challenge ∷ []) (words_of lane.left)
+
+-- it is a new lane of these passes, and the next word of the generator is for its first link
+pub record IsBegun (reader : Record) (writer : Record) (source : ChaCha) (lane : Pair) : Type 0 where
+  pub reader_is : lane.reader ≡ reader
+  pub writer_is : lane.writer ≡ writer
+  pub drawn : Draws (words_of source) (lane.challenge ∷ []) (words_of lane.left)
 
 -- one of the passes has been used before
-abbrev pub IsUsed : Pair → Type 0
-IsUsed lane = ((lane.reader.calls ≡ []) × (lane.writer.calls ≡ [])) → ⊥
+abbrev pub IsUsed : Record → Record → Type 0
+IsUsed reader writer = ((reader.calls ≡ []) × (writer.calls ≡ [])) → ⊥
 
--- the pass has gained calls that open links; a link that is told is one of these
-pub record Opens (told : Option ℕ) (pass : Record) (pass' : Record) : Type 0 where
+-- the pass has gained one call, of this event, or none; a link that is told is that of the call
+pub record Opens (event : Event) (told : Option ℕ) (pass : Record) (pass' : Record) : Type 0 where
   pub more : List Call
   pub gains : Gains pass more pass'
-  pub opening : All (λ (c : Call). IsOpening c.event) more
+  pub at_most_one : (more ≡ []) ⊎ ((c : Call) × (more ≡ c ∷ []) × (c.event ≡ event))
   pub is_own : IfSome told (Contains (own_links more))

@@ -1,7 +1,7 @@
 //! A lane: two passes that serve one link after another.
-ghost use Rattle.std.specs.Prelude.{◌≡◌, IfOk, IfErr, IfSome};
+ghost use Rattle.std.specs.Prelude.{◌≡◌, ℕ, IfOk, IfErr, IfSome};
 ghost use Rattle.std.specs.List.{Contains};
-ghost use Rattle.node_net.specs.LaneCalls.{Pair, IsLane, IsUsed, IsOpening, Opens, own_links};
+ghost use Rattle.node_net.specs.LaneCalls.{IsLane, IsBegun, IsUsed, IsOpening, Opens, own_links};
 
 use cookie_digest::ChallengeSource;
 use node_threads::{Gate, LinkOut, Node, Pass, Served, serve_link};
@@ -14,10 +14,12 @@ use std::sync::Wait;
 use std::thread::Threads;
 
 /// Two passes that serve one link after another, and a source of challenges. Whatever a peer sends, they only ever call Opened and
-/// Dial, and Frame, Take and Lost of the links that these opened.
+/// Dial, each with the next word of the source, and Frame, Take and Lost of the links that these opened.
 pub struct Lane {
     reader: Pass,
     writer: Pass,
+    /// That of the next link. It is drawn already, so that it can be guarded before the link is opened.
+    challenge: u32,
     source: ChallengeSource<ChaCha20Rng>,
 }
 
@@ -26,6 +28,7 @@ impl Drop for Lane {
         let Lane {
             reader: _,
             writer: _,
+            challenge: _,
             source: _,
         } = self;
     }
@@ -36,9 +39,9 @@ impl Model for Lane {
 
     ghost Value = { Pair };
 
-    ghost view = { λ lane. record { reader = lane.reader; writer = lane.writer } };
+    ghost view = { λ lane. record { reader = lane.reader; writer = lane.writer; challenge = lane.challenge; left = lane.source } };
 
-    ghost invariant = { λ lane. IsLane (record { reader = lane.reader; writer = lane.writer }) };
+    ghost invariant = { λ lane. IsLane (record { reader = lane.reader; writer = lane.writer; challenge = lane.challenge; left = lane.source }) };
 }
 
 /// A pass that has made calls before can't be a lane's; both come back.
@@ -62,18 +65,20 @@ impl Lane {
     pub fn new(
         reader: Pass,
         writer: Pass,
-        source: ChallengeSource<ChaCha20Rng>,
+        mut source: ChallengeSource<ChaCha20Rng>,
     ) -> Result<Lane, UsedPass>
-        ensures ok { IfOk result (λ lane. lane ≡ record { reader = reader; writer = writer }) }
-        ensures refused { IfErr result (λ used. IsUsed (record { reader = reader; writer = writer })) }
+        ensures ok { IfOk result (λ lane. IsBegun reader writer source lane) }
+        ensures refused { IfErr result (λ _. IsUsed reader writer) }
         ensures back { IfErr result (λ used. (used.reader ≡ reader) × (used.writer ≡ writer)) }
     {
         if !reader.calls().is_empty() || !writer.calls().is_empty() {
             return Err(UsedPass { reader, writer });
         }
+        let challenge = source.draw();
         Ok(Lane {
             reader,
             writer,
+            challenge,
             source,
         })
     }
@@ -81,29 +86,35 @@ impl Lane {
     /// The passes, for the node's `close`.
     pub fn into_passes(self) -> (Pass, Pass)
         ensures both { (result.0 ≡ self.reader) × (result.1 ≡ self.writer) }
-        ensures lane { IsLane (record { reader = result.0; writer = result.1 }) }
+        ensures lane { IsLane self }
     {
         let Lane {
             reader,
             writer,
+            challenge: _,
             source: _,
         } = self;
         (reader, writer)
     }
 
     /// The challenge for the next link.
-    pub(crate) fn draw(&mut self) -> u32
-        ensures { self.new ≡ self.old }
+    pub(crate) fn challenge(&self) -> u32
+        ensures { result ≡ self.now.challenge }
     {
-        self.source.draw()
+        self.challenge
     }
 
-    /// Opens a link: its number, unless the node refuses it.
+    /// Opens a link with its challenge: its number, unless the node refuses it. A call that makes an entry uses the challenge up.
     pub(crate) fn open<R: Wait>(&mut self, rt: &R, node: &Node, event: Event) -> Option<u32>
-        requires opening { IsOpening event }
+        requires opening { IsOpening self.old.challenge event }
         ensures { IfSome result (Contains (own_links self.new.reader.calls)) }
     {
-        open_link(&mut self.reader, rt, node, event)
+        let before = self.reader.calls().len();
+        let link = open_link(&mut self.reader, rt, node, event);
+        if self.reader.calls().len() > before {
+            self.challenge = self.source.draw();
+        }
+        link
     }
 
     /// Serves a link that it has opened, until it ends.
@@ -125,6 +136,7 @@ impl Lane {
         let Lane {
             reader,
             writer,
+            challenge,
             source,
         } = self;
         let served = serve_link(rt, alloc, node, link, reader, writer, input, output, &Open);
@@ -132,6 +144,7 @@ impl Lane {
         Lane {
             reader,
             writer,
+            challenge,
             source,
         }
     }
@@ -139,8 +152,8 @@ impl Lane {
 
 /// Calls an event that opens a link: its number, unless the node refuses it.
 fn open_link<R: Wait>(pass: &mut Pass, rt: &R, node: &Node, event: Event) -> Option<u32>
-    requires opening { IsOpening event }
-    ensures { Opens result pass.old pass.new }
+    requires opening { (challenge : ℕ) × IsOpening challenge event }
+    ensures { Opens event result pass.old pass.new }
 {
     match pass.call(node, rt, event) {
         Ok(Reply::Link(link)) => Some(*link),

@@ -1,20 +1,31 @@
 //! The lanes of a node, shared by all threads that serve its links.
+ghost use Rattle.std.specs.Prelude.{◌≡◌, IfOk};
+
+use crate::endings::{Ending, Endings};
 use crate::lane::Lane;
 use crate::limits::Limits;
 use std::alloc::Global;
 use std::io::{self, ErrorKind};
 use std::net::{Shutdown, TcpStream};
 use std::sync::atomic::{AtomicU64, Ordering};
-use std::sync::{Condvar, CondvarTimeouts, Mutex, MutexGuard, Wait};
+use std::sync::{Arc, Condvar, CondvarTimeouts, Mutex, MutexGuard, Wait};
 use std::time::{Clock, Duration};
+
+/// How many free lanes are kept for dials at most.
+const MOST_KEPT: usize = 32;
+
+/// A link that is to be served: its number among all, and the challenge of this node for the peer.
+#[derive(Clone, Copy)]
+pub(crate) struct Ticket {
+    number: u64,
+    pub(crate) challenge: u32,
+}
 
 /// A link that is served.
 #[derive(Drop)]
 struct Served {
-    ticket: u64,
-    /// That of this node for the peer.
-    challenge: u32,
-    stream: TcpStream,
+    ticket: Ticket,
+    stream: Arc<TcpStream>,
 }
 
 /// What lies behind the lock.
@@ -23,50 +34,95 @@ struct State {
     free: Vec<Lane>,
     served: Vec<Served>,
     next: u64,
+    /// To how many peers that are dialled no link is up.
+    dials: usize,
+    /// Somebody waits for a lane, or none is left for a further peer; that is said once until one is free again.
+    is_full: bool,
     is_stopping: bool,
 }
 
+impl State {
+    /// How many free lanes no connection may take that a peer has opened: one for each dial.
+    fn kept(&self) -> usize {
+        self.dials.min(MOST_KEPT)
+    }
+}
+
+/// What an operator should know of the links of a node: how often it was met.
+#[derive(Clone, Copy, Debug, PartialEq, Eq)]
+pub struct Met {
+    /// A peer asked for a digest of a challenge of this node's own, and lost its link.
+    pub reflections: u64,
+    /// No lane was left for a further link.
+    pub fillings: u64,
+    /// A link to a peer that is dialled ended early again, while the peer lived on.
+    pub early_ends: u64,
+}
+
+impl Met {
+    pub const NOTHING: Met = Met {
+        reflections: 0,
+        fillings: 0,
+        early_ends: 0,
+    };
+}
+
 /// The lanes of a node. Each thread that serves a link takes one for that time.
-pub struct Lanes {
+pub struct Lanes<'a> {
     state: Mutex<State>,
     /// Told of each lane that comes back, and of the stop.
     freed: Condvar,
     /// Told of the stop.
     stopped: Condvar,
-    kept_for_dials: usize,
     limits: Limits,
-    reflected: AtomicU64,
+    endings: &'a Endings,
+    reflections: AtomicU64,
+    fillings: AtomicU64,
+    early_ends: AtomicU64,
 }
 
-impl Drop for Lanes {
+impl Drop for Lanes<'_> {
     fn drop(self) {
         let Lanes {
             state: _,
             freed: _,
             stopped: _,
-            kept_for_dials: _,
             limits: _,
-            reflected: _,
+            endings: _,
+            reflections: _,
+            fillings: _,
+            early_ends: _,
         } = self;
     }
 }
 
-impl Lanes {
-    /// The last free lanes, as many as `kept_for_dials`, are taken by no connection that a peer has opened.
-    pub fn new(alloc: Global, lanes: Vec<Lane>, kept_for_dials: usize, limits: Limits) -> Lanes {
+impl<'a> Lanes<'a> {
+    /// For so many dials, each of one thread that keeps dialling. While no link to its peer is up, one free lane is kept for it
+    /// that no connection takes which a peer has opened; for all together at most 32 are. Why links end is noted in `endings`.
+    pub fn new(
+        alloc: Global,
+        lanes: Vec<Lane>,
+        dials: usize,
+        limits: Limits,
+        endings: &'a Endings,
+    ) -> Lanes<'a> {
         let state = State {
             free: lanes,
             served: Vec::new(alloc),
             next: 0,
+            dials,
+            is_full: false,
             is_stopping: false,
         };
         Lanes {
             state: Mutex::new(state),
             freed: Condvar::new(),
             stopped: Condvar::new(),
-            kept_for_dials,
             limits,
-            reflected: AtomicU64::new(0),
+            endings,
+            reflections: AtomicU64::new(0),
+            fillings: AtomicU64::new(0),
+            early_ends: AtomicU64::new(0),
         }
     }
 
@@ -76,9 +132,11 @@ impl Lanes {
             state,
             freed: _,
             stopped: _,
-            kept_for_dials: _,
             limits: _,
-            reflected: _,
+            endings: _,
+            reflections: _,
+            fillings: _,
+            early_ends: _,
         } = self;
         let State { free, .. } = state.into_inner();
         free
@@ -88,13 +146,26 @@ impl Lanes {
         self.limits
     }
 
-    /// How many links were lost because the peer asked for a digest of a challenge of this node's own.
-    pub fn reflections(&self) -> u64 {
-        self.reflected.load(Ordering::SeqCst)
+    /// Notes why a link ends, before its worker says that it is lost.
+    pub(crate) fn note<R: Wait>(&self, rt: &R, link: u32, ending: Ending) {
+        self.endings.note(rt, link, ending);
+    }
+
+    /// What was met up to now.
+    pub fn met(&self) -> Met {
+        Met {
+            reflections: self.reflections.load(Ordering::SeqCst),
+            fillings: self.fillings.load(Ordering::SeqCst),
+            early_ends: self.early_ends.load(Ordering::SeqCst),
+        }
     }
 
     pub(crate) fn count_reflection(&self) {
-        self.reflected.fetch_add(1, Ordering::SeqCst);
+        self.reflections.fetch_add(1, Ordering::SeqCst);
+    }
+
+    pub(crate) fn count_early_end(&self) {
+        self.early_ends.fetch_add(1, Ordering::SeqCst);
     }
 
     /// All links are hung up, and no other one is served from now on.
@@ -125,29 +196,71 @@ impl Lanes {
 
     /// A lane for a connection that a peer has opened, once there is one; none after the stop.
     pub(crate) fn take_for_peer<R: Wait>(&self, rt: &R) -> Option<Lane> {
-        self.take(rt, self.kept_for_dials)
-    }
-
-    /// A lane for a dial, once there is one; none after the stop.
-    pub(crate) fn take_for_dial<R: Wait>(&self, rt: &R) -> Option<Lane> {
-        self.take(rt, 0)
-    }
-
-    fn take<R: Wait>(&self, rt: &R, kept: usize) -> Option<Lane> {
-        let state = self.state.lock(rt);
+        let mut state = self.state.lock(rt);
+        self.look_whether_full(&mut state);
         let mut state = self.freed.wait_while(rt, state, |state| {
-            !state.is_stopping && state.free.len() <= kept
+            !state.is_stopping && state.free.len() <= state.kept()
         });
-        if state.is_stopping {
-            return None;
+        let lane = take_free(&mut state);
+        self.look_whether_full(&mut state);
+        lane
+    }
+
+    /// Counts it once where no lane is left for a further peer.
+    fn look_whether_full(&self, state: &mut State) {
+        if state.free.len() <= state.kept() && !state.is_full && !state.is_stopping {
+            state.is_full = true;
+            self.fillings.fetch_add(1, Ordering::SeqCst);
         }
-        state.free.pop()
+    }
+
+    /// The lane for a dial, once there is one; none after the stop.
+    pub(crate) fn take_for_dial<R: Wait>(&self, rt: &R) -> Option<Lane> {
+        let mut state = self.state.lock(rt);
+        if state.free.is_empty() {
+            self.look_whether_full(&mut state);
+        }
+        let mut state = self.freed.wait_while(rt, state, |state| {
+            !state.is_stopping && state.free.is_empty()
+        });
+        let lane = take_free(&mut state)?;
+        state.dials = state.dials.saturating_sub(1);
+        Some(lane)
     }
 
     /// Takes a lane back. There is room for it, since it was taken from here.
     pub(crate) fn give_back<R: Wait>(&self, rt: &R, lane: Lane) {
         let mut state = self.state.lock(rt);
         state.free.push(lane).ok();
+        self.free_some(state);
+    }
+
+    /// Takes back the lane of a dial, for which one is kept again.
+    pub(crate) fn give_back_from_dial<R: Wait>(&self, rt: &R, lane: Lane) {
+        let mut state = self.state.lock(rt);
+        state.free.push(lane).ok();
+        state.dials = state.dials.saturating_add(1);
+        self.free_some(state);
+    }
+
+    /// No lane is kept for a dial from now on, since a link to its peer is up that the peer has opened.
+    pub(crate) fn keep_one_less<R: Wait>(&self, rt: &R) {
+        let mut state = self.state.lock(rt);
+        state.dials = state.dials.saturating_sub(1);
+        self.free_some(state);
+    }
+
+    /// A lane is kept for that dial again.
+    pub(crate) fn keep_one_more<R: Wait>(&self, rt: &R) {
+        let mut state = self.state.lock(rt);
+        state.dials = state.dials.saturating_add(1);
+    }
+
+    /// A lane has become free, for who waits for one.
+    fn free_some(&self, mut state: MutexGuard<'_, State>) {
+        if state.free.len() > state.kept() {
+            state.is_full = false;
+        }
         drop(state);
         self.freed.notify_all();
     }
@@ -157,33 +270,33 @@ impl Lanes {
         &self,
         rt: &R,
         challenge: u32,
-        stream: &TcpStream,
-    ) -> io::Result<u64> {
-        let stream = stream.try_clone()?;
+        stream: &Arc<TcpStream>,
+    ) -> io::Result<Ticket>
+        ensures { IfOk result (λ ticket. ticket.challenge ≡ challenge) }
+    {
+        let Ok(stream) = Arc::try_clone(stream) else {
+            return Err(io::Error::from(ErrorKind::OutOfMemory));
+        };
         let mut state = self.state.lock(rt);
         if state.is_stopping {
             return Err(io::Error::from(ErrorKind::Interrupted));
         }
-        let ticket = state.next;
-        state.next = ticket.saturating_add(1);
-        let served = Served {
-            ticket,
-            challenge,
-            stream,
-        };
-        match state.served.push(served) {
+        let number = state.next;
+        state.next = number.saturating_add(1);
+        let ticket = Ticket { number, challenge };
+        match state.served.push(Served { ticket, stream }) {
             Ok(()) => Ok(ticket),
             Err(_) => Err(io::Error::from(ErrorKind::OutOfMemory)),
         }
     }
 
     /// The link is served no more.
-    pub(crate) fn leave<R: Wait>(&self, rt: &R, ticket: u64) {
+    pub(crate) fn leave<R: Wait>(&self, rt: &R, ticket: Ticket) {
         let mut state = self.state.lock(rt);
         if let Some(place) = state
             .served
             .iter()
-            .position(|served| served.ticket == ticket)
+            .position(|served| served.ticket.number == ticket.number)
         {
             state.served.swap_remove(place);
         }
@@ -195,6 +308,14 @@ impl Lanes {
         state
             .served
             .iter()
-            .any(|served| served.challenge == challenge)
+            .any(|served| served.ticket.challenge == challenge)
     }
+}
+
+/// A free lane; none after the stop.
+fn take_free(state: &mut State) -> Option<Lane> {
+    if state.is_stopping {
+        return None;
+    }
+    state.free.pop()
 }

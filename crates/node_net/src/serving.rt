@@ -1,18 +1,18 @@
 //! One link over a socket.
-ghost use Rattle.std.specs.Prelude.{IfOk};
+ghost use Rattle.std.specs.Prelude.{◌≡◌, IfOk};
 ghost use Rattle.node_net.specs.LaneCalls.{IsOpening};
 
 use crate::guard::ReflectionGuard;
 use crate::input::{LinkInput, Stage};
 use crate::lane::Lane;
-use crate::lanes::Lanes;
+use crate::lanes::{Lanes, Ticket};
 use crate::output::{LinkOutput, Outlet};
 use dist_types::{NodeName, OutOfMemory, TryClone};
 use node_threads::Node;
 use policy_audit::Event;
 use std::alloc::Global;
 use std::net::TcpStream;
-use std::sync::Wait;
+use std::sync::{Arc, Wait};
 use std::thread::Threads;
 use std::time::{Clock, Instant};
 
@@ -26,7 +26,7 @@ pub(crate) enum Opener<'a> {
 
 impl Opener<'_> {
     fn event(&self, alloc: Global, challenge: u32) -> Result<Event, OutOfMemory>
-        ensures { IfOk result IsOpening }
+        ensures { IfOk result (IsOpening challenge) }
     {
         Ok(match self {
             Opener::Peer => Event::Opened(challenge),
@@ -47,37 +47,42 @@ pub(crate) fn serve_stream<R: Threads + Wait + Clock + Sync>(
     rt: &R,
     alloc: Global,
     node: &Node,
-    lanes: &Lanes,
-    mut lane: Lane,
-    stream: &TcpStream,
+    lanes: &Lanes<'_>,
+    lane: Lane,
+    stream: TcpStream,
     opener: Opener<'_>,
 ) -> (Lane, bool) {
-    let challenge = lane.draw();
-    let Ok(ticket) = lanes.enter(rt, challenge, stream) else {
+    let Ok(stream) = Arc::new(alloc, stream) else {
         return (lane, false);
     };
-    let (lane, came_up) = serve_entered(rt, alloc, node, lanes, lane, stream, opener, challenge);
+    let Ok(ticket) = lanes.enter(rt, lane.challenge(), &stream) else {
+        return (lane, false);
+    };
+    let (lane, came_up) = serve_entered(rt, alloc, node, lanes, lane, &stream, opener, ticket);
     lanes.leave(rt, ticket);
     (lane, came_up)
 }
 
+/// Opens the link with the challenge that it was entered with, and serves it.
 fn serve_entered<R: Threads + Wait + Clock + Sync>(
     rt: &R,
     alloc: Global,
     node: &Node,
-    lanes: &Lanes,
+    lanes: &Lanes<'_>,
     mut lane: Lane,
     stream: &TcpStream,
     opener: Opener<'_>,
-    challenge: u32,
-) -> (Lane, bool) {
+    ticket: Ticket,
+) -> (Lane, bool)
+    requires guarded { ticket.challenge ≡ lane.challenge }
+{
     let Ok(outlet) = Outlet::new(rt, stream, lanes.limits()) else {
         return (lane, false);
     };
     let Ok(start) = Instant::now(rt) else {
         return (lane, false);
     };
-    let Ok(event) = opener.event(alloc, challenge) else {
+    let Ok(event) = opener.event(alloc, ticket.challenge) else {
         return (lane, false);
     };
     let Some(link) = lane.open(rt, node, event) else {
@@ -94,6 +99,8 @@ fn serve_entered<R: Threads + Wait + Clock + Sync>(
     };
     let output = LinkOutput {
         rt,
+        lanes,
+        link,
         outlet: &outlet,
     };
     let lane = lane.serve(rt, alloc, node, link, input, output);

@@ -2,26 +2,36 @@
 #![tactic(auto)]
 
 mod audit_file;
+mod clients;
+mod closing;
 mod connection;
 mod control;
+mod crowd;
+mod door;
 mod hub;
 mod life;
 mod lines;
 mod operator;
 mod options;
+mod output;
+mod places;
+mod refusing;
+mod reserve;
 mod run;
 mod settings;
 mod turn;
 
+use anyhow::anyhow;
 use clap::ArgMatches;
 use clap::error::{Error as LineError, ErrorKind as LineFault};
 use lines::{LineQueue, read_input};
 use options::{Fault, Options, command, read_options};
+use output::{OutputQueue, write_output};
 use rand_chacha::ChaCha20Rng;
-use run::run;
+use run::{Streams, run};
 use std::alloc::{AllocError, Global};
 use std::env::Env;
-use std::fs::Files;
+use std::fs::{File, Files};
 use std::io::ErrorKind;
 use std::net::{Net, TcpListener, TcpStream};
 use std::process::ExitCode;
@@ -33,13 +43,36 @@ use std::time::Clock;
 
 const OUT_OF_MEMORY: &str = "error: out of memory";
 
-/// The options, a generator that nobody can foresee, and the lines of standard input for the run and for the thread that reads them.
+/// What the run shares with the threads of standard input and output, which may outlive it.
+#[derive(Drop)]
+struct Queues {
+    lines: Arc<LineQueue>,
+    output: Arc<OutputQueue>,
+}
+
+impl Queues {
+    fn new(alloc: Global, is_output_needed: bool) -> Result<Queues, AllocError> {
+        Ok(Queues {
+            lines: Arc::new(alloc, LineQueue::new(alloc))?,
+            output: Arc::new(alloc, OutputQueue::new(alloc, is_output_needed))?,
+        })
+    }
+
+    fn try_clone(&self) -> Result<Queues, AllocError> {
+        Ok(Queues {
+            lines: Arc::try_clone(&self.lines)?,
+            output: Arc::try_clone(&self.output)?,
+        })
+    }
+}
+
+/// The options, a generator that nobody can foresee, and the queues, for the run and for the threads beside it.
 #[derive(Drop)]
 struct Start<'a> {
     options: Options<'a>,
     source: ChaCha20Rng,
-    lines: Arc<LineQueue>,
-    theirs: Arc<LineQueue>,
+    queues: Queues,
+    theirs: Queues,
 }
 
 /// Status 0 at the end of standard input or at `quit`, 1 at a fault of a file, a socket or standard output, or for want of memory,
@@ -61,23 +94,25 @@ fn main(rt: HostRuntime) -> ExitCode {
     let Start {
         options,
         source,
-        lines,
+        queues,
         theirs,
     } = start;
-    // Nothing can end a read of standard input, so its thread may outlive the run, and isn't joined.
-    let own = rt;
-    let is_read = thread::spawn(&rt, move || read_input(&own, alloc, &theirs)).is_ok();
-    serve(&rt, alloc, options, source, &lines, is_read)
+    let Queues { lines, output } = theirs;
+    // Nothing can end a read of standard input or a write to standard output, so their threads may outlive the run, and aren't joined.
+    let (reader, writer) = (rt, rt);
+    let is_read = thread::spawn(&rt, move || read_input(&reader, alloc, &lines)).is_ok();
+    let is_written = thread::spawn(&rt, move || write_output(&writer, alloc, &output)).is_ok();
+    serve(&rt, alloc, options, source, &queues, is_read && is_written)
 }
 
-/// Runs a node with these options, if standard input is read.
+/// Runs a node with these options, if standard input is read and standard output written.
 fn serve<R>(
     rt: &R,
     alloc: Global,
     options: Options<'_>,
     source: ChaCha20Rng,
-    lines: &LineQueue,
-    is_read: bool,
+    queues: &Queues,
+    are_made: bool,
 ) -> ExitCode
 where
     R: AllocGlobal
@@ -85,15 +120,21 @@ where
         + Threads
         + Wait
         + Clock
-        + Files
-        + Print
+        + Files<File = File>
         + Eprint
         + Sync,
 {
-    if !is_read {
+    if !are_made {
         return failed(rt, 1, "error: no thread can be made");
     }
-    match run(rt, alloc, options, source, lines) {
+    let output = &*queues.output;
+    let streams = Streams {
+        lines: &queues.lines,
+        output,
+    };
+    let ended = run(rt, alloc, options, source, streams);
+    let written = output.finish(rt);
+    match ended.and(written) {
         Ok(()) => ExitCode::SUCCESS,
         Err(reason) => told(rt, 1, &reason),
     }
@@ -127,32 +168,31 @@ fn matches<'a, R: AllocGlobal + Print + Eprint>(
         .map_err(|error| unmatched(rt, &error))
 }
 
-/// The lines of standard input on their way, for the run and for the thread that reads them.
-fn line_queue(alloc: Global) -> Result<(Arc<LineQueue>, Arc<LineQueue>), AllocError> {
-    let lines = Arc::new(alloc, LineQueue::new(alloc))?;
-    let theirs = Arc::try_clone(&lines)?;
-    Ok((lines, theirs))
-}
-
 /// What the program runs with.
-fn prepare<'a, R: RandomSource + Files + Net>(
+fn prepare<'a, R: RandomSource + Files>(
     rt: &R,
     alloc: Global,
     matches: &ArgMatches<'a>,
 ) -> Result<Start<'a>, Fault> {
     let (options, source) = options_and_source(rt, alloc, matches)?;
-    match line_queue(alloc) {
-        Ok((lines, theirs)) => Ok(Start {
+    match two_of_queues(alloc, options.control.is_none()) {
+        Ok((queues, theirs)) => Ok(Start {
             options,
             source,
-            lines,
+            queues,
             theirs,
         }),
         Err(_) => Err(Fault::of_memory()),
     }
 }
 
-fn options_and_source<'a, R: RandomSource + Files + Net>(
+fn two_of_queues(alloc: Global, is_output_needed: bool) -> Result<(Queues, Queues), AllocError> {
+    let queues = Queues::new(alloc, is_output_needed)?;
+    let theirs = queues.try_clone()?;
+    Ok((queues, theirs))
+}
+
+fn options_and_source<'a, R: RandomSource + Files>(
     rt: &R,
     alloc: Global,
     matches: &ArgMatches<'a>,
@@ -178,7 +218,9 @@ fn unmatched<R: AllocGlobal + Print + Eprint>(rt: &R, error: &LineError) -> Exit
     }
     match error.print(rt) {
         Ok(()) => ExitCode::SUCCESS,
-        Err(_) => failed(rt, 1, "error: standard output can't be written"),
+        // Who has read enough of a help needs no word.
+        Err(fault) if fault.kind() == ErrorKind::BrokenPipe => ExitCode::from(1),
+        Err(fault) => told(rt, 1, &anyhow!("standard output: {fault}")),
     }
 }
 
