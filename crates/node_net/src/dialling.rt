@@ -1,61 +1,29 @@
 //! Connections that this node opens.
+use crate::backoff::Backoff;
 use crate::lanes::Lanes;
 use crate::serving::{Opener, serve_stream};
-use crate::tries::{Dialled, Tries};
 use dist_types::NodeName;
 use node_threads::Node;
-use policy_audit::{Entry, Reply, Verdict};
 use std::alloc::Global;
-use std::net::{Net, TcpListener, TcpStream, ToSocketAddrs};
+use std::net::{Net, SocketAddr, TcpListener, TcpStream};
 use std::sync::Wait;
-use std::sync::atomic::{AtomicBool, Ordering};
 use std::thread::{Scope, Threads};
-use std::time::{Clock, Duration, Instant};
+use std::time::{Clock, Duration};
 
-/// The milliseconds between two looks whether a peer is up yet that has opened the link itself.
-const LOOK: u64 = 1_000;
+/// The milliseconds before the next dial, and between two looks at a link that the peer has opened: at first, and at most.
+const FIRST_PAUSE: u64 = 1_000;
 
-/// A link that ended so many seconds after it was dialled, or sooner, has ended early. Longer than the longest pause, so that two
-/// nodes of one name, which end each other's link to a peer, dial it no more often than that.
-const EARLY: u64 = 60;
+const LONGEST_PAUSE: u64 = 30_000;
 
 /// Whom to dial, and where.
 pub struct Target {
-    peer: NodeName,
-    place: String,
-    is_unsteady: AtomicBool,
-    is_told: AtomicBool,
+    pub peer: NodeName,
+    pub addr: SocketAddr,
 }
 
 impl Drop for Target {
     fn drop(self) {
-        let Target {
-            peer: _,
-            place: _,
-            is_unsteady: _,
-            is_told: _,
-        } = self;
-    }
-}
-
-impl Target {
-    /// The place is HOST:PORT, and looked up at each dial.
-    pub fn new(peer: NodeName, place: String) -> Target {
-        Target {
-            peer,
-            place,
-            is_unsteady: AtomicBool::new(false),
-            is_told: AtomicBool::new(false),
-        }
-    }
-
-    pub fn peer(&self) -> &NodeName {
-        &self.peer
-    }
-
-    /// Whether links to the peer ended early, one after the other, though it lived on, and this wasn't asked since.
-    pub fn has_news(&self) -> bool {
-        self.is_unsteady.load(Ordering::SeqCst) && !self.is_told.swap(true, Ordering::SeqCst)
+        let Target { peer: _, addr: _ } = self;
     }
 }
 
@@ -65,7 +33,7 @@ pub fn start_dialling<'s, E: 's, R>(
     rt: &'s R,
     alloc: Global,
     node: &'s Node,
-    lanes: &'s Lanes<'s>,
+    lanes: &'s Lanes,
     target: &'s Target,
 ) -> bool
 where
@@ -77,24 +45,22 @@ where
 }
 
 /// Dials a peer whenever no link to it is up, until the stop.
-pub fn keep_dialling<R>(rt: &R, alloc: Global, node: &Node, lanes: &Lanes<'_>, target: &Target)
+pub fn keep_dialling<R>(rt: &R, alloc: Global, node: &Node, lanes: &Lanes, target: &Target)
 where
     R: Net<Listener = TcpListener, Stream = TcpStream> + Threads + Wait + Clock + Sync,
 {
-    let mut tries = Tries::new();
+    let mut pauses = Backoff::of_millis(FIRST_PAUSE, LONGEST_PAUSE);
     for _ in rt.forever() {
         // A dial that the node refuses is an entry, too.
         if wait_while_up(rt, node, lanes, target) {
             return;
         }
-        let dialled = dial(rt, alloc, node, lanes, target);
-        if lanes.is_stopping(rt) {
-            return;
-        }
-        if tries.count(dialled) {
-            tell_unsteady(rt, node, lanes, target);
-        }
-        if lanes.pause(rt, tries.pause(rt)) {
+        let pause = if dial(rt, alloc, node, lanes, target) {
+            pauses.reset()
+        } else {
+            pauses.grow()
+        };
+        if lanes.pause(rt, pause) {
             return;
         }
     }
@@ -106,7 +72,7 @@ fn is_up<R: Wait>(rt: &R, node: &Node, target: &Target) -> bool {
 }
 
 /// Waits while a link to the peer is up that it has opened itself; no lane is kept meanwhile. Whether the stop has come.
-fn wait_while_up<R: Wait + Clock>(rt: &R, node: &Node, lanes: &Lanes<'_>, target: &Target) -> bool {
+fn wait_while_up<R: Wait + Clock>(rt: &R, node: &Node, lanes: &Lanes, target: &Target) -> bool {
     if !is_up(rt, node, target) {
         return lanes.is_stopping(rt);
     }
@@ -116,14 +82,9 @@ fn wait_while_up<R: Wait + Clock>(rt: &R, node: &Node, lanes: &Lanes<'_>, target
     is_stopping
 }
 
-fn look_until_down<R: Wait + Clock>(
-    rt: &R,
-    node: &Node,
-    lanes: &Lanes<'_>,
-    target: &Target,
-) -> bool {
+fn look_until_down<R: Wait + Clock>(rt: &R, node: &Node, lanes: &Lanes, target: &Target) -> bool {
     for _ in rt.forever() {
-        if lanes.pause(rt, Duration::from_millis(LOOK)) {
+        if lanes.pause(rt, Duration::from_millis(FIRST_PAUSE)) {
             return true;
         }
         if !is_up(rt, node, target) {
@@ -133,102 +94,19 @@ fn look_until_down<R: Wait + Clock>(
     unreachable!()
 }
 
-/// Dials a peer and serves the link until it ends.
-fn dial<R>(rt: &R, alloc: Global, node: &Node, lanes: &Lanes<'_>, target: &Target) -> Dialled
+/// Dials a peer and serves the link: whether it came up.
+fn dial<R>(rt: &R, alloc: Global, node: &Node, lanes: &Lanes, target: &Target) -> bool
 where
     R: Net<Listener = TcpListener, Stream = TcpStream> + Threads + Wait + Clock + Sync,
 {
-    let Some(stream) = connect(rt, lanes, target.place.as_str()) else {
-        return Dialled::Failed;
+    let Ok(stream) = TcpStream::connect_timeout(rt, &target.addr, lanes.limits().setup) else {
+        return false;
     };
     let Some(lane) = lanes.take_for_dial(rt) else {
-        return Dialled::Failed;
+        return false;
     };
-    let begun = Begun::now(rt, node);
     let opener = Opener::Own(&target.peer);
-    let (lane, came_up) = serve_stream(rt, alloc, node, lanes, lane, stream, opener);
+    let (lane, came_up) = serve_stream(rt, alloc, node, lanes, lane, &stream, opener);
     lanes.give_back_from_dial(rt, lane);
-    if came_up {
-        begun.end(rt, node, target)
-    } else {
-        Dialled::Failed
-    }
-}
-
-/// Connects to the first address of the place that answers.
-fn connect<R>(rt: &R, lanes: &Lanes<'_>, place: &str) -> Option<TcpStream>
-where
-    R: Net<Listener = TcpListener, Stream = TcpStream> + Wait,
-{
-    for addr in place.to_socket_addrs(rt).ok()? {
-        if lanes.is_stopping(rt) {
-            return None;
-        }
-        if let Ok(stream) = TcpStream::connect_timeout(rt, &addr, lanes.limits().setup) {
-            return Some(stream);
-        }
-    }
-    None
-}
-
-/// When a dial was begun, and behind how many entries.
-#[derive(Clone, Copy)]
-struct Begun {
-    at: Option<Instant>,
-    entries: usize,
-}
-
-impl Begun {
-    fn now<R: Wait + Clock>(rt: &R, node: &Node) -> Begun {
-        Begun {
-            at: Instant::now(rt).ok(),
-            entries: node.shared.lock(rt).core().audit().len(),
-        }
-    }
-
-    /// How the link ended that came up.
-    fn end<R: Wait + Clock>(&self, rt: &R, node: &Node, target: &Target) -> Dialled {
-        if self.is_long_ago(rt) {
-            return Dialled::Steady;
-        }
-        Dialled::Early(creation_behind(rt, node, &target.peer, self.entries))
-    }
-
-    fn is_long_ago<R: Clock>(&self, rt: &R) -> bool {
-        let Some(at) = self.at else {
-            return true;
-        };
-        match at.elapsed(rt) {
-            Ok(passed) => passed >= Duration::from_secs(EARLY),
-            Err(_) => true,
-        }
-    }
-}
-
-/// The creation with which the peer came up first behind so many entries.
-fn creation_behind<R: Wait>(rt: &R, node: &Node, peer: &NodeName, seen: usize) -> Option<u32> {
-    let shared = node.shared.lock(rt);
-    for entry in shared.core().audit().after(seen) {
-        let creation = creation_in(entry, peer);
-        if creation.is_some() {
-            return creation;
-        }
-    }
-    None
-}
-
-/// The creation with which the peer came up, if the entry says so.
-fn creation_in(entry: &Entry, wanted: &NodeName) -> Option<u32> {
-    match &entry.verdict {
-        Verdict::Accepted(Reply::Up { peer, creation, .. }) if peer == wanted => Some(*creation),
-        _ => None,
-    }
-}
-
-/// Says that links to the peer end early, and wakes who waits for the node, so that it is looked at.
-fn tell_unsteady<R: Wait>(rt: &R, node: &Node, lanes: &Lanes<'_>, target: &Target) {
-    target.is_unsteady.store(true, Ordering::SeqCst);
-    lanes.count_early_end();
-    drop(node.shared.lock(rt));
-    node.moved.notify_all();
+    came_up
 }

@@ -1,9 +1,8 @@
 //! What comes of a link, within its limits of time.
-use crate::endings::Ending;
 use crate::guard::ReflectionGuard;
 use crate::lanes::Lanes;
 use crate::limits::PULSES;
-use crate::output::{Outlet, has_stood_still};
+use crate::output::Outlet;
 use node_threads::Node;
 use std::io::{self, ErrorKind, Read};
 use std::net::TcpStream;
@@ -28,7 +27,7 @@ pub(crate) enum Stage {
 pub(crate) struct LinkInput<'a, R: Wait + Clock> {
     pub(crate) rt: &'a R,
     pub(crate) node: &'a Node,
-    pub(crate) lanes: &'a Lanes<'a>,
+    pub(crate) lanes: &'a Lanes,
     pub(crate) link: u32,
     pub(crate) stream: &'a TcpStream,
     pub(crate) outlet: &'a Outlet<'a>,
@@ -95,21 +94,8 @@ impl<R: Wait + Clock> LinkInput<'_, R> {
                 *silent += 1;
                 ErrorKind::Interrupted
             }
-            Stage::Up(_) => {
-                self.lanes.note(self.rt, self.link, Ending::Silent);
-                ErrorKind::TimedOut
-            }
-            Stage::Handshake(..) => ErrorKind::TimedOut,
+            _ => ErrorKind::TimedOut,
         }
-    }
-
-    /// Writes a tick, where one is due.
-    fn tick(&self) -> io::Result<()> {
-        let ticked = self.outlet.tick(self.rt);
-        if has_stood_still(&ticked) {
-            self.lanes.note(self.rt, self.link, Ending::Slow);
-        }
-        ticked
     }
 }
 
@@ -118,7 +104,7 @@ impl<R: Wait + Clock> Read for LinkInput<'_, R> {
         self.limit()?;
         let mut stream = self.stream;
         let read = stream.read(buf);
-        self.tick()?;
+        self.outlet.tick(self.rt)?;
         match read {
             Ok(count) => {
                 self.look(&buf[..count])?;

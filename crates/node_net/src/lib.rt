@@ -2,10 +2,8 @@
 #![tactic(auto)]
 
 mod accepting;
-mod arrivals;
 mod backoff;
 mod dialling;
-mod endings;
 mod guard;
 mod input;
 mod lane;
@@ -13,12 +11,9 @@ mod lanes;
 mod limits;
 mod output;
 mod serving;
-mod tries;
 
-pub use accepting::{accept_links, start_accepting};
-pub use arrivals::{Arrivals, start_taking};
+pub use accepting::{accept_links, shut, start_accepting};
 pub use dialling::{Target, keep_dialling, start_dialling};
-pub use endings::{Ending, Endings};
 pub use lane::{Lane, UsedPass};
-pub use lanes::{Lanes, Met};
+pub use lanes::Lanes;
 pub use limits::Limits;

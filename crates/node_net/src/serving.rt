@@ -12,7 +12,7 @@ use node_threads::Node;
 use policy_audit::Event;
 use std::alloc::Global;
 use std::net::TcpStream;
-use std::sync::{Arc, Wait};
+use std::sync::Wait;
 use std::thread::Threads;
 use std::time::{Clock, Instant};
 
@@ -47,18 +47,15 @@ pub(crate) fn serve_stream<R: Threads + Wait + Clock + Sync>(
     rt: &R,
     alloc: Global,
     node: &Node,
-    lanes: &Lanes<'_>,
+    lanes: &Lanes,
     lane: Lane,
-    stream: TcpStream,
+    stream: &TcpStream,
     opener: Opener<'_>,
 ) -> (Lane, bool) {
-    let Ok(stream) = Arc::new(alloc, stream) else {
+    let Ok(ticket) = lanes.enter(rt, lane.challenge(), stream) else {
         return (lane, false);
     };
-    let Ok(ticket) = lanes.enter(rt, lane.challenge(), &stream) else {
-        return (lane, false);
-    };
-    let (lane, came_up) = serve_entered(rt, alloc, node, lanes, lane, &stream, opener, ticket);
+    let (lane, came_up) = serve_entered(rt, alloc, node, lanes, lane, stream, opener, ticket);
     lanes.leave(rt, ticket);
     (lane, came_up)
 }
@@ -68,7 +65,7 @@ fn serve_entered<R: Threads + Wait + Clock + Sync>(
     rt: &R,
     alloc: Global,
     node: &Node,
-    lanes: &Lanes<'_>,
+    lanes: &Lanes,
     mut lane: Lane,
     stream: &TcpStream,
     opener: Opener<'_>,
@@ -99,8 +96,6 @@ fn serve_entered<R: Threads + Wait + Clock + Sync>(
     };
     let output = LinkOutput {
         rt,
-        lanes,
-        link,
         outlet: &outlet,
     };
     let lane = lane.serve(rt, alloc, node, link, input, output);

@@ -1,78 +1,29 @@
 //! Audits that have ended, as lines of a file.
-use anyhow::{Error, Result, anyhow, bail};
+use anyhow::{Result, anyhow};
 use pg_text::put_entry;
 use policy_audit::Audit;
 use std::alloc::Global;
-use std::fs::{File, Files, OpenFile};
+use std::fs::{File, Files};
 use std::io::{self, ErrorKind, Write};
-use std::sync::atomic::{AtomicU64, Ordering};
 
 /// How many bytes are gathered for one write.
 const PIECE: usize = 65_536;
 
-/// The file for audits that have ended.
-#[derive(Drop)]
-pub struct AuditFile<'a> {
-    path: &'a str,
-    /// How many audits couldn't be written.
-    lost: AtomicU64,
+/// Adds a line for each entry to the file of this path, if one is wanted.
+pub fn write_audit<R: Files>(
+    rt: &R,
+    alloc: Global,
+    path: Option<&str>,
+    audit: &Audit,
+) -> Result<()> {
+    let Some(path) = path else {
+        return Ok(());
+    };
+    write_entries(rt, alloc, path, audit).map_err(|error| anyhow!("--audit: {path:.60}: {error}"))
 }
 
-impl<'a> AuditFile<'a> {
-    /// The file of this path, if there is one; it is made where it isn't there. An error where it can't be opened.
-    pub fn open<R: Files>(rt: &R, path: Option<&'a str>) -> Result<Option<AuditFile<'a>>> {
-        let Some(path) = path else {
-            return Ok(None);
-        };
-        match open(rt, path) {
-            Ok(_) => Ok(Some(AuditFile {
-                path,
-                lost: AtomicU64::new(0),
-            })),
-            Err(error) => Err(fault(path, &error)),
-        }
-    }
-
-    /// Adds a line for each entry. Where that fails, none of them is in the file, and a warning says so.
-    pub fn add<R: Files + Eprint>(&self, rt: &R, alloc: Global, audit: &Audit) {
-        if let Err(error) = self.try_add(rt, alloc, audit) {
-            self.lost.fetch_add(1, Ordering::SeqCst);
-            let fault = fault(self.path, &error);
-            eprintln!(rt; "warning: {fault}; the audit is not in the file").ok();
-        }
-    }
-
-    fn try_add<R: Files>(&self, rt: &R, alloc: Global, audit: &Audit) -> io::Result<()> {
-        let mut file = open(rt, self.path)?;
-        let length = file.metadata()?.len();
-        let written = write_entries(alloc, &mut file, audit);
-        if written.is_err() {
-            // What is no file on a disk keeps what was written.
-            file.set_len(length).ok();
-        }
-        written
-    }
-
-    /// An error where an audit couldn't be written.
-    pub fn check(&self) -> Result<()> {
-        let lost = self.lost.load(Ordering::SeqCst);
-        if lost > 0 {
-            let path = self.path;
-            bail!("--audit: {path:.60}: {lost} audits are not in the file");
-        }
-        Ok(())
-    }
-}
-
-fn fault(path: &str, error: &io::Error) -> Error {
-    anyhow!("--audit: {path:.60}: {error}")
-}
-
-fn open<R: Files>(rt: &R, path: &str) -> io::Result<R::File> {
-    File::options().create(true).append(true).open(rt, path)
-}
-
-fn write_entries<W: Write>(alloc: Global, file: &mut W, audit: &Audit) -> io::Result<()> {
+fn write_entries<R: Files>(rt: &R, alloc: Global, path: &str, audit: &Audit) -> io::Result<()> {
+    let mut file = File::options().create(true).append(true).open(rt, path)?;
     let mut lines = Vec::new(alloc);
     for entry in audit.after(0) {
         if put_entry(Some(entry), &mut lines).is_err() {

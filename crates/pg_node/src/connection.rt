@@ -8,9 +8,6 @@ use std::io::{self, ErrorKind, Write};
 use std::sync::atomic::{AtomicBool, Ordering};
 use std::sync::{Mutex, Wait};
 
-/// Behind how many lines in a row a connection lets others go first.
-const IN_A_ROW: u32 = 16;
-
 /// What both threads of a connection share.
 #[derive(Drop)]
 pub struct Desk {
@@ -52,41 +49,20 @@ pub fn answer_all<R: Wait, L: Lines, W: Write>(
     let mut line = Vec::new(alloc);
     let mut out = Vec::new(alloc);
     for _ in rt.forever() {
-        for _ in 0..IN_A_ROW {
-            if hub.is_quitting() || !lines.next(&mut line) {
-                return Ok(());
-            }
-            answer_one(rt, alloc, hub, desk, line.as_slice(), &mut out, writer)?;
+        if hub.is_quitting() || !lines.next(&mut line) {
+            return Ok(());
         }
-        hub.crowd.let_go_first(rt);
+        hub.wait_for_room(rt);
+        let printing = desk.printing.lock(rt);
+        out.clear();
+        let next = answer(rt, alloc, hub, desk, line.as_slice(), &mut out)?;
+        send(writer, out.as_slice())?;
+        drop(printing);
+        if next == Next::Quit {
+            hub.quit(rt);
+        }
     }
     unreachable!()
-}
-
-/// Answers a line, which may end the program.
-fn answer_one<R: Wait, W: Write>(
-    rt: &R,
-    alloc: Global,
-    hub: &Hub,
-    desk: &Desk,
-    line: &[u8],
-    out: &mut Vec<u8>,
-    writer: &mut W,
-) -> io::Result<()> {
-    hub.wait_for_room(rt);
-    let printing = desk.printing.lock(rt);
-    out.clear();
-    // From here to its answer a line waits for no client.
-    hub.crowd.enter();
-    let next = answer(rt, alloc, hub, desk, line, out);
-    hub.crowd.leave(rt);
-    let next = next?;
-    send(writer, out.as_slice())?;
-    drop(printing);
-    if next == Next::Quit {
-        hub.quit(rt);
-    }
-    Ok(())
 }
 
 /// Adds the answer to a line. Without memory for it that is the answer, and then the call may have been made.

@@ -1,19 +1,23 @@
-//! The control socket: its connections ask by lines, each with a seat of its own.
-use crate::clients::Stream;
+//! The control socket: a Unix socket, whose connections ask by lines.
 use crate::connection::{Desk, answer_all, tell_all};
-use crate::door::Door;
 use crate::hub::Hub;
 use crate::lines::ReadLines;
-use crate::refusing::{refuse, refuse_here};
+use anyhow::{Result, anyhow, bail};
 use pg_session::Seen;
 use std::alloc::Global;
-use std::io::{self, BufReader};
-use std::net::Shutdown;
-use std::os::unix::net::{SocketAddr, UnixStream};
-use std::sync::{Arc, Wait};
+use std::fs::{self, Files, Permissions};
+use std::io::{self, BufReader, Write};
+use std::net::{Net, Shutdown};
+use std::os::fd::OwnedFd;
+use std::os::unix::fs::{FileTypeExt, PermissionsExt};
+use std::os::unix::net::{SocketAddr, UnixListener, UnixStream};
+use std::sync::Wait;
 use std::thread;
 use std::thread::{Scope, Threads};
 use std::time::{Clock, Duration};
+
+/// The mode of the socket: it is the owner's alone.
+const OWNERS: u32 = 0o600;
 
 /// The milliseconds that a write may stand still, because the connection isn't read from.
 const PATIENCE: u64 = 10_000;
@@ -21,15 +25,52 @@ const PATIENCE: u64 = 10_000;
 /// The milliseconds of rest after a connection that couldn't be taken.
 const REST: u64 = 100;
 
+/// Makes the socket of this path, in the place of one that no program answers at. It gets its path once nobody but the owner can
+/// connect; `number` makes the path before that its own.
+pub fn bind<R: Files + Net>(
+    rt: &R,
+    alloc: Global,
+    path: &str,
+    number: u32,
+) -> Result<UnixListener> {
+    if let Ok(found) = fs::symlink_metadata(rt, path) {
+        if !found.file_type().is_socket() {
+            bail!("--control: {path:.80}: there is a file that is no socket");
+        }
+        if UnixStream::connect(rt, path).is_ok() {
+            bail!("--control: {path:.80}: another program answers there");
+        }
+    }
+    let first = format!(in alloc; "{path}.{number}")?;
+    let listener = bind_as(rt, first.as_str(), path);
+    if listener.is_err() {
+        fs::remove_file(rt, first.as_str()).ok();
+    }
+    listener.map_err(|error| anyhow!("--control: {path:.60}: {error}"))
+}
+
+fn bind_as<R: Files + Net>(rt: &R, first: &str, path: &str) -> io::Result<UnixListener> {
+    let listener = UnixListener::bind(rt, first)?;
+    fs::set_permissions(rt, first, Permissions::from_mode(OWNERS))?;
+    fs::rename(rt, first, path)?;
+    Ok(listener)
+}
+
+/// Wakes who waits for a connection, now and later.
+pub fn shut(listener: &UnixListener) -> io::Result<()> {
+    let socket = OwnedFd::from(listener.try_clone()?);
+    UnixStream::from(socket).shutdown(Shutdown::Both)
+}
+
 /// Takes connections until the program is to end, and waits until each has ended.
 pub fn serve_control<R: Threads + Wait + Clock + Sync>(
     rt: &R,
     alloc: Global,
     hub: &Hub,
-    door: &Door<'_>,
+    listener: &UnixListener,
 ) {
     thread::scope(thread::scope_env(), rt, |scope| {
-        take_all(scope, rt, alloc, hub, door)
+        take_all(scope, rt, alloc, hub, listener)
     });
 }
 
@@ -39,10 +80,10 @@ fn take_all<'s, E: 's, R: Threads + Wait + Clock + Sync + 's>(
     rt: &'s R,
     alloc: Global,
     hub: &'s Hub,
-    door: &Door<'_>,
+    listener: &UnixListener,
 ) {
     for _ in rt.forever() {
-        let accepted = door.listener.accept();
+        let accepted = listener.accept();
         if hub.is_quitting() {
             return;
         }
@@ -50,7 +91,7 @@ fn take_all<'s, E: 's, R: Threads + Wait + Clock + Sync + 's>(
     }
 }
 
-/// Serves a connection, or tells it that there is no room. Where there is no connection it rests.
+/// Gives a connection a seat and a thread, or tells it that there is none. Where there is no connection it rests.
 fn take_in<'s, E: 's, R: Threads + Wait + Clock + Sync + 's>(
     scope: &'s Scope<'s, E>,
     rt: &'s R,
@@ -62,98 +103,39 @@ fn take_in<'s, E: 's, R: Threads + Wait + Clock + Sync + 's>(
         thread::sleep(rt, Duration::from_millis(REST));
         return;
     };
-    let Ok(stream) = Arc::new(alloc, stream) else {
-        return;
-    };
-    if !is_served(scope, rt, alloc, hub, &stream) {
-        refuse(scope, rt, hub, stream);
-    }
-}
-
-/// Gives a connection a seat and a thread: whether both could be had.
-fn is_served<'s, E: 's, R: Threads + Wait + Clock + Sync + 's>(
-    scope: &'s Scope<'s, E>,
-    rt: &'s R,
-    alloc: Global,
-    hub: &'s Hub,
-    stream: &Stream,
-) -> bool {
     let patience = Duration::from_millis(PATIENCE);
     if stream.set_write_timeout(Some(patience)).is_err() {
-        return false;
+        return;
     }
-    let Some((seat, seen)) = hub.enter(rt, alloc) else {
-        return false;
+    let Some((seat, seen)) = hub.enter(rt) else {
+        let mut writer = &stream;
+        writer.write_all(b"fault full\n").ok();
+        return;
     };
-    let is_started = start_serving(scope, rt, alloc, hub, seat, seen, stream);
-    if !is_started {
-        give_up(rt, alloc, hub, seat);
+    if scope
+        .spawn(move || serve(rt, alloc, hub, seat, seen, stream))
+        .is_err()
+    {
+        hub.leave(rt, alloc, seat);
     }
-    is_started
-}
-
-/// Starts the thread of a connection, if whoever ends the program can have its stream: whether it could be made.
-fn start_serving<'s, E: 's, R: Threads + Wait + Clock + Sync + 's>(
-    scope: &'s Scope<'s, E>,
-    rt: &'s R,
-    alloc: Global,
-    hub: &'s Hub,
-    seat: usize,
-    seen: Seen,
-    stream: &Stream,
-) -> bool {
-    if !hub.clients.add(rt, seat, stream) {
-        return false;
-    }
-    let Ok(stream) = Arc::try_clone(stream) else {
-        return false;
-    };
-    scope
-        .spawn(move || serve(rt, alloc, hub, seat, seen, &stream))
-        .is_ok()
-}
-
-/// The connection of a seat has ended.
-fn give_up<R: Wait>(rt: &R, alloc: Global, hub: &Hub, seat: usize) {
-    hub.clients.remove(rt, seat);
-    hub.leave(rt, alloc, seat);
 }
 
 /// Serves a connection until it ends.
-fn serve<R: Threads + Wait + Clock + Sync>(
+fn serve<R: Threads + Wait + Sync>(
     rt: &R,
     alloc: Global,
     hub: &Hub,
     seat: usize,
     seen: Seen,
-    stream: &UnixStream,
+    stream: UnixStream,
 ) {
     let desk = Desk::new(seat);
-    let is_told = thread::scope(thread::scope_env(), rt, |scope| {
-        let is_told = start_telling(scope, rt, alloc, hub, &desk, seen, stream);
-        if is_told {
-            answer(rt, alloc, hub, &desk, stream);
-        }
-        is_told
-    });
-    if !is_told {
-        refuse_here(rt, stream);
-    }
-    give_up(rt, alloc, hub, seat);
-}
-
-fn start_telling<'s, E: 's, R: Threads + Wait + Sync + 's>(
-    scope: &'s Scope<'s, E>,
-    rt: &'s R,
-    alloc: Global,
-    hub: &'s Hub,
-    desk: &'s Desk,
-    seen: Seen,
-    stream: &'s UnixStream,
-) -> bool {
-    scope
-        .spawn(move || tell(rt, alloc, hub, desk, seen, stream))
-        .is_ok()
+    thread::join(
+        rt,
+        || tell(rt, alloc, hub, &desk, seen, &stream),
+        || answer(rt, alloc, hub, &desk, &stream),
+    );
+    hub.leave(rt, alloc, seat);
 }
 
 /// Tells news until the connection or the program ends, and hangs up.

@@ -1,6 +1,6 @@
-//! One life of the node: its links are served until its audit is nearly full, or memory is wanting.
+//! One life of the node: its links are served until its audit is nearly full.
 use crate::hub::Hub;
-use node_net::{Arrivals, Lane, Lanes, Limits, Met, Target, start_accepting, start_dialling};
+use node_net::{Lane, Lanes, Limits, Target, shut, start_accepting, start_dialling};
 use std::alloc::Global;
 use std::net::{Net, TcpListener, TcpStream};
 use std::sync::Wait;
@@ -8,7 +8,7 @@ use std::thread;
 use std::thread::{Scope, Threads};
 use std::time::Clock;
 
-/// How many links the node keeps at most, and so how many threads serve connections.
+/// How many links the node keeps at most, and so how many threads take connections.
 pub const LANES: usize = 64;
 
 /// How the links of a node are made.
@@ -18,31 +18,30 @@ pub struct Links {
     pub limits: Limits,
 }
 
-/// Serves links until the next life is to begin, or the program is to end. The lanes come back.
+/// Serves links until the audit is nearly full, or the program is to end. The lanes come back.
 pub fn live<R>(
     rt: &R,
     alloc: Global,
     hub: &Hub,
     links: &Links,
-    arrivals: Option<&Arrivals>,
+    listener: Option<TcpListener>,
     lanes: Vec<Lane>,
 ) -> Vec<Lane>
 where
     R: Net<Listener = TcpListener, Stream = TcpStream> + Threads + Wait + Clock + Eprint + Sync,
 {
-    hub.endings.clear(rt);
-    let dials = links.targets.len();
-    let lanes = Lanes::new(alloc, lanes, dials, links.limits, &hub.endings);
+    let lanes = Lanes::new(alloc, lanes, links.targets.len(), links.limits);
+    let listening = listener.as_ref();
     thread::scope(thread::scope_env(), rt, |scope| {
-        if !start_all(scope, rt, alloc, hub, links, arrivals, &lanes) {
+        if !start_all(scope, rt, alloc, hub, links, listening, &lanes) {
             rt.eprintln("warning: no thread can be made for a link")
                 .ok();
         }
-        wait_for_end(rt, alloc, hub, links, &lanes);
-        hub.end_links();
+        wait_for_end(rt, hub, &lanes);
         lanes.stop(rt);
-        if let Some(arrivals) = arrivals {
-            arrivals.wake(rt);
+        if let Some(listener) = listening {
+            // A listener that can't be shut has failed already.
+            shut(listener).ok();
         }
     });
     lanes.into_lanes()
@@ -55,16 +54,16 @@ fn start_all<'s, E: 's, R>(
     alloc: Global,
     hub: &'s Hub,
     links: &'s Links,
-    arrivals: Option<&'s Arrivals>,
-    lanes: &'s Lanes<'s>,
+    listener: Option<&'s TcpListener>,
+    lanes: &'s Lanes,
 ) -> bool
 where
     R: Net<Listener = TcpListener, Stream = TcpStream> + Threads + Wait + Clock + Sync + 's,
 {
     let mut are_made = true;
-    if let Some(arrivals) = arrivals {
+    if let Some(listener) = listener {
         for _ in 0..LANES {
-            are_made &= start_accepting(scope, rt, alloc, &hub.node, lanes, arrivals);
+            are_made &= start_accepting(scope, rt, alloc, &hub.node, lanes, listener);
         }
     }
     for target in links.targets.as_slice() {
@@ -73,59 +72,39 @@ where
     are_made
 }
 
-/// Waits for the end of this life, and says meanwhile what an operator should know of its links.
-fn wait_for_end<R: Wait + Eprint>(
-    rt: &R,
-    alloc: Global,
-    hub: &Hub,
-    links: &Links,
-    lanes: &Lanes<'_>,
-) {
-    let mut told = Met::NOTHING;
+/// Waits for the end of this life, and says meanwhile where a peer reflected a challenge, and where the node is full.
+fn wait_for_end<R: Wait + Eprint>(rt: &R, hub: &Hub, lanes: &Lanes) {
+    let mut told = (0, 0);
     for _ in rt.forever() {
         let shared = hub.node.shared.lock(rt);
         let shared = hub.node.moved.wait_while(rt, shared, |shared| {
-            !hub.is_quitting() && !hub.is_ending(shared) && lanes.met() == told
+            !hub.is_quitting() && !hub.is_nearly_full(shared.core()) && met(lanes) == told
         });
         drop(shared);
-        let met = lanes.met();
-        if met == told {
+        let now = met(lanes);
+        if now == told {
             return;
         }
-        warn(rt, alloc, links, told, met);
-        told = met;
+        warn(rt, told, now);
+        told = now;
     }
 }
 
+/// How often a peer reflected a challenge, and how often no lane was left for a further peer.
+fn met(lanes: &Lanes) -> (u64, u64) {
+    (lanes.reflections(), lanes.fillings())
+}
+
 /// Says what was met since the last time. There is nobody to be told where standard error is closed.
-fn warn<R: Eprint>(rt: &R, alloc: Global, links: &Links, told: Met, met: Met) {
-    if met.reflections != told.reflections {
+fn warn<R: Eprint>(rt: &R, told: (u64, u64), now: (u64, u64)) {
+    if now.0 != told.0 {
         rt.eprintln(
             "warning: a peer asked for a digest of a challenge of this node's own; the link is lost",
         ).ok();
     }
-    if met.fillings != told.fillings {
+    if now.1 != told.1 {
         rt.eprintln(
             "warning: full: all 64 links are up, begun or kept for peers to dial; further ones wait",
         ).ok();
-    }
-    if met.early_ends != told.early_ends {
-        for target in links.targets.as_slice() {
-            warn_of(rt, alloc, target);
-        }
-    }
-}
-
-/// Says it once of a peer that its links end early.
-fn warn_of<R: Eprint>(rt: &R, alloc: Global, target: &Target) {
-    if !target.has_news() {
-        return;
-    }
-    if let Ok(peer) = str::from_utf8(target.peer().as_bytes())
-        && let Ok(line) = format!(in alloc;
-            "warning: {peer} ends the links to it soon: has another node the name of this one?"
-        )
-    {
-        rt.eprintln(line.as_str()).ok();
     }
 }

@@ -2,36 +2,26 @@
 #![tactic(auto)]
 
 mod audit_file;
-mod clients;
-mod closing;
 mod connection;
 mod control;
-mod crowd;
-mod door;
 mod hub;
 mod life;
 mod lines;
 mod operator;
 mod options;
-mod output;
-mod places;
-mod refusing;
-mod reserve;
 mod run;
 mod settings;
 mod turn;
 
-use anyhow::anyhow;
 use clap::ArgMatches;
 use clap::error::{Error as LineError, ErrorKind as LineFault};
 use lines::{LineQueue, read_input};
 use options::{Fault, Options, command, read_options};
-use output::{OutputQueue, write_output};
 use rand_chacha::ChaCha20Rng;
-use run::{Streams, run};
+use run::run;
 use std::alloc::{AllocError, Global};
 use std::env::Env;
-use std::fs::{File, Files};
+use std::fs::Files;
 use std::io::ErrorKind;
 use std::net::{Net, TcpListener, TcpStream};
 use std::process::ExitCode;
@@ -43,36 +33,13 @@ use std::time::Clock;
 
 const OUT_OF_MEMORY: &str = "error: out of memory";
 
-/// What the run shares with the threads of standard input and output, which may outlive it.
-#[derive(Drop)]
-struct Queues {
-    lines: Arc<LineQueue>,
-    output: Arc<OutputQueue>,
-}
-
-impl Queues {
-    fn new(alloc: Global, is_output_needed: bool) -> Result<Queues, AllocError> {
-        Ok(Queues {
-            lines: Arc::new(alloc, LineQueue::new(alloc))?,
-            output: Arc::new(alloc, OutputQueue::new(alloc, is_output_needed))?,
-        })
-    }
-
-    fn try_clone(&self) -> Result<Queues, AllocError> {
-        Ok(Queues {
-            lines: Arc::try_clone(&self.lines)?,
-            output: Arc::try_clone(&self.output)?,
-        })
-    }
-}
-
-/// The options, a generator that nobody can foresee, and the queues, for the run and for the threads beside it.
+/// The options, a generator that nobody can foresee, and the lines of standard input for the run and for the thread that reads them.
 #[derive(Drop)]
 struct Start<'a> {
     options: Options<'a>,
     source: ChaCha20Rng,
-    queues: Queues,
-    theirs: Queues,
+    lines: Arc<LineQueue>,
+    theirs: Arc<LineQueue>,
 }
 
 /// Status 0 at the end of standard input or at `quit`, 1 at a fault of a file, a socket or standard output, or for want of memory,
@@ -94,25 +61,23 @@ fn main(rt: HostRuntime) -> ExitCode {
     let Start {
         options,
         source,
-        queues,
+        lines,
         theirs,
     } = start;
-    let Queues { lines, output } = theirs;
-    // Nothing can end a read of standard input or a write to standard output, so their threads may outlive the run, and aren't joined.
-    let (reader, writer) = (rt, rt);
-    let is_read = thread::spawn(&rt, move || read_input(&reader, alloc, &lines)).is_ok();
-    let is_written = thread::spawn(&rt, move || write_output(&writer, alloc, &output)).is_ok();
-    serve(&rt, alloc, options, source, &queues, is_read && is_written)
+    // Nothing can end a read of standard input, so its thread may outlive the run, and isn't joined.
+    let own = rt;
+    let is_read = thread::spawn(&rt, move || read_input(&own, alloc, &theirs)).is_ok();
+    serve(&rt, alloc, options, source, &lines, is_read)
 }
 
-/// Runs a node with these options, if standard input is read and standard output written.
+/// Runs a node with these options, if standard input is read.
 fn serve<R>(
     rt: &R,
     alloc: Global,
     options: Options<'_>,
     source: ChaCha20Rng,
-    queues: &Queues,
-    are_made: bool,
+    lines: &LineQueue,
+    is_read: bool,
 ) -> ExitCode
 where
     R: AllocGlobal
@@ -120,21 +85,15 @@ where
         + Threads
         + Wait
         + Clock
-        + Files<File = File>
+        + Files
+        + Print
         + Eprint
         + Sync,
 {
-    if !are_made {
+    if !is_read {
         return failed(rt, 1, "error: no thread can be made");
     }
-    let output = &*queues.output;
-    let streams = Streams {
-        lines: &queues.lines,
-        output,
-    };
-    let ended = run(rt, alloc, options, source, streams);
-    let written = output.finish(rt);
-    match ended.and(written) {
+    match run(rt, alloc, options, source, lines) {
         Ok(()) => ExitCode::SUCCESS,
         Err(reason) => told(rt, 1, &reason),
     }
@@ -168,31 +127,32 @@ fn matches<'a, R: AllocGlobal + Print + Eprint>(
         .map_err(|error| unmatched(rt, &error))
 }
 
+/// The lines of standard input on their way, for the run and for the thread that reads them.
+fn line_queue(alloc: Global) -> Result<(Arc<LineQueue>, Arc<LineQueue>), AllocError> {
+    let lines = Arc::new(alloc, LineQueue::new(alloc))?;
+    let theirs = Arc::try_clone(&lines)?;
+    Ok((lines, theirs))
+}
+
 /// What the program runs with.
-fn prepare<'a, R: RandomSource + Files>(
+fn prepare<'a, R: RandomSource + Files + Net>(
     rt: &R,
     alloc: Global,
     matches: &ArgMatches<'a>,
 ) -> Result<Start<'a>, Fault> {
     let (options, source) = options_and_source(rt, alloc, matches)?;
-    match two_of_queues(alloc, options.control.is_none()) {
-        Ok((queues, theirs)) => Ok(Start {
+    match line_queue(alloc) {
+        Ok((lines, theirs)) => Ok(Start {
             options,
             source,
-            queues,
+            lines,
             theirs,
         }),
         Err(_) => Err(Fault::of_memory()),
     }
 }
 
-fn two_of_queues(alloc: Global, is_output_needed: bool) -> Result<(Queues, Queues), AllocError> {
-    let queues = Queues::new(alloc, is_output_needed)?;
-    let theirs = queues.try_clone()?;
-    Ok((queues, theirs))
-}
-
-fn options_and_source<'a, R: RandomSource + Files>(
+fn options_and_source<'a, R: RandomSource + Files + Net>(
     rt: &R,
     alloc: Global,
     matches: &ArgMatches<'a>,
@@ -218,9 +178,7 @@ fn unmatched<R: AllocGlobal + Print + Eprint>(rt: &R, error: &LineError) -> Exit
     }
     match error.print(rt) {
         Ok(()) => ExitCode::SUCCESS,
-        // Who has read enough of a help needs no word.
-        Err(fault) if fault.kind() == ErrorKind::BrokenPipe => ExitCode::from(1),
-        Err(fault) => told(rt, 1, &anyhow!("standard output: {fault}")),
+        Err(_) => failed(rt, 1, "error: standard output can't be written"),
     }
 }
 

@@ -2,10 +2,11 @@
 use crate::connection::{Desk, answer_all, tell_all};
 use crate::hub::Hub;
 use crate::lines::{LineQueue, QueuedLines};
-use crate::output::{OutputQueue, QueuedOutput};
 use pg_session::Seen;
 use std::alloc::Global;
+use std::io;
 use std::sync::Wait;
+use std::sync::atomic::{AtomicBool, Ordering};
 
 /// The operator of the node.
 #[derive(Drop)]
@@ -13,6 +14,7 @@ pub struct Operator {
     pub desk: Desk,
     /// Whether the end of standard input is that of the program.
     pub is_alone: bool,
+    has_failed: AtomicBool,
 }
 
 impl Operator {
@@ -20,66 +22,42 @@ impl Operator {
         Operator {
             desk: Desk::new(seat),
             is_alone,
+            has_failed: AtomicBool::new(false),
         }
     }
 
+    /// Whether standard output couldn't be written.
+    pub fn has_failed(&self) -> bool {
+        self.has_failed.load(Ordering::SeqCst)
+    }
+
+    fn fail<R: Wait>(&self, rt: &R, hub: &Hub) {
+        self.has_failed.store(true, Ordering::SeqCst);
+        hub.quit(rt);
+    }
+
     /// Answers the lines of standard input.
-    pub fn answer<R: Wait>(
-        &self,
-        rt: &R,
-        alloc: Global,
-        hub: &Hub,
-        lines: &LineQueue,
-        output: &OutputQueue,
-    ) {
+    pub fn answer<R: Wait + Print>(&self, rt: &R, alloc: Global, hub: &Hub, lines: &LineQueue) {
         let mut lines = QueuedLines { rt, lines };
-        let mut writer = QueuedOutput { rt, output };
-        for _ in rt.forever() {
-            match answer_all(rt, alloc, hub, &self.desk, &mut lines, &mut writer) {
-                Ok(()) => break,
-                // There was no memory for a line: the next life goes on.
-                Err(_) => hub.want_memory(rt),
-            }
-        }
-        if self.is_alone && !hub.is_quitting() {
-            output.be_patient(rt);
-            hub.quit(rt);
+        match answer_all(rt, alloc, hub, &self.desk, &mut lines, &mut io::writer(rt)) {
+            Ok(()) if self.is_alone => hub.quit(rt),
+            Ok(()) => {}
+            Err(_) => self.fail(rt, hub),
         }
     }
 
     /// Tells news on standard output until the program ends.
-    pub fn tell<R: Wait>(
+    pub fn tell<R: Wait + Print>(
         &self,
         rt: &R,
         alloc: Global,
         hub: &Hub,
         seen: Seen,
         lines: &LineQueue,
-        output: &OutputQueue,
     ) {
-        let mut writer = QueuedOutput { rt, output };
-        for _ in rt.forever() {
-            match tell_all(rt, alloc, hub, &self.desk, seen, &mut writer) {
-                Ok(()) => break,
-                // There was no memory for a line: the next life tells what it can.
-                Err(_) => {
-                    hub.want_memory(rt);
-                    hub.wait_for_room(rt);
-                }
-            }
+        if tell_all(rt, alloc, hub, &self.desk, seen, &mut io::writer(rt)).is_err() {
+            self.fail(rt, hub);
         }
         lines.end(rt);
-    }
-
-    /// Waits for a fault of standard output, which is told, or ends the program that is nothing without it.
-    pub fn watch<R: Wait + Eprint>(&self, rt: &R, hub: &Hub, output: &OutputQueue) {
-        let Some(fault) = output.wait_for_fault(rt) else {
-            return;
-        };
-        if output.is_needed {
-            hub.quit(rt);
-        } else {
-            eprintln!(rt; "warning: {fault}; nothing more is written there").ok();
-        }
     }
 }

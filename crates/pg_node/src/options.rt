@@ -8,6 +8,7 @@ use rand::Rng;
 use std::alloc::{AllocFailed, Global};
 use std::fs::{self, Files};
 use std::io;
+use std::net::{Net, SocketAddr, ToSocketAddrs};
 use std::os::unix::fs::PermissionsExt;
 use std::time::Duration;
 
@@ -16,9 +17,6 @@ const ENTRIES: u32 = 1_000_000;
 
 /// The fewest: room for what a new life of the node says first, and for its last sixteenth.
 const FEWEST: u32 = 64;
-
-/// The most clients of the control socket at once, where no number is given.
-const CLIENTS: u32 = 100;
 
 /// The bits of a file's mode that let others read or write it.
 const OTHERS: u32 = 0o077;
@@ -43,16 +41,13 @@ Status: 0 at the end of standard input or at quit; 1 at a fault of a file, a soc
 #[derive(Drop)]
 pub struct Options<'a> {
     pub opening: Opening,
-    /// HOST:PORT.
-    pub listen: Option<&'a str>,
+    pub listen: Option<SocketAddr>,
     pub targets: Vec<Target>,
     pub limits: Limits,
     pub allowed: Vec<NodeName>,
     pub cookies: Vec<(NodeName, Cookie)>,
     /// The path of the control socket.
     pub control: Option<&'a str>,
-    /// The most clients at once.
-    pub clients: u32,
     /// The path of the file for audits that have ended.
     pub audit: Option<&'a str>,
 }
@@ -153,23 +148,13 @@ fn entries<'a>(alloc: Global) -> Arg<'a> {
         .default_value("1000000")
 }
 
-fn clients<'a>(alloc: Global) -> Arg<'a> {
-    Arg::new(alloc, "clients")
-        .long("clients")
-        .value_name("N")
-        .help("The most clients of the control socket at once, up to 126")
-        .value_parser(value_parser!(u32).range(1..127))
-        .default_value("100")
-}
-
 fn link_arguments<'a>(alloc: Global, command: Command<'a>) -> Result<Command<'a>, ClapError> {
     let listen = "Where peers connect; port 0 is a free one";
-    let command = with(command, text(alloc, "listen", "HOST:PORT", listen))?;
+    let command = with(command, text(alloc, "listen", "ADDR:PORT", listen))?;
     let dial = "A peer to keep a link to";
     let command = with(command, texts(alloc, "dial", "NAME=HOST:PORT", dial))?;
     let control = "A Unix socket for commands";
     let command = with(command, text(alloc, "control", "PATH", control))?;
-    let command = with(command, clients(alloc))?;
     let setup = "For a whole handshake";
     let command = with(command, millis(alloc, "setuptime", "7000", setup))?;
     let tick = "A link is lost that is silent for so long";
@@ -193,8 +178,8 @@ fn millis<'a>(alloc: Global, name: &'a str, usual: &'a str, help: &'a str) -> Ar
         .default_value(usual)
 }
 
-/// What the program runs with. Files with cookies are read.
-pub fn read_options<'a, R: Files>(
+/// What the program runs with. Files with cookies are read, and names of hosts are looked up.
+pub fn read_options<'a, R: Files + Net>(
     rt: &R,
     alloc: Global,
     words: &mut impl Rng,
@@ -210,27 +195,26 @@ pub fn read_options<'a, R: Files>(
         allowed,
         cookies,
         control: matches.get_str("control"),
-        clients: matches.get_one::<u32>("clients").unwrap_or(CLIENTS),
         audit: matches.get_str("audit"),
     })
 }
 
-fn node_options<'a, R: Files>(
+fn node_options<R: Files>(
     rt: &R,
     alloc: Global,
     words: &mut impl Rng,
-    matches: &ArgMatches<'a>,
-) -> Result<(Opening, Option<&'a str>), Fault> {
+    matches: &ArgMatches<'_>,
+) -> Result<(Opening, Option<SocketAddr>), Fault> {
     let opening = opening(rt, alloc, words, matches)?;
     Ok((opening, listen(matches)?))
 }
 
-fn peer_options<R: Files>(
+fn peer_options<R: Files + Net>(
     rt: &R,
     alloc: Global,
     matches: &ArgMatches<'_>,
 ) -> Result<(Vec<Target>, Vec<NodeName>, Vec<(NodeName, Cookie)>), Fault> {
-    let targets = targets(alloc, matches)?;
+    let targets = targets(rt, alloc, matches)?;
     let allowed = allowed(alloc, matches)?;
     Ok((targets, allowed, cookies(rt, alloc, matches)?))
 }
@@ -339,33 +323,26 @@ fn allowed(alloc: Global, matches: &ArgMatches<'_>) -> Result<Vec<NodeName>, Fau
     Ok(names)
 }
 
-fn listen<'a>(matches: &ArgMatches<'a>) -> Result<Option<&'a str>, Fault> {
-    match matches.get_str("listen") {
-        Some(word) if !is_place(word) => Err(misused(anyhow!(
-            "--listen: no HOST:PORT: {word:.60}"
-        ))),
-        word => Ok(word),
+fn listen(matches: &ArgMatches<'_>) -> Result<Option<SocketAddr>, Fault> {
+    let Some(word) = matches.get_str("listen") else {
+        return Ok(None);
+    };
+    match word.parse::<SocketAddr>() {
+        Ok(addr) => Ok(Some(addr)),
+        Err(_) => Err(misused(anyhow!("--listen: no ADDR:PORT: {word:.60}"))),
     }
 }
 
-/// Whether the word is a host, by name or number, and a port.
-fn is_place(word: &str) -> bool {
-    match word.rsplit_once(':') {
-        Some((host, port)) => !host.is_empty() && port.parse::<u16>().is_ok(),
-        None => false,
-    }
-}
-
-fn targets(alloc: Global, matches: &ArgMatches<'_>) -> Result<Vec<Target>, Fault> {
+fn targets<R: Net>(rt: &R, alloc: Global, matches: &ArgMatches<'_>) -> Result<Vec<Target>, Fault> {
     let mut targets = Vec::new(alloc);
     let own = matches.get_str("NAME");
     for word in matches.get_strs("dial").unwrap_or(&[]) {
-        targets.push(target(alloc, own, word)?)?;
+        targets.push(target(rt, alloc, own, word)?)?;
     }
     Ok(targets)
 }
 
-fn target(alloc: Global, own: Option<&str>, word: &str) -> Result<Target, Fault> {
+fn target<R: Net>(rt: &R, alloc: Global, own: Option<&str>, word: &str) -> Result<Target, Fault> {
     let Some((peer, place)) = word.split_once('=') else {
         return Err(misused(anyhow!("--dial: no NAME=HOST:PORT: {word:.60}")));
     };
@@ -373,18 +350,19 @@ fn target(alloc: Global, own: Option<&str>, word: &str) -> Result<Target, Fault>
         return Err(misused(anyhow!("--dial: the node's own name: {word:.60}")));
     }
     let peer = name(alloc, "--dial", peer)?;
-    if !is_place(place) {
-        return Err(misused(anyhow!("--dial: no HOST:PORT: {place:.60}")));
-    }
-    Ok(Target::new(peer, copy(alloc, place)?))
+    Ok(Target {
+        peer,
+        addr: look_up(rt, place)?,
+    })
 }
 
-fn copy(alloc: Global, text: &str) -> Result<String, Fault> {
-    let mut copied = String::new(alloc);
-    match copied.push_str(text) {
-        Ok(()) => Ok(copied),
-        Err(_) => Err(Fault::of_memory()),
-    }
+/// The first address of a host and port.
+fn look_up<R: Net>(rt: &R, place: &str) -> Result<SocketAddr, Fault> {
+    let found = match place.to_socket_addrs(rt) {
+        Ok(mut found) => found.next(),
+        Err(error) => return Err(failed(anyhow!("--dial: {place:.60}: {error}"))),
+    };
+    found.ok_or_else(|| failed(anyhow!("--dial: {place:.60}: no such host")))
 }
 
 fn limits(matches: &ArgMatches<'_>) -> Limits {

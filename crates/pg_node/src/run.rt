@@ -1,59 +1,37 @@
 //! The whole run of the program.
-use crate::audit_file::AuditFile;
-use crate::closing::{Closer, close};
-use crate::control::serve_control;
-use crate::door::Door;
+use crate::control;
 use crate::hub::Hub;
 use crate::life::{Links, live};
 use crate::lines::LineQueue;
 use crate::operator::Operator;
 use crate::options::Options;
-use crate::output::OutputQueue;
-use crate::places::{listen_at, open_door};
-use crate::reserve::Reserve;
 use crate::settings::given;
-use crate::turn::{LaneMaker, begin, last, turn};
-use anyhow::{Result, bail};
-use node_net::{Arrivals, Lane, start_taking};
+use crate::turn::{LaneMaker, begin, finish, turn};
+use anyhow::{Result, anyhow, bail};
+use node_net::Lane;
 use pg_session::Seen;
 use policy_audit::{Event, Opening};
 use rand_chacha::ChaCha20Rng;
 use std::alloc::Global;
-use std::fs::{File, Files};
-use std::net::{Net, TcpListener, TcpStream};
+use std::fs::{self, Files};
+use std::net::{Net, SocketAddr, TcpListener, TcpStream};
+use std::os::unix::net::UnixListener;
 use std::sync::Wait;
 use std::thread;
 use std::thread::{Scope, Threads};
 use std::time::Clock;
-
-/// The fewest entries of a life that ends for want of memory, if another one is to follow: less than they take would be won by it.
-const FEWEST: usize = 1_000;
-
-/// Standard input and output.
-#[derive(Clone, Copy, Drop)]
-pub struct Streams<'a> {
-    pub lines: &'a LineQueue,
-    pub output: &'a OutputQueue,
-}
-
-impl Streams<'_> {
-    fn end<R: Wait>(&self, rt: &R) {
-        self.lines.end(rt);
-        self.output.end(rt);
-    }
-}
 
 /// What each life of the node is made with.
 #[derive(Drop)]
 struct Plan<'a> {
     opening: Opening,
     links: Links,
-    /// Where peers are to connect: HOST:PORT.
-    listen: Option<&'a str>,
+    /// Where peers are to connect.
+    listen: Option<SocketAddr>,
+    /// Where peers connect, with the port that was got.
+    addr: Option<SocketAddr>,
     /// The path of the control socket.
     control: Option<&'a str>,
-    /// The most clients at once.
-    clients: u32,
     /// The path of the file for audits that have ended.
     audit: Option<&'a str>,
     maker: LaneMaker,
@@ -74,15 +52,14 @@ impl<'a> Plan<'a> {
             allowed,
             cookies,
             control,
-            clients,
             audit,
         } = options;
         let plan = Plan {
             opening,
             links: Links { targets, limits },
             listen,
+            addr: None,
             control,
-            clients,
             audit,
             maker: LaneMaker::new(words),
         };
@@ -96,52 +73,42 @@ pub fn run<R>(
     alloc: Global,
     options: Options<'_>,
     words: ChaCha20Rng,
-    streams: Streams<'_>,
+    lines: &LineQueue,
 ) -> Result<()>
 where
     R: Net<Listener = TcpListener, Stream = TcpStream>
         + Threads
         + Wait
         + Clock
-        + Files<File = File>
+        + Files
+        + Print
         + Eprint
         + Sync,
 {
     let (mut plan, settings) = Plan::of(alloc, options, words)?;
-    let seats = plan.clients.saturating_add(1);
-    let closer = closer(rt, alloc, plan.audit)?;
-    let (hub, lanes) = begin(rt, alloc, &plan.opening, seats, settings, &mut plan.maker)?;
-    let ended = open_and_serve(rt, alloc, &hub, &mut plan, &closer, lanes, streams)?;
-    finish(rt, alloc, hub, ended, &closer)
+    run_plan(rt, alloc, &mut plan, settings, lines)
 }
 
-/// Opens the file for audits, if there is one, and keeps memory for the turns.
-fn closer<'a, R: Wait + Files>(
+fn run_plan<R>(
     rt: &R,
     alloc: Global,
-    audit: Option<&'a str>,
-) -> Result<Closer<'a>> {
-    let file = AuditFile::open(rt, audit)?;
-    let reserve = Reserve::new(alloc);
-    reserve.take(rt);
-    Ok(Closer::new(file, reserve))
-}
-
-/// Closes the last life.
-fn finish<R: Wait + Files + Eprint>(
-    rt: &R,
-    alloc: Global,
-    hub: Hub,
-    ended: Vec<Lane>,
-    closer: &Closer<'_>,
-) -> Result<()> {
-    closer.check(rt)?;
-    closer.reserve.release(rt);
-    close(rt, alloc, last(alloc, hub, ended)?, closer.file.as_ref())?;
-    match &closer.file {
-        Some(file) => file.check(),
-        None => Ok(()),
-    }
+    plan: &mut Plan<'_>,
+    settings: Vec<Event>,
+    lines: &LineQueue,
+) -> Result<()>
+where
+    R: Net<Listener = TcpListener, Stream = TcpStream>
+        + Threads
+        + Wait
+        + Clock
+        + Files
+        + Print
+        + Eprint
+        + Sync,
+{
+    let (hub, lanes) = begin(rt, alloc, &plan.opening, settings, &mut plan.maker)?;
+    let ended = open_and_serve(rt, alloc, &hub, plan, lanes, lines)?;
+    finish(rt, alloc, hub, ended, plan.audit)
 }
 
 /// Serves all connections and links at the addresses of the plan. The lanes come back.
@@ -150,41 +117,87 @@ fn open_and_serve<R>(
     alloc: Global,
     hub: &Hub,
     plan: &mut Plan<'_>,
-    closer: &Closer<'_>,
     lanes: Vec<Lane>,
-    streams: Streams<'_>,
+    lines: &LineQueue,
 ) -> Result<Vec<Lane>>
 where
     R: Net<Listener = TcpListener, Stream = TcpStream>
         + Threads
         + Wait
         + Clock
-        + Files<File = File>
+        + Files
+        + Print
         + Eprint
         + Sync,
 {
-    let (arrivals, door) = open(rt, alloc, plan, streams.output)?;
-    let (arrivals, door) = (arrivals.as_ref(), door.as_ref());
-    let ended = serve(rt, alloc, hub, plan, closer, arrivals, lanes, door, streams);
-    if let Some(door) = door {
-        door.remove(rt, alloc);
+    let (listener, door) = open(rt, alloc, plan)?;
+    let ended = serve(rt, alloc, hub, plan, listener, lanes, door.as_ref(), lines);
+    if let Some(path) = plan.control {
+        // The path is gone where somebody else has taken it away.
+        fs::remove_file(rt, path).ok();
     }
     ended
 }
 
 /// Opens the addresses where peers and clients connect, if there are any.
-fn open<'a, R>(
+fn open<R>(
     rt: &R,
     alloc: Global,
-    plan: &Plan<'a>,
-    output: &OutputQueue,
-) -> Result<(Option<Arrivals>, Option<Door<'a>>)>
+    plan: &mut Plan<'_>,
+) -> Result<(Option<TcpListener>, Option<UnixListener>)>
 where
-    R: Net<Listener = TcpListener, Stream = TcpStream> + Wait + Clock + Files<File = File> + Eprint,
+    R: Net<Listener = TcpListener, Stream = TcpStream> + Files + Print + Eprint,
 {
-    let arrivals = listen_at(rt, alloc, plan.listen, output)?;
-    let door = open_door(rt, alloc, plan.control, output)?;
-    Ok((arrivals, door))
+    let listener = listen_at(rt, plan)?;
+    let door = open_door(rt, alloc, plan.control, plan.opening.creation)?;
+    Ok((listener, door))
+}
+
+/// Opens the address where peers connect, if there is one.
+fn listen_at<R>(rt: &R, plan: &mut Plan<'_>) -> Result<Option<TcpListener>>
+where
+    R: Net<Listener = TcpListener, Stream = TcpStream> + Print + Eprint,
+{
+    let Some(addr) = plan.listen else {
+        return Ok(None);
+    };
+    let listener = bind(rt, addr)?;
+    plan.addr = Some(announce(rt, &listener)?);
+    Ok(Some(listener))
+}
+
+fn bind<R: Net<Listener = TcpListener, Stream = TcpStream>>(
+    rt: &R,
+    addr: SocketAddr,
+) -> Result<TcpListener> {
+    TcpListener::bind(rt, addr).map_err(|error| anyhow!("--listen {addr}: {error}"))
+}
+
+/// Prints where peers connect.
+fn announce<R: Print + Eprint>(rt: &R, listener: &TcpListener) -> Result<SocketAddr> {
+    let addr = listener.local_addr()?;
+    println!(rt; "listening {addr}")?;
+    if addr.ip().is_unspecified() {
+        rt.eprintln(
+            "warning: all networks can reach the node, and names and rows cross them in plain",
+        ).ok();
+    }
+    Ok(addr)
+}
+
+/// Opens the control socket of this path, if there is one, and prints it.
+fn open_door<R: Files + Net + Print>(
+    rt: &R,
+    alloc: Global,
+    path: Option<&str>,
+    number: u32,
+) -> Result<Option<UnixListener>> {
+    let Some(path) = path else {
+        return Ok(None);
+    };
+    let door = control::bind(rt, alloc, path, number)?;
+    rt.println(format!(in alloc; "control {path}")?.as_str())?;
+    Ok(Some(door))
 }
 
 /// Serves all connections and links until the end. The lanes come back.
@@ -193,11 +206,10 @@ fn serve<R>(
     alloc: Global,
     hub: &Hub,
     plan: &mut Plan<'_>,
-    closer: &Closer<'_>,
-    arrivals: Option<&Arrivals>,
+    listener: Option<TcpListener>,
     lanes: Vec<Lane>,
-    door: Option<&Door<'_>>,
-    streams: Streams<'_>,
+    door: Option<&UnixListener>,
+    lines: &LineQueue,
 ) -> Result<Vec<Lane>>
 where
     R: Net<Listener = TcpListener, Stream = TcpStream>
@@ -205,29 +217,29 @@ where
         + Wait
         + Clock
         + Files
+        + Print
         + Eprint
         + Sync,
 {
-    let Some((seat, seen)) = hub.enter(rt, alloc) else {
+    let Some((seat, seen)) = hub.enter(rt) else {
         bail!("out of memory");
     };
     let operator = Operator::new(seat, door.is_none());
-    thread::scope(thread::scope_env(), rt, |scope| {
-        let are_made = start_all(scope, rt, alloc, hub, &operator, seen, streams, door)
-            && start_closing(scope, rt, alloc, hub, closer)
-            && start_arrivals(scope, rt, arrivals);
-        let ended = live_on(rt, alloc, hub, plan, closer, arrivals, lanes, are_made);
+    let ended = thread::scope(thread::scope_env(), rt, |scope| {
+        let are_made = start_all(scope, rt, alloc, hub, &operator, seen, lines, door);
+        let ended = live_on(rt, alloc, hub, plan, listener, lanes, are_made);
         hub.quit(rt);
-        streams.end(rt);
-        closer.end(rt);
-        if let Some(arrivals) = arrivals {
-            arrivals.shut(rt);
-        }
+        lines.end(rt);
         if let Some(door) = door {
-            door.shut();
+            // A listener that can't be shut has failed already.
+            control::shut(door).ok();
         }
         ended
-    })
+    });
+    if operator.has_failed() {
+        bail!("standard output can't be written");
+    }
+    ended
 }
 
 /// One life after another, until the program is to end; none where the threads for commands couldn't be made.
@@ -236,8 +248,7 @@ fn live_on<R>(
     alloc: Global,
     hub: &Hub,
     plan: &mut Plan<'_>,
-    closer: &Closer<'_>,
-    arrivals: Option<&Arrivals>,
+    listener: Option<TcpListener>,
     lanes: Vec<Lane>,
     are_made: bool,
 ) -> Result<Vec<Lane>>
@@ -253,119 +264,78 @@ where
     if !are_made {
         bail!("no thread can be made");
     }
+    let mut listener = listener;
     let mut lanes = lanes;
     for _ in rt.forever() {
-        let ended = live(rt, alloc, hub, &plan.links, arrivals, lanes);
+        let ended = live(rt, alloc, hub, &plan.links, listener, lanes);
         if hub.is_quitting() {
             return Ok(ended);
         }
-        lanes = begin_anew(rt, alloc, hub, plan, closer, ended)?;
+        (listener, lanes) = live_again(rt, alloc, hub, plan, ended)?;
     }
     unreachable!()
 }
 
-/// The lanes of the next life. The last one is closed behind it, unless it has to give its memory first.
-fn begin_anew<R: Wait + Eprint>(
+/// What the next life is begun with.
+fn live_again<R>(
     rt: &R,
     alloc: Global,
     hub: &Hub,
     plan: &mut Plan<'_>,
-    closer: &Closer<'_>,
     ended: Vec<Lane>,
-) -> Result<Vec<Lane>> {
-    let wants_memory = check_memory(rt, hub, closer)?;
-    closer.reserve.release(rt);
+) -> Result<(Option<TcpListener>, Vec<Lane>)>
+where
+    R: Net<Listener = TcpListener, Stream = TcpStream> + Wait + Files,
+{
     let (maker, opening) = (&mut plan.maker, &mut plan.opening);
-    let (lanes, life) = turn(rt, alloc, hub, ended, maker, opening)?;
-    closer.put(rt, life);
-    if wants_memory {
-        closer.wait_until_idle(rt);
-    }
-    Ok(lanes)
-}
-
-/// Whether the life ends for want of memory, which is told. An error where another life would have no more.
-fn check_memory<R: Wait + Eprint>(rt: &R, hub: &Hub, closer: &Closer<'_>) -> Result<bool> {
-    let shared_memory = closer.wait_until_idle(rt);
-    let shared = hub.node.shared.lock(rt);
-    let entries = shared.core().audit().len();
-    let wants_memory = hub.wants_memory(&shared);
-    drop(shared);
-    if wants_memory && entries < FEWEST && !shared_memory {
-        bail!("out of memory");
-    }
-    if wants_memory {
-        rt.eprintln("warning: out of memory: the node begins anew")
-            .ok();
-    }
-    Ok(wants_memory)
+    let lanes = turn(rt, alloc, hub, ended, maker, plan.audit, opening)?;
+    let listener = match plan.addr {
+        Some(addr) => Some(bind(rt, addr)?),
+        None => None,
+    };
+    Ok((listener, lanes))
 }
 
 /// Starts the threads for commands: whether all could be made.
-fn start_all<'s, E: 's, R: Threads + Wait + Clock + Eprint + Sync + 's>(
+fn start_all<'s, E: 's, R: Threads + Wait + Clock + Print + Sync + 's>(
     scope: &'s Scope<'s, E>,
     rt: &'s R,
     alloc: Global,
     hub: &'s Hub,
     operator: &'s Operator,
     seen: Seen,
-    streams: Streams<'s>,
-    door: Option<&'s Door<'_>>,
+    lines: &'s LineQueue,
+    door: Option<&'s UnixListener>,
 ) -> bool {
-    start_answering(scope, rt, alloc, hub, operator, streams)
-        && start_telling(scope, rt, alloc, hub, operator, seen, streams)
-        && start_watching(scope, rt, hub, operator, streams)
+    start_answering(scope, rt, alloc, hub, operator, lines)
+        && start_telling(scope, rt, alloc, hub, operator, seen, lines)
         && start_control(scope, rt, alloc, hub, door)
 }
 
-fn start_answering<'s, E: 's, R: Threads + Wait + Sync + 's>(
+fn start_answering<'s, E: 's, R: Threads + Wait + Print + Sync + 's>(
     scope: &'s Scope<'s, E>,
     rt: &'s R,
     alloc: Global,
     hub: &'s Hub,
     operator: &'s Operator,
-    streams: Streams<'s>,
+    lines: &'s LineQueue,
 ) -> bool {
     scope
-        .spawn(move || operator.answer(rt, alloc, hub, streams.lines, streams.output))
+        .spawn(move || operator.answer(rt, alloc, hub, lines))
         .is_ok()
 }
 
-fn start_telling<'s, E: 's, R: Threads + Wait + Sync + 's>(
+fn start_telling<'s, E: 's, R: Threads + Wait + Print + Sync + 's>(
     scope: &'s Scope<'s, E>,
     rt: &'s R,
     alloc: Global,
     hub: &'s Hub,
     operator: &'s Operator,
     seen: Seen,
-    streams: Streams<'s>,
+    lines: &'s LineQueue,
 ) -> bool {
     scope
-        .spawn(move || operator.tell(rt, alloc, hub, seen, streams.lines, streams.output))
-        .is_ok()
-}
-
-fn start_watching<'s, E: 's, R: Threads + Wait + Eprint + Sync + 's>(
-    scope: &'s Scope<'s, E>,
-    rt: &'s R,
-    hub: &'s Hub,
-    operator: &'s Operator,
-    streams: Streams<'s>,
-) -> bool {
-    scope
-        .spawn(move || operator.watch(rt, hub, streams.output))
-        .is_ok()
-}
-
-fn start_closing<'s, E: 's, R: Threads + Wait + Files + Eprint + Sync + 's>(
-    scope: &'s Scope<'s, E>,
-    rt: &'s R,
-    alloc: Global,
-    hub: &'s Hub,
-    closer: &'s Closer<'_>,
-) -> bool {
-    scope
-        .spawn(move || closer.close_all(rt, alloc, hub))
+        .spawn(move || operator.tell(rt, alloc, hub, seen, lines))
         .is_ok()
 }
 
@@ -374,24 +344,12 @@ fn start_control<'s, E: 's, R: Threads + Wait + Clock + Sync + 's>(
     rt: &'s R,
     alloc: Global,
     hub: &'s Hub,
-    door: Option<&'s Door<'_>>,
+    door: Option<&'s UnixListener>,
 ) -> bool {
     match door {
         Some(door) => scope
-            .spawn(move || serve_control(rt, alloc, hub, door))
+            .spawn(move || control::serve_control(rt, alloc, hub, door))
             .is_ok(),
-        None => true,
-    }
-}
-
-/// Starts the thread that takes connections of peers, where there is an address for them: whether it could be made.
-fn start_arrivals<'s, E: 's, R: Threads + Wait + Clock + Sync + 's>(
-    scope: &'s Scope<'s, E>,
-    rt: &'s R,
-    arrivals: Option<&'s Arrivals>,
-) -> bool {
-    match arrivals {
-        Some(arrivals) => start_taking(scope, rt, arrivals),
         None => true,
     }
 }

@@ -1,6 +1,6 @@
 //! From one life of the node to the next.
-use crate::closing::EndedLife;
-use crate::hub::{House, Hub};
+use crate::audit_file::write_audit;
+use crate::hub::{House, Hub, SEATS};
 use crate::life::LANES;
 use crate::settings::held;
 use anyhow::{Result, bail};
@@ -13,14 +13,13 @@ use pg_session::{Caller, Session};
 use policy_audit::{Event, Opening};
 use rand_chacha::ChaCha20Rng;
 use std::alloc::Global;
-use std::mem::{replace, swap};
-use std::sync::{Mutex, Wait};
+use std::fs::Files;
+use std::mem::swap;
+use std::sync::Wait;
 use std::vec;
 
-/// The passes of a node with this many seats of connections: that of the keeper, one for each seat, and two for each lane.
-fn passes_for(seats: u32) -> u32 {
-    seats.saturating_add(1 + 2 * LANES as u32)
-}
+/// The passes of a node: that of the keeper, one for each seat of a connection, and two for each lane.
+const PASSES: u32 = 1 + SEATS as u32 + 2 * LANES as u32;
 
 /// Makes the lanes of each life. No two of them draw the same challenges.
 #[derive(Drop)]
@@ -78,24 +77,13 @@ pub fn begin<R: Wait>(
     rt: &R,
     alloc: Global,
     opening: &Opening,
-    seats: u32,
     settings: Vec<Event>,
     maker: &mut LaneMaker,
 ) -> Result<(Hub, Vec<Lane>)> {
-    let (node, passes) = Node::new(alloc, copy(alloc, opening)?, passes_for(seats))?;
+    let (node, passes) = Node::new(alloc, copy(alloc, opening)?, PASSES)?;
     let mut passes = passes.into_iter();
-    let (house, lanes) = settle_in(rt, alloc, &node, &mut passes, seats, settings, maker)?;
-    let hub = Hub::new(alloc, node, house, seats, opening.entries);
-    check_room(rt, &hub, &hub.node)?;
-    Ok((hub, lanes))
-}
-
-/// An error where what a new node was told first leaves no room.
-fn check_room<R: Wait>(rt: &R, hub: &Hub, node: &Node) -> Result<()> {
-    if hub.is_nearly_full(node.shared.lock(rt).core()) {
-        bail!("--entries: too few for the cookies, names and scopes that were set");
-    }
-    Ok(())
+    let (house, lanes) = settle_in(rt, alloc, &node, &mut passes, settings, maker)?;
+    Ok((Hub::new(node, house, opening.entries), lanes))
 }
 
 /// Gives all passes of a new node away.
@@ -104,12 +92,11 @@ fn settle_in<R: Wait>(
     alloc: Global,
     node: &Node,
     passes: &mut vec::IntoIter<Pass>,
-    seats: u32,
     settings: Vec<Event>,
     maker: &mut LaneMaker,
 ) -> Result<(House, Vec<Lane>)> {
     let keeper = new_keeper(rt, node, passes, settings)?;
-    let sessions = new_sessions(alloc, passes, seats)?;
+    let sessions = new_sessions(alloc, passes)?;
     let house = House { keeper, sessions };
     Ok((house, maker.make_all(alloc, passes)?))
 }
@@ -125,15 +112,10 @@ fn new_keeper<R: Wait>(
     Ok(keeper)
 }
 
-fn new_sessions(
-    alloc: Global,
-    passes: &mut vec::IntoIter<Pass>,
-    seats: u32,
-) -> Result<Vec<Mutex<Session>>> {
+fn new_sessions(alloc: Global, passes: &mut vec::IntoIter<Pass>) -> Result<Vec<Session>> {
     let mut sessions = Vec::new(alloc);
-    for _ in 0..seats {
-        let session = Session::new(alloc, next_caller(passes)?);
-        sessions.push(Mutex::new(session))?;
+    for _ in 0..SEATS {
+        sessions.push(Session::new(alloc, next_caller(passes)?))?;
     }
     Ok(sessions)
 }
@@ -148,25 +130,39 @@ fn set_up<R: Wait>(rt: &R, node: &Node, keeper: &mut Pass, settings: Vec<Event>)
     Ok(())
 }
 
-/// Ends a life, whose lanes have come back, and begins the next one with the next creation: the lanes of that, and the life that has
-/// ended.
-pub fn turn<R: Wait>(
+/// Ends a life, whose lanes have come back, and begins the next one with the next creation: the lanes of that.
+pub fn turn<R: Wait + Files>(
     rt: &R,
     alloc: Global,
     hub: &Hub,
     lanes: Vec<Lane>,
     maker: &mut LaneMaker,
+    file: Option<&str>,
     opening: &mut Opening,
-) -> Result<(Vec<Lane>, EndedLife)> {
+) -> Result<Vec<Lane>> {
     opening.creation = opening.creation.wrapping_add(1).max(1);
-    let (node, new) = Node::new(alloc, copy(alloc, opening)?, passes_for(hub.seats))?;
-    let mut new = new.into_iter();
-    let mut passes = passes_of(alloc, hub.seats, lanes)?;
-    change_lives(rt, alloc, hub, &node, &mut new, &mut passes)?;
-    Ok((maker.make_all(alloc, &mut new)?, EndedLife { node, passes }))
+    let (ended, passes) = Node::new(alloc, copy(alloc, opening)?, PASSES)?;
+    let mut passes = passes.into_iter();
+    turn_with(rt, alloc, hub, ended, &mut passes, lanes, file)?;
+    maker.make_all(alloc, &mut passes)
 }
 
-/// Puts the life of a new node into the hub, and the old one into this node.
+/// Begins the life of a new node, and ends that of the old one in its place.
+fn turn_with<R: Wait + Files>(
+    rt: &R,
+    alloc: Global,
+    hub: &Hub,
+    node: Node,
+    passes: &mut vec::IntoIter<Pass>,
+    lanes: Vec<Lane>,
+    file: Option<&str>,
+) -> Result<()> {
+    let mut old = passes_of(alloc, lanes)?;
+    change_lives(rt, alloc, hub, &node, passes, &mut old)?;
+    close(rt, alloc, node, old, file)
+}
+
+/// Puts a new life into the hub, and the old one into this node.
 fn change_lives<R: Wait>(
     rt: &R,
     alloc: Global,
@@ -177,26 +173,39 @@ fn change_lives<R: Wait>(
 ) -> Result<()> {
     change_house(rt, alloc, hub, node, passes, old)?;
     hub.wake(rt);
+    if hub.is_nearly_full(hub.node.shared.lock(rt).core()) {
+        bail!("--entries: too few for the cookies, names and scopes that were set");
+    }
     Ok(())
 }
 
-/// The same under the lock of the house. The new life is told first what held at the end of the old one, so that nobody is let in
-/// where that leaves no room.
+/// The same under the lock of the house.
 fn change_house<R: Wait>(
     rt: &R,
     alloc: Global,
     hub: &Hub,
-    node: &Node,
+    ended: &Node,
     passes: &mut vec::IntoIter<Pass>,
     old: &mut Vec<Pass>,
 ) -> Result<()> {
-    let mut house = hub.house.write(rt);
-    let settings = held(alloc, hub.node.shared.lock(rt).core())?;
-    let keeper = new_keeper(rt, node, passes, settings)?;
-    check_room(rt, hub, node)?;
-    swap(&mut *hub.node.shared.lock(rt), &mut *node.shared.lock(rt));
-    hub.begin_anew();
-    change_passes(rt, hub, &mut house, keeper, passes, old)
+    let mut house = hub.house.lock(rt);
+    swap(&mut *hub.node.shared.lock(rt), &mut *ended.shared.lock(rt));
+    begin_anew(rt, alloc, hub, ended, &mut house, passes, old)
+}
+
+/// Gives the house the passes of the new life, which is told what held at the end of the old one.
+fn begin_anew<R: Wait>(
+    rt: &R,
+    alloc: Global,
+    hub: &Hub,
+    ended: &Node,
+    house: &mut House,
+    passes: &mut vec::IntoIter<Pass>,
+    old: &mut Vec<Pass>,
+) -> Result<()> {
+    let settings = held(alloc, ended.shared.lock(rt).core())?;
+    change_passes(rt, hub, house, passes, old)?;
+    set_up(rt, &hub.node, &mut house.keeper, settings)
 }
 
 /// Gives the keeper and all sessions the passes of the new life, and takes those of the old one.
@@ -204,23 +213,23 @@ fn change_passes<R: Wait>(
     rt: &R,
     hub: &Hub,
     house: &mut House,
-    keeper: Pass,
     passes: &mut vec::IntoIter<Pass>,
     old: &mut Vec<Pass>,
 ) -> Result<()> {
-    old.push(replace(&mut house.keeper, keeper))?;
+    let mut keeper = next_pass(passes)?;
+    swap(&mut house.keeper, &mut keeper);
+    old.push(keeper)?;
     let shared = hub.node.shared.lock(rt);
     change_callers(shared.core(), &mut house.sessions, passes, old)
 }
 
 fn change_callers(
     core: &NodeCore,
-    sessions: &mut Vec<Mutex<Session>>,
+    sessions: &mut Vec<Session>,
     passes: &mut vec::IntoIter<Pass>,
     old: &mut Vec<Pass>,
 ) -> Result<()> {
     for session in sessions.iter_mut() {
-        let session = session.get_mut();
         let ended = session.begin_anew(next_caller(passes)?, core);
         old.push(ended.into_pass())?;
     }
@@ -238,10 +247,8 @@ fn copy(alloc: Global, opening: &Opening) -> Result<Opening> {
     })
 }
 
-fn passes_of(alloc: Global, seats: u32, lanes: Vec<Lane>) -> Result<Vec<Pass>> {
+fn passes_of(alloc: Global, lanes: Vec<Lane>) -> Result<Vec<Pass>> {
     let mut passes = Vec::new(alloc);
-    // All at once, so that no want of memory comes between the two lives.
-    passes.reserve(passes_for(seats) as usize)?;
     for lane in lanes {
         let (reader, writer) = lane.into_passes();
         passes.push(reader)?;
@@ -251,24 +258,43 @@ fn passes_of(alloc: Global, seats: u32, lanes: Vec<Lane>) -> Result<Vec<Pass>> {
 }
 
 /// The end of the last life.
-pub fn last(alloc: Global, hub: Hub, lanes: Vec<Lane>) -> Result<EndedLife> {
-    let seats = hub.seats;
+pub fn finish<R: Wait + Files>(
+    rt: &R,
+    alloc: Global,
+    hub: Hub,
+    lanes: Vec<Lane>,
+    file: Option<&str>,
+) -> Result<()> {
     let (node, house) = hub.into_parts();
-    let passes = all_passes(alloc, seats, lanes, house)?;
-    Ok(EndedLife { node, passes })
+    let passes = all_passes(alloc, lanes, house)?;
+    close(rt, alloc, node, passes, file)
 }
 
-fn all_passes(alloc: Global, seats: u32, lanes: Vec<Lane>, house: House) -> Result<Vec<Pass>> {
-    let mut passes = passes_of(alloc, seats, lanes)?;
+fn all_passes(alloc: Global, lanes: Vec<Lane>, house: House) -> Result<Vec<Pass>> {
+    let mut passes = passes_of(alloc, lanes)?;
     let House { keeper, sessions } = house;
     passes.push(keeper)?;
     add_sessions(sessions, &mut passes)?;
     Ok(passes)
 }
 
-fn add_sessions(sessions: Vec<Mutex<Session>>, passes: &mut Vec<Pass>) -> Result<()> {
+fn add_sessions(sessions: Vec<Session>, passes: &mut Vec<Pass>) -> Result<()> {
     for session in sessions {
-        passes.push(session.into_inner().into_caller().into_pass())?;
+        passes.push(session.into_caller().into_pass())?;
     }
     Ok(())
+}
+
+/// Settles all passes of a life that has ended, and writes its audit.
+fn close<R: Files>(
+    rt: &R,
+    alloc: Global,
+    node: Node,
+    passes: Vec<Pass>,
+    file: Option<&str>,
+) -> Result<()> {
+    match node.close(passes) {
+        Ok(closed) => write_audit(rt, alloc, file, closed.core.audit()),
+        Err(fault) => bail!("the node is not closed: {}", fault.rule),
+    }
 }

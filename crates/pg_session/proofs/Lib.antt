@@ -1,4 +1,3 @@
 pub mod Asking
 pub mod Callers
 pub mod Telling
-pub mod Places

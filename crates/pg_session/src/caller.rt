@@ -1,18 +1,18 @@
 //! The right of a connection to call the node.
-ghost use Rattle.std.specs.Prelude.{◌≡◌, ◌⊎◌, ◌↔◌, ◌++◌, true, length, map, IsTrue, IfErr, IfOk, OnOk, Result, Ok, Err};
+ghost use Rattle.std.specs.Prelude.{◌≡◌, ◌⊎◌, ◌++◌, true, map, IfErr, IfOk, OnOk, Result, Ok, Err};
 ghost use Rattle.std.specs.List.{flat_map};
 ghost use Rattle.policy_audit.specs.declared.event.Event.TheVariants.{Updates};
 ghost use Rattle.policy_audit.specs.declared.reply.Reply.{Reply};
 ghost use Rattle.node_threads.specs.declared.fault.CallFault.{CallFault};
-ghost use Rattle.node_threads.specs.Applied.{Called, Fits, answer_now};
+ghost use Rattle.node_threads.specs.Applied.{Called, answer_now};
 ghost use Rattle.pg_session.specs.Processes.{spawned};
-ghost use Rattle.pg_session.specs.Calls.{IsCalled, AreConnections, call_line, stranger_line, may_call};
+ghost use Rattle.pg_session.specs.Calls.{IsCalled, AreConnections, call_line, may_call};
 ghost use Rattle.pg_session.specs.Outcomes.{IsOutcome, CameFrom};
-ghost use Rattle.pg_session.specs.Notices.{change, notice_line, fetched, Known, Tells};
+ghost use Rattle.pg_session.specs.Notices.{change, notice_line, fetched, Tells};
 
 use dist_types::{OutOfMemory, Pid, TryClone};
 use node_core::CoreFault;
-use node_threads::{CallFault, Node, Pass, Shared};
+use node_threads::{CallFault, Node, Pass};
 use pg_text::{put_accepted, put_told, put_unanswered, put_word};
 use policy_audit::{Event, Reply, Rule, Update};
 use std::alloc::Global;
@@ -75,26 +75,12 @@ impl Caller {
         }
     }
 
-    /// How many of its calls are entries.
-    pub fn calls(&self) -> usize
-        ensures { result ≡ length self.now.calls }
-    {
-        self.pass.calls().len()
-    }
-
     pub fn into_pass(self) -> Pass
         ensures same { result ≡ self }
         ensures connections { AreConnections result.calls }
     {
         let Caller { pass } = self;
         pass
-    }
-
-    /// Whether the node would take a call.
-    pub fn is_known_to(&self, shared: &Shared) -> bool
-        ensures { IsTrue result ↔ Fits shared.now self.now }
-    {
-        shared.knows(&self.pass)
     }
 
     /// Makes a call, and adds the line of its answer. The outcome is told also where there is no memory for the line.
@@ -126,7 +112,7 @@ impl Caller {
         out: &mut Vec<u8>,
     ) -> Result<Fetched, OutOfMemory>
         ensures called { IsCalled self.old (Updates number) self.new }
-        ensures told { OnOk result ((known : Known) → Tells self.old known out.old.items self.new known out.new.items) }
+        ensures told { OnOk result (Tells self.old out.old.items self.new out.new.items) }
     {
         let answer = self.pass.call(node, rt, Event::Updates(number));
         put_fetched(alloc, number, answer, out)
@@ -187,15 +173,8 @@ fn put_call_fault(fault: CallFault, out: &mut Vec<u8>) -> Result<(), OutOfMemory
 {
     match fault {
         CallFault::Core(fault) => put_unanswered(fault, out),
-        CallFault::StrangePass => put_stranger(out),
+        CallFault::StrangePass => put_word("fault the pass isn't of this node\n", out),
     }
-}
-
-/// Adds the line for a pass that the node doesn't know.
-pub fn put_stranger(out: &mut Vec<u8>) -> Result<(), OutOfMemory>
-    ensures { OnOk result (out.new.items ≡ out.old.items ++ stranger_line) }
-{
-    put_word("fault the pass isn't of this node\n", out)
 }
 
 /// Adds a line for each update that a monitor was told, if it was.

@@ -2,20 +2,13 @@
 #![tactic(auto)]
 
 mod caller;
-mod leaving;
 mod news;
-mod notice;
 mod processes;
 mod reading;
 mod request;
-mod roster;
 mod session;
-mod stake;
-mod stops;
 mod watch;
 
 pub use caller::Caller;
-pub use news::{LostLinks, Seen};
-pub use notice::DownReason;
-pub use roster::Roster;
+pub use news::Seen;
 pub use session::{Next, Session};

@@ -14,4 +14,4 @@ returns-clause-called g c = rw (← c.self.view_is) (_, c.call-answer.follows.ho
 pub returns-clause-told : goal.returns-clause-told
 returns-clause-told g c =
     rw (← c.self.view_is)
-    (on_ok c.put_fetched.result (λ is known. tells_fetched c.args.number known c.self.inside.pass c.call-answer.follows.lender-at-none c.args.out.now.items c.put_fetched.new.out.items _ c.call-answer.follows.holds-at-none is) c.put_fetched.ensures)
+    (on_ok c.put_fetched.result (λ is. tells_fetched c.args.number c.self.inside.pass c.call-answer.follows.lender-at-none c.args.out.now.items c.put_fetched.new.out.items _ c.call-answer.follows.holds-at-none is) c.put_fetched.ensures)

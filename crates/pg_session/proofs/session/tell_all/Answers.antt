@@ -1,0 +1,20 @@
+use Rattle.std.proofs.Common.{refl}
+use Rattle.pg_session.proofs.Callers.{goes_none, goes_further, called_or_on}
+use Rattle.pg_session.proofs.Telling.{others_none, tells_others, tells_more}
+use Rattle.pg_session.proofs.session.tell_all.Goals as goal
+
+pub loop-watch-init : goal.loop-watch-init
+loop-watch-init g c = record {
+  goes = goes_none c.args.caller.now c.args.caller.now refl;
+  told = tells_others c.args.caller.now c.args.caller.now c.args.out.now.items c.args.out.now.items refl (others_none c.args.out.now.items);
+}
+
+pub loop-watch-preserved : goal.loop-watch-preserved
+loop-watch-preserved g c = record {
+  goes = goes_further c.args.caller.now c.loop-watch.caller c.tell.new.caller c.loop-watch.invariant.goes (called_or_on c.loop-watch.caller c.tell.new.caller _ c.tell.ensures.called);
+  told = tells_more c.args.caller.now c.loop-watch.caller c.tell.new.caller c.args.out.now.items c.loop-watch.out.items c.tell.new.out.items c.loop-watch.invariant.told c.in_ok-tell.ensures.told;
+}
+
+pub returns-in_err-tell-clause-goes : goal.returns-in_err-tell-clause-goes
+returns-in_err-tell-clause-goes g c =
+    goes_further c.args.caller.now c.loop-watch.caller c.tell.new.caller c.loop-watch.invariant.goes (called_or_on c.loop-watch.caller c.tell.new.caller _ c.tell.ensures.called)
