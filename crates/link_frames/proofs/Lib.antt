@@ -4,3 +4,6 @@ pub mod LinkLemmas
 pub mod HeldLemmas
 pub mod ReadingLemmas
 pub mod StandardFacts
+pub mod PartLemmas
+pub mod PartLaws
+pub mod PartOrders

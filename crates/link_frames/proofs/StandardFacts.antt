@@ -19,7 +19,9 @@ unfolding message scope
 read_sync = refl
 
 read_join : message (0x4A ∷ scope ++ 0 ∷ 0 ∷ 0 ∷ 1 ∷ row)
-    ≡ Some (messages.Join (codes "pg") (record { group = codes "g"; pid = record { node = codes "a@h"; creation = 5; number = 1 } } ∷ []))
+    ≡ Some (messages.Join (codes "pg")
+    (record { group = codes "g"; pid = record { node = codes "a@h"; creation = 5; number = 1 } }
+    ∷ []))
 unfolding message scope row
 read_join = refl
 

@@ -1,24 +1,33 @@
 -- The words that the proofs of this crate cite, passed on from one place.
 pub use Rattle.std.specs.Prelude.{All, List, [], length, ◌*◌, ◌∷◌, ◌≤◌}
-pub use Rattle.std.proofs.Common.{Bool, Err, IsTrue, None, Ok, Option, Result, Some, ap, append-nil, append_assoc, arith, codes, cond, drop, false}
-pub use Rattle.std.proofs.Common.{filter, get_or, inl, inr, length-append, nat_le, nat_lt, refl, replicate, rules, subst, suc, sym, take, true, zero}
-pub use Rattle.std.proofs.Common.{ℕ, ◌&&◌, ◌++◌, ◌+◌, ◌-◌, ◌<◌, ◌==◌, ◌^◌, ◌↔◌, ◌∙◌, ◌≡◌, ◌≢◌}
+pub use Rattle.std.proofs.Common.{Bool, Err, IsTrue, None, Ok, Option, Result, Some, ap, append-nil}
+pub use Rattle.std.proofs.Common.{append_assoc, arith, codes, cond, drop, false, filter, get_or}
+pub use Rattle.std.proofs.Common.{inl, inr, length-append, nat_le, nat_lt, refl, replicate, rules}
+pub use Rattle.std.proofs.Common.{subst, suc, sym, take, true, zero, ℕ, ◌&&◌, ◌++◌, ◌+◌, ◌-◌, ◌<◌}
+pub use Rattle.std.proofs.Common.{◌==◌, ◌^◌, ◌↔◌, ◌∙◌, ◌≡◌, ◌≢◌}
 pub use Rattle.std.proofs.lemmas.Bool.{and_from, and_parts}
 pub use Rattle.std.proofs.lemmas.Bool.Decides.{Decides-and, Decides-by_and, Decides-eqb}
 pub use Rattle.std.proofs.lemmas.Grind.{flat_map-append}
-pub use Rattle.std.proofs.lemmas.List.{append_cancel_left, drop_all, drop_at, flat_map_more, length_push, nil_from_length}
-pub use Rattle.std.proofs.lemmas.List.{take-append-drop, take_all, take_at, take_more}
-pub use Rattle.std.proofs.lemmas.List.Elements.{All-append, All-cons, All-head, All-nil, All-push, All-replicate, All-same, All-tail, filter-append}
-pub use Rattle.std.proofs.lemmas.Nat.{from_be_bytes-to_be_bytes_2, from_be_bytes-to_be_bytes_4, from_be_bytes-to_be_bytes_8}
+pub use Rattle.std.proofs.lemmas.List.{append_cancel_left, drop_all, drop_at, flat_map_more}
+pub use Rattle.std.proofs.lemmas.List.{length_push, nil_from_length, take-append-drop, take_all}
+pub use Rattle.std.proofs.lemmas.List.{take_at, take_more}
+pub use Rattle.std.proofs.lemmas.List.Elements.{All-append, All-cons, All-head, All-nil, All-push}
+pub use Rattle.std.proofs.lemmas.List.Elements.{All-replicate, All-same, All-tail, filter-append}
+pub use Rattle.std.proofs.lemmas.Nat.{from_be_bytes-to_be_bytes_2, from_be_bytes-to_be_bytes_4}
+pub use Rattle.std.proofs.lemmas.Nat.{from_be_bytes-to_be_bytes_8}
 pub use Rattle.std.specs.Int.{from_be_bytes, to_be_bytes, w16, w32, w64}
 pub use Rattle.std.specs.List.{flat_map, list_all}
 pub use Rattle.std.specs.Option.{IfSome, IsSomeAnd, ok_or, option_to_list}
+pub use Rattle.dist_types.specs.Listing.{max_rows}
 pub use Rattle.dist_types.specs.declared.row.Row.{Row}
 pub use Rattle.handshake_frames.specs.Spelling.{counted}
-pub use Rattle.handshake_frames.specs.Stream.{Call, FitsLength, IsPartial, Splits, bodies_of, stream_of}
-pub use Rattle.link_frames.specs.Reading.{are_rows, behind_name, behind_text, counted_rows_in, is_message, is_row, messages_in, row_in}
-pub use Rattle.link_frames.specs.Reading.{rows_in, text_in}
+pub use Rattle.handshake_frames.specs.Stream.{Call, FitsLength, IsPartial, Splits, bodies_of}
+pub use Rattle.handshake_frames.specs.Stream.{stream_of}
+pub use Rattle.link_frames.specs.Reading.{are_rows, behind_name, behind_text, counted_rows_in}
+pub use Rattle.link_frames.specs.Reading.{is_message, is_row, messages_in, row_in, rows_in, text_in}
 unfoldable pub use Rattle.link_frames.specs.Reading.{message}
-pub use Rattle.link_frames.specs.Spelling.{AreRows, IsMessage, IsRow, SpellsMessage, message_bytes, row_bytes, rows_bytes, text_bytes}
-pub use Rattle.link_frames.specs.Stream.{AreFed, BeginsTooLong, ComesTooLong, IsFed, IsRest, SplitsLink, is_body, max_body, ticks}
+pub use Rattle.link_frames.specs.Spelling.{AreRows, IsMessage, IsRow, SpellsMessage, message_bytes}
+pub use Rattle.link_frames.specs.Spelling.{row_bytes, rows_bytes, text_bytes}
+pub use Rattle.link_frames.specs.Stream.{AreFed, BeginsTooLong, ComesTooLong, IsFed, IsRest}
+pub use Rattle.link_frames.specs.Stream.{SplitsLink, is_body, max_body, ticks}
 pub use Rattle.link_frames.specs.declared.message.Message.{Message}

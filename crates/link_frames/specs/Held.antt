@@ -1,7 +1,7 @@
 -- What a reader of the stream after the handshake holds between two pieces.
 use Rattle.std.specs.Prelude.{◌≡◌, ⊤, ℕ, ◌≤◌, ◌<◌, List, [], ◌++◌, Option, Some, None, length, take}
 use Rattle.std.specs.Int.{w32}
-use Rattle.handshake_frames.specs.Part.{part_len, part_bytes}
+use Rattle.handshake_frames.specs.BodySoFar.{whole_len, bytes_so_far}
 use Rattle.link_frames.specs.Stream.{max_body, ticks, ComesTooLong}
 use Rattle.link_frames.specs.declared.fault.FeedFault.{FeedFault}
 use Rattle.link_frames.specs.declared.fault.FeedFault.TheVariants as faults
@@ -11,17 +11,17 @@ use Rattle.link_frames.specs.declared.held.Held.TheVariants.{Length, Body}
 -- the bytes used since the last body, without ticks at their front
 abbrev pub held_bytes : Held → List ℕ
 held_bytes (Length bytes) = bytes
-held_bytes (Body part) = part_bytes w32 part
+held_bytes (Body so_far) = bytes_so_far w32 so_far
 
 -- the length isn't whole, or is one of a body
 abbrev pub HasLength : Held → Type 0
 HasLength (Length bytes) = length bytes < 4
-HasLength (Body part) = (0 < part_len part) × (part_len part ≤ max_body)
+HasLength (Body so_far) = (0 < whole_len so_far) × (whole_len so_far ≤ max_body)
 
 -- a body that is held isn't whole
 abbrev pub IsUnfinished : Held → Type 0
 IsUnfinished (Length bytes) = ⊤
-IsUnfinished (Body part) = 0 < part.missing
+IsUnfinished (Body so_far) = 0 < so_far.missing
 
 -- between two pieces no body is whole
 pub record IsHeld (held : Held) : Type 0 where

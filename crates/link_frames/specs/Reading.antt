@@ -1,8 +1,9 @@
 -- A reader of messages that computes. A body spells at most one message of a kind; its fields stand one behind the other.
-use Rattle.std.specs.Prelude.{ℕ, zero, suc, ◌^◌, Bool, ◌&&◌, List, [], ◌∷◌, Option, length, take, drop, slice_range, find, nat_lt, nat_le, bytes_eq, get_or}
+use Rattle.std.specs.Prelude.{ℕ, zero, suc, ◌^◌, Bool, cond, ◌&&◌, List, [], ◌∷◌, Option, length, take, drop, slice_range, find, nat_lt, nat_le, bytes_eq, get_or}
 use Rattle.std.specs.Int.{w16, w32, w64, from_be_bytes}
 use Rattle.std.specs.List.{list_all}
 use Rattle.dist_types.specs.Text.{is_text, is_node_name}
+use Rattle.dist_types.specs.Listing.{max_rows}
 use Rattle.dist_types.specs.declared.row.Row.{Row}
 use Rattle.handshake_frames.specs.Reading.{counted_in}
 use Rattle.link_frames.specs.declared.message.Message.{Message}
@@ -37,17 +38,17 @@ abbrev pub rows_in : ℕ → List ℕ → List Row
 rows_in zero bytes = []
 rows_in (suc count) bytes = row_in bytes ∷ rows_in count (drop (length (row_bytes (row_in bytes))) bytes)
 
--- the only rows that stand behind their count in 4 bytes
+-- the only rows that can stand behind their count in 4 bytes, which is at most 4,096
 abbrev pub counted_rows_in : List ℕ → List Row
-counted_rows_in bytes = rows_in (from_be_bytes w32 (take 4 bytes)) (drop 4 bytes)
+counted_rows_in bytes = cond (nat_le (from_be_bytes w32 (take 4 bytes)) max_rows) (rows_in (from_be_bytes w32 (take 4 bytes)) (drop 4 bytes)) []
 
 -- whether group and name are within the limits of texts, and each number fits its field
 abbrev pub is_row : Row → Bool
 is_row row = is_text row.group && is_node_name row.pid.node && nat_lt row.pid.creation (2 ^ 32) && nat_lt row.pid.number (2 ^ 64)
 
--- whether the rows are at most 4,096, each within the limits
+-- whether the rows are no more than a message may bring, each within the limits
 abbrev pub are_rows : List Row → Bool
-are_rows rows = nat_le (length rows) 4096 && list_all is_row rows
+are_rows rows = nat_le (length rows) max_rows && list_all is_row rows
 
 -- whether the message is within the grammar
 abbrev pub is_message : Message → Bool

@@ -3,6 +3,7 @@ use Rattle.std.specs.Prelude.{◌≡◌, ⊤, ℕ, ◌^◌, ◌<◌, ◌≤◌, 
 use Rattle.std.specs.Int.{w16, w32, w64, to_be_bytes}
 use Rattle.std.specs.List.{flat_map}
 use Rattle.dist_types.specs.Text.{IsText, IsNodeName}
+use Rattle.dist_types.specs.Listing.{max_rows}
 use Rattle.dist_types.specs.declared.row.Row.{Row}
 use Rattle.handshake_frames.specs.Spelling.{counted}
 use Rattle.link_frames.specs.declared.message.Message.{Message}
@@ -35,9 +36,9 @@ pub record IsRow (row : Row) : Type 0 where
   pub creation : row.pid.creation < 2 ^ 32
   pub number : row.pid.number < 2 ^ 64
 
--- at most 4,096 rows, each within the limits
+-- no more rows than a message may bring, each within the limits
 pub record AreRows (rows : List Row) : Type 0 where
-  pub count : length rows ≤ 4096
+  pub count : length rows ≤ max_rows
   pub each : All IsRow rows
 
 -- the message is within the grammar; a Join and a Leave have a row
@@ -55,7 +56,7 @@ pub record SpellsMessage (body : List ℕ) (m : Message) : Type 0 where
 
 -- the count of the rows is within the grammar
 abbrev pub HasSpelling : Message → Type 0
-HasSpelling (messages.Sync scope rows) = length rows ≤ 4096
-HasSpelling (messages.Join scope rows) = (0 < length rows) × (length rows ≤ 4096)
-HasSpelling (messages.Leave scope rows) = (0 < length rows) × (length rows ≤ 4096)
+HasSpelling (messages.Sync scope rows) = length rows ≤ max_rows
+HasSpelling (messages.Join scope rows) = (0 < length rows) × (length rows ≤ max_rows)
+HasSpelling (messages.Leave scope rows) = (0 < length rows) × (length rows ≤ max_rows)
 HasSpelling m = ⊤

@@ -11,11 +11,8 @@ ghost use Rattle.link_frames.specs.Reading.{message};
 use crate::fault::MessageFault;
 use crate::fields::{row_at, scope_at};
 use crate::message::{Message, Rows};
-use dist_types::{Scope, u32_at};
+use dist_types::{MAX_ROWS, Scope, u32_at};
 use std::alloc::Global;
-
-/// The most rows of a message.
-const MAX_ROWS: u32 = 4096;
 
 /// The fewest bytes of a row: lengths 1 and 2, a group of 1, a name of 3, creation 4, number 8.
 const MIN_ROW: usize = 19;
@@ -57,7 +54,7 @@ fn message_of(alloc: Global, kind: u8, scope: Scope, rest: &[u8]) -> Result<Mess
     }
 }
 
-fn some_rows_at(alloc: Global, bytes: &[u8]) -> Result<Rows, MessageFault>
+pub fn some_rows_at(alloc: Global, bytes: &[u8]) -> Result<Rows, MessageFault>
     ensures found { IfOk result (λ rows. AreRows rows × (0 < length rows) × (bytes.now ≡ rows_bytes rows)) }
     ensures only { (rows : List Row) → AreRows rows → 0 < length rows → bytes.now ≡ rows_bytes rows →
         MatchResult result (λ read. read ≡ rows) (λ fault. fault ≡ faults.OutOfMemory) }
@@ -69,13 +66,13 @@ fn some_rows_at(alloc: Global, bytes: &[u8]) -> Result<Rows, MessageFault>
     Ok(rows)
 }
 
-fn rows_at(alloc: Global, bytes: &[u8]) -> Result<Rows, MessageFault>
+pub fn rows_at(alloc: Global, bytes: &[u8]) -> Result<Rows, MessageFault>
     ensures found { IfOk result (λ rows. AreRows rows × (bytes.now ≡ rows_bytes rows)) }
     ensures only { (rows : List Row) → AreRows rows → bytes.now ≡ rows_bytes rows →
         MatchResult result (λ read. read ≡ rows) (λ fault. fault ≡ faults.OutOfMemory) }
 {
     let (count, rest) = u32_at(bytes).ok_or(MessageFault::BadFrame)?;
-    if count > MAX_ROWS {
+    if count as usize > MAX_ROWS {
         return Err(MessageFault::BadFrame);
     }
     rows_of(alloc, count, rest)

@@ -1,6 +1,7 @@
 //! Messages to bodies.
 ghost use Rattle.std.specs.Prelude.{◌≡◌, ◌++◌, ◌∷◌, ◌≤◌, List, ℕ, length, OnOk, OnErr};
 ghost use Rattle.dist_types.specs.Text.{IsText};
+ghost use Rattle.dist_types.specs.Listing.{max_rows};
 ghost use Rattle.link_frames.specs.Spelling.{text_bytes, row_bytes, rows_bytes, message_bytes, IsRow, AreRows, IsMessage, HasSpelling};
 
 use crate::message::Message;
@@ -9,7 +10,7 @@ use dist_types::{OutOfMemory, Row, Scope};
 /// The bytes of a row beside its group and its name: lengths 1 and 2, creation 4, number 8.
 const ROW_NUMBERS: usize = 15;
 
-/// Appends the message's body. A Join and a Leave must have a row, and no message more than 4,096.
+/// Appends the message's body. A Join and a Leave must have a row, and no message more than `MAX_ROWS`.
 pub fn encode(message: &Message, out: &mut Vec<u8>) -> Result<(), OutOfMemory>
     requires { HasSpelling message.now }
     ensures ok { OnOk result (out.new.items ≡ out.old.items ++ message_bytes message.now) }
@@ -27,7 +28,7 @@ pub fn encode(message: &Message, out: &mut Vec<u8>) -> Result<(), OutOfMemory>
 }
 
 fn put_listing(kind: u8, scope: &Scope, rows: &[Row], out: &mut Vec<u8>) -> Result<(), OutOfMemory>
-    requires { length rows.now ≤ 4096 }
+    requires { length rows.now ≤ max_rows }
     ensures ok { OnOk result (out.new.items ≡ out.old.items ++ (kind ∷ text_bytes scope.now ++ rows_bytes rows.now)) }
     ensures limits { OnOk result (IsText scope.now × AreRows rows.now) }
     ensures same { OnErr result (out.new.items ≡ out.old.items) }
@@ -41,7 +42,7 @@ fn put_listing(kind: u8, scope: &Scope, rows: &[Row], out: &mut Vec<u8>) -> Resu
     Ok(())
 }
 
-fn put_scope(kind: u8, scope: &Scope, out: &mut Vec<u8>) -> Result<(), OutOfMemory>
+pub fn put_scope(kind: u8, scope: &Scope, out: &mut Vec<u8>) -> Result<(), OutOfMemory>
     ensures ok { OnOk result (out.new.items ≡ out.old.items ++ (kind ∷ text_bytes scope.now)) }
     ensures limits { IsText scope.now }
     ensures same { OnErr result (out.new.items ≡ out.old.items) }
@@ -54,8 +55,8 @@ fn put_scope(kind: u8, scope: &Scope, out: &mut Vec<u8>) -> Result<(), OutOfMemo
     Ok(())
 }
 
-fn put_rows(rows: &[Row], out: &mut Vec<u8>) -> Result<(), OutOfMemory>
-    requires { length rows.now ≤ 4096 }
+pub fn put_rows(rows: &[Row], out: &mut Vec<u8>) -> Result<(), OutOfMemory>
+    requires { length rows.now ≤ max_rows }
     ensures ok { OnOk result (out.new.items ≡ out.old.items ++ rows_bytes rows.now) }
     ensures limits { OnOk result (AreRows rows.now) }
     ensures grown { OnErr result ((rest : List ℕ) × (out.new.items ≡ out.old.items ++ rest)) }

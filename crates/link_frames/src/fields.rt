@@ -9,7 +9,8 @@ ghost use Rattle.link_frames.specs.Spelling.{text_bytes, row_bytes, IsRow};
 ghost use Rattle.link_frames.specs.declared.fault.MessageFault.TheVariants as faults;
 
 use crate::fault::MessageFault;
-use dist_types::{Group, NodeName, Pid, Row, Scope, TryClone, bytes_at, u16_at, u32_at, u64_at};
+use dist_types::{Group, NodeName, Pid, Row, Scope, TryClone, bytes_at, u32_at, u64_at};
+use handshake_frames::counted_at;
 use std::alloc::Global;
 
 pub fn scope_at(alloc: Global, bytes: &[u8]) -> Result<(Scope, &[u8]), MessageFault>
@@ -67,7 +68,7 @@ fn node_at<'a>(
     ensures only { (name rest : List ℕ) → IsNodeName name → bytes.now ≡ counted w16 name ++ rest →
         MatchResult result (λ read. (read.0 ≡ name) × (read.1.now ≡ rest)) (λ fault. fault ≡ faults.OutOfMemory) }
 {
-    let (text, rest) = long_at(bytes).ok_or(MessageFault::BadFrame)?;
+    let (text, rest) = counted_at(bytes).ok_or(MessageFault::BadFrame)?;
     let node = match before {
         Some(row) if row.pid.node.as_bytes() == text => row.pid.node.try_clone(alloc)?,
         _ => NodeName::parse(alloc, text)?,
@@ -96,14 +97,4 @@ fn short_at(bytes: &[u8]) -> Option<(&[u8], &[u8])>
 {
     let (len, rest) = bytes.split_first()?;
     bytes_at(usize::from(*len), rest)
-}
-
-/// The bytes behind their length of 2 bytes.
-fn long_at(bytes: &[u8]) -> Option<(&[u8], &[u8])>
-    ensures found { IfSome result (λ read. bytes.now ≡ counted w16 read.0.now ++ read.1.now) }
-    ensures only { (text rest : List ℕ) → length text < 2 ^ 16 → bytes.now ≡ counted w16 text ++ rest →
-        IsSomeAnd result (λ read. (read.0.now ≡ text) × (read.1.now ≡ rest)) }
-{
-    let (len, rest) = u16_at(bytes)?;
-    bytes_at(usize::from(len), rest)
 }

@@ -8,8 +8,9 @@ use crate::fault::FeedFault;
 use crate::front::length_at;
 use crate::length_bytes::LengthBytes;
 use dist_types::Body;
-use handshake_frames::PartBody;
+use handshake_frames::BodySoFar;
 use std::alloc::Global;
+use std::mem;
 
 /// The most bytes of a body.
 const MAX_BODY: u32 = 4_194_304;
@@ -18,7 +19,7 @@ const MAX_BODY: u32 = 4_194_304;
 #[derive(Debug, Drop)]
 pub enum Held {
     Length(LengthBytes),
-    Body(PartBody),
+    Body(BodySoFar),
 }
 
 impl Held {
@@ -29,7 +30,7 @@ impl Held {
         ensures refused { IfErr result (λ fault. IsTakeFault fault self.old piece.now self.new) }
     {
         match self {
-            Held::Body(part) => Ok(part.take(piece)?),
+            Held::Body(so_far) => Ok(so_far.take(piece)?),
             Held::Length(bytes) => match length_at(bytes.as_slice(), piece) {
                 Ok((len, behind)) => self.begin(alloc, len, piece, behind),
                 Err(rest) => {
@@ -58,9 +59,9 @@ impl Held {
         if len > MAX_BODY {
             return Err(FeedFault::TooLong);
         }
-        let mut part = PartBody::new(alloc, len as usize);
-        let used = part.take(behind)?;
-        *self = Held::Body(part);
+        let mut so_far = BodySoFar::new(alloc, len as usize)?;
+        let used = so_far.take(behind)?;
+        *self = Held::Body(so_far);
         Ok(piece.len() - behind.len() + used)
     }
 
@@ -68,11 +69,12 @@ impl Held {
     pub fn take_whole(&mut self) -> Option<Body>
         ensures { Gives self.old result self.new }
     {
-        let Held::Body(part) = self else {
-            return None;
-        };
-        let body = part.take_whole()?;
-        *self = Held::Length(LengthBytes::new());
-        Some(body)
+        match mem::replace(self, Held::Length(LengthBytes::new())) {
+            Held::Body(so_far) if so_far.is_whole() => Some(so_far.into_body()),
+            held => {
+                *self = held;
+                None
+            }
+        }
     }
 }

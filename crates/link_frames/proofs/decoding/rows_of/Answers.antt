@@ -1,17 +1,19 @@
-use Rattle.link_frames.proofs.Words.{◌≡◌, ℕ, ◌∷◌, ◌++◌, ◌+◌, ◌==◌, true, false, List, [], length, drop, sym, ap, ◌∙◌, arith, rules, append_assoc}
-use Rattle.link_frames.proofs.Words.{append-nil, flat_map, Decides-eqb, drop_all, nil_from_length, length_push, flat_map_more, All-same, All-push}
-use Rattle.link_frames.proofs.Words.{Row, row_bytes, IsRow}
+use Rattle.link_frames.proofs.Words.{◌≡◌, ℕ, ◌∷◌, ◌++◌, ◌+◌, ◌==◌, true, false, List, [], length}
+use Rattle.link_frames.proofs.Words.{drop, sym, ap, ◌∙◌, arith, rules, append_assoc, append-nil}
+use Rattle.link_frames.proofs.Words.{flat_map, Decides-eqb, drop_all, nil_from_length, length_push}
+use Rattle.link_frames.proofs.Words.{flat_map_more, All-same, All-push, Row, row_bytes, IsRow}
 use Rattle.link_frames.specs.declared.fault.MessageFault.TheVariants as faults
 use Rattle.link_frames.proofs.ReadingLemmas.{rows_left, next_row, same_rows}
 use Rattle.link_frames.proofs.decoding.rows_of.Goals as goal
 
 pub returns-in_err-row-clause-only : goal.returns-in_err-row-clause-only
-returns-in_err-row-clause-only c = λ rows long each bytes.
-    let kept = c.loop.invariant in
-    let left : c.loop.rest.now ≡ flat_map row_bytes (drop (length c.loop.rows.items) rows) = rows_left c.loop.rows.items rows c.loop.rest.now kept.each each (omega (arith, kept.count)) (sym bytes ∙ kept.whole) in
-    let next = next_row (length c.loop.rows.items) rows each (omega (arith, kept.count)) in
-    let fault : c.in_err-row.field-0.0 ≡ faults.OutOfMemory = c.in_err-row.ensures.only next.0 (flat_map row_bytes next.2.0) next.1 (left ∙ ap (flat_map row_bytes) next.2.1) in
-    search (rules, fault)
+returns-in_err-row-clause-only c = λ rows long each bytes. let kept = c.loop.invariant in
+    let left : c.loop.rest.now ≡ flat_map row_bytes (drop (length c.loop.rows.items) rows) =
+    rows_left c.loop.rows.items rows c.loop.rest.now kept.each each (omega arith)
+    (sym bytes ∙ kept.whole) in let next = next_row (length c.loop.rows.items) rows each
+    (omega arith) in let fault : c.in_err-row.field-0.0 ≡ faults.OutOfMemory =
+    c.in_err-row.ensures.only next.0 (flat_map row_bytes next.2.0) next.1
+    (left ∙ ap (flat_map row_bytes) next.2.1) in search (rules, fault)
 
 pub loop-preserved : goal.loop-preserved
 loop-preserved c =
@@ -23,23 +25,25 @@ loop-preserved c =
     record {
       count = ap (length {A = Row}) pushed ∙ length_push rows row ∙ ap (λ n. n + 1) kept.count;
       each = All-same IsRow _ (rows ++ row ∷ []) pushed (All-push IsRow rows row kept.each found.0);
-      whole = kept.whole ∙ ap (λ rest. flat_map row_bytes rows ++ rest) found.1 ∙ sym (append_assoc (flat_map row_bytes rows) (row_bytes row) _) ∙ ap (λ front. front ++ c.in_ok-row.behind.now) (flat_map_more row_bytes [] rows row ∙ ap (flat_map row_bytes) (sym pushed));
+      whole = kept.whole ∙ ap (λ rest. flat_map row_bytes rows ++ rest) found.1
+          ∙ sym (append_assoc (flat_map row_bytes rows) (row_bytes row) _)
+          ∙ ap (λ front. front ++ c.in_ok-row.behind.now) (flat_map_more row_bytes [] rows row
+          ∙ ap (flat_map row_bytes) (sym pushed));
     }
 
 pub returns-then-not-is_empty-clause-only : goal.returns-then-not-is_empty-clause-only
-returns-then-not-is_empty-clause-only c = λ rows long each bytes.
-    let kept = c.loop.invariant in
-    let left : c.loop.rest.now ≡ flat_map row_bytes (drop (length c.loop.rows.items) rows) = rows_left c.loop.rows.items rows c.loop.rest.now kept.each each (omega (arith, kept.count)) (sym bytes ∙ kept.whole) in
-    let none : c.loop.rest.now ≡ [] = left ∙ ap (flat_map row_bytes) (drop_all (length c.loop.rows.items) rows (omega (arith, kept.count))) in
-    let bad : false ≡ true = c.if-not-is_empty.ensures ∙ ap (λ (xs : List ℕ). length xs == 0) none in
-    absurd (cc bad)
+returns-then-not-is_empty-clause-only c = λ rows long each bytes. let kept = c.loop.invariant in
+    let left : c.loop.rest.now ≡ flat_map row_bytes (drop (length c.loop.rows.items) rows) =
+    rows_left c.loop.rows.items rows c.loop.rest.now kept.each each (omega arith)
+    (sym bytes ∙ kept.whole) in let none : c.loop.rest.now ≡ [] = left ∙ ap (flat_map row_bytes)
+    (drop_all (length c.loop.rows.items) rows (omega arith)) in let bad : false ≡ true =
+    c.if-not-is_empty.ensures ∙ ap (λ (xs : List ℕ). length xs == 0) none in absurd (cc bad)
 
 pub returns-clause-found : goal.returns-clause-found
-returns-clause-found c =
-    let kept = c.loop.invariant in
-    let none : c.loop.rest.now ≡ [] = nil_from_length c.loop.rest.now ((Decides-eqb _ 0).0 (sym c.if-not-is_empty.ensures)) in
+returns-clause-found c = let kept = c.loop.invariant in let none : c.loop.rest.now ≡ [] =
+    nil_from_length c.loop.rest.now ((Decides-eqb _ 0).0 (sym c.if-not-is_empty.ensures)) in
     rw c.of.ensures (
-      omega (arith, kept.count),
+      omega arith,
       kept.each,
       kept.whole ∙ ap (λ rest. flat_map row_bytes c.loop.rows.items ++ rest) none ∙ append-nil _,
     )

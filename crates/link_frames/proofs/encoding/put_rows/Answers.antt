@@ -1,14 +1,21 @@
-use Rattle.link_frames.proofs.Words.{◌≡◌, ℕ, ◌+◌, List, [], ◌∷◌, ◌++◌, take, length, ap, sym, ◌∙◌, append_assoc, append-nil, rules, w32, to_be_bytes}
-use Rattle.link_frames.proofs.Words.{flat_map, flat_map-append, take_more, All-same, All-push, Row, row_bytes, IsRow}
+use Rattle.link_frames.proofs.Words.{◌≡◌, ℕ, ◌+◌, List, [], ◌∷◌, ◌++◌, take, length, ap, sym, ◌∙◌}
+use Rattle.link_frames.proofs.Words.{append_assoc, append-nil, rules, w32, to_be_bytes, flat_map}
+use Rattle.link_frames.proofs.Words.{flat_map-append, take_more, All-same, All-push, Row, row_bytes}
+use Rattle.link_frames.proofs.Words.{IsRow}
 use Rattle.link_frames.proofs.encoding.put_rows.Goals as goal
 
 -- one row more behind the rows that were put
-rows_put : (old before after count : List ℕ) (done : List Row) (row : Row) (more : List Row) → before ≡ old ++ (count ++ flat_map row_bytes done) → after ≡ before ++ row_bytes row → more ≡ done ++ row ∷ [] → after ≡ old ++ (count ++ flat_map row_bytes more)
-rows_put old before after count done row more were put next = simp (put, were, next, flat_map-append, append-nil, append_assoc)
+rows_put : (old before after count : List ℕ) (done : List Row) (row : Row) (more : List Row)
+    → before ≡ old ++ (count ++ flat_map row_bytes done) → after ≡ before ++ row_bytes row
+    → more ≡ done ++ row ∷ [] → after ≡ old ++ (count ++ flat_map row_bytes more)
+rows_put old before after count done row more were put next =
+    simp (put, were, next, flat_map-append, append-nil, append_assoc)
 
 pub returns-in_err-put_row-clause-grown : goal.returns-in_err-put_row-clause-grown
 returns-in_err-put_row-clause-grown c =
-    let kept : c.put_row.new.out.items ≡ c.args.out.now.items ++ (to_be_bytes w32 (length c.args.rows.now) ++ flat_map row_bytes (take c.loop-row.row-index c.args.rows.now)) = c.in_err-put_row.ensures.same ∙ c.loop-row.invariant.0 in
+    let kept : c.put_row.new.out.items ≡ c.args.out.now.items
+    ++ (to_be_bytes w32 (length c.args.rows.now) ++ flat_map row_bytes (take c.loop-row.row-index
+    c.args.rows.now)) = c.in_err-put_row.ensures.same ∙ c.loop-row.invariant.0 in
     search (rules, kept)
 
 pub loop-row-preserved : goal.loop-row-preserved
@@ -17,5 +24,11 @@ loop-row-preserved c =
     let done = take c.loop-row.row-index rows in
     let row = c.row-item.result in
     let kept = c.loop-row.invariant in
-    let next : take (c.loop-row.row-index + 1) rows ≡ done ++ row ∷ [] = take_more rows c.loop-row.row-index row c.loop-row-test.true ∙ ap (λ r. done ++ r ∷ []) (sym c.row-item.is) in
-    (rows_put c.args.out.now.items c.loop-row.out.items c.put_row.new.out.items (to_be_bytes w32 (length rows)) done row _ kept.0 c.in_ok-put_row.ensures.ok next, All-same IsRow _ (done ++ row ∷ []) next (All-push IsRow done row kept.1 c.in_ok-put_row.ensures.limits))
+    let next : take (c.loop-row.row-index + 1) rows ≡ done ++ row ∷ [] =
+    take_more rows c.loop-row.row-index row c.loop-row-test.true ∙ ap (λ r. done ++ r ∷ [])
+    (sym c.row-item.is) in (
+      rows_put c.args.out.now.items c.loop-row.out.items c.put_row.new.out.items
+          (to_be_bytes w32 (length rows)) done row _ kept.0 c.in_ok-put_row.ensures.ok next,
+      All-same IsRow _ (done ++ row ∷ []) next
+          (All-push IsRow done row kept.1 c.in_ok-put_row.ensures.limits),
+    )

@@ -1,6 +1,8 @@
-use Rattle.link_frames.proofs.Words.{◌≡◌, ◌++◌, length, take, All, w32, to_be_bytes, flat_map, row_bytes, IsRow}
+use Rattle.link_frames.proofs.Words.{◌≡◌, ◌++◌, length, take, All, w32, to_be_bytes, flat_map}
+use Rattle.link_frames.proofs.Words.{row_bytes, IsRow}
 use Rattle.link_frames.proofs.encoding.put_rows.Given as goal
 
 abbrev pub invariant-loop-row : goal.invariant-loop-row
 invariant-loop-row l =
-    (l.out.items ≡ l.fn.out.items ++ (to_be_bytes w32 (length l.rows) ++ flat_map row_bytes (take l.row-index l.rows))) × All IsRow (take l.row-index l.rows)
+    (l.out.items ≡ l.fn.out.items ++ (to_be_bytes w32 (length l.rows) ++ flat_map row_bytes
+    (take l.row-index l.rows))) × All IsRow (take l.row-index l.rows)

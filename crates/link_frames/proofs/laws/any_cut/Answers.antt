@@ -9,4 +9,5 @@ pub returns-clause-cut : goal.returns-clause-cut
 returns-clause-cut c = λ calls others rest last a b same.
     one_link_reading _ (bodies_of calls) (bodies_of others) rest last
     (read_from_empty calls rest a)
-    (subst (λ stream. SplitsLink stream (bodies_of others) last) (sym same) (read_from_empty others last b))
+    (subst (λ stream. SplitsLink stream (bodies_of others) last) (sym same)
+    (read_from_empty others last b))

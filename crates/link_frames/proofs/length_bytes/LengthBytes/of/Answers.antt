@@ -8,4 +8,6 @@ returns c =
     let piece = c.args.piece.now in
     let front = c.copy_from_slice.ensures.after in
     let back = c.copy_from_slice-2.ensures.after in
-    take-put_mid (length held) _ _ _ (length held + length piece) (omega (arith, ap length back)) (omega (arith, ap length front, length-append {A = ℕ})) ∙ rw back (ap (λ xs. xs ++ piece) (take_at _ _ (length held) (ap length front) ∙ front))
+    take-put_mid (length held) _ _ _ (length held + length piece) (omega (arith, ap length back))
+    (omega (arith, ap length front, length-append {A = ℕ}))
+    ∙ rw back (ap (λ xs. xs ++ piece) (take_at _ _ (length held) (ap length front) ∙ front))

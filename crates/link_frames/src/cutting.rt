@@ -1,0 +1,71 @@
+//! Messages cut into parts.
+ghost use Rattle.std.specs.Prelude.{◌≡◌, ◌∷◌, ◌++◌, ◌<◌, ◌≤◌, ◌^◌, [], map, length, IfOk};
+ghost use Rattle.dist_types.specs.Listing.{max_rows};
+ghost use Rattle.link_frames.specs.Spelling.{text_bytes};
+ghost use Rattle.link_frames.specs.Parts.{kind_byte, part_bytes, message2_bytes, parts, parts_from, before_last, HasSome, HasParts};
+
+use crate::message::Message;
+use crate::part::PartKind;
+use crate::part_encoding::{encode_discover, encode_down, encode_part};
+use dist_types::{Body, MAX_ROWS, OutOfMemory, Row, Scope};
+use std::alloc::Global;
+
+/// The bodies in which a message is said on a link of version 2: its rows in parts of `MAX_ROWS`, of which the last is shorter or full.
+pub fn encode_parts(alloc: Global, message: &Message) -> Result<Vec<Body>, OutOfMemory>
+    requires { HasParts message.now }
+    ensures { IfOk result (λ bodies. bodies.items ≡ map message2_bytes (parts message.now)) }
+{
+    match message {
+        Message::Discover(scope) => alone(alloc, encode_discover(alloc, scope)?),
+        Message::Sync(scope, rows) => cut(alloc, PartKind::Sync, scope, rows.as_slice()),
+        Message::Join(scope, rows) => cut(alloc, PartKind::Join, scope, rows.as_slice()),
+        Message::Leave(scope, rows) => cut(alloc, PartKind::Leave, scope, rows.as_slice()),
+        Message::Down(scope) => alone(alloc, encode_down(alloc, scope)?),
+    }
+}
+
+fn alone(alloc: Global, body: Body) -> Result<Vec<Body>, OutOfMemory>
+    ensures { IfOk result (λ bodies. bodies.items ≡ body ∷ []) }
+{
+    let mut bodies = Vec::new(alloc);
+    bodies.push(body)?;
+    Ok(bodies)
+}
+
+/// The parts of that kind.
+fn cut(alloc: Global, kind: PartKind, scope: &Scope, rows: &[Row]) -> Result<Vec<Body>, OutOfMemory>
+    requires some { HasSome kind rows.now }
+    requires few { length rows.now < 2 ^ 32 }
+    ensures { IfOk result (λ bodies. bodies.items ≡ map message2_bytes (parts_from kind scope.now 1 (before_last rows.now) rows.now)) }
+{
+    let mut bodies = Vec::new(alloc);
+    let mut rest = rows;
+    let mut number: u32 = 1;
+    while rest.len() > MAX_ROWS {
+        let (part, behind) = rest.split_at(MAX_ROWS);
+        bodies.push(part_body(alloc, kind, scope, number, false, part)?)?;
+        rest = behind;
+        number += 1;
+    }
+    bodies.push(part_body(alloc, kind, scope, number, true, rest)?)?;
+    Ok(bodies)
+}
+
+/// The body of one part.
+fn part_body(
+    alloc: Global,
+    kind: PartKind,
+    scope: &Scope,
+    number: u32,
+    last: bool,
+    rows: &[Row],
+) -> Result<Body, OutOfMemory>
+    requires from_one { 1 ≤ number }
+    requires few { length rows.now ≤ max_rows }
+    requires some { HasSome kind rows.now }
+    ensures { IfOk result (λ body. body ≡ kind_byte kind ∷ text_bytes scope.now ++ part_bytes number last rows.now) }
+{
+    let mut body = Vec::new(alloc);
+    encode_part(kind, scope, number, last, rows, &mut body)?;
+    Body::of(body)
+}
