@@ -12,12 +12,15 @@ none_mentioned p [] e = refl
 none_mentioned p (q ∷ ps) e = grind arith
 
 -- where the counts differ in one group alone, its change is the difference
-pub one_difference : (before after : List ℕ → Pid → ℕ) (g : List ℕ) (left joined : List Pid) → Ascends pid_cmp left → Ascends pid_cmp joined
+pub one_difference : (before after : List ℕ → Pid → ℕ) (g : List ℕ) (left joined : List Pid)
+    → Ascends pid_cmp left → Ascends pid_cmp joined
     → ((h : List ℕ) (p : Pid) → before h p - after h p ≡ cond (same g h) (mentions p left) 0)
     → ((h : List ℕ) (p : Pid) → after h p - before h p ≡ cond (same g h) (mentions p joined) 0)
     → IsDifference before after (change_unless_empty g left joined)
 one_difference before after g left joined l j less more =
-    elim (is_empty left && is_empty joined) as (λ v. (is_empty left && is_empty joined) ≡ v → IsDifference before after (cond v [] (record { group = g; left = left; joined = joined } ∷ []))) [
+    elim (is_empty left && is_empty joined) as (λ v. (is_empty left && is_empty joined) ≡ v
+    → IsDifference before after
+    (cond v [] (record { group = g; left = left; joined = joined } ∷ []))) [
       | true ↦ λ e. let none = and_parts (is_empty left) (is_empty joined) e in record {
         groups = tt;
         proper = tt;

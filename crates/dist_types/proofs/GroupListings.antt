@@ -8,9 +8,9 @@ use Rattle.dist_types.specs.Listing.{same, is_among, IsGroupListing}
 use Rattle.dist_types.proofs.Orders.{texts_total, same_decides}
 use Rattle.dist_types.proofs.Listings.{same_rising}
 
-pub one_group_listing : (count : List ℕ → Pid → ℕ) (gs hs : List (List ℕ)) → IsGroupListing count gs → IsGroupListing count hs → gs ≡ hs
-one_group_listing count gs hs a b =
-    same_rising text_cmp same texts_total exact_bytes same_decides gs hs a.rises b.rises (λ g.
-    let onward : is_among g gs ≡ true → is_among g hs ≡ true = λ e. let one = a.found g e in b.only g one.0 one.1 in
-    let back : is_among g hs ≡ true → is_among g gs ≡ true = λ e. let one = b.found g e in a.only g one.0 one.1 in
-    grind (arith, onward, back))
+pub one_group_listing : (count : List ℕ → Pid → ℕ) (gs hs : List (List ℕ)) → IsGroupListing count gs
+    → IsGroupListing count hs → gs ≡ hs
+one_group_listing count gs hs a b = same_rising text_cmp same texts_total exact_bytes same_decides
+    gs hs a.rises b.rises (λ g. let onward : is_among g gs ≡ true → is_among g hs ≡ true =
+    λ e. let one = a.found g e in b.only g one.0 one.1 in let back : is_among g hs ≡ true
+    → is_among g gs ≡ true = λ e. let one = b.found g e in a.only g one.0 one.1 in grind arith)

@@ -1,5 +1,6 @@
 -- The limits of the texts, as facts and as tests that compute.
-use Rattle.std.proofs.Common.{◌≡◌, ◌≢◌, ◌↔◌, ℕ, ◌-◌, ◌<◌, true, false, List, length, refl, IsTrue, arith, ap, Result, Ok, Err, IfErr, IsErr, MatchResult}
+use Rattle.std.proofs.Common.{◌≡◌, ◌≢◌, ◌↔◌, ℕ, ◌-◌, ◌<◌, true, false, List, length, refl, IsTrue}
+use Rattle.std.proofs.Common.{arith, ap, Result, Ok, Err, IfErr, IsErr, MatchResult}
 use Rattle.std.proofs.lemmas.Bool.{and_parts, and_from}
 use Rattle.std.proofs.lemmas.List.Sums.{AllPass-from_list_all, list_all-from_AllPass}
 use Rattle.std.proofs.lemmas.Option.{slice_get-get_or}
@@ -7,44 +8,56 @@ use Rattle.std.specs.List.{list_all}
 use Rattle.dist_types.specs.declared.fault.TextFault.{TextFault}
 use Rattle.dist_types.specs.declared.fault.TextFault.TheVariants as faults
 use Rattle.dist_types.specs.Fault.{IsNameFault}
-use Rattle.dist_types.specs.Text.{IsText, HasInnerAt, IsNodeName, is_text_byte, is_text, has_inner_at, is_node_name}
+use Rattle.dist_types.specs.Text.{IsText, HasInnerAt, IsNodeName, is_text_byte, is_text}
+use Rattle.dist_types.specs.Text.{has_inner_at, is_node_name}
 
 pub texts_compute : (bytes : List ℕ) → IsTrue (is_text bytes) ↔ IsText bytes
 texts_compute bytes = (
-  λ h. let visible : list_all is_text_byte bytes ≡ true = grind (arith, h) in record {
-    not_empty = grind (arith, h);
-    not_long = grind (arith, h);
-    visible = λ k d inside. grind (arith, AllPass-from_list_all is_text_byte bytes visible k d inside);
-  },
-  λ h. let visible = list_all-from_AllPass is_text_byte bytes (λ k d inside. grind (arith, h.visible k d inside)) in grind (arith, visible, h.not_empty, h.not_long),
+  λ h. let visible : list_all is_text_byte bytes ≡ true = grind arith in
+      record {
+        not_empty = grind arith;
+        not_long = grind arith;
+        visible = λ k d inside.
+            grind (arith, AllPass-from_list_all is_text_byte bytes visible k d inside);
+      },
+  λ h. let visible = list_all-from_AllPass is_text_byte bytes
+      (λ k d inside. grind (arith, h.visible k d inside)) in grind arith,
 )
 
-inner_at_computes : (bytes : List ℕ) → 0 < length bytes → IsTrue (has_inner_at bytes) ↔ HasInnerAt bytes
-inner_at_computes bytes some =
-    let first = slice_get-get_or bytes 0 0 some in
-    let last = slice_get-get_or bytes (length bytes - 1) 0 (omega arith) in (
-      λ h. record { one = grind (arith, h); not_first = λ e. grind (arith, h, e, first); not_last = λ e. grind (arith, h, e, last) },
-      λ h. grind (arith, h.one, h.not_first, h.not_last, first, last),
+inner_at_computes : (bytes : List ℕ) → 0 < length bytes
+    → IsTrue (has_inner_at bytes) ↔ HasInnerAt bytes
+inner_at_computes bytes some = let first = slice_get-get_or bytes 0 0 some in let last =
+    slice_get-get_or bytes (length bytes - 1) 0 (omega arith) in (
+      λ h. record { one = grind arith; not_first = λ e. grind arith; not_last = λ e. grind arith },
+      λ h. grind arith,
     )
 
 pub names_compute : (bytes : List ℕ) → IsTrue (is_node_name bytes) ↔ IsNodeName bytes
 names_compute bytes = (
-  λ h. let parts = and_parts _ _ h in let text = (texts_compute bytes).0 parts.0 in record { text = text; at = (inner_at_computes bytes text.not_empty).0 parts.1 },
-  λ h. and_from _ _ ((texts_compute bytes).1 h.text) ((inner_at_computes bytes h.text.not_empty).1 h.at),
+  λ h. let parts = and_parts _ _ h in let text = (texts_compute bytes).0 parts.0 in
+      record { text = text; at = (inner_at_computes bytes text.not_empty).0 parts.1 },
+  λ h. and_from _ _ ((texts_compute bytes).1 h.text)
+      ((inner_at_computes bytes h.text.not_empty).1 h.at),
 )
 
 -- a fault other than want of memory tells that the bytes are no name
-fault_tells : (fault : TextFault) (bytes : List ℕ) → IsNameFault fault bytes → fault ≢ faults.OutOfMemory → ¬ IsNodeName bytes
-fault_tells faults.Empty bytes is other name = let some = name.text.not_empty in omega (arith, ap (length {A = ℕ}) is)
+fault_tells : (fault : TextFault) (bytes : List ℕ) → IsNameFault fault bytes
+    → fault ≢ faults.OutOfMemory → ¬ IsNodeName bytes
+fault_tells faults.Empty bytes is other name = let some = name.text.not_empty in
+    omega (arith, ap (length {A = ℕ}) is)
 fault_tells faults.TooLong bytes is other name = let short = name.text.not_long in omega arith
 fault_tells faults.BadByte bytes is other name = is.2 name.text.visible
 fault_tells faults.BadAt bytes is other name = is.1 name.at
 fault_tells faults.OutOfMemory bytes is other name = other refl
 
-pub refused_name : (fault : TextFault) (bytes : List ℕ) → IsNameFault fault bytes → fault ≢ faults.OutOfMemory → is_node_name bytes ≡ false
-refused_name fault bytes is other = grind (arith, fault_tells fault bytes is other, (names_compute bytes).0)
+pub refused_name : (fault : TextFault) (bytes : List ℕ) → IsNameFault fault bytes
+    → fault ≢ faults.OutOfMemory → is_node_name bytes ≡ false
+refused_name fault bytes is other =
+    grind (arith, fault_tells fault bytes is other, (names_compute bytes).0)
 
-pub tells_no_name : {T : Type 0} (bytes : List ℕ) (r : Result T TextFault) → IsErr r → IfErr r (λ fault. IsNameFault fault bytes)
-    → MatchResult r (λ t. is_node_name bytes ≡ true) (λ fault. fault ≢ faults.OutOfMemory → is_node_name bytes ≡ false)
+pub tells_no_name : {T : Type 0} (bytes : List ℕ) (r : Result T TextFault) → IsErr r
+    → IfErr r (λ fault. IsNameFault fault bytes)
+    → MatchResult r (λ t. is_node_name bytes ≡ true) (λ fault. fault ≢ faults.OutOfMemory
+    → is_node_name bytes ≡ false)
 tells_no_name bytes (Ok t) failed is = let bad : false ≡ true = failed in absurd (cc)
 tells_no_name bytes (Err fault) failed is = refused_name fault bytes is

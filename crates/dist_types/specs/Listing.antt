@@ -21,6 +21,10 @@ same_pid p q = same p.node q.node && (p.creation == q.creation && p.number == q.
 abbrev pub same_row : Row → Row → Bool
 same_row r s = same r.group s.group && same_pid r.pid s.pid
 
+-- the most rows that the processes of one node may have in a scope, and that a message may bring, repeats included
+abbrev pub max_rows : ℕ
+max_rows = 4096
+
 -- what f gives of the elements, added up
 abbrev pub total : {A : Type 0} → (A → ℕ) → List A → ℕ
 total f [] = 0

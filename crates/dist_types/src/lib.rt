@@ -31,6 +31,6 @@ pub use laws::{
 };
 pub use node_name::NodeName;
 pub use pid::Pid;
-pub use row::Row;
+pub use row::{MAX_ROWS, Row};
 pub use scope::Scope;
 pub use shared::Shared;

@@ -5,6 +5,9 @@ use crate::items::TryClone;
 use crate::pid::Pid;
 use std::alloc::Global;
 
+/// The most rows that the processes of one node may have in a scope, and that a message may bring, repeats included.
+pub const MAX_ROWS: usize = 4096;
+
 /// One membership of a process in a group.
 #[derive(Debug, PartialEq, Eq, PartialOrd, Ord, Hash)]
 pub struct Row {

@@ -1,26 +1,37 @@
--- What the changes of entries tell of a group is the difference of its listings, and what the contents of a scope count.
-use Rattle.group_monitors.proofs.Words.{◌≡◌, ◌∙◌, sym, ap, refl, subst, ℕ, ◌+◌, ◌-◌, ◌≤◌, inl, inr, Bool, true, false, cond, ◌++◌, List, [], ◌∷◌}
-use Rattle.group_monitors.proofs.Words.{Option, Some, length, arith, reverse, drop, append-nil, flat_map, option_and_then, nat_tests, flat_map-append}
-use Rattle.group_monitors.proofs.Words.{reverse-append, length-reverse, drop-append_seam, Pid, GroupChange, mentions, times_left, times_joined}
-use Rattle.group_monitors.proofs.Words.{IsDifference, Update, Entry, Opening, History, past, listed, later_than, group_updates, is_watched}
-use Rattle.group_monitors.proofs.Words.{updates_of, IsLegal, IsLegalIn, Monitor, target, updates_behind, counted, Watches, Extends, ◌<◌, map}
-use Rattle.group_monitors.proofs.Words.{true≢false, total, is_among, IsPidListing, IsGroupListing, texts_total, same_decides, one_of_many, members}
-use Rattle.group_monitors.proofs.Words.{groups, contents, times_in, same}
+-- What the changes of entries tell of a group is the difference of its listings, and what the
+-- contents of a scope count.
+use Rattle.group_monitors.proofs.Words.{◌≡◌, ◌∙◌, sym, ap, refl, subst, ℕ, ◌+◌, ◌-◌, ◌≤◌, inl, inr}
+use Rattle.group_monitors.proofs.Words.{Bool, true, false, cond, ◌++◌, List, [], ◌∷◌, Option, Some}
+use Rattle.group_monitors.proofs.Words.{length, arith, reverse, drop, append-nil, flat_map}
+use Rattle.group_monitors.proofs.Words.{option_and_then, nat_tests, flat_map-append, reverse-append}
+use Rattle.group_monitors.proofs.Words.{length-reverse, drop-append_seam, Pid, GroupChange}
+use Rattle.group_monitors.proofs.Words.{mentions, times_left, times_joined, IsDifference, Update}
+use Rattle.group_monitors.proofs.Words.{Entry, Opening, History, past, listed, later_than}
+use Rattle.group_monitors.proofs.Words.{group_updates, is_watched, updates_of, IsLegal, IsLegalIn}
+use Rattle.group_monitors.proofs.Words.{Monitor, target, updates_behind, counted, Watches, Extends}
+use Rattle.group_monitors.proofs.Words.{◌<◌, map, true≢false, total, is_among, IsPidListing}
+use Rattle.group_monitors.proofs.Words.{IsGroupListing, texts_total, same_decides, one_of_many}
+use Rattle.group_monitors.proofs.Words.{members, groups, contents, times_in, same}
 use Rattle.std.proofs.lemmas.Map.Lookups.{exact_bytes}
 use Rattle.dist_types.specs.Order.{text_cmp}
 
 -- updates in turn, and then others
-pub counted_append : (g : List ℕ) (p : Pid) (us vs : List Update) (n : ℕ) → counted g p (us ++ vs) n ≡ option_and_then (counted g p vs) (counted g p us n)
+pub counted_append : (g : List ℕ) (p : Pid) (us vs : List Update) (n : ℕ)
+    → counted g p (us ++ vs) n ≡ option_and_then (counted g p vs) (counted g p us n)
 counted_append g p [] vs n = refl
 counted_append g p (u ∷ us) vs n = grind (arith, counted_append g p us vs)
 
 -- both, where the first give m
-then : (g : List ℕ) (p : Pid) (us vs : List Update) (n m : ℕ) (r : Option ℕ) → counted g p us n ≡ Some m → counted g p vs m ≡ r → counted g p (us ++ vs) n ≡ r
-then g p us vs n m r first second = counted_append g p us vs n ∙ ap (option_and_then (counted g p vs)) first ∙ second
+then : (g : List ℕ) (p : Pid) (us vs : List Update) (n m : ℕ) (r : Option ℕ)
+    → counted g p us n ≡ Some m → counted g p vs m ≡ r → counted g p (us ++ vs) n ≡ r
+then g p us vs n m r first second = counted_append g p us vs n
+    ∙ ap (option_and_then (counted g p vs)) first ∙ second
 
 -- what one more entry gives comes last
-pub told_last : (f : Entry → List Update) (e : Entry) (es : List Entry) → flat_map f (reverse (e ∷ es)) ≡ flat_map f (reverse es) ++ f e
-told_last f e es = rw (reverse-append (e ∷ []) es, flat_map-append f (reverse es) (e ∷ []), append-nil) refl
+pub told_last : (f : Entry → List Update) (e : Entry) (es : List Entry)
+    → flat_map f (reverse (e ∷ es)) ≡ flat_map f (reverse es) ++ f e
+told_last f e es =
+    rw (reverse-append (e ∷ []) es, flat_map-append f (reverse es) (e ∷ []), append-nil) refl
 
 module _ (g : List ℕ) (p : Pid) where
   -- how often p left g by the change of a group, and how often it joined
@@ -29,13 +40,15 @@ module _ (g : List ℕ) (p : Pid) where
 
   -- the updates of one group's change
   group_told : (f : List ℕ) (left joined : List Pid) (n : ℕ) → few f left ≤ n
-      → counted g p (group_updates (record { group = f; left = left; joined = joined })) n ≡ Some (n - few f left + few f joined)
+      → counted g p (group_updates (record { group = f; left = left; joined = joined })) n ≡ Some
+      (n - few f left + few f joined)
   group_told f [] [] n le = grind (arith, nat_tests)
   group_told f [] (r ∷ rs) n le = grind (arith, nat_tests)
   group_told f (q ∷ qs) [] n le = grind (arith, nat_tests)
   group_told f (q ∷ qs) (r ∷ rs) n le = grind (arith, nat_tests)
 
-  module _ (watched : Option (List ℕ)) (all : (c : GroupChange) → same c.group g ≡ true → is_watched watched c ≡ true) where
+  module _ (watched : Option (List ℕ)) (all : (c : GroupChange) → same c.group g ≡ true
+      → is_watched watched c ≡ true) where
     abbrev piece : GroupChange → List Update
     piece c = cond (is_watched watched c) (group_updates c) []
 
@@ -44,61 +57,78 @@ module _ (g : List ℕ) (p : Pid) where
         → counted g p (flat_map piece cs) n ≡ Some (n - times_left g p cs + times_joined g p cs)
     groups_told [] n le = ap Some (let same : n ≡ n - 0 + 0 = omega arith in same)
     groups_told (c ∷ cs) n le =
-        let first : counted g p (piece c) n ≡ Some (n - few c.group c.left + few c.group c.joined) = grind (arith, all c, group_told c.group c.left c.joined n) in
-        then g p (piece c) (flat_map piece cs) n (n - few c.group c.left + few c.group c.joined) _ first (groups_told cs _ (omega arith) ∙ ap Some (omega arith))
+        let first : counted g p (piece c) n ≡ Some (n - few c.group c.left + few c.group c.joined) =
+        grind (arith, all c, group_told c.group c.left c.joined n) in
+        then g p (piece c) (flat_map piece cs) n (n - few c.group c.left + few c.group c.joined)
+        _ first (groups_told cs _ (omega arith) ∙ ap Some (omega arith))
 
     -- so the difference of two counts leads from the one to the other
-    difference_told : (before after : List ℕ → Pid → ℕ) (cs : List GroupChange) → IsDifference before after cs
+    difference_told : (before after : List ℕ → Pid → ℕ) (cs : List GroupChange)
+        → IsDifference before after cs
         → counted g p (flat_map piece cs) (before g p) ≡ Some (after g p)
-    difference_told before after cs is =
-        let left = is.left g p in
-        let joined = is.joined g p in
-        groups_told cs (before g p) (omega (arith, left)) ∙ ap Some (omega (arith, left, joined))
+    difference_told before after cs is = let left = is.left g p in let joined = is.joined g p in
+        groups_told cs (before g p) (omega arith) ∙ ap Some (omega arith)
 
     -- ---- the updates of further entries of a history
 
     further_told : (o : Opening) (s : List ℕ) (es ks : List Entry) → IsLegalIn o (es ++ ks)
-        → counted g p (flat_map (λ e. updates_of (record { scope = s; group = watched }) e.change) (reverse es)) (listed (past o ks) s g p) ≡ Some (listed (past o (es ++ ks)) s g p)
+        → counted g p (flat_map (λ e. updates_of (record { scope = s; group = watched }) e.change)
+        (reverse es)) (listed (past o ks) s g p) ≡ Some (listed (past o (es ++ ks)) s g p)
     further_told o s [] ks legal = refl
     further_told o s (e ∷ es) ks legal =
-        let f : Entry → List Update = λ e. updates_of (record { scope = s; group = watched }) e.change in
+        let f : Entry → List Update =
+        λ e. updates_of (record { scope = s; group = watched }) e.change in
         ap (λ us. counted g p us (listed (past o ks) s g p)) (told_last f e es)
-        ∙ then g p (flat_map f (reverse es)) (f e) (listed (past o ks) s g p) (listed (past o (es ++ ks)) s g p) _
+        ∙ then g p (flat_map f (reverse es)) (f e) (listed (past o ks) s g p)
+        (listed (past o (es ++ ks)) s g p) _
         (further_told o s es ks legal.1)
-        (difference_told (listed (past o (es ++ ks)) s) (listed (past o (e ∷ es ++ ks)) s) _ (legal.0.change.groups s))
+        (difference_told (listed (past o (es ++ ks)) s) (listed (past o (e ∷ es ++ ks)) s)
+        _ (legal.0.change.groups s))
 
 -- the monitor's group is told of
-watched_told : (g : List ℕ) (m : Monitor) → Watches g m → (c : GroupChange) → same c.group g ≡ true → is_watched m.group c ≡ true
+watched_told : (g : List ℕ) (m : Monitor) → Watches g m → (c : GroupChange) → same c.group g ≡ true
+    → is_watched m.group c ≡ true
 watched_told g m (inl one) c this = ap (λ w. is_watched w c) one ∙ this
 watched_told g m (inr every) c this = ap (λ w. is_watched w c) every
 
 -- the entries behind the place of the earlier history are the further ones
 pub further : (es ks : List Entry) → later_than (length ks) (es ++ ks) ≡ reverse es
 further es ks =
-    ap (drop (length ks)) (reverse-append es ks) ∙ ap (λ n. drop n (reverse ks ++ reverse es)) (sym (length-reverse ks)) ∙ drop-append_seam (reverse ks) (reverse es)
+    ap (drop (length ks)) (reverse-append es ks) ∙ ap (λ n. drop n (reverse ks ++ reverse es))
+    (sym (length-reverse ks)) ∙ drop-append_seam (reverse ks) (reverse es)
 
-pub told : (h k : History) → IsLegal h → Extends h k → (m : Monitor) → m.place ≡ length k.entries → (g : List ℕ) → Watches g m → (p : Pid)
+pub told : (h k : History) → IsLegal h → Extends h k → (m : Monitor) → m.place ≡ length k.entries
+    → (g : List ℕ) → Watches g m → (p : Pid)
     → counted g p (updates_behind h.entries m) (listed k m.scope g p) ≡ Some (listed h m.scope g p)
 told h k legal more m at g watches p =
     let es = more.entries.0 in
     let is : h ≡ past k.opening (es ++ k.entries) = λ i. past (more.opening i) (more.entries.1 i) in
-    let behind : later_than m.place h.entries ≡ reverse es = ap (λ n. later_than n h.entries) at ∙ ap (later_than (length k.entries)) more.entries.1 ∙ further es k.entries in
-    ap (λ l. counted g p (flat_map (λ e. updates_of (target m) e.change) l) (listed k m.scope g p)) behind
-    ∙ further_told g p m.group (watched_told g m watches) k.opening m.scope es k.entries (subst IsLegal is legal)
+    let behind : later_than m.place h.entries ≡ reverse es = ap (λ n. later_than n h.entries) at
+    ∙ ap (later_than (length k.entries)) more.entries.1 ∙ further es k.entries in
+    ap (λ l. counted g p (flat_map (λ e. updates_of (target m) e.change) l) (listed k m.scope g p))
+    behind
+    ∙ further_told g p m.group (watched_told g m watches) k.opening m.scope es k.entries
+    (subst IsLegal is legal)
     ∙ ap (λ x. Some (listed x m.scope g p)) (sym is)
 
 -- in the groups' contents as in the groups
 of_groups : (g : List ℕ) (p : Pid) (pids : List ℕ → List Pid) (gs : List (List ℕ))
-    → times_in g p (map (λ f. record { group = f; pids = pids f }) gs) ≡ total (λ f. cond (same f g) (mentions p (pids f)) 0) gs
+    → times_in g p (map (λ f. record { group = f; pids = pids f }) gs) ≡ total
+    (λ f. cond (same f g) (mentions p (pids f)) 0) gs
 of_groups g p pids [] = refl
-of_groups g p pids (f ∷ gs) = ap (λ n. cond (same f g) (mentions p (pids f)) 0 + n) (of_groups g p pids gs)
+of_groups g p pids (f ∷ gs) = ap (λ n. cond (same f g) (mentions p (pids f)) 0 + n)
+    (of_groups g p pids gs)
 
-pub contents_count : (h : History) (s g : List ℕ) (p : Pid) → IsPidListing (listed h s g) (members h s g) → IsGroupListing (listed h s) (groups h s)
+pub contents_count : (h : History) (s g : List ℕ) (p : Pid)
+    → IsPidListing (listed h s g) (members h s g) → IsGroupListing (listed h s) (groups h s)
     → times_in g p (contents h s) ≡ listed h s g p
 contents_count h s g p pids gs =
-    of_groups g p (members h s) (groups h s) ∙ one_of_many text_cmp same texts_total exact_bytes same_decides (λ f. mentions p (members h s f)) g (groups h s) gs.rises
+    of_groups g p (members h s) (groups h s) ∙ one_of_many text_cmp same texts_total exact_bytes
+    same_decides (λ f. mentions p (members h s f)) g (groups h s) gs.rises
     ∙ by (is_among g (groups h s)) refl
   where
-    by : (b : Bool) → is_among g (groups h s) ≡ b → cond b (mentions p (members h s g)) 0 ≡ listed h s g p
+    by : (b : Bool) → is_among g (groups h s) ≡ b
+        → cond b (mentions p (members h s g)) 0 ≡ listed h s g p
     by true is = pids.counts p
-    by false is = let none = λ (some : 0 < listed h s g p). true≢false (sym (gs.only g p some) ∙ is) in omega (arith, none)
+    by false is = let none = λ (some : 0 < listed h s g p). true≢false
+        (sym (gs.only g p some) ∙ is) in omega arith

@@ -1,28 +1,39 @@
 -- The entries behind the last fetch are those that the policy looks back over.
-use Rattle.group_monitors.proofs.Words.{◌≡◌, ◌∙◌, sym, ap, refl, ℕ, ◌+◌, ◌-◌, ◌<◌, ◌≤◌, false, ◌++◌, List, [], ◌∷◌, Some, length, arith, IsTrue}
-use Rattle.group_monitors.proofs.Words.{reverse, drop, length-append, append-nil, inl, inr, AllByRecursion, flat_map, option_map_or, cases_lt}
-use Rattle.group_monitors.proofs.Words.{nat_tests, flat_map-append, drop-append-le, drop_all, reverse-append, length-reverse, get_or_append_left}
-use Rattle.group_monitors.proofs.Words.{get_or-append_seam, slice_get_within, slice_get-get_or, all_append, Entry, History, entry_at, later_than}
-use Rattle.group_monitors.proofs.Words.{Target, updates_of, is_fetch, updates_since, updates, monitor, Monitor, target, updates_behind, IsLastFetch}
+use Rattle.group_monitors.proofs.Words.{◌≡◌, ◌∙◌, sym, ap, refl, ℕ, ◌+◌, ◌-◌, ◌<◌, ◌≤◌, false, ◌++◌}
+use Rattle.group_monitors.proofs.Words.{List, [], ◌∷◌, Some, length, arith, IsTrue, reverse, drop}
+use Rattle.group_monitors.proofs.Words.{length-append, append-nil, inl, inr, AllByRecursion}
+use Rattle.group_monitors.proofs.Words.{flat_map, option_map_or, cases_lt, nat_tests}
+use Rattle.group_monitors.proofs.Words.{flat_map-append, drop-append-le, drop_all, reverse-append}
+use Rattle.group_monitors.proofs.Words.{length-reverse, get_or_append_left, get_or-append_seam}
+use Rattle.group_monitors.proofs.Words.{slice_get_within, slice_get-get_or, all_append, Entry}
+use Rattle.group_monitors.proofs.Words.{History, entry_at, later_than, Target, updates_of, is_fetch}
+use Rattle.group_monitors.proofs.Words.{updates_since, updates, monitor, Monitor, target}
+use Rattle.group_monitors.proofs.Words.{updates_behind, IsLastFetch}
 
 -- one more entry is the last one behind a place within the others
-one_later : (place : ℕ) (e : Entry) (es : List Entry) → place ≤ length es → later_than place (e ∷ es) ≡ later_than place es ++ e ∷ []
-one_later place e es within = ap (drop place) (reverse-append (e ∷ []) es) ∙ drop-append-le place (reverse es) (e ∷ []) (omega (arith, length-reverse es))
+one_later : (place : ℕ) (e : Entry) (es : List Entry) → place ≤ length es
+    → later_than place (e ∷ es) ≡ later_than place es ++ e ∷ []
+one_later place e es within = ap (drop place) (reverse-append (e ∷ []) es) ∙ drop-append-le place
+    (reverse es) (e ∷ []) (omega (arith, length-reverse es))
 
 -- and none is behind the place of the last
 none_later : (place : ℕ) (es : List Entry) → length es ≤ place → later_than place es ≡ []
 none_later place es beyond = drop_all place (reverse es) (omega (arith, length-reverse es))
 
-last_of_two : (P : Entry → Type 0) (xs : List Entry) (e : Entry) → AllByRecursion P (xs ++ e ∷ []) → AllByRecursion P xs × P e
+last_of_two : (P : Entry → Type 0) (xs : List Entry) (e : Entry) → AllByRecursion P (xs ++ e ∷ [])
+    → AllByRecursion P xs × P e
 last_of_two P [] e all = (tt, all.0)
 last_of_two P (x ∷ xs) e all = let rest = last_of_two P xs e all.1 in ((all.0, rest.0), rest.1)
 
 -- an entry stands within the audit, under a number from 1
-within : (place : ℕ) (es : List Entry) (f : Entry) → entry_at place es ≡ Some f → (0 < place) × (place ≤ length es)
-within place es f at = grind (arith, nat_tests, slice_get_within (reverse es) (place - 1) f, length-reverse es)
+within : (place : ℕ) (es : List Entry) (f : Entry) → entry_at place es ≡ Some f
+    → (0 < place) × (place ≤ length es)
+within place es f at =
+    grind (arith, nat_tests, slice_get_within (reverse es) (place - 1) f, length-reverse es)
 
 -- the entry at a place within the others stays there
-pub entry_stays : (place : ℕ) (e : Entry) (es : List Entry) → 0 < place → place ≤ length es → entry_at place (e ∷ es) ≡ entry_at place es
+pub entry_stays : (place : ℕ) (e : Entry) (es : List Entry) → 0 < place → place ≤ length es
+    → entry_at place (e ∷ es) ≡ entry_at place es
 entry_stays place e es some le = rw (reverse-append (e ∷ []) es) (
     grind (
       arith,
@@ -51,32 +62,45 @@ module _ (seat k : ℕ) where
   seen_all place es last = (within place es last.fetch.0 last.fetch.1).1
 
   -- an entry that isn't a fetch leaves the last one
-  pub stays_last : (place : ℕ) (e : Entry) (es : List Entry) → IsLastFetch seat k place es → is_fetch seat k e ≡ false → IsLastFetch seat k place (e ∷ es)
+  pub stays_last : (place : ℕ) (e : Entry) (es : List Entry) → IsLastFetch seat k place es
+      → is_fetch seat k e ≡ false → IsLastFetch seat k place (e ∷ es)
   stays_last place e es last other =
       let at = within place es last.fetch.0 last.fetch.1 in
       record {
         fetch = (last.fetch.0, entry_stays place e es at.0 at.1 ∙ last.fetch.1, last.fetch.2);
-        later = rw (one_later place e es at.1) (all_append (λ e. is_fetch seat k e ≡ false) (later_than place es) (e ∷ []) last.later (other, tt));
+        later = rw (one_later place e es at.1) (all_append (λ e. is_fetch seat k e ≡ false)
+            (later_than place es) (e ∷ []) last.later (other, tt));
       }
 
   -- and a fetch is the last one
-  pub becomes_last : (e : Entry) (es : List Entry) → IsTrue (is_fetch seat k e) → IsLastFetch seat k (length es + 1) (e ∷ es)
-  becomes_last e es this = record { fetch = (e, entry_new e es, this); later = rw (none_later (length es + 1) (e ∷ es) (omega arith)) tt }
+  pub becomes_last : (e : Entry) (es : List Entry) → IsTrue (is_fetch seat k e)
+      → IsLastFetch seat k (length es + 1) (e ∷ es)
+  becomes_last e es this =
+      record {
+        fetch = (e, entry_new e es, this);
+        later = rw (none_later (length es + 1) (e ∷ es) (omega arith)) tt;
+      }
 
   -- so the policy looks back over the entries behind the place
-  pub since : (place : ℕ) (t : Target) (es : List Entry) → IsLastFetch seat k place es → updates_since seat k t es ≡ flat_map (λ e. updates_of t e.change) (later_than place es)
-  since place t [] last = sym (ap (flat_map (λ e. updates_of t e.change)) (drop_all place [] (omega arith)))
+  pub since : (place : ℕ) (t : Target) (es : List Entry) → IsLastFetch seat k place es
+      → updates_since seat k t es ≡ flat_map (λ e. updates_of t e.change) (later_than place es)
+  since place t [] last =
+      sym (ap (flat_map (λ e. updates_of t e.change)) (drop_all place [] (omega arith)))
   since place t (e ∷ es) last = elim (cases_lt (length es) place) [
-    | inl beyond ↦
-        let at = within place (e ∷ es) last.fetch.0 last.fetch.1 in
-        let this : IsTrue (is_fetch seat k e) = grind (arith, at, beyond, entry_new e es, last.fetch) in
+    | inl beyond ↦ let at = within place (e ∷ es) last.fetch.0 last.fetch.1 in
+        let this : IsTrue (is_fetch seat k e) = grind (arith, beyond, entry_new e es) in
         rw (this, none_later place (e ∷ es) (omega (arith, beyond))) refl
-    | inr le ↦
-        let at = within place (e ∷ es) last.fetch.0 last.fetch.1 in
-        let later = last_of_two (λ e. is_fetch seat k e ≡ false) (later_than place es) e (rw (one_later place e es le) at last.later) in
-        let was : IsLastFetch seat k place es = record { fetch = (last.fetch.0, sym (entry_stays place e es at.0 le) ∙ last.fetch.1, last.fetch.2); later = later.0 } in
-        rw (later.1, one_later place e es le, flat_map-append, append-nil, since place t es was) refl
+    | inr le ↦ let at = within place (e ∷ es) last.fetch.0 last.fetch.1 in let later = last_of_two
+        (λ e. is_fetch seat k e ≡ false) (later_than place es) e (rw (one_later place e es le) at
+        last.later) in let was : IsLastFetch seat k place es =
+        record {
+          fetch = (last.fetch.0, sym (entry_stays place e es at.0 le) ∙ last.fetch.1, last.fetch.2);
+          later = later.0;
+        } in rw
+        (later.1, one_later place e es le, flat_map-append, append-nil, since place t es was) refl
   ]
 
-pub answered : (h : History) (seat k : ℕ) (m : Monitor) → monitor h seat k ≡ Some (target m) → IsLastFetch seat k m.place h.entries → updates h seat k ≡ updates_behind h.entries m
-answered h seat k m is last = ap (λ t. option_map_or (λ t. updates_since seat k t h.entries) t []) is ∙ since seat k m.place (target m) h.entries last
+pub answered : (h : History) (seat k : ℕ) (m : Monitor) → monitor h seat k ≡ Some (target m)
+    → IsLastFetch seat k m.place h.entries → updates h seat k ≡ updates_behind h.entries m
+answered h seat k m is last = ap (λ t. option_map_or (λ t. updates_since seat k t h.entries) t [])
+    is ∙ since seat k m.place (target m) h.entries last

@@ -1,6 +1,8 @@
 -- What monitors that follow the policy say of its answers.
-use Rattle.group_monitors.proofs.Words.{◌≡◌, ◌∙◌, sym, ap, refl, ℕ, List, Some, None, length, ◌≤◌, arith, IsSome, option_map, Entry, Update, History}
-use Rattle.group_monitors.proofs.Words.{monitor, updates, Monitor, target, monitor_of, HasSeen, updates_behind, FollowsPolicy}
+use Rattle.group_monitors.proofs.Words.{◌≡◌, ◌∙◌, sym, ap, refl, ℕ, List, Some, None, length, ◌≤◌}
+use Rattle.group_monitors.proofs.Words.{arith, IsSome, option_map, Entry, Update, History, monitor}
+use Rattle.group_monitors.proofs.Words.{updates, Monitor, target, monitor_of, HasSeen}
+use Rattle.group_monitors.proofs.Words.{updates_behind, FollowsPolicy}
 use Rattle.policy_audit.specs.declared.event.Event.TheVariants as event
 use Rattle.policy_audit.specs.declared.rule.Rule.TheVariants as rule
 use Rattle.policy_audit.specs.Checks.{first_broken, checks}
@@ -12,27 +14,34 @@ module _ (h : History) (ms : List (ℕ × Monitor)) (f : FollowsPolicy h ms) (se
   is_one m at = sym (f.found seat k) ∙ ap (option_map target) at
 
   -- what it is told is the policy's answer
-  pub follows_answer : (m : Monitor) → monitor_of ms seat k ≡ Some m → updates h seat k ≡ updates_behind h.entries m
+  pub follows_answer : (m : Monitor) → monitor_of ms seat k ≡ Some m
+      → updates h seat k ≡ updates_behind h.entries m
   follows_answer m at = answered h seat k m (is_one m at) (f.places seat k m at)
 
   -- it has seen no more entries than there are
   pub follows_seen : HasSeen (monitor_of ms seat k) h.entries
-  follows_seen = let seen = λ (m : Monitor) (at : monitor_of ms seat k ≡ Some m). seen_all seat k m.place h.entries (f.places seat k m at) in grind (arith, seen)
+  follows_seen = let seen = λ (m : Monitor) (at : monitor_of ms seat k ≡ Some m). seen_all seat k
+      m.place h.entries (f.places seat k m at) in grind arith
 
   -- nor than there are later
-  pub follows_seen_later : (later : List Entry) → length h.entries ≤ length later → HasSeen (monitor_of ms seat k) later
+  pub follows_seen_later : (later : List Entry) → length h.entries ≤ length later
+      → HasSeen (monitor_of ms seat k) later
   follows_seen_later later more = grind (arith, follows_seen)
 
   -- whether an Updates and a Demonitor of it are refused
   pub follows_refused : monitor_of ms seat k ≡ None
-      → (first_broken (checks h seat (event.Updates k)) ≡ Some rule.NoMonitor) × (first_broken (checks h seat (event.Demonitor k)) ≡ Some rule.NoMonitor)
-  follows_refused none = let none_there : monitor h seat k ≡ None = sym (f.found seat k) ∙ ap (option_map target) none in rw none_there (refl, refl)
+      → (first_broken (checks h seat (event.Updates k)) ≡ Some rule.NoMonitor)
+      × (first_broken (checks h seat (event.Demonitor k)) ≡ Some rule.NoMonitor)
+  follows_refused none = let none_there : monitor h seat k ≡ None = sym (f.found seat k)
+      ∙ ap (option_map target) none in rw none_there (refl, refl)
 
   pub follows_checked : IsSome (monitor_of ms seat k)
-      → (first_broken (checks h seat (event.Updates k)) ≡ None) × (first_broken (checks h seat (event.Demonitor k)) ≡ None)
+      → (first_broken (checks h seat (event.Updates k)) ≡ None)
+      × (first_broken (checks h seat (event.Demonitor k)) ≡ None)
   follows_checked some = grind (arith, is_one)
 
   -- what is told where there is such a monitor
-  pub follows_told : (us : List Update) → option_map (updates_behind h.entries) (monitor_of ms seat k) ≡ Some us
+  pub follows_told : (us : List Update)
+      → option_map (updates_behind h.entries) (monitor_of ms seat k) ≡ Some us
       → (first_broken (checks h seat (event.Updates k)) ≡ None) × (updates h seat k ≡ us)
   follows_told us told = grind (arith, follows_checked, follows_answer)

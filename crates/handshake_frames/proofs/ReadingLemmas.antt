@@ -1,44 +1,59 @@
 -- A reader gives a frame exactly where the body spells it.
-use Rattle.std.proofs.Common.{◌≡◌, ℕ, ◌<◌, ◌^◌, ◌&&◌, Bool, true, false, cond, eqb, List, [], ◌∷◌, ◌++◌, length, take, drop, Some, None, sym, ap, subst, refl, ◌∙◌, arith}
+use Rattle.std.proofs.Common.{◌≡◌, ℕ, ◌<◌, ◌^◌, ◌&&◌, Bool, true, false, cond, eqb, List, [], ◌∷◌}
+use Rattle.std.proofs.Common.{◌++◌, length, take, drop, Some, None, sym, ap, subst, refl, ◌∙◌}
+use Rattle.std.proofs.Common.{arith}
 use Rattle.std.specs.Int.{w16, from_be_bytes}
 use Rattle.std.specs.List.{starts_with, find}
 use Rattle.std.specs.Str.{bytes_eq}
 use Rattle.std.proofs.lemmas.Bool.{and_parts, and_from}
 use Rattle.std.proofs.lemmas.Bool.Decides.{Decides-eqb}
 use Rattle.std.proofs.lemmas.Slice.Eq.{starts_is, bytes_eq-Decides}
-use Rattle.std.proofs.lemmas.Nat.{from_be_bytes-to_be_bytes_2, from_be_bytes-to_be_bytes_4, from_be_bytes-to_be_bytes_8}
+use Rattle.std.proofs.lemmas.Nat.{from_be_bytes-to_be_bytes_2, from_be_bytes-to_be_bytes_4}
+use Rattle.std.proofs.lemmas.Nat.{from_be_bytes-to_be_bytes_8}
 use Rattle.std.proofs.lemmas.List.{take_at, length-take}
 use Rattle.handshake_frames.specs.declared.frame.StatusWord.{StatusWord}
 use Rattle.handshake_frames.specs.declared.frame.ReplyFrame.{ReplyFrame}
 use Rattle.handshake_frames.specs.declared.frame.AckFrame.{AckFrame}
 use Rattle.handshake_frames.specs.Frame.{Name, Challenge}
-use Rattle.handshake_frames.specs.Spelling.{counted, status_bytes, name_bytes, NameFits, SpellsName, SpellsStatus, challenge_bytes, ChallengeFits, SpellsChallenge, reply_bytes, SpellsReply, ack_bytes, SpellsAck}
-use Rattle.handshake_frames.specs.Reading.{counted_in, name_in, name_frame, words, status_of, challenge_in, challenge_frame, reply_in, reply_frame, ack_in, ack_frame}
+use Rattle.handshake_frames.specs.Spelling.{counted, status_bytes, name_bytes, NameFits, SpellsName}
+use Rattle.handshake_frames.specs.Spelling.{SpellsStatus, challenge_bytes, ChallengeFits}
+use Rattle.handshake_frames.specs.Spelling.{SpellsChallenge, reply_bytes, SpellsReply, ack_bytes}
+use Rattle.handshake_frames.specs.Spelling.{SpellsAck}
+use Rattle.handshake_frames.specs.Reading.{counted_in, name_in, name_frame, words, status_of}
+use Rattle.handshake_frames.specs.Reading.{challenge_in, challenge_frame, reply_in, reply_frame}
+use Rattle.handshake_frames.specs.Reading.{ack_in, ack_frame}
 
 -- ---- tests
 
 -- what a test guards is given only where it holds
-guarded : {A : Type 0} (test : Bool) (x y : A) → cond test (Some x) None ≡ Some y → (test ≡ true) × (x ≡ y)
+guarded : {A : Type 0} (test : Bool) (x y : A) → cond test (Some x) None ≡ Some y
+    → (test ≡ true) × (x ≡ y)
 guarded true x y e = (refl, cc e)
 guarded false x y e = absurd (cc e)
 
 -- what was found passes the test
-pub found_passes : {A : Type 0} (test : A → Bool) (xs : List A) (x : A) → find test xs ≡ Some x → test x ≡ true
+pub found_passes : {A : Type 0} (test : A → Bool) (xs : List A) (x : A) → find test xs ≡ Some x
+    → test x ≡ true
 found_passes test [] x e = absurd (cc e)
 found_passes test (y ∷ ys) x e = grind (arith, found_passes test ys x)
 
 begins_true : (body front rest : List ℕ) → body ≡ front ++ rest → starts_with eqb body front ≡ true
-begins_true body front rest e = (starts_is Decides-eqb body front (starts_with eqb body front) refl).1 rest e
+begins_true body front rest e =
+    (starts_is Decides-eqb body front (starts_with eqb body front) refl).1 rest e
 
-begins_so : (body front : List ℕ) → starts_with eqb body front ≡ true → body ≡ front ++ drop (length front) body
+begins_so : (body front : List ℕ) → starts_with eqb body front ≡ true
+    → body ≡ front ++ drop (length front) body
 begins_so body front e = (starts_is Decides-eqb body front (starts_with eqb body front) refl).0 e
 
 -- ---- numbers
 
-pub counted_in-counted : (name extra : List ℕ) → length name < 2 ^ 16 → counted_in (counted w16 name ++ extra) ≡ name
-counted_in-counted name extra fits = ap (λ n. take n (name ++ extra)) (from_be_bytes-to_be_bytes_2 (length name) fits) ∙ take_at name extra (length name) refl
+pub counted_in-counted : (name extra : List ℕ) → length name < 2 ^ 16
+    → counted_in (counted w16 name ++ extra) ≡ name
+counted_in-counted name extra fits = ap (λ n. take n (name ++ extra))
+    (from_be_bytes-to_be_bytes_2 (length name) fits) ∙ take_at name extra (length name) refl
 
-counted_in_fits : (bytes rest : List ℕ) → bytes ≡ counted w16 (counted_in bytes) ++ rest → length (counted_in bytes) < 2 ^ 16
+counted_in_fits : (bytes rest : List ℕ) → bytes ≡ counted w16 (counted_in bytes) ++ rest
+    → length (counted_in bytes) < 2 ^ 16
 counted_in_fits bytes rest e =
     let short : from_be_bytes w16 (take 2 bytes) < 2 ^ 16 = rw e (omega arith) in
     omega (arith, length-take (from_be_bytes w16 (take 2 bytes)) (drop 2 bytes))
@@ -53,7 +68,8 @@ name_in-name_bytes f extra fits =
       name = counted_in-counted f.name extra fits.length i;
     }
 
-name_in_fits : (body rest : List ℕ) → body ≡ name_bytes (name_in body) ++ rest → NameFits (name_in body)
+name_in_fits : (body rest : List ℕ) → body ≡ name_bytes (name_in body) ++ rest
+    → NameFits (name_in body)
 name_in_fits body rest e = record {
   flags = rw e (omega arith);
   creation = rw e (omega arith);
@@ -63,9 +79,11 @@ name_in_fits body rest e = record {
 pub name_frame-spelled : (body : List ℕ) (f : Name) → SpellsName body f → name_frame body ≡ Some f
 unfolding name_frame
 name_frame-spelled body f spells =
-    let same : name_in body ≡ f = ap name_in spells.bytes ∙ name_in-name_bytes f spells.extra spells.fits in
+    let same : name_in body ≡ f = ap name_in spells.bytes ∙ name_in-name_bytes f spells.extra
+    spells.fits in
     let begins : starts_with eqb body (name_bytes (name_in body)) ≡ true =
-    subst (λ g. starts_with eqb body (name_bytes g) ≡ true) (sym same) (begins_true body (name_bytes f) spells.extra spells.bytes) in
+    subst (λ g. starts_with eqb body (name_bytes g) ≡ true) (sym same)
+    (begins_true body (name_bytes f) spells.extra spells.bytes) in
     λ i. cond (begins i) (Some (same i)) None
 
 pub SpellsName-read : (body : List ℕ) (f : Name) → name_frame body ≡ Some f → SpellsName body f
@@ -74,21 +92,29 @@ SpellsName-read body f read =
     let found = guarded (starts_with eqb body (name_bytes (name_in body))) (name_in body) f read in
     let bytes = begins_so body (name_bytes (name_in body)) found.0 in
     let rest = drop (length (name_bytes (name_in body))) body in
-    subst (SpellsName body) found.1 (record { fits = name_in_fits body rest bytes; extra = rest; bytes = bytes })
+    subst (SpellsName body) found.1
+    (record { fits = name_in_fits body rest bytes; extra = rest; bytes = bytes })
 
 -- ---- a status frame
 
-pub status_of-spelled : (body : List ℕ) (status : StatusWord) → SpellsStatus body status → status_of body ≡ Some status
+pub status_of-spelled : (body : List ℕ) (status : StatusWord) → SpellsStatus body status
+    → status_of body ≡ Some status
 unfolding status_of
 status_of-spelled body status spells = rw spells.bytes (grind arith)
 
-pub SpellsStatus-read : (body : List ℕ) (status : StatusWord) → status_of body ≡ Some status → SpellsStatus body status
+pub SpellsStatus-read : (body : List ℕ) (status : StatusWord) → status_of body ≡ Some status
+    → SpellsStatus body status
 unfolding status_of
-SpellsStatus-read body status read = record { bytes = sym ((bytes_eq-Decides (status_bytes status) body).0 (found_passes (λ w. bytes_eq (status_bytes w) body) words status read)) }
+SpellsStatus-read body status read =
+    record {
+      bytes = sym ((bytes_eq-Decides (status_bytes status) body).0
+          (found_passes (λ w. bytes_eq (status_bytes w) body) words status read));
+    }
 
 -- ---- a challenge frame
 
-challenge_in-challenge_bytes : (f : Challenge) (extra : List ℕ) → ChallengeFits f → challenge_in (challenge_bytes f ++ extra) ≡ f
+challenge_in-challenge_bytes : (f : Challenge) (extra : List ℕ) → ChallengeFits f
+    → challenge_in (challenge_bytes f ++ extra) ≡ f
 challenge_in-challenge_bytes f extra fits =
     λ i. record {
       flags = from_be_bytes-to_be_bytes_8 f.flags fits.flags i;
@@ -97,7 +123,8 @@ challenge_in-challenge_bytes f extra fits =
       name = counted_in-counted f.name extra fits.length i;
     }
 
-challenge_in_fits : (body rest : List ℕ) → body ≡ challenge_bytes (challenge_in body) ++ rest → ChallengeFits (challenge_in body)
+challenge_in_fits : (body rest : List ℕ) → body ≡ challenge_bytes (challenge_in body) ++ rest
+    → ChallengeFits (challenge_in body)
 challenge_in_fits body rest e = record {
   flags = rw e (omega arith);
   challenge = rw e (omega arith);
@@ -105,59 +132,77 @@ challenge_in_fits body rest e = record {
   length = counted_in_fits (drop 17 body) rest (ap (drop 17) e);
 }
 
-pub challenge_frame-spelled : (body : List ℕ) (f : Challenge) → SpellsChallenge body f → challenge_frame body ≡ Some f
+pub challenge_frame-spelled : (body : List ℕ) (f : Challenge) → SpellsChallenge body f
+    → challenge_frame body ≡ Some f
 unfolding challenge_frame
 challenge_frame-spelled body f spells =
-    let same : challenge_in body ≡ f = ap challenge_in spells.bytes ∙ challenge_in-challenge_bytes f spells.extra spells.fits in
+    let same : challenge_in body ≡ f = ap challenge_in spells.bytes ∙ challenge_in-challenge_bytes f
+    spells.extra spells.fits in
     let begins : starts_with eqb body (challenge_bytes (challenge_in body)) ≡ true =
-    subst (λ g. starts_with eqb body (challenge_bytes g) ≡ true) (sym same) (begins_true body (challenge_bytes f) spells.extra spells.bytes) in
+    subst (λ g. starts_with eqb body (challenge_bytes g) ≡ true) (sym same)
+    (begins_true body (challenge_bytes f) spells.extra spells.bytes) in
     λ i. cond (begins i) (Some (same i)) None
 
-pub SpellsChallenge-read : (body : List ℕ) (f : Challenge) → challenge_frame body ≡ Some f → SpellsChallenge body f
+pub SpellsChallenge-read : (body : List ℕ) (f : Challenge) → challenge_frame body ≡ Some f
+    → SpellsChallenge body f
 unfolding challenge_frame
 SpellsChallenge-read body f read =
-    let found = guarded (starts_with eqb body (challenge_bytes (challenge_in body))) (challenge_in body) f read in
+    let found = guarded (starts_with eqb body (challenge_bytes (challenge_in body)))
+    (challenge_in body) f read in
     let bytes = begins_so body (challenge_bytes (challenge_in body)) found.0 in
     let rest = drop (length (challenge_bytes (challenge_in body))) body in
-    subst (SpellsChallenge body) found.1 (record { fits = challenge_in_fits body rest bytes; extra = rest; bytes = bytes })
+    subst (SpellsChallenge body) found.1
+    (record { fits = challenge_in_fits body rest bytes; extra = rest; bytes = bytes })
 
 -- ---- a reply
 
 reply_in-spelled : (body : List ℕ) (f : ReplyFrame) → SpellsReply body f → reply_in body ≡ f
 reply_in-spelled body f spells = λ i. record {
-  challenge = (ap (λ b. (reply_in b).challenge) spells.bytes ∙ from_be_bytes-to_be_bytes_4 f.challenge spells.fits.challenge) i;
+  challenge = (ap (λ b. (reply_in b).challenge) spells.bytes ∙ from_be_bytes-to_be_bytes_4
+      f.challenge spells.fits.challenge) i;
   digest = drop 5 (spells.bytes i);
 }
 
-pub reply_frame-spelled : (body : List ℕ) (f : ReplyFrame) → SpellsReply body f → reply_frame body ≡ Some f
+pub reply_frame-spelled : (body : List ℕ) (f : ReplyFrame) → SpellsReply body f
+    → reply_frame body ≡ Some f
 unfolding reply_frame
 reply_frame-spelled body f spells =
     let same = reply_in-spelled body f spells in
-    let bytes : bytes_eq (reply_bytes (reply_in body)) body ≡ true = (bytes_eq-Decides _ body).1 (ap reply_bytes same ∙ sym spells.bytes) in
-    let long : eqb (length (reply_in body).digest) 16 ≡ true = (Decides-eqb _ 16).1 (ap (λ g. length g.digest) same ∙ spells.fits.digest) in
+    let bytes : bytes_eq (reply_bytes (reply_in body)) body ≡ true = (bytes_eq-Decides _ body).1
+    (ap reply_bytes same ∙ sym spells.bytes) in
+    let long : eqb (length (reply_in body).digest) 16 ≡ true =
+    (Decides-eqb _ 16).1 (ap (λ g. length g.digest) same ∙ spells.fits.digest) in
     λ i. cond (and_from _ _ bytes long i) (Some (same i)) None
 
-pub SpellsReply-read : (body : List ℕ) (f : ReplyFrame) → reply_frame body ≡ Some f → SpellsReply body f
+pub SpellsReply-read : (body : List ℕ) (f : ReplyFrame) → reply_frame body ≡ Some f
+    → SpellsReply body f
 unfolding reply_frame
 SpellsReply-read body f read =
-    let found = guarded (bytes_eq (reply_bytes (reply_in body)) body && eqb (length (reply_in body).digest) 16) (reply_in body) f read in
+    let found = guarded (bytes_eq (reply_bytes (reply_in body)) body && eqb
+    (length (reply_in body).digest) 16) (reply_in body) f read in
     let tests = and_parts _ _ found.0 in
     let bytes = sym ((bytes_eq-Decides (reply_bytes (reply_in body)) body).0 tests.0) in
     let challenge : (reply_in body).challenge < 2 ^ 32 = rw bytes (omega arith) in
-    subst (SpellsReply body) found.1 (record { fits = record { challenge = challenge; digest = (Decides-eqb _ 16).0 tests.1 }; bytes = bytes })
+    subst (SpellsReply body) found.1
+    (record {
+      fits = record { challenge = challenge; digest = (Decides-eqb _ 16).0 tests.1 };
+      bytes = bytes;
+    })
 
 -- ---- an acknowledgement
 
 pub ack_frame-spelled : (body : List ℕ) (f : AckFrame) → SpellsAck body f → ack_frame body ≡ Some f
 unfolding ack_frame
-ack_frame-spelled body f spells =
-    let same : ack_in body ≡ f = λ i. record { digest = drop 1 (spells.bytes i) } in
-    rw same (grind (arith, spells.bytes, spells.fits.digest, bytes_eq-Decides (ack_bytes f) body, Decides-eqb (length f.digest) 16))
+ack_frame-spelled body f spells = let same : ack_in body ≡ f =
+    λ i. record { digest = drop 1 (spells.bytes i) } in rw same
+    (grind (arith, bytes_eq-Decides (ack_bytes f) body, Decides-eqb (length f.digest) 16))
 
 pub SpellsAck-read : (body : List ℕ) (f : AckFrame) → ack_frame body ≡ Some f → SpellsAck body f
 unfolding ack_frame
 SpellsAck-read body f read =
-    let found = guarded (bytes_eq (ack_bytes (ack_in body)) body && eqb (length (ack_in body).digest) 16) (ack_in body) f read in
+    let found = guarded (bytes_eq (ack_bytes (ack_in body)) body && eqb
+    (length (ack_in body).digest) 16) (ack_in body) f read in
     let tests = and_parts _ _ found.0 in
     let bytes = sym ((bytes_eq-Decides (ack_bytes (ack_in body)) body).0 tests.0) in
-    subst (SpellsAck body) found.1 (record { fits = record { digest = (Decides-eqb _ 16).0 tests.1 }; bytes = bytes })
+    subst (SpellsAck body) found.1
+    (record { fits = record { digest = (Decides-eqb _ 16).0 tests.1 }; bytes = bytes })

@@ -2,24 +2,24 @@
 use Rattle.std.specs.Prelude.{◌≡◌, ⊤, ℕ, ◌≤◌, ◌<◌, ◌^◌, List, ◌++◌, Option, Some, None, length, take}
 use Rattle.std.specs.Int.{w16}
 use Rattle.std.specs.Option.{option_to_list}
-use Rattle.handshake_frames.specs.Part.{part_len, part_bytes}
+use Rattle.handshake_frames.specs.BodySoFar.{whole_len, bytes_so_far}
 use Rattle.handshake_frames.specs.declared.held.Held.{Held}
 use Rattle.handshake_frames.specs.declared.held.Held.TheVariants.{Length, Body}
 
 -- the bytes used since the last body
 abbrev pub held_bytes : Held → List ℕ
 held_bytes (Length first) = option_to_list first
-held_bytes (Body part) = part_bytes w16 part
+held_bytes (Body so_far) = bytes_so_far w16 so_far
 
 -- the length of a body was read of 2 bytes
 abbrev pub HasLength : Held → Type 0
 HasLength (Length first) = ⊤
-HasLength (Body part) = part_len part < 2 ^ 16
+HasLength (Body so_far) = whole_len so_far < 2 ^ 16
 
 -- a body that is held isn't whole
 abbrev pub IsUnfinished : Held → Type 0
 IsUnfinished (Length first) = ⊤
-IsUnfinished (Body part) = 0 < part.missing
+IsUnfinished (Body so_far) = 0 < so_far.missing
 
 -- between two pieces no body is whole
 pub record IsHeld (held : Held) : Type 0 where

@@ -1,6 +1,6 @@
 pub mod Frame
 pub mod Spelling
 pub mod Reading
-pub mod Part
+pub mod BodySoFar
 pub mod Held
 pub mod Stream

@@ -70,7 +70,7 @@ fn name_at(body: &[u8]) -> Option<NameFrame<'_>>
     let rest = after_kind(b'N', body)?;
     let (flags, rest) = u64_at(rest)?;
     let (creation, rest) = u32_at(rest)?;
-    let name = counted_at(rest)?;
+    let (name, _) = counted_at(rest)?;
     Some(NameFrame {
         flags: Flags(flags),
         creation,
@@ -87,7 +87,7 @@ fn challenge_at(body: &[u8]) -> Option<ChallengeFrame<'_>>
     let (flags, rest) = u64_at(rest)?;
     let (challenge, rest) = u32_at(rest)?;
     let (creation, rest) = u32_at(rest)?;
-    let name = counted_at(rest)?;
+    let (name, _) = counted_at(rest)?;
     Some(ChallengeFrame {
         flags: Flags(flags),
         challenge,

@@ -3,16 +3,17 @@ ghost use Rattle.std.specs.Prelude.{◌≡◌, ◌+◌, ◌<◌, ◌++◌, ◌�
 ghost use Rattle.std.specs.Int.{w16, to_be_bytes};
 ghost use Rattle.handshake_frames.specs.Held.{IsHeld, Takes, Gives};
 
-use crate::part_body::PartBody;
+use crate::body_so_far::BodySoFar;
 use dist_types::{Body, OutOfMemory};
 use std::alloc::Global;
+use std::mem;
 
 /// What was used of a stream since its last body.
 #[derive(Debug, Drop)]
 pub enum Held {
     /// Nothing, or the first byte of a length.
     Length(Option<u8>),
-    Body(PartBody),
+    Body(BodySoFar),
 }
 
 impl Held {
@@ -23,15 +24,15 @@ impl Held {
         ensures same { OnErr result (self.new ≡ self.old) }
     {
         match self {
-            Held::Body(part) => part.take(piece),
+            Held::Body(so_far) => so_far.take(piece),
             Held::Length(first) => {
                 let Some((len, behind)) = length_at(*first, piece) else {
                     *first = first.or(piece.first().copied());
                     return Ok(piece.len());
                 };
-                let mut part = PartBody::new(alloc, len as usize);
-                let taken = part.take(behind)?;
-                *self = Held::Body(part);
+                let mut so_far = BodySoFar::new(alloc, len as usize)?;
+                let taken = so_far.take(behind)?;
+                *self = Held::Body(so_far);
                 Ok(piece.len() - behind.len() + taken)
             }
         }
@@ -41,12 +42,13 @@ impl Held {
     pub fn take_whole(&mut self) -> Option<Body>
         ensures { Gives self.old result self.new }
     {
-        let Held::Body(part) = self else {
-            return None;
-        };
-        let body = part.take_whole()?;
-        *self = Held::Length(None);
-        Some(body)
+        match mem::replace(self, Held::Length(None)) {
+            Held::Body(so_far) if so_far.is_whole() => Some(so_far.into_body()),
+            held => {
+                *self = held;
+                None
+            }
+        }
     }
 }
 

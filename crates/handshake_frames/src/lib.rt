@@ -2,6 +2,7 @@
 //! Distribution Handshake).
 #![tactic(auto)]
 
+mod body_so_far;
 mod counted;
 mod decoding;
 mod encoding;
@@ -9,14 +10,14 @@ mod fault;
 mod frame;
 mod held;
 mod laws;
-mod part_body;
 mod reader;
 mod status;
 
+pub use body_so_far::BodySoFar;
+pub use counted::counted_at;
 pub use decoding::{decode_ack, decode_challenge, decode_name, decode_reply, decode_status};
 pub use encoding::encode;
 pub use fault::BadFrame;
 pub use frame::{AckFrame, ChallengeFrame, HsFrame, NameFrame, ReplyFrame, StatusWord};
 pub use laws::{any_cut, one_frame, readers, round_trip};
-pub use part_body::PartBody;
 pub use reader::{Fed, HsReader};

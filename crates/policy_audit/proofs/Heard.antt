@@ -2,7 +2,7 @@
 use Rattle.policy_audit.proofs.Words.{ap, arith, refl, subst, sym, ◌∙◌, eqb-true, option_map_or, unwrap_or, Bool, List, None, Option, Some}
 use Rattle.policy_audit.proofs.Words.{[], cond, false, length, true, ℕ, ◌&&◌, ◌++◌, ◌+◌, ◌==◌, ◌∷◌, ◌≡◌, same_decides, same, Message}
 use Rattle.policy_audit.proofs.Words.{always, checks, first_broken, frame_checks, message_checks, runs, Said, Stopped, Talk, hears}
-use Rattle.policy_audit.proofs.Words.{message_taken, talk, talk_of, tells, History, first_of, past, is_open, is_running, IsLegalIn, verdict}
+use Rattle.policy_audit.proofs.Words.{said_on, talk, talk_of, tells, History, first_of, past, is_open, is_running, IsLegalIn, verdict}
 use Rattle.policy_audit.proofs.Words.{awaits, is_whole, opened, taken, Entry, Verdict, Accepted, Refused, Event, Opening, Rule}
 use Rattle.policy_audit.proofs.Accepted.{lie, accepted, open_first}
 use Rattle.policy_audit.proofs.Walked.{but, unborn}
@@ -36,7 +36,7 @@ module _ (s : List ℕ) (asks : Talk → Option Bool) (stop : (t : List ℕ) →
   says_yes ts = unwrap_or (first_of asks ts) false
 
   module _ (o : Opening) (es : List Entry) (e : Entry) (l : ℕ) where
-    framed : (k : ℕ) (body : List ℕ) → first_broken (checks (past o es) e.seat (Event.Frame k body)) ≡ None → is_whole k es ≡ true → (m : Message) → message_taken body ≡ Some m → is_running (past o es) (scope_of m) ≡ true
+    framed : (k : ℕ) (body : List ℕ) → first_broken (checks (past o es) e.seat (Event.Frame k body)) ≡ None → is_whole k es ≡ true → (m : Message) → said_on k es body ≡ Some m → is_running (past o es) (scope_of m) ≡ true
     framed k body q w m says =
         let met = (open_first (is_open k es) (frame_checks (past o es) k body (awaits k es)) q).1 in
         let kind = subst (λ a. first_broken (frame_checks (past o es) k body a) ≡ None) (whole_awaits (opened k es) (taken k es) w) met in
@@ -51,8 +51,8 @@ module _ (s : List ℕ) (asks : Talk → Option Bool) (stop : (t : List ℕ) →
         → says_yes (talk l (but e ev v ∷ es)) ≡ true → is_running (past o (but e ev v ∷ es)) s ≡ true
     by_event (Event.Frame k body) (Accepted r) q so_far h = by (k == l) refl (is_whole l es) refl h
       where
-        by : (a : Bool) → (k == l) ≡ a → (b : Bool) → is_whole l es ≡ b → says_yes (cond (a && b) (talk_of (message_taken body)) [] ++ talk l es) ≡ true → is_running (past o es) s ≡ true
-        by true n true w h = spoken (message_taken body) (framed k body (accepted (past o es) e.seat (Event.Frame k body) r q).0 (ap (λ j. is_whole j es) (eqb-true k l n) ∙ w)) so_far h
+        by : (a : Bool) → (k == l) ≡ a → (b : Bool) → is_whole l es ≡ b → says_yes (cond (a && b) (talk_of (said_on l es body)) [] ++ talk l es) ≡ true → is_running (past o es) s ≡ true
+        by true n true w h = spoken (said_on l es body) (framed k body (accepted (past o es) e.seat (Event.Frame k body) r q).0 (ap (λ j. is_whole j es) (eqb-true k l n) ∙ w)) so_far h
         by a n b w h = so_far h
     by_event (Event.StartScope t) (Accepted r) _ so_far h = grind arith
     by_event (Event.StopScope t) (Accepted r) _ so_far h = grind (arith, stop)

@@ -6,9 +6,9 @@ use Rattle.policy_audit.proofs.Words.{pid_cmp, Row, Message, local_rows, row, he
 use Rattle.policy_audit.proofs.Words.{is_open, is_opened_by, is_up, links, OutFrame, drops, frame_owes, if_told, if_visible, is_kept, owed}
 use Rattle.policy_audit.proofs.Words.{own_name_frame, refusal_owes, waiting, waiting_in, is_running, own, running_scopes, IsLegal}
 use Rattle.policy_audit.proofs.Words.{IsLegalIn, verdict, awaits, opened, start_of, started_where, Entry, Verdict, Accepted, Refused, Event}
-use Rattle.policy_audit.proofs.Words.{Opening, Reply, Rule}
+use Rattle.policy_audit.proofs.Words.{and_parts, Opening, Reply, Rule}
 use Rattle.policy_audit.proofs.Accepted.{accepted, lie}
-use Rattle.policy_audit.proofs.UpLinks.{and_right, other}
+use Rattle.policy_audit.proofs.UpLinks.{other}
 use Rattle.policy_audit.proofs.Walked.{but, frame_fits, open_opened, unborn}
 use Rattle.policy_audit.proofs.Heard.{has_sync, has_discover, heard_runs, told_talk_runs}
 use Rattle.policy_audit.proofs.Finished.{kept}
@@ -140,7 +140,7 @@ links_fall h legal = (below h.opening h.entries legal).1
 -- ---- who is told and heard
 
 pub told_runs : (h : History) → IsLegal h → (l : ℕ) (s : List ℕ) → told l s h.entries ≡ true → is_running h s ≡ true
-told_runs h legal l s t = told_talk_runs h.opening h.entries legal l s (and_right (is_up l h.entries) (has_discover s (talk l h.entries)) t)
+told_runs h legal l s t = told_talk_runs h.opening h.entries legal l s (and_parts (is_up l h.entries) (has_discover s (talk l h.entries)) t).1
 
 pub heard_runs' : (h : History) → IsLegal h → (l : ℕ) (s : List ℕ) → heard l s h.entries ≡ true → is_running h s ≡ true
-heard_runs' h legal l s t = heard_runs h.opening h.entries legal l s (and_right (is_up l h.entries) (has_sync s (talk l h.entries)) t)
+heard_runs' h legal l s t = heard_runs h.opening h.entries legal l s (and_parts (is_up l h.entries) (has_sync s (talk l h.entries)) t).1

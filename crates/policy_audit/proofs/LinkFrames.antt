@@ -3,8 +3,8 @@ use Rattle.policy_audit.proofs.Words.{ap, arith, refl, subst, eq-eqb, eqb-true, 
 use Rattle.policy_audit.proofs.Words.{true, ℕ, ◌&&◌, ◌++◌, ◌==◌, ◌≡◌, same_decides, is_empty, Name, name_frame, History, is_accepted}
 use Rattle.policy_audit.proofs.Words.{frame_ends, is_open, is_unfinished_dial, is_up, named_by, OutFrame, frame_owes, is_kept, refusal_owes}
 use Rattle.policy_audit.proofs.Words.{waiting, welcome, IsAnswered, IsLegal, with_entry, AwaitMessage, AwaitName, awaits, is_last}
-use Rattle.policy_audit.proofs.Words.{is_name_up, is_peer, is_whole, peer_of, present_link, Entry, Refused, Event, Rule}
-use Rattle.policy_audit.proofs.UpLinks.{agrees, and_left}
+use Rattle.policy_audit.proofs.Words.{and_parts, is_name_up, is_peer, is_whole, peer_of, present_link, Entry, Refused, Event, Rule}
+use Rattle.policy_audit.proofs.UpLinks.{agrees}
 use Rattle.policy_audit.proofs.Onward.{frame_open}
 
 -- after the history k link l is open or not, these frames wait for it, and it is kept or not
@@ -41,7 +41,7 @@ module _ (h : History) (e : Entry) (yes : is_accepted e.verdict ≡ true) where
 
     -- the present link is open
     present_open : (l : ℕ) → (j == l) ≡ true → is_open l es ≡ true
-    present_open l q = subst (λ x. is_open x es ≡ true) (eqb-true j l q) (and_left (is_open j es) (is_whole j es) its.0)
+    present_open l q = subst (λ x. is_open x es ≡ true) (eqb-true j l q) (and_parts (is_open j es) (is_whole j es) its.0).0
 
     pub disconnected_links : (l : ℕ) → IsLinkNow k l (is_open l es && not (j == l)) (cond (j == l) [] (waiting h l)) (is_kept h l && not (j == l))
     disconnected_links l = grind (arith, append-nil, ends_present l, present_open l)

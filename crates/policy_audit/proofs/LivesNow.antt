@@ -3,10 +3,10 @@ use Rattle.policy_audit.proofs.Words.{ap, arith, refl, eq-eqb, eqb-false, eqb-tr
 use Rattle.policy_audit.proofs.Words.{nat_eq, nat_le, not, suc, true, ℕ, ◌&&◌, ◌+◌, ◌<◌, ◌==◌, ◌∷◌, ◌≡◌, same_decides, same_pid_decides}
 use Rattle.policy_audit.proofs.Words.{how_many, same, Pid, checks, History, creation, events, is_accepted, past, is_exit, is_exit_of}
 use Rattle.policy_audit.proofs.Words.{is_local, lives, spawned, IsAnswered, IsLegal, IsLegalIn, verdict, with_entry, Entry, Verdict}
-use Rattle.policy_audit.proofs.Words.{Accepted, Event, Opening}
+use Rattle.policy_audit.proofs.Words.{and_parts, Accepted, Event, Opening}
 use Rattle.policy_audit.proofs.Accepted.{accepted, all_hold, unbroken}
 use Rattle.policy_audit.proofs.Walked.{but}
-use Rattle.policy_audit.proofs.UpLinks.{and_both, and_left, and_right}
+use Rattle.policy_audit.proofs.UpLinks.{and_both}
 use Rattle.policy_audit.proofs.Effects.{breaks_none, by_accepted}
 
 -- the own process of that number
@@ -16,8 +16,8 @@ own_pid h n = record { node = h.opening.name; creation = creation h; number = n 
 -- an own process is known by its number
 pub is_own_pid : (h : History) (p : Pid) → is_local h p ≡ true → p ≡ own_pid h p.number
 is_own_pid h p local = λ i. record {
-  node = (same_decides p.node h.opening.name).0 (and_left (same p.node h.opening.name) (p.creation == creation h) local) i;
-  creation = eqb-true p.creation (creation h) (and_right (same p.node h.opening.name) (p.creation == creation h) local) i;
+  node = (same_decides p.node h.opening.name).0 (and_parts (same p.node h.opening.name) (p.creation == creation h) local).0 i;
+  creation = eqb-true p.creation (creation h) (and_parts (same p.node h.opening.name) (p.creation == creation h) local).1 i;
   number = p.number;
 }
 

@@ -2,12 +2,12 @@
 use Rattle.policy_audit.proofs.Words.{ap, arith, refl, subst, sym, ◌∙◌, eq-eqb, list_all, option_map_or, Bool, List, None, Some, cond}
 use Rattle.policy_audit.proofs.Words.{false, not, true, ℕ, ◌&&◌, ◌+◌, ◌-◌, ◌∷◌, ◌≡◌, same_decides, same_row_decides, same_sym, occurrences}
 use Rattle.policy_audit.proofs.Words.{same, same_row, Pid, Row, Message, always, first_broken, frame_checks, message_checks, runs, row}
-use Rattle.policy_audit.proofs.Words.{Said, Talk, heard, hears, message_taken, rows_of, stated_in, talk, History, is_accepted, is_open}
+use Rattle.policy_audit.proofs.Words.{Said, Talk, heard, hears, said_on, rows_of, stated_in, talk, History, is_accepted, is_open}
 use Rattle.policy_audit.proofs.Words.{is_up, is_from, listed, is_running, IsAnswered, IsLegal, with_entry, AwaitMessage, Taken, awaits}
-use Rattle.policy_audit.proofs.Words.{is_last, is_visible, is_whole, opened, peer_of, present_link, taken, Entry, Event, Rule}
+use Rattle.policy_audit.proofs.Words.{and_parts, is_last, is_visible, is_whole, opened, peer_of, present_link, taken, Entry, Event, Rule}
 use Rattle.policy_audit.proofs.Effects.{breaks_none}
 use Rattle.policy_audit.proofs.Accepted.{Hold, all_hold, open_first, unbroken}
-use Rattle.policy_audit.proofs.UpLinks.{agrees, and_both, and_right, other}
+use Rattle.policy_audit.proofs.UpLinks.{agrees, and_both, other}
 use Rattle.policy_audit.proofs.Walked.{open_opened}
 use Rattle.policy_audit.proofs.RowsAfter.{done_frame, inner_rows, not_local, uncounted}
 use Rattle.policy_audit.proofs.Finished.{given_kept, is_message, kept, message_whole, whole_kept}
@@ -30,7 +30,7 @@ module _ (h : History) (legal : IsLegal h) (e : Entry) (made : IsAnswered h e) (
   abbrev es : List Entry
   es = h.entries
 
-  module _ (m : Message) (says : message_taken body ≡ Some m) where
+  module _ (m : Message) (says : said_on l h.entries body ≡ Some m) where
     inner : is_last (awaits l es) ≡ false
     inner = ap is_last awaited
 
@@ -81,7 +81,7 @@ module _ (h : History) (legal : IsLegal h) (e : Entry) (made : IsAnswered h e) (
         by false i true q = elsewhere t f p i ∙ others i q
         by false i false q = elsewhere t f p i
 
-  pub discovered_rows : (s : List ℕ) → message_taken body ≡ Some (Message.Discover s) → (t f : List ℕ) (p : Pid) → listed (with_entry h e) t f p ≡ listed h t f p
+  pub discovered_rows : (s : List ℕ) → said_on l h.entries body ≡ Some (Message.Discover s) → (t f : List ℕ) (p : Pid) → listed (with_entry h e) t f p ≡ listed h t f p
   discovered_rows s says t f p = inner_rows h legal e made yes l body is (ap is_last awaited) t f p (grind (arith, says))
 
   -- what the link says of itself in a scope that runs
@@ -89,7 +89,7 @@ module _ (h : History) (legal : IsLegal h) (e : Entry) (made : IsAnswered h e) (
   running_as s t q runs = ap (is_running h) (sym ((same_decides s t).0 q)) ∙ unbroken (is_running h s) runs
 
   heard_as : (s t : List ℕ) → same s t ≡ true → not (heard l s es) ≡ false → has_sync t (talk l es) ≡ true
-  heard_as s t q hears = ap (λ u. has_sync u (talk l es)) (sym ((same_decides s t).0 q)) ∙ and_right (is_up l es) (has_sync s (talk l es)) (unbroken (heard l s es) hears)
+  heard_as s t q hears = ap (λ u. has_sync u (talk l es)) (sym ((same_decides s t).0 q)) ∙ (and_parts (is_up l es) (has_sync s (talk l es)) (unbroken (heard l s es) hears)).1
 
   -- a message names no process that isn't from its link
   none_from : (rows : List Row) → not (list_all (λ r. is_from l es r.pid) rows) ≡ false → (f : List ℕ) (p : Pid) → is_from l es p ≡ false → rows_of f p rows ≡ 0
@@ -98,7 +98,7 @@ module _ (h : History) (legal : IsLegal h) (e : Entry) (made : IsAnswered h e) (
   foreign_from : (p : Pid) → same p.node n ≡ false → is_from l es p ≡ false
   foreign_from p other = grind (arith, of, same_sym n p.node)
 
-  pub synced_rows : (s : List ℕ) (rows : List Row) → message_taken body ≡ Some (Message.Sync s rows) → (t f : List ℕ) (p : Pid)
+  pub synced_rows : (s : List ℕ) (rows : List Row) → said_on l h.entries body ≡ Some (Message.Sync s rows) → (t f : List ℕ) (p : Pid)
       → listed (with_entry h e) t f p ≡ cond (same t s) (cond (same p.node n) (occurrences same_row (row f p) rows) (listed h t f p)) (listed h t f p)
   synced_rows s rows says t f p =
       let k = holds (Message.Sync s rows) says in
@@ -110,7 +110,7 @@ module _ (h : History) (legal : IsLegal h) (e : Entry) (made : IsAnswered h e) (
           → nest (is_running h t) (is_visible h l) (is_from l es p) (has_sync t (Said (Message.Sync s rows) ∷ talk l es)) (stated_in t f p (Said (Message.Sync s rows) ∷ talk l es)) ≡ rows_of f p rows
       said q a b z = grind arith
 
-  pub added_rows : (s : List ℕ) (rows : List Row) → message_taken body ≡ Some (Message.Join s rows) → (t f : List ℕ) (p : Pid)
+  pub added_rows : (s : List ℕ) (rows : List Row) → said_on l h.entries body ≡ Some (Message.Join s rows) → (t f : List ℕ) (p : Pid)
       → listed (with_entry h e) t f p ≡ cond (same t s) (listed h t f p + occurrences same_row (row f p) rows) (listed h t f p)
   added_rows s rows says t f p =
       let k = holds (Message.Join s rows) says in
@@ -120,7 +120,7 @@ module _ (h : History) (legal : IsLegal h) (e : Entry) (made : IsAnswered h e) (
       ∙ ap (λ c. c + rows_of f p rows) (sym (was_said (Message.Join s rows) says t f p i)))
       (λ i q. omega (arith, none_from rows k.1.1.1.0 f p (foreign_from p i)))
 
-  pub taken_rows : (s : List ℕ) (rows : List Row) → message_taken body ≡ Some (Message.Leave s rows) → (t f : List ℕ) (p : Pid)
+  pub taken_rows : (s : List ℕ) (rows : List Row) → said_on l h.entries body ≡ Some (Message.Leave s rows) → (t f : List ℕ) (p : Pid)
       → listed (with_entry h e) t f p ≡ cond (same t s) (listed h t f p - occurrences same_row (row f p) rows) (listed h t f p)
   taken_rows s rows says t f p =
       let k = holds (Message.Leave s rows) says in
@@ -130,7 +130,7 @@ module _ (h : History) (legal : IsLegal h) (e : Entry) (made : IsAnswered h e) (
       ∙ ap (λ c. c - rows_of f p rows) (sym (was_said (Message.Leave s rows) says t f p i)))
       (λ i q. omega (arith, none_from rows k.1.1.1.0 f p (foreign_from p i)))
 
-  pub downed_rows : (s : List ℕ) → message_taken body ≡ Some (Message.Down s) → (t f : List ℕ) (p : Pid) → listed (with_entry h e) t f p ≡ cond (same t s) (cond (same p.node n) 0 (listed h t f p)) (listed h t f p)
+  pub downed_rows : (s : List ℕ) → said_on l h.entries body ≡ Some (Message.Down s) → (t f : List ℕ) (p : Pid) → listed (with_entry h e) t f p ≡ cond (same t s) (cond (same p.node n) 0 (listed h t f p)) (listed h t f p)
   downed_rows s says t f p = changed (Message.Down s) says s t f p (cond (same p.node n) 0 (listed h t f p)) (λ q. grind arith)
       (λ i q. said q ∙ ap (λ b. cond b 0 (listed h t f p)) (sym i)) (λ i q. ap (λ b. cond b 0 (listed h t f p)) (sym i))
     where

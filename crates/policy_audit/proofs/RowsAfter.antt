@@ -2,7 +2,7 @@
 use Rattle.policy_audit.proofs.Words.{ap, arith, refl, subst, sym, ◌∙◌, eq-eqb, eqb-true, list_all, option_map_or, Bool, List, None, Some}
 use Rattle.policy_audit.proofs.Words.{[], cond, false, true, ℕ, ◌&&◌, ◌+◌, ◌-◌, ◌==◌, ◌||◌, ◌∷◌, ◌≡◌, same_decides, same_pid_decides}
 use Rattle.policy_audit.proofs.Words.{same_sym, mentions, occurrences, same, same_pid, Pid, checks, join_checks, leave_checks}
-use Rattle.policy_audit.proofs.Words.{is_about_rows, is_replaced, may_change, message_taken, History, is_accepted, is_open, is_up, listed}
+use Rattle.policy_audit.proofs.Words.{is_about_rows, is_replaced, may_change, said_on, History, is_accepted, is_open, is_up, listed}
 use Rattle.policy_audit.proofs.Words.{listed_by, is_local, is_running, own, IsAnswered, IsLegal, up_answer, verdict, with_entry, awaits}
 use Rattle.policy_audit.proofs.Words.{is_last, is_peer, is_visible, is_whole, opened, peer_of, present_link, taken, Entry, Accepted, Event}
 use Rattle.policy_audit.proofs.Words.{Reply}
@@ -148,7 +148,7 @@ module _ (h : History) (legal : IsLegal h) (e : Entry) (made : IsAnswered h e) (
         subst (λ x. P (fr x)) (sym done) (each (ap Accepted (sym done) ∙ q))))
 
     -- and leaves the rows that it doesn't concern
-    pub inner_rows : is_last (awaits l es) ≡ false → (t f : List ℕ) (p : Pid) → (is_whole l es && is_peer p.node l es && is_about_rows t (message_taken body)) ≡ false → listed (with_entry h e) t f p ≡ listed h t f p
+    pub inner_rows : is_last (awaits l es) ≡ false → (t f : List ℕ) (p : Pid) → (is_whole l es && is_peer p.node l es && is_about_rows t (said_on l es body)) ≡ false → listed (with_entry h e) t f p ≡ listed h t f p
     inner_rows inner t f p within = done_frame inner (λ x. listed (with_entry h x) t f p ≡ listed h t f p)
         (λ q. rows_step h.opening es legal e made.number t f p (Event.Frame l body) (Accepted Reply.Done) q (or_none _ _ within (unreplaced p.node es (fr Reply.Done ∷ es) refl)))
 
@@ -170,7 +170,7 @@ module _ (h : History) (legal : IsLegal h) (e : Entry) (made : IsAnswered h e) (
         up_by : Accepted up ≡ verdict h e.seat (Event.Frame l body) → (b : Bool) → same p.node n ≡ b → listed (with_entry h (fr up)) t f p ≡ cond b 0 (listed h t f p)
         up_by q true m = now_silent m
         up_by q false m = rows_step h.opening es legal e made.number t f p (Event.Frame l body) (Accepted up) q
-            (or_none _ _ (ap (λ b. b && is_peer p.node l es && is_about_rows t (message_taken body)) c.was_whole) (unreplaced p.node es (fr up ∷ es) (now_linked false m)))
+            (or_none _ _ (ap (λ b. b && is_peer p.node l es && is_about_rows t (said_on l es body)) c.was_whole) (unreplaced p.node es (fr up ∷ es) (now_linked false m)))
 
       pub up_rows : listed (with_entry h e) t f p ≡ cond (same p.node n) 0 (listed h t f p)
       up_rows = by_made h e (Event.Frame l body) (λ x. listed (with_entry h x) t f p ≡ cond (same p.node n) 0 (listed h t f p)) made yes is (λ r q. (

@@ -5,10 +5,10 @@ use Rattle.policy_audit.proofs.Words.{name_frame, Moment, first_of, present, end
 use Rattle.policy_audit.proofs.Words.{named_by, share_peer, IsLegalIn, Opened, Taken, and_frame, awaits, is_last, is_name_up, is_peer}
 use Rattle.policy_audit.proofs.Words.{is_whole, opened, peer_of, present_link, start_of, started_where, taken, was_up, Stage, ends_at}
 use Rattle.policy_audit.proofs.Words.{is_up_at, name_up, name_up_at, stages, was_up_after, Entry, Verdict, Accepted, Refused, Event}
-use Rattle.policy_audit.proofs.Words.{Opening}
+use Rattle.policy_audit.proofs.Words.{and_parts, Opening}
 use Rattle.policy_audit.proofs.Accepted.{lie}
 use Rattle.policy_audit.proofs.Walked.{but}
-use Rattle.policy_audit.proofs.UpLinks.{and_left, and_right, and_both, agrees}
+use Rattle.policy_audit.proofs.UpLinks.{and_both, agrees}
 
 -- the stages as the other words have them
 abbrev now : List Entry → ℕ → Stage
@@ -42,11 +42,11 @@ names_now o es legal n = by (present_link n es) refl
 
     by : (x : Option ℕ) → present_link n es ≡ x → name_up_at (now es) n es ≡ is_some x
     by None s = none_pass (λ k. is_up k es && is_peer n k es)
-        (λ k q. lie (sym (ap is_some ((agrees o es legal n k).1 (and_left (is_up k es) (is_peer n k es) q, up_of k (and_right (is_up k es) (is_peer n k es) q) (peer_of k es) refl))) ∙ ap is_some s)) (links es)
+        (λ k q. lie (sym (ap is_some ((agrees o es legal n k).1 ((and_parts (is_up k es) (is_peer n k es) q).0, up_of k (and_parts (is_up k es) (is_peer n k es) q).1 (peer_of k es) refl))) ∙ ap is_some s)) (links es)
     by (Some k) s =
         let found = (agrees o es legal n k).0 s in
         let its : is_peer n k es ≡ true = ap (λ y. option_map_or (λ m. same m n) y false) found.1 ∙ (same_decides n n).1 refl in
-        passes (λ j. is_up j es && is_peer n j es) k (and_both (is_up k es) (is_peer n k es) found.0 its) (present es) (whole_opened k es (and_right (is_open k es) (is_whole k es) found.0))
+        passes (λ j. is_up j es && is_peer n j es) k (and_both (is_up k es) (is_peer n k es) found.0 its) (present es) (whole_opened k es (and_parts (is_open k es) (is_whole k es) found.0).1)
 
 -- ---- all stages
 

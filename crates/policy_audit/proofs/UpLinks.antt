@@ -10,12 +10,6 @@ use Rattle.policy_audit.proofs.Finished.{whole_by, stays, kept, Completed, compl
 
 -- ---- Booleans
 
-pub and_left : (a b : Bool) → (a && b) ≡ true → a ≡ true
-and_left a b q = grind arith
-
-pub and_right : (a b : Bool) → (a && b) ≡ true → b ≡ true
-and_right a b q = grind arith
-
 pub and_both : (a b : Bool) → a ≡ true → b ≡ true → (a && b) ≡ true
 and_both a b p q = ap (λ x. x && b) p ∙ q
 

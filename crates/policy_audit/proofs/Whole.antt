@@ -4,11 +4,11 @@ use Rattle.policy_audit.proofs.Words.{MatchBool, None, Option, Some, [], bytes_e
 use Rattle.policy_audit.proofs.Words.{◌↔◌, ◌∷◌, ◌≡◌, same_decides, has_bit, Challenge, Name, name_frame, digest_of, cookie, IsAdmitted}
 use Rattle.policy_audit.proofs.Words.{IsLetIn, IsReached, IsTrueStatus, LetIn, Reached, History, past, is_open, is_up, IsLegal, IsLegalIn}
 use Rattle.policy_audit.proofs.Words.{ByDial, ByPeer, Opened, Start, Taken, given, given_in, is_name_up, is_visible, is_whole, opened}
-use Rattle.policy_audit.proofs.Words.{peer_in, peer_of, present_link, taken, was_up, name_up, Entry, Opening}
+use Rattle.policy_audit.proofs.Words.{and_parts, peer_in, peer_of, present_link, taken, was_up, name_up, Entry, Opening}
 use Rattle.policy_audit.proofs.Accepted.{lie, peer_by}
 use Rattle.policy_audit.proofs.Walked.{IsNamed, Follow, Walk, Far, far}
 use Rattle.policy_audit.proofs.Finished.{whole_by, given_by, whole_after, two_of, three_of}
-use Rattle.policy_audit.proofs.UpLinks.{and_left, and_right, and_both, agrees}
+use Rattle.policy_audit.proofs.UpLinks.{and_both, agrees}
 use Rattle.policy_audit.proofs.Staged.{names_up}
 
 module _ (o : Opening) (l : ℕ) (es : List Entry) where
@@ -91,7 +91,7 @@ module _ (o : Opening) (l : ℕ) (es : List Entry) where
 
 -- a link that is up was admitted
 pub up-admitted : (h : History) → IsLegal h → (l : ℕ) → IsTrue (is_up l h.entries) → IsAdmitted h l
-up-admitted h legal l up = whole h.opening l h.entries (opened l h.entries) refl (far h.opening h.entries legal l) (and_right (is_open l h.entries) (is_whole l h.entries) up)
+up-admitted h legal l up = whole h.opening l h.entries (opened l h.entries) refl (far h.opening h.entries legal l) (and_parts (is_open l h.entries) (is_whole l h.entries) up).1
 
 -- ---- and back: an open link that was admitted is up
 
@@ -119,7 +119,7 @@ admitted-up h legal l opens w = and_both (is_open l h.entries) (is_whole l h.ent
 
 -- a link is up exactly where it is open and was admitted
 pub up-is-admitted : (h : History) → IsLegal h → (l : ℕ) → IsTrue (is_up l h.entries) ↔ (IsTrue (is_open l h.entries) × IsAdmitted h l)
-up-is-admitted h legal l = (λ up. (and_left (is_open l h.entries) (is_whole l h.entries) up, up-admitted h legal l up), λ w. admitted-up h legal l w.0 w.1)
+up-is-admitted h legal l = (λ up. ((and_parts (is_open l h.entries) (is_whole l h.entries) up).0, up-admitted h legal l up), λ w. admitted-up h legal l w.0 w.1)
 
 -- a link of this name is up exactly where an open link of that peer was admitted
 pub name-up-is-admitted : (h : History) → IsLegal h → (n : List ℕ) → IsTrue (name_up n h.entries) ↔ ((l : ℕ) × IsTrue (is_open l h.entries) × (peer_of l h.entries ≡ Some n) × IsAdmitted h l)
@@ -127,7 +127,7 @@ name-up-is-admitted h legal n = (λ up. by (present_link n h.entries) refl (sym 
   where
     by : (x : Option ℕ) → present_link n h.entries ≡ x → is_some x ≡ true → (l : ℕ) × IsTrue (is_open l h.entries) × (peer_of l h.entries ≡ Some n) × IsAdmitted h l
     by None q s = lie (sym s)
-    by (Some k) q s = (let found = (agrees h.opening h.entries legal n k).0 q in (k, and_left (is_open k h.entries) (is_whole k h.entries) found.0, found.1, up-admitted h legal k found.0))
+    by (Some k) q s = (let found = (agrees h.opening h.entries legal n k).0 q in (k, (and_parts (is_open k h.entries) (is_whole k h.entries) found.0).0, found.1, up-admitted h legal k found.0))
 
     back : (l : ℕ) → IsTrue (is_open l h.entries) → peer_of l h.entries ≡ Some n → IsAdmitted h l → IsTrue (name_up n h.entries)
     back l opens of w = names_up h.opening h.entries legal n ∙ ap is_some ((agrees h.opening h.entries legal n l).1 (admitted-up h legal l opens w, of))
@@ -149,5 +149,5 @@ gave_by o (Some x) ts p q = gave_in o x.before x.start ts p q
 
 pub up-gave : (h : History) → IsLegal h → (l : ℕ) → IsTrue (is_up l h.entries) → (f : Name) × (given l h.entries ≡ Some f) × (peer_of l h.entries ≡ Some f.name) × (is_visible h l ≡ (not h.opening.hidden && has_bit 0 f.flags))
 up-gave h legal l up =
-    let gave = gave_by h.opening (opened l h.entries) (taken l h.entries) (far h.opening h.entries legal l) (and_right (is_open l h.entries) (is_whole l h.entries) up) in
+    let gave = gave_by h.opening (opened l h.entries) (taken l h.entries) (far h.opening h.entries legal l) (and_parts (is_open l h.entries) (is_whole l h.entries) up).1 in
     (gave.0, gave.1, gave.2, ap (λ x. not h.opening.hidden && option_map_or {T = Name} {U = Bool} (λ f. has_bit 0 f.flags) x false) gave.1)

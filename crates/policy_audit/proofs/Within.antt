@@ -2,14 +2,14 @@
 use Rattle.policy_audit.proofs.Words.{ap, arith, refl, subst, sym, ◌∙◌, eqb-true, not-false, not-true, or_parts, option_map_or, Bool, List}
 use Rattle.policy_audit.proofs.Words.{None, Option, Some, [], cond, false, length, not, true, ℕ, ◌&&◌, ◌++◌, ◌+◌, ◌==◌, ◌||◌, ◌∷◌, ◌≡◌}
 use Rattle.policy_audit.proofs.Words.{same_decides, same_sym, mentions, same, same_pid, stands_in, Pid, Message, checks, is_about_rows}
-use Rattle.policy_audit.proofs.Words.{is_replaced, may_change, Talk, message_taken, stated_in, talk, talk_of, History, past, is_open, is_up}
+use Rattle.policy_audit.proofs.Words.{is_replaced, may_change, Talk, said_on, stated_in, talk, talk_of, History, past, is_open, is_up}
 use Rattle.policy_audit.proofs.Words.{listed, listed_by, is_local, is_running, own, IsLegalIn, IsNext, up_answer, verdict, with_entry}
 use Rattle.policy_audit.proofs.Words.{Taken, awaits, is_last, is_peer, is_visible, is_whole, opened, peer_of, present_link, taken, Entry}
-use Rattle.policy_audit.proofs.Words.{Verdict, Accepted, Refused, Event, Opening, Reply}
+use Rattle.policy_audit.proofs.Words.{and_parts, Verdict, Accepted, Refused, Event, Opening, Reply}
 use Rattle.policy_audit.proofs.Accepted.{lie, accepted, all_hold}
 use Rattle.policy_audit.proofs.Walked.{but, frame_fits}
 use Rattle.policy_audit.proofs.Finished.{stays, kept, given_kept, Completed}
-use Rattle.policy_audit.proofs.UpLinks.{and_right, flip, agrees, none_opened, given_up, done_now, answered, ends_by, other}
+use Rattle.policy_audit.proofs.UpLinks.{flip, agrees, none_opened, given_up, done_now, answered, ends_by, other}
 use Rattle.policy_audit.proofs.ChangeLemmas.{stopped_lists}
 use Rattle.policy_audit.proofs.Effects.{rows_left}
 use Rattle.policy_audit.proofs.Heard.{has_sync, heard_runs, heard_whole}
@@ -49,7 +49,7 @@ module _ (o : Opening) (es : List Entry) (legal : IsLegalIn o es) (e : Entry) (n
   up_of l q = (agrees o es legal n l).0 q
 
   whole_of : (l : ℕ) → present_link n es ≡ Some l → is_whole l es ≡ true
-  whole_of l q = and_right (is_open l es) (is_whole l es) (up_of l q).0
+  whole_of l q = (and_parts (is_open l es) (is_whole l es) (up_of l q).0).1
 
   -- ---- own processes
 
@@ -86,7 +86,7 @@ module _ (o : Opening) (es : List Entry) (legal : IsLegalIn o es) (e : Entry) (n
     elsewhere_count x ts q = grind arith
 
     -- a frame that is not the last of a side
-    not_last : is_last (awaits k es) ≡ false → (is_whole k es && is_peer n k es && is_about_rows s (message_taken body)) ≡ false → same_rows (fr Reply.Done)
+    not_last : is_last (awaits k es) ≡ false → (is_whole k es && is_peer n k es && is_about_rows s (said_on k es body)) ≡ false → same_rows (fr Reply.Done)
     not_last q within = all_same o es (fr Reply.Done) s g p refl refl refl (remote_same o es (fr Reply.Done) s g p refl (λ l here. each l here (k == l) refl))
       where
         each : (l : ℕ) → present_link n es ≡ Some l → (b : Bool) → (k == l) ≡ b → listed_by (past o (fr Reply.Done ∷ es)) s g p l ≡ listed_by (past o es) s g p l
@@ -94,7 +94,7 @@ module _ (o : Opening) (es : List Entry) (legal : IsLegalIn o es) (e : Entry) (n
         each l here true a =
             let moment : Taken = record { body = body; before = es } in
             let one : k ≡ l = eqb-true k l a in
-            grind (arith, up_of l here, given_kept moment (opened l es) (taken l es), kept moment (opened l es) (taken l es), stays moment (opened l es) (taken l es), elsewhere_sync (message_taken body) (talk l es), elsewhere_count (message_taken body) (talk l es), same_decides n n)
+            grind (arith, up_of l here, given_kept moment (opened l es) (taken l es), kept moment (opened l es) (taken l es), stays moment (opened l es) (taken l es), elsewhere_sync (said_on l es body) (talk l es), elsewhere_count (said_on l es body) (talk l es), same_decides n n)
 
     -- the last frame of a side: nobody is heard on the link yet
     module _ (opens : is_open k es ≡ true) (last : is_last (awaits k es) ≡ true) (c : Completed (record { body = body; before = es }) (opened k es) (taken k es)) where

@@ -53,7 +53,7 @@ pub use Rattle.policy_audit.specs.Checks.{runs, status_checks}
 pub use Rattle.policy_audit.specs.Contents.{contents, groups_named, local_groups, local_members, local_rows, pids_named, row, rows_brought}
 pub use Rattle.policy_audit.specs.Contents.{rows_named}
 pub use Rattle.policy_audit.specs.Effects.{IsAsOpen, IsSameLink, IsUntouched, is_about_rows, is_replaced, leaves_rows, may_change}
-pub use Rattle.policy_audit.specs.Hearing.{Said, Stopped, Talk, heard, hears, message_taken, rows_of, stated_in, talk, talk_at, talk_in}
+pub use Rattle.policy_audit.specs.Hearing.{Said, Stopped, Talk, heard, hears, message_taken, rows_of, said_on, stated_in, talk, talk_at, talk_in}
 pub use Rattle.policy_audit.specs.Hearing.{talk_of, tells, told}
 pub use Rattle.policy_audit.specs.History.{History, Moment, creation, events, first_of, is_accepted, is_restart, past, present}
 pub use Rattle.policy_audit.specs.Links.{ends, frame_ends, gives_up, is_dial_to, is_dialling, is_open, is_opened_by, is_unfinished_dial}

@@ -8,7 +8,7 @@ use Rattle.dist_types.specs.declared.row.Row.{Row}
 use Rattle.dist_types.specs.Text.{is_node_name}
 use Rattle.dist_types.specs.Flags.{has_bit}
 use Rattle.dist_types.specs.Order.{text_cmp}
-use Rattle.dist_types.specs.Listing.{same, how_many}
+use Rattle.dist_types.specs.Listing.{same, how_many, max_rows}
 use Rattle.handshake_frames.specs.Frame.{Name, Challenge}
 use Rattle.handshake_frames.specs.declared.frame.StatusWord.{StatusWord}
 use Rattle.handshake_frames.specs.declared.frame.StatusWord.TheVariants as word
@@ -24,7 +24,7 @@ use Rattle.policy_audit.specs.Admission.{allowed, allow_list, cookie_peers, diff
 use Rattle.policy_audit.specs.Own.{is_running, running_scopes, living, is_local, lives, own}
 use Rattle.policy_audit.specs.Sides.{peer_of, is_peer, is_name_up, is_visible, Awaited, AwaitName, AwaitAnswer, AwaitReply, AwaitStatus, AwaitChallenge, AwaitAck, AwaitMessage, awaits}
 use Rattle.policy_audit.specs.Links.{is_open, links, is_dialling}
-use Rattle.policy_audit.specs.Hearing.{message_taken, heard, rows_of}
+use Rattle.policy_audit.specs.Hearing.{said_on, heard, rows_of}
 use Rattle.policy_audit.specs.Listed.{is_from, listed}
 use Rattle.policy_audit.specs.Contents.{members, groups, local_rows}
 use Rattle.policy_audit.specs.Owed.{own_challenge, digest_for, is_kept}
@@ -128,7 +128,7 @@ is_shown h l = unless (is_visible h l) rule.HiddenLink
 abbrev pub message_checks : History → ℕ → Message → List Check
 message_checks h l (said.Discover s) = is_shown h l ∷ runs h s ∷ []
 message_checks h l (said.Sync s rows) = is_shown h l ∷ runs h s ∷ are_from h l rows ∷ []
-message_checks h l (said.Join s rows) = is_shown h l ∷ runs h s ∷ hears_in h l s ∷ are_from h l rows ∷ unless (nat_le (peer_rows h l s + length rows) 4096) rule.RowsFull ∷ []
+message_checks h l (said.Join s rows) = is_shown h l ∷ runs h s ∷ hears_in h l s ∷ are_from h l rows ∷ unless (nat_le (peer_rows h l s + length rows) max_rows) rule.RowsFull ∷ []
 message_checks h l (said.Leave s rows) = is_shown h l ∷ runs h s ∷ hears_in h l s ∷ are_from h l rows ∷ are_listed h s rows ∷ []
 message_checks h l (said.Down s) = is_shown h l ∷ runs h s ∷ []
 
@@ -146,7 +146,7 @@ frame_checks h l body AwaitReply = option_map_or (λ f. digest_checks h l f.dige
 frame_checks h l body AwaitStatus = option_map_or (status_checks (is_peer_up h l)) (status_of body) (always rule.BadFrame)
 frame_checks h l body AwaitChallenge = option_map_or (challenge_checks h l) (challenge_frame body) (always rule.BadFrame)
 frame_checks h l body AwaitAck = option_map_or (λ f. digest_checks h l f.digest) (ack_frame body) (always rule.BadFrame)
-frame_checks h l body AwaitMessage = option_map_or (message_checks h l) (message_taken body) (always rule.BadFrame)
+frame_checks h l body AwaitMessage = option_map_or (message_checks h l) (said_on l h.entries body) (always rule.BadFrame)
 
 -- a dial to n
 abbrev pub dial_checks : History → List ℕ → List Check
@@ -164,7 +164,7 @@ join_checks h s g ps =
     runs h s
     ∷ unless (list_all (is_local h) ps) rule.NotLocal
     ∷ unless (list_all (lives h) ps) rule.NoProcess
-    ∷ unless (nat_le (length (local_rows h s) + length ps) 4096) rule.RowsFull
+    ∷ unless (nat_le (length (local_rows h s) + length ps) max_rows) rule.RowsFull
     ∷ []
 
 -- own processes that leave g of s

@@ -13,7 +13,7 @@ use Rattle.policy_audit.specs.Admission.{cookie, allow_list}
 use Rattle.policy_audit.specs.Own.{running_scopes, spawned, living, lives, own}
 use Rattle.policy_audit.specs.Sides.{present_link, opened, taken, given, peer_of, is_peer, AwaitMessage, awaits, is_whole}
 use Rattle.policy_audit.specs.Links.{links, is_open, is_up}
-use Rattle.policy_audit.specs.Hearing.{message_taken, talk, heard, told}
+use Rattle.policy_audit.specs.Hearing.{said_on, talk, heard, told}
 use Rattle.policy_audit.specs.Listed.{listed}
 use Rattle.policy_audit.specs.Owed.{waiting}
 use Rattle.policy_audit.specs.Monitors.{monitor, updates}
@@ -61,7 +61,7 @@ concerns es s g p (event.StopScope t) = same t s
 concerns es s g p (event.Exit q) = same_pid q p
 concerns es s g p (event.Join t f ps) = same t s && same f g && stands_in same_pid p ps
 concerns es s g p (event.Leave t f ps) = same t s && same f g && stands_in same_pid p ps
-concerns es s g p (event.Frame k body) = is_whole k es && is_peer p.node k es && is_about_rows s (message_taken body)
+concerns es s g p (event.Frame k body) = is_whole k es && is_peer p.node k es && is_about_rows s (said_on k es body)
 concerns es s g p e = false
 
 -- an entry may change how often p is listed in g of s: its event concerns that, or the present link of p's node is replaced
@@ -91,7 +91,7 @@ pub record IsMessage (h : History) (e : Entry) (l : ℕ) (n : List ℕ) (m : Mes
   pub accepted : IsAccepted h e (event.Frame l body)
   pub awaited : awaits l h.entries ≡ AwaitMessage
   pub peer : peer_of l h.entries ≡ Some n
-  pub says : message_taken body ≡ Some m
+  pub says : said_on l h.entries body ≡ Some m
 
 -- all is in k as in h: creation, cookies, allow list, scopes, processes, rows, monitors with what they have still to tell, which
 -- links are up, and what was said of each

@@ -19,6 +19,10 @@ use Rattle.policy_audit.specs.Links.{is_up}
 abbrev pub message_taken : List ℕ → Option Message
 message_taken body = message body
 
+-- the message that a body says on link l, behind these entries, if it says one
+abbrev pub said_on : ℕ → List Entry → List ℕ → Option Message
+said_on l es body = message_taken body
+
 -- what bears on a link's scopes: its accepted messages, and the stops of scopes here
 pub data Talk : Type 0 where
   Said : Message → Talk
@@ -31,7 +35,7 @@ talk_of (Some m) = Said m ∷ []
 
 -- what an accepted event adds to what bears on link l
 abbrev pub talk_at : ℕ → List Entry → Event → List Talk
-talk_at l before (event.Frame k body) = cond (k == l && is_whole l before) (talk_of (message_taken body)) []
+talk_at l before (event.Frame k body) = cond (k == l && is_whole l before) (talk_of (said_on l before body)) []
 talk_at l before (event.StopScope s) = Stopped s ∷ []
 talk_at l before e = []
 

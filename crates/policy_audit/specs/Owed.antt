@@ -29,7 +29,7 @@ use Rattle.policy_audit.specs.Admission.{cookie}
 use Rattle.policy_audit.specs.Own.{running_scopes, own}
 use Rattle.policy_audit.specs.Sides.{challenge_in, opened, peer_of, is_name_up, is_visible, Awaited, AwaitName, AwaitAnswer, AwaitReply, AwaitStatus, AwaitChallenge, AwaitAck, AwaitMessage, awaits}
 use Rattle.policy_audit.specs.Links.{ends, is_open, is_up, is_dialling}
-use Rattle.policy_audit.specs.Hearing.{message_taken, heard, told}
+use Rattle.policy_audit.specs.Hearing.{said_on, heard, told}
 use Rattle.policy_audit.specs.Contents.{row, local_rows}
 
 -- a frame of the handshake, with a length of 2 bytes
@@ -88,7 +88,7 @@ frame_owes h l body AwaitReply = option_map_or (λ f. narrow (ack_bytes (record 
 frame_owes h l body AwaitStatus = option_map_or true_to (status_of body) []
 frame_owes h l body AwaitChallenge = option_map_or (λ f. narrow (reply_bytes (record { challenge = own_challenge l h.entries; digest = digest_for h l f.challenge })) ∷ []) (challenge_frame body) []
 frame_owes h l body AwaitAck = discovers h l
-frame_owes h l body AwaitMessage = option_map_or (message_owes h l) (message_taken body) []
+frame_owes h l body AwaitMessage = option_map_or (message_owes h l) (said_on l h.entries body) []
 
 -- what is owed to a link for its refused frame
 abbrev pub refusal_owes : Rule → List OutFrame

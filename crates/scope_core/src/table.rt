@@ -53,7 +53,7 @@ impl Model for ScopeTable {
 
 impl ScopeTable {
     /// The most rows that the processes of one node may have in a scope, repeats included.
-    pub const MAX_ROWS: usize = 4096;
+    pub const MAX_ROWS: usize = dist_types::MAX_ROWS;
 
     /// A table with no rows, of the node with this name.
     pub fn new(alloc: Global, own: NodeName) -> ScopeTable

@@ -6,4 +6,6 @@ use Rattle.dist_types.proofs.fields.u32_at.Goals as goal
 pub returns-clause-found : goal.returns-clause-found
 returns-clause-found c =
     let cases = c.in_ok-front.ensures.cases in
-    parts_are 4 _ _ _ _ cases.0 cases.1 (be_bytes_4 c.in_ok-front.front.now _ (search rules) (front_is_bytes 4 c.args.bytes.now _ cases.0 (λ i. omega (arith, c.type_inv.bytes i))) c.from_be_bytes.ensures)
+    parts_are 4 _ _ _ _ cases.0 cases.1 (be_bytes_4 c.in_ok-front.front.now _ (search rules)
+    (front_is_bytes 4 c.args.bytes.now _ cases.0 (λ i. omega (arith, c.type_inv.bytes i)))
+    c.from_be_bytes.ensures)

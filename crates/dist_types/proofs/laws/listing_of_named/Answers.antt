@@ -1,6 +1,7 @@
 use Rattle.dist_types.specs.Order.{pid_cmp, row_cmp}
 use Rattle.dist_types.specs.Listing.{same_pid, same_row}
-use Rattle.dist_types.proofs.Orders.{pids_total, rows_total, exact_pids, exact_rows, same_pid_decides, same_row_decides}
+use Rattle.dist_types.proofs.Orders.{pids_total, rows_total, exact_pids, exact_rows}
+use Rattle.dist_types.proofs.Orders.{same_pid_decides, same_row_decides}
 use Rattle.dist_types.proofs.Listings.{listing_is}
 use Rattle.dist_types.proofs.laws.listing_of_named.Goals as goal
 
@@ -8,4 +9,5 @@ pub returns-clause-pids : goal.returns-clause-pids
 returns-clause-pids c = listing_is pid_cmp same_pid pids_total exact_pids same_pid_decides
 
 pub returns-clause-rows : goal.returns-clause-rows
-returns-clause-rows c = λ count. listing_is row_cmp same_row rows_total exact_rows same_row_decides (λ r. count r.group r.pid)
+returns-clause-rows c = λ count. listing_is row_cmp same_row rows_total exact_rows same_row_decides
+    (λ r. count r.group r.pid)

@@ -1,4 +1,5 @@
-use Rattle.group_monitors.proofs.Words.{◌∙◌, ◌++◌, ap, inl, inr, refl, Some, None, past, members, contents, Target, updates, fetched, counted}
+use Rattle.group_monitors.proofs.Words.{◌∙◌, ◌++◌, ap, inl, inr, refl, Some, None, past, members}
+use Rattle.group_monitors.proofs.Words.{contents, Target, updates, fetched, counted}
 use Rattle.policy_audit.specs.declared.event.Event.TheVariants as event
 use Rattle.policy_audit.specs.declared.reply.Reply.TheVariants as reply
 use Rattle.group_monitors.proofs.Differences.{contents_count}
@@ -14,8 +15,10 @@ returns-clause-group c = λ h legal seat k s g at.
     let m = its c.left_alone.ensures.listings seat k t h legal at in
     let then = past h.opening m.before in (
       members then s g,
-      first_told c.left_alone.ensures.listings seat k t h legal at (event.Monitor s g) (λ n. reply.Ref n (members then s g)) (of_group s g m.own.event m.watches) refl,
-      λ p. ap (counted g p (fetched seat k h.entries ++ updates h seat k)) ((c.lists_ascend.ensures.members then s g).counts p)
+      first_told c.left_alone.ensures.listings seat k t h legal at (event.Monitor s g)
+          (λ n. reply.Ref n (members then s g)) (of_group s g m.own.event m.watches) refl,
+      λ p. ap (counted g p (fetched seat k h.entries ++ updates h seat k))
+          ((c.lists_ascend.ensures.members then s g).counts p)
           ∙ counts c.left_alone.ensures.listings seat k t h legal at g (inl refl) p,
     )
 
@@ -25,7 +28,9 @@ returns-clause-scope c = λ h legal seat k s at.
     let m = its c.left_alone.ensures.listings seat k t h legal at in
     let then = past h.opening m.before in (
       contents then s,
-      first_told c.left_alone.ensures.listings seat k t h legal at (event.MonitorScope s) (λ n. reply.ScopeRef n (contents then s)) (of_scope s m.own.event m.watches) refl,
-      λ g p. ap (counted g p (fetched seat k h.entries ++ updates h seat k)) (contents_count then s g p (c.lists_ascend.ensures.members then s g) (c.lists_ascend.ensures.groups then s))
+      first_told c.left_alone.ensures.listings seat k t h legal at (event.MonitorScope s)
+          (λ n. reply.ScopeRef n (contents then s)) (of_scope s m.own.event m.watches) refl,
+      λ g p. ap (counted g p (fetched seat k h.entries ++ updates h seat k)) (contents_count then s
+          g p (c.lists_ascend.ensures.members then s g) (c.lists_ascend.ensures.groups then s))
           ∙ counts c.left_alone.ensures.listings seat k t h legal at g (inr refl) p,
     )

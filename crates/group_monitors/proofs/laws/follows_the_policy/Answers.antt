@@ -1,6 +1,8 @@
-use Rattle.group_monitors.proofs.Followed.{follows_start, follows_other, follows_group, follows_scope, follows_removed, follows_moved}
+use Rattle.group_monitors.proofs.Followed.{follows_start, follows_other, follows_group}
+use Rattle.group_monitors.proofs.Followed.{follows_scope, follows_removed, follows_moved}
 use Rattle.group_monitors.proofs.Followed.{follows_dropped, follows_cleared, follows_free}
-use Rattle.group_monitors.proofs.FromPolicy.{follows_answer, follows_told, follows_seen, follows_seen_later, follows_checked, follows_refused}
+use Rattle.group_monitors.proofs.FromPolicy.{follows_answer, follows_told, follows_seen}
+use Rattle.group_monitors.proofs.FromPolicy.{follows_seen_later, follows_checked, follows_refused}
 use Rattle.group_monitors.proofs.laws.follows_the_policy.Goals as goal
 
 pub returns : goal.returns

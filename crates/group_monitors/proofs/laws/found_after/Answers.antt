@@ -2,4 +2,5 @@ use Rattle.group_monitors.proofs.Found.{found_added, found_removed, found_moved,
 use Rattle.group_monitors.proofs.laws.found_after.Goals as goal
 
 pub returns : goal.returns
-returns c = record { added = found_added; removed = found_removed; moved = found_moved; dropped = found_dropped }
+returns c = record
+    { added = found_added; removed = found_removed; moved = found_moved; dropped = found_dropped }

@@ -3,4 +3,5 @@ use Rattle.group_monitors.proofs.told.tell_changes.Given as goal
 
 -- the updates so far
 abbrev pub invariant-loop-change : goal.invariant-loop-change
-invariant-loop-change l = l.updates.items ≡ l.fn.updates.items ++ updates_of (target l.monitor) (take l.change-index l.changes)
+invariant-loop-change l = l.updates.items ≡ l.fn.updates.items ++ updates_of (target l.monitor)
+    (take l.change-index l.changes)

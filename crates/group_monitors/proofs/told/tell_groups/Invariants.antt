@@ -1,6 +1,8 @@
-use Rattle.group_monitors.proofs.Words.{◌≡◌, ◌++◌, [], cond, take, flat_map, is_watched, group_updates}
+use Rattle.group_monitors.proofs.Words.{◌≡◌, ◌++◌, [], cond, take, flat_map, is_watched}
+use Rattle.group_monitors.proofs.Words.{group_updates}
 use Rattle.group_monitors.proofs.told.tell_groups.Given as goal
 
 -- the updates so far
 abbrev pub invariant-loop-change : goal.invariant-loop-change
-invariant-loop-change l = l.updates.items ≡ l.fn.updates.items ++ flat_map (λ c. cond (is_watched l.watched c) (group_updates c) []) (take l.change-index l.changes)
+invariant-loop-change l = l.updates.items ≡ l.fn.updates.items ++ flat_map
+    (λ c. cond (is_watched l.watched c) (group_updates c) []) (take l.change-index l.changes)

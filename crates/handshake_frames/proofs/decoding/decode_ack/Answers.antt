@@ -9,4 +9,6 @@ pub returns-clause-value : goal.returns-clause-value
 returns-clause-value c =
     let body = c.args.body.now in
     rw c.ok_or.ensures.value
-    (reads_as (SpellsAck body) (λ f. f) (ack_frame body) _ _ (ack_frame-spelled body) (SpellsAck-read body) c.ack_at.ensures.found (λ f spelled. rw (c.ack_at.ensures.only f spelled) refl))
+    (reads_as (SpellsAck body) (λ f. f) (ack_frame body) _ _ (ack_frame-spelled body)
+    (SpellsAck-read body) c.ack_at.ensures.found (λ f spelled. rw (c.ack_at.ensures.only f spelled)
+    refl))

@@ -6,10 +6,13 @@ use Rattle.handshake_frames.proofs.ReadingLemmas.{challenge_frame-spelled, Spell
 use Rattle.handshake_frames.proofs.decoding.decode_challenge.Goals as goal
 
 pub returns-clause-only : goal.returns-clause-only
-returns-clause-only c = λ challenge spelled. rw c.ok_or.ensures.value (ok_or_has c.challenge_at.result _ _ (c.challenge_at.ensures.only challenge spelled))
+returns-clause-only c = λ challenge spelled. rw c.ok_or.ensures.value
+    (ok_or_has c.challenge_at.result _ _ (c.challenge_at.ensures.only challenge spelled))
 
 pub returns-clause-value : goal.returns-clause-value
 returns-clause-value c =
     let body = c.args.body.now in
     rw c.ok_or.ensures.value
-    (reads_as (SpellsChallenge body) challenge_said (challenge_frame body) _ _ (challenge_frame-spelled body) (SpellsChallenge-read body) c.challenge_at.ensures.found c.challenge_at.ensures.only)
+    (reads_as (SpellsChallenge body) challenge_said (challenge_frame body)
+    _ _ (challenge_frame-spelled body) (SpellsChallenge-read body) c.challenge_at.ensures.found
+    c.challenge_at.ensures.only)

@@ -9,4 +9,6 @@ pub returns-clause-value : goal.returns-clause-value
 returns-clause-value c =
     let body = c.args.body.now in
     rw c.ok_or.ensures.value
-    (reads_as (SpellsReply body) (λ f. f) (reply_frame body) _ _ (reply_frame-spelled body) (SpellsReply-read body) c.reply_at.ensures.found (λ f spelled. rw (c.reply_at.ensures.only f spelled) refl))
+    (reads_as (SpellsReply body) (λ f. f) (reply_frame body) _ _ (reply_frame-spelled body)
+    (SpellsReply-read body) c.reply_at.ensures.found
+    (λ f spelled. rw (c.reply_at.ensures.only f spelled) refl))

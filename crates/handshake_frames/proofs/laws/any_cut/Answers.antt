@@ -17,4 +17,5 @@ pub returns-clause-cut : goal.returns-clause-cut
 returns-clause-cut c = λ calls others rest last a b same.
     one_reading w16 reads_16 _ (bodies_of calls) (bodies_of others) rest last
     (read_from_empty w16 reads_16 calls rest a)
-    (subst (λ stream. Splits w16 stream (bodies_of others) last) (sym same) (read_from_empty w16 reads_16 others last b))
+    (subst (λ stream. Splits w16 stream (bodies_of others) last) (sym same)
+    (read_from_empty w16 reads_16 others last b))

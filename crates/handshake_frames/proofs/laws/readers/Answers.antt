@@ -1,4 +1,8 @@
-use Rattle.handshake_frames.proofs.ReadingLemmas.{name_frame-spelled, SpellsName-read, status_of-spelled, SpellsStatus-read, challenge_frame-spelled, SpellsChallenge-read, reply_frame-spelled, SpellsReply-read, ack_frame-spelled, SpellsAck-read}
+use Rattle.handshake_frames.proofs.ReadingLemmas.{name_frame-spelled, SpellsName-read}
+use Rattle.handshake_frames.proofs.ReadingLemmas.{status_of-spelled, SpellsStatus-read}
+use Rattle.handshake_frames.proofs.ReadingLemmas.{challenge_frame-spelled, SpellsChallenge-read}
+use Rattle.handshake_frames.proofs.ReadingLemmas.{reply_frame-spelled, SpellsReply-read}
+use Rattle.handshake_frames.proofs.ReadingLemmas.{ack_frame-spelled, SpellsAck-read}
 use Rattle.handshake_frames.proofs.laws.readers.Goals as goal
 
 pub returns-clause-name : goal.returns-clause-name

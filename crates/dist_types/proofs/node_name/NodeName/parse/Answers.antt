@@ -4,10 +4,12 @@ use Rattle.dist_types.proofs.LimitLemmas.{names_compute, refused_name, tells_no_
 use Rattle.dist_types.proofs.node_name.NodeName.parse.Goals as goal
 
 pub returns-in_err-check_bytes-clause-tested : goal.returns-in_err-check_bytes-clause-tested
-returns-in_err-check_bytes-clause-tested c = tells_no_name c.args.bytes.now c.from_residual.result (search rules) (search rules)
+returns-in_err-check_bytes-clause-tested c = tells_no_name c.args.bytes.now c.from_residual.result
+    (search rules) (search rules)
 
 pub returns-then-not-has_inner_at-clause-tested : goal.returns-then-not-has_inner_at-clause-tested
-returns-then-not-has_inner_at-clause-tested c = refused_name faults.BadAt c.args.bytes.now (search rules)
+returns-then-not-has_inner_at-clause-tested c = refused_name faults.BadAt c.args.bytes.now
+    (search rules)
 
 pub returns-clause-tested : goal.returns-clause-tested
 returns-clause-tested c = (names_compute c.args.bytes.now).1 (search rules)
