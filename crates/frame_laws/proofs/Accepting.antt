@@ -1,88 +1,125 @@
--- Where a peer is heard, its scope runs, its link is up and visible; and what it may say is accepted.
-use Rattle.frame_laws.proofs.Words.{same_pid, stands_in, creation, ap, arith, refl, subst, sym, ◌∙◌, eqb-true, le-leb, lie, unbroken, accepted, all_hold, but, fewer_length, how_many_append, length-append, list_all, filter, flat_map, option_map_or}
-use Rattle.frame_laws.proofs.Words.{same_decides, same_row_decides, Bool, List, None, Option, Some, [], cond, false, length, map, nat_le, true, ℕ, ◌&&◌, ◌++◌, ◌+◌, ◌<◌, ◌==◌, ◌∷◌, ◌≡◌, ◌≤◌}
-use Rattle.frame_laws.proofs.Words.{IsListing, IsRowListing, occurrences, same, same_row, Pid, Row, Message, Opening, Event, Reply, Rule, Verdict, Accepted, Refused, Entry, History, past, is_accepted, events, is_local, is_running, row}
-use Rattle.frame_laws.proofs.Words.{AwaitMessage, awaits, is_open, is_up, is_visible, is_whole, opened, taken, peer_of, heard, message_taken, rows_of, always, checks, first_broken, frame_checks, message_checks, IsLegal, IsLegalIn, verdict}
-use Rattle.frame_laws.specs.MaySay.{HasRoom, AreStated, MaySay, scope_of}
-use Rattle.policy_audit.specs.Checks.{peer_rows}
-use Rattle.policy_audit.specs.Contents.{members, groups, groups_named, pids_named}
-use Rattle.policy_audit.specs.Hearing.{Said, stated, talk, talk_of}
-use Rattle.policy_audit.specs.Listed.{is_from, listed}
-use Rattle.policy_audit.specs.Policy.{is_full, judged}
-use Rattle.policy_audit.specs.Sides.{is_peer, present_link}
-use Rattle.std.proofs.lemmas.List.Elements.{filter-append}
-use Rattle.policy_audit.proofs.Accepted.{open_first}
-use Rattle.policy_audit.proofs.Finished.{given_kept, whole_awaits}
-use Rattle.policy_audit.proofs.Foreign.{peer_foreign}
-use Rattle.policy_audit.proofs.Heard.{has_sync, heard_runs, heard_whole}
-use Rattle.policy_audit.proofs.Lists.{groups_are, members_are, rows_are}
-use Rattle.policy_audit.proofs.Named.{group_named, listed_named, pid_named}
-use Rattle.policy_audit.proofs.Onward.{whole_is_message}
-use Rattle.policy_audit.proofs.UpLinks.{agrees, and_left, and_right}
-use Rattle.policy_audit.proofs.Walked.{unborn}
+-- Where a peer is heard, its scope runs, its link is up and visible; and what it may say is
+-- accepted.
+use Rattle.frame_laws.proofs
+use proofs.Words.{max_rows, Accepted, accepted, agrees, all_hold, and_parts, ap, AreStated, arith}
+use proofs.Words.{awaits, Bool, but, cond, Entry, eqb-true, Event, events, false, fewer_length}
+use proofs.Words.{filter, filter-append, first_broken, flat_map, frame_checks, group_named, groups}
+use proofs.Words.{groups_are, groups_named, has_sync, HasRoom, heard, heard_runs, heard_whole}
+use proofs.Words.{History, how_many_append, is_accepted, is_from, is_full, is_local, is_open}
+use proofs.Words.{is_peer, is_running, is_up, is_visible, is_whole, IsLegal, IsLegalIn, IsListing}
+use proofs.Words.{IsRowListing, le-leb, length, length-append, lie, List, list_all, listed}
+use proofs.Words.{listed_named, map, MaySay, members, members_are, Message, message_checks}
+use proofs.Words.{message_taken, nat_le, None, occurrences, open_first, opened, Opening, Option}
+use proofs.Words.{past, peer_foreign, peer_of, peer_rows, Pid, pid_named, pids_named, present_link}
+use proofs.Words.{refl, Refused, Reply, Row, row, rows_are, rows_of, Rule, Said, same, same_decides}
+use proofs.Words.{same_pid, same_row, same_row_decides, scope_of, Some, stands_in, stated, subst}
+use proofs.Words.{sym, taken, talk, talk_of, true, unborn, Verdict, verdict, whole_awaits, ℕ, []}
+use proofs.Words.{◌&&◌, ◌++◌, ◌+◌, ◌<◌, ◌==◌, ◌∙◌, ◌∷◌, ◌≡◌, ◌≤◌}
 
 -- ---- a peer that is heard is visible
 
 module _ (o : Opening) (s : List ℕ) where
   -- a Sync is accepted over a visible link alone
-  shown_by : (es : List Entry) (k : ℕ) (m : Message) → first_broken (message_checks (past o es) k m) ≡ None → has_sync s (Said m ∷ []) ≡ true → is_visible (past o es) k ≡ true
-  shown_by es k (Message.Sync t rows) met q = unbroken (is_visible (past o es) k) (all_hold (message_checks (past o es) k (Message.Sync t rows)) met).0
-  shown_by es k (Message.Discover t) met q = lie (sym q)
-  shown_by es k (Message.Join t rows) met q = lie (sym q)
-  shown_by es k (Message.Leave t rows) met q = lie (sym q)
-  shown_by es k (Message.Down t) met q = grind (arith, q)
+  shown_by : (es : List Entry) (k : ℕ) (m : Message)
+      → first_broken (message_checks (past o es) k m) ≡ None → has_sync s (Said m ∷ []) ≡ true
+      → is_visible (past o es) k ≡ true
+  shown_by es k (Message.Sync t rows) met q =
+      grind (arith, all_hold (message_checks (past o es) k (Message.Sync t rows)) met)
+  shown_by es k (Message.Discover t) met q = cc
+  shown_by es k (Message.Join t rows) met q = cc
+  shown_by es k (Message.Leave t rows) met q = cc
+  shown_by es k (Message.Down t) met q = grind arith
 
-  module _ (es : List Entry) (e : Entry) (legal : IsLegalIn o es) (here : e.number ≡ length es + 1) (l : ℕ) where
+  module _ (es : List Entry) (e : Entry) (legal : IsLegalIn o es) (here : e.number ≡ length es + 1)
+      (l : ℕ) where
     abbrev Before : Type 0
     Before = has_sync s (talk l es) ≡ true → is_visible (past o es) l ≡ true
 
     -- the message, or what was said before
-    spoken : (x : Option Message) → ((m : Message) → x ≡ Some m → has_sync s (Said m ∷ []) ≡ true → is_visible (past o es) l ≡ true) → Before → has_sync s (talk_of x ++ talk l es) ≡ true → is_visible (past o es) l ≡ true
+    spoken : (x : Option Message) → ((m : Message) → x ≡ Some m → has_sync s (Said m ∷ []) ≡ true
+        → is_visible (past o es) l ≡ true) → Before → has_sync s (talk_of x ++ talk l es) ≡ true
+        → is_visible (past o es) l ≡ true
     spoken None shows so_far q = so_far q
-    spoken (Some (Message.Sync t rows)) shows so_far q = grind (arith, shows (Message.Sync t rows) refl, so_far, q)
-    spoken (Some (Message.Down t)) shows so_far q = grind (arith, so_far, q)
+    spoken (Some (Message.Sync t rows)) shows so_far q =
+        grind (arith, shows (Message.Sync t rows) refl, so_far, q)
+    spoken (Some (Message.Down t)) shows so_far q = grind arith
     spoken (Some m) shows so_far q = so_far q
 
-    framed : (k : ℕ) (body : List ℕ) (r : Reply) → Accepted r ≡ verdict (past o es) e.seat (Event.Frame k body) → Before → (b : Bool) → (k == l) ≡ b
-        → has_sync s (cond (b && is_whole l es) (talk_of (message_taken body)) [] ++ talk l es) ≡ true → is_whole l es ≡ true → is_visible (past o es) l ≡ true
+    framed : (k : ℕ) (body : List ℕ) (r : Reply)
+        → Accepted r ≡ verdict (past o es) e.seat (Event.Frame k body) → Before → (b : Bool)
+        → (k == l) ≡ b
+        → has_sync s (cond (b && is_whole l es) (talk_of (message_taken body)) [] ++ talk l
+        es) ≡ true → is_whole l es ≡ true → is_visible (past o es) l ≡ true
     framed k body r q so_far false other said w = so_far said
     framed k body r q so_far true is said w =
-        let met = subst (λ j. first_broken (frame_checks (past o es) j body (awaits j es)) ≡ None) (eqb-true k l is) (open_first (is_open k es) (frame_checks (past o es) k body (awaits k es)) (accepted (past o es) e.seat (Event.Frame k body) r q).0).1 in
-        let kind = subst (λ a. first_broken (frame_checks (past o es) l body a) ≡ None) (whole_awaits (opened l es) (taken l es) w) met in
-        spoken (message_taken body) (λ m says. shown_by es l m (subst (λ x. first_broken (option_map_or (message_checks (past o es) l) x (always Rule.BadFrame)) ≡ None) says kind)) so_far
-        (subst (λ b. has_sync s (cond b (talk_of (message_taken body)) [] ++ talk l es) ≡ true) w said)
+        grind (
+          arith,
+          eqb-true k l is,
+          open_first (is_open k es) (frame_checks (past o es) k body (awaits k es))
+              (accepted (past o es) e.seat (Event.Frame k body) r q).0,
+          whole_awaits (opened l es) (taken l es) w,
+          spoken,
+          shown_by,
+        )
 
-    shown_after : (k : ℕ) (body : List ℕ) (r : Reply) (b : Bool) → (k == l) ≡ b → is_whole l es ≡ true → is_visible (past o es) l ≡ true → is_visible (past o (but e (Event.Frame k body) (Accepted r) ∷ es)) l ≡ true
-    shown_after k body r b is w shown = grind (arith, shown, is, given_kept (record { body = body; before = es }) (opened l es) (taken l es) w)
+    shown_after : (k : ℕ) (body : List ℕ) (r : Reply) (b : Bool) → (k == l) ≡ b
+        → is_whole l es ≡ true → is_visible (past o es) l ≡ true
+        → is_visible (past o (but e (Event.Frame k body) (Accepted r) ∷ es)) l ≡ true
+    shown_after k body r b is w shown = grind arith
 
-    by_event : (ev : Event) (v : Verdict) → v ≡ verdict (past o es) e.seat ev → Before → has_sync s (talk l (but e ev v ∷ es)) ≡ true → is_visible (past o (but e ev v ∷ es)) l ≡ true
+    by_event : (ev : Event) (v : Verdict) → v ≡ verdict (past o es) e.seat ev → Before
+        → has_sync s (talk l (but e ev v ∷ es)) ≡ true
+        → is_visible (past o (but e ev v ∷ es)) l ≡ true
     by_event (Event.Frame k body) (Accepted r) q so_far said = by (is_whole l es) refl
       where
-        by : (w : Bool) → is_whole l es ≡ w → is_visible (past o (but e (Event.Frame k body) (Accepted r) ∷ es)) l ≡ true
-        by true w = shown_after k body r (k == l) refl w (framed k body r q so_far (k == l) refl said w)
+        by : (w : Bool) → is_whole l es ≡ w
+            → is_visible (past o (but e (Event.Frame k body) (Accepted r) ∷ es)) l ≡ true
+        by true w = shown_after k body r (k == l) refl w
+            (framed k body r q so_far (k == l) refl said w)
         by false un = lie (sym (heard_whole o es legal l s (grind (arith, un, said))) ∙ un)
-    by_event (Event.Opened c) (Accepted r) q so_far said = grind (arith, here, so_far, said, heard_whole o es legal l s, unborn o es legal l, eqb-true e.number l)
-    by_event (Event.Dial n c) (Accepted r) q so_far said = grind (arith, here, so_far, said, heard_whole o es legal l s, unborn o es legal l, eqb-true e.number l)
-    by_event (Event.StopScope t) (Accepted r) q so_far said = so_far (grind (arith, said))
-    by_event Event.Restart (Accepted r) q so_far said = lie (sym said)
+    by_event (Event.Opened c) (Accepted r) q so_far said =
+        grind (
+          arith,
+          here,
+          so_far,
+          said,
+          heard_whole o es legal l s,
+          unborn o es legal l,
+          eqb-true e.number l,
+        )
+    by_event (Event.Dial n c) (Accepted r) q so_far said =
+        grind (
+          arith,
+          here,
+          so_far,
+          said,
+          heard_whole o es legal l s,
+          unborn o es legal l,
+          eqb-true e.number l,
+        )
+    by_event (Event.StopScope t) (Accepted r) q so_far said = grind arith
+    by_event Event.Restart (Accepted r) q so_far said = cc
     by_event ev (Accepted r) q so_far said = so_far said
     by_event ev (Refused r) q so_far said = so_far said
 
-  heard_visible : (es : List Entry) → IsLegalIn o es → (l : ℕ) → has_sync s (talk l es) ≡ true → is_visible (past o es) l ≡ true
-  heard_visible [] legal l q = lie (sym q)
-  heard_visible (e ∷ es) legal l q = by_event es e legal.1 legal.0.number l e.event e.verdict legal.0.verdict (heard_visible es legal.1 l) q
+  heard_visible : (es : List Entry) → IsLegalIn o es → (l : ℕ) → has_sync s (talk l es) ≡ true
+      → is_visible (past o es) l ≡ true
+  heard_visible [] legal l q = cc
+  heard_visible (e ∷ es) legal l q = by_event es e legal.1 legal.0.number l e.event e.verdict
+      legal.0.verdict (heard_visible es legal.1 l) q
 
 -- ---- what is listed of a peer that is heard
 
-module _ (h : History) (legal : IsLegal h) (l : ℕ) (s : List ℕ) (hears : heard l s h.entries ≡ true) where
+module _ (h : History) (legal : IsLegal h) (l : ℕ) (s : List ℕ)
+    (hears : heard l s h.entries ≡ true) where
   abbrev es : List Entry
   es = h.entries
 
   said : has_sync s (talk l es) ≡ true
-  said = and_right (is_up l es) (has_sync s (talk l es)) hears
+  said = grind (arith, and_parts)
 
   pub is_up_there : is_up l es ≡ true
-  is_up_there = and_left (is_up l es) (has_sync s (talk l es)) hears
+  is_up_there = grind (arith, and_parts)
 
   pub shows : is_visible h l ≡ true
   shows = heard_visible h.opening s es legal l said
@@ -93,39 +130,40 @@ module _ (h : History) (legal : IsLegal h) (l : ℕ) (s : List ℕ) (hears : hea
   -- a process of the peer isn't the node's own, and its present link is this one
   module _ (p : Pid) (its : is_peer p.node l es ≡ true) where
     peer_is : peer_of l es ≡ Some p.node
-    peer_is = by (peer_of l es) refl its
-      where
-        by : (x : Option (List ℕ)) → peer_of l es ≡ x → option_map_or (λ m. same m p.node) x false ≡ true → peer_of l es ≡ Some p.node
-        by None q f = lie (sym f)
-        by (Some n) q f = q ∙ ap Some ((same_decides n p.node).0 f)
+    peer_is = grind (arith, same_decides)
 
     not_own : is_local h p ≡ false
-    not_own = ap (λ b. b && p.creation == creation h) (peer_foreign h legal l p.node peer_is)
+    not_own = grind (arith, peer_foreign h legal l p.node peer_is)
 
     present_is : present_link p.node es ≡ Some l
-    present_is = (agrees h.opening es legal p.node l).1 (is_up_there, peer_is)
+    present_is = grind (arith, agrees, is_up_there, peer_is)
 
     pub listed_is : (g : List ℕ) → listed h s g p ≡ cond (is_from l es p) (stated l s g p es) 0
     listed_is g = grind (arith, not_own, scope_runs, present_is, shows)
 
   from_peer : (p : Pid) → is_from l es p ≡ true → is_peer p.node l es ≡ true
-  from_peer p q = grind (arith, q)
+  from_peer p q = grind arith
 
   listed_from : (g : List ℕ) (p : Pid) → is_from l es p ≡ true → listed h s g p ≡ stated l s g p es
-  listed_from g p from = listed_is p (from_peer p from) g ∙ ap (λ b. cond b (stated l s g p es) 0) from
+  listed_from g p from = listed_is p (from_peer p from) g ∙ ap (λ b. cond b (stated l s g p es) 0)
+      from
 
   -- a Leave's rows are listed
-  are_listed : (rows : List Row) → AreStated h l s rows → (some : List Row) → list_all (λ r. is_from l es r.pid) some ≡ true → list_all (λ r. nat_le (rows_of r.group r.pid rows) (listed h s r.group r.pid)) some ≡ true
+  are_listed : (rows : List Row) → AreStated h l s rows → (some : List Row)
+      → list_all (λ r. is_from l es r.pid) some ≡ true
+      → list_all (λ r. nat_le (rows_of r.group r.pid rows) (listed h s r.group r.pid)) some ≡ true
   are_listed rows within [] from = refl
   are_listed rows within (r ∷ some) from =
       let both = and_both_of (is_from l es r.pid) (list_all (λ x. is_from l es x.pid) some) from in
       (λ i. first r both.0 i && are_listed rows within some both.1 i)
     where
       and_both_of : (a b : Bool) → (a && b) ≡ true → (a ≡ true) × (b ≡ true)
-      and_both_of a b q = (and_left a b q, and_right a b q)
+      and_both_of a b q = ((and_parts a b q).0, (and_parts a b q).1)
 
-      first : (r : Row) → is_from l es r.pid ≡ true → nat_le (rows_of r.group r.pid rows) (listed h s r.group r.pid) ≡ true
-      first r from = (let is = listed_from r.group r.pid from in let less = within r in le-leb (rows_of r.group r.pid rows) (listed h s r.group r.pid) (omega (arith, is, less)))
+      first : (r : Row) → is_from l es r.pid ≡ true
+          → nat_le (rows_of r.group r.pid rows) (listed h s r.group r.pid) ≡ true
+      first r from = (let is = listed_from r.group r.pid from in let less = within r in
+          le-leb (rows_of r.group r.pid rows) (listed h s r.group r.pid) (omega (arith, is, less)))
 
   -- ---- how many rows of the peer are listed
 
@@ -136,7 +174,8 @@ module _ (h : History) (legal : IsLegal h) (l : ℕ) (s : List ℕ) (hears : hea
   rows_in_groups gs = flat_map (λ g. map (row g) (members h s g)) gs
 
   rows_listed : IsRowListing (listed h s) (rows_in_groups (groups h s))
-  rows_listed = rows_are (listed h s) (members h s) (λ g. members_are (listed h s) pids named pid_is group_is g) (groups h s) (groups_are (listed h s) pids named pid_is group_is)
+  rows_listed = rows_are (listed h s) (members h s) (λ g. members_are (listed h s) pids named pid_is
+      group_is g) (groups h s) (groups_are (listed h s) pids named pid_is group_is)
     where
       pids : List ℕ → List Pid
       pids f = pids_named s f (events h.entries)
@@ -144,71 +183,95 @@ module _ (h : History) (legal : IsLegal h) (l : ℕ) (s : List ℕ) (hears : hea
       named : List (List ℕ)
       named = groups_named s (events h.entries)
 
-      pid_is : (g : List ℕ) (p : Pid) → 0 < listed h s g p → stands_in same_pid p (pids_named s g (events h.entries)) ≡ true
+      pid_is : (g : List ℕ) (p : Pid) → 0 < listed h s g p
+          → stands_in same_pid p (pids_named s g (events h.entries)) ≡ true
       pid_is g p q = pid_named s g p (events h.entries) (listed_named s g p h q)
 
-      group_is : (g : List ℕ) (p : Pid) → 0 < listed h s g p → stands_in same g (groups_named s (events h.entries)) ≡ true
+      group_is : (g : List ℕ) (p : Pid) → 0 < listed h s g p
+          → stands_in same g (groups_named s (events h.entries)) ≡ true
       group_is g p q = group_named s g p (events h.entries) (listed_named s g p h q)
 
-  peer_counts : (r : Row) (rows : List Row) → occurrences same_row r (filter of_peer rows) ≡ cond (of_peer r) (occurrences same_row r rows) 0
+  peer_counts : (r : Row) (rows : List Row) → occurrences same_row r (filter of_peer rows) ≡ cond
+      (of_peer r) (occurrences same_row r rows) 0
   peer_counts r [] = grind arith
   peer_counts r (x ∷ rows) = grind (arith, peer_counts r rows, same_row_decides x r)
 
-  group_length : (g : List ℕ) (ps : List Pid) → length (filter of_peer (map (row g) ps)) ≡ length (filter (λ p. is_peer p.node l es) ps)
+  group_length : (g : List ℕ) (ps : List Pid)
+      → length (filter of_peer (map (row g) ps)) ≡ length (filter (λ p. is_peer p.node l es) ps)
   group_length g [] = refl
   group_length g (p ∷ ps) = grind (arith, group_length g ps)
 
-  peer_length : (gs : List (List ℕ)) → length (filter of_peer (rows_in_groups gs)) ≡ length (filter (λ p. is_peer p.node l es) (flat_map (members h s) gs))
+  peer_length : (gs : List (List ℕ)) → length (filter of_peer (rows_in_groups gs)) ≡ length (filter
+      (λ p. is_peer p.node l es) (flat_map (members h s) gs))
   peer_length [] = refl
   peer_length (g ∷ gs) =
       ap length (filter-append of_peer (map (row g) (members h s g)) (rows_in_groups gs))
-      ∙ length-append (filter of_peer (map (row g) (members h s g))) (filter of_peer (rows_in_groups gs))
+      ∙ length-append (filter of_peer (map (row g) (members h s g)))
+      (filter of_peer (rows_in_groups gs))
       ∙ (λ i. group_length g (members h s g) i + peer_length gs i)
-      ∙ sym (ap length (filter-append (λ p. is_peer p.node l es) (members h s g) (flat_map (members h s) gs)) ∙ length-append (filter (λ p. is_peer p.node l es) (members h s g)) (filter (λ p. is_peer p.node l es) (flat_map (members h s) gs)))
+      ∙ sym (ap length (filter-append (λ p. is_peer p.node l es) (members h s g)
+      (flat_map (members h s) gs)) ∙ length-append (filter (λ p. is_peer p.node l es)
+      (members h s g)) (filter (λ p. is_peer p.node l es) (flat_map (members h s) gs)))
 
-  stated_most : (r : Row) (b : Bool) → of_peer r ≡ b → (c : Bool) → is_from l es r.pid ≡ c → cond (of_peer r) (listed h s r.group r.pid) 0 ≤ stated l s r.group r.pid es
-  stated_most r true its true from = (let is = listed_from r.group r.pid from in grind (arith, its, is))
-  stated_most r true its false other = (let is = listed_is r.pid its r.group in grind (arith, its, is, other))
-  stated_most r false other c from = grind (arith, other)
+  stated_most : (r : Row) (b : Bool) → of_peer r ≡ b → (c : Bool) → is_from l es r.pid ≡ c
+      → cond (of_peer r) (listed h s r.group r.pid) 0 ≤ stated l s r.group r.pid es
+  stated_most r true its true from = grind (arith, listed_from r.group r.pid from, its)
+  stated_most r true its false other =
+      (let is = listed_is r.pid its r.group in grind (arith, its, is, other))
+  stated_most r false other c from = grind arith
 
-  has_room : (rows : List Row) → HasRoom h l s rows → nat_le (peer_rows h l s + length rows) 4096 ≡ true
+  has_room : (rows : List Row) → HasRoom h l s rows
+      → nat_le (peer_rows h l s + length rows) max_rows ≡ true
   has_room rows it =
-      let fewer = fewer_length same_row same_row_decides (filter of_peer (rows_in_groups (groups h s)) ++ rows) it.all within in
+      let fewer = fewer_length same_row same_row_decides
+      (filter of_peer (rows_in_groups (groups h s)) ++ rows) it.all within in
       let both = length-append (filter of_peer (rows_in_groups (groups h s))) rows in
       let long = peer_length (groups h s) in
       let room = it.room in
-      le-leb (peer_rows h l s + length rows) 4096 (omega (arith, fewer, both, long, room))
+      le-leb (peer_rows h l s + length rows) max_rows (omega (arith, fewer, both, long, room))
     where
-      within : (r : Row) → occurrences same_row r (filter of_peer (rows_in_groups (groups h s)) ++ rows) ≤ occurrences same_row r it.all
+      within : (r : Row) → occurrences same_row r (filter of_peer (rows_in_groups (groups h s))
+          ++ rows) ≤ occurrences same_row r it.all
       within r =
-          let both = how_many_append (λ x. same_row x r) (filter of_peer (rows_in_groups (groups h s))) rows in
-          let counted = peer_counts r (rows_in_groups (groups h s)) ∙ ap (λ n. cond (of_peer r) n 0) (IsListing.counts rows_listed r) in
+          let both = how_many_append (λ x. same_row x r)
+          (filter of_peer (rows_in_groups (groups h s))) rows in
+          let counted = peer_counts r (rows_in_groups (groups h s)) ∙ ap (λ n. cond (of_peer r) n 0)
+          (IsListing.counts rows_listed r) in
           let most = stated_most r (of_peer r) refl (is_from l es r.pid) refl in
           let stated_so = it.counts r in
           omega (arith, both, counted, most, stated_so)
 
   -- ---- what it may say breaks no rule
 
-  here_met : (m : Message) → scope_of m ≡ s → MaySay h l m → first_broken (message_checks h l m) ≡ None
-  here_met (Message.Discover t) is may = subst (λ u. first_broken (message_checks h l (Message.Discover u)) ≡ None) (sym is) (grind (arith, shows, scope_runs))
-  here_met (Message.Down t) is may = subst (λ u. first_broken (message_checks h l (Message.Down u)) ≡ None) (sym is) (grind (arith, shows, scope_runs))
-  here_met (Message.Sync t rows) is may = subst (λ u. first_broken (message_checks h l (Message.Sync u rows)) ≡ None) (sym is) (grind (arith, shows, scope_runs, may))
-  here_met (Message.Join t rows) is may = subst (λ u. HasRoom h l u rows → first_broken (message_checks h l (Message.Join u rows)) ≡ None) (sym is)
+  here_met : (m : Message) → scope_of m ≡ s → MaySay h l m
+      → first_broken (message_checks h l m) ≡ None
+  here_met (Message.Discover t) is may =
+      subst (λ u. first_broken (message_checks h l (Message.Discover u)) ≡ None) (sym is)
+      (grind (arith, shows, scope_runs))
+  here_met (Message.Down t) is may = subst (λ u. first_broken (message_checks h l (Message.Down u))
+      ≡ None) (sym is) (grind (arith, shows, scope_runs))
+  here_met (Message.Sync t rows) is may =
+      subst (λ u. first_broken (message_checks h l (Message.Sync u rows)) ≡ None) (sym is)
+      (grind (arith, shows, scope_runs, may))
+  here_met (Message.Join t rows) is may = subst (λ u. HasRoom h l u rows
+      → first_broken (message_checks h l (Message.Join u rows)) ≡ None) (sym is)
       (λ room. grind (arith, shows, scope_runs, hears, may.0, has_room rows room)) may.1
-  here_met (Message.Leave t rows) is may = subst (λ u. AreStated h l u rows → first_broken (message_checks h l (Message.Leave u rows)) ≡ None) (sym is)
-      (λ stated. grind (arith, shows, scope_runs, hears, may.0, are_listed rows stated rows may.0)) may.1
+  here_met (Message.Leave t rows) is may = subst (λ u. AreStated h l u rows
+      → first_broken (message_checks h l (Message.Leave u rows)) ≡ None) (sym is)
+      (λ stated. grind (arith, shows, scope_runs, hears, may.0, are_listed rows stated rows may.0))
+      may.1
 
-  pub accepts : (seat : ℕ) (body : List ℕ) (m : Message) → is_full h ≡ false → message_taken body ≡ Some m → scope_of m ≡ s → MaySay h l m → is_accepted (verdict h seat (Event.Frame l body)) ≡ true
-  accepts seat body m room says is may = λ i. is_accepted (cond (room i) (Refused Rule.EntriesFull) (judged h seat (Event.Frame l body) (none i)))
-    where
-      opens : is_open l es ≡ true
-      opens = and_left (is_open l es) (is_whole l es) is_up_there
-
-      awaited : awaits l es ≡ AwaitMessage
-      awaited = (whole_is_message l es opens).0 (and_right (is_open l es) (is_whole l es) is_up_there)
-
-      none : first_broken (checks h seat (Event.Frame l body)) ≡ None
-      none =
-          (λ i. first_broken (cond (opens i) (frame_checks h l body (awaited i)) (always Rule.NoSuchLink)))
-          ∙ (λ i. first_broken (option_map_or (message_checks h l) (says i) (always Rule.BadFrame)))
-          ∙ here_met m is may
+  pub accepts : (seat : ℕ) (body : List ℕ) (m : Message) → is_full h ≡ false
+      → message_taken body ≡ Some m → scope_of m ≡ s → MaySay h l m
+      → is_accepted (verdict h seat (Event.Frame l body)) ≡ true
+  accepts seat body m room says is may =
+      grind (
+        arith,
+        Refused Rule.EntriesFull,
+        Event.Frame l body,
+        (and_parts (is_open l es) (is_whole l es) is_up_there).0,
+        (and_parts (is_open l es) (is_whole l es) is_up_there).1,
+        Rule.NoSuchLink,
+        Rule.BadFrame,
+        here_met m is may,
+      )

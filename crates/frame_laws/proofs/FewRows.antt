@@ -1,11 +1,12 @@
 -- A node has few own rows in each scope, and so do the messages that it owes.
-use Rattle.frame_laws.proofs.Words.{ap, arith, refl, leb-true, unbroken, accepted, all_hold, but, fewer_length, how_many_append, length-append}
-use Rattle.frame_laws.proofs.Words.{same_decides, same_row_decides, Bool, List, [], cond, false, length, map, nat_le, true, suc, ℕ}
-use Rattle.frame_laws.proofs.Words.{◌++◌, ◌+◌, ◌∷◌, ◌≡◌, ◌≤◌, IsListing, mentions, occurrences, same, same_row}
-use Rattle.frame_laws.proofs.Words.{Pid, Row, Opening, Event, Reply, Verdict, Accepted, Refused, Entry, History, past, own, local_rows, row, join_checks}
-use Rattle.frame_laws.proofs.Words.{IsLegal, IsLegalIn, verdict}
-use Rattle.policy_audit.proofs.Lists.{count_in_group}
-use Rattle.policy_audit.proofs.OwnRows.{local_rows_are}
+use Rattle.frame_laws.proofs
+use proofs.Words.{max_rows, Accepted, accepted, all_hold, ap, arith, Bool, but, cond}
+use proofs.Words.{count_in_group, Entry, Event, false, fewer_length, History, how_many_append}
+use proofs.Words.{IsLegal, IsLegalIn, IsListing, join_checks, leb-true, length, length-append, List}
+use proofs.Words.{local_rows, local_rows_are, map, mentions, nat_le, occurrences, Opening, own}
+use proofs.Words.{past, Pid, refl, Refused, Reply, Row, row, same, same_decides, same_row}
+use proofs.Words.{same_row_decides, suc, true, unbroken, Verdict, verdict, ℕ, [], ◌++◌, ◌+◌, ◌∷◌}
+use proofs.Words.{◌≡◌, ◌≤◌}
 
 length_map : {A B : Type 0} (f : A → B) (xs : List A) → length (map f xs) ≡ length xs
 length_map f [] = refl
@@ -13,58 +14,79 @@ length_map f (x ∷ xs) = ap suc (length_map f xs)
 
 module _ (h : History) (s : List ℕ) where
   -- rows that are counted no more often than the own rows are no more than those
-  pub few : (rows : List Row) → ((r : Row) → occurrences same_row r rows ≤ own h s r.group r.pid) → length rows ≤ length (local_rows h s)
-  few rows counts = fewer_length same_row same_row_decides rows (local_rows h s) (λ r. let is = IsListing.counts (local_rows_are h s) r in let some = counts r in omega (arith, is, some))
+  pub few : (rows : List Row) → ((r : Row) → occurrences same_row r rows ≤ own h s r.group r.pid)
+      → length rows ≤ length (local_rows h s)
+  few rows counts = fewer_length same_row same_row_decides rows (local_rows h s) (λ r. let is =
+      IsListing.counts (local_rows_are h s) r in let some = counts r in omega (arith, is, some))
 
   -- where no own row is counted more often there are no more
-  pub fewer : (k : History) → ((g : List ℕ) (p : Pid) → own k s g p ≤ own h s g p) → length (local_rows k s) ≤ length (local_rows h s)
-  fewer k less = few (local_rows k s) (λ r. let is = IsListing.counts (local_rows_are k s) r in let some = less r.group r.pid in omega (arith, is, some))
+  pub fewer : (k : History) → ((g : List ℕ) (p : Pid) → own k s g p ≤ own h s g p)
+      → length (local_rows k s) ≤ length (local_rows h s)
+  fewer k less = few (local_rows k s) (λ r. let is = IsListing.counts (local_rows_are k s) r in
+      let some = less r.group r.pid in omega (arith, is, some))
 
   -- a Join brings no more than it mentions
-  pub more : (k : History) (g : List ℕ) (ps : List Pid) → ((f : List ℕ) (p : Pid) → own k s f p ≤ own h s f p + cond (same g f) (mentions p ps) 0) → length (local_rows k s) ≤ length (local_rows h s) + length ps
+  pub more : (k : History) (g : List ℕ) (ps : List Pid)
+      → ((f : List ℕ) (p : Pid) → own k s f p ≤ own h s f p + cond (same g f) (mentions p ps) 0)
+      → length (local_rows k s) ≤ length (local_rows h s) + length ps
   more k g ps counts =
-      let all = fewer_length same_row same_row_decides (local_rows k s) (local_rows h s ++ map (row g) ps) (λ r.
-      let now = IsListing.counts (local_rows_are k s) r in
-      let was = IsListing.counts (local_rows_are h s) r in
-      let both = how_many_append (λ x. same_row x r) (local_rows h s) (map (row g) ps) in
-      let joins = count_in_group r g ps in
-      let some = counts r.group r.pid in
-      omega (arith, now, was, both, joins, some)) in
-      let long = length-append (local_rows h s) (map (row g) ps) in
-      let mapped = length_map (row g) ps in
-      omega (arith, all, long, mapped)
+      grind (
+        arith,
+        fewer_length same_row same_row_decides (local_rows k s) (local_rows h s ++ map (row g) ps)
+            (λ r. let now = IsListing.counts (local_rows_are k s) r in let was =
+            IsListing.counts (local_rows_are h s) r in let both =
+            how_many_append (λ x. same_row x r)
+            (local_rows h s) (map (row g) ps) in let joins = count_in_group r g ps in let some =
+            counts r.group r.pid in omega (arith, now, was, both, joins, some)),
+        length-append (local_rows h s) (map (row g) ps),
+        length_map (row g) ps,
+      )
 
 module _ (o : Opening) (es : List Entry) (e : Entry) (s : List ℕ) where
   -- an event that adds no row
-  adds_none : (ev : Event) (v : Verdict) → ((g : List ℕ) (p : Pid) → own (past o (but e ev v ∷ es)) s g p ≤ own (past o es) s g p) → length (local_rows (past o es) s) ≤ 4096
-      → length (local_rows (past o (but e ev v ∷ es)) s) ≤ 4096
-  adds_none ev v less few_yet = (let no_more = fewer (past o es) s (past o (but e ev v ∷ es)) less in omega (arith, no_more, few_yet))
+  adds_none : (ev : Event) (v : Verdict) → ((g : List ℕ) (p : Pid) → own (past o (but e ev v ∷ es))
+      s g p ≤ own (past o es) s g p) → length (local_rows (past o es) s) ≤ max_rows
+      → length (local_rows (past o (but e ev v ∷ es)) s) ≤ max_rows
+  adds_none ev v less few_yet = grind (arith, fewer (past o es) s (past o (but e ev v ∷ es)) less)
 
-  joins : (t g : List ℕ) (ps : List Pid) (r : Reply) → Accepted r ≡ verdict (past o es) e.seat (Event.Join t g ps) → length (local_rows (past o es) s) ≤ 4096
-      → (b : Bool) → same t s ≡ b → length (local_rows (past o (but e (Event.Join t g ps) (Accepted r) ∷ es)) s) ≤ 4096
+  joins : (t g : List ℕ) (ps : List Pid) (r : Reply)
+      → Accepted r ≡ verdict (past o es) e.seat (Event.Join t g ps)
+      → length (local_rows (past o es) s) ≤ max_rows
+      → (b : Bool) → same t s ≡ b
+      → length (local_rows (past o (but e (Event.Join t g ps) (Accepted r) ∷ es)) s) ≤ max_rows
   joins t g ps r q few_yet true here =
-      let room = leb-true (length (local_rows (past o es) t) + length ps) 4096 (unbroken (nat_le (length (local_rows (past o es) t) + length ps) 4096) (all_hold (join_checks (past o es) t g ps) (accepted (past o es) e.seat (Event.Join t g ps) r q).0).1.1.1.0) in
-      let its : length (local_rows (past o es) t) ≡ length (local_rows (past o es) s) = ap (λ u. length (local_rows (past o es) u)) ((same_decides t s).0 here) in
-      let no_more = more (past o es) s (past o (but e (Event.Join t g ps) (Accepted r) ∷ es)) g ps (λ f p. grind (arith, here)) in
+      let room = leb-true (length (local_rows (past o es) t) + length ps) max_rows
+      (unbroken (nat_le (length (local_rows (past o es) t) + length ps) max_rows)
+      (all_hold (join_checks (past o es) t g ps) (accepted (past o es) e.seat (Event.Join t g ps)
+      r q).0).1.1.1.0) in
+      let its : length (local_rows (past o es) t) ≡ length (local_rows (past o es) s) =
+      ap (λ u. length (local_rows (past o es) u)) ((same_decides t s).0 here) in
+      let no_more = more (past o es) s (past o (but e (Event.Join t g ps) (Accepted r) ∷ es)) g ps
+      (λ f p. grind (arith, here)) in
       omega (arith, room, its, no_more)
-  joins t g ps r q few_yet false other = adds_none (Event.Join t g ps) (Accepted r) (λ f p. grind (arith, other)) few_yet
+  joins t g ps r q few_yet false other = adds_none (Event.Join t g ps) (Accepted r)
+      (λ f p. grind (arith, other)) few_yet
 
-  step : (ev : Event) (v : Verdict) → v ≡ verdict (past o es) e.seat ev → length (local_rows (past o es) s) ≤ 4096 → length (local_rows (past o (but e ev v ∷ es)) s) ≤ 4096
+  step : (ev : Event) (v : Verdict) → v ≡ verdict (past o es) e.seat ev
+      → length (local_rows (past o es) s) ≤ max_rows
+      → length (local_rows (past o (but e ev v ∷ es)) s) ≤ max_rows
   step ev (Refused r) q few_yet = few_yet
-  step (Event.Join t g ps) (Accepted r) q few_yet = joins t g ps r q few_yet (same t s) refl
-  step (Event.Leave t g ps) (Accepted r) q few_yet = adds_none (Event.Leave t g ps) (Accepted r) (λ f p. grind arith) few_yet
-  step (Event.Exit x) (Accepted r) q few_yet = adds_none (Event.Exit x) (Accepted r) (λ f p. grind arith) few_yet
-  step (Event.StartScope t) (Accepted r) q few_yet = adds_none (Event.StartScope t) (Accepted r) (λ f p. grind arith) few_yet
-  step (Event.StopScope t) (Accepted r) q few_yet = adds_none (Event.StopScope t) (Accepted r) (λ f p. grind arith) few_yet
-  step Event.Restart (Accepted r) q few_yet = adds_none Event.Restart (Accepted r) (λ f p. grind arith) few_yet
+  step (Event.Join t g ps) (Accepted r) q few_yet = grind (arith, joins)
+  step (Event.Leave t g ps) (Accepted r) q few_yet = adds_none (Event.Leave t g ps) (Accepted r)
+      (λ f p. grind arith) few_yet
+  step (Event.Exit x) (Accepted r) q few_yet = adds_none (Event.Exit x) (Accepted r)
+      (λ f p. grind arith) few_yet
+  step (Event.StartScope t) (Accepted r) q few_yet = adds_none (Event.StartScope t) (Accepted r)
+      (λ f p. grind arith) few_yet
+  step (Event.StopScope t) (Accepted r) q few_yet = adds_none (Event.StopScope t) (Accepted r)
+      (λ f p. grind arith) few_yet
+  step Event.Restart (Accepted r) q few_yet = grind (arith, adds_none)
   step ev (Accepted r) q few_yet = adds_none ev (Accepted r) (λ f p. omega arith) few_yet
 
-few_in : (o : Opening) (es : List Entry) → IsLegalIn o es → (s : List ℕ) → length (local_rows (past o es) s) ≤ 4096
-few_in o [] legal s = adds_first
-  where
-    adds_first : length (local_rows (past o []) s) ≤ 4096
-    adds_first = omega arith
+few_in : (o : Opening) (es : List Entry) → IsLegalIn o es → (s : List ℕ)
+    → length (local_rows (past o es) s) ≤ max_rows
+few_in o [] legal s = grind arith
 few_in o (e ∷ es) legal s = step o es e s e.event e.verdict legal.0.verdict (few_in o es legal.1 s)
 
-pub few_local : (h : History) → IsLegal h → (s : List ℕ) → length (local_rows h s) ≤ 4096
+pub few_local : (h : History) → IsLegal h → (s : List ℕ) → length (local_rows h s) ≤ max_rows
 few_local h legal s = few_in h.opening h.entries legal s

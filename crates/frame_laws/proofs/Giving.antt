@@ -1,28 +1,33 @@
 -- What a peer has given came on the link: its Name first, or its Challenge.
-use Rattle.frame_laws.proofs.Words.{ap, arith, refl, subst, sym, ◌∙◌, eqb-true, lie, but, accepted, AllByRecursion, is_some, option_and_then, option_map_or, slice_get, Bool, List, None, Option, Some, [], cond, false, length, nat_le, not, true, ℕ}
-use Rattle.frame_laws.proofs.Words.{◌&&◌, ◌++◌, ◌+◌, ◌==◌, ◌||◌, ◌∷◌, ◌≡◌, Opening, Event, Reply, Rule, Verdict, Accepted, Refused, Entry, past, Opened, Start, ByDial, ByPeer, opened, taken, is_open, is_whole, ends, IsLegalIn, verdict, hello_in}
-use Rattle.frame_laws.specs.Given.{IsNamedFirst, IsAskedOnce}
-use Rattle.frame_laws.specs.Sent.{came, delivered}
-use Rattle.frame_laws.proofs.Bodies.{stands_first, stands_last}
-use Rattle.dist_types.proofs.Listings.{all_append}
-use Rattle.handshake_frames.specs.Frame.{Name, Challenge}
-use Rattle.policy_audit.specs.Sides.{Taken, given_in, peer_in, is_whole_in, and_frame}
-use Rattle.policy_audit.proofs.UpLinks.{and_right, none_taken}
-use Rattle.policy_audit.proofs.Walked.{Far, far, frame_fits}
+use Rattle.frame_laws.proofs
+use proofs.Words.{Accepted, accepted, all_append, AllByRecursion, and_frame, and_parts, ap, arith}
+use proofs.Words.{Bool, but, ByDial, ByPeer, came, Challenge, cond, delivered, ends, Entry}
+use proofs.Words.{eqb-true, Event, false, Far, far, frame_fits, given_in, hello_in, is_open}
+use proofs.Words.{is_some, is_whole, IsAskedOnce, IsLegalIn, IsNamedFirst, length, lie, List, Name}
+use proofs.Words.{nat_le, None, none_taken, not, Opened, opened, Opening, Option, option_and_then}
+use proofs.Words.{past, peer_in, refl, Refused, Reply, Rule, slice_get, Some, Start, subst, sym}
+use proofs.Words.{Taken, taken, true, Verdict, verdict, ℕ, [], ◌&&◌, ◌++◌, ◌+◌, ◌==◌, ◌||◌, ◌∙◌}
+use proofs.Words.{◌∷◌, ◌≡◌}
+use proofs.Bodies.{stands_first, stands_last}
 
 -- ---- the first frame on a link that its peer opened
 
 pub data Began (l : ℕ) (es : List Entry) : Type 0 where
   Nothing : taken l es ≡ [] → (is_open l es ≡ true → delivered l es ≡ []) → Began l es
-  First : (t : Taken) (rest : List Taken) → taken l es ≡ t ∷ rest → slice_get (delivered l es) 0 ≡ Some t.body → Began l es
+  First : (t : Taken) (rest : List Taken) → taken l es ≡ t ∷ rest
+      → slice_get (delivered l es) 0 ≡ Some t.body → Began l es
 
 module _ (o : Opening) (l : ℕ) where
   -- an entry with which nothing came
-  keep : (es : List Entry) (x : Entry) → taken l (x ∷ es) ≡ taken l es → (is_open l (x ∷ es) ≡ true → is_open l es ≡ true) → came l x.event ≡ [] → Began l es → Began l (x ∷ es)
-  keep es x same_taken opens none (Nothing no_taken no_body) = Nothing (same_taken ∙ no_taken) (λ now. (λ i. no_body (opens now) i ++ none i))
-  keep es x same_taken opens none (First t rest is stands) = First t rest (same_taken ∙ is) (stands_first (delivered l es) (came l x.event) 0 t.body stands)
+  keep : (es : List Entry) (x : Entry) → taken l (x ∷ es) ≡ taken l es → (is_open l (x ∷ es) ≡ true
+      → is_open l es ≡ true) → came l x.event ≡ [] → Began l es → Began l (x ∷ es)
+  keep es x same_taken opens none (Nothing no_taken no_body) = Nothing (same_taken ∙ no_taken)
+      (λ now. (λ i. no_body (opens now) i ++ none i))
+  keep es x same_taken opens none (First t rest is stands) = First t rest (same_taken ∙ is)
+      (stands_first (delivered l es) (came l x.event) 0 t.body stands)
 
-  module _ (es : List Entry) (e : Entry) (legal : IsLegalIn o es) (number : e.number ≡ length es + 1) (c : ℕ) (bo : List Entry) (none_early : delivered l bo ≡ []) where
+  module _ (es : List Entry) (e : Entry) (legal : IsLegalIn o es) (number : e.number ≡ length
+      es + 1) (c : ℕ) (bo : List Entry) (none_early : delivered l bo ≡ []) where
     abbrev at_opening : Option Opened
     at_opening = Some (record { start = ByPeer c; before = bo })
 
@@ -30,58 +35,89 @@ module _ (o : Opening) (l : ℕ) where
     Before = opened l es ≡ at_opening → Began l es
 
     was_open : (a b : Bool) → (not a && b) ≡ true → b ≡ true
-    was_open a b q = and_right (not a) b q
+    was_open a b q = (and_parts (not a) b q).1
 
     -- the entry opens a link
-    begins : (ev : Event) (r : Reply) (st : Start) → taken l (but e ev (Accepted r) ∷ es) ≡ taken l es → came l ev ≡ [] → (b : Bool) → (e.number == l) ≡ b
+    begins : (ev : Event) (r : Reply) (st : Start)
+        → taken l (but e ev (Accepted r) ∷ es) ≡ taken l es → came l ev ≡ [] → (b : Bool)
+        → (e.number == l) ≡ b
         → is_open l (but e ev (Accepted r) ∷ es) ≡ ((e.number == l) || is_open l es)
-        → elim (cond {A = Option Opened} b (Some (record { start = st; before = es })) None) as (λ _. Option Opened) [ Some y ↦ Some y | None ↦ opened l es ] ≡ at_opening
+        → elim (cond {A = Option Opened} b (Some (record { start = st; before = es })) None) as
+        (λ _. Option Opened) [ Some y ↦ Some y | None ↦ opened l es ] ≡ at_opening
         → Before → Began l (but e ev (Accepted r) ∷ es)
-    begins ev r st same_taken none true here opens q so_far = Nothing (same_taken ∙ none_taken o es legal [] e number l here) (λ now. (λ i. early i ++ none i))
+    begins ev r st same_taken none true here opens q so_far = Nothing
+        (same_taken ∙ none_taken o es legal [] e number l here) (λ now. (λ i. early i ++ none i))
       where
         before_is : es ≡ bo
         before_is = ap (λ x. elim x as (λ _. List Entry) [ Some y ↦ y.before | None ↦ es ]) q
 
         early : delivered l es ≡ []
         early = ap (delivered l) before_is ∙ none_early
-    begins ev r st same_taken none false other opens q so_far = keep es (but e ev (Accepted r)) same_taken (λ now. sym (opens ∙ ap (λ b. b || is_open l es) other) ∙ now) none (so_far q)
+    begins ev r st same_taken none false other opens q so_far = keep es (but e ev (Accepted r))
+        same_taken (λ now. sym (opens ∙ ap (λ b. b || is_open l es) other) ∙ now) none (so_far q)
 
-    accepted_frame : (k : ℕ) (body : List ℕ) (r : Reply) → Accepted r ≡ verdict (past o es) e.seat (Event.Frame k body) → (b : Bool) → (k == l) ≡ b → Began l es → Began l (but e (Event.Frame k body) (Accepted r) ∷ es)
+    accepted_frame : (k : ℕ) (body : List ℕ) (r : Reply)
+        → Accepted r ≡ verdict (past o es) e.seat (Event.Frame k body) → (b : Bool) → (k == l) ≡ b
+        → Began l es → Began l (but e (Event.Frame k body) (Accepted r) ∷ es)
     accepted_frame k body r q false other began =
-        keep es (but e (Event.Frame k body) (Accepted r)) (ap (λ b. and_frame (taken l es) (cond b (Some (record { body = body; before = es })) None)) other)
-        (was_open (ends l es (Accepted r) (Event.Frame k body)) (is_open l es)) (ap (λ b. cond b (body ∷ []) []) other) began
+        keep es (but e (Event.Frame k body) (Accepted r))
+        (ap (λ b. and_frame (taken l es) (cond b (Some (record { body = body; before = es })) None))
+        other)
+        (was_open (ends l es (Accepted r) (Event.Frame k body)) (is_open l es))
+        (ap (λ b. cond b (body ∷ []) []) other) began
     accepted_frame k body r q true is (Nothing no_taken no_body) =
-        let opens = subst (λ j. is_open j es ≡ true) (eqb-true k l is) (frame_fits o es e.seat k body (accepted (past o es) e.seat (Event.Frame k body) r q).0).0 in
-        First (record { body = body; before = es }) [] (λ i. and_frame (no_taken i) (cond (is i) (Some (record { body = body; before = es })) None)) (λ i. slice_get (no_body opens i ++ cond (is i) (body ∷ []) []) 0)
+        let opens = subst (λ j. is_open j es ≡ true) (eqb-true k l is) (frame_fits o es e.seat k
+        body (accepted (past o es) e.seat (Event.Frame k body) r q).0).0 in
+        First (record { body = body; before = es }) []
+        (λ i. and_frame (no_taken i) (cond (is i) (Some (record { body = body; before = es }))
+        None)) (λ i. slice_get (no_body opens i ++ cond (is i) (body ∷ []) []) 0)
     accepted_frame k body r q true is (First t rest first stands) =
-        First t (rest ++ record { body = body; before = es } ∷ []) (λ i. and_frame (first i) (cond (is i) (Some (record { body = body; before = es })) None)) (stands_first (delivered l es) (came l (Event.Frame k body)) 0 t.body stands)
+        First t (rest ++ record { body = body; before = es } ∷ [])
+        (λ i. and_frame (first i) (cond (is i) (Some (record { body = body; before = es })) None))
+        (stands_first (delivered l es) (came l (Event.Frame k body)) 0 t.body stands)
 
-    refused_frame : (k : ℕ) (body : List ℕ) (r : Rule) → opened l es ≡ at_opening → (b : Bool) → (k == l) ≡ b → Began l es → Began l (but e (Event.Frame k body) (Refused r) ∷ es)
+    refused_frame : (k : ℕ) (body : List ℕ) (r : Rule) → opened l es ≡ at_opening → (b : Bool)
+        → (k == l) ≡ b → Began l es → Began l (but e (Event.Frame k body) (Refused r) ∷ es)
     refused_frame k body r opening false other began =
-        keep es (but e (Event.Frame k body) (Refused r)) refl (was_open (ends l es (Refused r) (Event.Frame k body)) (is_open l es)) (ap (λ b. cond b (body ∷ []) []) other) began
-    refused_frame k body r opening true is (Nothing no_taken no_body) = Nothing no_taken (λ now. lie (sym now ∙ shut))
+        keep es (but e (Event.Frame k body) (Refused r)) refl
+        (was_open (ends l es (Refused r) (Event.Frame k body)) (is_open l es))
+        (ap (λ b. cond b (body ∷ []) []) other) began
+    refused_frame k body r opening true is (Nothing no_taken no_body) =
+        Nothing no_taken (λ now. lie (sym now ∙ shut))
       where
         unwhole : is_whole l es ≡ false
         unwhole = grind (arith, opening, no_taken)
 
         shut : is_open l (but e (Event.Frame k body) (Refused r) ∷ es) ≡ false
         shut = grind (arith, is, unwhole)
-    refused_frame k body r opening true is (First t rest first stands) = First t rest first (stands_first (delivered l es) (came l (Event.Frame k body)) 0 t.body stands)
+    refused_frame k body r opening true is (First t rest first stands) = First t rest first
+        (stands_first (delivered l es) (came l (Event.Frame k body)) 0 t.body stands)
 
-    by_event : (ev : Event) (v : Verdict) → v ≡ verdict (past o es) e.seat ev → Before → opened l (but e ev v ∷ es) ≡ at_opening → Began l (but e ev v ∷ es)
-    by_event (Event.Opened d) (Accepted r) q so_far opens = begins (Event.Opened d) r (ByPeer d) refl refl (e.number == l) refl refl opens so_far
-    by_event (Event.Dial n d) (Accepted r) q so_far opens = begins (Event.Dial n d) r (ByDial n d) refl refl (e.number == l) refl refl opens so_far
+    by_event : (ev : Event) (v : Verdict) → v ≡ verdict (past o es) e.seat ev → Before
+        → opened l (but e ev v ∷ es) ≡ at_opening → Began l (but e ev v ∷ es)
+    by_event (Event.Opened d) (Accepted r) q so_far opens = begins (Event.Opened d) r (ByPeer d)
+        refl refl (e.number == l) refl refl opens so_far
+    by_event (Event.Dial n d) (Accepted r) q so_far opens = begins (Event.Dial n d) r (ByDial n d)
+        refl refl (e.number == l) refl refl opens so_far
     by_event Event.Restart (Accepted r) q so_far opens = lie (sym (ap is_some opens))
-    by_event (Event.Frame k body) (Accepted r) q so_far opens = accepted_frame k body r q (k == l) refl (so_far opens)
-    by_event (Event.Frame k body) (Refused r) q so_far opens = refused_frame k body r opens (k == l) refl (so_far opens)
-    by_event ev (Accepted r) q so_far opens = keep es (but e ev (Accepted r)) refl (was_open (ends l es (Accepted r) ev) (is_open l es)) refl (so_far opens)
-    by_event ev (Refused r) q so_far opens = keep es (but e ev (Refused r)) refl (was_open (ends l es (Refused r) ev) (is_open l es)) refl (so_far opens)
+    by_event (Event.Frame k body) (Accepted r) q so_far opens = accepted_frame k body r q (k == l)
+        refl (so_far opens)
+    by_event (Event.Frame k body) (Refused r) q so_far opens = refused_frame k body r opens (k == l)
+        refl (so_far opens)
+    by_event ev (Accepted r) q so_far opens = keep es (but e ev (Accepted r)) refl
+        (was_open (ends l es (Accepted r) ev) (is_open l es)) refl (so_far opens)
+    by_event ev (Refused r) q so_far opens = keep es (but e ev (Refused r)) refl
+        (was_open (ends l es (Refused r) ev) (is_open l es)) refl (so_far opens)
 
-  began : (es : List Entry) → IsLegalIn o es → (c : ℕ) (bo : List Entry) → delivered l bo ≡ [] → opened l es ≡ Some (record { start = ByPeer c; before = bo }) → Began l es
+  began : (es : List Entry) → IsLegalIn o es → (c : ℕ) (bo : List Entry) → delivered l bo ≡ []
+      → opened l es ≡ Some (record { start = ByPeer c; before = bo }) → Began l es
   began [] legal c bo none opens = lie (sym (ap is_some opens))
-  began (e ∷ es) legal c bo none opens = by_event es e legal.1 legal.0.number c bo none e.event e.verdict legal.0.verdict (began es legal.1 c bo none) opens
+  began (e ∷ es) legal c bo none opens = by_event es e legal.1 legal.0.number c bo none e.event
+      e.verdict legal.0.verdict (began es legal.1 c bo none) opens
 
-  pub named_first : (es : List Entry) → IsLegalIn o es → (c : ℕ) (bo : List Entry) → delivered l bo ≡ [] → opened l es ≡ Some (record { start = ByPeer c; before = bo }) → is_whole l es ≡ true → IsNamedFirst l es
+  pub named_first : (es : List Entry) → IsLegalIn o es → (c : ℕ) (bo : List Entry)
+      → delivered l bo ≡ [] → opened l es ≡ Some (record { start = ByPeer c; before = bo })
+      → is_whole l es ≡ true → IsNamedFirst l es
   named_first es legal c bo none opens whole = by (began es legal c bo none opens)
     where
       by : Began l es → IsNamedFirst l es
@@ -90,7 +126,8 @@ module _ (o : Opening) (l : ℕ) where
           unwhole : is_whole l es ≡ false
           unwhole = grind (arith, opens, no_taken)
       by (First t rest first stands) =
-          let walk = subst (λ x. Far o x (t ∷ rest)) opens (subst (Far o (opened l es)) first (far o es legal l)) in
+          let walk = subst (λ x. Far o x (t ∷ rest)) opens
+          (subst (Far o (opened l es)) first (far o es legal l)) in
           let hello = walk.0.0 in
           let says = walk.0.1 in
           record {
@@ -98,8 +135,10 @@ module _ (o : Opening) (l : ℕ) where
             hello = hello;
             stands = stands;
             says = says;
-            given_is = (λ i. option_and_then (λ (x : Opened). given_in x.start (first i)) (opens i)) ∙ says;
-            peer = (λ i. option_and_then (λ (x : Opened). peer_in x.start (first i)) (opens i)) ∙ ap (λ x. option_and_then {T = Name} {U = List ℕ} (λ f. Some f.name) x) says;
+            given_is = (λ i. option_and_then (λ (x : Opened). given_in x.start (first i)) (opens i))
+                ∙ says;
+            peer = (λ i. option_and_then (λ (x : Opened). peer_in x.start (first i)) (opens i))
+                ∙ ap (λ x. option_and_then {T = Name} {U = List ℕ} (λ f. Some f.name) x) says;
           }
 
   -- ---- frames that were accepted came
@@ -107,38 +146,49 @@ module _ (o : Opening) (l : ℕ) where
   abbrev IsCame : List (List ℕ) → Taken → Type 0
   IsCame bodies t = (place : ℕ) × (slice_get bodies place ≡ Some t.body)
 
-  more_came : (bodies more : List (List ℕ)) (ts : List Taken) → AllByRecursion (IsCame bodies) ts → AllByRecursion (IsCame (bodies ++ more)) ts
+  more_came : (bodies more : List (List ℕ)) (ts : List Taken) → AllByRecursion (IsCame bodies) ts
+      → AllByRecursion (IsCame (bodies ++ more)) ts
   more_came bodies more [] all = tt
-  more_came bodies more (t ∷ ts) all = ((all.0.0, stands_first bodies more all.0.0 t.body all.0.1), more_came bodies more ts all.1)
+  more_came bodies more (t ∷ ts) all =
+      ((all.0.0, stands_first bodies more all.0.0 t.body all.0.1), more_came bodies more ts all.1)
 
   taken_came : (es : List Entry) → AllByRecursion (IsCame (delivered l es)) (taken l es)
   taken_came [] = tt
   taken_came (e ∷ es) = by_event e.event e.verdict (taken_came es)
     where
-      framed : (k : ℕ) (body : List ℕ) (b : Bool) → AllByRecursion (IsCame (delivered l es)) (taken l es)
-          → AllByRecursion (IsCame (delivered l es ++ cond b (body ∷ []) [])) (and_frame (taken l es) (cond b (Some (record { body = body; before = es })) None))
+      framed : (k : ℕ) (body : List ℕ) (b : Bool)
+          → AllByRecursion (IsCame (delivered l es)) (taken l es)
+          → AllByRecursion (IsCame (delivered l es ++ cond b (body ∷ []) []))
+          (and_frame (taken l es) (cond b (Some (record { body = body; before = es })) None))
       framed k body false all = more_came (delivered l es) [] (taken l es) all
-      framed k body true all = all_append (IsCame (delivered l es ++ body ∷ [])) (taken l es) (record { body = body; before = es } ∷ []) (more_came (delivered l es) (body ∷ []) (taken l es) all) ((length (delivered l es), stands_last (delivered l es) body), tt)
+      framed k body true all = all_append (IsCame (delivered l es ++ body ∷ [])) (taken l es)
+          (record { body = body; before = es } ∷ []) (more_came (delivered l es) (body ∷ [])
+          (taken l es) all) ((length (delivered l es), stands_last (delivered l es) body), tt)
 
-      by_event : (ev : Event) (v : Verdict) → AllByRecursion (IsCame (delivered l es)) (taken l es) → AllByRecursion (IsCame (delivered l (but e ev v ∷ es))) (taken l (but e ev v ∷ es))
+      by_event : (ev : Event) (v : Verdict) → AllByRecursion (IsCame (delivered l es)) (taken l es)
+          → AllByRecursion (IsCame (delivered l (but e ev v ∷ es))) (taken l (but e ev v ∷ es))
       by_event (Event.Frame k body) (Accepted r) all = framed k body (k == l) all
-      by_event (Event.Frame k body) (Refused r) all = more_came (delivered l es) (came l (Event.Frame k body)) (taken l es) all
+      by_event (Event.Frame k body) (Refused r) all = more_came (delivered l es)
+          (came l (Event.Frame k body)) (taken l es) all
       by_event Event.Restart (Accepted r) all = tt
       by_event ev (Accepted r) all = more_came (delivered l es) [] (taken l es) all
       by_event ev (Refused r) all = more_came (delivered l es) [] (taken l es) all
 
-  pub asked_once : (es : List Entry) → IsLegalIn o es → (n : List ℕ) (c : ℕ) (bo : List Entry) → opened l es ≡ Some (record { start = ByDial n c; before = bo }) → is_whole l es ≡ true → IsAskedOnce l n es
+  pub asked_once : (es : List Entry) → IsLegalIn o es → (n : List ℕ) (c : ℕ) (bo : List Entry)
+      → opened l es ≡ Some (record { start = ByDial n c; before = bo }) → is_whole l es ≡ true
+      → IsAskedOnce l n es
   asked_once es legal n c bo opens whole = by (taken l es) refl
     where
       long : (ts : List Taken) → taken l es ≡ ts → nat_le 3 (length ts) ≡ true
-      long ts is = sym (λ i. option_map_or (λ (x : Opened). is_whole_in x.start (is i)) (opens i) false) ∙ whole
+      long ts is = grind arith
 
       by : (ts : List Taken) → taken l es ≡ ts → IsAskedOnce l n es
       by [] is = lie (sym (long [] is))
       by (a ∷ []) is = lie (sym (long (a ∷ []) is) ∙ refl)
       by (a ∷ b ∷ []) is = lie (sym (long (a ∷ b ∷ []) is) ∙ refl)
       by (a ∷ b ∷ t ∷ ts) is =
-          let walk = subst (λ x. Far o x (a ∷ b ∷ t ∷ ts)) opens (subst (Far o (opened l es)) is (far o es legal l)) in
+          let walk = subst (λ x. Far o x (a ∷ b ∷ t ∷ ts)) opens
+          (subst (Far o (opened l es)) is (far o es legal l)) in
           let asked = walk.1.1 in
           let came_so = subst (AllByRecursion (IsCame (delivered l es))) is (taken_came es) in
           record {
@@ -147,6 +197,8 @@ module _ (o : Opening) (l : ℕ) where
             challenge = asked.0;
             stands = came_so.1.0.1;
             says = asked.1;
-            given_is = (λ i. option_and_then (λ (x : Opened). given_in x.start (is i)) (opens i)) ∙ ap (λ x. option_and_then {T = Challenge} {U = Name} (λ f. Some (hello_in f)) x) asked.1;
+            given_is = (λ i. option_and_then (λ (x : Opened). given_in x.start (is i)) (opens i))
+                ∙ ap (λ x. option_and_then {T = Challenge} {U = Name} (λ f. Some (hello_in f)) x)
+                asked.1;
             peer = λ i. option_and_then (λ (x : Opened). peer_in x.start (is i)) (opens i);
           }

@@ -1,30 +1,30 @@
--- What a node says of itself: in its Name on a link that it dialled, and in its Challenge on a link that it accepted.
-use Rattle.frame_laws.proofs.Words.{append-nil, ap, arith, refl, sym, ◌∙◌, eqb-false, eqb-true, lie, but, AllByRecursion, is_some, option_map_or, slice_get, Bool, List, None, Option, Some, [], cond, false, length, map, true, ℕ}
-use Rattle.frame_laws.proofs.Words.{◌++◌, ◌+◌, ◌<◌, ◌^◌, ◌==◌, ◌∷◌, ◌≡◌, ◌≤◌, Message, OutFrame, Opening, Event, Verdict, Accepted, Refused, Entry, History, past}
-use Rattle.frame_laws.proofs.Words.{creation, Opened, Start, ByDial, ByPeer, challenge_in, opened, start_of, is_open, is_opened_by}
-use Rattle.frame_laws.proofs.Words.{narrow, owed, own_challenge, own_name_frame, status_frame, wide, IsLegalIn, message_bytes, verdict}
-use Rattle.frame_laws.proofs.Words.{Owing, out_in, owes, owing, moment, IsNode, IsWritten, hello_in, opening_of, own_hello}
-use Rattle.frame_laws.proofs.Handshakes.{first_byte, HoldsOfHellos}
-use Rattle.frame_laws.proofs.Openings.{opened_number, opening_low, same_creation, unborn_out}
-use Rattle.frame_laws.proofs.OwnLimits.{own_creation_fits}
-use Rattle.frame_laws.proofs.Places.{all_at, first_of_both, Parted, InFirst, InSecond, part, owed_here, earlier_moment, this_moment}
-use Rattle.frame_laws.proofs.Spoken.{node_before, owed_hold}
-use Rattle.dist_types.specs.Flags.{own_flags}
-use Rattle.handshake_frames.specs.Frame.{Challenge}
-use Rattle.handshake_frames.specs.Reading.{challenge_frame, name_frame}
-use Rattle.handshake_frames.specs.Spelling.{challenge_bytes, name_bytes}
-use Rattle.handshake_frames.specs.declared.frame.StatusWord.{StatusWord}
-use Rattle.handshake_frames.proofs.ReadingLemmas.{name_frame-spelled, SpellsChallenge-read, challenge_frame-spelled}
-use Rattle.policy_audit.proofs.KeptLinks.{unowed}
+-- What a node says of itself: in its Name on a link that it dialled, and in its Challenge on a link
+-- that it accepted.
+use Rattle.frame_laws.proofs
+use proofs.Words.{Accepted, AllByRecursion, ap, append-nil, arith, Bool, but, ByDial, ByPeer}
+use proofs.Words.{Challenge, challenge_bytes, challenge_frame, challenge_frame-spelled}
+use proofs.Words.{challenge_in, cond, creation, Entry, eqb-false, eqb-true, Event, false, hello_in}
+use proofs.Words.{History, is_open, is_opened_by, is_some, IsLegalIn, IsNode, IsWritten, length}
+use proofs.Words.{lie, List, map, Message, message_bytes, moment, name_bytes, name_frame}
+use proofs.Words.{name_frame-spelled, narrow, None, Opened, opened, Opening, opening_of, Option}
+use proofs.Words.{option_map_or, out_in, OutFrame, owed, owes, Owing, owing, own_challenge}
+use proofs.Words.{own_flags, own_hello, own_name_frame, past, refl, Refused, slice_get, Some}
+use proofs.Words.{SpellsChallenge-read, Start, start_of, status_frame, StatusWord, sym, true}
+use proofs.Words.{unowed, Verdict, verdict, wide, ℕ, [], ◌++◌, ◌+◌, ◌<◌, ◌==◌, ◌^◌, ◌∙◌, ◌∷◌, ◌≡◌}
+use proofs.Words.{◌≤◌}
+use proofs.Handshakes.{first_byte, HoldsOfHellos}
+use proofs.Openings.{opened_number, opening_low, same_creation, unborn_out}
+use proofs.OwnLimits.{own_creation_fits}
+use proofs.Places.{all_at, first_of_both, Parted, InFirst, InSecond, part, owed_here}
+use proofs.Places.{earlier_moment, this_moment}
+use proofs.Spoken.{node_before, owed_hold}
 
 -- ---- bodies
 
 -- a body that doesn't begin as a Challenge does spells none
-not_asked : (body : List ℕ) → (first_byte body == 0x4E) ≡ false → (f : Challenge) → challenge_frame body ≡ Some f → ⊥
-not_asked body other f q =
-    let spelled = SpellsChallenge-read body f q in
-    let first : first_byte body ≡ 0x4E = ap first_byte spelled.bytes in
-    eqb-false (first_byte body) 0x4E other first
+not_asked : (body : List ℕ) → (first_byte body == 0x4E) ≡ false → (f : Challenge)
+    → challenge_frame body ≡ Some f → ⊥
+not_asked body other f q = grind (arith, SpellsChallenge-read body f q, eqb-false, first_byte)
 
 begins_other : (m : Message) → (first_byte (message_bytes m) == 0x4E) ≡ false
 begins_other (Message.Discover s) = refl
@@ -38,38 +38,62 @@ flags_fit true = omega arith
 flags_fit false = omega arith
 
 -- the challenge of a link fits its field
-challenge_fits : (es : List Entry) → AllByRecursion (λ e. IsWritten e.event) es → (l : ℕ) → own_challenge l es < 2 ^ 32
+challenge_fits : (es : List Entry) → AllByRecursion (λ e. IsWritten e.event) es → (l : ℕ)
+    → own_challenge l es < 2 ^ 32
 challenge_fits [] written l = omega arith
-challenge_fits (e ∷ es) written l = by_event e.event e.verdict written.0 (challenge_fits es written.1 l)
+challenge_fits (e ∷ es) written l = by_event e.event e.verdict written.0
+    (challenge_fits es written.1 l)
   where
     where_opened : (b : Bool) (st : Start) → challenge_in st < 2 ^ 32 → own_challenge l es < 2 ^ 32
-        → option_map_or (λ o. challenge_in o.start) (elim (cond {A = Option Opened} b (Some (record { start = st; before = es })) None) as (λ _. Option Opened) [ Some y ↦ Some y | None ↦ opened l es ]) 0 < 2 ^ 32
+        → option_map_or (λ o. challenge_in o.start)
+        (elim (cond {A = Option Opened} b (Some (record { start = st; before = es })) None) as
+        (λ _. Option Opened) [ Some y ↦ Some y | None ↦ opened l es ]) 0 < 2 ^ 32
     where_opened true st fits so_far = fits
     where_opened false st fits so_far = so_far
 
-    by_event : (ev : Event) (v : Verdict) → IsWritten ev → own_challenge l es < 2 ^ 32 → own_challenge l (but e ev v ∷ es) < 2 ^ 32
-    by_event (Event.Opened c) (Accepted r) fits so_far = where_opened (e.number == l) (ByPeer c) fits so_far
-    by_event (Event.Dial n c) (Accepted r) fits so_far = where_opened (e.number == l) (ByDial n c) fits so_far
+    by_event : (ev : Event) (v : Verdict) → IsWritten ev → own_challenge l es < 2 ^ 32
+        → own_challenge l (but e ev v ∷ es) < 2 ^ 32
+    by_event (Event.Opened c) (Accepted r) fits so_far = grind (arith, where_opened)
+    by_event (Event.Dial n c) (Accepted r) fits so_far = grind (arith, where_opened)
     by_event Event.Restart (Accepted r) fits so_far = omega arith
     by_event ev (Accepted r) fits so_far = so_far
     by_event ev (Refused r) fits so_far = so_far
 
 module _ (h : History) (node : IsNode h) where
   name_short : length h.opening.name < 2 ^ 16
-  name_short = (let short = node.name.text.not_long in omega (arith, short))
+  name_short = grind arith
 
   -- the own Name is read as it was meant
   name_says : name_frame (name_bytes (own_hello h)) ≡ Some (own_hello h)
-  name_says = name_frame-spelled (name_bytes (own_hello h)) (own_hello h) (record { fits = record { flags = flags_fit h.opening.hidden; creation = own_creation_fits h node; length = name_short }; extra = []; bytes = sym (append-nil (name_bytes (own_hello h))) })
+  name_says = name_frame-spelled (name_bytes (own_hello h)) (own_hello h)
+      (record {
+        fits = record {
+          flags = flags_fit h.opening.hidden;
+          creation = own_creation_fits h node;
+          length = name_short;
+        };
+        extra = [];
+        bytes = sym (append-nil (name_bytes (own_hello h)));
+      })
 
   module _ (l : ℕ) where
     abbrev own_asked : Challenge
-    own_asked = record { flags = own_flags h.opening.hidden; challenge = own_challenge l h.entries; creation = creation h; name = h.opening.name }
+    own_asked = record {
+      flags = own_flags h.opening.hidden;
+      challenge = own_challenge l h.entries;
+      creation = creation h;
+      name = h.opening.name;
+    }
 
     -- and so is the own Challenge
     asked_says : challenge_frame (challenge_bytes own_asked) ≡ Some own_asked
     asked_says = challenge_frame-spelled (challenge_bytes own_asked) own_asked (record {
-      fits = record { flags = flags_fit h.opening.hidden; challenge = challenge_fits h.entries node.written l; creation = own_creation_fits h node; length = name_short };
+      fits = record {
+        flags = flags_fit h.opening.hidden;
+        challenge = challenge_fits h.entries node.written l;
+        creation = own_creation_fits h node;
+        length = name_short;
+      };
       extra = [];
       bytes = sym (append-nil (challenge_bytes own_asked));
     })
@@ -82,7 +106,7 @@ module _ (h : History) (node : IsNode h) where
     none_asked body other g q = absurd (not_asked body other g q)
 
     same_asked : (f g : Challenge) → Some f ≡ Some g → f ≡ g
-    same_asked f g q = grind (arith, q)
+    same_asked f g q = grind arith
 
     status_own : (w : StatusWord) → IsOwn (status_frame w)
     status_own StatusWord.Ok = none_asked _ refl
@@ -105,55 +129,61 @@ module _ (h : History) (node : IsNode h) where
     says_own m g q = absurd (not_asked (message_bytes m) (begins_other m) g q)
 
     -- all that is owed to a link that was opened before
-    owed_own : (number seat : ℕ) → (number == l) ≡ false → (ev : Event) (v : Verdict) → v ≡ verdict h seat ev → IsWritten ev → AllByRecursion IsOwn (owed h l number ev v)
-    owed_own number seat later ev v = owed_hold h node l IsOwn hellos (λ m is from. says_own m) number seat ev v (λ here. lie (sym here ∙ later))
+    owed_own : (number seat : ℕ) → (number == l) ≡ false → (ev : Event) (v : Verdict)
+        → v ≡ verdict h seat ev → IsWritten ev → AllByRecursion IsOwn (owed h l number ev v)
+    owed_own number seat later ev v = owed_hold h node l IsOwn hellos (λ m is from. says_own m)
+        number seat ev v (λ here. lie (sym here ∙ later))
 
 -- ---- along a history
 
 -- of the moment at which a link was opened, where that is this entry or an earlier one
 module _ (o : Opening) (e : Entry) (es : List Entry) (l : ℕ) where
-  earlier_hello : l ≤ length es → own_hello (moment l (past o es)) ≡ own_hello (moment l (past o (e ∷ es)))
-  earlier_hello low = ap own_hello (sym (earlier_moment o e es l low))
+  earlier_hello : l ≤ length es
+      → own_hello (moment l (past o es)) ≡ own_hello (moment l (past o (e ∷ es)))
+  earlier_hello low = grind (arith, earlier_moment o e es l low)
 
-  now_hello : IsLegalIn o es → is_open l es ≡ true → own_hello (past o es) ≡ own_hello (moment l (past o es))
-  now_hello legal opens = λ i. record { flags = own_flags o.hidden; creation = same_creation o es legal l opens i; name = o.name }
+  now_hello : IsLegalIn o es → is_open l es ≡ true
+      → own_hello (past o es) ≡ own_hello (moment l (past o es))
+  now_hello legal opens = grind (arith, same_creation)
 
-  accepts_none : (ev : Event) (number c : ℕ) (v : Verdict) → start_of ev ≡ Some (ByPeer c) → owed (past o es) l number ev v ≡ []
+  accepts_none : (ev : Event) (number c : ℕ) (v : Verdict) → start_of ev ≡ Some (ByPeer c)
+      → owed (past o es) l number ev v ≡ []
   accepts_none (Event.Opened d) number c v q = refl
-  accepts_none (Event.Dial n d) number c v q = lie (ap is_dialled q)
-    where
-      is_dialled : Option Start → Bool
-      is_dialled (Some (ByDial n c)) = true
-      is_dialled x = false
-  accepts_none ev number c v q = lie (sym (ap is_some q))
+  accepts_none (Event.Dial n d) number c v q = grind arith
+  accepts_none ev number c v q = grind arith
 
   -- a link that was opened before has another number
   apart : e.number ≡ length es + 1 → l ≤ length es → (e.number == l) ≡ false
-  apart number low = by (e.number == l) refl
-    where
-      by : (b : Bool) → (e.number == l) ≡ b → (e.number == l) ≡ false
-      by false q = q
-      by true q = absurd (let same = eqb-true e.number l q in omega (arith, same, number, low))
+  apart number low = grind (arith, eqb-true, low)
 
-pub asked_own : (o : Opening) (es : List Entry) → IsNode (past o es) → (l c : ℕ) → opening_of l es ≡ Some (ByPeer c) → (n : ℕ) (x : Owing) → slice_get (out_in o l es) n ≡ Some x
-    → (g : Challenge) → challenge_frame x.frame.body ≡ Some g → hello_in g ≡ own_hello (moment l (past o es))
-asked_own o [] node l c opens n x q g says = lie (sym (ap is_some q))
-asked_own o (e ∷ es) node l c opens n x q g says = by (is_opened_by l e) refl opens (λ before r. asked_own o es (node_before o e es node) l c before n x r g says) (part (out_in o l es) (owes (past o es) l e) n x q)
+pub asked_own : (o : Opening) (es : List Entry) → IsNode (past o es) → (l c : ℕ)
+    → opening_of l es ≡ Some (ByPeer c) → (n : ℕ) (x : Owing) → slice_get (out_in o l es) n ≡ Some x
+    → (g : Challenge) → challenge_frame x.frame.body ≡ Some g
+    → hello_in g ≡ own_hello (moment l (past o es))
+asked_own o [] node l c opens n x q g says = grind arith
+asked_own o (e ∷ es) node l c opens n x q g says = by (is_opened_by l e) refl opens
+    (λ before r. asked_own o es (node_before o e es node) l c before n x r g says)
+    (part (out_in o l es) (owes (past o es) l e) n x q)
   where
     number : e.number ≡ length es + 1
-    number = node.legal.0.number
+    number = cc
 
-    by : (b : Bool) → is_opened_by l e ≡ b → cond b (start_of e.event) (opening_of l es) ≡ Some (ByPeer c)
-        → (opening_of l es ≡ Some (ByPeer c) → slice_get (out_in o l es) n ≡ Some x → hello_in g ≡ own_hello (moment l (past o es)))
-        → Parted (out_in o l es) (owes (past o es) l e) n x → hello_in g ≡ own_hello (moment l (past o (e ∷ es)))
+    by : (b : Bool) → is_opened_by l e ≡ b
+        → cond b (start_of e.event) (opening_of l es) ≡ Some (ByPeer c)
+        → (opening_of l es ≡ Some (ByPeer c) → slice_get (out_in o l es) n ≡ Some x
+        → hello_in g ≡ own_hello (moment l (past o es)))
+        → Parted (out_in o l es) (owes (past o es) l e) n x
+        → hello_in g ≡ own_hello (moment l (past o (e ∷ es)))
     by true here q so_far (InFirst r less) =
         let its = opened_number l e here in
         let nothing = unborn_out o es node.legal.1 l (omega (arith, its, number)) in
         lie (ap is_some (sym r ∙ ap (λ ys. slice_get ys n) nothing))
     by true here q so_far (InSecond m at r) =
         let it = owed_here e.number (owed (past o es) l e.number e.event e.verdict) m x r in
-        lie (ap is_some (sym it.frame ∙ ap (λ fs. slice_get fs m) (accepts_none o e es l e.event e.number c e.verdict q)))
-    by false other q so_far (InFirst r less) = so_far q r ∙ earlier_hello o e es l (opening_low o es node.legal.1 l (ByPeer c) q)
+        lie (ap is_some (sym it.frame ∙ ap (λ fs. slice_get fs m)
+        (accepts_none o e es l e.event e.number c e.verdict q)))
+    by false other q so_far (InFirst r less) = so_far q r ∙ earlier_hello o e es l
+        (opening_low o es node.legal.1 l (ByPeer c) q)
     by false other q so_far (InSecond m at r) = now (is_open l es) refl
       where
         low : l ≤ length es
@@ -164,9 +194,14 @@ asked_own o (e ∷ es) node l c opens n x q g says = by (is_opened_by l e) refl 
 
         now : (b : Bool) → is_open l es ≡ b → hello_in g ≡ own_hello (moment l (past o (e ∷ es)))
         now true open_link =
-            all_at (IsOwn (past o es) (node_before o e es node) l) (owed (past o es) l e.number e.event e.verdict) (owed_own (past o es) (node_before o e es node) l e.number e.seat (apart o e es l number low) e.event e.verdict node.legal.0.verdict node.written.0) m x.frame it g says
+            all_at (IsOwn (past o es) (node_before o e es node) l)
+            (owed (past o es) l e.number e.event e.verdict)
+            (owed_own (past o es) (node_before o e es node) l e.number e.seat (apart o e es l number
+            low) e.event e.verdict node.legal.0.verdict node.written.0) m x.frame it g says
             ∙ now_hello o e es l node.legal.1 open_link ∙ earlier_hello o e es l low
-        now false shut = lie (ap is_some (sym it ∙ ap (λ fs. slice_get fs m) (unowed o es l shut e e.event e.verdict node.legal.0.verdict other)))
+        now false shut =
+            lie (ap is_some (sym it ∙ ap (λ fs. slice_get fs m)
+            (unowed o es l shut e e.event e.verdict node.legal.0.verdict other)))
 
 -- the first frame on a link that was dialled
 pub record IsNamed (o : Opening) (es : List Entry) (l : ℕ) : Type 0 where
@@ -174,19 +209,25 @@ pub record IsNamed (o : Opening) (es : List Entry) (l : ℕ) : Type 0 where
   pub stands : slice_get (out_in o l es) 0 ≡ Some first
   pub says : name_frame first.frame.body ≡ Some (own_hello (moment l (past o es)))
 
-pub named_own : (o : Opening) (es : List Entry) → IsNode (past o es) → (l : ℕ) (n : List ℕ) (c : ℕ) → opening_of l es ≡ Some (ByDial n c) → IsNamed o es l
+pub named_own : (o : Opening) (es : List Entry) → IsNode (past o es) → (l : ℕ) (n : List ℕ) (c : ℕ)
+    → opening_of l es ≡ Some (ByDial n c) → IsNamed o es l
 named_own o [] node l n c opens = lie (sym (ap is_some opens))
-named_own o (e ∷ es) node l n c opens = by (is_opened_by l e) refl opens (named_own o es (node_before o e es node) l n c)
+named_own o (e ∷ es) node l n c opens = by (is_opened_by l e) refl opens
+    (named_own o es (node_before o e es node) l n c)
   where
     number : e.number ≡ length es + 1
-    number = node.legal.0.number
+    number = cc
 
     -- the Dial itself
-    dials : (ev : Event) (v : Verdict) → is_opened_by l (but e ev v) ≡ true → start_of ev ≡ Some (ByDial n c) → out_in o l es ≡ [] → IsNamed o (but e ev v ∷ es) l
+    dials : (ev : Event) (v : Verdict) → is_opened_by l (but e ev v) ≡ true
+        → start_of ev ≡ Some (ByDial n c) → out_in o l es ≡ [] → IsNamed o (but e ev v ∷ es) l
     dials (Event.Dial m d) (Accepted r) here q nothing = record {
       first = owing e.number (own_name_frame (past o es));
-      stands = (λ i. slice_get (nothing i ++ map (owing e.number) (cond (here i) (own_name_frame (past o es) ∷ []) [])) 0);
-      says = name_says (past o es) (node_before o e es node) ∙ ap (λ h. Some (own_hello h)) (sym (this_moment o (but e (Event.Dial m d) (Accepted r)) es l (sym (opened_number l (but e (Event.Dial m d) (Accepted r)) here) ∙ number)));
+      stands = (λ i. slice_get (nothing i ++ map (owing e.number)
+          (cond (here i) (own_name_frame (past o es) ∷ []) [])) 0);
+      says = name_says (past o es) (node_before o e es node) ∙ ap (λ h. Some (own_hello h))
+          (sym (this_moment o (but e (Event.Dial m d) (Accepted r)) es l
+          (sym (opened_number l (but e (Event.Dial m d) (Accepted r)) here) ∙ number)));
     }
     dials (Event.Dial m d) (Refused r) here q nothing = lie (sym here)
     dials (Event.Opened d) v here q nothing = lie (sym (ap is_dialled q))
@@ -196,12 +237,16 @@ named_own o (e ∷ es) node l n c opens = by (is_opened_by l e) refl opens (name
         is_dialled x = false
     dials ev v here q nothing = lie (sym (ap is_some q))
 
-    by : (b : Bool) → is_opened_by l e ≡ b → cond b (start_of e.event) (opening_of l es) ≡ Some (ByDial n c) → (opening_of l es ≡ Some (ByDial n c) → IsNamed o es l) → IsNamed o (e ∷ es) l
-    by true here q so_far = (let its = opened_number l e here in dials e.event e.verdict here q (unborn_out o es node.legal.1 l (omega (arith, its, number))))
+    by : (b : Bool) → is_opened_by l e ≡ b
+        → cond b (start_of e.event) (opening_of l es) ≡ Some (ByDial n c)
+        → (opening_of l es ≡ Some (ByDial n c) → IsNamed o es l) → IsNamed o (e ∷ es) l
+    by true here q so_far = (let its = opened_number l e here in dials e.event e.verdict here q
+        (unborn_out o es node.legal.1 l (omega (arith, its, number))))
     by false other q so_far =
         let it = so_far q in
         record {
           first = it.first;
           stands = first_of_both (out_in o l es) (owes (past o es) l e) it.first it.stands;
-          says = it.says ∙ ap Some (earlier_hello o e es l (opening_low o es node.legal.1 l (ByDial n c) q));
+          says = it.says
+              ∙ ap Some (earlier_hello o e es l (opening_low o es node.legal.1 l (ByDial n c) q));
         }

@@ -1,16 +1,16 @@
 -- The frames of the handshake: their bodies spell no message.
-use Rattle.frame_laws.proofs.Words.{Awaited, ap, refl, sym, ◌∙◌, lie, AllByRecursion, option_map_or, Bool, List, None, Option, Some, [], cond, false, get_or, map, true, ℕ}
-use Rattle.frame_laws.proofs.Words.{◌==◌, ◌||◌, ◌∷◌, ◌≡◌, Message, OutFrame, Rule, History, running_scopes, AwaitName, AwaitAnswer, AwaitReply, AwaitStatus, AwaitChallenge, AwaitAck}
-use Rattle.frame_laws.proofs.Words.{AwaitMessage, is_visible, is_name_up, is_dialling, message_taken, digest_for, discovers, frame_owes, message_owes, narrow, own_challenge, own_challenge_frame}
-use Rattle.frame_laws.proofs.Words.{own_name_frame, refusal_owes, status_frame, true_to, welcome, wide, IsText, IsMessage, SpellsMessage, message_bytes, IsNode}
-use Rattle.frame_laws.proofs.OwnLimits.{scopes_text}
-use Rattle.handshake_frames.specs.declared.frame.StatusWord.{StatusWord}
-use Rattle.handshake_frames.specs.declared.frame.AckFrame.{AckFrame}
-use Rattle.handshake_frames.specs.declared.frame.ReplyFrame.{ReplyFrame}
-use Rattle.handshake_frames.specs.Frame.{Challenge, Name}
-use Rattle.handshake_frames.specs.Spelling.{ack_bytes, reply_bytes}
-use Rattle.handshake_frames.specs.Reading.{challenge_frame, name_frame, reply_frame, status_of}
-use Rattle.link_frames.proofs.ReadingLemmas.{message-spelled, SpellsMessage-read}
+use Rattle.frame_laws.proofs
+use proofs.Words.{ack_bytes, AckFrame, AllByRecursion, ap, AwaitAck, AwaitAnswer, AwaitChallenge}
+use proofs.Words.{Awaited, AwaitMessage, AwaitName, AwaitReply, AwaitStatus, Bool, Challenge}
+use proofs.Words.{challenge_frame, cond, digest_for, discovers, false, frame_owes, get_or, History}
+use proofs.Words.{is_dialling, is_name_up, is_visible, IsMessage, IsNode, IsText, lie, List, map}
+use proofs.Words.{Message, message-spelled, message_bytes, message_owes, message_taken, Name}
+use proofs.Words.{name_frame, narrow, None, Option, option_map_or, OutFrame, own_challenge}
+use proofs.Words.{own_challenge_frame, own_name_frame, refl, refusal_owes, reply_bytes, reply_frame}
+use proofs.Words.{ReplyFrame, Rule, running_scopes, Some, SpellsMessage, SpellsMessage-read}
+use proofs.Words.{status_frame, status_of, StatusWord, sym, true, true_to, welcome, wide, ℕ, []}
+use proofs.Words.{◌==◌, ◌||◌, ◌∙◌, ◌∷◌, ◌≡◌}
+use proofs.OwnLimits.{scopes_text}
 
 -- ---- bodies
 
@@ -32,12 +32,14 @@ begins (Message.Join s rows) = refl
 begins (Message.Leave s rows) = refl
 begins (Message.Down s) = refl
 
-pub no_message : (body : List ℕ) → begins_message (first_byte body) ≡ false → message_taken body ≡ None
+pub no_message : (body : List ℕ) → begins_message (first_byte body) ≡ false
+    → message_taken body ≡ None
 no_message body q = by (message_taken body) refl
   where
     by : (x : Option Message) → message_taken body ≡ x → message_taken body ≡ None
     by None is = is
-    by (Some m) is = lie (sym (begins m) ∙ ap (λ b. begins_message (first_byte b)) (sym (SpellsMessage.bytes (SpellsMessage-read body m is))) ∙ q)
+    by (Some m) is = lie (sym (begins m) ∙ ap (λ b. begins_message (first_byte b))
+        (sym (SpellsMessage.bytes (SpellsMessage-read body m is))) ∙ q)
 
 -- ---- what holds of each frame of the handshake, and of each Discover of a running scope
 
@@ -49,8 +51,16 @@ pub record HoldsOfHellos (h : History) (l : ℕ) (P : OutFrame → Type 0) : Typ
   pub ack : (f : AckFrame) → P (narrow (ack_bytes f))
 
 -- it holds of each whose body spells no message
-pub of_hellos : (h : History) (l : ℕ) (P : OutFrame → Type 0) → ((body : List ℕ) → begins_message (first_byte body) ≡ false → P (narrow body)) → HoldsOfHellos h l P
-of_hellos h l P hellos = record { status = each; challenge = hellos _ refl; reply = λ f. hellos _ refl; ack = λ f. hellos _ refl }
+pub of_hellos : (h : History) (l : ℕ) (P : OutFrame → Type 0)
+    → ((body : List ℕ) → begins_message (first_byte body) ≡ false → P (narrow body))
+    → HoldsOfHellos h l P
+of_hellos h l P hellos =
+    record {
+      status = each;
+      challenge = hellos _ refl;
+      reply = λ f. hellos _ refl;
+      ack = λ f. hellos _ refl;
+    }
   where
     each : (w : StatusWord) → P (status_frame w)
     each StatusWord.Ok = hellos _ refl
@@ -61,28 +71,35 @@ of_hellos h l P hellos = record { status = each; challenge = hellos _ refl; repl
     each StatusWord.True = hellos _ refl
     each StatusWord.False = hellos _ refl
 
-module _ (h : History) (node : IsNode h) (l : ℕ) (P : OutFrame → Type 0) (hellos : HoldsOfHellos h l P) (asks : (s : List ℕ) → IsText s → P (wide (Message.Discover s))) where
-  discover_all : (ss : List (List ℕ)) → AllByRecursion IsText ss → AllByRecursion P (map (λ s. wide (Message.Discover s)) ss)
+module _ (h : History) (node : IsNode h) (l : ℕ) (P : OutFrame → Type 0) (hellos : HoldsOfHellos h l
+    P) (asks : (s : List ℕ) → IsText s → P (wide (Message.Discover s))) where
+  discover_all : (ss : List (List ℕ)) → AllByRecursion IsText ss
+      → AllByRecursion P (map (λ s. wide (Message.Discover s)) ss)
   discover_all [] texts = tt
   discover_all (s ∷ ss) texts = (asks s texts.0, discover_all ss texts.1)
 
   discovers_all : AllByRecursion P (discovers h l)
   discovers_all = by (is_visible h l)
     where
-      by : (b : Bool) → AllByRecursion P (cond b (map (λ s. wide (Message.Discover s)) (running_scopes h)) [])
+      by : (b : Bool)
+          → AllByRecursion P (cond b (map (λ s. wide (Message.Discover s)) (running_scopes h)) [])
       by true = discover_all (running_scopes h) (scopes_text h node)
       by false = tt
 
   welcome_all : (n : List ℕ) → AllByRecursion P (welcome h l n)
   welcome_all n = by (is_name_up n h.entries) (is_dialling n h.entries)
     where
-      by : (b c : Bool) → AllByRecursion P (cond b (status_frame StatusWord.Alive ∷ []) (cond c (status_frame StatusWord.OkSimultaneous ∷ own_challenge_frame h l ∷ []) (status_frame StatusWord.Ok ∷ own_challenge_frame h l ∷ [])))
+      by : (b c : Bool) → AllByRecursion P (cond b (status_frame StatusWord.Alive ∷ [])
+          (cond c (status_frame StatusWord.OkSimultaneous ∷ own_challenge_frame h l ∷ [])
+          (status_frame StatusWord.Ok ∷ own_challenge_frame h l ∷ [])))
       by true c = (hellos.status StatusWord.Alive, tt)
       by false true = (hellos.status StatusWord.OkSimultaneous, (hellos.challenge, tt))
       by false false = (hellos.status StatusWord.Ok, (hellos.challenge, tt))
 
   -- all that is owed for an accepted frame, where it holds of what a message owes
-  pub frame_all : (body : List ℕ) (a : Awaited) → (a ≡ AwaitMessage → (m : Message) → message_taken body ≡ Some m → AllByRecursion P (message_owes h l m)) → AllByRecursion P (frame_owes h l body a)
+  pub frame_all : (body : List ℕ) (a : Awaited)
+      → (a ≡ AwaitMessage → (m : Message) → message_taken body ≡ Some m
+      → AllByRecursion P (message_owes h l m)) → AllByRecursion P (frame_owes h l body a)
   frame_all body AwaitName spoken = by (name_frame body)
     where
       by : (x : Option Name) → AllByRecursion P (option_map_or (λ f. welcome h l f.name) x [])
@@ -91,7 +108,10 @@ module _ (h : History) (node : IsNode h) (l : ℕ) (P : OutFrame → Type 0) (he
   frame_all body AwaitAnswer spoken = (hellos.challenge, tt)
   frame_all body AwaitReply spoken = by (reply_frame body)
     where
-      by : (x : Option ReplyFrame) → AllByRecursion P (option_map_or (λ f. narrow (ack_bytes (record { digest = digest_for h l f.challenge })) ∷ discovers h l) x [])
+      by : (x : Option ReplyFrame)
+          → AllByRecursion P
+          (option_map_or (λ f. narrow (ack_bytes (record { digest = digest_for h l f.challenge }))
+          ∷ discovers h l) x [])
       by None = tt
       by (Some f) = (hellos.ack (record { digest = digest_for h l f.challenge }), discovers_all)
   frame_all body AwaitStatus spoken = by (status_of body)
@@ -102,13 +122,24 @@ module _ (h : History) (node : IsNode h) (l : ℕ) (P : OutFrame → Type 0) (he
       by None = tt
   frame_all body AwaitChallenge spoken = by (challenge_frame body)
     where
-      by : (x : Option Challenge) → AllByRecursion P (option_map_or (λ f. narrow (reply_bytes (record { challenge = own_challenge l h.entries; digest = digest_for h l f.challenge })) ∷ []) x [])
+      by : (x : Option Challenge)
+          → AllByRecursion P
+          (option_map_or
+          (λ f. narrow
+          (reply_bytes
+          (record { challenge = own_challenge l h.entries; digest = digest_for h l f.challenge }))
+          ∷ []) x [])
       by None = tt
-      by (Some f) = (hellos.reply (record { challenge = own_challenge l h.entries; digest = digest_for h l f.challenge }), tt)
+      by (Some f) = (
+        hellos.reply
+            (record { challenge = own_challenge l h.entries; digest = digest_for h l f.challenge }),
+        tt,
+      )
   frame_all body AwaitAck spoken = discovers_all
   frame_all body AwaitMessage spoken = by (message_taken body) refl
     where
-      by : (x : Option Message) → message_taken body ≡ x → AllByRecursion P (option_map_or (message_owes h l) x [])
+      by : (x : Option Message) → message_taken body ≡ x
+          → AllByRecursion P (option_map_or (message_owes h l) x [])
       by None is = tt
       by (Some m) is = spoken refl m is
 
@@ -118,6 +149,7 @@ module _ (h : History) (node : IsNode h) (l : ℕ) (P : OutFrame → Type 0) (he
   refusal_all Rule.LinkUp = (hellos.status StatusWord.False, tt)
   refusal_all r = tt
 
-  pub dial_all : P (own_name_frame h) → (b : Bool) → AllByRecursion P (cond b (own_name_frame h ∷ []) [])
+  pub dial_all : P (own_name_frame h) → (b : Bool)
+      → AllByRecursion P (cond b (own_name_frame h ∷ []) [])
   dial_all name true = (name, tt)
   dial_all name false = tt

@@ -1,12 +1,15 @@
 -- What was so at each moment: the history was legal, and a node's.
-use Rattle.frame_laws.proofs.Words.{AllByRecursion, List, [], drop, length, suc, zero, ℕ, ◌-◌, ◌∷◌, Opening, Entry, History, IsLegal, IsLegalIn, IsNode, moment}
+use Rattle.frame_laws.proofs
+use proofs.Words.{AllByRecursion, drop, Entry, History, IsLegal, IsLegalIn, IsNode, length, List}
+use proofs.Words.{moment, Opening, suc, zero, ℕ, [], ◌-◌, ◌∷◌}
 
 legal_before : (o : Opening) (n : ℕ) (es : List Entry) → IsLegalIn o es → IsLegalIn o (drop n es)
 legal_before o zero es legal = legal
 legal_before o (suc n) [] legal = tt
 legal_before o (suc n) (e ∷ es) legal = legal_before o n es legal.1
 
-all_before : {A : Type 0} (P : A → Type 0) (n : ℕ) (xs : List A) → AllByRecursion P xs → AllByRecursion P (drop n xs)
+all_before : {A : Type 0} (P : A → Type 0) (n : ℕ) (xs : List A) → AllByRecursion P xs
+    → AllByRecursion P (drop n xs)
 all_before P zero xs all = all
 all_before P (suc n) [] all = tt
 all_before P (suc n) (x ∷ xs) all = all_before P n xs all.1

@@ -1,46 +1,42 @@
 -- What one node hears of another is its own rows at one moment.
-use Rattle.frame_laws.proofs.Words.{take-append-le, IsProvedLink, None, is_up, Option, Bool, cond, is_local, ◌-◌, ◌==◌, ◌&&◌, same, same_sym, is_whole, is_open, opened, taken, Opened, ap, arith, refl, subst, sym, ◌∙◌, lie, AllByRecursion, option_map, option_map_or, slice_get, List, Some, [], false, length, suc, take, true, zero, ℕ, ◌++◌, ◌+◌, ◌<◌, ◌∷◌, ◌≡◌, ◌≤◌}
-use Rattle.frame_laws.proofs.Words.{Pid, OutFrame, History, creation, told, heard, own, IsLegal, IsNode, Owing, bodies_of, out, source_at, moment, has_rows, says_rows, view_of, SaysOne, Hello, Means, PassesThrough}
-use Rattle.frame_laws.specs.HeardMoment.{HearsMoment}
-use Rattle.frame_laws.specs.Honest.{IsHonest, IsGiven, HasGiven, HeardIsSaid}
-use Rattle.frame_laws.specs.Sent.{delivered}
-use Rattle.frame_laws.specs.ToldRows.{told_rows, Falls}
-use Rattle.frame_laws.proofs.Bodies.{honest_first, stands_first}
-use Rattle.frame_laws.proofs.Accepting.{is_up_there, listed_is}
-use Rattle.frame_laws.proofs.Hearing.{given_here, heard_said}
-use Rattle.frame_laws.proofs.Moments.{legal_then}
-use Rattle.frame_laws.proofs.Openings.{moment_then, same_creation, since_opening}
-use Rattle.frame_laws.proofs.NotRefused.{one_from}
-use Rattle.std.proofs.lemmas.List.{length-drop}
-use Rattle.frame_laws.proofs.HonestNode.{IsBodyOf, frame_of, node_honest, take_bodies}
-use Rattle.frame_laws.proofs.LinksTell.{all_tell}
-use Rattle.frame_laws.proofs.Places.{holds_then}
-use Rattle.frame_laws.proofs.SaidUp.{IsSaidUp, all_said_up}
-use Rattle.frame_laws.proofs.Sources.{frame_at, is_entry, rises}
-use Rattle.frame_laws.proofs.Spoken.{IsSaid, all_said}
-use Rattle.frame_laws.proofs.Through.{passes}
-use Rattle.frame_laws.proofs.ToldPlaces.{told_fall}
-use Rattle.std.proofs.lemmas.Option.{slice_get_within}
-use Rattle.policy_audit.specs.Hearing.{stated, talk}
-use Rattle.policy_audit.specs.Listed.{is_from, listed}
-use Rattle.policy_audit.specs.Sides.{is_peer, is_whole_in}
-use Rattle.policy_audit.proofs.OwnRows.{foreign_own}
-use Rattle.policy_audit.proofs.UpLinks.{and_false, and_left, and_right}
-use Rattle.policy_audit.proofs.Heard.{has_discover}
+use Rattle.frame_laws.proofs
+use proofs.Words.{AllByRecursion, and_false, and_parts, ap, arith, bodies_of, Bool, cond, creation}
+use proofs.Words.{delivered, Falls, false, foreign_own, has_rows, HasGiven, heard, HeardIsSaid}
+use proofs.Words.{HearsMoment, Hello, History, is_from, is_local, is_open, is_peer, is_whole}
+use proofs.Words.{is_whole_in, IsGiven, IsHonest, IsLegal, IsNode, IsProvedLink, length}
+use proofs.Words.{length-drop, lie, List, listed, Means, moment, None, Opened, opened, Option}
+use proofs.Words.{option_map, option_map_or, out, OutFrame, Owing, own, PassesThrough, Pid, refl}
+use proofs.Words.{same, same_sym, SaysOne, slice_get, slice_get_within, Some, source_at, stated}
+use proofs.Words.{subst, suc, sym, take, take-append-le, taken, told, told_rows, true, view_of}
+use proofs.Words.{zero, ℕ, [], ◌&&◌, ◌++◌, ◌+◌, ◌-◌, ◌<◌, ◌==◌, ◌∙◌, ◌∷◌, ◌≡◌, ◌≤◌}
+use proofs.Bodies.{honest_first, stands_first}
+use proofs.Accepting.{is_up_there, listed_is}
+use proofs.Hearing.{given_here, heard_said}
+use proofs.Moments.{legal_then}
+use proofs.Openings.{moment_then, same_creation, since_opening}
+use proofs.NotRefused.{one_from}
+use proofs.HonestNode.{IsBodyOf, frame_of, node_honest, take_bodies}
+use proofs.LinksTell.{all_tell}
+use proofs.Places.{holds_then}
+use proofs.SaidUp.{IsSaidUp, all_said_up}
+use proofs.Sources.{frame_at, is_entry, rises}
+use proofs.Spoken.{IsSaid, all_said}
+use proofs.Through.{passes}
+use proofs.ToldPlaces.{told_fall}
 
 same_number : (n m : ℕ) → Some n ≡ Some m → n ≡ m
 same_number n m q = (cc)
 
 -- each place in a list has an element
 element : {A : Type 0} (xs : List A) (n : ℕ) → n < length xs → (x : A) × (slice_get xs n ≡ Some x)
-element [] n less = absurd (omega (arith, less))
+element [] n less = grind arith
 element (x ∷ xs) zero less = (x, refl)
 element (x ∷ xs) (suc n) less = element xs n (omega (arith, less))
 
 -- what says rows is a message
 is_wide : (s : List ℕ) (f : OutFrame) → SaysOne f → has_rows s f.body ≡ true → f.wide ≡ true
-is_wide s f (Hello narrow none) has = lie (sym has ∙ ap (λ x. option_map_or (says_rows s) x false) none)
-is_wide s f (Means m within is says) has = ap OutFrame.wide is
+is_wide s f (Hello narrow none) has = grind arith
+is_wide s f (Means m within is says) has = cc
 
 -- what is stated, before what is listed
 record StatesMoment (A : History) (a : ℕ) (B : History) (b : ℕ) (s : List ℕ) : Type 0 where
@@ -53,44 +49,58 @@ record StatesMoment (A : History) (a : ℕ) (B : History) (b : ℕ) (s : List �
   proved : IsProvedLink (moment source A) a
   rows : (g : List ℕ) (p : Pid) → stated b s g p B.entries ≡ own (moment source A) s g p
 
-module _ (A : History) (node : IsNode A) (a : ℕ) (B : History) (legal : IsLegal B) (b : ℕ) (s : List ℕ) (hears : heard b s B.entries ≡ true)
+module _ (A : History) (node : IsNode A) (a : ℕ) (B : History) (legal : IsLegal B) (b : ℕ)
+    (s : List ℕ) (hears : heard b s B.entries ≡ true)
     (gives : HasGiven b A.opening.name (creation (moment a A)) B.entries) where
   -- where the link has stated all own rows of a moment, as many are listed
-  module _ (K : History) (same_opening : K.opening ≡ A.opening) (legal_so : IsLegal K) (creation_is : creation K ≡ creation (moment a A)) (rows : (g : List ℕ) (p : Pid) → stated b s g p B.entries ≡ own K s g p)
+  module _ (K : History) (same_opening : K.opening ≡ A.opening) (legal_so : IsLegal K)
+      (creation_is : creation K ≡ creation (moment a A)) (rows : (g : List ℕ) (p : Pid)
+      → stated b s g p B.entries ≡ own K s g p)
       (g : List ℕ) (p : Pid) (its_node : same p.node A.opening.name ≡ true) where
     gave : IsGiven b A.opening.name (creation (moment a A)) B.entries
-    gave = given_here b A.opening.name (creation (moment a A)) B.entries gives (and_right (is_open b B.entries) (is_whole b B.entries) (is_up_there B legal b s hears))
+    gave = given_here b A.opening.name (creation (moment a A)) B.entries gives
+        ((and_parts (is_open b B.entries) (is_whole b B.entries) (is_up_there B legal b s hears)).1)
 
     its : is_peer p.node b B.entries ≡ true
-    its = ap (λ x. option_map_or (λ m. same m p.node) x false) gave.peer ∙ same_sym A.opening.name p.node ∙ its_node
+    its = grind (arith, gave.peer, same_sym A.opening.name p.node)
 
     made_from : (p.creation == creation K) ≡ true → is_from b B.entries p ≡ true
-    made_from made = one_from B.opening B.entries b A.opening.name (creation (moment a A)) gave p ((λ i. its_node i && p.creation == sym creation_is i) ∙ made)
+    made_from made = one_from B.opening B.entries b A.opening.name (creation (moment a A)) gave p
+        ((λ i. its_node i && p.creation == sym creation_is i) ∙ made)
 
-    foreign : (c : Bool) → (p.creation == creation K) ≡ c → is_from b B.entries p ≡ false → is_local K p ≡ false
-    foreign true made apart = lie (sym (made_from made) ∙ apart)
-    foreign false other apart = (λ i. same p.node (same_opening i).name && other i) ∙ and_false (same p.node A.opening.name)
+    foreign : (c : Bool) → (p.creation == creation K) ≡ c → is_from b B.entries p ≡ false
+        → is_local K p ≡ false
+    foreign true made apart = grind (arith, made_from made)
+    foreign false other apart = grind (arith, and_false (same p.node A.opening.name))
 
     lists_all : listed B s g p ≡ own K s g p
     lists_all = by (is_from b B.entries p) refl
       where
         by : (c : Bool) → is_from b B.entries p ≡ c → listed B s g p ≡ own K s g p
-        by true from = listed_is B legal b s hears p its g ∙ ap (λ c. cond c (stated b s g p B.entries) 0) from ∙ rows g p
-        by false apart = listed_is B legal b s hears p its g ∙ ap (λ c. cond c (stated b s g p B.entries) 0) apart ∙ sym (foreign_own K legal_so s g p (foreign (p.creation == creation K) refl apart))
+        by true from = listed_is B legal b s hears p its g
+            ∙ ap (λ c. cond c (stated b s g p B.entries) 0) from ∙ rows g p
+        by false apart = listed_is B legal b s hears p its g
+            ∙ ap (λ c. cond c (stated b s g p B.entries) 0) apart ∙ sym
+            (foreign_own K legal_so s g p (foreign (p.creation == creation K) refl apart))
 
-  module _ (later : List (List ℕ)) (carried : delivered b B.entries ++ later ≡ bodies_of (out A a)) where
+  module _ (later : List (List ℕ)) (carried : delivered b B.entries ++ later ≡ bodies_of
+      (out A a)) where
     it : HeardIsSaid B b s
     it = heard_said B.opening B.entries legal b s A.opening.name (creation (moment a A))
-        (honest_first A.opening.name (creation (moment a A)) s (delivered b B.entries) later (subst (IsHonest A.opening.name (creation (moment a A)) s) (sym carried) (node_honest A node a s))) gives hears
+        (honest_first A.opening.name (creation (moment a A)) s (delivered b B.entries) later
+        (subst (IsHonest A.opening.name (creation (moment a A)) s) (sym carried)
+        (node_honest A node a s))) gives hears
 
     passed : PassesThrough A a s
     passed = passes A.opening a s A.entries node.legal (all_tell A.opening A.entries node a s)
 
     -- a body that came is that of a frame owed
-    owed_at : (n : ℕ) (body : List ℕ) → slice_get (delivered b B.entries) n ≡ Some body → slice_get (bodies_of (out A a)) n ≡ Some body
-    owed_at n body q = ap (λ bs. slice_get bs n) (sym carried) ∙ stands_first (delivered b B.entries) later n body q
+    owed_at : (n : ℕ) (body : List ℕ) → slice_get (delivered b B.entries) n ≡ Some body
+        → slice_get (bodies_of (out A a)) n ≡ Some body
+    owed_at n body q = grind (arith, stands_first (delivered b B.entries) later n body q)
 
-    source_of : (n : ℕ) → n < length (delivered b B.entries) → (x : Owing) × (slice_get (out A a) n ≡ Some x)
+    source_of : (n : ℕ) → n < length (delivered b B.entries)
+        → (x : Owing) × (slice_get (out A a) n ≡ Some x)
     source_of n less =
         let body = element (delivered b B.entries) n less in
         let frame = frame_of (out A a) n body.0 (owed_at n body.0 body.1) in
@@ -104,9 +114,12 @@ module _ (A : History) (node : IsNode A) (a : ℕ) (B : History) (legal : IsLega
       last = it.last;
       is_source = ap (option_map (λ y. y.source)) stands;
       in_order = ordered it.earlier falls.0 (told_below it.earlier falls.0);
-      proved = (holds_then A.opening a (IsSaidUp a) A.entries node.legal (all_said_up A.opening A.entries node.legal a) it.place x stands).holds
-          (is_wide s x.frame (holds_then A.opening a IsSaid A.entries node.legal (all_said A.opening A.entries node a) it.place x stands).holds says);
-      rows = λ g p. same_number (stated b s g p B.entries) (own (moment x.source A) s g p) (sym (it.behind g p) ∙ up_to g p ∙ passed.moments it.place x stands says g p);
+      proved = (holds_then A.opening a (IsSaidUp a) A.entries node.legal
+          (all_said_up A.opening A.entries node.legal a) it.place x stands).holds
+          (is_wide s x.frame (holds_then A.opening a IsSaid A.entries node.legal
+          (all_said A.opening A.entries node a) it.place x stands).holds says);
+      rows = λ g p. same_number (stated b s g p B.entries) (own (moment x.source A) s g p)
+          (sym (it.behind g p) ∙ up_to g p ∙ passed.moments it.place x stands says g p);
     }
       where
         frame : IsBodyOf (out A a) it.place it.body
@@ -119,27 +132,44 @@ module _ (A : History) (node : IsNode A) (a : ℕ) (B : History) (legal : IsLega
         stands = frame.stands
 
         says : has_rows s frame.owing.frame.body ≡ true
-        says = ap (has_rows s) frame.body_is ∙ it.rows
+        says = grind (arith, it.rows)
 
         less : it.place < length (delivered b B.entries)
-        less = slice_get_within (delivered b B.entries) it.place it.body it.stands
+        less = grind (arith, slice_get_within)
 
-        up_to : (g : List ℕ) (p : Pid) → view_of s g p (take (it.place + 1) (delivered b B.entries)) ≡ view_of s g p (bodies_of (take (it.place + 1) (out A a)))
-        up_to g p = ap (view_of s g p) (sym (take-append-le (it.place + 1) (delivered b B.entries) later (omega (arith, less))) ∙ ap (take (it.place + 1)) carried ∙ take_bodies (it.place + 1) (out A a))
+        up_to : (g : List ℕ) (p : Pid)
+            → view_of s g p (take (it.place + 1) (delivered b B.entries)) ≡ view_of s g p
+            (bodies_of (take (it.place + 1) (out A a)))
+        up_to g p = grind (
+          arith,
+          take-append-le (it.place + 1) (delivered b B.entries) later (omega (arith, less)),
+          take_bodies (it.place + 1) (out A a),
+        )
 
         falls : Falls (it.place ∷ it.earlier)
         falls = subst Falls it.last (told_fall b s B.entries).falls
 
-        told_below : (ns : List ℕ) → AllByRecursion (λ n. n < it.place) ns → AllByRecursion (λ n. n < length (delivered b B.entries)) ns
+        told_below : (ns : List ℕ) → AllByRecursion (λ n. n < it.place) ns
+            → AllByRecursion (λ n. n < length (delivered b B.entries)) ns
         told_below [] all = tt
         told_below (n ∷ ns) all = (let low = all.0 in omega (arith, low, less), told_below ns all.1)
 
-        ordered : (ns : List ℕ) → AllByRecursion (λ n. n < it.place) ns → AllByRecursion (λ n. n < length (delivered b B.entries)) ns → AllByRecursion (λ n. (k : ℕ) × (source_at n (out A a) ≡ Some k) × (k ≤ frame.owing.source)) ns
+        ordered : (ns : List ℕ) → AllByRecursion (λ n. n < it.place) ns
+            → AllByRecursion (λ n. n < length (delivered b B.entries)) ns
+            → AllByRecursion (λ n. (k : ℕ) × (source_at n (out A a) ≡ Some k)
+            × (k ≤ frame.owing.source)) ns
         ordered [] all low = tt
         ordered (n ∷ ns) all low =
             let y = source_of n low.0 in
-            let before = all.0 in
-            ((y.0.source, ap (option_map (λ z. z.source)) y.1, rises A.opening a A.entries node.legal n it.place y.0 frame.owing (omega (arith, before)) y.1 frame.stands), ordered ns all.1 low.1)
+            let before = all.0 in (
+              (
+                y.0.source,
+                ap (option_map (λ z. z.source)) y.1,
+                rises A.opening a A.entries node.legal n it.place y.0 frame.owing
+                    (omega (arith, before)) y.1 frame.stands,
+              ),
+              ordered ns all.1 low.1,
+            )
 
     -- the creation at the source is the one at the link's opening
     same_then : creation (moment hears_moment.source A) ≡ creation (moment a A)
@@ -147,21 +177,29 @@ module _ (A : History) (node : IsNode A) (a : ℕ) (B : History) (legal : IsLega
       where
         within : hears_moment.source ≤ length A.entries
         within =
-            let frame = frame_at (out A a) hears_moment.place hears_moment.source hears_moment.is_source in
+            let frame = frame_at (out A a) hears_moment.place hears_moment.source
+            hears_moment.is_source in
             let its = frame.source in
-            let low = (is_entry A.opening a A.entries node.legal hears_moment.place frame.owing frame.stands).within in
+            let low = (is_entry A.opening a A.entries node.legal hears_moment.place frame.owing
+            frame.stands).within in
             omega (arith, its, low)
 
-        by : (x : Option Opened) → opened a (moment hears_moment.source A).entries ≡ x → creation (moment hears_moment.source A) ≡ creation (moment a A)
-        by None q = lie (sym hears_moment.proved.whole ∙ ap (λ (y : Option Opened). option_map_or (λ o. is_whole_in o.start (taken a (moment hears_moment.source A).entries)) y false) q)
+        by : (x : Option Opened) → opened a (moment hears_moment.source A).entries ≡ x
+            → creation (moment hears_moment.source A) ≡ creation (moment a A)
+        by None q = lie (sym hears_moment.proved.whole ∙ ap (λ (y : Option Opened). option_map_or
+            (λ o. is_whole_in o.start (taken a (moment hears_moment.source A).entries)) y false) q)
         by (Some x) q =
-            let since = since_opening A.opening (moment hears_moment.source A).entries (legal_then A node.legal hears_moment.source) a x q in
+            let since = since_opening A.opening (moment hears_moment.source A).entries
+            (legal_then A node.legal hears_moment.source) a x q in
             let low = since.low in
             let long = length-drop (length A.entries - hears_moment.source) A.entries in
-            since.same ∙ ap creation (moment_then A.opening A.entries a hears_moment.source (omega (arith, low, long, within)) within)
+            since.same ∙ ap creation (moment_then A.opening A.entries a hears_moment.source
+            (omega (arith, low, long, within)) within)
 
-    listed_then : (g : List ℕ) (p : Pid) → same p.node A.opening.name ≡ true → listed B s g p ≡ own (moment hears_moment.source A) s g p
-    listed_then g p its = lists_all (moment hears_moment.source A) refl (legal_then A node.legal hears_moment.source) same_then (λ f q. hears_moment.rows f q) g p its
+    listed_then : (g : List ℕ) (p : Pid) → same p.node A.opening.name ≡ true
+        → listed B s g p ≡ own (moment hears_moment.source A) s g p
+    listed_then g p its = lists_all (moment hears_moment.source A) refl (legal_then A node.legal
+        hears_moment.source) same_then (λ f q. hears_moment.rows f q) g p its
 
     pub heard_moment : HearsMoment A a B b s
     heard_moment = record {
@@ -177,14 +215,23 @@ module _ (A : History) (node : IsNode A) (a : ℕ) (B : History) (legal : IsLega
     }
 
   -- where all that is owed came, and the peer is told, they are the rows of now
-  pub hears_now : delivered b B.entries ≡ bodies_of (out A a) → told a s A.entries ≡ true → (g : List ℕ) (p : Pid) → stated b s g p B.entries ≡ own A s g p
+  pub hears_now : delivered b B.entries ≡ bodies_of (out A a) → told a s A.entries ≡ true
+      → (g : List ℕ) (p : Pid) → stated b s g p B.entries ≡ own A s g p
   hears_now all tells g p =
-      let said = heard_said B.opening B.entries legal b s A.opening.name (creation (moment a A)) (subst (IsHonest A.opening.name (creation (moment a A)) s) (sym all) (node_honest A node a s)) gives hears in
-      same_number (stated b s g p B.entries) (own A s g p)
-      (sym (said.now g p) ∙ ap (view_of s g p) all ∙ PassesThrough.now (passes A.opening a s A.entries node.legal (all_tell A.opening A.entries node a s)) tells g p)
+      grind (
+        arith,
+        heard_said B.opening B.entries legal b s A.opening.name (creation (moment a A))
+            (subst (IsHonest A.opening.name (creation (moment a A)) s) (sym all)
+            (node_honest A node a s)) gives hears,
+        same_number,
+        PassesThrough.now (passes A.opening a s A.entries node.legal
+            (all_tell A.opening A.entries node a s)) tells g p,
+      )
 
-  pub listed_now : delivered b B.entries ≡ bodies_of (out A a) → told a s A.entries ≡ true → (g : List ℕ) (p : Pid) → same p.node A.opening.name ≡ true → listed B s g p ≡ own A s g p
-  listed_now all tells g p its_node = lists_all A refl node.legal (same_creation A.opening A.entries node.legal a opens) (hears_now all tells) g p its_node
+  pub listed_now : delivered b B.entries ≡ bodies_of (out A a) → told a s A.entries ≡ true
+      → (g : List ℕ) (p : Pid) → same p.node A.opening.name ≡ true → listed B s g p ≡ own A s g p
+  listed_now all tells g p its_node = lists_all A refl node.legal
+      (same_creation A.opening A.entries node.legal a opens) (hears_now all tells) g p its_node
     where
       opens : is_open a A.entries ≡ true
-      opens = and_left (is_open a A.entries) (is_whole a A.entries) (and_left (is_up a A.entries) (has_discover s (talk a A.entries)) tells)
+      opens = grind (arith, and_parts)

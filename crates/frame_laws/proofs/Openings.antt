@@ -1,30 +1,33 @@
--- A link has the number of the entry that opened it; before that nothing is owed to it, and while it is open the creation stays.
-use Rattle.frame_laws.proofs.Words.{zero, Reply, ◌==◌, but, None, Option, Opened, opened, ByDial, ByPeer, option_map, ap, arith, refl, sym, ◌∙◌, eqb-true, leb-false, leb-true, lie, is_some, how_many, Bool, List, Some, [], cond, false, length, map, nat_le, not, suc, true, ℕ}
-use Rattle.frame_laws.proofs.Words.{◌&&◌, ◌++◌, ◌+◌, ◌<◌, ◌||◌, ◌∷◌, ◌≡◌, ◌≤◌, Opening, Event, Verdict, Accepted, Refused, Entry, past, creation, is_accepted, is_restart, Start, start_of}
-use Rattle.frame_laws.proofs.Words.{ends, is_open, is_opened_by, IsLegalIn, out_in, owing, moment, opening_of}
-use Rattle.frame_laws.proofs.Handing.{unborn_open}
-use Rattle.frame_laws.proofs.Places.{earlier_moment, this_moment}
-use Rattle.policy_audit.proofs.KeptLinks.{unowed}
+-- A link has the number of the entry that opened it; before that nothing is owed to it, and while
+-- it is open the creation stays.
+use Rattle.frame_laws.proofs
+use proofs.Words.{Accepted, ap, arith, Bool, but, ByDial, ByPeer, cond, creation, ends, Entry}
+use proofs.Words.{eqb-true, Event, false, is_accepted, is_open, is_opened_by, is_restart, IsLegalIn}
+use proofs.Words.{leb-false, leb-true, length, lie, List, map, moment, nat_le, None, not, Opened}
+use proofs.Words.{opened, Opening, opening_of, Option, out_in, owing, past, refl, Refused, Reply}
+use proofs.Words.{Some, Start, start_of, suc, sym, true, unowed, Verdict, zero, ℕ, [], ◌&&◌, ◌++◌}
+use proofs.Words.{◌+◌, ◌<◌, ◌==◌, ◌||◌, ◌∙◌, ◌∷◌, ◌≡◌, ◌≤◌}
+use proofs.Handing.{unborn_open}
+use proofs.Places.{earlier_moment, this_moment}
 
 pub opened_number : (l : ℕ) (e : Entry) → is_opened_by l e ≡ true → e.number ≡ l
-opened_number l e q = eqb-true e.number l (grind (arith, q))
+opened_number l e q = grind (arith, eqb-true)
 
 module _ (o : Opening) where
-  pub not_opened : (l : ℕ) (e : Entry) (es : List Entry) → e.number ≡ length es + 1 → (l ≡ e.number → ⊥) → is_opened_by l e ≡ false
-  not_opened l e es number apart = by (is_opened_by l e) refl
-    where
-      by : (b : Bool) → is_opened_by l e ≡ b → is_opened_by l e ≡ false
-      by false q = q
-      by true q = absurd (apart (sym (opened_number l e q)))
+  not_opened : (l : ℕ) (e : Entry) (es : List Entry) → e.number ≡ length es + 1 → (l ≡ e.number → ⊥)
+      → is_opened_by l e ≡ false
+  not_opened l e es number apart = grind (arith, opened_number)
 
   -- its number is that of an entry
-  pub opening_low : (es : List Entry) → IsLegalIn o es → (l : ℕ) (st : Start) → opening_of l es ≡ Some st → l ≤ length es
-  opening_low [] legal l st q = lie (sym (ap is_some q))
+  pub opening_low : (es : List Entry) → IsLegalIn o es → (l : ℕ) (st : Start)
+      → opening_of l es ≡ Some st → l ≤ length es
+  opening_low [] legal l st q = grind arith
   opening_low (e ∷ es) legal l st q = by (is_opened_by l e) refl q (opening_low es legal.1 l st)
     where
-      by : (b : Bool) → is_opened_by l e ≡ b → cond b (start_of e.event) (opening_of l es) ≡ Some st → (opening_of l es ≡ Some st → l ≤ length es) → l ≤ length (e ∷ es)
-      by true opens q so_far = (let number = opened_number l e opens in let here = legal.0.number in omega (arith, number, here))
-      by false opens q so_far = (let low = so_far q in omega (arith, low))
+      by : (b : Bool) → is_opened_by l e ≡ b → cond b (start_of e.event) (opening_of l es) ≡ Some st
+          → (opening_of l es ≡ Some st → l ≤ length es) → l ≤ length (e ∷ es)
+      by true opens q so_far = grind (arith, opened_number l e opens)
+      by false opens q so_far = grind arith
 
   -- before it is opened nothing is owed to it
   pub unborn_out : (es : List Entry) → IsLegalIn o es → (l : ℕ) → length es < l → out_in o l es ≡ []
@@ -33,88 +36,115 @@ module _ (o : Opening) where
       let here : e.number ≡ length es + 1 = legal.0.number in
       let before = unborn_out es legal.1 l (omega (arith, above)) in
       let other = not_opened l e es here (λ same. omega (arith, same, here, above)) in
-      let nothing = unowed o es l (unborn_open o es legal.1 l (omega (arith, above))) e e.event e.verdict legal.0.verdict other in
+      let nothing = unowed o es l (unborn_open o es legal.1 l (omega (arith, above))) e e.event
+      e.verdict legal.0.verdict other in
       (λ i. before i ++ map (owing e.number) (nothing i))
 
-  not_restart : (es : List Entry) (l : ℕ) (ev : Event) (v : Verdict) → ends l es v ev ≡ false → (is_accepted v && is_restart ev) ≡ false
+  not_restart : (es : List Entry) (l : ℕ) (ev : Event) (v : Verdict) → ends l es v ev ≡ false
+      → (is_accepted v && is_restart ev) ≡ false
   not_restart es l Event.Restart (Accepted r) q = lie q
   not_restart es l ev (Accepted r) q = refl
   not_restart es l ev (Refused r) q = refl
 
   -- an open link was opened by an entry
   pub open_low : (es : List Entry) → IsLegalIn o es → (l : ℕ) → is_open l es ≡ true → l ≤ length es
-  open_low es legal l opens = by (nat_le l (length es)) refl
-    where
-      by : (b : Bool) → nat_le l (length es) ≡ b → l ≤ length es
-      by true q = leb-true l (length es) q
-      by false q = lie (sym opens ∙ unborn_open o es legal l (leb-false l (length es) q))
+  open_low es legal l opens = grind (arith, leb-true, unborn_open)
 
   -- while it is open the creation is the one at its opening
-  pub same_creation : (es : List Entry) → IsLegalIn o es → (l : ℕ) → is_open l es ≡ true → creation (past o es) ≡ creation (moment l (past o es))
-  same_creation [] legal l opens = lie (sym opens)
-  same_creation (e ∷ es) legal l opens = by (is_opened_by l e) refl opens (same_creation es legal.1 l)
+  pub same_creation : (es : List Entry) → IsLegalIn o es → (l : ℕ) → is_open l es ≡ true
+      → creation (past o es) ≡ creation (moment l (past o es))
+  same_creation [] legal l opens = cc
+  same_creation (e ∷ es) legal l opens = by (is_opened_by l e) refl opens
+      (same_creation es legal.1 l)
     where
-      stays : ends l es e.verdict e.event ≡ false → creation (past o (e ∷ es)) ≡ creation (past o es)
-      stays q = ap (λ b. o.creation + cond b (suc (how_many (λ x. is_accepted x.verdict && is_restart x.event) es)) (how_many (λ x. is_accepted x.verdict && is_restart x.event) es)) (not_restart es l e.event e.verdict q)
+      stays : ends l es e.verdict e.event ≡ false
+          → creation (past o (e ∷ es)) ≡ creation (past o es)
+      stays q = grind (arith, not_restart es l e.event e.verdict q)
 
-      by : (b : Bool) → is_opened_by l e ≡ b → (b || (not (ends l es e.verdict e.event) && is_open l es)) ≡ true → (is_open l es ≡ true → creation (past o es) ≡ creation (moment l (past o es)))
+      by : (b : Bool) → is_opened_by l e ≡ b
+          → (b || (not (ends l es e.verdict e.event) && is_open l es)) ≡ true
+          → (is_open l es ≡ true → creation (past o es) ≡ creation (moment l (past o es)))
           → creation (past o (e ∷ es)) ≡ creation (moment l (past o (e ∷ es)))
-      by true here q so_far = ap creation (sym (this_moment o e es l (sym (opened_number l e here) ∙ legal.0.number)))
-      by false other q so_far = stays (grind (arith, q)) ∙ so_far (grind (arith, q)) ∙ ap creation (sym (earlier_moment o e es l (open_low es legal.1 l (grind (arith, q)))))
+      by true here q so_far =
+          grind (arith, this_moment o e es l (sym (opened_number l e here) ∙ legal.0.number))
+      by false other q so_far =
+          grind (
+            arith,
+            stays (grind (arith, q)),
+            earlier_moment o e es l (open_low es legal.1 l (grind (arith, q))),
+          )
 
 -- how a link was opened is how it is said to be opened since the last restart
-pub opening_is : (es : List Entry) (l : ℕ) (x : Opened) → opened l es ≡ Some x → opening_of l es ≡ Some x.start
-opening_is [] l x q = lie (sym (ap is_some q))
+pub opening_is : (es : List Entry) (l : ℕ) (x : Opened) → opened l es ≡ Some x
+    → opening_of l es ≡ Some x.start
+opening_is [] l x q = grind arith
 opening_is (e ∷ es) l x q = by_event e.event e.verdict (opening_is es l x) q
   where
     begun : (st : Start) (b : Bool) → (opened l es ≡ Some x → opening_of l es ≡ Some x.start)
-        → elim (cond {A = Option Opened} b (Some (record { start = st; before = es })) None) as (λ _. Option Opened) [ Some y ↦ Some y | None ↦ opened l es ] ≡ Some x → cond b (Some st) (opening_of l es) ≡ Some x.start
-    begun st true so_far q = ap (λ y. option_map (λ o. o.start) y) q
+        → elim (cond {A = Option Opened} b (Some (record { start = st; before = es })) None) as (λ
+        _. Option Opened) [ Some y ↦ Some y | None ↦ opened l es ] ≡ Some x
+        → cond b (Some st) (opening_of l es) ≡ Some x.start
+    begun st true so_far q = grind arith
     begun st false so_far q = so_far q
 
-    by_event : (ev : Event) (v : Verdict) → (opened l es ≡ Some x → opening_of l es ≡ Some x.start) → opened l (but e ev v ∷ es) ≡ Some x → opening_of l (but e ev v ∷ es) ≡ Some x.start
-    by_event (Event.Opened c) (Accepted r) so_far q = begun (ByPeer c) (e.number == l) so_far q
-    by_event (Event.Dial n c) (Accepted r) so_far q = begun (ByDial n c) (e.number == l) so_far q
-    by_event Event.Restart (Accepted r) so_far q = lie (sym (ap is_some q))
+    by_event : (ev : Event) (v : Verdict) → (opened l es ≡ Some x → opening_of l es ≡ Some x.start)
+        → opened l (but e ev v ∷ es) ≡ Some x → opening_of l (but e ev v ∷ es) ≡ Some x.start
+    by_event (Event.Opened c) (Accepted r) so_far q = grind arith
+    by_event (Event.Dial n c) (Accepted r) so_far q = grind arith
+    by_event Event.Restart (Accepted r) so_far q = grind arith
     by_event ev (Accepted r) so_far q = so_far q
     by_event ev (Refused r) so_far q = so_far q
 
 -- a moment of an earlier moment
-pub moment_then : (o : Opening) (es : List Entry) (a k : ℕ) → a ≤ k → k ≤ length es → moment a (moment k (past o es)) ≡ moment a (past o es)
+pub moment_then : (o : Opening) (es : List Entry) (a k : ℕ) → a ≤ k → k ≤ length es
+    → moment a (moment k (past o es)) ≡ moment a (past o es)
 moment_then o [] a zero low le = refl
-moment_then o [] a (suc k) low le = absurd (omega (arith, le))
+moment_then o [] a (suc k) low le = grind arith
 moment_then o (e ∷ es) a k low le = by (nat_le k (length es)) refl (moment_then o es a k low)
   where
-    by : (b : Bool) → nat_le k (length es) ≡ b → (k ≤ length es → moment a (moment k (past o es)) ≡ moment a (past o es)) → moment a (moment k (past o (e ∷ es))) ≡ moment a (past o (e ∷ es))
-    by true q so_far = (let before = leb-true k (length es) q in ap (moment a) (earlier_moment o e es k before) ∙ so_far before ∙ sym (earlier_moment o e es a (omega (arith, low, before))))
-    by false q so_far = (let above = leb-false k (length es) q in ap (moment a) (this_moment o e es k (omega (arith, above, le))))
+    by : (b : Bool) → nat_le k (length es) ≡ b
+        → (k ≤ length es → moment a (moment k (past o es)) ≡ moment a (past o es))
+        → moment a (moment k (past o (e ∷ es))) ≡ moment a (past o (e ∷ es))
+    by true q so_far =
+        (let before = leb-true k (length es) q in ap (moment a) (earlier_moment o e es k before)
+        ∙ so_far before ∙ sym (earlier_moment o e es a (omega (arith, low, before))))
+    by false q so_far = grind (arith, leb-false k (length es) q, this_moment)
 
 -- the creation is the one at the opening, which has the number of an entry
 pub record IsSinceOpening (o : Opening) (es : List Entry) (l : ℕ) : Type 0 where
   pub same : creation (past o es) ≡ creation (moment l (past o es))
   pub low : l ≤ length es
 
-module _ (o : Opening) (es : List Entry) (e : Entry) (number : e.number ≡ length es + 1) (l : ℕ) (x : Opened) where
+module _ (o : Opening) (es : List Entry) (e : Entry) (number : e.number ≡ length es + 1) (l : ℕ)
+    (x : Opened) where
   abbrev Before : Type 0
   Before = opened l es ≡ Some x → IsSinceOpening o es l
 
-  stays_since : (ev : Event) (v : Verdict) → creation (past o (but e ev v ∷ es)) ≡ creation (past o es) → IsSinceOpening o es l → IsSinceOpening o (but e ev v ∷ es) l
-  stays_since ev v same before = (let low = before.low in record { same = same ∙ before.same ∙ ap creation (sym (earlier_moment o (but e ev v) es l low)); low = omega (arith, low) })
+  stays_since : (ev : Event) (v : Verdict) → creation (past o (but e ev v ∷ es)) ≡ creation (past o
+      es) → IsSinceOpening o es l → IsSinceOpening o (but e ev v ∷ es) l
+  stays_since ev v same before = grind arith
 
-  begun_since : (ev : Event) (r : Reply) (st : Start) → creation (past o (but e ev (Accepted r) ∷ es)) ≡ creation (past o es) → (b : Bool) → (e.number == l) ≡ b → Before
-      → elim (cond {A = Option Opened} b (Some (record { start = st; before = es })) None) as (λ _. Option Opened) [ Some y ↦ Some y | None ↦ opened l es ] ≡ Some x → IsSinceOpening o (but e ev (Accepted r) ∷ es) l
-  begun_since ev r st same true here so_far q =
-      let its = eqb-true e.number l here in
-      record { same = ap creation (sym (this_moment o (but e ev (Accepted r)) es l (sym its ∙ number))); low = omega (arith, its, number) }
+  begun_since : (ev : Event) (r : Reply) (st : Start)
+      → creation (past o (but e ev (Accepted r) ∷ es)) ≡ creation (past o es) → (b : Bool)
+      → (e.number == l) ≡ b → Before
+      → elim (cond {A = Option Opened} b (Some (record { start = st; before = es })) None) as (λ _.
+      Option Opened) [ Some y ↦ Some y | None ↦ opened l es ] ≡ Some x
+      → IsSinceOpening o (but e ev (Accepted r) ∷ es) l
+  begun_since ev r st same true here so_far q = grind arith
   begun_since ev r st same false other so_far q = stays_since ev (Accepted r) same (so_far q)
 
-  since_event : (ev : Event) (v : Verdict) → Before → opened l (but e ev v ∷ es) ≡ Some x → IsSinceOpening o (but e ev v ∷ es) l
-  since_event (Event.Opened c) (Accepted r) so_far q = begun_since (Event.Opened c) r (ByPeer c) refl (e.number == l) refl so_far q
-  since_event (Event.Dial n c) (Accepted r) so_far q = begun_since (Event.Dial n c) r (ByDial n c) refl (e.number == l) refl so_far q
-  since_event Event.Restart (Accepted r) so_far q = lie (sym (ap is_some q))
+  since_event : (ev : Event) (v : Verdict) → Before → opened l (but e ev v ∷ es) ≡ Some x
+      → IsSinceOpening o (but e ev v ∷ es) l
+  since_event (Event.Opened c) (Accepted r) so_far q = begun_since (Event.Opened c) r (ByPeer c)
+      refl (e.number == l) refl so_far q
+  since_event (Event.Dial n c) (Accepted r) so_far q = begun_since (Event.Dial n c) r (ByDial n c)
+      refl (e.number == l) refl so_far q
+  since_event Event.Restart (Accepted r) so_far q = grind arith
   since_event ev (Accepted r) so_far q = stays_since ev (Accepted r) refl (so_far q)
   since_event ev (Refused r) so_far q = stays_since ev (Refused r) refl (so_far q)
 
-pub since_opening : (o : Opening) (es : List Entry) → IsLegalIn o es → (l : ℕ) (x : Opened) → opened l es ≡ Some x → IsSinceOpening o es l
-since_opening o [] legal l x q = lie (sym (ap is_some q))
-since_opening o (e ∷ es) legal l x q = since_event o es e legal.0.number l x e.event e.verdict (since_opening o es legal.1 l x) q
+pub since_opening : (o : Opening) (es : List Entry) → IsLegalIn o es → (l : ℕ) (x : Opened)
+    → opened l es ≡ Some x → IsSinceOpening o es l
+since_opening o [] legal l x q = grind arith
+since_opening o (e ∷ es) legal l x q = since_event o es e legal.0.number l x e.event e.verdict
+    (since_opening o es legal.1 l x) q

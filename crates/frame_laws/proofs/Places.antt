@@ -1,6 +1,8 @@
 -- Places in lists, and the frames that one entry owes.
-use Rattle.frame_laws.proofs.Words.{ap, arith, refl, subst, sym, ◌∙◌, lie, AllByRecursion, is_some, drop, length, map, suc, take, zero, slice_get, List, Some, [], ℕ}
-use Rattle.frame_laws.proofs.Words.{◌++◌, ◌+◌, ◌-◌, ◌<◌, ◌∷◌, ◌≡◌, ◌≤◌, OutFrame, Opening, Entry, past, History, IsLegalIn, owed, Owing, frames_of, moment, out_in, owes, owing}
+use Rattle.frame_laws.proofs
+use proofs.Words.{AllByRecursion, arith, Entry, frames_of, History, IsLegalIn, length, List, map}
+use proofs.Words.{moment, Opening, out_in, OutFrame, owed, owes, Owing, owing, past, refl}
+use proofs.Words.{slice_get, Some, subst, suc, sym, zero, ℕ, [], ◌++◌, ◌+◌, ◌<◌, ◌∙◌, ◌∷◌, ◌≡◌, ◌≤◌}
 
 module _ {A : Type 0} where
   -- a place in two lists is one in the first or in the second
@@ -14,48 +16,48 @@ module _ {A : Type 0} where
   part (y ∷ xs) ys (suc n) x q = by (part xs ys n x q)
     where
       by : Parted xs ys n x → Parted (y ∷ xs) ys (suc n) x
-      by (InFirst r less) = InFirst r (omega (arith, less))
+      by (InFirst r less) = grind (arith, InFirst)
       by (InSecond m is r) = InSecond m (omega (arith, is)) r
 
-  -- the elements up to a place
-  pub take_to : (xs : List A) (n : ℕ) (x : A) → slice_get xs n ≡ Some x → take (suc n) xs ≡ take n xs ++ x ∷ []
-  take_to [] n x q = lie (sym (ap is_some q))
-  take_to (y ∷ xs) zero x q = grind arith
-  take_to (y ∷ xs) (suc n) x q = ap (λ w. y ∷ w) (take_to xs n x q)
-
   -- what holds of all holds at each place
-  pub all_at : (P : A → Type 0) (xs : List A) → AllByRecursion P xs → (n : ℕ) (x : A) → slice_get xs n ≡ Some x → P x
-  all_at P [] all n x q = lie (sym (ap is_some q))
-  all_at P (y ∷ xs) all zero x q = subst P (grind (arith, q)) all.0
+  pub all_at : (P : A → Type 0) (xs : List A) → AllByRecursion P xs → (n : ℕ) (x : A)
+      → slice_get xs n ≡ Some x → P x
+  all_at P [] all n x q = grind arith
+  all_at P (y ∷ xs) all zero x q = grind arith
   all_at P (y ∷ xs) all (suc n) x q = all_at P xs all.1 n x q
 
-  pub first_of_both : (xs ys : List A) (x : A) → slice_get xs 0 ≡ Some x → slice_get (xs ++ ys) 0 ≡ Some x
-  first_of_both [] ys x q = lie (sym (ap is_some q))
+  pub first_of_both : (xs ys : List A) (x : A) → slice_get xs 0 ≡ Some x
+      → slice_get (xs ++ ys) 0 ≡ Some x
+  first_of_both [] ys x q = grind arith
   first_of_both (y ∷ xs) ys x q = q
 
 -- ---- owed frames
 
 pub frames_owing : (n : ℕ) (fs : List OutFrame) → frames_of (map (owing n) fs) ≡ fs
 frames_owing n [] = refl
-frames_owing n (f ∷ fs) = ap (λ zs. f ∷ zs) (frames_owing n fs)
+frames_owing n (f ∷ fs) = grind (arith, frames_owing n fs)
 
 -- a frame that one entry owes
 pub record IsOwed (n : ℕ) (fs : List OutFrame) (m : ℕ) (x : Owing) : Type 0 where
   pub source : x.source ≡ n
   pub frame : slice_get fs m ≡ Some x.frame
 
-pub owed_here : (n : ℕ) (fs : List OutFrame) (m : ℕ) (x : Owing) → slice_get (map (owing n) fs) m ≡ Some x → IsOwed n fs m x
-owed_here n [] m x q = lie (sym (ap is_some q))
+pub owed_here : (n : ℕ) (fs : List OutFrame) (m : ℕ) (x : Owing)
+    → slice_get (map (owing n) fs) m ≡ Some x → IsOwed n fs m x
+owed_here n [] m x q = grind arith
 owed_here n (f ∷ fs) zero x q = grind arith
-owed_here n (f ∷ fs) (suc m) x q = (let it = owed_here n fs m x q in record { source = it.source; frame = it.frame })
+owed_here n (f ∷ fs) (suc m) x q =
+    (let it = owed_here n fs m x q in record { source = it.source; frame = it.frame })
 
 -- ---- moments
 
-pub earlier_moment : (o : Opening) (e : Entry) (es : List Entry) (k : ℕ) → k ≤ length es → moment k (past o (e ∷ es)) ≡ moment k (past o es)
-earlier_moment o e es k le = ap (λ n. past o (drop n (e ∷ es))) (let less : length (e ∷ es) - k ≡ suc (length es - k) = omega (arith, le) in less)
+pub earlier_moment : (o : Opening) (e : Entry) (es : List Entry) (k : ℕ) → k ≤ length es
+    → moment k (past o (e ∷ es)) ≡ moment k (past o es)
+earlier_moment o e es k le = grind arith
 
-pub this_moment : (o : Opening) (e : Entry) (es : List Entry) (k : ℕ) → k ≡ length es + 1 → moment k (past o (e ∷ es)) ≡ past o (e ∷ es)
-this_moment o e es k is = ap (λ n. past o (drop n (e ∷ es))) (let none : length (e ∷ es) - k ≡ 0 = omega (arith, is) in none)
+pub this_moment : (o : Opening) (e : Entry) (es : List Entry) (k : ℕ) → k ≡ length es + 1
+    → moment k (past o (e ∷ es)) ≡ past o (e ∷ es)
+this_moment o e es k is = grind arith
 
 -- ---- along a history
 
@@ -64,7 +66,9 @@ module _ (o : Opening) (l : ℕ) (P : History → OutFrame → Type 0) where
   -- each frame of each entry
   abbrev pub AllOwed : List Entry → Type 0
   AllOwed [] = Unit {0}
-  AllOwed (e ∷ es) = ((m : ℕ) (f : OutFrame) → slice_get (owed (past o es) l e.number e.event e.verdict) m ≡ Some f → P (past o (e ∷ es)) f) × AllOwed es
+  AllOwed (e ∷ es) =
+      ((m : ℕ) (f : OutFrame) → slice_get (owed (past o es) l e.number e.event e.verdict) m ≡ Some f
+      → P (past o (e ∷ es)) f) × AllOwed es
 
   -- it holds, and the source is an entry
   pub record HoldsThen (es : List Entry) (x : Owing) : Type 0 where
@@ -72,19 +76,32 @@ module _ (o : Opening) (l : ℕ) (P : History → OutFrame → Type 0) where
     pub within : x.source ≤ length es
     pub holds : P (moment x.source (past o es)) x.frame
 
-  pub holds_then : (es : List Entry) → IsLegalIn o es → AllOwed es → (n : ℕ) (x : Owing) → slice_get (out_in o l es) n ≡ Some x → HoldsThen es x
-  holds_then [] legal all n x q = lie (sym (ap is_some q))
-  holds_then (e ∷ es) legal all n x q = by (λ r. holds_then es legal.1 all.1 n x r) (part (out_in o l es) (owes (past o es) l e) n x q)
+  pub holds_then : (es : List Entry) → IsLegalIn o es → AllOwed es → (n : ℕ) (x : Owing)
+      → slice_get (out_in o l es) n ≡ Some x → HoldsThen es x
+  holds_then [] legal all n x q = grind arith
+  holds_then (e ∷ es) legal all n x q = by (λ r. holds_then es legal.1 all.1 n x r)
+      (part (out_in o l es) (owes (past o es) l e) n x q)
     where
       number : e.number ≡ length es + 1
-      number = legal.0.number
+      number = cc
 
-      by : (slice_get (out_in o l es) n ≡ Some x → HoldsThen es x) → Parted (out_in o l es) (owes (past o es) l e) n x → HoldsThen (e ∷ es) x
+      by : (slice_get (out_in o l es) n ≡ Some x → HoldsThen es x)
+          → Parted (out_in o l es) (owes (past o es) l e) n x → HoldsThen (e ∷ es) x
       by so_far (InFirst r less) =
           let before = so_far r in
           let low = before.within in
-          record { some = before.some; within = omega (arith, low); holds = subst (λ h. P h x.frame) (sym (earlier_moment o e es x.source low)) before.holds }
+          record {
+            some = before.some;
+            within = omega (arith, low);
+            holds = subst (λ h. P h x.frame) (sym (earlier_moment o e es x.source low))
+                before.holds;
+          }
       by so_far (InSecond m is r) =
           let here = owed_here e.number (owed (past o es) l e.number e.event e.verdict) m x r in
           let source : x.source ≡ length es + 1 = here.source ∙ number in
-          record { some = omega (arith, source); within = omega (arith, source); holds = subst (λ h. P h x.frame) (sym (this_moment o e es x.source source)) (all.0 m x.frame here.frame) }
+          record {
+            some = omega (arith, source);
+            within = omega (arith, source);
+            holds = subst (λ h. P h x.frame) (sym (this_moment o e es x.source source))
+                (all.0 m x.frame here.frame);
+          }

@@ -1,7 +1,8 @@
 -- Sources are numbers of entries, and they rise.
-use Rattle.frame_laws.proofs.Words.{arith, refl, sym, lie, is_some, ap, option_map, slice_get, List, None, Option, Some, [], ℕ, ◌+◌, ◌∷◌, ◌≡◌, ◌≤◌, length}
-use Rattle.frame_laws.proofs.Words.{OutFrame, Opening, Entry, History, past, IsLegalIn, owed, Owing, out_in, owes, source_at}
-use Rattle.frame_laws.proofs.Places.{Parted, InFirst, InSecond, part, owed_here, AllOwed, HoldsThen, holds_then}
+use Rattle.frame_laws.proofs
+use proofs.Words.{arith, Entry, History, IsLegalIn, length, List, Opening, out_in, OutFrame, owed}
+use proofs.Words.{owes, Owing, past, slice_get, Some, source_at, ℕ, [], ◌+◌, ◌∷◌, ◌≡◌, ◌≤◌}
+use proofs.Places.{Parted, InFirst, InSecond, part, owed_here, AllOwed, HoldsThen, holds_then}
 
 -- the frame that has this source
 pub record IsFrameOf (owings : List Owing) (n k : ℕ) : Type 0 where
@@ -10,11 +11,7 @@ pub record IsFrameOf (owings : List Owing) (n k : ℕ) : Type 0 where
   pub source : owing.source ≡ k
 
 pub frame_at : (owings : List Owing) (n k : ℕ) → source_at n owings ≡ Some k → IsFrameOf owings n k
-frame_at owings n k q = by (slice_get owings n) refl q
-  where
-    by : (o : Option Owing) → slice_get owings n ≡ o → option_map (λ x. x.source) o ≡ Some k → IsFrameOf owings n k
-    by None s q = lie (sym (ap is_some q))
-    by (Some x) s q = record { owing = x; stands = s; source = grind arith }
+frame_at owings n k q = grind arith
 
 module _ (o : Opening) (l : ℕ) where
   abbrev IsAny : History → OutFrame → Type 0
@@ -24,24 +21,34 @@ module _ (o : Opening) (l : ℕ) where
   any [] = tt
   any (e ∷ es) = (λ m f q. tt, any es)
 
-  pub is_entry : (es : List Entry) → IsLegalIn o es → (n : ℕ) (x : Owing) → slice_get (out_in o l es) n ≡ Some x → HoldsThen o l IsAny es x
+  pub is_entry : (es : List Entry) → IsLegalIn o es → (n : ℕ) (x : Owing)
+      → slice_get (out_in o l es) n ≡ Some x → HoldsThen o l IsAny es x
   is_entry es legal n x q = holds_then o l IsAny es legal (any es) n x q
 
-  pub rises : (es : List Entry) → IsLegalIn o es → (m n : ℕ) (x y : Owing) → m ≤ n → slice_get (out_in o l es) m ≡ Some x → slice_get (out_in o l es) n ≡ Some y → x.source ≤ y.source
-  rises [] legal m n x y le p q = lie (sym (ap is_some p))
-  rises (e ∷ es) legal m n x y le p q = by (rises es legal.1 m n x y le) (part (out_in o l es) (owes (past o es) l e) m x p) (part (out_in o l es) (owes (past o es) l e) n y q)
+  pub rises : (es : List Entry) → IsLegalIn o es → (m n : ℕ) (x y : Owing) → m ≤ n
+      → slice_get (out_in o l es) m ≡ Some x → slice_get (out_in o l es) n ≡ Some y
+      → x.source ≤ y.source
+  rises [] legal m n x y le p q = grind arith
+  rises (e ∷ es) legal m n x y le p q = by (rises es legal.1 m n x y le)
+      (part (out_in o l es) (owes (past o es) l e) m x p)
+      (part (out_in o l es) (owes (past o es) l e) n y q)
     where
       number : e.number ≡ length es + 1
-      number = legal.0.number
+      number = cc
 
-      by : (slice_get (out_in o l es) m ≡ Some x → slice_get (out_in o l es) n ≡ Some y → x.source ≤ y.source) → Parted (out_in o l es) (owes (past o es) l e) m x → Parted (out_in o l es) (owes (past o es) l e) n y → x.source ≤ y.source
+      by : (slice_get (out_in o l es) m ≡ Some x → slice_get (out_in o l es) n ≡ Some y
+          → x.source ≤ y.source) → Parted (out_in o l es) (owes (past o es) l e) m x
+          → Parted (out_in o l es) (owes (past o es) l e) n y → x.source ≤ y.source
       by so_far (InFirst a less) (InFirst b few) = so_far a b
       by so_far (InFirst a less) (InSecond j is b) =
           let low = (is_entry es legal.1 m x a).within in
-          let high = (owed_here e.number (owed (past o es) l e.number e.event e.verdict) j y b).source in
+          let high = (owed_here e.number (owed (past o es) l e.number e.event e.verdict) j y
+          b).source in
           omega (arith, low, high, number)
-      by so_far (InSecond i is a) (InFirst b few) = absurd (omega (arith, is, few, le))
+      by so_far (InSecond i is a) (InFirst b few) = grind arith
       by so_far (InSecond i is a) (InSecond j at b) =
-          let low = (owed_here e.number (owed (past o es) l e.number e.event e.verdict) i x a).source in
-          let high = (owed_here e.number (owed (past o es) l e.number e.event e.verdict) j y b).source in
+          let low = (owed_here e.number (owed (past o es) l e.number e.event e.verdict) i x
+          a).source in
+          let high = (owed_here e.number (owed (past o es) l e.number e.event e.verdict) j y
+          b).source in
           omega (arith, low, high)

@@ -1,24 +1,34 @@
--- The words that the proofs of this crate speak in: those of std, of the crates below and of its own specs, passed on from one place.
+-- The words that the proofs of this crate speak in: those of std, of the crates below and of its
+-- own specs, passed on from one place.
 pub use Rattle.std.proofs.Common.{ap, arith, refl, subst, sym, ◌∙◌}
-pub use Rattle.std.proofs.lemmas.Bool.{and_parts, eq-eqb, eqb-false, eqb-true, leb-false, leb-true, le-leb, ltb-true, not-false, or_parts}
-pub use Rattle.std.proofs.lemmas.List.{append-nil, append_assoc, length-append, length-map, map-append, take-append-le}
+pub use Rattle.std.proofs.lemmas.Bool.{and_parts, eq-eqb, eqb-false, eqb-true, le-leb, leb-false}
+pub use Rattle.std.proofs.lemmas.Bool.{leb-true, lt-ltb, ltb-true, not-false}
+pub use Rattle.std.proofs.lemmas.List.{append-nil, append_assoc, length-append, length-drop}
+pub use Rattle.std.proofs.lemmas.List.{length-map, map-append, take-append-le}
 pub use Rattle.std.proofs.Math.Seq.{take-append-add}
-pub use Rattle.std.specs.List.{AllByRecursion, filter, flat_map, list_all, list_any}
-pub use Rattle.std.specs.Option.{option_and_then, option_map, option_map_or, option_to_list, unwrap_or}
-pub use Rattle.std.specs.Prelude.{Bool, IsTrue, List, None, Option, Some, [], cond, drop, false, get_or, is_some, length, map, min, nat_le}
-pub use Rattle.std.specs.Prelude.{nat_lt, not, slice_get, suc, take, true, zero, ℕ, ◌&&◌, ◌++◌, ◌+◌, ◌-◌, ◌<◌, ◌==◌, ◌^◌, ◌||◌, ◌∷◌, ◌≡◌, ◌≤◌}
+pub use Rattle.std.specs.List.{AllByRecursion, filter, flat_map, list_all}
+pub use Rattle.std.specs.Option.{option_and_then, option_map, option_map_or, option_to_list}
+pub use Rattle.std.specs.Option.{unwrap_or}
+pub use Rattle.std.specs.Prelude.{Bool, cond, drop, false, get_or, is_some, IsTrue, length, List}
+pub use Rattle.std.specs.Prelude.{map, min, nat_le, None, not, Option, slice_get, Some, suc, take}
+pub use Rattle.std.specs.Prelude.{true, zero, ℕ, [], ◌&&◌, ◌++◌, ◌+◌, ◌-◌, ◌<◌, ◌==◌, ◌^◌, ◌||◌}
+pub use Rattle.std.specs.Prelude.{◌∷◌, ◌≡◌, ◌≤◌}
 pub use Rattle.std.specs.declared.cmp.Ordering.TheVariants.{Less}
+pub use Rattle.std.proofs.lemmas.List.Elements.{All-from_recursion, filter-append}
+pub use Rattle.std.proofs.lemmas.Option.{slice_get_within}
 pub use Rattle.dist_types.specs.Difference.{is_empty}
-pub use Rattle.dist_types.specs.Listing.{IsListing, IsPidListing, IsRowListing, how_many, is_among, listing, mentions, occurrences, same}
-pub use Rattle.dist_types.specs.Listing.{Rises, same_pid, same_row, stands_in}
+pub use Rattle.dist_types.specs.Listing.{max_rows, is_among, IsListing, IsRowListing, listing}
+pub use Rattle.dist_types.specs.Listing.{mentions, occurrences, Rises, same, same_pid, same_row}
+pub use Rattle.dist_types.specs.Listing.{stands_in}
 pub use Rattle.dist_types.specs.Order.{pid_cmp, text_cmp}
 pub use Rattle.dist_types.specs.Text.{IsNodeName, IsText}
 pub use Rattle.dist_types.specs.declared.pid.Pid.{Pid}
 pub use Rattle.dist_types.specs.declared.row.Row.{Row}
-pub use Rattle.dist_types.proofs.Listings.{fewer_length}
-pub use Rattle.dist_types.proofs.Orders.{same_decides, same_pid_decides, same_row_decides, same_sym}
+pub use Rattle.dist_types.proofs.Listings.{all_append, fewer_length, listing_counts}
+pub use Rattle.dist_types.proofs.Orders.{exact_pids, pids_total, same_decides, same_pid_decides}
+pub use Rattle.dist_types.proofs.Orders.{same_row_decides, same_sym}
 pub use Rattle.dist_types.proofs.Totals.{how_many_append}
-pub use Rattle.link_frames.specs.Spelling.{AreRows, IsMessage, IsRow, SpellsMessage, message_bytes}
+pub use Rattle.link_frames.specs.Spelling.{AreRows, IsMessage, IsRow, message_bytes, SpellsMessage}
 pub use Rattle.link_frames.specs.declared.message.Message.{Message}
 pub use Rattle.policy_audit.specs.OutFrame.{OutFrame}
 pub use Rattle.policy_audit.specs.declared.opening.Opening.{Opening}
@@ -28,25 +38,72 @@ pub use Rattle.policy_audit.specs.declared.rule.Rule.{Rule}
 pub use Rattle.policy_audit.specs.declared.entry.Verdict.{Verdict}
 pub use Rattle.policy_audit.specs.declared.entry.Verdict.TheVariants.{Accepted, Refused}
 pub use Rattle.policy_audit.specs.declared.entry.Entry.{Entry}
-pub use Rattle.policy_audit.specs.History.{History, creation, events, is_accepted, is_restart, past, present}
-pub use Rattle.policy_audit.specs.Own.{is_local, is_running, is_spawn, joined, lives, own, running_scopes, spawned}
-pub use Rattle.policy_audit.specs.Sides.{AwaitAck, AwaitAnswer, AwaitChallenge, AwaitMessage, AwaitName, AwaitReply, AwaitStatus, Awaited}
-pub use Rattle.policy_audit.specs.Sides.{ByDial, ByPeer, Opened, Start, awaits, challenge_in, is_last, is_name_up, is_visible, is_whole, opened, peer_of, start_of, taken}
+pub use Rattle.policy_audit.specs.History.{creation, events, first_of, History, is_accepted}
+pub use Rattle.policy_audit.specs.History.{is_restart, past}
+pub use Rattle.policy_audit.specs.Own.{is_local, is_running, joined, lives, own, running_scopes}
+pub use Rattle.policy_audit.specs.Own.{spawned}
+pub use Rattle.policy_audit.specs.Sides.{and_frame, AwaitAck, AwaitAnswer, AwaitChallenge, Awaited}
+pub use Rattle.policy_audit.specs.Sides.{AwaitMessage, AwaitName, AwaitReply, awaits, AwaitStatus}
+pub use Rattle.policy_audit.specs.Sides.{ByDial, ByPeer, challenge_in, given_in, is_last}
+pub use Rattle.policy_audit.specs.Sides.{is_name_up, is_peer, is_visible, is_whole, is_whole_in}
+pub use Rattle.policy_audit.specs.Sides.{Opened, opened, peer_in, peer_of, present_link, Start}
+pub use Rattle.policy_audit.specs.Sides.{start_of, Taken, taken}
 pub use Rattle.policy_audit.specs.Links.{ends, is_dialling, is_open, is_opened_by, is_up}
-pub use Rattle.policy_audit.specs.Hearing.{heard, message_taken, rows_of, told}
-pub use Rattle.policy_audit.specs.Contents.{local_rows, row}
-pub use Rattle.policy_audit.specs.Checks.{always, checks, first_broken, frame_checks, join_checks, leave_checks, message_checks, runs}
-pub use Rattle.policy_audit.specs.Owed.{digest_for, discovers, drops, frame_owes, if_told, if_visible, message_owes, narrow, owed, own_challenge}
-pub use Rattle.policy_audit.specs.Owed.{own_challenge_frame, own_name_frame, refusal_owes, status_frame, true_to, waiting, waiting_in, welcome, wide}
-pub use Rattle.policy_audit.specs.Policy.{IsAnswered, IsLegal, IsLegalIn, IsNext, verdict, with_entry}
-pub use Rattle.policy_audit.proofs.Accepted.{accepted, all_hold, lie, unbroken}
-pub use Rattle.policy_audit.proofs.Walked.{but}
-pub use Rattle.frame_laws.specs.Sent.{Owing, bodies_of, frames_of, handed, out, out_in, owes, owing, sent, source_at}
-pub use Rattle.frame_laws.specs.Moments.{IsProvedLink, is_restarted_after, moment, proved_at}
-pub use Rattle.frame_laws.specs.Says.{SaysOne, Hello, Means}
-pub use Rattle.frame_laws.specs.Written.{IsNode, IsWritten}
+pub use Rattle.policy_audit.specs.Hearing.{heard, hears, message_taken, rows_of, Said, stated}
+pub use Rattle.policy_audit.specs.Hearing.{stated_in, Talk, talk, talk_of, tells, told}
+pub use Rattle.policy_audit.specs.Contents.{groups, groups_named, local_rows, members, pids_named}
+pub use Rattle.policy_audit.specs.Contents.{row}
+pub use Rattle.policy_audit.specs.Checks.{always, checks, first_broken, frame_checks, join_checks}
+pub use Rattle.policy_audit.specs.Checks.{message_checks, peer_rows}
+pub use Rattle.policy_audit.specs.Owed.{digest_for, discovers, drops, frame_owes, if_told}
+pub use Rattle.policy_audit.specs.Owed.{if_visible, message_owes, narrow, owed, own_challenge}
+pub use Rattle.policy_audit.specs.Owed.{own_challenge_frame, own_name_frame, refusal_owes}
+pub use Rattle.policy_audit.specs.Owed.{status_frame, true_to, waiting, waiting_in, welcome, wide}
+pub use Rattle.policy_audit.specs.Policy.{is_full, IsAnswered, IsLegal, IsLegalIn, IsNext, verdict}
+pub use Rattle.policy_audit.proofs.Accepted.{accepted, all_hold, lie, open_first, unbroken}
+pub use Rattle.policy_audit.proofs.Walked.{but, Far, far, frame_fits, open_opened, unborn}
 pub use Rattle.policy_audit.specs.Effects.{is_about_rows}
-pub use Rattle.frame_laws.specs.ToldRows.{has_rows, says_rows}
-pub use Rattle.frame_laws.specs.Views.{PassesThrough, messages_said, seen, seen_by, view_of}
+pub use Rattle.dist_types.specs.Flags.{own_flags}
+pub use Rattle.handshake_frames.proofs.ReadingLemmas.{challenge_frame-spelled, name_frame-spelled}
+pub use Rattle.handshake_frames.proofs.ReadingLemmas.{SpellsChallenge-read}
+pub use Rattle.handshake_frames.specs.Frame.{Challenge, Name}
+pub use Rattle.handshake_frames.specs.Reading.{challenge_frame, name_frame, reply_frame, status_of}
+pub use Rattle.handshake_frames.specs.Spelling.{ack_bytes, challenge_bytes, name_bytes, reply_bytes}
+pub use Rattle.handshake_frames.specs.declared.frame.AckFrame.{AckFrame}
+pub use Rattle.handshake_frames.specs.declared.frame.ReplyFrame.{ReplyFrame}
+pub use Rattle.handshake_frames.specs.declared.frame.StatusWord.{StatusWord}
+pub use Rattle.link_frames.proofs.ReadingLemmas.{message-spelled, SpellsMessage-read}
+pub use Rattle.policy_audit.proofs.Effects.{entry_exited, entry_joined, entry_left, entry_link}
+pub use Rattle.policy_audit.proofs.Finished.{is_message, whole_awaits}
+pub use Rattle.policy_audit.proofs.Foreign.{peer_foreign}
+pub use Rattle.policy_audit.proofs.Heard.{has_sync, heard_runs, heard_whole}
+pub use Rattle.policy_audit.proofs.HeardNow.{framed_heard, message_heard, opening_heard}
+pub use Rattle.policy_audit.proofs.HeardNow.{proved_heard, stopped_heard}
+pub use Rattle.policy_audit.proofs.KeptLinks.{told_runs, unborn_waiting, unowed}
+pub use Rattle.policy_audit.proofs.Lines.{a_up, calls, done, gives, Line, node, pid}
+pub use Rattle.policy_audit.proofs.Lists.{count_in_group, filter_all, groups_are, members_are}
+pub use Rattle.policy_audit.proofs.Lists.{rows_are}
+pub use Rattle.policy_audit.proofs.Named.{group_named, listed_named, occurs_stands, pid_named}
+pub use Rattle.policy_audit.proofs.OneDifference.{apart}
+pub use Rattle.policy_audit.proofs.Onward.{ack_taken, message_taken_on, reply_taken}
+pub use Rattle.policy_audit.proofs.Onward.{whole_is_message}
+pub use Rattle.policy_audit.proofs.OwnRows.{foreign_own, local_rows_are, rows_in_group}
+pub use Rattle.policy_audit.proofs.RowsAfter.{uncounted}
+pub use Rattle.policy_audit.proofs.ScopesNow.{running_among, running_rises}
+pub use Rattle.policy_audit.proofs.Untouched.{entry_leaves}
+pub use Rattle.policy_audit.proofs.UpLinks.{agrees, and_false, done_now, none_taken}
+pub use Rattle.policy_audit.proofs.Words.{codes, play}
+pub use Rattle.policy_audit.specs.Listed.{is_from, listed}
+pub use Rattle.frame_laws.specs.Sent.{bodies_of, came, delivered, frames_of, handed, out, out_in}
+pub use Rattle.frame_laws.specs.Sent.{owes, Owing, owing, sent, source_at}
+pub use Rattle.frame_laws.specs.Moments.{is_restarted_after, IsProvedLink, moment, proved_at}
+pub use Rattle.frame_laws.specs.Says.{Hello, is_of, Means, rows_in, SaysOne}
+pub use Rattle.frame_laws.specs.Written.{IsNode, IsWritten}
+pub use Rattle.frame_laws.specs.ToldRows.{Falls, has_rows, says_rows, tells_rows, told_rows}
+pub use Rattle.frame_laws.specs.Views.{messages_said, PassesThrough, seen, seen_by, view_of}
 pub use Rattle.frame_laws.specs.Hellos.{hello_in, opening_of, own_hello}
-pub use Rattle.frame_laws.specs.Says.{is_of, rows_in}
+pub use Rattle.frame_laws.specs.Given.{IsAskedOnce, IsNamedFirst}
+pub use Rattle.frame_laws.specs.HeardMoment.{HearsMoment}
+pub use Rattle.frame_laws.specs.Honest.{HasGiven, HeardIsSaid, IsGiven, IsHonest}
+pub use Rattle.frame_laws.specs.Known.{known, message_at}
+pub use Rattle.frame_laws.specs.MaySay.{AreFrom, AreStated, HasRoom, MaySay, scope_of}

@@ -1,16 +1,14 @@
--- One worked history, computed by the checker: two peers' frames cross on one link, and each word has the value that it should.
-use Rattle.policy_audit.proofs.Words.{refl, digits, List, None, Option, Some, [], codes, length, map, true, ℕ, ◌++◌, ◌∷◌, ◌≡◌, block_words, compress, digest_bytes}
-use Rattle.policy_audit.proofs.Words.{hash_after, md5, rounds, ack_frame, challenge_frame, name_frame, reply_frame, status_of, read_message, History, Pid, play, told}
-use Rattle.frame_laws.proofs.Words.{Event, Reply, take}
-use Rattle.policy_audit.proofs.Lines.{Line, gives, done, sent as came, a_up, node, pid, calls}
-use Rattle.frame_laws.specs.Hellos.{opening_of}
-use Rattle.frame_laws.specs.Known.{known}
-use Rattle.frame_laws.specs.Moments.{moment, proved_at}
-use Rattle.frame_laws.specs.Sent.{bodies_of, delivered, out, sent}
-use Rattle.frame_laws.specs.ToldRows.{told_rows}
-use Rattle.frame_laws.specs.Views.{view_of}
-use Rattle.policy_audit.specs.Own.{own}
-use Rattle.policy_audit.specs.Sides.{ByPeer}
+-- One worked history, computed by the checker: two peers' frames cross on one link, and each word
+-- has the value that it should.
+use Rattle.frame_laws.proofs
+use proofs.Words.{a_up, bodies_of, ByPeer, calls, codes, delivered, done, Event, gives, History}
+use proofs.Words.{known, length, Line, List, map, moment, node, None, opening_of, Option, out, own}
+use proofs.Words.{Pid, pid, play, proved_at, refl, Reply, sent, Some, take, told, told_rows, true}
+use proofs.Words.{view_of, ℕ, [], ◌++◌, ◌∷◌, ◌≡◌}
+use Rattle.policy_audit.proofs.Words.{digits, block_words, compress, digest_bytes, hash_after, md5}
+use Rattle.policy_audit.proofs.Words.{rounds, ack_frame, challenge_frame, name_frame, reply_frame}
+use Rattle.policy_audit.proofs.Words.{status_of, read_message}
+use Rattle.policy_audit.proofs.Lines.{sent as came}
 
 -- the own process
 abbrev one : Pid
@@ -20,7 +18,8 @@ one = pid (codes "b@h") 4 1
 abbrev theirs : Pid
 theirs = pid (codes "a@h") 5 1
 
--- Scope pg starts, and a@h links. It asks for the rows, and while the answer waits a process joins twice and leaves once. Then a@h says
+-- Scope pg starts, and a@h links. It asks for the rows, and while the answer waits a process joins
+-- twice and leaves once. Then a@h says
 -- its own rows, and adds one.
 abbrev script : List Line
 script =
@@ -39,48 +38,62 @@ after_it = play node (calls script)
 
 -- link 3 was opened by its peer, and proved by entry 6
 opened : opening_of 3 after_it.entries ≡ Some (ByPeer 123)
-unfolding md5 digest_bytes hash_after compress rounds block_words digits name_frame challenge_frame reply_frame ack_frame status_of read_message
+unfolding md5 digest_bytes hash_after compress rounds block_words digits name_frame challenge_frame
+    reply_frame ack_frame status_of read_message
 opened = refl
 
 proved : proved_at 3 after_it.entries ≡ Some 6
-unfolding md5 digest_bytes hash_after compress rounds block_words digits name_frame challenge_frame reply_frame ack_frame status_of read_message
+unfolding md5 digest_bytes hash_after compress rounds block_words digits name_frame challenge_frame
+    reply_frame ack_frame status_of read_message
 proved = refl
 
--- the status and the Challenge have one source, then come Ack and Discover, Sync and Discover, Join and Leave
+-- the status and the Challenge have one source, then come Ack and Discover, Sync and Discover, Join
+-- and Leave
 sources : map (λ x. x.source) (out after_it 3) ≡ 4 ∷ 4 ∷ 6 ∷ 6 ∷ 8 ∷ 8 ∷ 9 ∷ 10 ∷ []
-unfolding md5 digest_bytes hash_after compress rounds block_words digits name_frame challenge_frame reply_frame ack_frame status_of read_message
+unfolding md5 digest_bytes hash_after compress rounds block_words digits name_frame challenge_frame
+    reply_frame ack_frame status_of read_message
 sources = refl
 
 -- the first four were handed out, two at a time
 handed_out : length (sent 3 after_it.entries) ≡ 4
-unfolding md5 digest_bytes hash_after compress rounds block_words digits name_frame challenge_frame reply_frame ack_frame status_of read_message
+unfolding md5 digest_bytes hash_after compress rounds block_words digits name_frame challenge_frame
+    reply_frame ack_frame status_of read_message
 handed_out = refl
 
 -- the peer is told, and sees each moment of the own rows: none, two, one
 told_now : told 3 (codes "pg") after_it.entries ≡ true
-unfolding md5 digest_bytes hash_after compress rounds block_words digits name_frame challenge_frame reply_frame ack_frame status_of read_message
+unfolding md5 digest_bytes hash_after compress rounds block_words digits name_frame challenge_frame
+    reply_frame ack_frame status_of read_message
 told_now = refl
 
 abbrev view_at : ℕ → Option ℕ
 view_at place = view_of (codes "pg") (codes "g") one (bodies_of (take place (out after_it 3)))
 
 views : view_at 4 ∷ view_at 5 ∷ view_at 7 ∷ view_at 8 ∷ [] ≡ None ∷ Some 0 ∷ Some 2 ∷ Some 1 ∷ []
-unfolding md5 digest_bytes hash_after compress rounds block_words digits name_frame challenge_frame reply_frame ack_frame status_of read_message
+unfolding md5 digest_bytes hash_after compress rounds block_words digits name_frame challenge_frame
+    reply_frame ack_frame status_of read_message
 views = refl
 
-moments : own (moment 8 after_it) (codes "pg") (codes "g") one ∷ own (moment 9 after_it) (codes "pg") (codes "g") one ∷ own (moment 10 after_it) (codes "pg") (codes "g") one ∷ [] ≡ 0 ∷ 2 ∷ 1 ∷ []
-unfolding md5 digest_bytes hash_after compress rounds block_words digits name_frame challenge_frame reply_frame ack_frame status_of read_message
+moments : own (moment 8 after_it) (codes "pg") (codes "g") one ∷ own (moment 9 after_it)
+    (codes "pg") (codes "g") one ∷ own (moment 10 after_it) (codes "pg") (codes "g") one ∷ [] ≡ 0
+    ∷ 2 ∷ 1 ∷ []
+unfolding md5 digest_bytes hash_after compress rounds block_words digits name_frame challenge_frame
+    reply_frame ack_frame status_of read_message
 moments = refl
 
--- of the five frames that came, the Sync and the Join are of the present hearing, and what is known is what they say
+-- of the five frames that came, the Sync and the Join are of the present hearing, and what is known
+-- is what they say
 heard_so : told_rows 3 (codes "pg") after_it.entries ≡ 4 ∷ 3 ∷ []
-unfolding md5 digest_bytes hash_after compress rounds block_words digits name_frame challenge_frame reply_frame ack_frame status_of read_message
+unfolding md5 digest_bytes hash_after compress rounds block_words digits name_frame challenge_frame
+    reply_frame ack_frame status_of read_message
 heard_so = refl
 
 known_so : known 3 (codes "pg") (codes "g") theirs after_it.entries ≡ Some 1
-unfolding md5 digest_bytes hash_after compress rounds block_words digits name_frame challenge_frame reply_frame ack_frame status_of read_message
+unfolding md5 digest_bytes hash_after compress rounds block_words digits name_frame challenge_frame
+    reply_frame ack_frame status_of read_message
 known_so = refl
 
 said_so : view_of (codes "pg") (codes "g") theirs (delivered 3 after_it.entries) ≡ Some 1
-unfolding md5 digest_bytes hash_after compress rounds block_words digits name_frame challenge_frame reply_frame ack_frame status_of read_message
+unfolding md5 digest_bytes hash_after compress rounds block_words digits name_frame challenge_frame
+    reply_frame ack_frame status_of read_message
 said_so = refl

@@ -3,6 +3,7 @@ use Rattle.std.specs.Prelude.{◌≡◌, ℕ, ◌+◌, ◌≤◌, List, [], ◌�
 use Rattle.std.specs.Option.{option_map}
 use Rattle.dist_types.specs.declared.pid.Pid.{Pid}
 use Rattle.dist_types.specs.declared.row.Row.{Row}
+use Rattle.dist_types.specs.Listing.{max_rows}
 use Rattle.link_frames.specs.declared.message.Message.{Message}
 use Rattle.link_frames.specs.declared.message.Message.TheVariants as said
 use Rattle.policy_audit.specs.declared.entry.Entry.{Entry}
@@ -15,11 +16,11 @@ use Rattle.frame_laws.specs.ToldRows.{has_rows, told_rows}
 use Rattle.frame_laws.specs.Views.{view_of}
 
 -- Bodies as a node of this name and creation sends them: the rows of each message are its own, the view behind a message that says rows
--- of s has at most 4,096, and a Leave takes away what is there.
+-- of s has no more than `max_rows`, and a Leave takes away what is there.
 pub record IsHonest (name : List ℕ) (creation : ℕ) (s : List ℕ) (bodies : List (List ℕ)) : Type 0 where
   pub own : (place : ℕ) (body : List ℕ) (m : Message) → slice_get bodies place ≡ Some body → message_taken body ≡ Some m → IsTrue (is_of name creation m)
   pub few : (place : ℕ) (body : List ℕ) → slice_get bodies place ≡ Some body → IsTrue (has_rows s body)
-      → (all : List Row) × ((g : List ℕ) (p : Pid) → view_of s g p (take (place + 1) bodies) ≡ Some (rows_of g p all)) × (length all ≤ 4096)
+      → (all : List Row) × ((g : List ℕ) (p : Pid) → view_of s g p (take (place + 1) bodies) ≡ Some (rows_of g p all)) × (length all ≤ max_rows)
   pub there : (place : ℕ) (body : List ℕ) (rows : List Row) → slice_get bodies place ≡ Some body → message_taken body ≡ Some (said.Leave s rows)
       → (g : List ℕ) (p : Pid) → (n : ℕ) × (view_of s g p (take place bodies) ≡ Some n) × (rows_of g p rows ≤ n)
 

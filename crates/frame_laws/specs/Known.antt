@@ -9,7 +9,7 @@ use Rattle.policy_audit.specs.declared.entry.Verdict.{Verdict}
 use Rattle.policy_audit.specs.declared.entry.Verdict.TheVariants.{Accepted}
 use Rattle.policy_audit.specs.declared.entry.Entry.{Entry}
 use Rattle.policy_audit.specs.Sides.{is_whole}
-use Rattle.policy_audit.specs.Hearing.{message_taken, heard, stated}
+use Rattle.policy_audit.specs.Hearing.{said_on, heard, stated}
 
 -- how often link l has stated p in g, or None where its peer isn't heard in s
 abbrev pub known : ℕ → List ℕ → List ℕ → Pid → List Entry → Option ℕ
@@ -17,5 +17,5 @@ known l s g p es = cond (heard l s es) (Some (stated l s g p es)) None
 
 -- the message that the entry after these accepts on link l, if it does
 abbrev pub message_at : ℕ → List Entry → Verdict → Event → List Message
-message_at l es (Accepted r) (event.Frame k body) = cond (k == l && is_whole l es) (option_to_list (message_taken body)) []
+message_at l es (Accepted r) (event.Frame k body) = cond (k == l && is_whole l es) (option_to_list (said_on l es body)) []
 message_at l es v e = []

@@ -2,7 +2,7 @@
 use Rattle.std.specs.Prelude.{◌≡◌, ℕ, ◌+◌, ◌≤◌, List, length, IsTrue}
 use Rattle.std.specs.List.{list_all}
 use Rattle.dist_types.specs.declared.row.Row.{Row}
-use Rattle.dist_types.specs.Listing.{same_row, occurrences}
+use Rattle.dist_types.specs.Listing.{same_row, occurrences, max_rows}
 use Rattle.link_frames.specs.declared.message.Message.{Message}
 use Rattle.link_frames.specs.declared.message.Message.TheVariants as said
 use Rattle.policy_audit.specs.History.{History}
@@ -13,11 +13,11 @@ use Rattle.policy_audit.specs.Listed.{is_from}
 abbrev pub AreFrom : History → ℕ → List Row → Type 0
 AreFrom h l rows = IsTrue (list_all (λ r. is_from l h.entries r.pid) rows)
 
--- all that link l has stated in s, with these rows, are no more than 4,096
+-- all that link l has stated in s, with these rows, are no more than a node may have
 pub record HasRoom (h : History) (l : ℕ) (s : List ℕ) (rows : List Row) : Type 0 where
   pub all : List Row
   pub counts : (r : Row) → occurrences same_row r all ≡ stated l s r.group r.pid h.entries + rows_of r.group r.pid rows
-  pub room : length all ≤ 4096
+  pub room : length all ≤ max_rows
 
 -- no row is named more often than link l has stated it
 abbrev pub AreStated : History → ℕ → List ℕ → List Row → Type 0

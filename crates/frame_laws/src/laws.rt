@@ -2,7 +2,7 @@
 ghost use Rattle.std.specs.Prelude.{◌≡◌, ℕ, ◌≤◌, ◌<◌, false, List, [], ◌++◌, ◌∷◌, Some, length, slice_get, IsTrue};
 ghost use Rattle.std.specs.List.{AllByRecursion};
 ghost use Rattle.dist_types.specs.declared.pid.Pid.{Pid};
-ghost use Rattle.dist_types.specs.Listing.{same};
+ghost use Rattle.dist_types.specs.Listing.{max_rows, same};
 ghost use Rattle.policy_audit.specs.declared.event.Event.TheVariants as events;
 ghost use Rattle.policy_audit.specs.declared.entry.Entry.{Entry};
 ghost use Rattle.policy_audit.specs.OutFrame.{OutFrame};
@@ -14,7 +14,7 @@ ghost use Rattle.policy_audit.specs.Sides.{ByPeer, ByDial, Opened, opened, is_vi
 ghost use Rattle.policy_audit.specs.Links.{is_open, is_up};
 ghost use Rattle.policy_audit.specs.Own.{is_running, own};
 ghost use Rattle.policy_audit.specs.Contents.{local_rows};
-ghost use Rattle.policy_audit.specs.Hearing.{heard, told, stated, message_taken};
+ghost use Rattle.policy_audit.specs.Hearing.{heard, told, stated, message_taken, said_on};
 ghost use Rattle.policy_audit.specs.Listed.{listed};
 ghost use Rattle.policy_audit.specs.Owed.{waiting};
 ghost use Rattle.policy_audit.specs.Policy.{IsLegal, is_full, verdict, with_entry};
@@ -48,9 +48,9 @@ pub fn said_once_up()
     ensures { (h : History) → IsLegal h → (l n : ℕ) (x : Owing) → slice_get (out h l) n ≡ Some x → IsTrue x.frame.wide → IsProvedLink (moment x.source h) l }
 {}
 
-/// A node has at most 4,096 own rows in a scope.
+/// A node has at most `MAX_ROWS` own rows in a scope.
 pub fn few_own()
-    ensures { (h : History) → IsLegal h → (s : List ℕ) → length (local_rows h s) ≤ 4096 }
+    ensures { (h : History) → IsLegal h → (s : List ℕ) → length (local_rows h s) ≤ max_rows }
 {}
 
 /// Every frame that a node owes is one of the handshake, whose body spells no message, or a message that is read as it was meant. The
@@ -90,9 +90,9 @@ pub fn who_is_heard()
 {}
 
 /// A message of a peer that is heard in its scope is accepted while the audit isn't full, if its rows are from the peer, a Leave names
-/// no row more often than the link has stated it, and with a Join no more than 4,096 are stated.
+/// no row more often than the link has stated it, and with a Join no more than `MAX_ROWS` are stated.
 pub fn heard_accepts()
-    ensures { (h : History) → IsLegal h → is_full h ≡ false → (l seat : ℕ) (body : List ℕ) (m : Message) → message_taken body ≡ Some m
+    ensures { (h : History) → IsLegal h → is_full h ≡ false → (l seat : ℕ) (body : List ℕ) (m : Message) → said_on l h.entries body ≡ Some m
         → IsTrue (heard l (scope_of m) h.entries) → MaySay h l m → IsTrue (is_accepted (verdict h seat (events.Frame l body))) }
 {}
 

@@ -1,5 +1,6 @@
 -- The test for an allowed name decides that the rules allow it.
-use Rattle.std.proofs.Common.{◌≡◌, ◌↔◌, IsTrue, ℕ, Bool, true, List, [], ◌∷◌, length, refl, ap, rules, arith}
+use Rattle.std.proofs.Common.{◌≡◌, ◌↔◌, IsTrue, ℕ, Bool, true, List, [], ◌∷◌, length, refl, ap}
+use Rattle.std.proofs.Common.{rules, arith}
 use Rattle.std.specs.Prelude.{◌==◌}
 use Rattle.std.specs.Bool.{Decides}
 use Rattle.std.proofs.lemmas.Bool.Decides.{same_from_decides, Decides-or}
@@ -10,7 +11,8 @@ use Rattle.link_states.specs.Checks.{allows}
 
 empty_decides : (names : List (List ℕ)) → Decides (length names == 0) (names ≡ [])
 empty_decides [] = (λ _. refl, λ _. refl)
-empty_decides (name ∷ names) = (search rules, λ none. absurd (omega (arith, ap (length {A = List ℕ}) none)))
+empty_decides (name ∷ names) =
+    (search rules, λ none. absurd (omega (arith, ap (length {A = List ℕ}) none)))
 
 allows_decides : (r : AdmissionRules) (name : List ℕ) → Decides (allows r name) (IsAllowed r name)
 allows_decides r name =
@@ -18,7 +20,8 @@ allows_decides r name =
     (rw (has_flipped name r.allowed) (has_decides name r.allowed))
 
 -- the answer to whether a name is allowed is the test
-pub allowed_is : (found : Bool) (r : AdmissionRules) (name : List ℕ) → IsTrue found ↔ IsAllowed r name → found ≡ allows r name
+pub allowed_is : (found : Bool) (r : AdmissionRules) (name : List ℕ)
+    → IsTrue found ↔ IsAllowed r name → found ≡ allows r name
 allowed_is found r name is = same_from_decides found (allows r name) is (allows_decides r name)
 
 -- a name that is allowed passes the test

@@ -7,7 +7,7 @@ ghost use Rattle.link_states.specs.Stopped.{IsStopped};
 
 use crate::frames::Bodies;
 use crate::peer::Peer;
-use crate::pending::Pending;
+use crate::pending::OtherLinks;
 use crate::refusal::Refusal;
 use crate::state_rule::StateRule;
 use crate::stopped::{Stopped, stop};
@@ -47,7 +47,7 @@ impl AwaitAck {
         AwaitAck { peer, challenge }
     }
 
-    /// The name that the dialler gave.
+    /// The name that was dialled.
     pub fn peer(&self) -> &NodeName
         ensures { result.now ≡ self.now.peer }
     {
@@ -55,12 +55,12 @@ impl AwaitAck {
     }
 
     /// Takes the acknowledgement, which owes no frame. The cookie is the peer's at this call.
-    pub fn take(
+    pub fn take<L: OtherLinks>(
         self,
         alloc: Global,
         body: &[u8],
         admission: &Admission,
-        _pending: &Pending,
+        _links: &L,
     ) -> Result<(Up, Bodies), Stopped<AwaitAck>>
         ensures ok { IfOk result (λ (up, frames).
             PassesAll (ack_checks admission.now self.peer self.challenge (ack_frame body.now))

@@ -8,7 +8,7 @@ ghost use Rattle.link_states.specs.Stopped.{IsBroken, IsStopped};
 use crate::await_reply::AwaitReply;
 use crate::frames::{Bodies, challenge_alone};
 use crate::peer::Peer;
-use crate::pending::Pending;
+use crate::pending::OtherLinks;
 use crate::refusal::{Refusal, unless};
 use crate::state_rule::StateRule;
 use crate::stopped::{Stopped, stop};
@@ -55,12 +55,12 @@ impl AwaitAnswer {
     }
 
     /// Takes the dialler's status.
-    pub fn take(
+    pub fn take<L: OtherLinks>(
         self,
         alloc: Global,
         body: &[u8],
         admission: &Admission,
-        _pending: &Pending,
+        _links: &L,
     ) -> Result<(AwaitReply, Bodies), Stopped<AwaitAnswer>>
         ensures ok { IfOk result (λ (next, frames). PassesAll (answer_checks (status_of body.now))
             × (next ≡ self) × (frames ≡ own_challenge admission.now self.challenge ∷ [])) }

@@ -10,7 +10,7 @@ ghost use Rattle.link_states.specs.Stopped.{IsBroken, IsStopped};
 use crate::await_ack::AwaitAck;
 use crate::frames::{Bodies, reply};
 use crate::peer::Peer;
-use crate::pending::Pending;
+use crate::pending::OtherLinks;
 use crate::refusal::{Refusal, unless};
 use crate::state_rule::StateRule;
 use crate::stopped::{Stopped, stop};
@@ -55,12 +55,12 @@ impl AwaitChallenge {
     }
 
     /// Takes the challenge frame. The cookie is the peer's at this call.
-    pub fn take(
+    pub fn take<L: OtherLinks>(
         self,
         alloc: Global,
         body: &[u8],
         admission: &Admission,
-        _pending: &Pending,
+        _links: &L,
     ) -> Result<(AwaitAck, Bodies), Stopped<AwaitChallenge>>
         ensures ok { IfOk result (λ (next, frames). PassesAll (challenge_checks self.peer (challenge_frame body.now))
             × IsSomeAnd (challenge_frame body.now) (λ peer. (next ≡ found admission.now self peer)

@@ -1,16 +1,19 @@
 //! The acceptor's first state.
-ghost use Rattle.std.specs.Prelude.{◌≡◌, IfOk, IfErr, IsSomeAnd};
+ghost use Rattle.std.specs.Prelude.{◌≡◌, ◌&&◌, not, IfOk, IfErr, IsSomeAnd};
+ghost use Rattle.std.specs.Ordering.{is_gt};
+ghost use Rattle.dist_types.specs.Order.{text_cmp};
 ghost use Rattle.handshake_frames.specs.Reading.{name_frame};
-ghost use Rattle.link_states.specs.Checks.{PassesAll, name_checks, allows, outranks};
+ghost use Rattle.link_states.specs.Checks.{PassesAll, name_checks, allows};
 ghost use Rattle.link_states.specs.Named.{named_by, welcome};
 ghost use Rattle.link_states.specs.Peer.{IsPeer};
+ghost use Rattle.link_states.specs.Pending.{is_up, is_dialled};
 ghost use Rattle.link_states.specs.Stopped.{IsBroken, IsStopped};
 
 use crate::await_answer::AwaitAnswer;
 use crate::await_reply::AwaitReply;
 use crate::frames::{Bodies, greeting};
 use crate::peer::Peer;
-use crate::pending::{Pending, has_name};
+use crate::pending::{OtherLinks, Standing};
 use crate::refusal::{Refusal, unless};
 use crate::state_rule::StateRule;
 use crate::stopped::{Stopped, stop};
@@ -58,51 +61,52 @@ impl AwaitName {
     }
 
     /// Takes the name frame.
-    pub fn take(
+    pub fn take<L: OtherLinks>(
         self,
         alloc: Global,
         body: &[u8],
         admission: &Admission,
-        pending: &Pending,
+        links: &L,
     ) -> Result<Named, Stopped<AwaitName>>
-        ensures ok { IfOk result (λ named. PassesAll (name_checks admission.now pending.now (name_frame body.now))
-            × IsSomeAnd (name_frame body.now) (λ peer. named ≡ named_by admission.now pending.now self peer)) }
+        ensures ok { IfOk result (λ named. PassesAll (name_checks admission.now (L.pending links.now) (name_frame body.now))
+            × IsSomeAnd (name_frame body.now) (λ peer. named ≡ named_by admission.now (L.pending links.now) self peer)) }
         ensures refused { IfErr result (λ stopped.
-            IsStopped stopped self (name_checks admission.now pending.now (name_frame body.now))) }
+            IsStopped stopped self (name_checks admission.now (L.pending links.now) (name_frame body.now))) }
     {
-        let peer = match peer_named(alloc, body, admission, pending) {
-            Ok(peer) => peer,
+        let (peer, standing) = match peer_named(alloc, body, admission, links) {
+            Ok(named) => named,
             Err(refusal) => return Err(stop(alloc, refusal, self)),
         };
-        let is_up = has_name(&pending.up, &peer.name);
-        let gives_up = has_name(&pending.dials, &peer.name);
-        let word = welcome(is_up, gives_up);
+        let word = welcome(standing);
         let Ok(frames) = greeting(alloc, admission, self.challenge.number(), word) else {
             return Err(Stopped::OutOfMemory(self));
         };
         let AwaitName { challenge } = self;
-        if is_up {
+        if standing.is_up {
             return Ok(Named::Alive(AwaitAnswer::new(peer, challenge), frames));
         }
         Ok(Named::Reply {
             state: AwaitReply::new(peer, challenge),
             frames,
-            gives_up,
+            gives_up: standing.is_dialled,
         })
     }
 }
 
-/// Who the name frame says that the peer is.
-fn peer_named(
+/// Who the name frame says that the peer is, and how the node stands to it.
+fn peer_named<L: OtherLinks>(
     alloc: Global,
     body: &[u8],
     admission: &Admission,
-    pending: &Pending,
-) -> Result<Peer, Refusal>
-    ensures ok { IfOk result (λ peer. PassesAll (name_checks admission.now pending.now (name_frame body.now))
-        × IsSomeAnd (name_frame body.now) (IsPeer admission.now peer)) }
+    links: &L,
+) -> Result<(Peer, Standing), Refusal>
+    ensures ok { IfOk result (λ (peer, standing).
+        PassesAll (name_checks admission.now (L.pending links.now) (name_frame body.now))
+        × IsSomeAnd (name_frame body.now) (IsPeer admission.now peer)
+        × (standing.is_up ≡ is_up (L.pending links.now) peer.name)
+        × (standing.is_dialled ≡ is_dialled (L.pending links.now) peer.name)) }
     ensures refused { IfErr result (λ refusal.
-        IsBroken refusal (name_checks admission.now pending.now (name_frame body.now))) }
+        IsBroken refusal (name_checks admission.now (L.pending links.now) (name_frame body.now))) }
 {
     let frame = decode_name(body)?;
     unless(frame.flags.handshake23(), StateRule::NoHandshake23)?;
@@ -110,11 +114,13 @@ fn peer_named(
     let name = NodeName::parse(alloc, frame.name)?;
     unless(name != *admission.own(), StateRule::OwnName)?;
     unless(allows(admission, &name), StateRule::NotAllowed)?;
+    let standing = Standing::of(links, &name);
     unless(
-        !outranks(admission, pending, &name),
+        !outranks(admission, standing, &name),
         StateRule::Simultaneous,
     )?;
-    Ok(Peer::new(admission, name, frame.flags, frame.creation))
+    let peer = Peer::new(admission, name, frame.flags, frame.creation);
+    Ok((peer, standing))
 }
 
 fn allows(admission: &Admission, name: &NodeName) -> bool
@@ -124,19 +130,19 @@ fn allows(admission: &Admission, name: &NodeName) -> bool
 }
 
 /// Whether the own dial to the peer goes on in place of the peer's.
-fn outranks(admission: &Admission, pending: &Pending, peer: &NodeName) -> bool
-    ensures { result ≡ outranks admission.now pending.now peer.now }
+fn outranks(admission: &Admission, standing: Standing, peer: &NodeName) -> bool
+    ensures { result ≡ (not standing.is_up && standing.is_dialled && is_gt (text_cmp admission.now.own peer.now)) }
 {
-    !has_name(&pending.up, peer) && has_name(&pending.dials, peer) && admission.own() > peer
+    !standing.is_up && standing.is_dialled && admission.own() > peer
 }
 
 /// The status that answers a name frame.
-fn welcome(is_up: bool, gives_up: bool) -> StatusWord
-    ensures { result ≡ welcome is_up gives_up }
+fn welcome(standing: Standing) -> StatusWord
+    ensures { result ≡ welcome standing.is_up standing.is_dialled }
 {
-    if is_up {
+    if standing.is_up {
         StatusWord::Alive
-    } else if gives_up {
+    } else if standing.is_dialled {
         StatusWord::OkSimultaneous
     } else {
         StatusWord::Ok

@@ -8,7 +8,7 @@ ghost use Rattle.link_states.specs.Stopped.{IsBroken, IsStopped};
 
 use crate::frames::{Bodies, ack};
 use crate::peer::Peer;
-use crate::pending::Pending;
+use crate::pending::OtherLinks;
 use crate::refusal::Refusal;
 use crate::stopped::{Stopped, stop};
 use crate::up::Up;
@@ -55,12 +55,12 @@ impl AwaitReply {
     }
 
     /// Takes the reply. The cookie is the peer's at this call.
-    pub fn take(
+    pub fn take<L: OtherLinks>(
         self,
         alloc: Global,
         body: &[u8],
         admission: &Admission,
-        _pending: &Pending,
+        _links: &L,
     ) -> Result<(Up, Bodies), Stopped<AwaitReply>>
         ensures ok { IfOk result (λ (up, frames).
             PassesAll (reply_checks admission.now self.peer self.challenge (reply_frame body.now))

@@ -8,7 +8,7 @@ ghost use Rattle.link_states.specs.Stopped.{IsBroken, IsStopped};
 use crate::await_challenge::AwaitChallenge;
 use crate::frames::{Bodies, name_frame, status_answer};
 use crate::handshake_body::HandshakeBody;
-use crate::pending::{Pending, has_name};
+use crate::pending::OtherLinks;
 use crate::refusal::{Refusal, unless};
 use crate::state_rule::StateRule;
 use crate::stopped::{Stopped, stop};
@@ -64,21 +64,21 @@ impl AwaitStatus {
     }
 
     /// Takes the acceptor's status.
-    pub fn take(
+    pub fn take<L: OtherLinks>(
         self,
         alloc: Global,
         body: &[u8],
         _admission: &Admission,
-        pending: &Pending,
+        links: &L,
     ) -> Result<(AwaitChallenge, Bodies), Stopped<AwaitStatus>>
         ensures ok { IfOk result (λ (next, frames).
-            PassesAll (status_checks pending.now self.peer (status_of body.now))
+            PassesAll (status_checks (L.pending links.now) self.peer (status_of body.now))
             × (next ≡ self)
             × IsSomeAnd (status_of body.now) (λ word. frames ≡ status_owed word)) }
         ensures refused { IfErr result (λ stopped.
-            IsStopped stopped self (status_checks pending.now self.peer (status_of body.now))) }
+            IsStopped stopped self (status_checks (L.pending links.now) self.peer (status_of body.now))) }
     {
-        let frames = match self.owed(alloc, body, pending) {
+        let frames = match self.owed(alloc, body, links) {
             Ok(frames) => frames,
             Err(refusal) => return Err(stop(alloc, refusal, self)),
         };
@@ -87,15 +87,15 @@ impl AwaitStatus {
     }
 
     /// The answer to a status with which the handshake goes on.
-    fn owed(&self, alloc: Global, body: &[u8], pending: &Pending) -> Result<Bodies, Refusal>
-        ensures ok { IfOk result (λ frames. PassesAll (status_checks pending.now self.now.peer (status_of body.now))
+    fn owed<L: OtherLinks>(&self, alloc: Global, body: &[u8], links: &L) -> Result<Bodies, Refusal>
+        ensures ok { IfOk result (λ frames. PassesAll (status_checks (L.pending links.now) self.now.peer (status_of body.now))
             × IsSomeAnd (status_of body.now) (λ word. frames ≡ status_owed word)) }
         ensures refused { IfErr result (λ refusal.
-            IsBroken refusal (status_checks pending.now self.now.peer (status_of body.now))) }
+            IsBroken refusal (status_checks (L.pending links.now) self.now.peer (status_of body.now))) }
     {
         let word = decode_status(body)?;
         unless(goes_on(word), StateRule::PeerSaid)?;
-        let is_up = word == StatusWord::Alive && has_name(&pending.up, &self.peer);
+        let is_up = word == StatusWord::Alive && links.is_up(&self.peer);
         unless(!is_up, StateRule::LinkUp)?;
         Ok(status_answer(alloc, word)?)
     }

@@ -152,5 +152,5 @@ fn body_of(alloc: Global, frame: &HsFrame<'_>) -> Result<HandshakeBody, OutOfMem
 {
     let mut body = Vec::new(alloc);
     encode(frame, &mut body)?;
-    Ok(HandshakeBody::of(body))
+    HandshakeBody::of(body)
 }

@@ -1,7 +1,7 @@
 //! The bytes of a frame of the handshake.
-ghost use Rattle.std.specs.Prelude.{◌≡◌, ◌<◌, ◌^◌, length};
+ghost use Rattle.std.specs.Prelude.{◌≡◌, ◌<◌, ◌^◌, length, IfOk};
 
-use dist_types::Body;
+use dist_types::{Body, OutOfMemory};
 use std::marker::Model;
 
 /// The bytes of a frame of the handshake, without the length before them, which has 2 bytes (Distribution Protocol,
@@ -30,13 +30,13 @@ impl Model for HandshakeBody {
 }
 
 impl HandshakeBody {
-    pub(crate) fn of(bytes: Vec<u8>) -> HandshakeBody
+    pub(crate) fn of(bytes: Vec<u8>) -> Result<HandshakeBody, OutOfMemory>
         requires { length bytes.items < 2 ^ 16 }
-        ensures { result ≡ bytes.items }
+        ensures { IfOk result (λ frame. frame ≡ bytes.items) }
     {
-        HandshakeBody {
-            body: Body::of(bytes),
-        }
+        Ok(HandshakeBody {
+            body: Body::of(bytes)?,
+        })
     }
 
     pub fn as_slice(&self) -> &[u8]

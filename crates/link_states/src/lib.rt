@@ -27,7 +27,7 @@ pub use await_status::AwaitStatus;
 pub use frames::Bodies;
 pub use handshake_body::HandshakeBody;
 pub use laws::ends_agree;
-pub use pending::{Names, Pending};
+pub use pending::{Names, OtherLinks, Pending};
 pub use state_rule::StateRule;
 pub use stopped::Stopped;
 pub use up::Up;

@@ -1,6 +1,7 @@
 //! The links that bear on a handshake.
 ghost use Rattle.std.specs.Prelude.{◌≡◌};
-ghost use Rattle.link_states.specs.Pending.{has_name};
+ghost use Rattle.link_states.specs.declared.pending.Pending.{Pending};
+ghost use Rattle.link_states.specs.Pending.{has_name, is_up, is_dialled};
 
 use dist_types::{Items, NodeName};
 
@@ -21,9 +22,46 @@ impl Drop for Pending {
     }
 }
 
-/// Whether the name is in the list.
-pub fn has_name(names: &Names, name: &NodeName) -> bool
-    ensures { result ≡ has_name names.now name.now }
-{
-    names.as_slice().contains(name)
+/// Who knows a node's other links: lists of names, or the links themselves.
+pub trait OtherLinks {
+    ghost pending: { Self → Pending };
+
+    /// Whether a link of the peer is up.
+    fn is_up(&self, peer: &NodeName) -> bool
+        ensures { result ≡ is_up (pending self.now) peer.now };
+
+    /// Whether an own dial to the peer is unfinished.
+    fn is_dialled(&self, peer: &NodeName) -> bool
+        ensures { result ≡ is_dialled (pending self.now) peer.now };
+}
+
+impl OtherLinks for Pending {
+    ghost pending = { λ pending. pending };
+
+    fn is_up(&self, peer: &NodeName) -> bool {
+        self.up.as_slice().contains(peer)
+    }
+
+    fn is_dialled(&self, peer: &NodeName) -> bool {
+        self.dials.as_slice().contains(peer)
+    }
+}
+
+/// How a node stands to a peer.
+#[derive(Clone, Copy, Debug)]
+pub struct Standing {
+    pub is_up: bool,
+    pub is_dialled: bool,
+}
+
+impl Standing {
+    pub fn of<L: OtherLinks>(links: &L, peer: &NodeName) -> Standing
+        ensures up { result.is_up ≡ is_up (L.pending links.now) peer.now }
+        ensures dialled { result.is_dialled ≡ is_dialled (L.pending links.now) peer.now }
+    {
+        Standing {
+            is_up: links.is_up(peer),
+            is_dialled: links.is_dialled(peer),
+        }
+    }
 }

@@ -4,9 +4,11 @@ use Rattle.node_core.proofs.Words.{option_map, same_decides, Pid, challenge_fram
 use Rattle.node_core.proofs.Words.{lie, no_change, History, is_dialling, listed, running_scopes, IsAnswered, IsLegal, IsNext, is_full, with_entry}
 use Rattle.node_core.proofs.Words.{awaits, is_last, is_name_up, Entry, Accepted, Rule, AdmissionFollows, admission_words, heard_named, rule_of}
 use Rattle.node_core.proofs.Words.{IsState, LinksFollow, facts, link_words, KeptLink, dial_beside, dialled_peer, narrow_frames, scope_words}
-use Rattle.node_core.proofs.Words.{status_owed, reply_owed, Heard, LinkState, state_checks, accepted_as, Event, Reply, length, ◌≤◌, flat_map}
-use Rattle.node_core.proofs.Words.{option_to_list, Linked, is_whole, Refused, Follows, Parts, HaveEnded, Hears, is_handshake, StatelessLink, up_peer}
-use Rattle.node_core.proofs.Words.{ScopesFollow, HaveGoneOn}
+use Rattle.node_core.proofs.Words.{status_owed, reply_owed, Heard, LinkState, state_checks}
+use Rattle.node_core.proofs.Words.{accepted_as, Event, Reply, length, ◌≤◌}
+use Rattle.node_core.proofs.Words.{Linked, is_whole, Refused, Follows, Parts, HaveEnded, Hears}
+use Rattle.node_core.proofs.Words.{is_handshake, StatelessLink}
+use Rattle.node_core.proofs.Words.{ScopesFollow, HaveGoneOn, beside}
 use Rattle.link_states.specs.Named.{named_by}
 use Rattle.link_states.specs.Pending.{is_up}
 use Rattle.policy_audit.proofs.Finished.{is_message}
@@ -18,7 +20,7 @@ use Rattle.node_core.proofs.Found.{some_is}
 use Rattle.node_core.proofs.MovedOn.{moved_follow}
 use Rattle.node_core.proofs.HeardFrames.{is_early, early_state, is_there, heard_leads, by_all}
 use Rattle.node_core.proofs.HeldLink.{IsHeld, held_state, held_moved, beside_same, held_broke}
-use Rattle.node_core.proofs.LinkTests.{ups_are, dials_are}
+use Rattle.node_core.proofs.HeldLink.{ups_beside, dials_beside}
 use Rattle.node_core.proofs.FrameRules.{early_rules}
 use Rattle.link_states.specs.Checks as state_checked
 
@@ -46,25 +48,48 @@ module _ (h : History) (seat j : ℕ) (body : List ℕ) where
       told = λ l s. (framed_heard h legal e answered refl j body refl unlike inner l s).told_is i;
     }
 
-  module _ (rules : AdmissionRules) (t : AdmissionFollows (admission_words h) rules) (pending : Pending) (ups : (n : List ℕ) → is_up pending n ≡ is_name_up n h.entries) (dials : (n : List ℕ) → is_dialled pending n ≡ is_dialling n h.entries) where
-    early_answered : is_full h ≡ false → (s : LinkState) → is_early s ≡ true → IsState (facts h j) s → state_checked.first_broken (state_checks rules pending s body) ≡ None → IsAnswered h e
-    early_answered space s early a holds = answered_now h seat (Event.Frame j body) space (Accepted Reply.Done) []
-        (accepted_now h seat (Event.Frame j body) space Reply.Done (early_rules h rules t pending seat j body ups dials s early a ∙ ap (option_map rule_of) holds) (grind (arith, a)))
+  module _ (rules : AdmissionRules) (t : AdmissionFollows (admission_words h) rules)
+      (pending : Pending)
+      (ups : (n : List ℕ) → is_up pending n ≡ is_name_up n h.entries) where
+    -- the dials as they are known to a state that is none itself
+    abbrev Dials : LinkState → Type 0
+    Dials s = dialled_peer s ≡ None → (n : List ℕ) → is_dialled pending n ≡ is_dialling n h.entries
 
-    module _ (answered : IsAnswered h e) (kept : List KeptLink) (follow : LinksFollow (link_words h) kept) (legal : IsLegal h) (beside : LinkState → Option ℕ) where
+    early_answered : is_full h ≡ false → (s : LinkState) → Dials s → is_early s ≡ true
+        → IsState (facts h j) s → state_checked.first_broken (state_checks rules pending s body)
+        ≡ None
+        → IsAnswered h e
+    early_answered space s dials early a holds =
+        answered_now h seat (Event.Frame j body) space (Accepted Reply.Done) []
+        (accepted_now h seat (Event.Frame j body) space Reply.Done
+        (early_rules h rules t pending seat j body ups s dials early a ∙ ap (option_map rule_of)
+        holds)
+        (grind (arith, a)))
+
+    module _ (answered : IsAnswered h e) (kept : List KeptLink) (follow : LinksFollow (link_words h)
+        kept)
+        (legal : IsLegal h) (beside : LinkState → Option ℕ) where
       -- the state goes on as heard
-      early_goes : (s : LinkState) → is_early s ≡ true → IsState (facts h j) s → state_checked.first_broken (state_checks rules pending s body) ≡ None
-          → (dialled_peer s ≡ None → (now : LinkState) → dial_beside now kept ≡ beside now) → (r : Heard) → accepted_as rules pending s body ≡ Some r → Goes h k j beside r
-      early_goes (LinkState.Name c) early a holds same_dial r q = by_all (Goes h k j beside) (λ f. heard_named (named_by rules pending c f)) (name_frame body) q
+      early_goes : (s : LinkState) → Dials s → is_early s ≡ true → IsState (facts h j) s
+          → state_checked.first_broken (state_checks rules pending s body) ≡ None
+          → (dialled_peer s ≡ None → (now : LinkState) → dial_beside now kept ≡ beside now)
+          → (r : Heard) → accepted_as rules pending s body ≡ Some r → Goes h k j beside r
+      early_goes (LinkState.Name c) dials early a holds same_dial r q = by_all (Goes h k j beside)
+          (λ f. heard_named (named_by rules pending c f)) (name_frame body) q
           (λ f said. subst (λ b. Goes h k j b (heard_named (named_by rules pending c f))) (λ i now. same_dial refl now i)
-          (name_goes h legal rules t e answered refl j body refl c a f said (grind (arith, holds, said, t.own)) kept follow (is_up pending f.name) (is_dialled pending f.name) (sym (ups f.name)) (sym (dials f.name))))
-      early_goes (LinkState.Answer s) early a holds same_dial r q = subst (Goes h k j beside) (some_is q) (answer_moves h rules t e answered refl j body refl s a)
-      early_goes (LinkState.Status dial) early a holds same_dial r q = by_all (Goes h k j beside) (λ w. Heard.On (LinkState.Challenge dial) (status_owed w) false) (status_of body) q
+          (name_goes h legal rules t e answered refl j body refl c a f said
+          (grind (arith, holds, said, t.own)) kept follow (is_up pending f.name)
+          (is_dialled pending f.name) (sym (ups f.name)) (sym (dials refl f.name))))
+      early_goes (LinkState.Answer s) dials early a holds same_dial r q = subst (Goes h k j beside)
+          (some_is q) (answer_moves h rules t e answered refl j body refl s a)
+      early_goes (LinkState.Status dial) dials early a holds same_dial r q = by_all
+          (Goes h k j beside) (λ w. Heard.On (LinkState.Challenge dial) (status_owed w) false)
+          (status_of body) q
           (λ w said. status_moves h rules t e answered refl j body refl dial w said a)
-      early_goes (LinkState.Challenge dial) early a holds same_dial r q =
+      early_goes (LinkState.Challenge dial) dials early a holds same_dial r q =
           by_all (Goes h k j beside) (λ f. Heard.On (LinkState.Ack (found rules dial f)) (reply_owed rules dial.peer dial.challenge f.challenge) false) (challenge_frame body) q
           (λ f asked. challenge_moves h rules t e answered refl j body refl dial f asked ((same_decides f.name dial.peer).0 (grind (arith, holds, asked))) a)
-      early_goes s early a holds same_dial r q = lie (sym early)
+      early_goes s dials early a holds same_dial r q = lie (sym early)
 
 -- ---- what an early frame of the handshake makes of a node: it goes on, or its link ends
 
@@ -76,16 +101,21 @@ module _ {h : History} {parts : Parts} (t : Follows h parts) (seat : ℕ) (body 
   pub handshakes : is_handshake s ≡ true
   handshakes = grind (arith, early)
 
-  module _ {links : List KeptLink} (these : links ≡ parts.links) (pending : Pending) (up : pending.up ≡ flat_map (λ x. option_to_list (up_peer x.state)) links)
-      (dials : pending.dials ≡ flat_map (λ x. option_to_list (dialled_peer x.state)) links) where
-    pub early_never_up : (up_now : Linked) (frames : List (List ℕ)) → Hears parts.admission pending s body (Heard.Up up_now frames) → ⊥
-    early_never_up up_now frames hears = lie (sym (heard_leads parts.admission pending body s (Heard.Up up_now frames) hears.1) ∙ (grind (arith, early)))
+  module _ {links : List KeptLink} (these : links ≡ left) where
+    abbrev pending : Pending
+    pending = beside links
+
+    pub early_never_up : (up_now : Linked) (frames : List (List ℕ))
+        → Hears parts.admission pending s body (Heard.Up up_now frames) → ⊥
+    early_never_up up_now frames hears =
+        lie (sym (heard_leads parts.admission pending body s (Heard.Up up_now frames) hears.1)
+        ∙ (grind (arith, early)))
 
     ups_so : (n : List ℕ) → is_up pending n ≡ is_name_up n h.entries
-    ups_so n = ups_are h t.sound.legal parts.links t.links n pending (up ∙ ap (flat_map (λ (x : KeptLink). option_to_list (up_peer x.state))) these)
+    ups_so n = ap (λ xs. is_up (beside xs) n) these ∙ ups_beside t held (grind (arith, early)) n
 
-    dials_so : (n : List ℕ) → is_dialled pending n ≡ is_dialling n h.entries
-    dials_so n = dials_are h t.sound.legal parts.links t.links n pending (dials ∙ ap (flat_map (λ (x : KeptLink). option_to_list (dialled_peer x.state))) these)
+    dials_so : dialled_peer s ≡ None → (n : List ℕ) → is_dialled pending n ≡ is_dialling n h.entries
+    dials_so none n = ap (λ xs. is_dialled (beside xs) n) these ∙ dials_beside t held none n
 
     module _ (now : LinkState) (frames : List (List ℕ)) (gives_up : Bool) (hears : Hears parts.admission pending s body (Heard.On now frames gives_up)) where
       pub early_few : length frames ≤ 2
@@ -96,9 +126,12 @@ module _ {h : History} {parts : Parts} (t : Follows h parts) (seat : ℕ) (body 
       early_went_on new on =
           let there = is_there h parts t j p held.at v in
           let unlike : is_message (awaits j h.entries) ≡ false = grind (arith, early, held_state t held) in
-          let answered = early_answered h seat j body parts.admission t.admission pending ups_so dials_so held.space s early (held_state t held) hears.0 in
+          let answered = early_answered h seat j body parts.admission t.admission pending ups_so
+          held.space s dials_so early (held_state t held) hears.0 in
           let entered = early_next h seat j body answered t.sound.legal inner unlike in
-          let moves = early_goes h seat j body parts.admission t.admission pending ups_so dials_so answered parts.links t.links t.sound.legal (λ state. dial_beside state left) s early (held_state t held) hears.0
+          let moves = early_goes h seat j body parts.admission t.admission pending ups_so answered
+          parts.links t.links t.sound.legal (λ state. dial_beside state left) s dials_so early
+          (held_state t held) hears.0
           (λ none state. sym (beside_same t held none state)) (Heard.On now frames gives_up) hears.1 in (
             entered,
             step_follows t entered refl t.admission t.processes
@@ -110,4 +143,6 @@ module _ {h : History} {parts : Parts} (t : Follows h parts) (seat : ℕ) (body 
     module _ (r : Rule) (frames : List (List ℕ)) (hears : Hears parts.admission pending s body (Heard.Ended r frames)) where
       pub early_broke : (new : List KeptLink) → HaveEnded p link frames left new
           → IsNext h (made h seat (Event.Frame j body) (Refused r) []) × Follows (with_entry h (made h seat (Event.Frame j body) (Refused r) [])) (record parts { links = new })
-      early_broke new ends = held_broke t held seat body unwhole parts.admission pending (early_rules h parts.admission t.admission pending seat j body ups_so dials_so s early (held_state t held)) r frames hears new ends
+      early_broke new ends = held_broke t held seat body unwhole parts.admission pending
+          (early_rules h parts.admission t.admission pending seat j body ups_so s dials_so early
+          (held_state t held)) r frames hears new ends

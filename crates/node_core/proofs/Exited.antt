@@ -1,15 +1,15 @@
 -- A process that ends.
 use Rattle.node_core.proofs.Words.{List, None, Some, ap, arith, cond, false, length, nat_eq, not, refl, sym, true, ℕ, [], ◌++◌, ◌+◌, ◌==◌, ◌∙◌, ◌∷◌, ◌≡◌}
 use Rattle.node_core.proofs.Words.{AllByRecursion, AllZip, filter, flat_map, same_decides, same, same_pid, Pid, count_after_exit, Table, stopped_lists}
-use Rattle.node_core.proofs.Words.{told_numbers, and_left, IsChange, local_rows, heard, told, History, creation, listed, OutFrame, waiting, wide, is_local}
+use Rattle.node_core.proofs.Words.{told_numbers, IsChange, local_rows, heard, told, History, creation, listed, OutFrame, waiting, wide, is_local}
 use Rattle.node_core.proofs.Words.{IsAnswered, IsNext, is_full, with_entry, Change, Entry, Accepted, Rule, Follows, Parts, all_frames, exit_frames, link_words}
 use Rattle.node_core.proofs.Words.{KeptLink, IsParting, rows_left, Spawned, IsRunningOf, is_number, scope_words, if_told, lives_of, exited_links, Running}
 use Rattle.node_core.proofs.Words.{AreExitsTold, count_but, HasParted, Message, Event, Reply, append-nil, append_assoc, ArePrepared, AreExits, IsDifference}
-use Rattle.node_core.proofs.Words.{GroupChange, is_empty, count_of, subst}
+use Rattle.node_core.proofs.Words.{and_parts, GroupChange, is_empty, count_of, subst}
 use Rattle.scope_core.proofs.Rising.{all_map}
 use Rattle.policy_audit.proofs.LivesNow.{exits_more, lives_exited, spawned_exited}
 use Rattle.policy_audit.proofs.RowsAfter.{exited_rows}
-use Rattle.node_core.specs.declared.changes.Part.{Part}
+use Rattle.node_core.specs.declared.changes.Leaving.{Leaving}
 use Rattle.node_core.proofs.Entered.{step_follows, made, accepted_next, answered_by}
 use Rattle.node_core.proofs.Moved.{told_frames}
 use Rattle.node_core.proofs.Partings.{one_parting, partings_change}
@@ -41,7 +41,7 @@ exits_on p rs r old mid new cs ds gs t d prepared more =
 
 module _ (h : History) (seat : ℕ) (parts : Parts) (t : Follows h parts) (p : Pid) (local : is_local h p ≡ true) where
   own_node : p.node ≡ h.opening.name
-  own_node = (same_decides p.node h.opening.name).0 (and_left (same p.node h.opening.name) (p.creation == creation h) local)
+  own_node = (same_decides p.node h.opening.name).0 (and_parts (same p.node h.opening.name) (p.creation == creation h) local).0
 
   -- the scopes are of the node of the process
   pub exit_own : AllByRecursion (λ r. r.table.own ≡ p.node) parts.scopes
@@ -79,7 +79,8 @@ module _ (h : History) (seat : ℕ) (parts : Parts) (t : Follows h parts) (p : P
           parts.scopes t.scopes (λ s none g x. now_listed s g x ∙ ap (cond (same_pid x p) 0) (stopped_lists h s g x none) ∙ (grind arith)) cs
           (record { all = told_so.all; each = told_so.each; some = told_so.some })
 
-      module _ (away : Part) (is : (x : Table) (f : List ℕ) (q : Pid) → count_but away x f q ≡ count_after_exit x p f q) where
+      module _ (away : Leaving) (is : (x : Table) (f : List ℕ) (q : Pid) → count_but away x f q
+          ≡ count_after_exit x p f q) where
         parted : (r new : Running) → HasParted away r new → IsRunningOf (scope_words h) r → IsRunningOf (scope_words exited) new
         parted r new z a = record {
           own = z.rows.own ∙ a.own;
@@ -88,7 +89,9 @@ module _ (h : History) (seat : ℕ) (parts : Parts) (t : Follows h parts) (p : P
           told = λ l. ap (is_number l) z.told ∙ a.told l ∙ ap (λ s. told l s h.entries) (sym z.scope);
         }
 
-    pub exit_now : is_full h ≡ false → is_number p.number parts.processes.live ≡ true → (away : Part) → ((x : Table) (f : List ℕ) (q : Pid) → count_but away x f q ≡ count_after_exit x p f q)
+    pub exit_now : is_full h ≡ false → is_number p.number parts.processes.live ≡ true
+        → (away : Leaving) → ((x : Table) (f : List ℕ) (q : Pid) → count_but away x f q
+        ≡ count_after_exit x p f q)
         → (new : List Running) → AllZip (HasParted away) parts.scopes new → (q : Spawned) → q.spawned ≡ parts.processes.spawned
         → ((n : ℕ) → is_number n q.live ≡ cond (nat_eq p.number n) false (is_number n parts.processes.live)) → length q.live + 1 ≡ length parts.processes.live
         → IsNext h exit_entry × Follows exited (record parts { scopes = new; links = links; processes = q })

@@ -37,6 +37,11 @@ module _ {A : Type 0} (test : A → Bool) where
   some_found [] x q = no_value (sym q)
   some_found (y ∷ ys) x q = grind (arith, some_found ys x)
 
+  -- one passes where one is found
+  pub any_found : (xs : List A) → list_any test xs ≡ is_some (find test xs)
+  any_found [] = refl
+  any_found (y ∷ ys) = grind (arith, any_found ys)
+
 -- a test of a value of the elements
 pub any_map : {A B : Type 0} (test : B → Bool) (f : A → B) (xs : List A) → list_any test (map f xs) ≡ list_any (λ x. test (f x)) xs
 any_map test f [] = refl

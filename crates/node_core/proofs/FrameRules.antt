@@ -8,7 +8,7 @@ use Rattle.node_core.proofs.Words.{waiting, IsAnswered, with_entry, awaits, chal
 use Rattle.node_core.proofs.Words.{given, Awaited, entry_link, IsOnward, framed_numbers, Awaits, IsPeer, Event, get_or, length, set, subst, ◌<◌}
 use Rattle.node_core.proofs.Words.{eqb-true, is_empty, no_change, flip, checks, refusal_owes, running_scopes, IsNext, is_full, is_whole, Refused}
 use Rattle.node_core.proofs.Words.{Follows, Parts, moved_on, without_link, LinksFollow, link_words, KeptLink, narrow_frames, ScopesFollow}
-use Rattle.node_core.proofs.Words.{scope_words, refusal_frames, entry_rows, and-true}
+use Rattle.node_core.proofs.Words.{scope_words, refusal_frames, entry_rows, and-true, dialled_peer}
 use Rattle.cookie_digest.specs.Digest.{digest_of}
 use Rattle.link_states.specs.Pending.{is_up}
 use Rattle.node_core.proofs.Cookies.{cookie_is}
@@ -44,13 +44,18 @@ module _ (h : History) (rules : AdmissionRules) (t : AdmissionFollows (admission
 
   module _ (pending : Pending) (seat j : ℕ) (body : List ℕ) where
     -- a frame that isn't the last breaks the same rules
-    pub early_rules : ((n : List ℕ) → is_up pending n ≡ is_name_up n h.entries) → ((n : List ℕ) → is_dialled pending n ≡ is_dialling n h.entries) → (s : LinkState) → is_early s ≡ true → IsState (facts h j) s
-        → first_broken (checks h seat (Event.Frame j body)) ≡ option_map rule_of (state.first_broken (state_checks rules pending s body))
-    early_rules ups dials (LinkState.Name c) q a = (λ i. first_broken (cond (a.0.open_now i) (frame_checks h j body (a.0.awaited i)) (always Rule.NoSuchLink))) ∙ name_rules pending ups dials (name_frame body)
-    early_rules ups dials (LinkState.Answer s) q a = grind (arith, a)
-    early_rules ups dials (LinkState.Status dial) q a = grind (arith, a, ups dial.peer)
-    early_rules ups dials (LinkState.Challenge dial) q a = grind (arith, a, same_sym dial.peer)
-    early_rules ups dials s q a = lie (sym q)
+    pub early_rules : ((n : List ℕ) → is_up pending n ≡ is_name_up n h.entries) → (s : LinkState)
+        → (dialled_peer s ≡ None → (n : List ℕ) → is_dialled pending n ≡ is_dialling n h.entries)
+        → is_early s ≡ true → IsState (facts h j) s
+        → first_broken (checks h seat (Event.Frame j body))
+        ≡ option_map rule_of (state.first_broken (state_checks rules pending s body))
+    early_rules ups (LinkState.Name c) dials q a =
+        (λ i. first_broken (cond (a.0.open_now i) (frame_checks h j body (a.0.awaited i))
+        (always Rule.NoSuchLink))) ∙ name_rules pending ups (dials refl) (name_frame body)
+    early_rules ups (LinkState.Answer s) dials q a = grind (arith, a)
+    early_rules ups (LinkState.Status dial) dials q a = grind (arith, a, ups dial.peer)
+    early_rules ups (LinkState.Challenge dial) dials q a = grind (arith, a, same_sym dial.peer)
+    early_rules ups s dials q a = lie (sym q)
 
     -- so does the last
     pub last_rules : (s : LinkState) → is_last_state s ≡ true → IsState (facts h j) s → first_broken (checks h seat (Event.Frame j body)) ≡ option_map rule_of (state.first_broken (state_checks rules pending s body))

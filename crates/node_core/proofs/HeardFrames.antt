@@ -2,6 +2,7 @@
 use Rattle.node_core.proofs.Words.{nat_le, List, Some, false, get_or, nat_eq, position, refl, subst, sym, true, ℕ, ◌&&◌, ◌≡◌, History, is_last}
 use Rattle.node_core.proofs.Words.{IsState, LinkFacts, facts, link_words, KeptLink, LinkState, Bool, None, Option, arith, length, ◌<◌, option_map}
 use Rattle.node_core.proofs.Words.{AdmissionRules, Pending, no_value, Follows, Parts, IsLinkOf, Heard, accepted_as}
+use Rattle.node_core.proofs.Words.{link_place}
 use Rattle.node_core.proofs.KeptOn.{each_at, place_is}
 use Rattle.node_core.proofs.Found.{some_is}
 
@@ -36,7 +37,8 @@ module _ (f : LinkFacts) (s : LinkState) (a : IsState f s) where
   last_state opens last = grind (arith, a)
 
 -- the link at the place of a number
-module _ (h : History) (parts : Parts) (t : Follows h parts) (j p : ℕ) (at : position (λ x. nat_eq x.number j) parts.links ≡ Some p) (d : KeptLink) where
+module _ (h : History) (parts : Parts) (t : Follows h parts) (j p : ℕ)
+    (at : link_place j parts.links ≡ Some p) (d : KeptLink) where
   pub is_there : (p < length parts.links) × ((get_or parts.links p d).number ≡ j)
   is_there = place_is parts.links j p d at
 

@@ -6,7 +6,12 @@ use Rattle.node_core.proofs.Words.{◌≡◌, ◌≤◌, ◌++◌, get_or-set_sa
 use Rattle.node_core.proofs.Words.{IsState, facts, KeptLink, StatelessLink, in_state, with_room, LinkState, IsReady, HaveMoved, OutFrame, moved_on}
 use Rattle.node_core.proofs.Words.{without_link, waiting, Climbs, eq-eqb, eqb-true, filter, list_all, ltb-true, map, nat_lt, not, narrow_frames}
 use Rattle.node_core.proofs.Words.{HaveEnded, dial_beside, dialled_peer, up_peer, older_of}
+use Rattle.node_core.proofs.Words.{beside, is_dialled, is_dialling, is_name_up, is_some, list_any}
+use Rattle.node_core.proofs.Words.{link_place, without_number}
 use Rattle.std.specs.List.{insert, remove}
+use Rattle.link_states.specs.Pending.{is_up}
+use Rattle.node_core.proofs.Found.{any_found}
+use Rattle.node_core.proofs.LinkTests.{ups_are, dials_are}
 use Rattle.node_core.proofs.HeardFrames.{is_there, link_there, state_there}
 use Rattle.node_core.proofs.KeptOn.{below, filter_set}
 use Rattle.node_core.proofs.FrameRules.{refused_next, refused_follows, owes_alike}
@@ -32,7 +37,8 @@ found_beside test (x ∷ xs) zero d less q = ap (λ b. cond b (Some x) (find tes
 found_beside test (x ∷ xs) (suc p) d less q = ap (cond (test x) (Some x)) (found_beside test xs p d (omega (arith, less)) q)
 
 -- of links whose numbers climb, each but the one at a place has another number
-above_stay : (n : ℕ) (xs : List KeptLink) → list_all (λ m. nat_lt n m) (map (λ x. x.number) xs) ≡ true → filter (λ x. not (nat_eq x.number n)) xs ≡ xs
+above_stay : (n : ℕ) (xs : List KeptLink) → list_all (λ m. nat_lt n m) (map (λ x. x.number) xs)
+    ≡ true → without_number n xs ≡ xs
 above_stay n [] l = refl
 above_stay n (x ∷ xs) l = grind (arith, ltb-true n x.number, above_stay n xs)
 
@@ -51,7 +57,7 @@ others_stay (x ∷ xs) (suc p) d c less =
 pub record IsHeld (h : History) (kept : List KeptLink) (j p : ℕ) (v w out : KeptLink) (s : LinkState) (link : StatelessLink) (left : List KeptLink) : Type 0 where
   pub space : is_full h ≡ false
   pub opens : is_open j h.entries ≡ true
-  pub at : position (λ x. nat_eq x.number j) kept ≡ Some p
+  pub at : link_place j kept ≡ Some p
   pub first : v ≡ get_or kept p v
   pub roomy : w ≡ with_room v w.room
   pub taken : out ≡ get_or (set kept p w) p out
@@ -64,7 +70,9 @@ alike_there (x ∷ xs) zero d w q = ap (λ y. y ∷ map unroomed xs) q
 alike_there (x ∷ xs) (suc p) d w q = ap (λ ys. unroomed x ∷ ys) (alike_there xs p d w q)
 
 -- more room alone changes nothing
-pub room_follows : {h : History} {parts : Parts} → Follows h parts → (j : ℕ) {p : ℕ} {v w : KeptLink} → position (λ x. nat_eq x.number j) parts.links ≡ Some p → v ≡ get_or parts.links p v → w ≡ with_room v w.room
+pub room_follows : {h : History} {parts : Parts} → Follows h parts
+    → (j : ℕ) {p : ℕ} {v w : KeptLink} → link_place j parts.links ≡ Some p → v
+    ≡ get_or parts.links p v → w ≡ with_room v w.room
     → Follows h (record parts { links = set parts.links p w })
 room_follows {h} {parts} t j {p} {v} {w} at is roomy = alike_again h parts t (set parts.links p w) (alike_there parts.links p v w (ap unroomed (roomy ∙ ap (λ (x : KeptLink). with_room x w.room) is)))
 
@@ -143,14 +151,40 @@ module _ {h : History} {parts : Parts} (t : Follows h parts) {j p : ℕ} {v w ou
       (room_follows t j held.at held.first held.roomy)
 
   -- other links are found as before
-  beside : (test : KeptLink → Bool) → test (get_or parts.links p v) ≡ false → find test left ≡ find test parts.links
-  beside test not_it = ap (find test) (held.others ∙ changed_before parts.links p w) ∙ found_beside test parts.links p v here not_it
+  others_found : (test : KeptLink → Bool) → test (get_or parts.links p v) ≡ false → find test left
+      ≡ find test parts.links
+  others_found test not_it = ap (find test) (held.others ∙ changed_before parts.links p w)
+      ∙ found_beside test parts.links p v here not_it
 
   pub beside_same : dialled_peer s ≡ None → (state : LinkState) → dial_beside state left ≡ dial_beside state parts.links
   beside_same none (LinkState.Reply r) = ap (option_map (λ (x : KeptLink). x.number))
-      (beside (λ x. option_map_or (λ n. same n r.peer) (dialled_peer x.state) false) (ap (λ o. option_map_or (λ n. same n r.peer) o false) (ap dialled_peer (sym held_is) ∙ none)))
+      (others_found (λ x. option_map_or (λ n. same n r.peer) (dialled_peer x.state) false)
+      (ap (λ o. option_map_or (λ n. same n r.peer) o false)
+      (ap dialled_peer (sym held_is) ∙ none)))
   beside_same none state = refl
 
   pub older_same : up_peer s ≡ None → (n : List ℕ) → older_of n left ≡ older_of n parts.links
   older_same none n = ap (option_map (λ (x : KeptLink). x.number))
-      (beside (λ x. option_map_or (λ m. same m n) (up_peer x.state) false) (ap (λ o. option_map_or (λ m. same m n) o false) (ap up_peer (sym held_is) ∙ none)))
+      (others_found (λ x. option_map_or (λ m. same m n) (up_peer x.state) false)
+      (ap (λ o. option_map_or (λ m. same m n) o false) (ap up_peer (sym held_is) ∙ none)))
+
+  -- and as many of them pass a test of their states that it fails itself
+  others_pass : (f : LinkState → Option (List ℕ)) → f s ≡ None → (n : List ℕ)
+      → list_any (λ x. option_map_or (λ m. same m n) (f x.state) false) left
+      ≡ list_any (λ x. option_map_or (λ m. same m n) (f x.state) false) parts.links
+  others_pass f none n =
+      let test : KeptLink → Bool = λ x. option_map_or (λ m. same m n) (f x.state) false in
+      any_found test left
+      ∙ ap is_some (others_found test (ap (λ o. option_map_or (λ m. same m n) o false)
+      (ap f (sym held_is) ∙ none)))
+      ∙ sym (any_found test parts.links)
+
+  pub ups_beside : up_peer s ≡ None → (n : List ℕ)
+      → is_up (beside left) n ≡ is_name_up n h.entries
+  ups_beside none n = ups_are h t.sound.legal parts.links t.links n left
+      (others_pass up_peer none n)
+
+  pub dials_beside : dialled_peer s ≡ None → (n : List ℕ)
+      → is_dialled (beside left) n ≡ is_dialling n h.entries
+  dials_beside none n =
+      dials_are h t.sound.legal parts.links t.links n left (others_pass dialled_peer none n)

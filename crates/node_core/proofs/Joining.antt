@@ -8,6 +8,7 @@ use Rattle.node_core.proofs.Words.{scope_words, if_among, said_to, max_rows, cou
 use Rattle.node_core.proofs.Words.{own_checks, Event, Reply, Keeps, Kept, nat_lt, subst, ◌-◌, list_any, count_of, local_count, min, count_after_leave}
 use Rattle.node_core.proofs.Words.{is_any_joined, own, left_links, IsLeaveRefusal, AdmissionFollows, admission_words, running_scopes, heard, told, facts}
 use Rattle.node_core.proofs.Words.{kept_numbers, if_told, Row, answer, is_said, is_empty}
+use Rattle.node_core.proofs.Words.{scope_place}
 use Rattle.group_monitors.specs.Follows.{concerns_monitors}
 use Rattle.std.proofs.lemmas.List.Folds.{list_all_at}
 use Rattle.policy_audit.proofs.RowsAfter.{joined_rows, left_rows}
@@ -33,7 +34,9 @@ own_nodes h n is ps local k d l = grind (arith, is, list_all_at (is_local h) ps 
 
 -- ---- rows of a scope that an event moves
 
-module _ {h : History} (seat : ℕ) {parts : Parts} (t : Follows h parts) (s : List ℕ) {p : ℕ} (here : position (λ r. same r.scope s) parts.scopes ≡ Some p) {a : Running} (at : a ≡ get_or parts.scopes p a) where
+module _ {h : History} (seat : ℕ) {parts : Parts} (t : Follows h parts) (s : List ℕ) {p : ℕ}
+    (here : scope_place s parts.scopes ≡ Some p)
+    {a : Running} (at : a ≡ get_or parts.scopes p a) where
   abbrev there : IsRunningOf (scope_words h) a
   there = (scope_here t s here at).running
 
@@ -82,18 +85,20 @@ module _ (h : History) (seat : ℕ) (s g : List ℕ) (ps : List Pid) where
   -- the first rule that processes break by themselves
   pub join_own : is_running h s ≡ true → (r : Rule) → first_broken (own_checks h ps) ≡ Some r → first_broken (checks h seat (Event.Join s g ps)) ≡ Some r
   join_own runs r q =
-      ap (λ b. join_broken b (list_all (is_local h) ps) (list_all (lives h) ps) (nat_le (length (local_rows h s) + length ps) 4096)) runs
+      ap (λ b. join_broken b (list_all (is_local h) ps) (list_all (lives h) ps) (nat_le (length (local_rows h s) + length ps) max_rows)) runs
       ∙ grind (arith, leb-true, le-leb, lt-leb)
 
   -- where they break none, there is room for them or not
-  join_left : is_running h s ≡ true → first_broken (own_checks h ps) ≡ None → first_broken (checks h seat (Event.Join s g ps)) ≡ cond (nat_le (length (local_rows h s) + length ps) 4096) None (Some Rule.RowsFull)
+  join_left : is_running h s ≡ true → first_broken (own_checks h ps) ≡ None → first_broken (checks h seat (Event.Join s g ps)) ≡ cond (nat_le (length (local_rows h s) + length ps) max_rows) None (Some Rule.RowsFull)
   join_left runs q =
-      ap (λ b. join_broken b (list_all (is_local h) ps) (list_all (lives h) ps) (nat_le (length (local_rows h s) + length ps) 4096)) runs
+      ap (λ b. join_broken b (list_all (is_local h) ps) (list_all (lives h) ps) (nat_le (length (local_rows h s) + length ps) max_rows)) runs
       ∙ grind arith
 
 -- ---- a Join
 
-module _ {h : History} (seat : ℕ) {parts : Parts} (t : Follows h parts) (s g : List ℕ) (ps : List Pid) {p : ℕ} (here : position (λ r. same r.scope s) parts.scopes ≡ Some p) {a : Running} (at : a ≡ get_or parts.scopes p a) where
+module _ {h : History} (seat : ℕ) {parts : Parts} (t : Follows h parts) (s g : List ℕ)
+    (ps : List Pid) {p : ℕ} (here : scope_place s parts.scopes ≡ Some p)
+    {a : Running} (at : a ≡ get_or parts.scopes p a) where
   own_total : length (local_rows h s) ≡ local_total a.table
   own_total = rows_total h s a (its_scope seat t s here at) (there seat t s here at) t.sound.legal
 
@@ -102,7 +107,7 @@ module _ {h : History} (seat : ℕ) {parts : Parts} (t : Follows h parts) (s g :
 
   -- what the table refuses is the first rule that is broken
   pub join_calm : first_broken (own_checks h ps) ≡ None → (f : CoreFault) → IsJoinRefusal a.table ps f → IsCalmFault h seat (Event.Join s g ps) f
-  join_calm q (CoreFault.Refused r) over = (join_left h seat s g ps (runs_here t s p here) q ∙ rw (lt-leb (length (local_rows h s) + length ps) 4096 (let is = own_total in let many = over.1 in omega (arith, is, many))) (ap Some (sym over.0)), refl)
+  join_calm q (CoreFault.Refused r) over = (join_left h seat s g ps (runs_here t s p here) q ∙ rw (lt-leb (length (local_rows h s) + length ps) max_rows (let is = own_total in let many = over.1 in omega (arith, is, many))) (ap Some (sym over.0)), refl)
   join_calm q CoreFault.OutOfMemory over = tt
 
   pub joined : (b : Running) (links : List KeptLink) (cs : List Change) → IsMoved (Message.Join a.scope (map (row g) (listing pid_cmp (λ q. mentions q ps) ps))) (count_after_join a.table g ps) a b parts.links links cs
@@ -111,7 +116,7 @@ module _ {h : History} (seat : ℕ) {parts : Parts} (t : Follows h parts) (s g :
   joined b links cs moved space q few =
       let e = made h seat (Event.Join s g ps) (Accepted Reply.Done) cs in
       moves_now seat t s here at (Event.Join s g ps) Message.Join (map (row g) (listing pid_cmp (λ q. mentions q ps) ps)) (λ n f q. n + cond (same f g) (mentions q ps) 0) b links cs moved
-      (λ its. joined_rows h e its refl s g ps refl) space (join_left h seat s g ps (runs_here t s p here) q ∙ rw (le-leb (length (local_rows h s) + length ps) 4096 (let is = own_total in omega (arith, is, few)))) refl refl refl (refl, refl, refl) (λ l u. refl) (λ l u. refl) (λ l. refl)
+      (λ its. joined_rows h e its refl s g ps refl) space (join_left h seat s g ps (runs_here t s p here) q ∙ rw (le-leb (length (local_rows h s) + length ps) max_rows (let is = own_total in omega (arith, is, few)))) refl refl refl (refl, refl, refl) (λ l u. refl) (λ l u. refl) (λ l. refl)
       (λ its. told_numbers h e its refl refl (λ l. (joined_links h e its refl s g ps refl l).kept_is)) (λ l. refl)
 
 -- ---- a Leave
@@ -123,7 +128,8 @@ module _ {h : History} (seat : ℕ) {parts : Parts} (t : Follows h parts) (s g :
   pub leave_foreign : is_running h s ≡ true → list_all (is_local h) ps ≡ false → first_broken (checks h seat (Event.Leave s g ps)) ≡ Some Rule.NotLocal
   leave_foreign runs q = λ i. leave_broken (runs i) (q i) (list_any (λ x. nat_lt 0 (own h s g x)) ps)
 
-  module _ {p : ℕ} (here : position (λ r. same r.scope s) parts.scopes ≡ Some p) {a : Running} (at : a ≡ get_or parts.scopes p a) where
+  module _ {p : ℕ} (here : scope_place s parts.scopes ≡ Some p) {a : Running} (at : a
+      ≡ get_or parts.scopes p a) where
     abbrev counts : local_count a.table ≡ own h s
     counts = own_counts h s a (its_scope seat t s here at) (there seat t s here at) t.sound.legal
 

@@ -7,6 +7,7 @@ use Rattle.std.proofs.Math.Seq.{map-set_same}
 use Rattle.std.proofs.lemmas.List.Folds.{list_all-map, list_all_at}
 use Rattle.std.proofs.lemmas.List.Elements.{All-from_recursion}
 use Rattle.node_core.proofs.Found.{any_map, place_found}
+use Rattle.node_core.proofs.Words.{link_place}
 
 -- what is said of a link is the same, where its words are
 pub facts_same : (h k : History) → k.opening ≡ h.opening → (l : ℕ) → IsSameLink l h.entries k.entries → is_open l k.entries ≡ is_open l h.entries → facts k l ≡ facts h l
@@ -48,7 +49,8 @@ module _ (w v : LinkWords) (f : KeptLink → KeptLink) (stays : ℕ → Bool) (s
 -- ---- one link at a place
 
 -- the place of a number is within the list, and the link there has that number
-pub place_is : (kept : List KeptLink) (j p : ℕ) (d : KeptLink) → position (λ x. nat_eq x.number j) kept ≡ Some p → (p < length kept) × ((get_or kept p d).number ≡ j)
+pub place_is : (kept : List KeptLink) (j p : ℕ) (d : KeptLink) → link_place j kept ≡ Some p
+    → (p < length kept) × ((get_or kept p d).number ≡ j)
 place_is kept j p d q = let is = position-Some (λ x. nat_eq x.number j) kept p d q in (is.0, eqb-true (get_or kept p d).number j is.1)
 
 -- what holds of each holds of the one at a place
@@ -103,12 +105,13 @@ module _ (h : History) (legal : IsLegal h) (kept : List KeptLink) (t : LinksFoll
       ∙ sym (any_map (λ n. nat_eq n l) (λ x. x.number) kept)
       ∙ ap (list_any (λ n. nat_eq n l)) t.numbers ∙ sym (kept_among h legal l)
 
-  pub not_kept : position (λ x. nat_eq x.number l) kept ≡ None → is_kept h l ≡ false
+  pub not_kept : link_place l kept ≡ None → is_kept h l ≡ false
   not_kept none = sym kept_by_place ∙ ap is_some none
 
-  pub is_kept_at : (p : ℕ) → position (λ x. nat_eq x.number l) kept ≡ Some p → is_kept h l ≡ true
+  pub is_kept_at : (p : ℕ) → link_place l kept ≡ Some p → is_kept h l ≡ true
   is_kept_at p found = sym kept_by_place ∙ ap is_some found
 
   -- the link at its place
-  pub link_at : (p : ℕ) (d : KeptLink) → position (λ x. nat_eq x.number l) kept ≡ Some p → IsLinkOf (link_words h) (get_or kept p d) × ((get_or kept p d).number ≡ l) × (p < length kept)
+  pub link_at : (p : ℕ) (d : KeptLink) → link_place l kept ≡ Some p → IsLinkOf (link_words h)
+      (get_or kept p d) × ((get_or kept p d).number ≡ l) × (p < length kept)
   link_at p d found = let is = place_is kept l p d found in (each_at (IsLinkOf (link_words h)) kept p d t.each is.0, is.1, is.0)

@@ -6,6 +6,7 @@ use Rattle.node_core.proofs.Words.{is_handshake, KeptLink, StatelessLink, known_
 use Rattle.node_core.proofs.Words.{HaveComeUp, Message, Event, Heard, cond, false, ◌++◌, ◌<◌, ◌∷◌, same, Pid, stopped_lists, heard, told, listed}
 use Rattle.node_core.proofs.Words.{discovers, IsAnswered, is_full, present_link, Entry, moved_on, without_link, LinksFollow, link_words, scope_words}
 use Rattle.node_core.proofs.Words.{IsState, facts, get_or-set_same, is_open, nat_eq, position, with_room}
+use Rattle.node_core.proofs.Words.{link_place}
 use Rattle.node_core.proofs.Entered.{made, step_follows, accepted_now, answered_now, next_now}
 use Rattle.node_core.proofs.Found.{some_is}
 use Rattle.node_core.proofs.HeardFrames.{is_there, last_state, state_there, heard_leads, last_facts, is_last_state}
@@ -75,7 +76,9 @@ module _ (h : History) (seat j : ℕ) (body : List ℕ) (up : Linked) (frames : 
             (came_up_moves h t.sound.legal j body up frames c e up_answered refl refl) parts.links t.links p d less there room))
 
 -- the peer of a link that awaits the last frame is known, seen while it stands at its place with more room
-pub last_has_peer : {h : History} {parts : Parts} → Follows h parts → (j : ℕ) {p : ℕ} {v w x : KeptLink} → position (λ z. nat_eq z.number j) parts.links ≡ Some p → v ≡ get_or parts.links p v → w ≡ with_room v w.room
+pub last_has_peer : {h : History} {parts : Parts} → Follows h parts
+    → (j : ℕ) {p : ℕ} {v w x : KeptLink} → link_place j parts.links ≡ Some p → v
+    ≡ get_or parts.links p v → w ≡ with_room v w.room
     → x ≡ get_or (set parts.links p w) p x → is_open j h.entries ≡ true → is_last (awaits j h.entries) ≡ true → is_some (known_peer x.state) ≡ true
 last_has_peer {h} {parts} t j {p} {v} {w} {x} at first roomy seen opens final = grind (arith, last_state (facts h j) x.state (subst (IsState (facts h j)) (sym state) (state_there h parts t j p at v)) opens final)
   where

@@ -4,7 +4,7 @@ use Rattle.node_core.proofs.Words.{◌∷◌, ◌≡◌, AllByRecursion, list_an
 use Rattle.node_core.proofs.Words.{allow_list, dial_checks, first_broken, History, is_dialling, is_open, is_unfinished_dial, is_up, IsLegal, awaits, is_name_up}
 use Rattle.node_core.proofs.Words.{is_peer, is_whole, peer_of, AdmissionFollows, admission_words, IsLinkOf, IsState, LinksFollow, facts, link_words, KeptLink}
 use Rattle.node_core.proofs.Words.{dialled_peer, up_peer, allowed, is_dial_to, kept_links, name_up_kept, dialling_kept, LinkState, Awaits, Rule, flat_map}
-use Rattle.node_core.proofs.Words.{option_to_list, Pending}
+use Rattle.node_core.proofs.Words.{option_to_list, beside}
 use Rattle.link_states.specs.Checks.{allows}
 use Rattle.policy_audit.proofs.Onward.{is_acceptors, is_diallers, by_peer, by_dial}
 use Rattle.node_core.proofs.Found.{any_map}
@@ -88,14 +88,23 @@ not_some (Some x) f = absurd (f x refl)
 -- ---- the peers that are up and the own dials, as the kept links show them
 
 -- what is said of a list of options is said of those that are there
-any_some : {A B : Type 0} (test : B → Bool) (f : A → Option B) (xs : List A) → list_any test (flat_map (λ x. option_to_list (f x)) xs) ≡ list_any (λ x. option_map_or test (f x) false) xs
+pub any_some : {A B : Type 0} (test : B → Bool) (f : A → Option B) (xs : List A)
+    → list_any test (flat_map (λ x. option_to_list (f x)) xs)
+    ≡ list_any (λ x. option_map_or test (f x) false) xs
 any_some test f [] = refl
 any_some test f (x ∷ xs) = grind (arith, any_some test f xs)
 
-module _ (h : History) (legal : IsLegal h) (kept : List KeptLink) (t : LinksFollow (link_words h) kept) (n : List ℕ) where
-  module _ (p : Pending) where
-    pub ups_are : p.up ≡ flat_map (λ x. option_to_list (up_peer x.state)) kept → pending.is_up p n ≡ is_name_up n h.entries
-    ups_are q = ap (λ ns. pending.has_name ns n) q ∙ any_some (λ m. same m n) (λ (x : KeptLink). up_peer x.state) kept ∙ up_is h n legal kept t
+-- some links show what all the kept ones do, where as many of them pass the test
+module _ (h : History) (legal : IsLegal h) (kept : List KeptLink)
+    (t : LinksFollow (link_words h) kept) (n : List ℕ) (some : List KeptLink) where
+  pub ups_are : list_any (λ x. option_map_or (λ m. same m n) (up_peer x.state) false) some
+      ≡ list_any (λ x. option_map_or (λ m. same m n) (up_peer x.state) false) kept
+      → pending.is_up (beside some) n ≡ is_name_up n h.entries
+  ups_are q = any_some (λ m. same m n) (λ (x : KeptLink). up_peer x.state) some
+      ∙ q ∙ up_is h n legal kept t
 
-    pub dials_are : p.dials ≡ flat_map (λ x. option_to_list (dialled_peer x.state)) kept → pending.is_dialled p n ≡ is_dialling n h.entries
-    dials_are q = ap (λ ns. pending.has_name ns n) q ∙ any_some (λ m. same m n) (λ (x : KeptLink). dialled_peer x.state) kept ∙ dialling_is h n legal kept t
+  pub dials_are : list_any (λ x. option_map_or (λ m. same m n) (dialled_peer x.state) false) some
+      ≡ list_any (λ x. option_map_or (λ m. same m n) (dialled_peer x.state) false) kept
+      → pending.is_dialled (beside some) n ≡ is_dialling n h.entries
+  dials_are q = any_some (λ m. same m n) (λ (x : KeptLink). dialled_peer x.state) some
+      ∙ q ∙ dialling_is h n legal kept t

@@ -1,7 +1,7 @@
 -- The processes of a node after those that were spawned.
-use Rattle.node_core.proofs.Words.{List, arith, cond, false, length, nat_eq, nat_le, nat_lt, refl, sym, true, ℕ, [], ◌+◌, ◌∙◌, ◌≡◌, leb-true, lt-ltb, and_left}
-use Rattle.node_core.proofs.Words.{and_right, History, creation, lives, IsAnswered, IsLegal, answer, Accepted, Reply, ProcessesFollow, process_words, Spawned}
-use Rattle.node_core.proofs.Words.{is_number, spawned, living, own_pid, Event, leb-false}
+use Rattle.node_core.proofs.Words.{List, arith, cond, false, length, nat_eq, nat_le, nat_lt, refl, sym, true, ℕ, [], ◌+◌, ◌∙◌, ◌≡◌, leb-true, lt-ltb}
+use Rattle.node_core.proofs.Words.{History, creation, lives, IsAnswered, IsLegal, answer, Accepted, Reply, ProcessesFollow, process_words, Spawned}
+use Rattle.node_core.proofs.Words.{and_parts, is_number, spawned, living, own_pid, Event, leb-false}
 use Rattle.policy_audit.proofs.LivesNow.{lives_spawned}
 use Rattle.node_core.proofs.Entered.{made}
 use Rattle.node_core.proofs.Calm.{answered}
@@ -18,7 +18,7 @@ module _ (h : History) (p : Spawned) (t : ProcessesFollow (process_words h) p) w
   -- the next process doesn't live yet
   pub next_is_new : is_number (p.spawned + 1) p.live ≡ false
   next_is_new = t.live (p.spawned + 1) ∙ not_so (lives h (own_pid h (p.spawned + 1))) (λ q.
-      let born = and_right _ (nat_le (p.spawned + 1) (spawned h)) (and_left _ _ q) in
+      let born = (and_parts _ (nat_le (p.spawned + 1) (spawned h)) (and_parts _ _ q).0).1 in
       let within = leb-true (p.spawned + 1) (spawned h) born in
       let is = t.spawned in
       omega (arith, within, is))

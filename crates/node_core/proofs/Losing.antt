@@ -5,6 +5,7 @@ use Rattle.node_core.proofs.Words.{with_entry, is_whole, peer_of, present_link, 
 use Rattle.node_core.proofs.Words.{LinksFollow, facts, link_words, KeptLink, up_peer, agrees, LinkState, Running, Event, Reply, Bool, [], ◌==◌, and-true}
 use Rattle.node_core.proofs.Words.{eqb-true, Pid, count_after_drop, no_change, stopped_lists, flip, IsChange, heard, told, listed, waiting, running_scopes}
 use Rattle.node_core.proofs.Words.{ScopesFollow, scope_words, IsSameLink, IsHeardNow, arith}
+use Rattle.node_core.proofs.Words.{link_place, without_number}
 use Rattle.policy_audit.proofs.LinkFrames.{lost_links, disconnected_links}
 use Rattle.policy_audit.proofs.LinksLeft.{facts_left, lost_numbers, disconnected_numbers}
 use Rattle.policy_audit.proofs.HeardNow.{lost_heard, disconnected_heard}
@@ -36,7 +37,8 @@ module _ (h k : History) (j : ℕ) (gone : IsGone h k j) where
   other_link : (x : KeptLink) → (j == x.number) ≡ false → IsLinkOf (link_words h) x → IsLinkOf (link_words k) x
   other_link x other it = same_link x (other_facts x.number other) (gone.waits x.number ∙ grind (arith, other)) it
 
-  pub gone_links : (kept : List KeptLink) → LinksFollow (link_words h) kept → LinksFollow (link_words k) (filter (λ x. not (nat_eq x.number j)) kept)
+  pub gone_links : (kept : List KeptLink) → LinksFollow (link_words h) kept
+      → LinksFollow (link_words k) (without_number j kept)
   gone_links kept t = stay_follow (link_words h) (link_words k) (λ l. not (nat_eq l j)) kept t
       (gone.numbers ∙ (λ i. filter (λ l. not (flip j l i)) (kept_numbers h)))
       (λ x stays it. other_link x (grind (arith, flip j x.number)) it)
@@ -104,7 +106,8 @@ up_with h l s n t q = no_value (sym q)
 
 -- ---- a link that is lost
 
-module _ (h : History) (seat j : ℕ) (cs : List Change) (parts : Parts) (t : Follows h parts) (p : ℕ) (d : KeptLink) (found : position (λ x. nat_eq x.number j) parts.links ≡ Some p) where
+module _ (h : History) (seat j : ℕ) (cs : List Change) (parts : Parts) (t : Follows h parts) (p : ℕ)
+    (d : KeptLink) (found : link_place j parts.links ≡ Some p) where
   abbrev loss : Entry
   loss = made h seat (Event.Lost j) (Accepted Reply.Done) cs
 

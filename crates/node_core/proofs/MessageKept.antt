@@ -1,10 +1,10 @@
 -- What a node keeps after a message that is accepted.
 use Rattle.node_core.proofs.Words.{Bool, List, None, Some, ap, cond, false, nat_eq, position, refl, set, subst, sym, true, ℕ, [], ◌++◌, ◌==◌, ◌∙◌, ◌≡◌}
-use Rattle.node_core.proofs.Words.{option_map_or, eq-eqb, eqb-true, append-nil, Message, kept_climbs, and_left, and_right, flip, IsChange, always, checks}
-use Rattle.node_core.proofs.Words.{first_broken, frame_checks, message_checks, message_taken, History, is_open, is_up, named_by, waiting, IsAnswered, IsLegal}
+use Rattle.node_core.proofs.Words.{option_map_or, eq-eqb, eqb-true, append-nil, Message, kept_climbs, flip, IsChange, always, checks}
+use Rattle.node_core.proofs.Words.{first_broken, frame_checks, message_checks, said_on, History, is_open, is_up, named_by, waiting, IsAnswered, IsLegal}
 use Rattle.node_core.proofs.Words.{IsNext, is_full, up_answer, verdict, with_entry, AwaitMessage, awaits, challenge_in, is_last, is_whole, Change, Entry}
 use Rattle.node_core.proofs.Words.{Accepted, IsState, LinksFollow, facts, link_words, KeptLink, message_owes, entry_link, framed_numbers, Event, Reply, Rule}
-use Rattle.node_core.proofs.Words.{arith}
+use Rattle.node_core.proofs.Words.{and_parts, arith}
 use Rattle.policy_audit.proofs.Onward.{message_taken_on}
 use Rattle.policy_audit.proofs.LinkFrames.{message_links}
 use Rattle.node_core.proofs.Entered.{made, accepted_now, answered_now, next_now}
@@ -14,13 +14,13 @@ use Rattle.node_core.proofs.MessagePlaces.{IsUpHere}
 
 -- the rules for a message on a link that awaits one
 pub message_rules : (h : History) (seat l : ℕ) (body : List ℕ) → is_up l h.entries ≡ true → awaits l h.entries ≡ AwaitMessage
-    → first_broken (checks h seat (Event.Frame l body)) ≡ first_broken (option_map_or (message_checks h l) (message_taken body) (always Rule.BadFrame))
+    → first_broken (checks h seat (Event.Frame l body)) ≡ first_broken (option_map_or (message_checks h l) (said_on l h.entries body) (always Rule.BadFrame))
 message_rules h seat l body up awaited =
-    ap (λ b. first_broken (cond b (frame_checks h l body (awaits l h.entries)) (always Rule.NoSuchLink))) (and_left (is_open l h.entries) (is_whole l h.entries) up)
+    ap (λ b. first_broken (cond b (frame_checks h l body (awaits l h.entries)) (always Rule.NoSuchLink))) (and_parts (is_open l h.entries) (is_whole l h.entries) up).0
     ∙ ap (λ a. first_broken (frame_checks h l body a)) awaited
 
 module _ (h : History) (seat l : ℕ) (body : List ℕ) (m : Message) (space : is_full h ≡ false) (up : is_up l h.entries ≡ true) (awaited : awaits l h.entries ≡ AwaitMessage)
-    (says : message_taken body ≡ Some m) (holds : first_broken (message_checks h l m) ≡ None) (cs : List Change) where
+    (says : said_on l h.entries body ≡ Some m) (holds : first_broken (message_checks h l m) ≡ None) (cs : List Change) where
   abbrev pub entry : Entry
   entry = made h seat (Event.Frame l body) (Accepted Reply.Done) cs
 
@@ -54,7 +54,7 @@ module _ (h : History) (seat l : ℕ) (body : List ℕ) (m : Message) (space : i
           subst (λ x. is_open x now.entries ≡ is_open x h.entries → facts now x ≡ facts h x) here
           (λ still. λ i. record (facts h l) {
             open_now = still i;
-            whole = (it.whole ∙ sym (and_right (is_open l h.entries) (is_whole l h.entries) up)) i;
+            whole = (it.whole ∙ sym (and_parts (is_open l h.entries) (is_whole l h.entries) up).1) i;
             awaited = (it.awaits ∙ sym awaited) i;
             peer = it.peer i;
             said = it.given i;

@@ -1,8 +1,9 @@
 -- Where the link and the scope of a message are kept.
 use Rattle.node_core.proofs.Words.{arith, Follows, Parts, List, None, Some, ap, cond, false, get_or, is_some, length, nat_eq, position, refl, subst, sym, true}
-use Rattle.node_core.proofs.Words.{ℕ, ◌<◌, ◌∙◌, ◌≡◌, get_or_default, position-Some, same_decides, same, Linked, lie, and_left, and_right, History, is_open}
+use Rattle.node_core.proofs.Words.{ℕ, ◌<◌, ◌∙◌, ◌≡◌, get_or_default, position-Some, same_decides, same, Linked, lie, History, is_open}
 use Rattle.node_core.proofs.Words.{is_up, is_kept, waiting, is_running, AwaitMessage, awaits, is_whole, IsIntroduced, IsLinkOf, IsState, LinkFacts, facts}
-use Rattle.node_core.proofs.Words.{link_words, KeptLink, IsRunningOf, scope_words, Running, LinkState}
+use Rattle.node_core.proofs.Words.{and_parts, link_words, KeptLink, IsRunningOf, scope_words, Running, LinkState}
+use Rattle.node_core.proofs.Words.{link_place, scope_place}
 use Rattle.node_core.proofs.Found.{place_found}
 use Rattle.node_core.proofs.Scopes.{runs_is}
 use Rattle.node_core.proofs.KeptOn.{each_at, not_kept, is_kept_at, link_at}
@@ -25,12 +26,13 @@ up_state f LinkState.Ended t o w = lie (sym o ∙ t)
 up_state f s t o w = lie (sym w ∙ t.0.whole)
 
 module _ {h : History} {parts : Parts} (t : Follows h parts) (l : ℕ) (up : is_up l h.entries ≡ true) where
-  pub up_here : {p : ℕ} {x : KeptLink} → position (λ y. nat_eq y.number l) parts.links ≡ Some p → x ≡ get_or parts.links p x → IsUpHere h l x
+  pub up_here : {p : ℕ} {x : KeptLink} → link_place l parts.links ≡ Some p → x
+      ≡ get_or parts.links p x → IsUpHere h l x
   up_here {p} {x} q is =
       let at = link_at h t.sound.legal parts.links t.links l p x q in
       let here : IsLinkOf (link_words h) x = subst (IsLinkOf (link_words h)) (sym is) at.0 in
       let number : x.number ≡ l = ap (λ y. y.number) is ∙ at.1 in
-      let found = up_state (facts h l) x.state (subst (λ n. IsState (facts h n) x.state) number here.state) (and_left (is_open l h.entries) (is_whole l h.entries) up) (and_right (is_open l h.entries) (is_whole l h.entries) up) in
+      let found = up_state (facts h l) x.state (subst (λ n. IsState (facts h n) x.state) number here.state) (and_parts (is_open l h.entries) (is_whole l h.entries) up).0 (and_parts (is_open l h.entries) (is_whole l h.entries) up).1 in
       record { far = found.0; is = found.1; number = number; link = here; awaited = found.2; introduced = found.3 }
 
 -- ---- scopes
@@ -43,16 +45,17 @@ pub record IsScopeHere (h : History) (rs : List Running) (s : List ℕ) (p : ℕ
   pub running : IsRunningOf (scope_words h) r
 
 module _ {h : History} {parts : Parts} (t : Follows h parts) (s : List ℕ) where
-  pub placed_is : is_some (position (λ r. same r.scope s) parts.scopes) ≡ is_running h s
+  pub placed_is : is_some (scope_place s parts.scopes) ≡ is_running h s
   placed_is = place_found (λ r. same r.scope s) parts.scopes ∙ runs_is h parts.scopes s t.scopes
 
-  pub stopped_here : position (λ r. same r.scope s) parts.scopes ≡ None → is_running h s ≡ false
+  pub stopped_here : scope_place s parts.scopes ≡ None → is_running h s ≡ false
   stopped_here q = sym placed_is ∙ ap is_some q
 
-  pub runs_here : (p : ℕ) → position (λ r. same r.scope s) parts.scopes ≡ Some p → is_running h s ≡ true
+  pub runs_here : (p : ℕ) → scope_place s parts.scopes ≡ Some p → is_running h s ≡ true
   runs_here p q = sym placed_is ∙ ap is_some q
 
-  pub scope_here : {p : ℕ} {r : Running} → position (λ x. same x.scope s) parts.scopes ≡ Some p → r ≡ get_or parts.scopes p r → IsScopeHere h parts.scopes s p r
+  pub scope_here : {p : ℕ} {r : Running} → scope_place s parts.scopes ≡ Some p → r
+      ≡ get_or parts.scopes p r → IsScopeHere h parts.scopes s p r
   scope_here {p} {r} q is =
       let place = position-Some (λ x. same x.scope s) parts.scopes p r q in
       record {
@@ -69,13 +72,16 @@ same_there h rs s p r q there is = is ∙ get_or_default rs p q r there.within �
 -- ---- what waits for a kept link
 
 module _ {h : History} {parts : Parts} (t : Follows h parts) (l : ℕ) where
-  pub closed_here : position (λ x. nat_eq x.number l) parts.links ≡ None → is_open l h.entries ≡ false
+  pub closed_here : link_place l parts.links ≡ None → is_open l h.entries ≡ false
   closed_here q = grind (arith, not_kept h t.sound.legal parts.links t.links l q)
 
-  pub waits_none : position (λ x. nat_eq x.number l) parts.links ≡ None → None ≡ cond (is_kept h l) (Some (length (waiting h l))) None
+  pub waits_none : link_place l parts.links ≡ None → None
+      ≡ cond (is_kept h l) (Some (length (waiting h l))) None
   waits_none q = sym (ap (λ b. cond b (Some (length (waiting h l))) None) (not_kept h t.sound.legal parts.links t.links l q))
 
-  pub waits_some : {p : ℕ} {x : KeptLink} → position (λ y. nat_eq y.number l) parts.links ≡ Some p → x ≡ get_or parts.links p x → Some (length x.frames) ≡ cond (is_kept h l) (Some (length (waiting h l))) None
+  pub waits_some : {p : ℕ} {x : KeptLink} → link_place l parts.links ≡ Some p → x
+      ≡ get_or parts.links p x → Some (length x.frames)
+      ≡ cond (is_kept h l) (Some (length (waiting h l))) None
   waits_some {p} {x} q is =
       let at = link_at h t.sound.legal parts.links t.links l p x q in
       let here : IsLinkOf (link_words h) x = subst (IsLinkOf (link_words h)) (sym is) at.0 in

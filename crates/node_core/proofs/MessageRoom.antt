@@ -1,6 +1,6 @@
 -- Room that is made for a message, and the answer to a Discover.
 use Rattle.node_core.proofs.Words.{Follows, Parts, same, early_checks, List, None, Some, ap, cond, false, get_or, nat_eq, position, refl, set, subst, sym, true}
-use Rattle.node_core.proofs.Words.{ℕ, [], ◌++◌, ◌∙◌, ◌∷◌, ◌≡◌, IsRowListing, count_of, kept_climbs, running_rises, first_broken, local_rows, message_taken}
+use Rattle.node_core.proofs.Words.{ℕ, [], ◌++◌, ◌∙◌, ◌∷◌, ◌≡◌, IsRowListing, count_of, kept_climbs, running_rises, first_broken, local_rows, said_on}
 use Rattle.node_core.proofs.Words.{History, is_up, OutFrame, wide, is_full, with_entry, Accepted, IsLinkOf, LinksFollow, link_words, KeptLink, with_frames}
 use Rattle.node_core.proofs.Words.{with_room, ScopesFollow, scope_words, message_owes, Running, with_number, HasBecome, AnswersDiscover, Message, Event, Reply}
 use Rattle.node_core.proofs.Words.{IsNext}
@@ -12,10 +12,12 @@ use Rattle.node_core.proofs.Scopes.{own_counts}
 use Rattle.node_core.proofs.MessagePlaces.{IsUpHere, up_here, scope_here, same_there}
 use Rattle.node_core.proofs.MessageKept.{owed_links}
 use Rattle.node_core.proofs.MessageScopes.{counted, heard_there, told_there, becomes_running, discovered_next, discovered_follows}
+use Rattle.node_core.proofs.Words.{link_place, scope_place}
 
 -- ---- nothing but room has changed
 
-pub roomed_links : {h : History} {parts : Parts} → Follows h parts → (l : ℕ) → is_up l h.entries ≡ true → {p : ℕ} {x a : KeptLink} → position (λ z. nat_eq z.number l) parts.links ≡ Some p
+pub roomed_links : {h : History} {parts : Parts} → Follows h parts → (l : ℕ) → is_up l h.entries
+    ≡ true → {p : ℕ} {x a : KeptLink} → link_place l parts.links ≡ Some p
     → x ≡ get_or parts.links p x → a ≡ with_room x a.room → LinksFollow (link_words h) (set parts.links p a)
 roomed_links {h} {parts} t l up {p} {x} {a} q is same =
     let here = up_here t l up q is in
@@ -24,7 +26,9 @@ roomed_links {h} {parts} t l up {p} {x} {a} q is same =
     (subst (IsLinkOf (link_words h)) (sym same) (record { state = here.link.state; frames = here.link.frames; idle = here.link.idle }))
     (λ z apart u. u) parts.links p x t.links (kept_climbs h t.sound.legal) refl place.0 (ap (λ z. z.number) same ∙ here.number ∙ sym place.1)
 
-pub same_scope : {h : History} {parts : Parts} → Follows h parts → (s : List ℕ) {p : ℕ} {r y : Running} → position (λ z. same z.scope s) parts.scopes ≡ Some p → r ≡ get_or parts.scopes p r
+pub same_scope : {h : History} {parts : Parts} → Follows h parts
+    → (s : List ℕ) {p : ℕ} {r y : Running} → scope_place s parts.scopes ≡ Some p → r
+    ≡ get_or parts.scopes p r
     → HasBecome r y (count_of r.table) r.heard.items r.told.items → ScopesFollow (scope_words h) (set parts.scopes p y)
 same_scope {h} {parts} t s {p} {r} {y} q is b =
     let there = scope_here t s q is in
@@ -40,9 +44,11 @@ follows_with t scopes links = record { sound = t.sound; admission = t.admission;
 -- ---- the answer to a Discover
 
 module _ {h : History} {parts : Parts} (t : Follows h parts) (seat l : ℕ) (body : List ℕ) (space : is_full h ≡ false) (up : is_up l h.entries ≡ true)
-    {pl : ℕ} {x : KeptLink} (placed : position (λ z. nat_eq z.number l) parts.links ≡ Some pl) (x_is : x ≡ get_or parts.links pl x)
-    (s : List ℕ) {p : ℕ} {r : Running} (y : Running) (at : position (λ z. same z.scope s) parts.scopes ≡ Some p) (r_is : r ≡ get_or parts.scopes p r)
-    (says : message_taken body ≡ Some (Message.Discover s)) (early : first_broken (early_checks h l (Message.Discover s)) ≡ None) where
+    {pl : ℕ} {x : KeptLink} (placed : link_place l parts.links ≡ Some pl)
+    (x_is : x ≡ get_or parts.links pl x)
+    (s : List ℕ) {p : ℕ} {r : Running} (y : Running) (at : scope_place s parts.scopes ≡ Some p)
+    (r_is : r ≡ get_or parts.scopes p r)
+    (says : said_on l h.entries body ≡ Some (Message.Discover s)) (early : first_broken (early_checks h l (Message.Discover s)) ≡ None) where
   here : IsUpHere h l x
   here = up_here t l up placed x_is
 

@@ -3,10 +3,11 @@ use Rattle.node_core.proofs.Words.{Bool, List, arith, message_owes, position, le
 use Rattle.node_core.proofs.Words.{IsAddRefusal, IsTakeRefusal, IsCalmFault, None, Some, ap, cond, false, get_or, nat_eq, not, refl, set, subst, sym, true, ℕ}
 use Rattle.node_core.proofs.Words.{[], ◌&&◌, ◌+◌, ◌-◌, ◌==◌, ◌||◌, ◌∙◌, ◌∷◌, ◌≡◌, and-true, eqb-true, same_decides, same_sym, IsDifference, occurrences, same}
 use Rattle.node_core.proofs.Words.{same_row, GroupChange, Pid, Row, count_after_drop, count_of, no_change, flip, if_some, first_broken, message_checks, row}
-use Rattle.node_core.proofs.Words.{heard, message_taken, told, History, is_up, listed, IsAnswered, IsNext, is_full, with_entry, peer_of, Entry, Accepted}
+use Rattle.node_core.proofs.Words.{heard, said_on, told, History, is_up, listed, IsAnswered, IsNext, is_full, with_entry, peer_of, Entry, Accepted}
 use Rattle.node_core.proofs.Words.{Follows, Parts, LinksFollow, link_words, KeptLink, IsCutOff, IsRunningOf, is_number, scope_words, count_after_sync}
 use Rattle.node_core.proofs.Words.{count_after_add, count_after_take, IsHeardNow, Running, with_number, without, running_rises, HasBecome, Message, Event}
 use Rattle.node_core.proofs.Words.{Reply}
+use Rattle.node_core.proofs.Words.{link_place, scope_place}
 use Rattle.std.proofs.lemmas.List.Folds.{list_any-append}
 use Rattle.policy_audit.proofs.HeardSaid.{synced_heard, discovered_heard, downed_heard, joined_heard, left_heard}
 use Rattle.policy_audit.proofs.MessageRows.{discovered_rows, synced_rows, added_rows, taken_rows, downed_rows}
@@ -51,8 +52,10 @@ module _ (h : History) (s : List ℕ) (r : Running) (named : r.scope ≡ s) (u :
 -- ---- the messages
 
 module _ {h : History} {parts : Parts} (t : Follows h parts) (seat l : ℕ) (body : List ℕ) (space : is_full h ≡ false) (up : is_up l h.entries ≡ true)
-    {pl : ℕ} {x : KeptLink} (placed : position (λ z. nat_eq z.number l) parts.links ≡ Some pl) (x_is : x ≡ get_or parts.links pl x)
-    (s : List ℕ) {p : ℕ} {r : Running} (y : Running) (at : position (λ z. same z.scope s) parts.scopes ≡ Some p) (r_is : r ≡ get_or parts.scopes p r) where
+    {pl : ℕ} {x : KeptLink} (placed : link_place l parts.links ≡ Some pl)
+    (x_is : x ≡ get_or parts.links pl x)
+    (s : List ℕ) {p : ℕ} {r : Running} (y : Running) (at : scope_place s parts.scopes ≡ Some p)
+    (r_is : r ≡ get_or parts.scopes p r) where
   here : IsUpHere h l x
   here = up_here t l up placed x_is
 
@@ -70,7 +73,7 @@ module _ {h : History} {parts : Parts} (t : Follows h parts) (seat l : ℕ) (bod
   IsKept gs = IsNext h (entry gs) × Follows (after_it gs) (record parts { scopes = set parts.scopes p y })
 
   -- a message of which is known what it makes of a count, and of whether a link is heard and told, here and at other scopes
-  module _ (m : Message) (says : message_taken body ≡ Some m) (holds : first_broken (message_checks h l m) ≡ None) (gs : List GroupChange)
+  module _ (m : Message) (says : said_on l h.entries body ≡ Some m) (holds : first_broken (message_checks h l m) ≡ None) (gs : List GroupChange)
       (counts : ℕ → List ℕ → Pid → ℕ) (hears tells : Bool → Bool → Bool) (plain : (b : Bool) → (hears b false ≡ b) × (tells b false ≡ b))
       (rows : IsAnswered h (entry gs) → (u g : List ℕ) (q : Pid) → listed (after_it gs) u g q ≡ cond (same u s) (counts (listed h u g q) g q) (listed h u g q))
       (talk : IsAnswered h (entry gs) → (j : ℕ) (u : List ℕ) → IsHeardNow (after_it gs) j u (hears (heard j u h.entries) (l == j && same s u)) (tells (told j u h.entries) (l == j && same s u)))
@@ -118,7 +121,7 @@ module _ {h : History} {parts : Parts} (t : Follows h parts) (seat l : ℕ) (bod
         (scope_change h (after_it gs) s gs (difference_is h s r there.named there.running (after_it gs) refl y (λ g q. counts (count_of r.table g q) g q) hs ts b rows_here gs differ) (λ u g q apart. sym (rows_apart u apart g q))) in
         (next, follows next parts.links (silent_links h seat l body m space up here.awaited says holds (if_some s gs) nothing parts.links t.links))
 
-  module _ (says : message_taken body ≡ Some (Message.Discover s)) (early : first_broken (early_checks h l (Message.Discover s)) ≡ None) where
+  module _ (says : said_on l h.entries body ≡ Some (Message.Discover s)) (early : first_broken (early_checks h l (Message.Discover s)) ≡ None) where
     listed_so : IsAnswered h (entry []) → (u g : List ℕ) (q : Pid) → listed (after_it []) u g q ≡ listed h u g q
     listed_so so = discovered_rows h t.sound.legal (entry []) so refl l body refl here.far.peer here.awaited here.introduced.peer.peer here.introduced.peer.other s says
 
@@ -140,14 +143,14 @@ module _ {h : History} {parts : Parts} (t : Follows h parts) (seat l : ℕ) (bod
     other : same n h.opening.name ≡ false
     other = ap (λ m. same m h.opening.name) (peer_is here far) ∙ here.introduced.peer.other
 
-    pub synced : (rows : List Row) → message_taken body ≡ Some (Message.Sync s rows) → first_broken (early_checks h l (Message.Sync s rows)) ≡ None → (gs : List GroupChange)
+    pub synced : (rows : List Row) → said_on l h.entries body ≡ Some (Message.Sync s rows) → first_broken (early_checks h l (Message.Sync s rows)) ≡ None → (gs : List GroupChange)
         → HasBecome r y (count_after_sync r.table n rows) (with_number l r.heard.items) r.told.items → IsDifference (count_of r.table) (count_of y.table) gs → IsKept gs
     synced rows says early gs b = silent (Message.Sync s rows) says early gs (λ k g q. cond (same q.node n) (occurrences same_row (row g q) rows) k) (λ b c. c || b) (λ b c. b) (λ b. (refl, refl))
         (λ so. synced_rows h t.sound.legal (entry gs) so refl l body refl n here.awaited of other s rows says)
         (λ so j u. synced_heard h t.sound.legal (entry gs) so refl l body refl here.awaited j u s rows says)
         (with_number l r.heard.items) r.told.items b (λ j. number_on j l r.heard.items) (λ j. refl) (λ j. refl)
 
-    pub added : (rows : List Row) → message_taken body ≡ Some (Message.Join s rows) → first_broken (early_checks h l (Message.Join s rows)) ≡ None → node_total r.table n + length rows ≤ max_rows → (gs : List GroupChange)
+    pub added : (rows : List Row) → said_on l h.entries body ≡ Some (Message.Join s rows) → first_broken (early_checks h l (Message.Join s rows)) ≡ None → node_total r.table n + length rows ≤ max_rows → (gs : List GroupChange)
         → HasBecome r y (count_after_add r.table rows) r.heard.items r.told.items → IsDifference (count_of r.table) (count_of y.table) gs → IsKept gs
     added rows says early few gs b = silent (Message.Join s rows) says (join_fits h l s r there.named there.running rows n of few early) gs
         (λ k g q. k + occurrences same_row (row g q) rows) (λ b c. b) (λ b c. b) (λ b. (refl, refl))
@@ -155,11 +158,11 @@ module _ {h : History} {parts : Parts} (t : Follows h parts) (seat l : ℕ) (bod
         (λ so j u. joined_heard h t.sound.legal (entry gs) so refl l body refl here.awaited j u s rows says)
         r.heard.items r.told.items b (λ j. refl) (λ j. refl) (λ j. refl)
 
-    pub added_calm : (rows : List Row) → message_taken body ≡ Some (Message.Join s rows) → first_broken (early_checks h l (Message.Join s rows)) ≡ None → (f : CoreFault)
+    pub added_calm : (rows : List Row) → said_on l h.entries body ≡ Some (Message.Join s rows) → first_broken (early_checks h l (Message.Join s rows)) ≡ None → (f : CoreFault)
         → IsAddRefusal r.table n rows f → IsCalmFault h seat (Event.Frame l body) f
     added_calm rows says early = add_calm h seat l body up here.awaited s r there.named there.running rows n of says early
 
-    pub downed : message_taken body ≡ Some (Message.Down s) → first_broken (early_checks h l (Message.Down s)) ≡ None → (gs : List GroupChange)
+    pub downed : said_on l h.entries body ≡ Some (Message.Down s) → first_broken (early_checks h l (Message.Down s)) ≡ None → (gs : List GroupChange)
         → IsCutOff l n r y → {z : Running} → z ≡ get_or parts.scopes p z → IsDifference (count_of z.table) (count_after_drop z.table n) gs → IsKept gs
     downed says early gs cut {z} z_is differ = silent (Message.Down s) says early gs (λ k g q. cond (same q.node n) 0 k) (λ b c. b && not c) (λ b c. b && not c) (λ b. (and-true b, and-true b))
         (λ so. downed_rows h t.sound.legal (entry gs) so refl l body refl n here.awaited of other s says)
@@ -169,7 +172,7 @@ module _ {h : History} {parts : Parts} (t : Follows h parts) (seat l : ℕ) (bod
         (subst (λ f. IsDifference (count_of r.table) f gs) (λ i g q. sym (cut.rows.counts g q) i)
         (subst (λ w. IsDifference (count_of w.table) (count_after_drop w.table n) gs) (same_there h parts.scopes s p r z there z_is) differ))
 
-    pub taken : (rows : List Row) → message_taken body ≡ Some (Message.Leave s rows) → first_broken (early_checks h l (Message.Leave s rows)) ≡ None → are_counted r.table rows ≡ true → (gs : List GroupChange)
+    pub taken : (rows : List Row) → said_on l h.entries body ≡ Some (Message.Leave s rows) → first_broken (early_checks h l (Message.Leave s rows)) ≡ None → are_counted r.table rows ≡ true → (gs : List GroupChange)
         → HasBecome r y (count_after_take r.table rows) r.heard.items r.told.items → IsDifference (count_of r.table) (count_of y.table) gs → IsKept gs
     taken rows says early listed gs b = silent (Message.Leave s rows) says (leave_listed h l s r there.named there.running rows listed early) gs
         (λ k g q. k - occurrences same_row (row g q) rows) (λ b c. b) (λ b c. b) (λ b. (refl, refl))
@@ -177,6 +180,6 @@ module _ {h : History} {parts : Parts} (t : Follows h parts) (seat l : ℕ) (bod
         (λ so j u. left_heard h t.sound.legal (entry gs) so refl l body refl here.awaited j u s rows says)
         r.heard.items r.told.items b (λ j. refl) (λ j. refl) (λ j. refl)
 
-  pub taken_calm : (rows : List Row) → message_taken body ≡ Some (Message.Leave s rows) → first_broken (early_checks h l (Message.Leave s rows)) ≡ None → (f : CoreFault)
+  pub taken_calm : (rows : List Row) → said_on l h.entries body ≡ Some (Message.Leave s rows) → first_broken (early_checks h l (Message.Leave s rows)) ≡ None → (f : CoreFault)
       → IsTakeRefusal r.table rows f → IsCalmFault h seat (Event.Frame l body) f
   taken_calm rows says early = take_calm h seat l body up here.awaited s r there.named there.running rows says early

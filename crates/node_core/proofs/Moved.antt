@@ -3,6 +3,7 @@ use Rattle.node_core.proofs.Words.{arith, Bool, List, Some, ap, cond, false, get
 use Rattle.node_core.proofs.Words.{IsDifference, is_empty, same, Pid, Row, Message, count_of, IsChange, if_some, heard, told, History, listed}
 use Rattle.node_core.proofs.Words.{OutFrame, wide, running_scopes, Change, Follows, Parts, KeptLink, IsMoved, IsRunningOf, ScopesFollow, is_number}
 use Rattle.node_core.proofs.Words.{scope_words, Alike, if_among, running_rises, set-get_or, if_told, Running}
+use Rattle.node_core.proofs.Words.{scope_place}
 use Rattle.node_core.proofs.Scopes.{counts_listed}
 use Rattle.node_core.proofs.MessagePlaces.{scope_here}
 use Rattle.node_core.proofs.OneScope.{one_scope_follows, scope_change}
@@ -15,7 +16,8 @@ told_frames rows numbers frame l b q = grind (arith, q)
 
 -- ---- one scope after a change of its own rows
 
-module _ (h : History) (seat : ℕ) (parts : Parts) (t : Follows h parts) (s : List ℕ) (p : ℕ) (here : position (λ r. same r.scope s) parts.scopes ≡ Some p) (a b : Running) (at : a ≡ get_or parts.scopes p a)
+module _ (h : History) (seat : ℕ) (parts : Parts) (t : Follows h parts) (s : List ℕ) (p : ℕ)
+    (here : scope_place s parts.scopes ≡ Some p) (a b : Running) (at : a ≡ get_or parts.scopes p a)
     (m : Message) (count : List ℕ → Pid → ℕ) (links : List KeptLink) (cs : List Change) (moved : IsMoved m count a b parts.links links cs) where
   its_scope : a.scope ≡ s
   its_scope = (scope_here t s here at).named

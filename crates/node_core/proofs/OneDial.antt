@@ -1,7 +1,7 @@
 -- One own dial to a peer is unfinished at a time.
 use Rattle.node_core.proofs.Words.{arith, Bool, List, None, ap, false, not, refl, sym, true, ℕ, [], ◌&&◌, ◌==◌, ◌∙◌, ◌∷◌, ◌≡◌, eqb-true, same_decides, all_hold}
-use Rattle.node_core.proofs.Words.{lie, unbroken, and_left, dial_checks, first_broken, History, past, is_dialling, is_open, is_unfinished_dial, links, IsLegal}
-use Rattle.node_core.proofs.Words.{verdict, Entry, Verdict, Accepted, Event, Reply, Opening, opened, taken, IsLegalIn, accepted, some_of}
+use Rattle.node_core.proofs.Words.{lie, unbroken, dial_checks, first_broken, History, past, is_dialling, is_open, is_unfinished_dial, links, IsLegal}
+use Rattle.node_core.proofs.Words.{and_parts, verdict, Entry, Verdict, Accepted, Event, Reply, Opening, opened, taken, IsLegalIn, accepted, some_of}
 use Rattle.node_core.proofs.Found.{not_so}
 use Rattle.policy_audit.proofs.Walked.{but, open_opened}
 use Rattle.policy_audit.proofs.Finished.{whole_kept}
@@ -27,7 +27,7 @@ module _ (n : List ℕ) (es : List Entry) (e : Entry) (l : ℕ) where
 
 -- a dial that is unfinished is known
 pub is_known_dial : (n : List ℕ) (es : List Entry) (l : ℕ) → dials n es l ≡ true → is_dialling n es ≡ true
-is_known_dial n es l here = some_of (dials n es) l (links es) here (sym (opened_linked l es) ∙ open_opened l es (and_left (is_open l es) (is_unfinished_dial n l es) here))
+is_known_dial n es l here = some_of (dials n es) l (links es) here (sym (opened_linked l es) ∙ open_opened l es (and_parts (is_open l es) (is_unfinished_dial n l es) here).0)
 
 module _ (o : Opening) (n : List ℕ) where
   module _ (es : List Entry) (e : Entry) (l j : ℕ) (so_far : dials n es l ≡ true → dials n es j ≡ true → l ≡ j) where

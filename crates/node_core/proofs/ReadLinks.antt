@@ -1,6 +1,6 @@
 -- What is read of the kept links, in the policy's words.
 use Rattle.node_core.proofs.Words.{Bool, List, None, Some, ap, arith, cond, is_some, map, nat_eq, refl, sym, true, ℕ, [], ◌&&◌, ◌++◌, ◌∙◌, ◌∷◌, ◌≡◌, ◌≤◌}
-use Rattle.node_core.proofs.Words.{AllByRecursion, flat_map, list_any, option_to_list, eq-eqb, eqb-true, occurrences, same, kept_among, and_left, and_right}
+use Rattle.node_core.proofs.Words.{and_parts, AllByRecursion, flat_map, list_any, option_to_list, eq-eqb, eqb-true, occurrences, same, kept_among}
 use Rattle.node_core.proofs.Words.{History, is_open, is_up, awaits, is_name_up, is_peer, is_whole, peer_of, Follows, Parts, IsLinkOf, IsState, facts}
 use Rattle.node_core.proofs.Words.{kept_numbers, link_words, KeptLink, up_peer, how_many, kept_once, name_up_kept, one_up, LinkState, frame_awaited}
 use Rattle.node_core.specs.Reading.{up_name, up_names, frame_of, awaiting}
@@ -75,7 +75,7 @@ module _ {h : History} {parts : Parts} (t : Follows h parts) where
       ∙ ap (λ b. cond b 1 0) (sym (name_up_kept h t.sound.legal n))
     where
       alone : (a b : ℕ) → (is_up a h.entries && is_peer n a h.entries) ≡ true → (is_up b h.entries && is_peer n b h.entries) ≡ true → a ≡ b
-      alone a b p q = one_up h t.sound.legal n a b (and_left _ _ p) (and_left _ _ q) (peer_by_test n (peer_of a h.entries) (and_right (is_up a h.entries) _ p)) (peer_by_test n (peer_of b h.entries) (and_right (is_up b h.entries) _ q))
+      alone a b p q = one_up h t.sound.legal n a b (and_parts _ _ p).0 (and_parts _ _ q).0 (peer_by_test n (peer_of a h.entries) (and_parts (is_up a h.entries) _ p).1) (peer_by_test n (peer_of b h.entries) (and_parts (is_up b h.entries) _ q).1)
 
   pub links_are : map (λ x. record { link = x.number; frame = frame_awaited x.state }) parts.links ≡ map (awaiting h) (kept_numbers h)
   links_are =

@@ -3,7 +3,7 @@ use Rattle.node_core.proofs.Words.{List, ap, arith, cond, false, length, map, re
 use Rattle.node_core.proofs.Words.{same_decides, same_pid_decides, IsDifference, Rises, occurrences, same_pid, same_row, pid_cmp, row_cmp, text_cmp}
 use Rattle.node_core.proofs.Words.{GroupChange, Pid, Row, count_after_exit, Table, count_of, local_count, local_total, local_rows, row, History, IsLegal}
 use Rattle.node_core.proofs.Words.{rows_left, IsRunningOf, scope_words, Ordering, is_gt, IsProper, times_left, Ascends, count_in_group, Running, sym, IsListing}
-use Rattle.node_core.proofs.Words.{spread, total, same_length, same_row_decides, is_of_node}
+use Rattle.node_core.proofs.Words.{max_rows, spread, total, same_length, same_row_decides, is_of_node}
 use Rattle.std.specs.Ordering.{ordering_then}
 use Rattle.dist_types.proofs.Listings.{all_append, fewer_length, length-spread, spread_counts}
 use Rattle.dist_types.proofs.Totals.{how_many_append}
@@ -70,7 +70,7 @@ module _ (t : Table) (p : Pid) (own_one : t.own ≡ p.node) (gs : List GroupChan
   exit_counts : (r : Row) → occurrences same_row r (rows_left gs) ≡ cond (same_pid r.pid p) (local_count t r.group r.pid) 0
   exit_counts r = left_occurs r gs ∙ d.left r.group r.pid ∙ grind (arith, same_pid_decides r.pid p, same_decides r.pid.node t.own, own_one)
 
-  pub few_left : local_total t ≤ 4096 → length (rows_left gs) ≤ 4096
+  pub few_left : local_total t ≤ max_rows → length (rows_left gs) ≤ max_rows
   few_left few = (let within = few_rows t (rows_left gs) (λ r. grind (arith, exit_counts r)) in omega (arith, within, few))
 
 -- they are the policy's rows of the process

@@ -3,6 +3,7 @@ use Rattle.node_core.proofs.Words.{AllByRecursion, Bool, Climbs, Err, Follows, H
 use Rattle.node_core.proofs.Words.{Rises, Some, ap, arith, cond, false, get_or, kept_climbs, length, lie, list_all, lt-ltb, map, nat_eq, nat_lt}
 use Rattle.node_core.proofs.Words.{position, refl, running_rises, same, same_decides, subst, suc, sym, text_cmp, texts_total, true, zero, ℕ, [], ◌<◌}
 use Rattle.node_core.proofs.Words.{◌∙◌, ◌∷◌, ◌≡◌, eq-eqb, eqb-true, ltb-true, ltb-false, find, is_some, list_any, position-Some, KeptLink, Running, ◌+◌}
+use Rattle.node_core.proofs.Words.{link_place, scope_place}
 use Rattle.std.specs.declared.cmp.Ordering.TheVariants.{Equal, Greater}
 use Rattle.std.specs.Ordering.{is_lt, nat_cmp, ordering_reverse}
 use Rattle.std.specs.List.{position_or_len}
@@ -92,8 +93,13 @@ module _ {h : History} {parts : Parts} (t : Follows h parts) where
   pub scopes_ascend : AreAscending parts.scopes
   scopes_ascend = subst (Rises text_cmp) (sym t.scopes.running) (running_rises h)
 
-pub link_place : (xs : List KeptLink) (n : ℕ) (r : Result ℕ ℕ) → AreInOrder xs → IsSearchInRange r (length xs) → IsBinarySearchResult (λ x. nat_cmp x.number n) xs r → result_ok r ≡ position (λ x. nat_eq x.number n) xs
-link_place = place_is nat_cmp_total exact_unsigned nat_eq (λ a b. (eqb-true a b, eq-eqb a b)) (λ x. x.number)
+pub link_searched : (xs : List KeptLink) (n : ℕ) (r : Result ℕ ℕ) → AreInOrder xs
+    → IsSearchInRange r (length xs) → IsBinarySearchResult (λ x. nat_cmp x.number n) xs r
+    → result_ok r ≡ link_place n xs
+link_searched = place_is nat_cmp_total exact_unsigned nat_eq (λ a b. (eqb-true a b, eq-eqb a b))
+    (λ x. x.number)
 
-pub scope_place : (xs : List Running) (s : List ℕ) (r : Result ℕ ℕ) → AreAscending xs → IsSearchInRange r (length xs) → IsBinarySearchResult (λ x. text_cmp x.scope s) xs r → result_ok r ≡ position (λ x. same x.scope s) xs
-scope_place = place_is texts_total exact_bytes same same_decides (λ x. x.scope)
+pub scope_searched : (xs : List Running) (s : List ℕ) (r : Result ℕ ℕ) → AreAscending xs
+    → IsSearchInRange r (length xs) → IsBinarySearchResult (λ x. text_cmp x.scope s) xs r
+    → result_ok r ≡ scope_place s xs
+scope_searched = place_is texts_total exact_bytes same same_decides (λ x. x.scope)

@@ -2,7 +2,11 @@
 use Rattle.node_core.proofs.Words.{arith, Err, List, Ok, Result, ap, cond, false, length, refl, subst, sym, true, ℕ, [], ◌+◌, ◌∙◌, ◌∷◌, ◌≡◌, IsLegal, IsNext}
 use Rattle.node_core.proofs.Words.{checks, first_broken, History, is_full, past, verdict, with_entry, Verdict, Accepted, Refused, Event, Reply, judged, after}
 use Rattle.node_core.proofs.Words.{entry_of, CoreFault, Rule, next_is, Opening, Change, Entry, Follows, parts, Answered, Kept, Answers, Call}
+use Rattle.node_core.proofs.Words.{lt-ltb, ltb-true, ◌<◌}
+use Rattle.policy_audit.specs.Log.{Log, IsAuditFault}
+use Rattle.policy_audit.specs.declared.audit.AuditFault.{AuditFault}
 use Rattle.policy_audit.proofs.ScopeChanges.{next_is_after}
+use Rattle.node_core.specs.Unentered.{unentered}
 use Rattle.node_core.specs.Core.{IsCore}
 use Rattle.node_core.specs.Step.{IsStepped, entered, made, reply_of}
 
@@ -48,6 +52,21 @@ full_step old seat e full = (
   ap (λ b. cond b (Refused Rule.EntriesFull) (judged old seat e (first_broken (checks old seat e)))) full,
   sym (ap (λ b. cond b old (with_entry old (entry_of old seat e))) full),
 )
+
+-- an audit that takes one entry more is that of a history that isn't full
+pub not_full : (log : Log) (h : History) → h.entries ≡ log.entries → log.limit ≡ h.opening.entries
+    → length log.entries < log.limit → is_full h ≡ false
+not_full log h entries limit less = grind (arith, entries, limit, less, lt-ltb)
+
+-- where the audit has no room nothing is entered
+pub unentered_step : (log : Log) {old new : History} → log.entries ≡ old.entries
+    → log.limit ≡ old.opening.entries → new ≡ old → (seat : ℕ) (e : Event) (fault : AuditFault)
+    → IsAuditFault fault log → IsStepped old seat e new (Err (unentered fault))
+unentered_step log {old} {new} entries limit same seat e AuditFault.EntriesFull full =
+    subst (λ h. IsStepped old seat e h (Err (CoreFault.Refused Rule.EntriesFull))) (sym same)
+    (full_step old seat e (grind (arith, entries, limit, full, lt-ltb, ltb-true)))
+unentered_step log {old} {new} entries limit same seat e AuditFault.OutOfMemory wanting =
+    unstepped old new seat e (grind (arith, entries, limit, wanting.0, lt-ltb, ltb-true)) same
 
 opening_is : (call : Call) (e : Event) (kept : Kept) (answered : Result Answered CoreFault) → Answers call e kept answered → kept.opening ≡ call.past.opening
 unfolding Answers

@@ -3,6 +3,7 @@ use Rattle.node_core.proofs.Words.{Bool, List, Some, ap, cond, false, get_or, le
 use Rattle.node_core.proofs.Words.{◌==◌, ◌∙◌, ◌≡◌, filter, eq-eqb, eqb-true, kept_climbs, flip, History, is_open, OutFrame, waiting, IsNext, is_full}
 use Rattle.node_core.proofs.Words.{with_entry, Entry, Accepted, Follows, Parts, IsLinkOf, IsState, LinksFollow, facts, link_words, KeptLink, LinkState}
 use Rattle.node_core.proofs.Words.{is_ended, without_ended, Event, Reply, arith, LinkWords}
+use Rattle.node_core.proofs.Words.{link_place, without_number}
 use Rattle.policy_audit.proofs.LinkFrames.{taken_links}
 use Rattle.policy_audit.proofs.LinksLeft.{taken_numbers}
 use Rattle.node_core.proofs.Entered.{step_follows, made}
@@ -18,7 +19,8 @@ open_by h l s t = t.0.open_now
 abbrev pub emptied : KeptLink → ℕ → KeptLink
 emptied x room = record { number = x.number; state = x.state; frames = []; prepared = []; room = room }
 
-module _ (h : History) (seat j : ℕ) (frames : List OutFrame) (parts : Parts) (t : Follows h parts) (p : ℕ) (d : KeptLink) (found : position (λ x. nat_eq x.number j) parts.links ≡ Some p) where
+module _ (h : History) (seat j : ℕ) (frames : List OutFrame) (parts : Parts) (t : Follows h parts)
+    (p : ℕ) (d : KeptLink) (found : link_place j parts.links ≡ Some p) where
   abbrev take : Entry
   take = made h seat (Event.Take j) (Accepted (Reply.Out frames)) []
 
@@ -48,7 +50,8 @@ module _ (h : History) (seat j : ℕ) (frames : List OutFrame) (parts : Parts) (
       (taken_numbers h take refl j refl ∙ filter_all (λ l. not (j == l && not (is_open l h.entries))) (λ l. grind (arith, eqb-true j l, opens false opened)) (link_words h).numbers) it.2 refl
 
   -- an ended one is gone
-  ended_taken : (room : ℕ) → is_ended link.state ≡ true → LinksFollow words (filter (λ x. not (nat_eq x.number j)) (set parts.links p (emptied link room)))
+  ended_taken : (room : ℕ) → is_ended link.state ≡ true
+      → LinksFollow words (without_number j (set parts.links p (emptied link room)))
   ended_taken room ended =
       let goes : (l : ℕ) → (j == l && not (is_open l h.entries)) ≡ nat_eq l j = λ l. grind (arith, eqb-true j l, flip j l, opens true ended) in
       rw (filter_set (λ x. not (nat_eq x.number j)) parts.links p d (emptied link room) it.2 (ap not (eq-eqb link.number j it.1)) (ap not (eq-eqb link.number j it.1)))
@@ -57,7 +60,9 @@ module _ (h : History) (seat j : ℕ) (frames : List OutFrame) (parts : Parts) (
 
   one_taken : (room : ℕ) (b : Bool) → is_ended link.state ≡ b → LinksFollow words (without_ended (emptied link room) (set parts.links p (emptied link room)))
   one_taken room false e = rw e (open_taken room e)
-  one_taken room true e = rw e (subst (λ l. LinksFollow words (filter (λ x. not (nat_eq x.number l)) (set parts.links p (emptied link room)))) (sym it.1) (ended_taken room e))
+  one_taken room true e = rw e
+      (subst (λ l. LinksFollow words (without_number l (set parts.links p (emptied link room))))
+      (sym it.1) (ended_taken room e))
 
   -- the link is changed, and gone if it has ended
   pub taken_now : is_full h ≡ false → frames ≡ link.frames → (new at : KeptLink) (room : ℕ) → new ≡ emptied link room → at ≡ new

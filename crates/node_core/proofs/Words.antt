@@ -8,7 +8,7 @@ pub use Rattle.std.specs.Option.{option_map, option_map_or, option_to_list, unwr
 pub use Rattle.std.specs.declared.cmp.Ordering.TheVariants.{Less}
 pub use Rattle.std.specs.declared.result.Result.{Result}
 pub use Rattle.std.proofs.Math.Bool.{and-true}
-pub use Rattle.std.proofs.lemmas.Bool.{eq-eqb, eqb-true, le-leb, leb-true, lt-leb, le-ltb, leb-false, not-true, lt-ltb, ltb-true, ltb-false}
+pub use Rattle.std.proofs.lemmas.Bool.{and_parts, eq-eqb, eqb-true, le-leb, leb-true, lt-leb, le-ltb, leb-false, not-true, lt-ltb, ltb-true, ltb-false}
 pub use Rattle.std.proofs.lemmas.Fn.{filter_same}
 pub use Rattle.std.proofs.lemmas.Iterator.{YieldsList-from_slice}
 pub use Rattle.std.proofs.lemmas.Iterator.Search.{all_from_yields_List}
@@ -24,7 +24,7 @@ pub use Rattle.dist_types.proofs.Orders.{same_decides, same_pid_decides, same_sy
 pub use Rattle.dist_types.specs.Difference.{IsDifference, is_empty, IsProper, times_left}
 pub use Rattle.dist_types.specs.Flags.{has_bit, own_flags}
 pub use Rattle.dist_types.specs.Listing.{IsListing, IsPidListing, IsRowListing, Rises, is_among, listing, mentions, occurrences, same, same_pid}
-pub use Rattle.dist_types.specs.Listing.{same_row, Ascends, IsGroupListing, how_many, placed, spread, stands_in, total}
+pub use Rattle.dist_types.specs.Listing.{same_row, Ascends, IsGroupListing, how_many, max_rows, placed, spread, stands_in, total}
 pub use Rattle.dist_types.specs.Order.{pid_cmp, row_cmp, text_cmp}
 pub use Rattle.dist_types.specs.declared.change.GroupChange.{GroupChange}
 pub use Rattle.dist_types.specs.declared.pid.Pid.{Pid}
@@ -47,7 +47,7 @@ pub use Rattle.link_states.specs.Frames.{ack_owed, refusal_frames, reply_owed, s
 pub use Rattle.link_frames.specs.declared.message.Message.{Message}
 pub use Rattle.scope_core.specs.Calls.{count_after_drop, count_after_exit, no_count, IsJoinFault, IsLeaveFault, are_counted}
 pub use Rattle.scope_core.specs.Calls.{count_after_add, count_after_join, count_after_leave, count_after_sync, count_after_take, is_any_joined}
-pub use Rattle.scope_core.specs.Table.{Table, count_of, local_count, local_total, is_of_node, max_rows, node_total}
+pub use Rattle.scope_core.specs.Table.{Table, count_of, local_count, local_total, is_of_node, node_total}
 pub use Rattle.policy_audit.proofs.Accepted.{all_hold, lie, no_value, unbroken, accepted}
 pub use Rattle.policy_audit.proofs.ChangeLemmas.{no_change, stopped_lists, next_is}
 pub use Rattle.policy_audit.proofs.KeptNumbers.{kept_among, kept_climbs, Climbs, all_left, all_reverse, dialling_kept, filter_append, kept_count}
@@ -55,14 +55,14 @@ pub use Rattle.policy_audit.proofs.KeptNumbers.{kept_once, kept_opening, name_up
 pub use Rattle.policy_audit.proofs.ScopeFrames.{told_numbers, dialled_waiting, exited_links, joined_links, left_links, opened_waiting, started_links}
 pub use Rattle.policy_audit.proofs.ScopeFrames.{stopped_links}
 pub use Rattle.policy_audit.proofs.ScopesNow.{running_among, running_rises, running_started, running_stopped}
-pub use Rattle.policy_audit.proofs.UpLinks.{and_both, and_false, and_left, and_right, flip, agrees, number_of}
+pub use Rattle.policy_audit.proofs.UpLinks.{and_both, and_false, flip, agrees, number_of}
 pub use Rattle.policy_audit.specs.Admission.{allow_list, allowed, cookie, cookie_peers, different}
 pub use Rattle.policy_audit.specs.Changes.{IsChange, if_some}
 pub use Rattle.policy_audit.specs.Checks.{always, checks, dial_checks, first_broken, frame_checks, message_checks, answer_checks}
 pub use Rattle.policy_audit.specs.Checks.{challenge_checks, digest_checks, is_peer_up, is_simultaneous, kept_links, name_checks}
 pub use Rattle.policy_audit.specs.Checks.{peer_rows, status_checks}
 pub use Rattle.policy_audit.specs.Contents.{local_rows, row, contents, groups, groups_named, local_groups, local_members, members, pids_named}
-pub use Rattle.policy_audit.specs.Hearing.{heard, message_taken, told, hears, rows_of, talk, tells}
+pub use Rattle.policy_audit.specs.Hearing.{heard, said_on, told, hears, rows_of, talk, tells}
 pub use Rattle.policy_audit.specs.History.{History, creation, events, first_of, is_accepted, past, is_restart}
 pub use Rattle.policy_audit.specs.Links.{is_dialling, is_open, is_unfinished_dial, is_up, links, named_by, ends, is_dial_to}
 pub use Rattle.policy_audit.specs.Listed.{listed, is_from}
@@ -106,16 +106,19 @@ pub use Rattle.node_core.specs.declared.kept.Kept.{Kept}
 pub use Rattle.node_core.specs.Exiting.{all_frames, exit_frames, AreExits, AreExitsTold, ArePrepared, bare}
 pub use Rattle.node_core.specs.Gone.{AreCut, AreLost, without_ended}
 pub use Rattle.node_core.specs.Handshakes.{HaveEnded, moved_on, older_of, without_link, HaveComeUp, HaveGoneOn, HaveMoved, IsReady}
-pub use Rattle.node_core.specs.Hearing.{Hears, heard_named, is_handshake, rule_of, accepted_as, nobody, state_checks}
+pub use Rattle.node_core.specs.Hearing.{Hears, heard_named, is_handshake, rule_of, accepted_as}
+pub use Rattle.node_core.specs.Hearing.{beside, state_checks}
 pub use Rattle.node_core.specs.LinkFacts.{IsIntroduced, IsLinkOf, IsState, LinkFacts, LinkWords, LinksFollow, facts, kept_numbers, link_words, Awaits}
 pub use Rattle.node_core.specs.LinkFacts.{IsGiven, IsPeer}
 pub use Rattle.node_core.specs.Links.{KeptLink, StatelessLink, in_state, committed, dial_beside, dialled_peer, known_peer, narrow_frames, prepared_for, unroomed, up_peer}
-pub use Rattle.node_core.specs.Links.{with_frames, with_prepared, with_room, are_of_peer, dial_to, dialled_link, is_ended, is_shown}
+pub use Rattle.node_core.specs.Links.{with_frames, with_prepared, with_room, are_of_peer, dial_to}
+pub use Rattle.node_core.specs.Links.{dialled_link, is_ended, is_shown, link_place, without_number}
 pub use Rattle.node_core.specs.Moving.{IsMoved, IsJoinRefusal, IsLeaveRefusal, fault_of, join_of, leave_of, own_checks}
 pub use Rattle.node_core.specs.Parting.{ArePartings, IsCutOff, IsParting, rows_left, HasParted, count_but, without}
 pub use Rattle.node_core.specs.ProcessFacts.{ProcessesFollow, process_words}
 pub use Rattle.node_core.specs.Processes.{Spawned}
-pub use Rattle.node_core.specs.ScopeFacts.{IsRunningOf, ScopeWords, ScopesFollow, is_number, scope_words, with_number}
+pub use Rattle.node_core.specs.ScopeFacts.{IsRunningOf, ScopeWords, ScopesFollow, is_number}
+pub use Rattle.node_core.specs.ScopeFacts.{scope_words, with_number, scope_place}
 pub use Rattle.node_core.specs.Telling.{Alike, AreIdle, AreTold, if_among, said_to, shown_numbers, IsBrief, is_said, put_scope}
 pub use Rattle.node_core.specs.MessageRules.{AnswersDiscover, HasBecome, IsAddRefusal, IsTakeRefusal, early_checks}
 pub use Rattle.node_core.specs.declared.fault.CoreFault.{CoreFault}

@@ -1,11 +1,12 @@
 -- What is known of a frame and its link, where it is handed to what hears it.
-use Rattle.std.specs.Prelude.{◌≡◌, ℕ, nat_eq, true, false, None, Some, position}
-use Rattle.dist_types.specs.Listing.{same}
+use Rattle.std.specs.Prelude.{◌≡◌, ℕ, true, false, None, Some}
 use Rattle.link_frames.specs.declared.message.Message.{Message}
 use Rattle.policy_audit.specs.Checks.{first_broken}
 use Rattle.policy_audit.specs.Links.{is_open, is_up}
 use Rattle.policy_audit.specs.Sides.{awaits, is_last, is_whole}
 use Rattle.node_core.specs.declared.kept.Kept.{Kept}
+use Rattle.node_core.specs.Links.{link_place}
+use Rattle.node_core.specs.ScopeFacts.{scope_place}
 use Rattle.node_core.specs.Messages.{scope_in}
 use Rattle.node_core.specs.MessageRules.{early_checks}
 use Rattle.node_core.specs.Step.{Call, IsCalled}
@@ -14,7 +15,7 @@ use Rattle.node_core.specs.Telling.{IsBrief}
 -- the link of this number is kept at this place
 pub record IsLinkHere (call : Call) (kept : Kept) (place number : ℕ) : Type 0 where
   pub called : IsCalled call kept
-  pub here : position (λ x. nat_eq x.number number) kept.links.items ≡ Some place
+  pub here : link_place number kept.links.items ≡ Some place
 
 -- it awaits a frame of the handshake that isn't the last
 pub record AwaitsEarly (call : Call) (kept : Kept) (place number : ℕ) : Type 0 where
@@ -37,6 +38,6 @@ pub record IsUpLink (call : Call) (kept : Kept) (place number : ℕ) : Type 0 wh
 -- the message, for the scope that is kept at this place, breaks no rule but those that the table tells
 pub record IsSoundMessage (call : Call) (kept : Kept) (place at number : ℕ) (message : Message) : Type 0 where
   pub on : IsUpLink call kept place number
-  pub there : position (λ r. same r.scope (scope_in message)) kept.scopes.items ≡ Some at
+  pub there : scope_place (scope_in message) kept.scopes.items ≡ Some at
   pub holds : first_broken (early_checks call.past number message) ≡ None
   pub brief : IsBrief message

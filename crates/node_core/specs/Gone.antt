@@ -1,15 +1,15 @@
 -- What goes with a link.
-use Rattle.std.specs.Prelude.{◌≡◌, ℕ, cond, nat_eq, not, List, [], Option, Some, None}
-use Rattle.std.specs.List.{filter, AllZip}
+use Rattle.std.specs.Prelude.{◌≡◌, ℕ, cond, List, [], Option, Some, None}
+use Rattle.std.specs.List.{AllZip}
 use Rattle.scope_core.specs.Calls.{count_after_drop}
 use Rattle.policy_audit.specs.declared.change.Change.{Change}
 use Rattle.node_core.specs.declared.running.Running.{Running}
-use Rattle.node_core.specs.Links.{KeptLink, is_ended}
+use Rattle.node_core.specs.Links.{KeptLink, is_ended, without_number}
 use Rattle.node_core.specs.Parting.{ArePartings, IsCutOff}
 
 -- the links but this one, if it has ended
 abbrev pub without_ended : KeptLink → List KeptLink → List KeptLink
-without_ended link links = cond (is_ended link.state) (filter (λ x. not (nat_eq x.number link.number)) links) links
+without_ended link links = cond (is_ended link.state) (without_number link.number links) links
 
 -- the changes of all scopes where a link is gone that is up with this peer, if it is up
 abbrev pub AreLost : Option (List ℕ) → List Running → List Change → Type 0

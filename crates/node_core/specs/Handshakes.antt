@@ -1,6 +1,7 @@
 -- What the outcome of a frame of the handshake makes of the kept links.
-use Rattle.std.specs.Prelude.{◌≡◌, ℕ, ◌≤◌, Bool, false, cond, not, nat_eq, List, [], ◌++◌, Option, Some, None, find}
-use Rattle.std.specs.List.{filter, insert}
+use Rattle.std.specs.Prelude.{◌≡◌, ℕ, ◌≤◌, Bool, false, cond, List, [], ◌++◌, Option, Some, None}
+use Rattle.std.specs.Prelude.{find}
+use Rattle.std.specs.List.{insert}
 use Rattle.std.specs.Option.{option_map, option_map_or}
 use Rattle.dist_types.specs.Listing.{same}
 use Rattle.dist_types.specs.Difference.{is_empty}
@@ -8,7 +9,8 @@ use Rattle.policy_audit.specs.OutFrame.{OutFrame}
 use Rattle.link_states.specs.States.{Linked}
 use Rattle.node_core.specs.declared.link_state.LinkState.{LinkState}
 use Rattle.node_core.specs.declared.link_state.LinkState.TheVariants as states
-use Rattle.node_core.specs.Links.{KeptLink, StatelessLink, in_state, up_peer, dial_beside, narrow_frames}
+use Rattle.node_core.specs.Links.{KeptLink, StatelessLink, in_state, up_peer, dial_beside}
+use Rattle.node_core.specs.Links.{narrow_frames, without_number}
 
 -- the link takes so many frames more without memory
 pub record IsReady (link : StatelessLink) (frames : ℕ) : Type 0 where
@@ -22,7 +24,7 @@ moved_on state frames room link = record { number = link.number; state = state; 
 -- the links but the one of this number, if there is one
 abbrev pub without_link : Option ℕ → List KeptLink → List KeptLink
 without_link None links = links
-without_link (Some number) links = filter (λ x. not (nat_eq x.number number)) links
+without_link (Some number) links = without_number number links
 
 -- the number of the link that is up with this peer
 abbrev pub older_of : List ℕ → List KeptLink → Option ℕ

@@ -1,6 +1,7 @@
 -- What a frame of the handshake makes of a link's state: the next one, or the first rule that is broken.
 use Rattle.std.specs.Prelude.{◌≡◌, ℕ, Bool, true, false, List, [], ◌∷◌, Option, Some, None}
-use Rattle.std.specs.Option.{option_map}
+use Rattle.std.specs.List.{flat_map}
+use Rattle.std.specs.Option.{option_map, option_to_list}
 use Rattle.handshake_frames.specs.Reading.{name_frame, challenge_frame, reply_frame, ack_frame, status_of}
 use Rattle.admission_rules.specs.Admission.{AdmissionRules}
 use Rattle.link_states.specs.declared.await_name.Named.{Named}
@@ -18,6 +19,7 @@ use Rattle.policy_audit.specs.declared.rule.Rule.TheVariants as rule
 use Rattle.node_core.specs.declared.link_state.LinkState.{LinkState}
 use Rattle.node_core.specs.declared.link_state.LinkState.TheVariants as state
 use Rattle.node_core.specs.declared.hearing.Heard.{Heard}
+use Rattle.node_core.specs.Links.{KeptLink, up_peer, dialled_peer}
 use Rattle.node_core.specs.declared.hearing.Heard.TheVariants as heard
 
 -- the rule of the node that a rule of the handshake is
@@ -34,9 +36,12 @@ rule_of broken.PeerSaid = rule.PeerSaid
 rule_of broken.BadDigest = rule.BadDigest
 rule_of broken.LinkUp = rule.LinkUp
 
--- nobody is up or dialled
-abbrev pub nobody : Pending
-nobody = record { up = []; dials = [] }
+-- who is up and who is dialled over other links
+abbrev pub beside : List KeptLink → Pending
+beside links = record {
+  up = flat_map (λ x. option_to_list (up_peer x.state)) links;
+  dials = flat_map (λ x. option_to_list (dialled_peer x.state)) links;
+}
 
 -- the state is one of the handshake
 abbrev pub is_handshake : LinkState → Bool

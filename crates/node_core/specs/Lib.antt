@@ -7,6 +7,7 @@ pub mod ProcessFacts
 pub mod AdmissionFacts
 pub mod Core
 pub mod Step
+pub mod Unentered
 pub mod Parting
 pub mod Calm
 pub mod Messages

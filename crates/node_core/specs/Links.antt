@@ -1,6 +1,7 @@
 -- A link as contracts see it.
-use Rattle.std.specs.Prelude.{ℕ, Bool, true, false, cond, find, nat_eq, ◌==◌, ◌&&◌, List, ◌++◌, ◌∷◌, [], map, Option, Some, None}
-use Rattle.std.specs.List.{list_any, list_all}
+use Rattle.std.specs.Prelude.{ℕ, Bool, true, false, cond, find, position, not, nat_eq, ◌==◌, ◌&&◌}
+use Rattle.std.specs.Prelude.{List, ◌++◌, ◌∷◌, [], map, Option, Some, None}
+use Rattle.std.specs.List.{list_any, list_all, filter}
 use Rattle.dist_types.specs.declared.row.Row.{Row}
 use Rattle.dist_types.specs.Listing.{same, Rises}
 use Rattle.std.specs.Ordering.{nat_cmp}
@@ -99,6 +100,14 @@ dial_to peer links = find (λ x. option_map_or (λ n. same n peer) (dialled_peer
 abbrev pub dial_beside : LinkState → List KeptLink → Option ℕ
 dial_beside (state.Reply s) links = option_map (λ x. x.number) (dial_to s.peer links)
 dial_beside s links = None
+
+-- the place of the link of this number
+abbrev pub link_place : ℕ → List KeptLink → Option ℕ
+link_place number links = position (λ x. nat_eq x.number number) links
+
+-- the links but the one of this number
+abbrev pub without_number : ℕ → List KeptLink → List KeptLink
+without_number number links = filter (λ x. not (nat_eq x.number number)) links
 
 -- the link, whatever its room
 abbrev pub unroomed : KeptLink → KeptLink

@@ -4,8 +4,8 @@ use Rattle.dist_types.specs.declared.pid.Pid.{Pid}
 use Rattle.dist_types.specs.declared.row.Row.{Row}
 use Rattle.dist_types.specs.declared.change.GroupChange.{GroupChange}
 use Rattle.dist_types.specs.Difference.{IsDifference}
-use Rattle.dist_types.specs.Listing.{IsRowListing}
-use Rattle.scope_core.specs.Table.{Table, local_count, node_total, max_rows}
+use Rattle.dist_types.specs.Listing.{IsRowListing, max_rows}
+use Rattle.scope_core.specs.Table.{Table, local_count, node_total}
 use Rattle.scope_core.specs.Calls.{Counts, are_counted}
 use Rattle.link_frames.specs.declared.message.Message.{Message}
 use Rattle.link_frames.specs.declared.message.Message.TheVariants as said

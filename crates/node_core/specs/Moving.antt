@@ -4,13 +4,13 @@ use Rattle.std.specs.List.{list_all}
 use Rattle.dist_types.specs.declared.pid.Pid.{Pid}
 use Rattle.dist_types.specs.declared.change.GroupChange.{GroupChange}
 use Rattle.dist_types.specs.Difference.{IsDifference}
-use Rattle.dist_types.specs.Listing.{listing, mentions}
+use Rattle.dist_types.specs.Listing.{listing, max_rows, mentions}
 use Rattle.dist_types.specs.Order.{pid_cmp}
 use Rattle.link_frames.specs.declared.message.Message.{Message}
 use Rattle.link_frames.specs.declared.message.Message.TheVariants as said
 use Rattle.scope_core.specs.declared.fault.TableFault.{TableFault}
 use Rattle.scope_core.specs.declared.fault.TableFault.TheVariants as fault
-use Rattle.scope_core.specs.Table.{Table, count_of, local_count, local_total, max_rows}
+use Rattle.scope_core.specs.Table.{Table, count_of, local_count, local_total}
 use Rattle.scope_core.specs.Calls.{Counts, is_any_joined}
 use Rattle.policy_audit.specs.declared.change.Change.{Change}
 use Rattle.policy_audit.specs.declared.rule.Rule.TheVariants as rule
@@ -31,7 +31,7 @@ abbrev pub own_checks : History → List Pid → List Check
 own_checks h ps =
     unless (list_all (is_local h) ps) rule.NotLocal
     ∷ unless (list_all (lives h) ps) rule.NoProcess
-    ∷ unless (nat_le (length ps) 4096) rule.RowsFull
+    ∷ unless (nat_le (length ps) max_rows) rule.RowsFull
     ∷ []
 
 -- the Join of these processes

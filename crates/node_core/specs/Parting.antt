@@ -9,15 +9,15 @@ use Rattle.dist_types.specs.Difference.{is_empty, IsDifference}
 use Rattle.scope_core.specs.Table.{Table, count_of}
 use Rattle.scope_core.specs.Calls.{Counts, no_count, count_after_exit, count_after_drop}
 use Rattle.policy_audit.specs.declared.change.Change.{Change}
-use Rattle.node_core.specs.declared.changes.Part.{Part}
-use Rattle.node_core.specs.declared.changes.Part.TheVariants as part
+use Rattle.node_core.specs.declared.changes.Leaving.{Leaving}
+use Rattle.node_core.specs.declared.changes.Leaving.TheVariants as leaving
 use Rattle.node_core.specs.declared.running.Running.{Running}
 
--- how often each is counted without the part
-abbrev pub count_but : Part → Table → List ℕ → Pid → ℕ
-count_but (part.Process p) t = count_after_exit t p.now
-count_but (part.Node n) t = count_after_drop t n.now
-count_but part.All t = no_count
+-- how often each is counted without the rows that leave
+abbrev pub count_but : Leaving → Table → List ℕ → Pid → ℕ
+count_but (leaving.Process p) t = count_after_exit t p.now
+count_but (leaving.Node n) t = count_after_drop t n.now
+count_but leaving.All t = no_count
 
 -- the change of one scope, perhaps none, where these counts are left of a table
 pub record IsParting (left : Table → List ℕ → Pid → ℕ) (r : Running) (c : Change) : Type 0 where
@@ -30,8 +30,8 @@ pub record ArePartings (left : Table → List ℕ → Pid → ℕ) (rs : List Ru
   pub each : AllZip (IsParting left) rs all
   pub some : cs ≡ filter (λ c. not (is_empty c.groups)) all
 
--- the scope after a part has left
-pub record HasParted (away : Part) (old new : Running) : Type 0 where
+-- the scope after these rows have left
+pub record HasParted (away : Leaving) (old new : Running) : Type 0 where
   pub scope : new.scope ≡ old.scope
   pub rows : Counts old.table new.table (count_but away old.table)
   pub heard : new.heard.items ≡ old.heard.items

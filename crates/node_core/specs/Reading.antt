@@ -13,8 +13,8 @@ use Rattle.policy_audit.specs.Checks.{checks, first_broken}
 use Rattle.policy_audit.specs.Policy.{answer}
 use Rattle.node_core.specs.declared.fault.CoreFault.{CoreFault}
 use Rattle.node_core.specs.declared.fault.CoreFault.TheVariants as faults
-use Rattle.node_core.specs.declared.awaiting.Frame.{Frame}
-use Rattle.node_core.specs.declared.awaiting.Frame.TheVariants as frame
+use Rattle.node_core.specs.declared.awaiting.FrameKind.{FrameKind}
+use Rattle.node_core.specs.declared.awaiting.FrameKind.TheVariants as frame
 use Rattle.node_core.specs.declared.awaiting.Awaiting.{Awaiting}
 use Rattle.node_core.specs.declared.link_state.LinkState.{LinkState}
 use Rattle.node_core.specs.declared.link_state.LinkState.TheVariants as state
@@ -33,7 +33,7 @@ abbrev pub up_names : History → List (List ℕ)
 up_names h = flat_map (up_name h) (kept_numbers h)
 
 -- what the policy calls this
-abbrev pub frame_of : Awaited → Frame
+abbrev pub frame_of : Awaited → FrameKind
 frame_of AwaitName = frame.Name
 frame_of AwaitAnswer = frame.Answer
 frame_of AwaitReply = frame.Reply
@@ -43,7 +43,7 @@ frame_of AwaitAck = frame.Ack
 frame_of AwaitMessage = frame.Message
 
 -- what a link in this state awaits
-abbrev pub frame_awaited : LinkState → Option Frame
+abbrev pub frame_awaited : LinkState → Option FrameKind
 frame_awaited (state.Name challenge) = Some frame.Name
 frame_awaited (state.Answer s) = Some frame.Answer
 frame_awaited (state.Reply s) = Some frame.Reply

@@ -1,8 +1,9 @@
 -- The scopes of a node are those that run: each with the rows that are listed, and the links over which it is shared.
-use Rattle.std.specs.Prelude.{◌≡◌, ℕ, Bool, cond, nat_eq, List, [], ◌∷◌, ◌++◌, map}
+use Rattle.std.specs.Prelude.{◌≡◌, ℕ, Bool, cond, nat_eq, List, [], ◌∷◌, ◌++◌, Option, map}
+use Rattle.std.specs.Prelude.{position}
 use Rattle.std.specs.List.{list_any, AllByRecursion}
 use Rattle.dist_types.specs.declared.pid.Pid.{Pid}
-use Rattle.dist_types.specs.Listing.{Rises}
+use Rattle.dist_types.specs.Listing.{same, Rises}
 use Rattle.dist_types.specs.Order.{text_cmp}
 use Rattle.scope_core.specs.Table.{count_of}
 use Rattle.policy_audit.specs.History.{History}
@@ -18,6 +19,10 @@ is_number n ns = list_any (nat_eq n) ns
 -- the number among these, where it isn't yet
 abbrev pub with_number : ℕ → List ℕ → List ℕ
 with_number n ns = cond (is_number n ns) ns (ns ++ n ∷ [])
+
+-- the place of this scope
+abbrev pub scope_place : List ℕ → List Running → Option ℕ
+scope_place s scopes = position (λ r. same r.scope s) scopes
 
 -- scopes in the order of their names, each once
 abbrev pub AreAscending : List Running → Type 0

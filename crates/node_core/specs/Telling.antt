@@ -3,6 +3,7 @@ use Rattle.std.specs.Prelude.{◌≡◌, ℕ, ◌≤◌, Bool, true, cond, not, 
 use Rattle.std.specs.List.{filter, AllByRecursion}
 use Rattle.std.specs.Ordering.{is_lt}
 use Rattle.dist_types.specs.Difference.{is_empty}
+use Rattle.dist_types.specs.Listing.{max_rows}
 use Rattle.dist_types.specs.Order.{text_cmp}
 use Rattle.link_frames.specs.declared.message.Message.{Message}
 use Rattle.link_frames.specs.declared.message.Message.TheVariants as said
@@ -40,9 +41,9 @@ put_scope r (x ∷ xs) = cond (is_lt (text_cmp x.scope r.scope)) (x ∷ put_scop
 
 -- the message brings no more rows than a scope has of one node
 abbrev pub IsBrief : Message → Type 0
-IsBrief (said.Sync s rows) = length rows ≤ 4096
-IsBrief (said.Join s rows) = length rows ≤ 4096
-IsBrief (said.Leave s rows) = length rows ≤ 4096
+IsBrief (said.Sync s rows) = length rows ≤ max_rows
+IsBrief (said.Join s rows) = length rows ≤ max_rows
+IsBrief (said.Leave s rows) = length rows ≤ max_rows
 IsBrief m = Unit {0}
 
 -- there is something to say: a Join and a Leave bring a row

@@ -7,9 +7,9 @@ use crate::link_state::LinkState;
 use dist_types::OutOfMemory;
 use std::alloc::Global;
 
-/// A frame of the handshake, or a message after it.
+/// Which frame of the handshake, or a message after it.
 #[derive(Clone, Copy, Debug, PartialEq, Eq)]
-pub enum Frame {
+pub enum FrameKind {
     Name,
     Answer,
     Reply,
@@ -25,21 +25,21 @@ pub struct Awaiting {
     /// The number of the entry that opened it.
     pub link: u32,
     /// None, where a refused frame of its own ended it.
-    pub frame: Option<Frame>,
+    pub frame: Option<FrameKind>,
 }
 
 /// What a link in this state awaits.
-fn frame_awaited(state: &LinkState) -> Option<Frame>
+fn frame_awaited(state: &LinkState) -> Option<FrameKind>
     ensures { result ≡ frame_awaited state.now }
 {
     Some(match state {
-        LinkState::Name(_) => Frame::Name,
-        LinkState::Answer(_) => Frame::Answer,
-        LinkState::Reply(_) => Frame::Reply,
-        LinkState::Status(_) => Frame::Status,
-        LinkState::Challenge(_) => Frame::Challenge,
-        LinkState::Ack(_) => Frame::Ack,
-        LinkState::Up(_) => Frame::Message,
+        LinkState::Name(_) => FrameKind::Name,
+        LinkState::Answer(_) => FrameKind::Answer,
+        LinkState::Reply(_) => FrameKind::Reply,
+        LinkState::Status(_) => FrameKind::Status,
+        LinkState::Challenge(_) => FrameKind::Challenge,
+        LinkState::Ack(_) => FrameKind::Ack,
+        LinkState::Up(_) => FrameKind::Message,
         LinkState::Ended => return None,
     })
 }

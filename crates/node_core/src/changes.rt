@@ -18,50 +18,50 @@ use scope_core::ScopeTable;
 use std::alloc::Global;
 use std::marker::Model;
 
-/// Rows that leave together.
+/// Whose rows leave, together.
 #[derive(Clone, Copy)]
-pub enum Part<'a> {
-    /// Those of a process.
+pub enum Leaving<'a> {
+    /// A process's.
     Process(&'a Pid),
-    /// Those of a node.
+    /// A node's.
     Node(&'a NodeName),
     /// All.
     All,
 }
 
-/// What the leaving of a part will change.
-fn change_of(table: &ScopeTable, part: Part<'_>) -> Result<Vec<GroupChange>, OutOfMemory>
-    ensures { IfOk result (λ groups. IsDifference (count_of table.now) (count_but part.entry table.now) groups.items) }
+/// What the leaving of these rows will change.
+fn change_of(table: &ScopeTable, leaving: Leaving<'_>) -> Result<Vec<GroupChange>, OutOfMemory>
+    ensures { IfOk result (λ groups. IsDifference (count_of table.now) (count_but leaving.entry table.now) groups.items) }
 {
-    match part {
-        Part::Process(pid) => table.exit_change(pid),
-        Part::Node(node) => table.drop_change(node),
-        Part::All => table.clear_change(),
+    match leaving {
+        Leaving::Process(pid) => table.exit_change(pid),
+        Leaving::Node(node) => table.drop_change(node),
+        Leaving::All => table.clear_change(),
     }
 }
 
-/// A part leaves.
-fn leave(table: &mut ScopeTable, part: Part<'_>)
-    ensures { Counts table.old table.new (count_but part.entry table.old) }
+/// These rows leave.
+fn leave(table: &mut ScopeTable, leaving: Leaving<'_>)
+    ensures { Counts table.old table.new (count_but leaving.entry table.old) }
 {
-    match part {
-        Part::Process(pid) => table.exit(pid),
-        Part::Node(node) => table.drop_peer(node),
-        Part::All => table.clear(),
+    match leaving {
+        Leaving::Process(pid) => table.exit(pid),
+        Leaving::Node(node) => table.drop_peer(node),
+        Leaving::All => table.clear(),
     }
 }
 
-/// What the leaving of a part will change in each scope.
+/// What the leaving of these rows will change in each scope.
 pub fn changes_of(
     alloc: Global,
     scopes: &[Running],
-    part: Part<'_>,
+    leaving: Leaving<'_>,
 ) -> Result<Vec<Change>, OutOfMemory>
-    ensures { IfOk result (λ changes. ArePartings (count_but part.entry) scopes.now changes.items) }
+    ensures { IfOk result (λ changes. ArePartings (count_but leaving.entry) scopes.now changes.items) }
 {
     let mut changes = Vec::new(alloc);
     for running in scopes {
-        let groups = change_of(&running.table, part)?;
+        let groups = change_of(&running.table, leaving)?;
         if !groups.is_empty() {
             changes.push(Change {
                 scope: running.scope.try_clone(alloc)?,
@@ -73,12 +73,12 @@ pub fn changes_of(
     Ok(changes)
 }
 
-/// A part leaves all scopes.
-pub fn leave_all(scopes: &mut Vec<Running>, part: Part<'_>)
-    ensures { AllZip (HasParted part.entry) scopes.old.items scopes.new.items }
+/// These rows leave all scopes.
+pub fn leave_all(scopes: &mut Vec<Running>, leaving: Leaving<'_>)
+    ensures { AllZip (HasParted leaving.entry) scopes.old.items scopes.new.items }
 {
     for running in scopes.iter_mut() {
-        leave(&mut running.table, part);
+        leave(&mut running.table, leaving);
     }
 }
 

@@ -38,7 +38,11 @@ impl Answered {
     pub fn changed(changes: Vec<Change>) -> Answered
         ensures { Says result Reply.Done changes.items }
     {
-        Answered::both(Reply::Done, Reply::Done, changes)
+        Answered {
+            reply: Reply::Done,
+            copy: Reply::Done,
+            changes,
+        }
     }
 
     /// This answer, and no row has changed.
@@ -80,7 +84,9 @@ impl Answered {
             changes,
         } = self;
         let verdict = Verdict::Accepted(copy);
-        push(audit, seat, event, verdict, Changes::of(changes));
+        audit
+            .push(seat, event, verdict, Changes::of(changes))
+            .unwrap();
         reply
     }
 }
@@ -120,14 +126,7 @@ fn reject(alloc: Global, audit: &mut Audit, seat: u32, event: Event, rule: Rule)
     ensures limit { audit.new.limit ≡ audit.old.limit }
 {
     let nothing = Changes::of(Vec::new(alloc));
-    push(audit, seat, event, Verdict::Refused(rule), nothing);
-}
-
-fn push(audit: &mut Audit, seat: u32, event: Event, verdict: Verdict, change: Changes)
-    requires room { audit.old.has_room ≡ true }
-    requires space { length audit.old.entries < audit.old.limit }
-    ensures entries { audit.new.entries ≡ record { number = length audit.old.entries + 1; seat = seat; event = event; verdict = verdict; change = change } ∷ audit.old.entries }
-    ensures limit { audit.new.limit ≡ audit.old.limit }
-{
-    audit.push(seat, event, verdict, change).unwrap();
+    audit
+        .push(seat, event, Verdict::Refused(rule), nothing)
+        .unwrap();
 }

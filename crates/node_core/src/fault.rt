@@ -2,6 +2,7 @@
 ghost use Rattle.std.specs.Prelude.{◌≡◌};
 ghost use Rattle.node_core.specs.declared.fault.CoreFault.TheVariants as faults;
 ghost use Rattle.node_core.specs.declared.fault.OpenFault.TheVariants as open_faults;
+ghost use Rattle.node_core.specs.Unentered.{unentered};
 
 use dist_types::OutOfMemory;
 use policy_audit::{AuditFault, Rule};
@@ -44,12 +45,14 @@ impl From<AllocError> for CoreFault {
     }
 }
 
-/// The audit isn't full where an entry is made, so that only memory can be wanting.
 impl From<AuditFault> for CoreFault {
-    ghost from_gives = { λ _ fault. fault ≡ faults.OutOfMemory };
+    ghost from_gives = { λ error fault. fault ≡ unentered error };
 
-    fn from(_error: AuditFault) -> CoreFault {
-        CoreFault::OutOfMemory
+    fn from(error: AuditFault) -> CoreFault {
+        match error {
+            AuditFault::EntriesFull => CoreFault::Refused(Rule::EntriesFull),
+            AuditFault::OutOfMemory => CoreFault::OutOfMemory,
+        }
     }
 }
 

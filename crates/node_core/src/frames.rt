@@ -19,7 +19,7 @@ pub fn frame_of(alloc: Global, message: &Message) -> Result<OutFrame, OutOfMemor
     encode(message, &mut body)?;
     Ok(OutFrame {
         wide: true,
-        body: Body::of(body),
+        body: Body::of(body)?,
     })
 }
 

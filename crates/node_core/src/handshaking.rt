@@ -13,15 +13,16 @@ ghost use Rattle.policy_audit.specs.declared.event.Event.TheVariants as events;
 ghost use Rattle.node_core.specs.FramesHere.{AwaitsEarly, AwaitsLast};
 ghost use Rattle.node_core.specs.Step.{Call, IsCalled, Answers};
 
-use crate::changes::{Part, changes_of, end_link};
+use crate::beside::Beside;
+use crate::changes::{Leaving, changes_of, end_link};
 use crate::entering::Answered;
 use crate::fault::CoreFault;
 use crate::frames::discover_frame;
-use crate::hearing::{Heard, hear, hear_last};
+use crate::hearing::{Heard, hear};
 use crate::kept::Kept;
 use crate::link::{Link, Stateless};
 use crate::link_state::LinkState;
-use crate::links::{dial_to, pending_of, place_of, remove};
+use crate::links::{dial_to, place_of, remove};
 use crate::running::Running;
 use dist_types::{Body, NodeName, OutOfMemory, TryClone};
 use link_states::{Bodies, Up};
@@ -71,12 +72,16 @@ impl Kept {
         requires { AwaitsEarly call self.old place number }
         ensures { Answers call (events.Frame number body.now) self.new result }
     {
-        let pending = pending_of(self.alloc, &self.links)?;
         self.links[place].make_room(MOST_OWED)?;
         let (state, link) = self.links.remove(place).into_parts();
         let bytes = body.as_slice();
-        let heard = hear(self.alloc, state, bytes, &self.admission, &pending);
-        drop(pending);
+        let heard = hear(
+            self.alloc,
+            state,
+            bytes,
+            &self.admission,
+            &Beside::of(&self.links),
+        );
         match heard {
             Heard::On {
                 state,
@@ -108,7 +113,15 @@ impl Kept {
         self.links[place].make_room(MOST_OWED + self.scopes.len())?;
         let arrival = arrival_of(self.alloc, &self.links[place], &self.scopes)?;
         let (state, link) = self.links.remove(place).into_parts();
-        match hear_last(self.alloc, state, body.as_slice(), &self.admission) {
+        let bytes = body.as_slice();
+        let heard = hear(
+            self.alloc,
+            state,
+            bytes,
+            &self.admission,
+            &Beside::of(&self.links),
+        );
+        match heard {
             Heard::Up { up, frames } => {
                 let Arrival {
                     peer,
@@ -117,8 +130,9 @@ impl Kept {
                     discovers,
                 } = arrival;
                 let (reply, copy) = (up_reply(peer, &up), up_reply(kept, &up));
-                let (links, scopes) = (&mut self.links, &mut self.scopes);
-                settle(links, scopes, place, link, up, frames, discovers);
+                let gone = older_of(&self.links, up.peer()).unwrap_or(link.number());
+                end_link(&mut self.scopes, gone, up.peer());
+                come_up(&mut self.links, place, link, up, frames, discovers);
                 Ok(Answered::both(reply, copy, changes))
             }
             Heard::Ended { rule, frames } => {
@@ -226,27 +240,6 @@ fn put(links: &mut Vec<Link>, place: usize, link: Link)
     let _ = links.insert(place, link);
 }
 
-/// A link is up, at this place. Its peer's older one is gone, with all that was shared over it.
-fn settle(
-    links: &mut Vec<Link>,
-    scopes: &mut Vec<Running>,
-    place: usize,
-    link: Stateless,
-    up: Up,
-    frames: Bodies,
-    discovers: Vec<OutFrame>,
-)
-    requires within { place ≤ vec_len links.old }
-    requires space { vec_len links.old < vec_capacity links.old }
-    requires ready { IsReady link (length frames + length discovers.items) }
-    ensures links { HaveComeUp place link up frames discovers.items links.old.items links.new.items }
-    ensures scopes { AllZip (IsCutOff (unwrap_or (older_of up.peer links.old.items) link.number) up.peer) scopes.old.items scopes.new.items }
-{
-    let gone = older_of(links, up.peer()).unwrap_or(link.number());
-    end_link(scopes, gone, up.peer());
-    come_up(links, place, link, up, frames, discovers);
-}
-
 /// Frames that wait from now on: those of the handshake, and then the Discovers, if the link is visible.
 fn owe_all(link: &mut Link, frames: Bodies, visible: bool, discovers: Vec<OutFrame>)
     requires room { length frames + length discovers.items ≤ link.old.room }
@@ -298,7 +291,7 @@ fn arrival_of(alloc: Global, link: &Link, scopes: &[Running]) -> Result<Arrival,
     Ok(Arrival {
         peer: peer.try_clone(alloc)?,
         kept: peer.try_clone(alloc)?,
-        changes: changes_of(alloc, scopes, Part::Node(peer))?,
+        changes: changes_of(alloc, scopes, Leaving::Node(peer))?,
         discovers: discovers_of(alloc, scopes)?,
     })
 }

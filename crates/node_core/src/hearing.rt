@@ -2,13 +2,14 @@
 ghost use Rattle.std.specs.Prelude.{◌≡◌, true, false};
 ghost use Rattle.link_states.specs.Checks.{Check};
 ghost use Rattle.node_core.specs.declared.link_state.LinkState.TheVariants as states;
-ghost use Rattle.node_core.specs.Hearing.{Hears, is_handshake, nobody, heard_named, rule_of};
+ghost use Rattle.node_core.specs.Hearing.{Hears, is_handshake, rule_of};
 
+use crate::beside::Beside;
 use crate::link_state::LinkState;
 use admission_rules::Admission;
 use link_states::{
     AwaitAck, AwaitAnswer, AwaitChallenge, AwaitName, AwaitReply, AwaitStatus, Bodies, Named,
-    Names, Pending, StateRule, Stopped, Up,
+    StateRule, Stopped, Up,
 };
 use policy_audit::Rule;
 use std::alloc::Global;
@@ -42,32 +43,20 @@ pub fn hear(
     state: LinkState,
     body: &[u8],
     admission: &Admission,
-    pending: &Pending,
+    others: &Beside<'_>,
 ) -> Heard
     requires { is_handshake state ≡ true }
-    ensures { Hears admission.now pending.now state body.now result }
+    ensures { Hears admission.now others.now state body.now result }
 {
     match state {
-        LinkState::Name(state) => hear_name(alloc, state, body, admission, pending),
-        LinkState::Answer(state) => hear_answer(alloc, state, body, admission, pending),
-        LinkState::Reply(state) => hear_reply(alloc, state, body, admission, pending),
-        LinkState::Status(state) => hear_status(alloc, state, body, admission, pending),
-        LinkState::Challenge(state) => hear_challenge(alloc, state, body, admission, pending),
-        LinkState::Ack(state) => hear_ack(alloc, state, body, admission, pending),
+        LinkState::Name(state) => hear_name(alloc, state, body, admission, others),
+        LinkState::Answer(state) => hear_answer(alloc, state, body, admission, others),
+        LinkState::Reply(state) => hear_reply(alloc, state, body, admission, others),
+        LinkState::Status(state) => hear_status(alloc, state, body, admission, others),
+        LinkState::Challenge(state) => hear_challenge(alloc, state, body, admission, others),
+        LinkState::Ack(state) => hear_ack(alloc, state, body, admission, others),
         LinkState::Up(_) | LinkState::Ended => unreachable!(),
     }
-}
-
-/// Takes a frame in a state of the handshake for which it doesn't matter who else is up or dialled.
-pub fn hear_last(alloc: Global, state: LinkState, body: &[u8], admission: &Admission) -> Heard
-    requires { is_handshake state ≡ true }
-    ensures { Hears admission.now nobody state body.now result }
-{
-    let nobody = Pending {
-        up: Names::of(Vec::new(alloc)),
-        dials: Names::of(Vec::new(alloc)),
-    };
-    hear(alloc, state, body, admission, &nobody)
 }
 
 fn hear_name(
@@ -75,11 +64,11 @@ fn hear_name(
     state: AwaitName,
     body: &[u8],
     admission: &Admission,
-    pending: &Pending,
+    others: &Beside<'_>,
 ) -> Heard
-    ensures { Hears admission.now pending.now (states.Name state) body.now result }
+    ensures { Hears admission.now others.now (states.Name state) body.now result }
 {
-    match state.take(alloc, body, admission, pending) {
+    match state.take(alloc, body, admission, others) {
         Ok(Named::Alive(state, frames)) => on(LinkState::Answer(state), frames, false),
         Ok(
             Named::Reply {
@@ -98,11 +87,11 @@ fn hear_answer(
     state: AwaitAnswer,
     body: &[u8],
     admission: &Admission,
-    pending: &Pending,
+    others: &Beside<'_>,
 ) -> Heard
-    ensures { Hears admission.now pending.now (states.Answer state) body.now result }
+    ensures { Hears admission.now others.now (states.Answer state) body.now result }
 {
-    match state.take(alloc, body, admission, pending) {
+    match state.take(alloc, body, admission, others) {
         Ok((state, frames)) => on(LinkState::Reply(state), frames, false),
         Err(Stopped::Ended { rule, frames }) => ended(rule, frames),
         Err(Stopped::OutOfMemory(state)) => Heard::OutOfMemory(LinkState::Answer(state)),
@@ -114,11 +103,11 @@ fn hear_reply(
     state: AwaitReply,
     body: &[u8],
     admission: &Admission,
-    pending: &Pending,
+    others: &Beside<'_>,
 ) -> Heard
-    ensures { Hears admission.now pending.now (states.Reply state) body.now result }
+    ensures { Hears admission.now others.now (states.Reply state) body.now result }
 {
-    match state.take(alloc, body, admission, pending) {
+    match state.take(alloc, body, admission, others) {
         Ok((up, frames)) => Heard::Up { up, frames },
         Err(Stopped::Ended { rule, frames }) => ended(rule, frames),
         Err(Stopped::OutOfMemory(state)) => Heard::OutOfMemory(LinkState::Reply(state)),
@@ -130,11 +119,11 @@ fn hear_status(
     state: AwaitStatus,
     body: &[u8],
     admission: &Admission,
-    pending: &Pending,
+    others: &Beside<'_>,
 ) -> Heard
-    ensures { Hears admission.now pending.now (states.Status state) body.now result }
+    ensures { Hears admission.now others.now (states.Status state) body.now result }
 {
-    match state.take(alloc, body, admission, pending) {
+    match state.take(alloc, body, admission, others) {
         Ok((state, frames)) => on(LinkState::Challenge(state), frames, false),
         Err(Stopped::Ended { rule, frames }) => ended(rule, frames),
         Err(Stopped::OutOfMemory(state)) => Heard::OutOfMemory(LinkState::Status(state)),
@@ -146,11 +135,11 @@ fn hear_challenge(
     state: AwaitChallenge,
     body: &[u8],
     admission: &Admission,
-    pending: &Pending,
+    others: &Beside<'_>,
 ) -> Heard
-    ensures { Hears admission.now pending.now (states.Challenge state) body.now result }
+    ensures { Hears admission.now others.now (states.Challenge state) body.now result }
 {
-    match state.take(alloc, body, admission, pending) {
+    match state.take(alloc, body, admission, others) {
         Ok((state, frames)) => on(LinkState::Ack(state), frames, false),
         Err(Stopped::Ended { rule, frames }) => ended(rule, frames),
         Err(Stopped::OutOfMemory(state)) => Heard::OutOfMemory(LinkState::Challenge(state)),
@@ -162,11 +151,11 @@ fn hear_ack(
     state: AwaitAck,
     body: &[u8],
     admission: &Admission,
-    pending: &Pending,
+    others: &Beside<'_>,
 ) -> Heard
-    ensures { Hears admission.now pending.now (states.Ack state) body.now result }
+    ensures { Hears admission.now others.now (states.Ack state) body.now result }
 {
-    match state.take(alloc, body, admission, pending) {
+    match state.take(alloc, body, admission, others) {
         Ok((up, frames)) => Heard::Up { up, frames },
         Err(Stopped::Ended { rule, frames }) => ended(rule, frames),
         Err(Stopped::OutOfMemory(state)) => Heard::OutOfMemory(LinkState::Ack(state)),

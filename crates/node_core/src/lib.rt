@@ -3,6 +3,7 @@
 
 mod admitting;
 mod awaiting;
+mod beside;
 mod changes;
 mod entering;
 mod fault;
@@ -27,7 +28,7 @@ mod scoping;
 mod sharing;
 mod telling;
 
-pub use awaiting::{Awaiting, Frame};
+pub use awaiting::{Awaiting, FrameKind};
 pub use fault::{CoreFault, OpenFault};
 pub use laws::stepped;
 pub use node::NodeCore;

@@ -9,7 +9,7 @@ ghost use Rattle.node_core.specs.Links.{up_peer, dialled_link};
 ghost use Rattle.policy_audit.specs.declared.event.Event.TheVariants as events;
 ghost use Rattle.node_core.specs.Step.{Call, IsCalled, Answers, Says};
 
-use crate::changes::{Part, changes_of, end_link};
+use crate::changes::{Leaving, changes_of, end_link};
 use crate::entering::Answered;
 use crate::fault::CoreFault;
 use crate::kept::Kept;
@@ -185,7 +185,7 @@ fn changes_without(
     ensures { IfOk result (λ changes. AreLost (up_peer link.now.state) scopes.now changes.items) }
 {
     match link.up_peer() {
-        Some(peer) => changes_of(alloc, scopes, Part::Node(peer)),
+        Some(peer) => changes_of(alloc, scopes, Leaving::Node(peer)),
         None => Ok(Vec::new(alloc)),
     }
 }

@@ -1,11 +1,11 @@
 //! The kept links together.
-ghost use Rattle.std.specs.Prelude.{◌≡◌, ◌++◌, ◌∷◌, [], ◌&&◌, cond, nat_eq, not, false, map, position, is_some, OnOk, OnErr, IfOk, ◌<◌, length, slice_index_or};
+ghost use Rattle.std.specs.Prelude.{◌≡◌, ◌++◌, ◌∷◌, [], ◌&&◌, cond, nat_eq, false, map, position, is_some, OnOk, OnErr, IfOk, ◌<◌, length, slice_index_or};
 ghost use Rattle.std.specs.List.{list_any, filter, flat_map, AllByRecursion};
 ghost use Rattle.std.specs.Option.{option_map, option_map_or, option_to_list};
 ghost use Rattle.dist_types.specs.Listing.{same};
 ghost use Rattle.link_frames.specs.Spelling.{HasSpelling};
 ghost use Rattle.policy_audit.specs.Owed.{wide};
-ghost use Rattle.node_core.specs.Links.{KeptLink, AreInOrder, up_peer, dialled_peer, dial_to, is_shown, with_prepared, unroomed, committed, prepared_for};
+ghost use Rattle.node_core.specs.Links.{KeptLink, AreInOrder, up_peer, dialled_peer, dial_to, is_shown, with_prepared, unroomed, committed, prepared_for, link_place, without_number};
 ghost use Rattle.node_core.specs.Gone.{without_ended};
 ghost use Rattle.node_core.specs.ScopeFacts.{is_number};
 
@@ -13,7 +13,6 @@ use crate::frames::frame_of;
 use crate::link::Link;
 use dist_types::{NodeName, OutOfMemory, TryClone};
 use link_frames::Message;
-use link_states::{Names, Pending};
 use policy_audit::OutFrame;
 use std::alloc::Global;
 
@@ -23,7 +22,7 @@ pub const MAX_LINKS: usize = 64;
 /// The place of the link of this number.
 pub fn place_of(links: &[Link], number: u32) -> Option<usize>
     requires { AreInOrder links.now }
-    ensures { result ≡ position (λ x. nat_eq x.number number) links.now }
+    ensures { result ≡ link_place number links.now }
 {
     links
         .binary_search_by(|link| link.number().cmp(&number))
@@ -71,30 +70,6 @@ pub fn up_peers(alloc: Global, links: &[Link]) -> Result<Vec<NodeName>, OutOfMem
         }
     }
     Ok(peers)
-}
-
-/// The peers of the own dials that are unfinished.
-fn dialled_peers(alloc: Global, links: &[Link]) -> Result<Vec<NodeName>, OutOfMemory>
-    ensures { IfOk result (λ names. names.items ≡ flat_map (λ x. option_to_list (dialled_peer x.state)) links.now) }
-{
-    let mut peers = Vec::new(alloc);
-    for link in links {
-        if let Some(peer) = link.dialled_peer() {
-            peers.push(peer.try_clone(alloc)?)?;
-        }
-    }
-    Ok(peers)
-}
-
-/// The peers that are up, and the own dials.
-pub fn pending_of(alloc: Global, links: &[Link]) -> Result<Pending, OutOfMemory>
-    ensures up { IfOk result (λ p. p.up ≡ flat_map (λ x. option_to_list (up_peer x.state)) links.now) }
-    ensures dials { IfOk result (λ p. p.dials ≡ flat_map (λ x. option_to_list (dialled_peer x.state)) links.now) }
-{
-    Ok(Pending {
-        up: Names::of(up_peers(alloc, links)?),
-        dials: Names::of(dialled_peers(alloc, links)?),
-    })
 }
 
 /// The numbers of the links that are up and visible.
@@ -178,7 +153,7 @@ pub fn forget(links: &mut Vec<Link>)
 
 /// The link of this number is gone.
 pub fn remove(links: &mut Vec<Link>, number: u32)
-    ensures { links.new.items ≡ filter (λ x. not (nat_eq x.number number)) links.old.items }
+    ensures { links.new.items ≡ without_number number links.old.items }
 {
     links.retain(|link| link.number() != number);
 }

@@ -1,8 +1,8 @@
 //! The node's own processes in groups.
 ghost use Rattle.std.specs.Prelude.{◌≡◌, ◌≤◌, ◌+◌, ◌==◌, ◌&&◌, true, length, All, IfOk, IfErr, OnOk, OnErr};
 ghost use Rattle.std.specs.List.{list_all};
-ghost use Rattle.dist_types.specs.Listing.{same};
-ghost use Rattle.scope_core.specs.Table.{local_total, max_rows};
+ghost use Rattle.dist_types.specs.Listing.{max_rows, same};
+ghost use Rattle.scope_core.specs.Table.{local_total};
 ghost use Rattle.scope_core.specs.Calls.{count_after_join, count_after_leave, is_any_joined};
 ghost use Rattle.policy_audit.specs.Checks.{first_broken};
 ghost use Rattle.policy_audit.specs.History.{History};
@@ -13,7 +13,7 @@ ghost use Rattle.node_core.specs.Step.{Call, IsCalled, Answers};
 ghost use Rattle.node_core.specs.Telling.{AreIdle, Alike};
 ghost use Rattle.node_core.specs.Moving.{own_checks, join_of, leave_of, IsPrepared, IsMoved, IsJoinRefusal, IsLeaveRefusal, fault_of};
 
-use crate::changes::{ChangeRoom, Part, leave_all, rows_of};
+use crate::changes::{ChangeRoom, Leaving, leave_all, rows_of};
 use crate::entering::Answered;
 use crate::fault::CoreFault;
 use crate::kept::Kept;
@@ -21,10 +21,10 @@ use crate::link::Link;
 use crate::links::{commit, forget};
 use crate::running::{Running, place_of};
 use crate::telling::{tell, tell_exit};
-use dist_types::{Group, OutOfMemory, Pid, Pids, Scope, TryClone};
+use dist_types::{Group, MAX_ROWS, OutOfMemory, Pid, Pids, Scope, TryClone};
 use link_frames::{Message, Rows};
 use policy_audit::{Change, Rule};
-use scope_core::{ScopeTable, TableFault};
+use scope_core::TableFault;
 use std::alloc::Global;
 
 impl Kept {
@@ -40,7 +40,7 @@ impl Kept {
         if !self.are_alive(pids) {
             return Some(Rule::NoProcess);
         }
-        if pids.len() > ScopeTable::MAX_ROWS {
+        if pids.len() > MAX_ROWS {
             return Some(Rule::RowsFull);
         }
         None
@@ -130,7 +130,7 @@ impl Kept {
             return Err(CoreFault::Refused(Rule::NoProcess));
         }
         let changes = tell_exit(self.alloc, &mut self.links, &self.scopes, pid)?;
-        leave_all(&mut self.scopes, Part::Process(pid));
+        leave_all(&mut self.scopes, Leaving::Process(pid));
         self.processes.exit(pid.number);
         Ok(Answered::changed(changes))
     }
@@ -146,7 +146,7 @@ fn join_one(
     pids: &[Pid],
 ) -> Result<Vec<Change>, CoreFault>
     requires own { All (λ p. p.node ≡ running.old.table.own) pids.now }
-    requires few { length pids.now ≤ 4096 }
+    requires few { length pids.now ≤ max_rows }
     requires idle { AreIdle links.old.items }
     ensures joined { IfOk result (λ changes. IsMoved (join_of running.old.scope group.now pids.now) (count_after_join running.old.table group.now pids.now) running.old running.new links.old.items links.new.items changes.items) }
     ensures few { OnOk result (local_total running.old.table + length pids.now ≤ max_rows) }
@@ -176,15 +176,18 @@ fn tell_join(
     group: &Group,
     pids: &[Pid],
 ) -> Result<(), OutOfMemory>
-    requires few { length pids.now ≤ 4096 }
+    requires few { length pids.now ≤ max_rows }
     requires idle { AreIdle links.old.items }
     ensures told { OnOk result (IsPrepared (join_of running.now.scope group.now pids.now) running.now links.old.items links.new.items) }
     ensures same { OnErr result (Alike links.old.items links.new.items) }
 {
     let rows = Rows::of(rows_of(alloc, group, pids)?);
     let scope = running.scope.try_clone(alloc)?;
-    tell(alloc, links, &running.told, Message::Join(scope, rows))?;
-    Ok(())
+    let message = Message::Join(scope, rows);
+    let told = tell(alloc, links, &running.told, &message);
+    // By name, so that a check follows the end of a message once.
+    drop(message);
+    told
 }
 
 /// Own processes leave a group of one scope, and the links that are told there are told so. Where they don't, nothing but room has
@@ -234,8 +237,11 @@ fn tell_leave(
     let gone = running.table.leaving(group, pids)?;
     let rows = Rows::of(rows_of(alloc, group, &gone)?);
     let scope = running.scope.try_clone(alloc)?;
-    tell(alloc, links, &running.told, Message::Leave(scope, rows))?;
-    Ok(())
+    let message = Message::Leave(scope, rows);
+    let told = tell(alloc, links, &running.told, &message);
+    // By name, so that a check follows the end of a message once.
+    drop(message);
+    told
 }
 
 /// The rule that a fault of a table is.

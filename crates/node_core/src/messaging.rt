@@ -1,10 +1,24 @@
-//! Messages of linked nodes.
+//! Messages of linked nodes (Kernel manual, `pg`), for a scope S that both ends of a link run.
+//!
+//! - Discover S: "I run S: tell me." Sent for each scope as the link comes up, and to each peer as S
+//!   starts. The receiver answers with a Sync, and with a Discover of its own where it hasn't heard
+//!   the sender in S. The sender is told in S from then on.
+//! - Sync S: all rows of the sender's own processes. They replace what the receiver had of that
+//!   node. The sender is heard in S from then on.
+//! - Join S, Leave S: the rows that a join, a leave or an exit brings or takes of them, sent to all
+//!   that are told. The receiver adds or takes just these, of a sender that it has heard.
+//! - Down S: the sender stops S, and says so to each peer. The receiver drops the sender's rows, and
+//!   neither hears nor tells it in S any more.
+//!
+//! So what a receiver lists of a node is what that node had itself a while ago: a Sync has all rows
+//! up to then, each later change follows behind it, and a link keeps their order and loses none.
+//! Where the link ends, the peer's rows go, heard and told with them. The next one begins anew.
 ghost use Rattle.std.specs.Prelude.{◌≡◌, ◌<◌, ◌≤◌, ◌+◌, ◌==◌, ◌&&◌, [], List, ℕ, true, cond, Some, None, vec_len, vec_capacity, nat_eq, length, position, All, IsTrue, IfOk, IfErr, OnOk, OnErr};
 ghost use Rattle.std.specs.List.{list_all};
-ghost use Rattle.dist_types.specs.Listing.{same};
-ghost use Rattle.scope_core.specs.Table.{count_of, node_total, max_rows};
+ghost use Rattle.dist_types.specs.Listing.{max_rows, same};
+ghost use Rattle.scope_core.specs.Table.{count_of, node_total};
 ghost use Rattle.scope_core.specs.Calls.{count_after_sync, count_after_add, count_after_take, count_after_drop, are_counted};
-ghost use Rattle.policy_audit.specs.Hearing.{message_taken};
+ghost use Rattle.policy_audit.specs.Hearing.{said_on};
 ghost use Rattle.policy_audit.specs.declared.event.Event.TheVariants as events;
 ghost use Rattle.node_core.specs.FramesHere.{IsUpLink, IsSoundMessage};
 ghost use Rattle.node_core.specs.Step.{Call, Answers};
@@ -22,7 +36,7 @@ use crate::link::Link;
 use crate::link_state::LinkState;
 use crate::membership::fault_of;
 use crate::running::{Running, place_of};
-use dist_types::{Body, NodeName, OutOfMemory, Row, Scope, TryClone};
+use dist_types::{Body, NodeName, OutOfMemory, Scope, TryClone};
 use link_frames::{Message, MessageFault, Rows, decode};
 use link_states::Up;
 use policy_audit::{Change, OutFrame, Rule};
@@ -67,7 +81,7 @@ impl Kept {
     ) -> Result<Answered, CoreFault>
         ghost call: { Call }
         requires { IsSoundMessage call self.old place at number message }
-        ensures { (body : List ℕ) → message_taken body ≡ Some message → Answers call (events.Frame number body) self.new result }
+        ensures { (body : List ℕ) → said_on number call.past.entries body ≡ Some message → Answers call (events.Frame number body) self.new result }
     {
         let Some(peer) = self.links[place].up_peer() else {
             unreachable!()
@@ -275,14 +289,13 @@ fn unheard(link: &Link, running: &Running, rows: &Rows) -> Option<Rule>
     foreign(link, rows)
 }
 
-/// Whether a row's process isn't of the link's peer, or has another creation than the peer gave.
+/// `ForeignPid`, where a row's process isn't of the link's peer, or has another creation than the peer gave.
 fn foreign(link: &Link, rows: &Rows) -> Option<Rule>
     ensures { result ≡ cond (are_of_peer link.now.state rows.now) None (Some Rule.ForeignPid) }
 {
-    let LinkState::Up(up) = link.state() else {
-        return Some(Rule::ForeignPid);
-    };
-    if are_from(up, rows) {
+    if let LinkState::Up(up) = link.state()
+        && are_from(up, rows)
+    {
         None
     } else {
         Some(Rule::ForeignPid)
@@ -293,13 +306,8 @@ fn foreign(link: &Link, rows: &Rows) -> Option<Rule>
 fn are_from(up: &Up, rows: &Rows) -> bool
     ensures { result ≡ list_all (λ r. same r.pid.node up.now.peer && r.pid.creation == up.now.creation) rows.now }
 {
-    rows.as_slice().iter().all(|row| is_from(up, row))
-}
-
-fn is_from(up: &Up, row: &Row) -> bool
-    ensures { result ≡ (same row.now.pid.node up.now.peer && row.now.pid.creation == up.now.creation) }
-{
-    row.pid.node == *up.peer() && row.pid.creation == up.creation()
+    rows.as_slice().iter().all(|row| row.pid.node == *up.peer()
+        && row.pid.creation == up.creation())
 }
 
 /// The number is one of these from now on. There is room for it.

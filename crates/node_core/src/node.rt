@@ -18,7 +18,7 @@ use crate::running::let_go;
 use admission_rules::Admission;
 use dist_types::{NodeName, OutOfMemory, Scope, TryClone};
 use group_monitors::Monitors;
-use policy_audit::{Audit, Event, Opening, Reply, Rule};
+use policy_audit::{Audit, Event, Opening, Reply};
 use scope_core::ScopeTable;
 use std::alloc::Global;
 use std::fmt;
@@ -151,12 +151,8 @@ impl NodeCore {
     pub fn step(&mut self, seat: u32, event: Event) -> Result<Reply, CoreFault>
         ensures { IsStepped self.old seat event self.new result }
     {
-        if self.is_full() {
-            // By name, so that a check follows the end of an event once, for its type.
-            drop(event);
-            return Err(CoreFault::Refused(Rule::EntriesFull));
-        }
         if let Err(fault) = self.audit.make_room() {
+            // By name, so that a check follows the end of an event once, for its type.
             drop(event);
             return Err(CoreFault::from(fault));
         }

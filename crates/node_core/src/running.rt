@@ -1,8 +1,8 @@
 //! The scopes that run.
-ghost use Rattle.std.specs.Prelude.{◌≡◌, find, position};
+ghost use Rattle.std.specs.Prelude.{◌≡◌, find};
 ghost use Rattle.std.specs.Option.{option_map};
 ghost use Rattle.dist_types.specs.Listing.{same};
-ghost use Rattle.node_core.specs.ScopeFacts.{AreAscending};
+ghost use Rattle.node_core.specs.ScopeFacts.{AreAscending, scope_place};
 
 use dist_types::Scope;
 use scope_core::ScopeTable;
@@ -32,7 +32,7 @@ pub fn find<'a>(scopes: &'a [Running], scope: &Scope) -> Option<&'a Running>
 /// The place of the scope among these.
 pub fn place_of(scopes: &[Running], scope: &Scope) -> Option<usize>
     requires { AreAscending scopes.now }
-    ensures { result ≡ position (λ r. same r.scope scope.now) scopes.now }
+    ensures { result ≡ scope_place scope.now scopes.now }
 {
     scopes
         .binary_search_by(|running| running.scope.cmp(scope))

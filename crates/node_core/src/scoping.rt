@@ -13,7 +13,7 @@ ghost use Rattle.node_core.specs.Step.{Call, IsCalled, Answers};
 ghost use Rattle.node_core.specs.Links.{prepared_for, unroomed};
 ghost use Rattle.node_core.specs.Telling.{AreIdle, AreTold, Alike, if_among, shown_numbers, put_scope};
 
-use crate::changes::{ChangeRoom, Part, changes_of};
+use crate::changes::{ChangeRoom, Leaving, changes_of};
 use crate::entering::Answered;
 use crate::fault::CoreFault;
 use crate::kept::Kept;
@@ -42,7 +42,7 @@ impl Kept {
         if self.admission.creation() == u32::MAX {
             return Err(CoreFault::Refused(Rule::CreationSpent));
         }
-        let changes = changes_of(self.alloc, &self.scopes, Part::All)?;
+        let changes = changes_of(self.alloc, &self.scopes, Leaving::All)?;
         let creation = self.admission.creation() + 1;
         self.admission = admission_of(self.alloc, &self.opening, creation)?;
         self.processes = Processes::new(self.alloc);
@@ -107,7 +107,7 @@ fn asked_scope(
 {
     let name = scope.try_clone(alloc)?;
     let running = new_scope(alloc, own, scope)?;
-    match tell_shown(alloc, links, Message::Discover(name)) {
+    match tell_shown(alloc, links, &Message::Discover(name)) {
         Ok(()) => Ok(running),
         Err(fault) => {
             drop(running);
@@ -166,32 +166,19 @@ fn tell_stop(
     let room = ChangeRoom::new(alloc, scope.try_clone(alloc)?)?;
     let changes = room.filled(groups);
     let name = scope.try_clone(alloc)?;
-    tell_shown(alloc, links, Message::Down(name))?;
+    tell_shown(alloc, links, &Message::Down(name))?;
     Ok(changes)
 }
 
 /// A message waits for the links that are up and visible from now on. Where memory is wanting, nothing has changed.
-fn tell_shown(alloc: Global, links: &mut Vec<Link>, message: Message) -> Result<(), OutOfMemory>
-    requires spelled { HasSpelling message }
-    requires idle { AreIdle links.old.items }
-    ensures told { OnOk result (AreTold (if_among (shown_numbers links.old.items) (wide message)) links.old.items links.new.items) }
-    ensures same { OnErr result (Alike links.old.items links.new.items) }
-{
-    let told = prepare_shown(alloc, links, &message);
-    drop(message);
-    told?;
-    commit(links);
-    Ok(())
-}
-
-/// Prepares a message for the links that are up and visible.
-fn prepare_shown(alloc: Global, links: &mut Vec<Link>, message: &Message) -> Result<(), OutOfMemory>
+fn tell_shown(alloc: Global, links: &mut Vec<Link>, message: &Message) -> Result<(), OutOfMemory>
     requires spelled { HasSpelling message.now }
     requires idle { AreIdle links.old.items }
-    ensures told { OnOk result (map unroomed links.new.items ≡ map (λ x. unroomed (prepared_for (shown_numbers links.old.items) (wide message.now) x)) links.old.items) }
+    ensures told { OnOk result (AreTold (if_among (shown_numbers links.old.items) (wide message.now)) links.old.items links.new.items) }
     ensures same { OnErr result (Alike links.old.items links.new.items) }
 {
     let numbers = shown(alloc, links)?;
     prepare(alloc, links, &numbers, message)?;
+    commit(links);
     Ok(())
 }

@@ -24,22 +24,6 @@ pub fn tell(
     alloc: Global,
     links: &mut Vec<Link>,
     numbers: &[u32],
-    message: Message,
-) -> Result<(), OutOfMemory>
-    requires { IsBrief message }
-    ensures ok { OnOk result (map unroomed links.new.items ≡ map (λ x. unroomed (prepared_for (said_to numbers.now message) (wide message) x)) links.old.items) }
-    ensures forgot { OnErr result (map unroomed links.new.items ≡ map (λ x. unroomed (with_prepared x [])) links.old.items) }
-{
-    let told = prepare_said(alloc, links, numbers, &message);
-    drop(message);
-    told
-}
-
-/// The same, and the message stays.
-fn prepare_said(
-    alloc: Global,
-    links: &mut Vec<Link>,
-    numbers: &[u32],
     message: &Message,
 ) -> Result<(), OutOfMemory>
     requires { IsBrief message.now }
@@ -49,8 +33,7 @@ fn prepare_said(
     if !is_said(message) {
         return Ok(());
     }
-    prepare(alloc, links, numbers, message)?;
-    Ok(())
+    prepare(alloc, links, numbers, message)
 }
 
 /// Whether there is something to say: a Join and a Leave bring a row.
@@ -129,7 +112,9 @@ fn exit_one(
     if !groups.is_empty() {
         let rows = Rows::of(rows_left(alloc, &groups)?);
         let message = Message::Leave(running.scope.try_clone(alloc)?, rows);
-        tell(alloc, links, &running.told, message)?;
+        let told = tell(alloc, links, &running.told, &message);
+        drop(message);
+        told?;
     }
     Ok(groups)
 }

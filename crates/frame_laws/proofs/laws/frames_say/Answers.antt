@@ -1,10 +1,12 @@
-use Rattle.frame_laws.proofs.FromHere.{rows_own}
-use Rattle.frame_laws.proofs.Places.{holds_then}
-use Rattle.frame_laws.proofs.Spoken.{IsSaid, all_said}
-use Rattle.frame_laws.proofs.laws.frames_say.Goals as goal
+use Rattle.frame_laws.proofs
+use proofs.FromHere.{rows_own}
+use proofs.Places.{holds_then}
+use proofs.Spoken.{IsSaid, all_said}
+use proofs.laws.frames_say.Goals as goal
 
 pub returns-clause-one : goal.returns-clause-one
-returns-clause-one c = λ h node l n x q. (holds_then h.opening l IsSaid h.entries node.legal (all_said h.opening h.entries node l) n x q).holds
+returns-clause-one c = λ h node l n x q. (holds_then h.opening l IsSaid h.entries node.legal
+    (all_said h.opening h.entries node l) n x q).holds
 
 pub returns-clause-own : goal.returns-clause-own
 returns-clause-own c = λ h node l n x m q says. rows_own h.opening h.entries node l n x q m says

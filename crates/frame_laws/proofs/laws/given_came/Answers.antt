@@ -1,10 +1,13 @@
-use Rattle.frame_laws.proofs.Giving.{asked_once, named_first}
-use Rattle.frame_laws.proofs.Openings.{opening_is}
-use Rattle.frame_laws.proofs.laws.given_came.Goals as goal
+use Rattle.frame_laws.proofs
+use proofs.Giving.{asked_once, named_first}
+use proofs.Openings.{opening_is}
+use proofs.laws.given_came.Goals as goal
 
 pub returns : goal.returns
 returns c = record {
-  opened = λ h legal l d before opens none whole. named_first h.opening l h.entries legal d before none opens whole;
-  dialled = λ h legal l n d before opens whole. asked_once h.opening l h.entries legal n d before opens whole;
+  opened = λ h legal l d before opens none whole. named_first h.opening l h.entries legal d before
+      none opens whole;
+  dialled = λ h legal l n d before opens whole. asked_once h.opening l h.entries legal n d before
+      opens whole;
   once = λ l es x opens. opening_is es l x opens;
 }

@@ -1,5 +1,7 @@
-use Rattle.frame_laws.proofs.Hearing.{heard_said}
-use Rattle.frame_laws.proofs.laws.heard_is_said.Goals as goal
+use Rattle.frame_laws.proofs
+use proofs.Hearing.{heard_said}
+use proofs.laws.heard_is_said.Goals as goal
 
 pub returns : goal.returns
-returns c = λ h legal l s name made honest gives hears. heard_said h.opening h.entries legal l s name made honest gives hears
+returns c = λ h legal l s name made honest gives hears. heard_said h.opening h.entries legal l s
+    name made honest gives hears

@@ -1,9 +1,13 @@
-use Rattle.frame_laws.proofs.OneView.{heard_moment, hears_now, listed_now}
-use Rattle.frame_laws.proofs.laws.one_view.Goals as goal
+use Rattle.frame_laws.proofs
+use proofs.OneView.{heard_moment, hears_now, listed_now}
+use proofs.laws.one_view.Goals as goal
 
 pub returns : goal.returns
 returns c = record {
-  moment = λ sender receiver node legal a b s later carried gives hears. heard_moment sender node a receiver legal b s hears gives later carried;
-  now = λ sender receiver node legal a b s all gives hears tells g p. hears_now sender node a receiver legal b s hears gives all tells g p;
-  listed_now = λ sender receiver node legal a b s all gives hears tells g p its. listed_now sender node a receiver legal b s hears gives all tells g p its;
+  moment = λ sender receiver node legal a b s later carried gives hears. heard_moment sender node a
+      receiver legal b s hears gives later carried;
+  now = λ sender receiver node legal a b s all gives hears tells g p. hears_now sender node a
+      receiver legal b s hears gives all tells g p;
+  listed_now = λ sender receiver node legal a b s all gives hears tells g p its. listed_now sender
+      node a receiver legal b s hears gives all tells g p its;
 }

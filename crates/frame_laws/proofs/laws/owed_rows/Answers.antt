@@ -1,6 +1,8 @@
-use Rattle.frame_laws.proofs.LinksTell.{all_tell}
-use Rattle.frame_laws.proofs.Through.{passes}
-use Rattle.frame_laws.proofs.laws.owed_rows.Goals as goal
+use Rattle.frame_laws.proofs
+use proofs.LinksTell.{all_tell}
+use proofs.Through.{passes}
+use proofs.laws.owed_rows.Goals as goal
 
 pub returns : goal.returns
-returns c = λ h node l s. passes h.opening l s h.entries node.legal (all_tell h.opening h.entries node l s)
+returns c = λ h node l s. passes h.opening l s h.entries node.legal
+    (all_tell h.opening h.entries node l s)

@@ -1,6 +1,8 @@
-use Rattle.frame_laws.proofs.Places.{holds_then}
-use Rattle.frame_laws.proofs.SaidUp.{IsSaidUp, all_said_up}
-use Rattle.frame_laws.proofs.laws.said_once_up.Goals as goal
+use Rattle.frame_laws.proofs
+use proofs.Places.{holds_then}
+use proofs.SaidUp.{IsSaidUp, all_said_up}
+use proofs.laws.said_once_up.Goals as goal
 
 pub returns : goal.returns
-returns c = λ h legal l n x q w. (holds_then h.opening l (IsSaidUp l) h.entries legal (all_said_up h.opening h.entries legal l) n x q).holds w
+returns c = λ h legal l n x q w. (holds_then h.opening l (IsSaidUp l) h.entries legal
+    (all_said_up h.opening h.entries legal l) n x q).holds w

@@ -1,6 +1,7 @@
-use Rattle.frame_laws.proofs.Words.{arith, out}
-use Rattle.frame_laws.proofs.Sources.{frame_at, is_entry, rises}
-use Rattle.frame_laws.proofs.laws.sources_rise.Goals as goal
+use Rattle.frame_laws.proofs
+use proofs.Words.{arith, out}
+use proofs.Sources.{frame_at, is_entry, rises}
+use proofs.laws.sources_rise.Goals as goal
 
 pub returns-clause-within : goal.returns-clause-within
 returns-clause-within c = λ h legal l n k q.
@@ -17,5 +18,6 @@ returns-clause-rise c = λ h legal l m n j k le p q.
     let second = frame_at (out h l) n k q in
     let low = first.source in
     let high = second.source in
-    let risen = rises h.opening l h.entries legal m n first.owing second.owing le first.stands second.stands in
+    let risen = rises h.opening l h.entries legal m n first.owing second.owing le first.stands
+    second.stands in
     omega (arith, low, high, risen)

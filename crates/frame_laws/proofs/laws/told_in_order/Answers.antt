@@ -1,5 +1,7 @@
-use Rattle.frame_laws.proofs.ToldPlaces.{told_fall}
-use Rattle.frame_laws.proofs.laws.told_in_order.Goals as goal
+use Rattle.frame_laws.proofs
+use proofs.ToldPlaces.{told_fall}
+use proofs.laws.told_in_order.Goals as goal
 
 pub returns : goal.returns
-returns c = record { fall = λ l s es. (told_fall l s es).falls; came = λ l s es. (told_fall l s es).below }
+returns c = record
+    { fall = λ l s es. (told_fall l s es).falls; came = λ l s es. (told_fall l s es).below }

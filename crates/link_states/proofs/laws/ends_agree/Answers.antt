@@ -1,4 +1,5 @@
-use Rattle.link_states.proofs.MeetingLemmas.{name_passes, challenge_passes, reply_passes, ack_passes}
+use Rattle.link_states.proofs.MeetingLemmas.{name_passes, challenge_passes, reply_passes}
+use Rattle.link_states.proofs.MeetingLemmas.{ack_passes}
 use Rattle.link_states.proofs.laws.ends_agree.Goals as goal
 
 pub returns-clause-name : goal.returns-clause-name

@@ -12,4 +12,6 @@ loop-running-preserved c =
       | then-not-is_empty+in_ok-try_clone+in_ok-push w ↦ rw (w.changes-is, w.in_ok-push.ensures.items, w.of.ensures, w.in_ok-try_clone.ensures, none ∙ w.if-not-is_empty.true) refl
       | else-not-is_empty w ↦ rw (w.changes-is, none ∙ w.if-not-is_empty.false) (sym (append-nil c.loop-running.changes.items))
     ] in
-    rw (more, ← c.running-item.is, grown) (one_parting (count_but c.args.part) (take c.loop-running.running-index c.args.scopes.now) c.loop-running.changes.items c.running-item.result groups c.loop-running.invariant c.in_ok-groups.ensures)
+    rw (more, ← c.running-item.is, grown) (one_parting (count_but c.args.leaving)
+    (take c.loop-running.running-index c.args.scopes.now) c.loop-running.changes.items
+    c.running-item.result groups c.loop-running.invariant c.in_ok-groups.ensures)

@@ -2,6 +2,7 @@ use Rattle.node_core.proofs.Words.{HasParted}
 use Rattle.node_core.proofs.Zipped.{SoFar}
 use Rattle.node_core.proofs.changes.leave_all.Given as goal
 
--- the part has left the scopes so far
+-- the rows have left the scopes so far
 abbrev pub invariant-loop-running : goal.invariant-loop-running
-invariant-loop-running l = SoFar (HasParted l.fn.part) l.running-index l.fn.scopes.items l.running-items
+invariant-loop-running l = SoFar (HasParted l.fn.leaving) l.running-index l.fn.scopes.items
+    l.running-items

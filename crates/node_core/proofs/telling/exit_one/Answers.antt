@@ -3,23 +3,35 @@ use Rattle.std.proofs.lemmas.List.{nil_from_length}
 use Rattle.node_core.proofs.RowsGone.{few_left}
 use Rattle.scope_core.proofs.NodeLists.{on_err}
 use Rattle.node_core.proofs.Told.{forgot_bare, prepared_among, prepared_none}
-use Rattle.node_core.proofs.telling.exit_one.Goals.{then-not-is_empty+in_ok-rows_left+in_ok-try_clone+in_ok-tell, else-not-is_empty}
+use Rattle.node_core.proofs.telling.exit_one.Goals.{then-not-is_empty+in_ok-rows_left+in_ok-try_clone+in_ok-told}
+use Rattle.node_core.proofs.telling.exit_one.Goals.{else-not-is_empty}
 use Rattle.node_core.proofs.telling.exit_one.Goals as goal
 
-pub tell-requires : goal.tell-requires
-tell-requires c = rw (c.of-rows.ensures, c.in_ok-rows_left.ensures, c.deref.ensures.value) (few_left c.args.running.now.table c.args.pid.now c.requires c.in_ok-groups.groups.items c.in_ok-groups.ensures.change c.in_ok-groups.ensures.limits)
+pub tell-told-requires : goal.tell-told-requires
+tell-told-requires c = rw (c.of-rows.ensures, c.in_ok-rows_left.ensures, c.deref.ensures.value)
+    (few_left c.args.running.now.table c.args.pid.now c.requires c.in_ok-groups.groups.items
+    c.in_ok-groups.ensures.change c.in_ok-groups.ensures.limits)
 
-pub returns-in_err-tell-clause-same : goal.returns-in_err-tell-clause-same
-returns-in_err-tell-clause-same c = on_err _ (forgot_bare c.args.links.now.items c.tell.new.links.items c.in_err-tell.ensures.forgot)
+pub returns-in_err-told-clause-same : goal.returns-in_err-told-clause-same
+returns-in_err-told-clause-same c = on_err _ (forgot_bare c.args.links.now.items
+    c.tell-told.new.links.items c.in_err-told.ensures.forgot)
 
 pub returns-clause-told : goal.returns-clause-told
 returns-clause-told c =
     let groups = c.in_ok-groups.groups.items in
     let said = Message.Leave c.args.running.now.scope (rows_left groups) in
     elim c.if-not-is_empty.branch [
-      | then-not-is_empty+in_ok-rows_left+in_ok-try_clone+in_ok-tell w ↦
-          let prepared = rw (w.deref-then-not-is_empty.ensures.value, w.in_ok-try_clone.ensures, w.of-rows.ensures, w.in_ok-rows_left.ensures, w.deref.ensures.value) at w.in_ok-tell.ensures.ok in
-          rw w.links-is (prepared_among (said_to c.args.running.now.told.items said) (wide said) c.args.links.now.items w.tell.new.links.items prepared)
+      | then-not-is_empty+in_ok-rows_left+in_ok-try_clone+in_ok-told w ↦
+          let prepared = rw (
+            w.deref-then-not-is_empty.ensures.value,
+            w.in_ok-try_clone.ensures,
+            w.of-rows.ensures,
+            w.in_ok-rows_left.ensures,
+            w.deref.ensures.value,
+          ) at
+          w.in_ok-told.ensures.ok in
+          rw w.links-is (prepared_among (said_to c.args.running.now.told.items said) (wide said)
+          c.args.links.now.items w.tell-told.new.links.items prepared)
       | else-not-is_empty w ↦
           let none = nil_from_length groups (let empty = eqb-true (vec_len c.in_ok-groups.groups) 0 (sym c.is_empty.ensures ∙ w.if-not-is_empty.false) in omega (arith, empty, c.in_ok-groups.groups.ok)) in
           rw w.links-is (prepared_none (exit_frames c.args.running.now groups) (λ l. ap (λ g. exit_frames c.args.running.now g l) none) c.args.links.now.items)

@@ -1,5 +1,5 @@
-use Rattle.node_core.proofs.Words.{ap, sym, ◌∙◌, ◌≡◌, is_full, past, false}
-use Rattle.node_core.proofs.StepAnswers.{full_step, unstepped, step_so, core_so}
+use Rattle.node_core.proofs.Words.{ap, ◌∙◌, ◌≡◌, is_full, past, false}
+use Rattle.node_core.proofs.StepAnswers.{not_full, unentered_step, step_so, core_so}
 use Rattle.node_core.proofs.Searched.{scopes_ascend}
 use Rattle.node_core.proofs.node.NodeCore.step.Goals as goal
 use Rattle.node_core.proofs.node.NodeCore.step.Goals.{In_default}
@@ -9,14 +9,18 @@ before : (c : In_default) → past c.self.inside.kept.opening c.make_room.new.se
 before c = ap (λ a. past c.self.inside.kept.opening a.entries) c.in_default.ensures.ok.1 ∙ c.self.view_is
 
 space : (c : In_default) → is_full (past c.self.inside.kept.opening c.make_room.new.self.entries) ≡ false
-space c = ap is_full (before c) ∙ sym c.is_full.ensures ∙ c.if-is_full.false
-
-pub returns-then-is_full : goal.returns-then-is_full
-returns-then-is_full c = full_step c.args.self.now c.args.seat c.args.event (sym c.is_full.ensures ∙ c.if-is_full.true)
+space c = not_full c.self.inside.audit
+    (past c.self.inside.kept.opening c.make_room.new.self.entries)
+    (ap (λ a. a.entries) c.in_default.ensures.ok.1) c.self.invariant.within
+    c.in_default.ensures.ok.0
 
 pub returns-in-Err : goal.returns-in-Err
-returns-in-Err c = rw c.from.ensures (unstepped c.args.self.now _ c.args.seat c.args.event (sym c.is_full.ensures ∙ c.if-is_full.false)
-    (ap (λ a. past c.self.inside.kept.opening a.entries) c.in-Err.ensures.same ∙ c.self.view_is))
+returns-in-Err c =
+    let now = c.self.view_is in
+    rw c.from.ensures (unentered_step _ (ap (λ h. h.entries) now)
+    (c.self.invariant.within ∙ ap (λ h. h.opening.entries) now)
+    (ap (λ a. past c.self.inside.kept.opening a.entries) c.in-Err.ensures.same ∙ now)
+    c.args.seat c.args.event c.in-Err.fault c.in-Err.ensures.refused)
 
 pub invariant_of-self-3 : goal.invariant_of-self-3
 invariant_of-self-3 c =

@@ -1,0 +1,9 @@
+use Rattle.node_core.proofs.Words.{same, sym, ◌∙◌, dialled_peer, KeptLink}
+use Rattle.node_core.proofs.LinkTests.{any_some}
+use Rattle.node_core.proofs.beside.BesideOtherLinks.is_dialled.Goals as goal
+
+pub returns : goal.returns
+returns c =
+    let links = c.self.inside.links.now in
+    rw (← c.self.view_is) (c.is_dialling.ensures
+    ∙ sym (any_some (λ n. same n c.args.peer.now) (λ (x : KeptLink). dialled_peer x.state) links))

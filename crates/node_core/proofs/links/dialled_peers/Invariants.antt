@@ -1,6 +1,0 @@
-use Rattle.node_core.proofs.Words.{◌≡◌, flat_map, option_to_list, dialled_peer, take}
-use Rattle.node_core.proofs.links.dialled_peers.Given as goal
-
--- the names so far
-abbrev pub invariant-loop-link : goal.invariant-loop-link
-invariant-loop-link l = l.peers.items ≡ flat_map (λ x. option_to_list (dialled_peer x.state)) (take l.link-index l.links)
