@@ -1,6 +1,7 @@
 -- What the loop over the lines keeps.
-use Rattle.std.proofs.Common.{◌≡◌, ℕ, ◌+◌, ◌-◌, ◌<◌, ◌≤◌, subst, Bool, true, false, cond, List, [], ◌∷◌, ◌++◌, length, take, drop, Option, Some, None}
-use Rattle.std.proofs.Common.{refl, sym, ap, ◌∙◌, append_assoc, append-nil, arith, IfSome, Err, inl, inr}
+use Rattle.std.proofs.Common.{◌≡◌, ℕ, ◌+◌, ◌-◌, ◌<◌, ◌≤◌, subst, Bool, true, false, cond, List, []}
+use Rattle.std.proofs.Common.{◌∷◌, ◌++◌, length, take, drop, Option, Some, None, refl, sym, ap, ◌∙◌}
+use Rattle.std.proofs.Common.{append_assoc, append-nil, arith, IfSome, Err, inl, inr}
 use Rattle.std.proofs.lemmas.List.{length-drop, take-append-drop, take_all}
 use Rattle.std.proofs.Math.Seq.{take-add}
 use Rattle.std.specs.Prelude.{◌⊎◌}
@@ -10,42 +11,59 @@ use Rattle.policy_audit.specs.declared.opening.Opening.{Opening}
 use Rattle.pg_script.specs.Playing.{Playing, opened_with}
 use Rattle.pg_text.specs.Answers.{fault_line}
 use Rattle.pg_text.specs.Lines.{lines_of}
-use Rattle.pg_script.specs.Transcript.{text_from, fault_in, fault_from, line_text, line_left, is_fault, owed_line}
+use Rattle.pg_script.specs.Transcript.{text_from, fault_in, fault_from, line_text, line_left}
+use Rattle.pg_script.specs.Transcript.{is_fault, owed_line}
 use Rattle.pg_script.specs.declared.script.RunFault.{RunFault}
 use Rattle.pg_script.specs.declared.script.RunFault.TheVariants as faults
 use Rattle.pg_script.specs.Runs.{Writes, Begins, RunsAs}
 use Rattle.pg_text.proofs.LineLemmas.{lines_step}
 
--- the writer holds the answers to the lines before line k, and what is left of the script gives the others
-pub record Played (o : Opening) (script : List ℕ) (old holds : Option (List ℕ)) (now : Playing) (k : ℕ) (rest : List ℕ) : Type 0 where
+-- the writer holds the answers to the lines before line k, and what is left of the script gives the
+-- others
+pub record Played (o : Opening) (script : List ℕ) (old holds : Option (List ℕ)) (now : Playing)
+    (k : ℕ) (rest : List ℕ) : Type 0 where
   pub past : List Bool
   pub written : List ℕ
   pub appended : Appends old holds written
-  pub whole : (later : List Bool) → text_from (past ++ later) (opened_with o) 1 (lines_of script) ≡ written ++ text_from later now k (lines_of rest)
+  pub whole : (later : List Bool) → text_from (past ++ later) (opened_with o) 1 (lines_of
+      script) ≡ written ++ text_from later now k (lines_of rest)
   pub fault : fault_in script ≡ fault_from k (lines_of rest)
 
 -- bytes that are added twice are added together
-appends_then : (u v w : Option (List ℕ)) (a b : List ℕ) → Appends u v a → Appends v w b → Appends u w (a ++ b)
+appends_then : (u v w : Option (List ℕ)) (a b : List ℕ) → Appends u v a → Appends v w b
+    → Appends u w (a ++ b)
 appends_then None v w a b x y = tt
 appends_then (Some xs) None w a b x y = absurd x
 appends_then (Some xs) (Some ys) None a b x y = y
-appends_then (Some xs) (Some ys) (Some zs) a b x y = y ∙ ap (λ (t : List ℕ). t ++ b) x ∙ append_assoc xs a b
+appends_then (Some xs) (Some ys) (Some zs) a b x y = y ∙ ap (λ (t : List ℕ). t ++ b) x
+    ∙ append_assoc xs a b
 
 -- the first of some bytes, and then some of those that are left
-pub sent_more : (u v w : Option (List ℕ)) (bytes : List ℕ) (sent count : ℕ) → sent ≤ length bytes → count ≤ length (take (length bytes - sent) (drop sent bytes))
-    → Appends u v (take sent bytes) → Appends v w (take count (take (length bytes - sent) (drop sent bytes)))
+pub sent_more : (u v w : Option (List ℕ)) (bytes : List ℕ) (sent count : ℕ) → sent ≤ length bytes
+    → count ≤ length (take (length bytes - sent) (drop sent bytes))
+    → Appends u v (take sent bytes)
+    → Appends v w (take count (take (length bytes - sent) (drop sent bytes)))
     → (sent + count ≤ length bytes) × Appends u w (take (sent + count) bytes)
 sent_more u v w bytes sent count within some first more =
-    let left : take (length bytes - sent) (drop sent bytes) ≡ drop sent bytes = take_all (length bytes - sent) (drop sent bytes) (omega (arith, length-drop sent bytes)) in (
-      omega (arith, within, length-drop sent bytes, subst (λ (xs : List ℕ). count ≤ length xs) left some),
-      rw (take-add sent count bytes) (appends_then u v w (take sent bytes) (take count (drop sent bytes)) first (subst (λ (xs : List ℕ). Appends v w (take count xs)) left more)),
+    let left : take (length bytes - sent) (drop sent bytes) ≡ drop sent bytes = take_all
+    (length bytes - sent) (drop sent bytes) (omega (arith, length-drop sent bytes)) in (
+      omega (
+        arith,
+        within,
+        length-drop sent bytes,
+        subst (λ (xs : List ℕ). count ≤ length xs) left some,
+      ),
+      rw (take-add sent count bytes)
+          (appends_then u v w (take sent bytes) (take count (drop sent bytes)) first
+          (subst (λ (xs : List ℕ). Appends v w (take count xs)) left more)),
     )
 
 pub appends_none : (u : Option (List ℕ)) → Appends u u []
 appends_none None = tt
 appends_none (Some xs) = sym (append-nil xs)
 
-pub played_start : (o : Opening) (script : List ℕ) (old : Option (List ℕ)) → Played o script old old (opened_with o) 1 script
+pub played_start : (o : Opening) (script : List ℕ) (old : Option (List ℕ))
+    → Played o script old old (opened_with o) 1 script
 played_start o script old = record {
   past = [];
   written = [];
@@ -55,17 +73,21 @@ played_start o script old = record {
 }
 
 -- what is left begins with a line
-first_of : (rest : List ℕ) → 0 < length rest → lines_of rest ≡ strip_last 10 (take_through 10 rest) ∷ lines_of (drop_through 10 rest)
+first_of : (rest : List ℕ) → 0 < length rest
+    → lines_of rest ≡ strip_last 10 (take_through 10 rest) ∷ lines_of (drop_through 10 rest)
 first_of [] some = absurd (omega arith)
 first_of (b ∷ bytes) some = lines_step b bytes
 
 -- which is this one
-first_line : {line : List ℕ} (rest : List ℕ) → 0 < length rest → line ≡ strip_last 10 (take_through 10 rest) → lines_of rest ≡ line ∷ lines_of (drop_through 10 rest)
+first_line : {line : List ℕ} (rest : List ℕ) → 0 < length rest
+    → line ≡ strip_last 10 (take_through 10 rest)
+    → lines_of rest ≡ line ∷ lines_of (drop_through 10 rest)
 first_line rest some is = rw is (first_of rest some)
 
 -- a text is cut within the second of its three parts
 cut_second : (a b c : List ℕ) (n : ℕ) → a ++ (b ++ c) ≡ (a ++ take n b) ++ (drop n b ++ c)
-cut_second a b c n = ap (λ (t : List ℕ). a ++ (t ++ c)) (sym (take-append-drop n b)) ∙ ap (λ (t : List ℕ). a ++ t) (append_assoc (take n b) (drop n b) c)
+cut_second a b c n = ap (λ (t : List ℕ). a ++ (t ++ c)) (sym (take-append-drop n b))
+    ∙ ap (λ (t : List ℕ). a ++ t) (append_assoc (take n b) (drop n b) c)
     ∙ sym (append_assoc a (take n b) (drop n b ++ c))
 
 -- what comes behind a choice comes behind each side, or belongs to it
@@ -73,33 +95,43 @@ cond_append : (b : Bool) (x y z : List ℕ) → cond b x (y ++ z) ≡ cond b x y
 cond_append true x y z = sym (append-nil x)
 cond_append false x y z = refl
 
-module _ {o : Opening} {k : ℕ} {script rest line : List ℕ} {old holds : Option (List ℕ)} {now : Playing} (p : Played o script old holds now k rest) where
+module _ {o : Opening} {k : ℕ} {script rest line : List ℕ} {old holds : Option (List ℕ)}
+    {now : Playing} (p : Played o script old holds now k rest) where
   -- a line that was answered
-  pub played_next : {next : Playing} {then : Option (List ℕ)} (bytes : List ℕ) (lacks : Bool) → 0 < length rest → line ≡ strip_last 10 (take_through 10 rest) → is_fault line ≡ false
-      → bytes ≡ line_text lacks now line → next ≡ line_left lacks now line → Appends holds then bytes → Played o script old then next (k + 1) (drop_through 10 rest)
+  pub played_next : {next : Playing} {then : Option (List ℕ)} (bytes : List ℕ) (lacks : Bool)
+      → 0 < length rest → line ≡ strip_last 10 (take_through 10 rest) → is_fault line ≡ false
+      → bytes ≡ line_text lacks now line → next ≡ line_left lacks now line
+      → Appends holds then bytes → Played o script old then next (k + 1) (drop_through 10 rest)
   played_next {next} {then} bytes lacks some is sound said left sent = record {
     past = p.past ++ lacks ∷ [];
     written = p.written ++ bytes;
     appended = appends_then old holds then p.written bytes p.appended sent;
     whole = λ later.
-        ap (λ (l : List Bool). text_from l (opened_with o) 1 (lines_of script)) (append_assoc p.past (lacks ∷ []) later)
+        ap (λ (l : List Bool). text_from l (opened_with o) 1 (lines_of script))
+        (append_assoc p.past (lacks ∷ []) later)
         ∙ p.whole (lacks ∷ later)
         ∙ ap (λ (t : List ℕ). p.written ++ t) (step later)
-        ∙ sym (append_assoc p.written bytes (text_from later next (k + 1) (lines_of (drop_through 10 rest))));
+        ∙ sym (append_assoc p.written bytes
+        (text_from later next (k + 1) (lines_of (drop_through 10 rest))));
     fault = p.fault ∙ ap (fault_from k) (first_line rest some is) ∙ rw sound refl;
   }
     where
-      step : (later : List Bool) → text_from (lacks ∷ later) now k (lines_of rest) ≡ bytes ++ text_from later next (k + 1) (lines_of (drop_through 10 rest))
-      step later = ap (text_from (lacks ∷ later) now k) (first_line rest some is) ∙ rw (sound, said, left) refl
+      step : (later : List Bool)
+          → text_from (lacks ∷ later) now k (lines_of rest) ≡ bytes ++ text_from later next (k + 1)
+          (lines_of (drop_through 10 rest))
+      step later = ap (text_from (lacks ∷ later) now k) (first_line rest some is)
+          ∙ rw (sound, said, left) refl
 
   -- a line that can't be read ends the text
-  pub played_fault : {then : Option (List ℕ)} → 0 < length rest → line ≡ strip_last 10 (take_through 10 rest) → is_fault line ≡ true
+  pub played_fault : {then : Option (List ℕ)} → 0 < length rest
+      → line ≡ strip_last 10 (take_through 10 rest) → is_fault line ≡ true
       → Appends holds then (fault_line k) → (fault_in script ≡ Some k) × Writes o script old then
   played_fault {then} some is bad sent = (
     p.fault ∙ ap (fault_from k) (first_line rest some is) ∙ rw bad refl,
     record {
       lacking = p.past ++ [];
-      appended = rw (p.whole [] ∙ ap (λ (t : List ℕ). p.written ++ t) last) (appends_then old holds then p.written (fault_line k) p.appended sent);
+      appended = rw (p.whole [] ∙ ap (λ (t : List ℕ). p.written ++ t) last)
+          (appends_then old holds then p.written (fault_line k) p.appended sent);
     },
   )
     where
@@ -107,13 +139,15 @@ module _ {o : Opening} {k : ℕ} {script rest line : List ℕ} {old holds : Opti
       last = ap (text_from [] now k) (first_line rest some is) ∙ rw bad refl
 
   -- a beginning of what the line is owed is a beginning of the text
-  pub played_begun : {then : Option (List ℕ)} (lacks : Bool) (n : ℕ) → 0 < length rest → line ≡ strip_last 10 (take_through 10 rest)
+  pub played_begun : {then : Option (List ℕ)} (lacks : Bool) (n : ℕ) → 0 < length rest
+      → line ≡ strip_last 10 (take_through 10 rest)
       → Appends holds then (take n (owed_line lacks now k line)) → Begins o script old then
   played_begun {then} lacks n some is sent = record {
     lacking = p.past ++ lacks ∷ [];
     written = p.written ++ take n owed;
     unwritten = drop n owed ++ others;
-    parts = p.whole (lacks ∷ []) ∙ ap (λ (t : List ℕ). p.written ++ t) step ∙ cut_second p.written owed others n;
+    parts = p.whole (lacks ∷ []) ∙ ap (λ (t : List ℕ). p.written ++ t) step ∙ cut_second p.written
+        owed others n;
     appended = appends_then old holds then p.written (take n owed) p.appended sent;
   }
     where
@@ -127,16 +161,19 @@ module _ {o : Opening} {k : ℕ} {script rest line : List ℕ} {old holds : Opti
       others = cond (is_fault line) [] behind
 
       step : text_from (lacks ∷ []) now k (lines_of rest) ≡ owed ++ others
-      step = ap (text_from (lacks ∷ []) now k) (first_line rest some is) ∙ cond_append (is_fault line) (fault_line k) (line_text lacks now line) behind
+      step = ap (text_from (lacks ∷ []) now k) (first_line rest some is)
+          ∙ cond_append (is_fault line) (fault_line k) (line_text lacks now line) behind
 
-module _ {o : Opening} {k : ℕ} {script rest : List ℕ} {old holds : Option (List ℕ)} {now : Playing} (p : Played o script old holds now k rest) where
+module _ {o : Opening} {k : ℕ} {script rest : List ℕ} {old holds : Option (List ℕ)} {now : Playing}
+    (p : Played o script old holds now k rest) where
   -- nothing is left
   pub played_end : rest ≡ [] → (fault_in script ≡ None) × Writes o script old holds
   played_end none = (
     p.fault ∙ ap (λ (r : List ℕ). fault_from k (lines_of r)) none,
     record {
       lacking = p.past ++ [];
-      appended = rw (p.whole [] ∙ ap (λ (r : List ℕ). p.written ++ text_from [] now k (lines_of r)) none ∙ append-nil p.written) p.appended;
+      appended = rw (p.whole [] ∙ ap (λ (r : List ℕ). p.written ++ text_from [] now k (lines_of r))
+          none ∙ append-nil p.written) p.appended;
     },
   )
 
@@ -150,19 +187,25 @@ module _ {o : Opening} {k : ℕ} {script rest : List ℕ} {old holds : Option (L
     appended = p.appended;
   }
 
-  -- after a line that was not answered: it can't be read, and the text has its end; or memory lacked; or a beginning of what it is owed was written
+  -- after a line that was not answered: it can't be read, and the text has its end; or memory
+  -- lacked; or a beginning of what it is owed was written
   pub played_told : {then : Option (List ℕ)} {line : List ℕ} (fault : RunFault)
       → 0 < length rest → line ≡ strip_last 10 (take_through 10 rest)
       → (fault ≡ faults.Script k) ⊎ (fault ≡ faults.Memory) ⊎ (fault ≡ faults.Write)
-      → (fault ≡ faults.Script k → (is_fault line ≡ true) × Appends holds then (fault_line k)) → (fault ≡ faults.Memory → then ≡ holds)
-      → (fault ≡ faults.Write → (lacks : Bool) × (n : ℕ) × Appends holds then (take n (owed_line lacks now k line)))
+      → (fault ≡ faults.Script k → (is_fault line ≡ true) × Appends holds then (fault_line k))
+      → (fault ≡ faults.Memory → then ≡ holds)
+      → (fault ≡ faults.Write → (lacks : Bool) × (n : ℕ) × Appends holds then
+      (take n (owed_line lacks now k line)))
       → RunsAs {U = Unit {0}} o script old then (Err fault)
-  played_told fault some is (inl e) told untold begun = rw e (played_fault p some is (told e).0 (told e).1)
+  played_told fault some is (inl e) told untold begun =
+      rw e (played_fault p some is (told e).0 (told e).1)
   played_told fault some is (inr (inl e)) told untold begun = rw (e, untold e) played_part
-  played_told fault some is (inr (inr e)) told untold begun = rw e (played_begun p (begun e).0 (begun e).1 some is (begun e).2)
+  played_told fault some is (inr (inr e)) told untold begun =
+      rw e (played_begun p (begun e).0 (begun e).1 some is (begun e).2)
 
 -- what follows from what is known of known bytes
-pub weaken : (known : Option (List ℕ)) {P Q : List ℕ → Type 0} → ((xs : List ℕ) → P xs → Q xs) → IfSome known P → IfSome known Q
+pub weaken : (known : Option (List ℕ)) {P Q : List ℕ → Type 0} → ((xs : List ℕ) → P xs → Q xs)
+    → IfSome known P → IfSome known Q
 weaken None f h = tt
 weaken (Some xs) f h = f xs h
 
@@ -172,6 +215,7 @@ came [] some = some
 came (b ∷ bytes) some = omega arith
 
 -- the same, with what the bytes are known to be
-pub if_known : (known : Option (List ℕ)) {Q : List ℕ → Type 0} → ((xs : List ℕ) → known ≡ Some xs → Q xs) → IfSome known Q
+pub if_known : (known : Option (List ℕ)) {Q : List ℕ → Type 0}
+    → ((xs : List ℕ) → known ≡ Some xs → Q xs) → IfSome known Q
 if_known None f = tt
 if_known (Some xs) f = f xs refl

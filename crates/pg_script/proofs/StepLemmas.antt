@@ -1,5 +1,7 @@
--- What a step answers and leaves, as the transcript has it, and a text in whose steps memory never lacks.
-use Rattle.std.proofs.Common.{◌≡◌, ℕ, Bool, true, false, refl, ap, sym, Result, Ok, Err, OnOk, ◌+◌, cond, List, [], ◌∷◌, ◌++◌}
+-- What a step answers and leaves, as the transcript has it, and a text in whose steps memory never
+-- lacks.
+use Rattle.std.proofs.Common.{◌≡◌, ℕ, Bool, true, false, refl, ap, sym, Result, Ok, Err, OnOk, ◌+◌}
+use Rattle.std.proofs.Common.{cond, List, [], ◌∷◌, ◌++◌}
 use Rattle.policy_audit.specs.declared.event.Event.{Event}
 use Rattle.policy_audit.specs.declared.reply.Reply.{Reply}
 use Rattle.policy_audit.specs.History.{History}
@@ -9,7 +11,8 @@ use Rattle.node_core.specs.Step.{IsStepped}
 use Rattle.pg_text.specs.declared.command.Command.TheVariants as command
 use Rattle.pg_script.specs.Playing.{Playing, opened_with}
 use Rattle.pg_text.specs.Answers.{verdict_line, step_line, fault_line}
-use Rattle.pg_script.specs.Transcript.{answer_to, left_by, text, text_from, is_fault, line_text, line_left}
+use Rattle.pg_script.specs.Transcript.{answer_to, left_by, text, text_from, is_fault, line_text}
+use Rattle.pg_script.specs.Transcript.{line_left}
 use Rattle.std.specs.List.{list_any}
 use Rattle.policy_audit.specs.declared.opening.Opening.{Opening}
 use Rattle.pg_text.specs.Lines.{lines_of}
@@ -19,24 +22,32 @@ abbrev pub seated : ℕ → History → Playing
 seated seat h = record { history = h; seat = seat }
 
 -- what a step answers is the policy's line, or that memory lacked
-pub stepped_line : (h : History) (seat : ℕ) (e : Event) (new : History) (r : Result Reply CoreFault) → IsStepped h seat e new r
-    → (lacks : Bool) × (step_line r ≡ answer_to lacks (seated seat h) (command.Step e)) × (seated seat new ≡ left_by lacks (seated seat h) (command.Step e))
+pub stepped_line : (h : History) (seat : ℕ) (e : Event) (new : History) (r : Result Reply CoreFault)
+    → IsStepped h seat e new r
+    → (lacks : Bool) × (step_line r ≡ answer_to lacks (seated seat h) (command.Step e))
+    × (seated seat new ≡ left_by lacks (seated seat h) (command.Step e))
 unfolding IsStepped
 stepped_line h seat e new (Ok reply) is = (false, ap verdict_line (sym is.0), ap (seated seat) is.1)
-stepped_line h seat e new (Err (faults.Refused rule)) is = (false, ap verdict_line (sym is.0), ap (seated seat) is.1)
-stepped_line h seat e new (Err faults.OutOfMemory) is = (true, rw is.0 refl, rw is.0 (ap (seated seat) is.1))
+stepped_line h seat e new (Err (faults.Refused rule)) is =
+    (false, ap verdict_line (sym is.0), ap (seated seat) is.1)
+stepped_line h seat e new (Err faults.OutOfMemory) is =
+    (true, rw is.0 refl, rw is.0 (ap (seated seat) is.1))
 
 -- what follows where a call succeeded
 pub on_ok : {T E : Type 0} (r : Result T E) {P Q : Type 0} → (P → Q) → OnOk r P → OnOk r Q
 on_ok (Ok x) f p = f p
 on_ok (Err e) f p = tt
 
-unlacking : (lines : List (List ℕ)) (lacking : List Bool) (h : Playing) (k : ℕ) → list_any (λ lacks. lacks) lacking ≡ false → text_from lacking h k lines ≡ text_from [] h k lines
+unlacking : (lines : List (List ℕ)) (lacking : List Bool) (h : Playing) (k : ℕ)
+    → list_any (λ lacks. lacks) lacking ≡ false
+    → text_from lacking h k lines ≡ text_from [] h k lines
 unlacking [] lacking h k never = refl
 unlacking (line ∷ lines) [] h k never = refl
 unlacking (line ∷ lines) (true ∷ others) h k never = absurd (cc)
 unlacking (line ∷ lines) (false ∷ others) h k never =
-    ap (λ (t : List ℕ). cond (is_fault line) (fault_line k) (line_text false h line ++ t)) (unlacking lines others (line_left false h line) (k + 1) never)
+    ap (λ (t : List ℕ). cond (is_fault line) (fault_line k) (line_text false h line ++ t))
+    (unlacking lines others (line_left false h line) (k + 1) never)
 
-pub text-unlacking : (lacking : List Bool) (o : Opening) (script : List ℕ) → list_any (λ lacks. lacks) lacking ≡ false → text lacking o script ≡ text [] o script
+pub text-unlacking : (lacking : List Bool) (o : Opening) (script : List ℕ)
+    → list_any (λ lacks. lacks) lacking ≡ false → text lacking o script ≡ text [] o script
 text-unlacking lacking o script never = unlacking (lines_of script) lacking (opened_with o) 1 never

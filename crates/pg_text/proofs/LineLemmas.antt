@@ -1,6 +1,6 @@
 -- The first line of a text, and the first word of a line.
-use Rattle.std.proofs.Common.{◌≡◌, ◌≢◌, ℕ, suc, ◌-◌, ◌<◌, Bool, Some, None, true, false, cond, List, [], ◌∷◌, ◌++◌, length, All, refl, arith, rules}
-use Rattle.std.proofs.Common.{nat_lt, eqb, ne_eqb}
+use Rattle.std.proofs.Common.{◌≡◌, ◌≢◌, ℕ, suc, ◌-◌, ◌<◌, Bool, Some, None, true, false, cond, List}
+use Rattle.std.proofs.Common.{[], ◌∷◌, ◌++◌, length, All, refl, arith, rules, nat_lt, eqb, ne_eqb}
 use Rattle.std.proofs.lemmas.List.Elements.{All-head, All-tail}
 use Rattle.std.specs.Io.BufRead.{take_through, drop_through, strip_last}
 use Rattle.std.specs.List.{list_any}
@@ -16,12 +16,14 @@ strip_cons b c cs =
     let some_left : nat_lt 0 (suc (length cs)) ≡ true = search rules in
     rw (two, one, some, some_left) (grind arith)
 
-strip_through : (b c : ℕ) (cs : List ℕ) → strip_last 10 (b ∷ take_through 10 (c ∷ cs)) ≡ b ∷ strip_last 10 (take_through 10 (c ∷ cs))
+strip_through : (b c : ℕ) (cs : List ℕ)
+    → strip_last 10 (b ∷ take_through 10 (c ∷ cs)) ≡ b ∷ strip_last 10 (take_through 10 (c ∷ cs))
 strip_through b c cs = grind (arith, strip_cons b c [], strip_cons b c (take_through 10 cs))
 
 -- the first line is what a reader gives up to a line feed, without it
 abbrev pub BeginsWithLine : List ℕ → Type 0
-BeginsWithLine bytes = lines_of bytes ≡ strip_last 10 (take_through 10 bytes) ∷ lines_of (drop_through 10 bytes)
+BeginsWithLine bytes = lines_of bytes ≡ strip_last 10 (take_through 10 bytes) ∷ lines_of
+    (drop_through 10 bytes)
 
 lines_one : (b : ℕ) → BeginsWithLine (b ∷ [])
 lines_one b = at (eqb b 10) refl
@@ -40,12 +42,19 @@ lines_step b (c ∷ cs) = lines_cons b c cs (lines_step c cs)
 -- a front with no space is one word
 pub words_plain : (xs : List ℕ) → All (λ b. b ≢ 32) xs → words_of xs ≡ xs ∷ []
 words_plain [] h = refl
-words_plain (x ∷ xs) h = rw (ne_eqb x 32 (All-head (λ b. b ≢ 32) x xs h), words_plain xs (All-tail (λ b. b ≢ 32) x xs h)) refl
+words_plain (x ∷ xs) h =
+    rw (ne_eqb x 32 (All-head (λ b. b ≢ 32) x xs h), words_plain xs (All-tail (λ b. b ≢ 32) x xs h))
+    refl
 
 -- and ends at a space
-pub words_space : (xs ys : List ℕ) → All (λ b. b ≢ 32) xs → words_of (xs ++ 32 ∷ ys) ≡ xs ∷ words_of ys
+pub words_space : (xs ys : List ℕ) → All (λ b. b ≢ 32) xs
+    → words_of (xs ++ 32 ∷ ys) ≡ xs ∷ words_of ys
 words_space [] ys h = refl
-words_space (x ∷ xs) ys h = rw (ne_eqb x 32 (All-head (λ b. b ≢ 32) x xs h), words_space xs ys (All-tail (λ b. b ≢ 32) x xs h)) refl
+words_space (x ∷ xs) ys h =
+    rw (
+      ne_eqb x 32 (All-head (λ b. b ≢ 32) x xs h),
+      words_space xs ys (All-tail (λ b. b ≢ 32) x xs h),
+    ) refl
 
 -- there is always a word
 onto_some : (x : ℕ) (words : List (List ℕ)) → 0 < length (onto_first x words)
@@ -61,12 +70,20 @@ only_before : (words : List (List ℕ)) → 0 < length words → only_of ([] ∷
 only_before [] some = absurd (omega arith)
 only_before (word ∷ words) some = refl
 
-only_onto : (x : ℕ) (words : List (List ℕ)) → 0 < length words → only_of (onto_first x words) ≡ option_map (λ word. x ∷ word) (only_of words)
+only_onto : (x : ℕ) (words : List (List ℕ)) → 0 < length words
+    → only_of (onto_first x words) ≡ option_map (λ word. x ∷ word) (only_of words)
 only_onto x [] some = absurd (omega arith)
 only_onto x (word ∷ []) some = refl
 only_onto x (word ∷ other ∷ words) some = refl
 
 -- a line is one word where it has no space
-pub only_words : (xs : List ℕ) → only_of (words_of xs) ≡ cond (list_any (λ x. eqb x 32) xs) None (Some xs)
+pub only_words : (xs : List ℕ)
+    → only_of (words_of xs) ≡ cond (list_any (λ x. eqb x 32) xs) None (Some xs)
 only_words [] = refl
-only_words (x ∷ xs) = grind (arith, only_words xs, only_before (words_of xs) (words_some xs), only_onto x (words_of xs) (words_some xs))
+only_words (x ∷ xs) =
+    grind (
+      arith,
+      only_words xs,
+      only_before (words_of xs) (words_some xs),
+      only_onto x (words_of xs) (words_some xs),
+    )

@@ -91,7 +91,7 @@ impl Argument for Body {
             return Err(LineFault::Script);
         }
         match hex::decode(alloc, word) {
-            Ok(bytes) => Ok(Body::of(bytes)),
+            Ok(bytes) => Ok(Body::of(bytes)?),
             Err(FromHexError::OutOfMemory) => Err(LineFault::Memory),
             Err(_) => Err(LineFault::Script),
         }

@@ -1,23 +1,31 @@
 -- A dial keeps the invariant: it makes a wire of its link, or is refused.
-use Rattle.pg_world.proofs.Words.{◌≡◌, ℕ, true, List, [], ◌∷◌, ◌++◌, Option, Some, None, Ok, ap, sym, refl, subst, ◌∙◌, length, slice_get, Entry}
-use Rattle.pg_world.proofs.Words.{Verdict, Accepted, Refused, History, is_accepted, ByDial, start_of, IsLegal, IsNext, with_entry, no_value}
-use Rattle.pg_world.proofs.Words.{IsWritten, append-nil, Side, Wire, Nodes, world, dialled, link_opened, Turn, Refuses, asks, turn_of, new_wire}
-use Rattle.pg_world.proofs.Words.{IsWorld, IsWired, IsEnd, Carries, came_of}
+use Rattle.pg_world.proofs
+use proofs.Words.{Accepted, ap, append-nil, asks, ByDial, came_of, Carries, dialled, Entry, History}
+use proofs.Words.{is_accepted, IsEnd, IsLegal, IsNext, IsWired, IsWorld, IsWritten, length}
+use proofs.Words.{link_opened, List, new_wire, no_value, Nodes, None, Ok, Option, refl, Refused}
+use proofs.Words.{Refuses, Side, slice_get, Some, stands_first, stands_last, start_of, subst, sym}
+use proofs.Words.{true, Turn, turn_of, Verdict, Wire, with_entry, world, ℕ, [], ◌++◌, ◌∙◌, ◌∷◌, ◌≡◌}
+use proofs.Calling.{IsApart, apart_kept, asks_kept, refused_none}
+use proofs.Entering.{onward, stays_wired}
+use proofs.Next.{says, Keeps}
+use proofs.Opening.{nodes_now, now_here, came_none, handed_none, no_link_came, no_link_handed}
+use proofs.Opening.{opens_it, still_carries, IsEndFrom, WasEnd, NewEnd, opens_world}
+use proofs.Opening.{number_answered}
+use proofs.Puts.{value_of, IsOneOf, Old, New, one_of}
+use proofs.Steady.{same_ends}
 use Rattle.policy_audit.specs.declared.event.Event.TheVariants as event
 use Rattle.pg_world.specs.declared.side.Side.TheVariants as side
 use Rattle.pg_world.specs.declared.world_step.WorldStep.TheVariants as step
 use Rattle.pg_world.specs.declared.fault.WorldFault.TheVariants as fault
-use Rattle.pg_world.proofs.Calling.{IsApart, apart_kept, asks_kept, refused_none}
-use Rattle.pg_world.proofs.Entering.{onward, stays_wired}
-use Rattle.pg_world.proofs.Next.{says, Keeps}
-use Rattle.pg_world.proofs.Opening.{nodes_now, now_here, came_none, handed_none, no_link_came, no_link_handed, opens_it, still_carries, IsEndFrom, WasEnd, NewEnd, opens_world, number_answered}
-use Rattle.pg_world.proofs.Puts.{value_of, get_first, get_last, IsOneOf, Old, New, one_of}
-use Rattle.pg_world.proofs.Steady.{same_ends}
 
-module _ (w : Nodes) (sound : IsWorld w) (i j seat c : ℕ) (written : IsWritten (event.Dial [] c)) where
-  module _ (k : History) (there : slice_get w.nodes j ≡ Some k) (h : History) (x : Entry) (here : slice_get w.nodes i ≡ Some h) (is : x.event ≡ event.Dial k.opening.name c) (next : IsNext h x) where
+module _ (w : Nodes) (sound : IsWorld w) (i j seat c : ℕ)
+    (written : IsWritten (event.Dial [] c)) where
+  module _ (k : History) (there : slice_get w.nodes j ≡ Some k) (h : History) (x : Entry)
+      (here : slice_get w.nodes i ≡ Some h) (is : x.event ≡ event.Dial k.opening.name c)
+      (next : IsNext h x) where
     apart : IsApart x.event
-    apart = subst IsApart (sym is) (record { late = λ es. tt; none_in = λ l. refl; none_out = λ l v. refl })
+    apart = subst IsApart (sym is)
+        (record { late = λ es. tt; none_in = λ l. refl; none_out = λ l v. refl })
 
     its_written : IsWritten x.event
     its_written = subst IsWritten (sym is) written
@@ -40,24 +48,29 @@ module _ (w : Nodes) (sound : IsWorld w) (i j seat c : ℕ) (written : IsWritten
       challenge = c;
       from_stands = now_here w sound i h x here next its_written apart;
       to_stands = b.stands;
-      dial = opens_it w sound i h x here next its_written apart accepts (ByDial k.opening.name c) (ap start_of is) ∙ ap (λ o. Some (ByDial o.name c)) (sym b.opening);
+      dial = opens_it w sound i h x here next its_written apart accepts (ByDial k.opening.name c)
+          (ap start_of is) ∙ ap (λ o. Some (ByDial o.name c)) (sym b.opening);
       opening = λ l q. no_value (sym q);
     })
 
     made_carries : (to : Side) → Carries now made to
     made_carries side.Dialler gets =
-        append-nil (came_of (slice_get now i) (Some x.number)) ∙ came_none w sound i h x here next its_written apart ∙ sym (no_link_handed (slice_get now j))
+        append-nil (came_of (slice_get now i) (Some x.number)) ∙ came_none w sound i h x here next
+        its_written apart ∙ sym (no_link_handed (slice_get now j))
     made_carries side.Acceptor gets =
-        append-nil (came_of (slice_get now j) None) ∙ no_link_came (slice_get now j) ∙ sym (handed_none w sound i h x here next its_written apart)
+        append-nil (came_of (slice_get now j) None) ∙ no_link_came (slice_get now j)
+        ∙ sym (handed_none w sound i h x here next its_written apart)
 
     abbrev wires : List Wire
     wires = w.wires ++ made ∷ []
 
-    from : (m : ℕ) (y : Wire) (s : Side) (a b : ℕ) → slice_get wires m ≡ Some y → IsEnd y s a b → IsEndFrom w (length w.wires) side.Dialler i x.number m s a b
+    from : (m : ℕ) (y : Wire) (s : Side) (a b : ℕ) → slice_get wires m ≡ Some y → IsEnd y s a b
+        → IsEndFrom w (length w.wires) side.Dialler i x.number m s a b
     from m y s a b q it = by (one_of w.wires made m y q)
       where
-        new : m ≡ length w.wires → (s : Side) → IsEnd made s a b → IsEndFrom w (length w.wires) side.Dialler i x.number m s a b
-        new number side.Dialler it = NewEnd number refl (sym it.node) (sym (value_of x.number b it.link))
+        new : m ≡ length w.wires → (s : Side) → IsEnd made s a b
+            → IsEndFrom w (length w.wires) side.Dialler i x.number m s a b
+        new number side.Dialler it = NewEnd number refl (sym it.node) (sym (value_of it.link))
         new number side.Acceptor it = no_value (sym it.link)
 
         by : IsOneOf w.wires made m y → IsEndFrom w (length w.wires) side.Dialler i x.number m s a b
@@ -65,16 +78,30 @@ module _ (w : Nodes) (sound : IsWorld w) (i j seat c : ℕ) (written : IsWritten
         by (New number is) = new number s (subst (λ v. IsEnd v s a b) is it)
 
     dial_opens : is_accepted x.verdict ≡ true → IsWorld (world now wires)
-    dial_opens accepts = opens_world w sound i h x here next its_written apart wires (length w.wires) side.Dialler from
-        (λ a b it. record { number = it.number; wire = it.wire; at = it.at; stands = get_first w.wires (made ∷ []) it.number it.wire it.stands; ends = it.ends })
-        (record { number = length w.wires; wire = made; at = side.Dialler; stands = get_last w.wires made; ends = record { node = refl; link = refl } })
+    dial_opens accepts = opens_world w sound i h x here next its_written apart wires
+        (length w.wires) side.Dialler from
+        (λ a b it. record {
+          number = it.number;
+          wire = it.wire;
+          at = it.at;
+          stands = stands_first w.wires (made ∷ []) it.number it.wire it.stands;
+          ends = it.ends;
+        })
+        (record {
+          number = length w.wires;
+          wire = made;
+          at = side.Dialler;
+          stands = stands_last w.wires made;
+          ends = record { node = refl; link = refl };
+        })
         wired carried
       where
         wired : (m : ℕ) (y : Wire) → slice_get wires m ≡ Some y → IsWired now y
         wired m y q = by (one_of w.wires made m y q)
           where
             by : IsOneOf w.wires made m y → IsWired now y
-            by (Old stands) = stays_wired w.nodes i h x here next.number legal y y (same_ends y) (sound.wired m y stands)
+            by (Old stands) = stays_wired w.nodes i h x here next.number legal y y (same_ends y)
+                (sound.wired m y stands)
             by (New number is) = subst (IsWired now) (sym is) (made_wired accepts)
 
         carried : (m : ℕ) (y : Wire) → slice_get wires m ≡ Some y → (to : Side) → Carries now y to
@@ -86,13 +113,24 @@ module _ (w : Nodes) (sound : IsWorld w) (i j seat c : ℕ) (written : IsWritten
 
     -- ---- either way
 
-    dial_kept : (v : Verdict) → x.verdict ≡ v → IsWorld (world now (w.wires ++ new_wire i j (link_opened (says v))))
-    dial_kept (Accepted r) q = subst (λ a. IsWorld (world now (w.wires ++ new_wire i j (link_opened (Ok a))))) (sym (number_answered h x (event.Dial k.opening.name c) r is next q refl)) (dial_opens (ap is_accepted q))
-    dial_kept (Refused r) q = subst (λ ys. IsWorld (world now ys)) (sym (append-nil w.wires)) (apart_kept w sound i h x here next its_written apart (refused_none x (ap is_accepted q)))
+    dial_kept : (v : Verdict) → x.verdict ≡ v
+        → IsWorld (world now (w.wires ++ new_wire i j (link_opened (says v))))
+    dial_kept (Accepted r) q = subst
+        (λ a. IsWorld (world now (w.wires ++ new_wire i j (link_opened (Ok a)))))
+        (sym (number_answered h x (event.Dial k.opening.name c) r is next q refl))
+        (dial_opens (ap is_accepted q))
+    dial_kept (Refused r) q = subst (λ ys. IsWorld (world now ys)) (sym (append-nil w.wires))
+        (apart_kept w sound i h x here next its_written apart (refused_none x (ap is_accepted q)))
 
   pub dials : Keeps w (step.Dial i j seat c) (turn_of w (step.Dial i j seat c))
   dials = by (slice_get w.nodes j) refl
     where
-      by : (o : Option History) → slice_get w.nodes j ≡ o → Keeps w (step.Dial i j seat c) (elim o as (λ _. Turn) [ Some k ↦ asks w.nodes i seat (event.Dial k.opening.name c) | None ↦ Refuses fault.NoNode ])
-      by (Some k) there = asks_kept w sound i seat (step.Dial i j seat c) (event.Dial k.opening.name c) (λ h x here is next goes. dial_kept k there h x here is next x.verdict refl)
+      by : (o : Option History) → slice_get w.nodes j ≡ o
+          → Keeps w (step.Dial i j seat c)
+          (elim o as (λ _. Turn) [
+            | Some k ↦ asks w.nodes i seat (event.Dial k.opening.name c)
+            | None ↦ Refuses fault.NoNode
+          ])
+      by (Some k) there = asks_kept w sound i seat (step.Dial i j seat c) (event.Dial k.opening.name
+          c) (λ h x here is next goes. dial_kept k there h x here is next x.verdict refl)
       by None gone = tt

@@ -1,12 +1,15 @@
 -- What one entry of one node makes of the ends of the wires.
-use Rattle.pg_world.proofs.Words.{◌≡◌, ◌≤◌, ◌+◌, not, arith, ℕ, Bool, true, false, cond, List, [], ◌∷◌, ◌++◌, Option, Some, None, ap, sym}
-use Rattle.pg_world.proofs.Words.{refl, subst, ◌∙◌, length, slice_get, slice_set, ◌==◌, eqb-true, eqb-false, OutFrame, History, Entry, Start}
-use Rattle.pg_world.proofs.Words.{ByDial, ByPeer, start_of, is_open, is_opened_by, ends, IsLegal, with_entry, sent, handed, came, opening_of}
-use Rattle.pg_world.proofs.Words.{opened_number, opening_low, append_assoc, append-nil, Side, Wire, node_at, link_at, under_way, other, IsWired}
-use Rattle.pg_world.proofs.Words.{Carries, bodies, came_of, handed_of, gets_of}
+use Rattle.pg_world.proofs
+use proofs.Words.{ap, append-nil, append_assoc, arith, bodies, Bool, ByDial, ByPeer, came, came_of}
+use proofs.Words.{Carries, cond, ends, Entry, eqb-false, eqb-true, false, gets_of, handed}
+use proofs.Words.{handed_of, History, is_open, is_opened_by, IsLegal, IsWired, length, link_at}
+use proofs.Words.{List, node_at, None, not, opened_number, opening_low, opening_of, Option, other}
+use proofs.Words.{OutFrame, refl, sent, Side, slice_get, slice_set, Some, Start, start_of, subst}
+use proofs.Words.{sym, true, under_way, Wire, with_entry, ℕ, [], ◌++◌, ◌+◌, ◌==◌, ◌∙◌, ◌∷◌, ◌≡◌}
+use proofs.Words.{◌≤◌}
+use proofs.Puts.{get_same, get_other, value_of, Compared, Same, Apart, compare}
 use Rattle.policy_audit.specs.declared.event.Event.TheVariants as event
 use Rattle.pg_world.specs.declared.side.Side.TheVariants as side
-use Rattle.pg_world.proofs.Puts.{get_same, get_other, value_of, Compared, Same, Apart, compare}
 
 pub bodies_apart : (xs ys : List OutFrame) → bodies (xs ++ ys) ≡ bodies xs ++ bodies ys
 bodies_apart [] ys = refl
@@ -33,16 +36,17 @@ pub record Onward (hs : List History) (k : ℕ) (g : History) : Type 0 where
   pub later : History
   pub stands : slice_get hs k ≡ Some later
   pub opening : later.opening ≡ g.opening
-  pub opens : (l : ℕ) (st : Start) → opening_of l g.entries ≡ Some st → opening_of l later.entries ≡ Some st
+  pub opens : (l : ℕ) (st : Start) → opening_of l g.entries ≡ Some st
+      → opening_of l later.entries ≡ Some st
 
 -- ---- the words of one entry of node i
 
 -- what came with the entry on a link, and what it handed out
-abbrev pub added_came : Entry → Option ℕ → List (List ℕ)
+abbrev added_came : Entry → Option ℕ → List (List ℕ)
 added_came e None = []
 added_came e (Some l) = came l e.event
 
-abbrev pub added_handed : Entry → Option ℕ → List (List ℕ)
+abbrev added_handed : Entry → Option ℕ → List (List ℕ)
 added_handed e None = []
 added_handed e (Some l) = bodies (handed l e.event e.verdict)
 
@@ -53,7 +57,8 @@ new_came e i k o = cond (k == i) (added_came e o) []
 abbrev pub new_handed : Entry → ℕ → ℕ → Option ℕ → List (List ℕ)
 new_handed e i k o = cond (k == i) (added_handed e o) []
 
-module _ (hs : List History) (i : ℕ) (h : History) (e : Entry) (here : slice_get hs i ≡ Some h) (number : e.number ≡ length h.entries + 1) (legal : IsLegal h) where
+module _ (hs : List History) (i : ℕ) (h : History) (e : Entry) (here : slice_get hs i ≡ Some h)
+    (number : e.number ≡ length h.entries + 1) (legal : IsLegal h) where
   abbrev pub entered : List History
   entered = slice_set hs i (with_entry h e)
 
@@ -62,28 +67,37 @@ module _ (hs : List History) (i : ℕ) (h : History) (e : Entry) (here : slice_g
 
   -- ---- how links were opened
 
-  pub no_opening : (l : ℕ) → l ≤ length h.entries → is_opened_by l e ≡ false
+  no_opening : (l : ℕ) → l ≤ length h.entries → is_opened_by l e ≡ false
   no_opening l low = by (is_opened_by l e) refl
     where
       by : (b : Bool) → is_opened_by l e ≡ b → b ≡ false
       by false q = refl
-      by true q = (let its = opened_number l e q in absurd (omega (arith, its, number, low)))
+      by true q = (let its = opened_number l e q in absurd (omega arith))
 
-  opens_later : (l : ℕ) (st : Start) → opening_of l h.entries ≡ Some st → opening_of l (e ∷ h.entries) ≡ Some st
-  opens_later l st q = ap (λ b. cond b (start_of e.event) (opening_of l h.entries)) (no_opening l (opening_low h.opening h.entries legal l st q)) ∙ q
+  opens_later : (l : ℕ) (st : Start) → opening_of l h.entries ≡ Some st
+      → opening_of l (e ∷ h.entries) ≡ Some st
+  opens_later l st q = ap (λ b. cond b (start_of e.event) (opening_of l h.entries))
+      (no_opening l (opening_low h.opening h.entries legal l st q)) ∙ q
 
   pub onward : (k : ℕ) (g : History) → slice_get hs k ≡ Some g → Onward entered k g
   onward k g q = by (compare k i)
     where
       by : Compared k i → Onward entered k g
-      by (Apart not) = record { later = g; stands = get_other hs i (with_entry h e) k not ∙ q; opening = refl; opens = λ l st p. p }
+      by (Apart not) =
+          record {
+            later = g;
+            stands = get_other hs i (with_entry h e) k not ∙ q;
+            opening = refl;
+            opens = λ l st p. p;
+          }
       by (Same is) =
-          let same : g ≡ h = value_of g h (sym q ∙ ap (slice_get hs) is ∙ here) in
+          let same : g ≡ h = value_of (sym q ∙ ap (slice_get hs) is ∙ here) in
           record {
             later = with_entry h e;
             stands = ap (slice_get entered) is ∙ now_here;
             opening = ap (λ v. v.opening) (sym same);
-            opens = λ l st p. opens_later l st (subst (λ v. opening_of l v.entries ≡ Some st) same p);
+            opens = λ l st p. opens_later l st (subst (λ v. opening_of l v.entries ≡ Some st) same
+                p);
           }
 
   pub stays_wired : (x y : Wire) → SameEnds x y → IsWired hs x → IsWired entered y
@@ -96,8 +110,11 @@ module _ (hs : List History) (i : ℕ) (h : History) (e : Entry) (here : slice_g
         challenge = it.challenge;
         from_stands = ap (slice_get entered) ends.from ∙ a.stands;
         to_stands = ap (slice_get entered) ends.to ∙ b.stands;
-        dial = ap (λ l. opening_of l a.later.entries) ends.dialled ∙ a.opens x.dialled (ByDial it.acceptor.opening.name it.challenge) it.dial ∙ ap (λ o. Some (ByDial o.name it.challenge)) (sym b.opening);
-        opening = λ l q. (let c = it.opening l (sym ends.accepted ∙ q) in (c.0, b.opens l (ByPeer c.0) c.1));
+        dial = ap (λ l. opening_of l a.later.entries) ends.dialled
+            ∙ a.opens x.dialled (ByDial it.acceptor.opening.name it.challenge) it.dial
+            ∙ ap (λ o. Some (ByDial o.name it.challenge)) (sym b.opening);
+        opening = λ l q. (let c = it.opening l (sym ends.accepted ∙ q) in
+            (c.0, b.opens l (ByPeer c.0) c.1));
       }
 
   -- ---- what came and was handed out
@@ -111,71 +128,112 @@ module _ (hs : List History) (i : ℕ) (h : History) (e : Entry) (here : slice_g
   was_here : (k : ℕ) → (k == i) ≡ true → slice_get hs k ≡ Some h
   was_here k q = ap (slice_get hs) (eqb-true k i q) ∙ here
 
-  pub came_now : (k : ℕ) (o : Option ℕ) → came_of (slice_get entered k) o ≡ came_of (slice_get hs k) o ++ new_came e i k o
-  came_now k None = grind (arith, elsewhere k, at_here k, was_here k, append-nil (came_of (slice_get hs k) None))
-  came_now k (Some l) = grind (arith, elsewhere k, at_here k, was_here k, append-nil (came_of (slice_get hs k) (Some l)))
+  pub came_now : (k : ℕ) (o : Option ℕ)
+      → came_of (slice_get entered k) o ≡ came_of (slice_get hs k) o ++ new_came e i k o
+  came_now k None =
+      grind (arith, elsewhere k, at_here k, was_here k, append-nil (came_of (slice_get hs k) None))
+  came_now k (Some l) =
+      grind (
+        arith,
+        elsewhere k,
+        at_here k,
+        was_here k,
+        append-nil (came_of (slice_get hs k) (Some l)),
+      )
 
-  pub handed_now : (k : ℕ) (o : Option ℕ) → handed_of (slice_get entered k) o ≡ handed_of (slice_get hs k) o ++ new_handed e i k o
-  handed_now k None = grind (arith, elsewhere k, at_here k, was_here k, append-nil (handed_of (slice_get hs k) None))
-  handed_now k (Some l) = grind (arith, elsewhere k, at_here k, was_here k, append-nil (handed_of (slice_get hs k) (Some l)), bodies_apart (sent l h.entries) (handed l e.event e.verdict))
+  handed_now : (k : ℕ) (o : Option ℕ)
+      → handed_of (slice_get entered k) o ≡ handed_of (slice_get hs k) o ++ new_handed e i k o
+  handed_now k None =
+      grind
+      (arith, elsewhere k, at_here k, was_here k, append-nil (handed_of (slice_get hs k) None))
+  handed_now k (Some l) =
+      grind (
+        arith,
+        elsewhere k,
+        at_here k,
+        was_here k,
+        append-nil (handed_of (slice_get hs k) (Some l)),
+        bodies_apart (sent l h.entries) (handed l e.event e.verdict),
+      )
 
   -- a link that was opened before, and is open now, was open
-  still_open : (l : ℕ) → l ≤ length h.entries → is_open l (e ∷ h.entries) ≡ true → is_open l h.entries ≡ true
-  still_open l low q = grind (arith, no_opening l low, q)
+  still_open : (l : ℕ) → l ≤ length h.entries → is_open l (e ∷ h.entries) ≡ true
+      → is_open l h.entries ≡ true
+  still_open l low q = grind (arith, no_opening l low)
 
-  pub got : (k : ℕ) (o : Option ℕ) → ((l : ℕ) → o ≡ Some l → k ≡ i → l ≤ length h.entries) → gets_of (slice_get entered k) o ≡ true → gets_of (slice_get hs k) o ≡ true
+  pub got : (k : ℕ) (o : Option ℕ) → ((l : ℕ) → o ≡ Some l → k ≡ i → l ≤ length h.entries)
+      → gets_of (slice_get entered k) o ≡ true → gets_of (slice_get hs k) o ≡ true
   got k None low q = grind (arith, elsewhere k, at_here k, was_here k)
-  got k (Some l) low q = grind (arith, elsewhere k, at_here k, was_here k, eqb-true k i, low l refl, still_open l, q)
+  got k (Some l) low q =
+      grind (arith, elsewhere k, at_here k, was_here k, eqb-true k i, low l refl, still_open l)
 
   -- the links of a wire were opened before
-  pub ends_low : (x : Wire) → IsWired hs x → (at : Side) (l : ℕ) → link_at at x ≡ Some l → node_at at x ≡ i → l ≤ length h.entries
+  pub ends_low : (x : Wire) → IsWired hs x → (at : Side) (l : ℕ) → link_at at x ≡ Some l
+      → node_at at x ≡ i → l ≤ length h.entries
   ends_low x it side.Dialler l q is =
-      let its : it.dialler ≡ h = value_of it.dialler h (sym it.from_stands ∙ ap (slice_get hs) is ∙ here) in
-      let same : x.dialled ≡ l = value_of x.dialled l q in
+      let its : it.dialler ≡ h = value_of (sym it.from_stands ∙ ap (slice_get hs) is ∙ here) in
+      let same : x.dialled ≡ l = value_of q in
       let st = ByDial it.acceptor.opening.name it.challenge in
-      opening_low h.opening h.entries legal l st (subst (λ v. opening_of l v.entries ≡ Some st) its (subst (λ m. opening_of m it.dialler.entries ≡ Some st) same it.dial))
+      opening_low h.opening h.entries legal l st (subst (λ v. opening_of l v.entries ≡ Some st) its
+      (subst (λ m. opening_of m it.dialler.entries ≡ Some st) same it.dial))
   ends_low x it side.Acceptor l q is =
-      let its : it.acceptor ≡ h = value_of it.acceptor h (sym it.to_stands ∙ ap (slice_get hs) is ∙ here) in
+      let its : it.acceptor ≡ h = value_of (sym it.to_stands ∙ ap (slice_get hs) is ∙ here) in
       let c = it.opening l q in
-      opening_low h.opening h.entries legal l (ByPeer c.0) (subst (λ v. opening_of l v.entries ≡ Some (ByPeer c.0)) its c.1)
+      opening_low h.opening h.entries legal l (ByPeer c.0)
+      (subst (λ v. opening_of l v.entries ≡ Some (ByPeer c.0)) its c.1)
 
-  -- a wire carries what it did, where what came and is under way now is what was under way and was handed out now
+  -- a wire carries what it did, where what came and is under way now is what was under way and was
+  -- handed out now
   pub carries_on : (x y : Wire) → SameEnds x y → IsWired hs x → (to : Side) → Carries hs x to
-      → (gets_of (slice_get entered (node_at to x)) (link_at to x) ≡ true → new_came e i (node_at to x) (link_at to x) ++ bodies (under_way to y) ≡ bodies (under_way to x) ++ new_handed e i (node_at (other to) x) (link_at (other to) x))
+      → (gets_of (slice_get entered (node_at to x)) (link_at to x) ≡ true
+      → new_came e i (node_at to x) (link_at to x) ++ bodies (under_way to y) ≡ bodies
+      (under_way to x) ++ new_handed e i (node_at (other to) x) (link_at (other to) x))
       → Carries entered y to
   carries_on x y ends wired to carries fits opens =
-      ap (λ k. came_of (slice_get entered k) (link_at to y) ++ bodies (under_way to y)) (same_node x y ends to)
-      ∙ ap (λ o. came_of (slice_get entered (node_at to x)) o ++ bodies (under_way to y)) (same_link x y ends to)
+      ap (λ k. came_of (slice_get entered k) (link_at to y) ++ bodies (under_way to y))
+      (same_node x y ends to)
+      ∙ ap (λ o. came_of (slice_get entered (node_at to x)) o ++ bodies (under_way to y))
+      (same_link x y ends to)
       ∙ ap (λ v. v ++ bodies (under_way to y)) (came_now (node_at to x) (link_at to x))
-      ∙ append_assoc (came_of (slice_get hs (node_at to x)) (link_at to x)) (new_came e i (node_at to x) (link_at to x)) (bodies (under_way to y))
+      ∙ append_assoc (came_of (slice_get hs (node_at to x)) (link_at to x))
+      (new_came e i (node_at to x) (link_at to x)) (bodies (under_way to y))
       ∙ ap (λ v. came_of (slice_get hs (node_at to x)) (link_at to x) ++ v) (fits still)
-      ∙ sym (append_assoc (came_of (slice_get hs (node_at to x)) (link_at to x)) (bodies (under_way to x)) (new_handed e i (node_at (other to) x) (link_at (other to) x)))
+      ∙ sym (append_assoc (came_of (slice_get hs (node_at to x)) (link_at to x))
+      (bodies (under_way to x)) (new_handed e i (node_at (other to) x) (link_at (other to) x)))
       ∙ ap (λ v. v ++ new_handed e i (node_at (other to) x) (link_at (other to) x)) (carries was)
       ∙ sym (handed_now (node_at (other to) x) (link_at (other to) x))
-      ∙ ap (λ o. handed_of (slice_get entered (node_at (other to) x)) o) (sym (same_link x y ends (other to)))
-      ∙ ap (λ k. handed_of (slice_get entered k) (link_at (other to) y)) (sym (same_node x y ends (other to)))
+      ∙ ap (λ o. handed_of (slice_get entered (node_at (other to) x)) o)
+      (sym (same_link x y ends (other to)))
+      ∙ ap (λ k. handed_of (slice_get entered k) (link_at (other to) y))
+      (sym (same_node x y ends (other to)))
     where
       still : gets_of (slice_get entered (node_at to x)) (link_at to x) ≡ true
-      still = ap (λ k. gets_of (slice_get entered k) (link_at to x)) (sym (same_node x y ends to)) ∙ ap (λ o. gets_of (slice_get entered (node_at to y)) o) (sym (same_link x y ends to)) ∙ opens
+      still = ap (λ k. gets_of (slice_get entered k) (link_at to x)) (sym (same_node x y ends to))
+          ∙ ap (λ o. gets_of (slice_get entered (node_at to y)) o) (sym (same_link x y ends to))
+          ∙ opens
 
       was : gets_of (slice_get hs (node_at to x)) (link_at to x) ≡ true
       was = got (node_at to x) (link_at to x) (λ l q is. ends_low x wired to l q is) still
 
-  -- ---- where nothing came, and nothing was handed out
+-- ---- where nothing came, and nothing was handed out
 
+module _ (e : Entry) (i : ℕ) where
   pub none_came : ((l : ℕ) → came l e.event ≡ []) → (k : ℕ) (o : Option ℕ) → new_came e i k o ≡ []
   none_came none k None = grind arith
   none_came none k (Some l) = grind (arith, none l)
 
-  pub none_handed : ((l : ℕ) → handed l e.event e.verdict ≡ []) → (k : ℕ) (o : Option ℕ) → new_handed e i k o ≡ []
+  pub none_handed : ((l : ℕ) → handed l e.event e.verdict ≡ []) → (k : ℕ) (o : Option ℕ)
+      → new_handed e i k o ≡ []
   none_handed none k None = grind arith
   none_handed none k (Some l) = grind (arith, none l)
 
   -- where it was handed out, or came, on one link alone
-  pub handed_once : (l : ℕ) → e.event ≡ event.Take l → (k : ℕ) (o : Option ℕ) → (k ≡ i → o ≡ Some l → ⊥) → new_handed e i k o ≡ []
+  pub handed_once : (l : ℕ) → e.event ≡ event.Take l → (k : ℕ) (o : Option ℕ)
+      → (k ≡ i → o ≡ Some l → ⊥) → new_handed e i k o ≡ []
   handed_once l is k None apart = grind arith
-  handed_once l is k (Some m) apart = grind (arith, is, apart, eqb-true k i, eqb-true l m)
+  handed_once l is k (Some m) apart = grind (arith, eqb-true k i, eqb-true l m)
 
-  pub came_once : (l : ℕ) (body : List ℕ) → e.event ≡ event.Frame l body → (k : ℕ) (o : Option ℕ) → (k ≡ i → o ≡ Some l → ⊥) → new_came e i k o ≡ []
+  pub came_once : (l : ℕ) (body : List ℕ) → e.event ≡ event.Frame l body → (k : ℕ) (o : Option ℕ)
+      → (k ≡ i → o ≡ Some l → ⊥) → new_came e i k o ≡ []
   came_once l body is k None apart = grind arith
-  came_once l body is k (Some m) apart = grind (arith, is, apart, eqb-true k i, eqb-true l m)
+  came_once l body is k (Some m) apart = grind (arith, eqb-true k i, eqb-true l m)

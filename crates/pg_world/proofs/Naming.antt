@@ -1,6 +1,9 @@
 -- Names that two nodes share.
-use Rattle.pg_world.proofs.Words.{◌≡◌, ◌≢◌, ◌<◌, ℕ, Bool, true, false, List, Some, None, ap, sym, ◌∙◌, refl, get_or, length, nat_eq, slice_get}
-use Rattle.pg_world.proofs.Words.{pointwise, slice_get_read, Decides, Decides-eqb, slice_eq-Decides, History, ShareAName}
+use Rattle.pg_world.proofs
+use proofs.Words.{ap, Bool, Decides, Decides-eqb, false, get_or, History, length, List, nat_eq}
+use proofs.Words.{pointwise, refl, ShareAName, slice_eq-Decides, slice_get, slice_get_read, Some}
+use proofs.Words.{sym, true, ℕ, ◌<◌, ◌∙◌, ◌≡◌, ◌≢◌}
+use proofs.Puts.{value_of}
 
 -- the comparison of two names decides
 alike : (x y : List ℕ) → Decides (pointwise nat_eq x y) (x ≡ y)
@@ -28,13 +31,12 @@ module _ (hs : List History) (i j : ℕ) (a b : History) (x y : List ℕ) where
     same = sym t.name ∙ (alike x y).0 (sym is ∙ holds) ∙ t.other;
   }
 
-  some_is : {h k : History} → Some h ≡ Some k → h ≡ k
-  some_is {h} {k} q = ap (λ o. elim o as (λ _. History) [ Some v ↦ v | None ↦ h ]) q
-
-  pub apart : (r : Bool) → Read → r ≡ pointwise nat_eq x y → r ≡ false → (h k : History) → slice_get hs i ≡ Some h → slice_get hs j ≡ Some k → h.opening.name ≢ k.opening.name
+  pub apart : (r : Bool) → Read → r ≡ pointwise nat_eq x y → r ≡ false → (h k : History)
+      → slice_get hs i ≡ Some h → slice_get hs j ≡ Some k → h.opening.name ≢ k.opening.name
   apart r t is fails h k one two same =
-      let h_is = some_is (sym (slice_get_read hs (length hs) i a refl t.within t.one) ∙ one) in
-      let k_is = some_is (sym (slice_get_read hs (length hs) j b refl t.there t.another) ∙ two) in
-      let both = t.name ∙ ap (λ v. v.opening.name) h_is ∙ same ∙ sym (ap (λ v. v.opening.name) k_is) ∙ sym t.other in
+      let h_is = value_of (sym (slice_get_read hs (length hs) i a refl t.within t.one) ∙ one) in
+      let k_is = value_of (sym (slice_get_read hs (length hs) j b refl t.there t.another) ∙ two) in
+      let both = t.name ∙ ap (λ v. v.opening.name) h_is ∙ same ∙ sym (ap (λ v. v.opening.name) k_is)
+      ∙ sym t.other in
       let holds = is ∙ (alike x y).1 both in
       cc

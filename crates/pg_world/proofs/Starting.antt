@@ -1,15 +1,20 @@
 -- A world of nodes that have seen nothing, without wires.
-use Rattle.pg_world.proofs.Words.{◌≡◌, arith, ℕ, Bool, true, false, List, [], Some, ap, sym, refl, subst, ◌∙◌, slice_get, nat_lt, ltb-true, History}
-use Rattle.pg_world.proofs.Words.{is_open, lie, no_value, IsNode, world, DifferInName, IsWorld, FramesAreLate}
+use Rattle.pg_world.proofs
+use proofs.Words.{ap, arith, Bool, DifferInName, false, FramesAreLate, History, is_open, IsNode}
+use proofs.Words.{IsWorld, lie, List, ltb-true, nat_lt, no_value, refl, slice_get, Some, subst, sym}
+use proofs.Words.{true, world, ℕ, [], ◌∙◌, ◌≡◌}
 
-module _ (hs : List History) (differ : DifferInName hs) (nodes : (i : ℕ) (h : History) → slice_get hs i ≡ Some h → IsNode h) (unused : (i : ℕ) (h : History) → slice_get hs i ≡ Some h → h.entries ≡ []) where
-  named : (i j : ℕ) (h k : History) → slice_get hs i ≡ Some h → slice_get hs j ≡ Some k → h.opening.name ≡ k.opening.name → i ≡ j
+module _ (hs : List History) (differ : DifferInName hs) (nodes : (i : ℕ) (h : History)
+    → slice_get hs i ≡ Some h → IsNode h) (unused : (i : ℕ) (h : History) → slice_get hs i ≡ Some h
+    → h.entries ≡ []) where
+  named : (i j : ℕ) (h k : History) → slice_get hs i ≡ Some h → slice_get hs j ≡ Some k
+      → h.opening.name ≡ k.opening.name → i ≡ j
   named i j h k p q same = by (nat_lt i j) refl (nat_lt j i) refl
     where
       by : (a : Bool) → nat_lt i j ≡ a → (b : Bool) → nat_lt j i ≡ b → i ≡ j
       by true less b other = absurd (differ i j h k (ltb-true i j less) p q same)
       by false least true more = absurd (differ j i k h (ltb-true j i more) q p (sym same))
-      by false least false most = grind (arith, least, most)
+      by false least false most = grind arith
 
   pub starts : IsWorld (world hs [])
   starts = record {

@@ -1,14 +1,15 @@
 -- A world stays one with each of its steps.
-use Rattle.pg_world.proofs.Words.{Result, WorldStep, WorldReply, WorldFault, Nodes, turn_of, IsWorld, IsWrittenStep}
-use Rattle.pg_world.specs.Steps.{IsWorldStep}
+use Rattle.pg_world.proofs
+use proofs.Words.{IsWorld, IsWorldStep, IsWrittenStep, Nodes, Result, turn_of, WorldFault}
+use proofs.Words.{WorldReply, WorldStep}
+use proofs.Accepting.{accepts}
+use proofs.Calling.{calls, restarts}
+use proofs.Cutting.{cuts}
+use proofs.Delivering.{delivers}
+use proofs.Dialling.{dials}
+use proofs.Handing.{hands}
+use proofs.Next.{Keeps, stays_by}
 use Rattle.pg_world.specs.declared.world_step.WorldStep.TheVariants as step
-use Rattle.pg_world.proofs.Accepting.{accepts}
-use Rattle.pg_world.proofs.Calling.{calls, restarts}
-use Rattle.pg_world.proofs.Cutting.{cuts}
-use Rattle.pg_world.proofs.Delivering.{delivers}
-use Rattle.pg_world.proofs.Dialling.{dials}
-use Rattle.pg_world.proofs.Handing.{hands}
-use Rattle.pg_world.proofs.Next.{Keeps, stays_by}
 
 module _ (w : Nodes) (sound : IsWorld w) where
   kept : (t : WorldStep) → IsWrittenStep t → Keeps w t (turn_of w t)
@@ -20,5 +21,6 @@ module _ (w : Nodes) (sound : IsWorld w) where
   kept (step.Cut n at seat) written = cuts w sound n at seat
   kept (step.Restart i seat) written = restarts w sound i seat
 
-pub stays : (w v : Nodes) (t : WorldStep) (r : Result WorldReply WorldFault) → IsWorld w → IsWrittenStep t → IsWorldStep w t v r → IsWorld v
+pub stays : (w v : Nodes) (t : WorldStep) (r : Result WorldReply WorldFault) → IsWorld w
+    → IsWrittenStep t → IsWorldStep w t v r → IsWorld v
 stays w v t r sound written s = stays_by w v t r sound (kept w sound t written) s

@@ -1,10 +1,14 @@
 -- The words that the proofs of this crate speak in, passed on from one place.
-pub use Rattle.std.proofs.Common.{Bool, Err, IsTrue, List, None, Ok, Option, Some, [], ap, arith, codes, cond, drop, false, get_or, length, nat_eq}
-pub use Rattle.std.proofs.Common.{not, refl, subst, suc, sym, take, true, zero, ℕ, ◌&&◌, ◌++◌, ◌+◌, ◌<◌, ◌||◌, ◌∙◌, ◌∷◌, ◌≡◌, ◌≢◌, ◌≤◌}
-pub use Rattle.std.proofs.lemmas.Bool.{eq-eqb, eqb-false, eqb-true, ltb-true}
+pub use Rattle.std.proofs.Common.{ap, arith, Bool, codes, cond, drop, Err, false, get_or, IsTrue}
+pub use Rattle.std.proofs.Common.{length, List, nat_eq, None, not, Ok, Option, refl, Some, subst}
+pub use Rattle.std.proofs.Common.{suc, sym, take, true, zero, ℕ, [], ◌&&◌, ◌++◌, ◌+◌, ◌<◌, ◌||◌}
+pub use Rattle.std.proofs.Common.{◌∙◌, ◌∷◌, ◌≡◌, ◌≢◌, ◌≤◌}
+pub use Rattle.std.proofs.lemmas.Bool.{and_parts, eq-eqb, eqb-false, eqb-true, ltb-true}
 pub use Rattle.std.proofs.lemmas.Bool.Decides.{Decides-eqb}
-pub use Rattle.std.proofs.lemmas.List.{append-nil, append_assoc, length-set, set-get_or, take_at}
-pub use Rattle.std.proofs.lemmas.Option.{get_or_from_slice_get, slice_get-get_or, slice_get_past, slice_get_read, slice_get_within}
+pub use Rattle.std.proofs.lemmas.List.{append-nil, append_assoc, length-set, map-append, set-get_or}
+pub use Rattle.std.proofs.lemmas.List.{take_at}
+pub use Rattle.std.proofs.lemmas.Option.{get_or_from_slice_get, slice_get-get_or, slice_get_past}
+pub use Rattle.std.proofs.lemmas.Option.{slice_get_read, slice_get_within}
 pub use Rattle.std.proofs.lemmas.Result.{err_from_is_err_and}
 pub use Rattle.std.proofs.lemmas.Slice.Eq.{slice_eq-Decides}
 pub use Rattle.std.specs.Bool.{Decides}
@@ -20,7 +24,7 @@ pub use Rattle.dist_types.specs.Listing.{same}
 pub use Rattle.dist_types.specs.Text.{IsNodeName, IsText}
 pub use Rattle.dist_types.specs.declared.pid.Pid.{Pid}
 pub use Rattle.frame_laws.proofs.Accepting.{is_up_there}
-pub use Rattle.frame_laws.proofs.Bodies.{stands_first}
+pub use Rattle.frame_laws.proofs.Bodies.{stands_first, stands_last}
 pub use Rattle.frame_laws.proofs.Giving.{asked_once, named_first}
 pub use Rattle.frame_laws.proofs.Greetings.{asked_own, named_own}
 pub use Rattle.frame_laws.proofs.Handing.{all_handed, open_rest}
@@ -32,46 +36,28 @@ pub use Rattle.frame_laws.specs.HeardMoment.{HearsMoment}
 pub use Rattle.frame_laws.specs.Hellos.{hello_in, opening_of, own_hello}
 pub use Rattle.frame_laws.specs.Honest.{HasGiven, IsGiven}
 pub use Rattle.frame_laws.specs.Moments.{moment}
-pub use Rattle.frame_laws.specs.Sent.{Owing, bodies_of, came, delivered, frames_of, handed, out, sent}
+pub use Rattle.frame_laws.specs.Sent.{bodies_of, came, delivered, frames_of, handed, out, Owing}
+pub use Rattle.frame_laws.specs.Sent.{sent}
 pub use Rattle.frame_laws.specs.Written.{IsNode, IsWritten}
 pub use Rattle.handshake_frames.specs.Frame.{Name}
-pub use Rattle.handshake_frames.specs.declared.frame.StatusWord.{StatusWord}
-pub use Rattle.link_frames.specs.declared.message.Message.{Message}
 pub use Rattle.node_core.specs.declared.fault.CoreFault.{CoreFault}
-pub use Rattle.pg_world.specs.Exchange.{Comes, IsBehind, IsExchanged, exchange, fresh, join_again, two_nodes}
-pub use Rattle.pg_world.specs.Queues.{Answers, count_handed, cut_by, frames_in, is_gone, joined_by, leaves, left_by, link_opened, oldest}
-pub use Rattle.pg_world.specs.Queues.{place_dialled, plain}
-pub use Rattle.pg_world.specs.Refusals.{keeps_wires}
-pub use Rattle.pg_world.specs.Sound.{Carries, FramesAreLate, HasEnd, IsEnd, IsLate, IsWired, IsWorld, IsWrittenStep, bodies, came_of, gets_of}
-pub use Rattle.pg_world.specs.Sound.{handed_of}
-pub use Rattle.pg_world.specs.Starting.{AreNew, IsNew}
-pub use Rattle.pg_world.specs.Steps.{Asks, IsAsked, Refuses, Turn, Turns, answer_of, asks, asks_frame, asks_opened, at_end, changed, changed_queue}
-pub use Rattle.pg_world.specs.Steps.{end_at, is_wrong, link_end, new_wire, opener, opener_at, queue_at, turn_of, wire_end, wire_opener, wires_after}
-pub use Rattle.pg_world.specs.Views.{AreEnds, ListMoments, ListNow, hears_node}
-pub use Rattle.pg_world.specs.World.{DifferInName, HaveNodes, Nodes, ShareAName, Wire, dialled, link_at, node_at, other, under_way, with_link}
-pub use Rattle.pg_world.specs.World.{with_queue, world}
-pub use Rattle.pg_world.specs.declared.fault.WorldFault.{WorldFault}
-pub use Rattle.pg_world.specs.declared.side.End.{End}
-pub use Rattle.pg_world.specs.declared.side.Side.{Side}
-pub use Rattle.pg_world.specs.declared.world_step.WorldReply.{WorldReply}
-pub use Rattle.pg_world.specs.declared.world_step.WorldStep.{WorldStep}
 pub use Rattle.policy_audit.proofs.Accepted.{accepted, lie, no_value}
 pub use Rattle.policy_audit.proofs.ChangeLemmas.{next_is}
-pub use Rattle.policy_audit.proofs.UpLinks.{agrees, and_left, and_right}
+pub use Rattle.policy_audit.proofs.UpLinks.{agrees}
 pub use Rattle.policy_audit.proofs.Walked.{but}
-pub use Rattle.policy_audit.specs.Checks.{Check, always, answer_checks, challenge_checks, checks, digest_checks, first_broken, frame_checks}
-pub use Rattle.policy_audit.specs.Checks.{is_peer_up, message_checks, name_checks, status_checks}
-pub use Rattle.policy_audit.specs.Hearing.{heard, message_taken}
-pub use Rattle.policy_audit.specs.History.{History, creation, is_accepted}
+pub use Rattle.policy_audit.specs.Checks.{Check, checks, first_broken, frame_checks}
+pub use Rattle.policy_audit.specs.Hearing.{heard}
+pub use Rattle.policy_audit.specs.History.{creation, History, is_accepted}
 pub use Rattle.policy_audit.specs.Links.{ends, is_open, is_opened_by, is_up}
-pub use Rattle.policy_audit.specs.Listed.{listed, listed_by}
+pub use Rattle.policy_audit.specs.Listed.{listed}
 pub use Rattle.policy_audit.specs.OutFrame.{OutFrame}
 pub use Rattle.policy_audit.specs.Owed.{is_kept, waiting}
-pub use Rattle.policy_audit.specs.Own.{is_local, is_running, own}
-pub use Rattle.policy_audit.specs.Policy.{IsLegal, IsLegalIn, IsNext, after, answer, entry_of, is_full, judged, next_number, verdict, with_entry}
-pub use Rattle.policy_audit.specs.Sides.{AwaitAck, AwaitAnswer, AwaitChallenge, AwaitMessage, AwaitName, AwaitReply, AwaitStatus, Awaited, ByDial}
-pub use Rattle.policy_audit.specs.Sides.{ByPeer, Opened, Start, awaits, given, is_whole, is_whole_in, opened, peer_of, present_link, start_of}
-pub use Rattle.policy_audit.specs.Sides.{taken}
+pub use Rattle.policy_audit.specs.Own.{is_local}
+pub use Rattle.policy_audit.specs.Policy.{after, answer, entry_of, is_full, IsLegal, IsLegalIn}
+pub use Rattle.policy_audit.specs.Policy.{IsNext, judged, next_number, verdict, with_entry}
+pub use Rattle.policy_audit.specs.Sides.{Awaited, AwaitName, awaits, ByDial, ByPeer, given}
+pub use Rattle.policy_audit.specs.Sides.{is_whole, is_whole_in, Opened, opened, peer_of}
+pub use Rattle.policy_audit.specs.Sides.{present_link, Start, start_of, taken}
 pub use Rattle.policy_audit.specs.declared.entry.Entry.{Entry}
 pub use Rattle.policy_audit.specs.declared.entry.Verdict.{Verdict}
 pub use Rattle.policy_audit.specs.declared.entry.Verdict.TheVariants.{Accepted, Refused}
@@ -79,3 +65,27 @@ pub use Rattle.policy_audit.specs.declared.event.Event.{Event}
 pub use Rattle.policy_audit.specs.declared.opening.Opening.{Opening}
 pub use Rattle.policy_audit.specs.declared.reply.Reply.{Reply}
 pub use Rattle.policy_audit.specs.declared.rule.Rule.{Rule}
+pub use Rattle.handshake_frames.specs.Reading.{challenge_frame, name_frame}
+pub use Rattle.node_core.specs.Step.{IsStepped}
+pub use borrow.Author.Count.{below_more}
+pub use Rattle.pg_world.specs.Exchange.{Comes, exchange, fresh, IsBehind, IsExchanged, join_again}
+pub use Rattle.pg_world.specs.Exchange.{two_nodes}
+pub use Rattle.pg_world.specs.Queues.{Answers, count_handed, cut_by, frames_in, is_gone, joined_by}
+pub use Rattle.pg_world.specs.Queues.{leaves, left_by, link_opened, oldest, place_dialled, plain}
+pub use Rattle.pg_world.specs.Refusals.{keeps_wires}
+pub use Rattle.pg_world.specs.Sound.{bodies, came_of, Carries, FramesAreLate, gets_of, handed_of}
+pub use Rattle.pg_world.specs.Sound.{HasEnd, IsEnd, IsLate, IsWired, IsWorld, IsWrittenStep}
+pub use Rattle.pg_world.specs.Starting.{AreNew, IsNew}
+pub use Rattle.pg_world.specs.Steps.{answer_of, Asks, asks, asks_frame, asks_opened, at_end}
+pub use Rattle.pg_world.specs.Steps.{changed, changed_queue, end_at, is_wrong, IsAsked, IsWorldStep}
+pub use Rattle.pg_world.specs.Steps.{link_end, new_wire, opener, opener_at, queue_at, Refuses, Turn}
+pub use Rattle.pg_world.specs.Steps.{turn_of, Turns, wire_end, wire_opener, wires_after}
+pub use Rattle.pg_world.specs.Views.{AreEnds, hears_node, ListMoments, ListNow}
+pub use Rattle.pg_world.specs.World.{dialled, DifferInName, HaveNodes, link_at, node_at, Nodes}
+pub use Rattle.pg_world.specs.World.{other, ShareAName, under_way, Wire, with_link, with_queue}
+pub use Rattle.pg_world.specs.World.{world}
+pub use Rattle.pg_world.specs.declared.fault.WorldFault.{WorldFault}
+pub use Rattle.pg_world.specs.declared.side.End.{End}
+pub use Rattle.pg_world.specs.declared.side.Side.{Side}
+pub use Rattle.pg_world.specs.declared.world_step.WorldReply.{WorldReply}
+pub use Rattle.pg_world.specs.declared.world_step.WorldStep.{WorldStep}

@@ -2,7 +2,7 @@
 ghost use Rattle.std.specs.Prelude.{◌≡◌, true};
 
 use dist_types::OutOfMemory;
-use node_threads::{Gate, LinkOut};
+use node_threads::LinkOut;
 use std::alloc::Global;
 use std::io::{self, Error, ErrorKind, Read, Write};
 
@@ -77,13 +77,4 @@ impl LinkOut for Taking {
     fn hang_up(&mut self) {
         self.is_hung_up = true;
     }
-}
-
-/// Holds nobody.
-pub struct Open;
-
-impl Gate for Open {
-    fn reading(&self, _link: u32) {}
-
-    fn answered(&self, _link: u32) {}
 }

@@ -242,7 +242,7 @@ impl Desk {
 
     fn wire(&mut self, wide: bool, body: &[u8]) -> Result<Answer, OutOfMemory> {
         if body.len() < MOST_WIRED {
-            let body = Body::of(Vec::from_slice(self.alloc, body)?);
+            let body = Body::of(Vec::from_slice(self.alloc, body)?)?;
             OutFrame { wide, body }.wire(&mut self.written)?;
         }
         Ok(Answer::Done)

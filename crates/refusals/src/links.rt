@@ -1,12 +1,12 @@
 //! The workers of a link over a reader and a writer that fail: why each stopped, and what its pass has called.
 use crate::calls::{Log, insisted};
-use crate::failing::{Giving, Open, Taking};
+use crate::failing::{Giving, Taking};
 use crate::nodes::{close_node, new_node};
 use crate::rows::{put_hex, put_judged, step_of};
 use anyhow::{Result, bail};
 use dist_types::{Body, OutOfMemory};
 use node_core::CoreFault;
-use node_threads::{CallFault, Node, Pass, read_link, write_link};
+use node_threads::{CallFault, Node, OpenGate, Pass, read_link, write_link};
 use pg_text::{put_number, put_word};
 use policy_audit::Event;
 use std::alloc::Global;
@@ -210,7 +210,7 @@ fn put_read<R: Wait + Sync>(
         worker,
         scene.link,
         &mut input,
-        &Open,
+        &OpenGate,
     );
     put_number("read ", input.at as u64, out)?;
     put_worked(&end, worker, out)?;

@@ -4,4 +4,5 @@ use Rattle.pg_script.proofs.script.send.Given as goal
 
 -- the first bytes are sent
 abbrev pub invariant-loop : goal.invariant-loop
-invariant-loop g l = (l.sent ≤ length l.bytes) × Appends (g.W.Write.contents l.fn.writer) (g.W.Write.contents l.writer) (take l.sent l.bytes)
+invariant-loop g l = (l.sent ≤ length l.bytes) × Appends (g.W.Write.contents l.fn.writer)
+    (g.W.Write.contents l.writer) (take l.sent l.bytes)

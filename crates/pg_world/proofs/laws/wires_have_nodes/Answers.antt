@@ -1,5 +1,7 @@
-use Rattle.pg_world.proofs.Wired.{no_wires, stays_wired, end_there, opener_there}
-use Rattle.pg_world.proofs.laws.wires_have_nodes.Goals as goal
+use Rattle.pg_world.proofs
+use proofs.Wired.{no_wires, stays_wired, end_there, opener_there}
+use proofs.laws.wires_have_nodes.Goals as goal
 
 pub returns : goal.returns
-returns c = record { start = no_wires; stays = stays_wired; ends = end_there; opener = opener_there }
+returns c = record
+    { start = no_wires; stays = stays_wired; ends = end_there; opener = opener_there }

@@ -1,14 +1,20 @@
-use Rattle.pg_world.proofs.Words.{sym, ◌∙◌, subst, ap, cond, WorldFault, world, Turns, Refuses, asks}
+use Rattle.pg_world.proofs
+use proofs.Words.{ap, asks, cond, Refuses, subst, sym, Turns, world, WorldFault, ◌∙◌}
+use proofs.Turning.{refused}
 use Rattle.pg_world.specs.Steps.{IsWorldStep}
+use proofs.moving.call.Goals as goal
 use Rattle.pg_world.specs.declared.world_step.WorldStep.TheVariants as step
-use Rattle.pg_world.proofs.Turning.{refused}
-use Rattle.pg_world.proofs.moving.call.Goals as goal
 
 pub returns-then-is_wrong : goal.returns-then-is_wrong
-returns-then-is_wrong c = λ xs. refused (world c.args.nodes.now xs) (step.Call c.args.node c.args.seat c.args.event) WorldFault.WrongEvent
-    (ap (λ b. cond b (Refuses WorldFault.WrongEvent) (asks c.args.nodes.now c.args.node c.args.seat c.args.event)) (sym c.is_wrong.ensures ∙ c.if-is_wrong.true))
+returns-then-is_wrong c = λ xs. refused (world c.args.nodes.now xs)
+    (step.Call c.args.node c.args.seat c.args.event) WorldFault.WrongEvent
+    (ap (λ b. cond b (Refuses WorldFault.WrongEvent) (asks c.args.nodes.now c.args.node c.args.seat
+    c.args.event)) (sym c.is_wrong.ensures ∙ c.if-is_wrong.true))
 
 pub returns : goal.returns
 unfolding IsWorldStep
-returns c = λ xs. subst (λ b. Turns (world c.args.nodes.now xs) (step.Call c.args.node c.args.seat c.args.event) (cond b (Refuses WorldFault.WrongEvent) (asks c.args.nodes.now c.args.node c.args.seat c.args.event)) (world c.ask.new.nodes xs) c.ask.result)
+returns c = λ xs. subst (λ b. Turns (world c.args.nodes.now xs)
+    (step.Call c.args.node c.args.seat c.args.event)
+    (cond b (Refuses WorldFault.WrongEvent) (asks c.args.nodes.now c.args.node c.args.seat
+    c.args.event)) (world c.ask.new.nodes xs) c.ask.result)
     (sym (sym c.is_wrong.ensures ∙ c.if-is_wrong.false)) (c.ask.ensures xs)

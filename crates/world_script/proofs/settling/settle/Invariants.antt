@@ -4,4 +4,5 @@ use Rattle.world_script.proofs.settling.settle.Given as goal
 
 -- so many frames came so far, at most one a turn
 abbrev pub invariant-loop-turn : goal.invariant-loop-turn
-invariant-loop-turn l = record { settles : Settles l.fn.seat l.fn.world l.came l.world; few : l.came ≤ l.turn }
+invariant-loop-turn l =
+    record { settles : Settles l.fn.seat l.fn.world l.came l.world; few : l.came ≤ l.turn }
