@@ -1,12 +1,12 @@
 //! Connections that peers open.
+use crate::arrivals::Arrivals;
 use crate::backoff::Backoff;
+use crate::host::Host;
 use crate::lanes::Lanes;
 use crate::serving::{Opener, serve_stream};
 use node_threads::Node;
 use std::alloc::Global;
-use std::io;
-use std::net::{Shutdown, TcpListener, TcpStream};
-use std::os::fd::OwnedFd;
+use std::net::TcpStream;
 use std::sync::Wait;
 use std::thread::{Scope, Threads};
 use std::time::Clock;
@@ -16,46 +16,41 @@ const FIRST_REST: u64 = 100;
 
 const LONGEST_REST: u64 = 5_000;
 
-/// Wakes all that wait for a connection of this listener, now and later.
-pub fn shut(listener: &TcpListener) -> io::Result<()> {
-    let socket = OwnedFd::from(listener.try_clone()?);
-    TcpStream::from(socket).shutdown(Shutdown::Both)
-}
-
-/// Starts a thread that takes connections: whether one could be made.
+/// Starts a thread that serves connections: whether one could be made.
 pub fn start_accepting<'s, E: 's, R: Threads + Wait + Clock + Sync + 's>(
     scope: &'s Scope<'s, E>,
     rt: &'s R,
     alloc: Global,
     node: &'s Node,
-    lanes: &'s Lanes,
-    listener: &'s TcpListener,
+    lanes: &'s Lanes<'s>,
+    arrivals: &'s Arrivals,
 ) -> bool {
     scope
-        .spawn(move || accept_links(rt, alloc, node, lanes, listener))
+        .spawn(move || take_connections(rt, alloc, node, lanes, arrivals))
         .is_ok()
 }
 
-/// Takes one connection after another and serves its link, until the stop. After a link that didn't come up it rests, the longer
-/// the more there were in a row, so that strangers can't fill the audit.
-pub fn accept_links<R: Threads + Wait + Clock + Sync>(
-    rt: &R,
+/// Serves the link of one connection after another, until the stop. After a link that didn't come up it rests, the longer the more
+/// there were in a row, so that strangers can't fill the audit.
+pub fn take_connections<'a, R: Threads + Wait + Clock + Sync>(
+    rt: &'a R,
     alloc: Global,
-    node: &Node,
-    lanes: &Lanes,
-    listener: &TcpListener,
+    node: &'a Node,
+    lanes: &'a Lanes<'a>,
+    arrivals: &Arrivals,
 ) {
-    let mut rest = Backoff::of_millis(FIRST_REST, LONGEST_REST);
+    let host = Host {
+        rt,
+        alloc,
+        node,
+        lanes,
+    };
+    let mut rest = Backoff::of_millis(FIRST_REST, 0, LONGEST_REST);
     for _ in rt.forever() {
-        let accepted = listener.accept();
-        if lanes.is_stopping(rt) {
+        let Some(stream) = arrivals.next(rt, lanes) else {
             return;
-        }
-        let came_up = match accepted {
-            Ok((stream, _)) => take_in(rt, alloc, node, lanes, &stream),
-            Err(_) => false,
         };
-        if came_up {
+        if take_in(&host, stream) {
             rest.reset();
         } else if lanes.pause(rt, rest.grow()) {
             return;
@@ -65,17 +60,11 @@ pub fn accept_links<R: Threads + Wait + Clock + Sync>(
 }
 
 /// Serves the link of a connection: whether it came up.
-fn take_in<R: Threads + Wait + Clock + Sync>(
-    rt: &R,
-    alloc: Global,
-    node: &Node,
-    lanes: &Lanes,
-    stream: &TcpStream,
-) -> bool {
-    let Some(lane) = lanes.take_for_peer(rt) else {
+fn take_in<R: Threads + Wait + Clock + Sync>(host: &Host<'_, R>, stream: TcpStream) -> bool {
+    let Some(lane) = host.lanes.take_for_peer(host.rt) else {
         return false;
     };
-    let (lane, came_up) = serve_stream(rt, alloc, node, lanes, lane, stream, Opener::Peer);
-    lanes.give_back(rt, lane);
+    let (lane, came_up) = serve_stream(host, lane, stream, Opener::Peer);
+    host.lanes.give_back(host.rt, lane);
     came_up
 }

@@ -23,7 +23,7 @@ impl ReflectionGuard {
     pub(crate) fn finds<R: Wait>(
         &mut self,
         rt: &R,
-        lanes: &Lanes,
+        lanes: &Lanes<'_>,
         piece: &[u8],
     ) -> Result<bool, OutOfMemory> {
         let mut left = piece;

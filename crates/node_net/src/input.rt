@@ -1,9 +1,10 @@
 //! What comes of a link, within its limits of time.
+use crate::endings::Ending;
 use crate::guard::ReflectionGuard;
 use crate::lanes::Lanes;
 use crate::limits::PULSES;
-use crate::output::Outlet;
-use node_threads::Node;
+use crate::output::{Outlet, has_stood_still};
+use crate::progress::Progress;
 use std::io::{self, ErrorKind, Read};
 use std::net::TcpStream;
 use std::sync::Wait;
@@ -26,11 +27,11 @@ pub(crate) enum Stage {
 #[derive(Drop)]
 pub(crate) struct LinkInput<'a, R: Wait + Clock> {
     pub(crate) rt: &'a R,
-    pub(crate) node: &'a Node,
-    pub(crate) lanes: &'a Lanes,
+    pub(crate) lanes: &'a Lanes<'a>,
     pub(crate) link: u32,
     pub(crate) stream: &'a TcpStream,
     pub(crate) outlet: &'a Outlet<'a>,
+    pub(crate) progress: &'a Progress,
     pub(crate) stage: Stage,
 }
 
@@ -40,7 +41,7 @@ impl<R: Wait + Clock> LinkInput<'_, R> {
         let Stage::Handshake(start, heard, guard) = &self.stage else {
             return Ok(());
         };
-        if self.node.shared.lock(self.rt).core().is_up(self.link) {
+        if self.progress.is_up() {
             if guard.is_some() {
                 self.outlet.has_come_up(self.rt)?;
             }
@@ -68,17 +69,7 @@ impl<R: Wait + Clock> LinkInput<'_, R> {
         match &mut self.stage {
             Stage::Handshake(_, heard, guard) => {
                 *heard = heard.saturating_add(piece.len());
-                let Some(guard) = guard else {
-                    return Ok(());
-                };
-                match guard.finds(self.rt, self.lanes, piece) {
-                    Ok(false) => Ok(()),
-                    Ok(true) => {
-                        self.lanes.count_reflection();
-                        Err(io::Error::from(ErrorKind::PermissionDenied))
-                    }
-                    Err(_) => Err(io::Error::from(ErrorKind::OutOfMemory)),
-                }
+                look_for_reflection(self.rt, self.lanes, guard, piece)
             }
             Stage::Up(silent) => {
                 *silent = 0;
@@ -94,8 +85,41 @@ impl<R: Wait + Clock> LinkInput<'_, R> {
                 *silent += 1;
                 ErrorKind::Interrupted
             }
-            _ => ErrorKind::TimedOut,
+            Stage::Up(_) => {
+                self.lanes.note(self.rt, self.link, Ending::Silent);
+                ErrorKind::TimedOut
+            }
+            Stage::Handshake(..) => ErrorKind::TimedOut,
         }
+    }
+
+    /// Writes a tick, where one is due.
+    fn tick(&self) -> io::Result<()> {
+        let ticked = self.outlet.tick(self.rt);
+        if has_stood_still(&ticked) {
+            self.lanes.note(self.rt, self.link, Ending::Slow);
+        }
+        ticked
+    }
+}
+
+/// An error where a challenge of this node's own has come back.
+fn look_for_reflection<R: Wait>(
+    rt: &R,
+    lanes: &Lanes<'_>,
+    guard: &mut Option<ReflectionGuard>,
+    piece: &[u8],
+) -> io::Result<()> {
+    let Some(guard) = guard else {
+        return Ok(());
+    };
+    match guard.finds(rt, lanes, piece) {
+        Ok(false) => Ok(()),
+        Ok(true) => {
+            lanes.count_reflection();
+            Err(io::Error::from(ErrorKind::PermissionDenied))
+        }
+        Err(_) => Err(io::Error::from(ErrorKind::OutOfMemory)),
     }
 }
 
@@ -104,7 +128,7 @@ impl<R: Wait + Clock> Read for LinkInput<'_, R> {
         self.limit()?;
         let mut stream = self.stream;
         let read = stream.read(buf);
-        self.outlet.tick(self.rt)?;
+        self.tick()?;
         match read {
             Ok(count) => {
                 self.look(&buf[..count])?;

@@ -4,7 +4,7 @@ ghost use Rattle.std.specs.List.{Contains};
 ghost use Rattle.node_net.specs.LaneCalls.{IsLane, IsBegun, IsUsed, IsOpening, Opens, own_links};
 
 use cookie_digest::ChallengeSource;
-use node_threads::{Gate, LinkOut, Node, Pass, Served, serve_link};
+use node_threads::{Connection, Gate, LinkOut, Node, Pair, Pass, serve_link};
 use policy_audit::{Event, Reply};
 use rand_chacha::ChaCha20Rng;
 use std::alloc::Global;
@@ -118,20 +118,20 @@ impl Lane {
     }
 
     /// Serves a link that it has opened, until it ends.
-    pub(crate) fn serve<R, I, W>(
+    pub(crate) fn serve<R, I, W, G>(
         self,
         rt: &R,
         alloc: Global,
         node: &Node,
-        link: u32,
-        input: I,
-        output: W,
+        connection: Connection<I, W>,
+        gate: &G,
     ) -> Lane
     where
         R: Threads + Wait + Sync,
         I: Read + Drop,
         W: LinkOut + Send + Drop,
-        requires own { Contains (own_links self.reader.calls) link }
+        G: Gate,
+        requires own { Contains (own_links self.reader.calls) connection.link }
     {
         let Lane {
             reader,
@@ -139,8 +139,9 @@ impl Lane {
             challenge,
             source,
         } = self;
-        let served = serve_link(rt, alloc, node, link, reader, writer, input, output, &Open);
-        let Served { reader, writer, .. } = served;
+        let pair = Pair { reader, writer };
+        let served = serve_link(rt, alloc, node, pair, connection, gate);
+        let Pair { reader, writer } = served.pair;
         Lane {
             reader,
             writer,
@@ -159,13 +160,4 @@ fn open_link<R: Wait>(pass: &mut Pass, rt: &R, node: &Node, event: Event) -> Opt
         Ok(Reply::Link(link)) => Some(*link),
         _ => None,
     }
-}
-
-/// Holds nobody.
-struct Open;
-
-impl Gate for Open {
-    fn reading(&self, _link: u32) {}
-
-    fn answered(&self, _link: u32) {}
 }

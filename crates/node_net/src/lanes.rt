@@ -1,13 +1,14 @@
 //! The lanes of a node, shared by all threads that serve its links.
 ghost use Rattle.std.specs.Prelude.{◌≡◌, IfOk};
 
+use crate::endings::{Ending, Endings};
 use crate::lane::Lane;
 use crate::limits::Limits;
 use std::alloc::Global;
 use std::io::{self, ErrorKind};
 use std::net::{Shutdown, TcpStream};
 use std::sync::atomic::{AtomicU64, Ordering};
-use std::sync::{Condvar, CondvarTimeouts, Mutex, MutexGuard, Wait};
+use std::sync::{Arc, Condvar, CondvarTimeouts, Mutex, MutexGuard, Wait};
 use std::time::{Clock, Duration};
 
 /// How many free lanes are kept for dials at most.
@@ -20,22 +21,22 @@ pub(crate) struct Ticket {
     pub(crate) challenge: u32,
 }
 
-/// A link that is served.
+/// A link that is served, and its connection.
 #[derive(Drop)]
-struct Served {
+struct EnteredLink {
     ticket: Ticket,
-    stream: TcpStream,
+    stream: Arc<TcpStream>,
 }
 
 /// What lies behind the lock.
 #[derive(Drop)]
 struct State {
     free: Vec<Lane>,
-    served: Vec<Served>,
+    served: Vec<EnteredLink>,
     next: u64,
     /// To how many peers that are dialled no link is up.
     dials: usize,
-    /// No lane is left for a further peer; that is counted once until one is free again.
+    /// Somebody waits for a lane, or none is left for a further peer; that is said once until one is free again.
     is_full: bool,
     is_stopping: bool,
 }
@@ -45,41 +46,66 @@ impl State {
     fn kept(&self) -> usize {
         self.dials.min(MOST_KEPT)
     }
+}
 
-    fn has_none_for_peers(&self) -> bool {
-        self.free.len() <= self.kept()
-    }
+/// What an operator should know of the links of a node: how often it was met.
+#[derive(Clone, Copy, Debug, PartialEq, Eq)]
+pub struct Met {
+    /// A peer asked for a digest of a challenge of this node's own, and lost its link.
+    pub reflections: u64,
+    /// No lane was left for a further link.
+    pub fillings: u64,
+    /// A link to a peer that is dialled ended early again, while the peer lived on.
+    pub early_ends: u64,
+}
+
+impl Met {
+    pub const NOTHING: Met = Met {
+        reflections: 0,
+        fillings: 0,
+        early_ends: 0,
+    };
 }
 
 /// The lanes of a node. Each thread that serves a link takes one for that time.
-pub struct Lanes {
+pub struct Lanes<'a> {
     state: Mutex<State>,
     /// Told of each lane that comes back, and of the stop.
     freed: Condvar,
     /// Told of the stop.
     stopped: Condvar,
     limits: Limits,
-    reflected: AtomicU64,
-    filled: AtomicU64,
+    endings: &'a Endings,
+    reflections: AtomicU64,
+    fillings: AtomicU64,
+    early_ends: AtomicU64,
 }
 
-impl Drop for Lanes {
+impl Drop for Lanes<'_> {
     fn drop(self) {
         let Lanes {
             state: _,
             freed: _,
             stopped: _,
             limits: _,
-            reflected: _,
-            filled: _,
+            endings: _,
+            reflections: _,
+            fillings: _,
+            early_ends: _,
         } = self;
     }
 }
 
-impl Lanes {
+impl<'a> Lanes<'a> {
     /// For so many dials, each of one thread that keeps dialling. While no link to its peer is up, one free lane is kept for it
-    /// that no connection takes which a peer has opened; for all together at most 32 are.
-    pub fn new(alloc: Global, lanes: Vec<Lane>, dials: usize, limits: Limits) -> Lanes {
+    /// that no connection takes which a peer has opened; for all together at most 32 are. Why links end is noted in `endings`.
+    pub fn new(
+        alloc: Global,
+        lanes: Vec<Lane>,
+        dials: usize,
+        limits: Limits,
+        endings: &'a Endings,
+    ) -> Lanes<'a> {
         let state = State {
             free: lanes,
             served: Vec::new(alloc),
@@ -93,8 +119,10 @@ impl Lanes {
             freed: Condvar::new(),
             stopped: Condvar::new(),
             limits,
-            reflected: AtomicU64::new(0),
-            filled: AtomicU64::new(0),
+            endings,
+            reflections: AtomicU64::new(0),
+            fillings: AtomicU64::new(0),
+            early_ends: AtomicU64::new(0),
         }
     }
 
@@ -105,8 +133,10 @@ impl Lanes {
             freed: _,
             stopped: _,
             limits: _,
-            reflected: _,
-            filled: _,
+            endings: _,
+            reflections: _,
+            fillings: _,
+            early_ends: _,
         } = self;
         let State { free, .. } = state.into_inner();
         free
@@ -116,18 +146,26 @@ impl Lanes {
         self.limits
     }
 
-    /// How many links were lost because the peer asked for a digest of a challenge of this node's own.
-    pub fn reflections(&self) -> u64 {
-        self.reflected.load(Ordering::SeqCst)
+    /// Notes why a link ends, before its worker says that it is lost.
+    pub(crate) fn note<R: Wait>(&self, rt: &R, link: u32, ending: Ending) {
+        self.endings.note(rt, link, ending);
+    }
+
+    /// What was met up to now.
+    pub fn met(&self) -> Met {
+        Met {
+            reflections: self.reflections.load(Ordering::SeqCst),
+            fillings: self.fillings.load(Ordering::SeqCst),
+            early_ends: self.early_ends.load(Ordering::SeqCst),
+        }
     }
 
     pub(crate) fn count_reflection(&self) {
-        self.reflected.fetch_add(1, Ordering::SeqCst);
+        self.reflections.fetch_add(1, Ordering::SeqCst);
     }
 
-    /// How often no lane was left for a link that a peer opens.
-    pub fn fillings(&self) -> u64 {
-        self.filled.load(Ordering::SeqCst)
+    pub(crate) fn count_early_end(&self) {
+        self.early_ends.fetch_add(1, Ordering::SeqCst);
     }
 
     /// All links are hung up, and no other one is served from now on.
@@ -161,7 +199,7 @@ impl Lanes {
         let mut state = self.state.lock(rt);
         self.look_whether_full(&mut state);
         let mut state = self.freed.wait_while(rt, state, |state| {
-            !state.is_stopping && state.has_none_for_peers()
+            !state.is_stopping && state.free.len() <= state.kept()
         });
         let lane = take_free(&mut state);
         self.look_whether_full(&mut state);
@@ -170,15 +208,18 @@ impl Lanes {
 
     /// Counts it once where no lane is left for a further peer.
     fn look_whether_full(&self, state: &mut State) {
-        if state.has_none_for_peers() && !state.is_full && !state.is_stopping {
+        if state.free.len() <= state.kept() && !state.is_full && !state.is_stopping {
             state.is_full = true;
-            self.filled.fetch_add(1, Ordering::SeqCst);
+            self.fillings.fetch_add(1, Ordering::SeqCst);
         }
     }
 
-    /// The lane for a dial, once there is one; none after the stop. None is kept for it while it is taken.
+    /// The lane for a dial, once there is one; none after the stop.
     pub(crate) fn take_for_dial<R: Wait>(&self, rt: &R) -> Option<Lane> {
-        let state = self.state.lock(rt);
+        let mut state = self.state.lock(rt);
+        if state.free.is_empty() {
+            self.look_whether_full(&mut state);
+        }
         let mut state = self.freed.wait_while(rt, state, |state| {
             !state.is_stopping && state.free.is_empty()
         });
@@ -217,7 +258,7 @@ impl Lanes {
 
     /// A lane has become free, for who waits for one.
     fn free_some(&self, mut state: MutexGuard<'_, State>) {
-        if !state.has_none_for_peers() {
+        if state.free.len() > state.kept() {
             state.is_full = false;
         }
         drop(state);
@@ -229,11 +270,13 @@ impl Lanes {
         &self,
         rt: &R,
         challenge: u32,
-        stream: &TcpStream,
+        stream: &Arc<TcpStream>,
     ) -> io::Result<Ticket>
         ensures { IfOk result (λ ticket. ticket.challenge ≡ challenge) }
     {
-        let stream = stream.try_clone()?;
+        let Ok(stream) = Arc::try_clone(stream) else {
+            return Err(io::Error::from(ErrorKind::OutOfMemory));
+        };
         let mut state = self.state.lock(rt);
         if state.is_stopping {
             return Err(io::Error::from(ErrorKind::Interrupted));
@@ -241,7 +284,7 @@ impl Lanes {
         let number = state.next;
         state.next = number.saturating_add(1);
         let ticket = Ticket { number, challenge };
-        match state.served.push(Served { ticket, stream }) {
+        match state.served.push(EnteredLink { ticket, stream }) {
             Ok(()) => Ok(ticket),
             Err(_) => Err(io::Error::from(ErrorKind::OutOfMemory)),
         }

@@ -2,18 +2,27 @@
 #![tactic(auto)]
 
 mod accepting;
+mod arrivals;
 mod backoff;
+mod connector;
 mod dialling;
+mod endings;
 mod guard;
+mod host;
 mod input;
 mod lane;
 mod lanes;
 mod limits;
 mod output;
+mod progress;
 mod serving;
+mod tries;
 
-pub use accepting::{accept_links, shut, start_accepting};
+pub use accepting::{start_accepting, take_connections};
+pub use arrivals::{Arrivals, start_taking};
+pub use connector::Connector;
 pub use dialling::{Target, keep_dialling, start_dialling};
+pub use endings::{Ending, Endings};
 pub use lane::{Lane, UsedPass};
-pub use lanes::Lanes;
+pub use lanes::{Lanes, Met};
 pub use limits::Limits;

@@ -1,7 +1,9 @@
 //! What goes out on a link: frames by its writer, and ticks by its reader.
+use crate::endings::Ending;
+use crate::lanes::Lanes;
 use crate::limits::Limits;
 use node_threads::LinkOut;
-use std::io::{self, Write};
+use std::io::{self, ErrorKind, Write};
 use std::net::{Shutdown, TcpStream};
 use std::sync::{Mutex, Wait};
 use std::thread;
@@ -121,6 +123,14 @@ impl<'a> Outlet<'a> {
     }
 }
 
+/// Whether a write has ended because nobody read for too long.
+pub(crate) fn has_stood_still<T: Drop>(written: &io::Result<T>) -> bool {
+    match written {
+        Ok(_) => false,
+        Err(error) => error.kind() == ErrorKind::WouldBlock,
+    }
+}
+
 /// Whether there is more than one message, each behind its length.
 fn are_several(batch: &[u8]) -> bool {
     match batch.split_first_chunk() {
@@ -133,13 +143,19 @@ fn are_several(batch: &[u8]) -> bool {
 #[derive(Drop)]
 pub(crate) struct LinkOutput<'a, R: Wait + Clock> {
     pub(crate) rt: &'a R,
+    pub(crate) lanes: &'a Lanes<'a>,
+    pub(crate) link: u32,
     pub(crate) outlet: &'a Outlet<'a>,
 }
 
 impl<R: Wait + Clock> Write for LinkOutput<'_, R> {
     /// Writes all, and rests then where messages come so often that they are better taken together: each Take is an entry.
     fn write(&mut self, buf: &[u8]) -> io::Result<usize> {
-        if self.outlet.send(self.rt, buf)? {
+        let sent = self.outlet.send(self.rt, buf);
+        if has_stood_still(&sent) {
+            self.lanes.note(self.rt, self.link, Ending::Slow);
+        }
+        if sent? {
             thread::sleep(self.rt, Duration::from_millis(GATHERING));
         }
         Ok(buf.len())

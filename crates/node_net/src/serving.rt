@@ -3,16 +3,18 @@ ghost use Rattle.std.specs.Prelude.{◌≡◌, IfOk};
 ghost use Rattle.node_net.specs.LaneCalls.{IsOpening};
 
 use crate::guard::ReflectionGuard;
+use crate::host::Host;
 use crate::input::{LinkInput, Stage};
 use crate::lane::Lane;
-use crate::lanes::{Lanes, Ticket};
+use crate::lanes::Ticket;
 use crate::output::{LinkOutput, Outlet};
+use crate::progress::Progress;
 use dist_types::{NodeName, OutOfMemory, TryClone};
-use node_threads::Node;
+use node_threads::Connection;
 use policy_audit::Event;
 use std::alloc::Global;
 use std::net::TcpStream;
-use std::sync::Wait;
+use std::sync::{Arc, Wait};
 use std::thread::Threads;
 use std::time::{Clock, Instant};
 
@@ -44,28 +46,25 @@ impl Opener<'_> {
 
 /// Serves a link over a connection until it ends: whether it came up.
 pub(crate) fn serve_stream<R: Threads + Wait + Clock + Sync>(
-    rt: &R,
-    alloc: Global,
-    node: &Node,
-    lanes: &Lanes,
+    host: &Host<'_, R>,
     lane: Lane,
-    stream: &TcpStream,
+    stream: TcpStream,
     opener: Opener<'_>,
 ) -> (Lane, bool) {
-    let Ok(ticket) = lanes.enter(rt, lane.challenge(), stream) else {
+    let Ok(stream) = Arc::new(host.alloc, stream) else {
         return (lane, false);
     };
-    let (lane, came_up) = serve_entered(rt, alloc, node, lanes, lane, stream, opener, ticket);
-    lanes.leave(rt, ticket);
+    let Ok(ticket) = host.lanes.enter(host.rt, lane.challenge(), &stream) else {
+        return (lane, false);
+    };
+    let (lane, came_up) = serve_entered(host, lane, &stream, opener, ticket);
+    host.lanes.leave(host.rt, ticket);
     (lane, came_up)
 }
 
 /// Opens the link with the challenge that it was entered with, and serves it.
 fn serve_entered<R: Threads + Wait + Clock + Sync>(
-    rt: &R,
-    alloc: Global,
-    node: &Node,
-    lanes: &Lanes,
+    host: &Host<'_, R>,
     mut lane: Lane,
     stream: &TcpStream,
     opener: Opener<'_>,
@@ -73,6 +72,12 @@ fn serve_entered<R: Threads + Wait + Clock + Sync>(
 ) -> (Lane, bool)
     requires guarded { ticket.challenge ≡ lane.challenge }
 {
+    let Host {
+        rt,
+        alloc,
+        node,
+        lanes,
+    } = *host;
     let Ok(outlet) = Outlet::new(rt, stream, lanes.limits()) else {
         return (lane, false);
     };
@@ -85,20 +90,26 @@ fn serve_entered<R: Threads + Wait + Clock + Sync>(
     let Some(link) = lane.open(rt, node, event) else {
         return (lane, false);
     };
-    let input = LinkInput {
-        rt,
-        node,
-        lanes,
+    let progress = Progress::new();
+    let connection = Connection {
         link,
-        stream,
-        outlet: &outlet,
-        stage: Stage::Handshake(start, 0, opener.guard(alloc)),
+        input: LinkInput {
+            rt,
+            lanes,
+            link,
+            stream,
+            outlet: &outlet,
+            progress: &progress,
+            stage: Stage::Handshake(start, 0, opener.guard(alloc)),
+        },
+        output: LinkOutput {
+            rt,
+            lanes,
+            link,
+            outlet: &outlet,
+        },
     };
-    let output = LinkOutput {
-        rt,
-        outlet: &outlet,
-    };
-    let lane = lane.serve(rt, alloc, node, link, input, output);
+    let lane = lane.serve(rt, alloc, node, connection, &progress);
     let came_up = outlet.was_up(rt);
     (lane, came_up)
 }

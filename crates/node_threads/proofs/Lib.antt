@@ -1,12 +1,9 @@
 pub mod Answered
 pub mod Counted
-pub mod Drawing
 pub mod Drawn
 pub mod Kept
-pub mod Leaving
 pub mod Openings
 pub mod Pairs
-pub mod ServedCalls
 pub mod Settling
 pub mod Steps
 pub mod Written

@@ -1,8 +1,7 @@
 -- Passes whose calls are compared with the entries of their seats.
-use Rattle.std.proofs.Common.{◌≡◌, ◌==◌, ◌≢◌, ◌⊎◌, ℕ, zero, suc, ◌+◌, ◌<◌, ◌≤◌}
-use Rattle.std.proofs.Common.{Bool, true, false, cond}
-use Rattle.std.proofs.Common.{List, [], ◌∷◌, length, map, take, set, reverse, get_or}
-use Rattle.std.proofs.Common.{refl, sym, ap, subst, ◌∙◌, inl, inr, arith}
+use Rattle.std.proofs.Common.{◌≡◌, ◌==◌, ◌≢◌, ◌⊎◌, ℕ, zero, suc, ◌+◌, ◌<◌, ◌≤◌, Bool, true, false}
+use Rattle.std.proofs.Common.{cond, List, [], ◌∷◌, length, map, take, set, reverse, get_or, refl}
+use Rattle.std.proofs.Common.{sym, ap, subst, ◌∙◌, inl, inr, arith}
 use Rattle.std.specs.List.{filter, All, AllByRecursion}
 use Rattle.std.specs.Borrow.{Bor}
 use Rattle.std.proofs.lemmas.Bool.Decides.{eqb_tells}
@@ -122,7 +121,8 @@ two_passes seat (p ∷ ps) (suc k) (suc i) d e before below first second =
 
 -- ---- the calls of each seat's pass
 
-module _ (seats : ℕ) (ps : List Record) (i : ℕ) (p : Record) (below : i < length ps) (here : get_or ps i p ≡ p) (one : HaveOne seats ps) (inside : p.seat < seats) where
+module _ (seats : ℕ) (ps : List Record) (i : ℕ) (p : Record) (below : i < length ps)
+    (here : get_or ps i p ≡ p) (one : HaveOne seats ps) (inside : p.seat < seats) where
   -- no pass before has the seat of this one
   apart : (k : ℕ) (e : Record) → k < i → (get_or ps k e).seat ≢ p.seat
   apart k e before = λ is.
@@ -145,7 +145,8 @@ module _ (seats : ℕ) (ps : List Record) (i : ℕ) (p : Record) (below : i < le
       let mine = subst (StandsIn (set lists p.seat new)) (sym here) put in
       All-more (StandsIn (set lists p.seat new)) ps i p below others mine
 
-module _ (seats : ℕ) (es : List Entry) (ps : List Record) (lists : Lists) (stand : All (StandsIn lists) ps) where
+module _ (seats : ℕ) (es : List Entry) (ps : List Record) (lists : Lists)
+    (stand : All (StandsIn lists) ps) where
   -- passes are their seats' entries where what stands for each seat are the calls that made them
   pub own_from_left : All (λ (p : Record). p.seat < seats) ps → AreLeft seats lists (reverse es) →
       All (IsOwn seats es) ps
@@ -207,7 +208,8 @@ module _ (seats : ℕ) (lists : Lists) (e : Entry) (es : List Entry) (inside : e
     | inr f ↦ absurd (f.0 refl)
   ]
 
-  module _ (later : Calls) (long : seats ≤ length lists) (first : at_seat e.seat lists ≡ call_of e ∷ later.now) where
+  module _ (later : Calls) (long : seats ≤ length lists)
+      (first : at_seat e.seat lists ≡ call_of e ∷ later.now) where
     here : (seat : ℕ) → e.seat ≡ seat → at_seat seat (set lists e.seat later) ≡ later.now
     here seat is = put_here lists e.seat seat later (sym is) (omega (arith, inside, long))
 

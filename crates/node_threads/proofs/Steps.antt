@@ -1,5 +1,7 @@
 -- A reader's steps, one after another.
-use Rattle.std.proofs.Common.{◌≡◌, ◌≢◌, ℕ, ◌<◌, ◌≤◌, Bool, true, false, List, [], ◌∷◌, ◌++◌, ◌||◌, length, take, drop, Option, Some, None, Ok, Err, refl, sym, ap, subst, ◌∙◌, inl, inr, append-nil, append_assoc, arith}
+use Rattle.std.proofs.Common.{◌≡◌, ◌≢◌, ℕ, ◌<◌, ◌≤◌, Bool, true, false, List, [], ◌∷◌, ◌++◌, ◌||◌}
+use Rattle.std.proofs.Common.{length, take, drop, Option, Some, None, Ok, Err, refl, sym, ap, ◌∙◌}
+use Rattle.std.proofs.Common.{inl, inr, append-nil, append_assoc, arith}
 use Rattle.std.specs.Int.{w16}
 use Rattle.std.specs.List.{list_any}
 use Rattle.std.specs.Option.{option_to_list}
@@ -28,54 +30,72 @@ use Rattle.node_threads.specs.Calls.{Record, Gains, is_up, is_up_answer}
 use Rattle.node_threads.specs.Cutting.{is_done, CutsOff}
 use Rattle.node_threads.specs.Ends.{end_of, reader_gives_up, read_end_of_feed}
 use Rattle.node_threads.specs.Entered.{verdict_in, IsEntry, Enters}
-use Rattle.node_threads.specs.Reading.{AreFrames, OfHandshake, IsRead, Moves, ReadsOn, HasReason, Stops, Gave, ReadsTo}
+use Rattle.node_threads.specs.Reading.{AreFrames, OfHandshake, IsRead, Moves, ReadsOn, HasReason}
+use Rattle.node_threads.specs.Reading.{Stops, Gave, Handed, ReadsTo}
 use Rattle.node_threads.proofs.Answered.{gains_none, gains_more, fault_refuses, ends_at, ends_then}
 
-frames_more : (link : ℕ) (bodies others : List (List ℕ)) (calls more : List Call) → AreFrames link bodies calls → AreFrames link others more → AreFrames link (bodies ++ others) (calls ++ more)
-frames_more link bodies others calls more a b = rw (map-append (λ (c : Call). c.event) calls more, map-append (Frame link) bodies others, a, b) refl
+abbrev Bytes : Type 0
+Bytes = List ℕ
+
+frames_more : (link : ℕ) (bodies others : List Bytes) (calls more : List Call) →
+    AreFrames link bodies calls → AreFrames link others more →
+    AreFrames link (bodies ++ others) (calls ++ more)
+frames_more link bodies others calls more a b =
+    rw (map-append (λ (c : Call). c.event) calls more, map-append (Frame link) bodies others, a, b)
+    refl
 
 -- ---- one body at most
 
-module _ (link : ℕ) (piece : List ℕ) (used : ℕ) where
-  handshake_more : (bytes rest : List ℕ) (calls : List Call) (body : Option (List ℕ)) (new : List ℕ) (more : List Call) → OfHandshake link bytes calls rest → IsFed w16 rest piece used body new
-      → AreFrames link (option_to_list body) more → OfHandshake link (bytes ++ take used piece) (calls ++ more) new
-  handshake_more bytes rest calls body new more was fed frames = record {
+module _ (link : ℕ) (piece : Bytes) (used : ℕ) where
+  handshake_more : {bytes rest : Bytes} {calls : List Call} (body : Option Bytes) (new : Bytes)
+      (more : List Call) → OfHandshake link bytes calls rest → IsFed w16 rest piece used body new →
+      AreFrames link (option_to_list body) more →
+      OfHandshake link (bytes ++ take used piece) (calls ++ more) new
+  handshake_more {bytes} {rest} {calls} body new more was fed frames = record {
     bodies = was.bodies ++ option_to_list body;
     splits = goes_on w16 reads_16 bytes was.bodies rest piece used body new was.splits fed;
     frames = frames_more link was.bodies (option_to_list body) calls more was.frames frames;
   }
 
   -- the frame of a body that was cut off is one more; in a handshake it isn't answered `Up`
-  pub reads_more : (old : Cutter) (body : Option (List ℕ)) (new : Cutter) (more : List Call) → CutsOff old piece used body new → AreFrames link (option_to_list body) more
-      → (is_done new ≡ false → list_any is_up more ≡ false) → Moves link old (take used piece) more new
+  pub reads_more : (old : Cutter) (body : Option Bytes) (new : Cutter) (more : List Call) →
+      CutsOff old piece used body new → AreFrames link (option_to_list body) more →
+      (is_done new ≡ false → list_any is_up more ≡ false)
+      → Moves link old (take used piece) more new
   reads_more (Handshake rest) body new more cuts frames early before calls was =
-      let none = early (ap is_done cuts.1) in
-      subst (λ (c : Cutter). IsRead link (before ++ take used piece) (calls ++ more) c) (sym cuts.1) (record {
-        handshake = handshake_more before rest calls body cuts.0 more was.handshake cuts.2 frames;
-        none_up = rw (list_any-append is_up calls more, was.none_up, none) refl;
+      rw cuts.1 (record {
+        handshake = handshake_more body cuts.0 more was.handshake cuts.2 frames;
+        none_up = rw (list_any-append is_up calls more, was.none_up, early (ap is_done cuts.1))
+            refl;
       })
   reads_more (Messages reader) body new more cuts frames early before calls was =
-      subst (λ (c : Cutter). IsRead link (before ++ take used piece) (calls ++ more) c) (sym cuts.1) (record {
+      rw cuts.1 (record {
         early = was.early;
         late = was.late ++ take used piece;
         first = was.first;
         last = was.last;
         later = was.later ++ more;
-        bytes_are = ap (λ bs. bs ++ take used piece) was.bytes_are ∙ append_assoc was.early was.late (take used piece);
-        calls_are = ap (λ cs. cs ++ more) was.calls_are ∙ append_assoc (was.first ++ was.last ∷ []) was.later more;
+        bytes_are = ap (λ bs. bs ++ take used piece) was.bytes_are
+            ∙ append_assoc was.early was.late (take used piece);
+        calls_are = ap (λ cs. cs ++ more) was.calls_are
+            ∙ append_assoc (was.first ++ was.last ∷ []) was.later more;
         none_up = was.none_up;
         up = was.up;
         handshake = was.handshake;
         messages = record {
           bodies = was.messages.bodies ++ option_to_list body;
-          splits = link_goes_on was.late was.messages.bodies reader.rest piece used body cuts.0.rest was.messages.splits cuts.2.fed;
-          frames = frames_more link was.messages.bodies (option_to_list body) was.later more was.messages.frames frames;
+          splits = link_goes_on was.late was.messages.bodies reader.rest piece used body cuts.0.rest
+              was.messages.splits cuts.2.fed;
+          frames = frames_more link was.messages.bodies (option_to_list body) was.later more
+              was.messages.frames frames;
         };
       })
 
   -- the frame that is answered `Up` ends the handshake
-  pub comes_up : (old : Cutter) (body : List ℕ) (mid : Cutter) (c : Call) → CutsOff old piece used (Some body) mid → is_done mid ≡ false → c.event ≡ Frame link body → is_up c ≡ true
-      → Moves link old (take used piece) (c ∷ []) (Messages (record { rest = []; too_long = false }))
+  pub comes_up : (old : Cutter) (body : Bytes) (mid : Cutter) (c : Call) →
+      CutsOff old piece used (Some body) mid → is_done mid ≡ false → c.event ≡ Frame link body →
+      is_up c ≡ true →
+      Moves link old (take used piece) (c ∷ []) (Messages (record { rest = []; too_long = false }))
   comes_up (Handshake rest) body mid c cuts done event up before calls was = record {
     early = before ++ take used piece;
     late = [];
@@ -86,8 +106,8 @@ module _ (link : ℕ) (piece : List ℕ) (used : ℕ) where
     calls_are = sym (append-nil (calls ++ c ∷ []));
     none_up = was.none_up;
     up = up;
-    handshake = subst (λ rest. OfHandshake link (before ++ take used piece) (calls ++ c ∷ []) rest) cuts.2.empty
-        (handshake_more before rest calls (Some body) cuts.0 (c ∷ []) was.handshake cuts.2 (ap (λ e. e ∷ []) event));
+    handshake = rw (← cuts.2.empty)
+        (handshake_more (Some body) cuts.0 (c ∷ []) was.handshake cuts.2 (ap (λ e. e ∷ []) event));
     messages = record { bodies = []; splits = unread; frames = refl };
   }
     where
@@ -99,61 +119,74 @@ module _ (link : ℕ) (piece : List ℕ) (used : ℕ) where
         within = All-nil _;
         short = IsRest-empty.short;
       }
-  comes_up (Messages reader) body mid c cuts done event up before calls was = let wrong : true ≡ false = sym (ap is_done cuts.1) ∙ done in cc
+  comes_up (Messages reader) body mid c cuts done event up before calls was =
+      let wrong : true ≡ false = sym (ap is_done cuts.1) ∙ done in cc
 
   -- some of a piece is used, but no more than there is
-  pub cuts_within : (old : Cutter) (body : Option (List ℕ)) (new : Cutter) → CutsOff old piece used body new → (used ≤ length piece) × (0 < length piece → 0 < used)
-  cuts_within (Handshake rest) None new cuts = (omega (arith, cuts.2.whole), λ some. omega (arith, some, cuts.2.whole))
+  pub cuts_within : (old : Cutter) (body : Option Bytes) (new : Cutter) →
+      CutsOff old piece used body new → (used ≤ length piece) × (0 < length piece → 0 < used)
+  cuts_within (Handshake rest) None new cuts =
+      (omega (arith, cuts.2.whole), λ some. omega (arith, some, cuts.2.whole))
   cuts_within (Handshake rest) (Some body) new cuts = (cuts.2.within, λ some. cuts.2.onward)
-  cuts_within (Messages reader) None new cuts = (omega (arith, cuts.2.fed.whole), λ some. omega (arith, some, cuts.2.fed.whole))
-  cuts_within (Messages reader) (Some body) new cuts = (cuts.2.fed.within, λ some. cuts.2.fed.onward)
+  cuts_within (Messages reader) None new cuts =
+      (omega (arith, cuts.2.fed.whole), λ some. omega (arith, some, cuts.2.fed.whole))
+  cuts_within (Messages reader) (Some body) new cuts =
+      (cuts.2.fed.within, λ some. cuts.2.fed.onward)
 
 -- ---- one step after another
 
-pub reads_none : (link : ℕ) (p p' : Record) (cutter : Cutter) → p' ≡ p → ReadsOn link p cutter [] p' cutter
-reads_none link p p' cutter is = record {
+pub reads_none : {link : ℕ} {p p' : Record} {cutter : Cutter} → p' ≡ p →
+    ReadsOn link p cutter [] p' cutter
+reads_none {p} {p'} is = record {
   more = [];
   gains = gains_none p p' is;
   moves = λ before calls was. rw (append-nil before, append-nil calls) was;
 }
 
-pub reads_then : (link : ℕ) (p mid p' : Record) (old between new : Cutter) (xs ys : List ℕ) → ReadsOn link p old xs mid between → ReadsOn link mid between ys p' new → ReadsOn link p old (xs ++ ys) p' new
-reads_then link p mid p' old between new xs ys first then = record {
+pub reads_then : {link : ℕ} {p mid p' : Record} {old between new : Cutter} {xs ys : Bytes} →
+    ReadsOn link p old xs mid between → ReadsOn link mid between ys p' new →
+    ReadsOn link p old (xs ++ ys) p' new
+reads_then {p} {mid} {p'} {xs} {ys} first then = record {
   more = first.more ++ then.more;
   gains = gains_more p mid p' first.more then.more first.gains then.gains;
   moves = λ before calls was.
-      subst (λ bs. IsRead link bs (calls ++ (first.more ++ then.more)) new) (append_assoc before xs ys)
-      (subst (λ cs. IsRead link ((before ++ xs) ++ ys) cs new) (append_assoc calls first.more then.more)
-      (then.moves (before ++ xs) (calls ++ first.more) (first.moves before calls was)));
+      rw (← append_assoc before xs ys, ← append_assoc calls first.more then.more)
+      (then.moves (before ++ xs) (calls ++ first.more) (first.moves before calls was));
 }
 
 -- the reason stays, whatever was called before
-reason_then : (link : ℕ) (done : Bool) (p mid p' : Record) (xs ys : List Call) (stop : ReadEnd) → Gains p xs mid → HasReason link done mid ys stop p' → HasReason link done p (xs ++ ys) stop p'
+reason_then : (link : ℕ) (done : Bool) (p mid p' : Record) (xs ys : List Call) (stop : ReadEnd) →
+    Gains p xs mid → HasReason link done mid ys stop p' → HasReason link done p (xs ++ ys) stop p'
 reason_then link done p mid p' xs ys stop gains (inl own) = inl own
-reason_then link done p mid p' xs ys stop gains (inr last) = inr (last.0, last.1, ends_then (Frame link last.0) last.1 p mid p' xs ys gains last.2, last.3)
+reason_then link done p mid p' xs ys stop gains (inr last) =
+    inr (last.0, last.1, ends_then p xs gains last.2, last.3)
 
-pub stops_then : (link : ℕ) (p mid p' : Record) (old between : Cutter) (bytes xs ys : List ℕ) (stop : ReadEnd) → bytes ≡ xs ++ ys → ReadsOn link p old xs mid between → Stops link mid between ys stop p'
-    → Stops link p old bytes stop p'
+pub stops_then : {link : ℕ} {p mid p' : Record} {old between : Cutter} {bytes xs ys : Bytes}
+    {stop : ReadEnd} → bytes ≡ xs ++ ys → ReadsOn link p old xs mid between →
+    Stops link mid between ys stop p' → Stops link p old bytes stop p'
 unfolding reads_then
-stops_then link p mid p' old between bytes xs ys stop is first stops = record {
+stops_then {link} {p} {mid} {p'} {xs} {stop} is first stops = record {
   used = xs ++ stops.used;
   unused = stops.unused;
   cutter = stops.cutter;
   whole = is ∙ ap (λ bs. xs ++ bs) stops.whole ∙ sym (append_assoc xs stops.used stops.unused);
-  reads = reads_then link p mid p' old between stops.cutter xs stops.used first stops.reads;
-  reason = reason_then link (is_done stops.cutter) p mid p' first.more stops.reads.more stop first.gains stops.reason;
+  reads = reads_then first stops.reads;
+  reason = reason_then link (is_done stops.cutter) p mid p' first.more stops.reads.more stop
+      first.gains stops.reason;
   unclosed = stops.unclosed;
 }
 
 -- nothing more was read
-pub stops_here : (link : ℕ) (p p' : Record) (cutter : Cutter) (bytes : List ℕ) (stop : ReadEnd) → p' ≡ p → HasReason link (is_done cutter) p [] stop p' → stop ≢ ends.Closed → Stops link p cutter bytes stop p'
+pub stops_here : {link : ℕ} {p p' : Record} {cutter : Cutter} {bytes : Bytes} {stop : ReadEnd} →
+    p' ≡ p → HasReason link (is_done cutter) p [] stop p' → stop ≢ ends.Closed →
+    Stops link p cutter bytes stop p'
 unfolding reads_none
-stops_here link p p' cutter bytes stop is reason unclosed = record {
+stops_here {cutter} {bytes} is reason unclosed = record {
   used = [];
   unused = bytes;
   cutter = cutter;
   whole = refl;
-  reads = reads_none link p p' cutter is;
+  reads = reads_none is;
   reason = reason;
   unclosed = unclosed;
 }
@@ -161,9 +194,10 @@ stops_here link p p' cutter bytes stop is reason unclosed = record {
 -- ---- a body that was cut off
 
 -- the piece had a body that is too long, or memory was wanting
-pub stops_unfed : (link : ℕ) (p : Record) (cutter : Cutter) (piece : List ℕ) (fault : FeedFault) → Stops link p cutter piece (read_end_of_feed fault) p
-stops_unfed link p cutter piece faults.TooLong = stops_here link p p cutter piece ends.TooLong refl (inl refl) (λ q. cc)
-stops_unfed link p cutter piece faults.OutOfMemory = stops_here link p p cutter piece ends.Memory refl (inl refl) (λ q. cc)
+pub stops_unfed : {link : ℕ} {p : Record} {cutter : Cutter} {piece : Bytes} (fault : FeedFault) →
+    Stops link p cutter piece (read_end_of_feed fault) p
+stops_unfed faults.TooLong = stops_here refl (inl refl) (λ q. cc)
+stops_unfed faults.OutOfMemory = stops_here refl (inl refl) (λ q. cc)
 
 -- bytes that have ended aren't an answer
 unclosed : (fault : CallFault) (done : Bool) → end_of fault done ≢ Some ends.Closed
@@ -175,16 +209,14 @@ unclosed (Core (Refused rule)) true = λ q. cc
 unclosed (Core (Refused rule)) false = λ q. cc
 
 -- a cutter stays of its kind
-same_kind : (old : Cutter) (piece : List ℕ) (used : ℕ) (body : Option (List ℕ)) (new : Cutter) → CutsOff old piece used body new → is_done new ≡ is_done old
+same_kind : (old : Cutter) (piece : Bytes) (used : ℕ) (body : Option Bytes) (new : Cutter) →
+    CutsOff old piece used body new → is_done new ≡ is_done old
 same_kind (Handshake rest) piece used body new cuts = ap is_done cuts.1
 same_kind (Messages reader) piece used body new cuts = ap is_done cuts.1
 
-module _ (link : ℕ) (piece : List ℕ) (used : ℕ) (p p' : Record) (old mid : Cutter) where
-  -- what a piece has brought, with what the pass has gained
-  abbrev pub Handing : Cutter → Type 0
-  Handing new = (used ≤ length piece) × (0 < length piece → 0 < used) × ReadsOn link p old (take used piece) p' new
-
-  pub handed_none : (body : Option (List ℕ)) → body ≡ None → CutsOff old piece used body mid → p' ≡ p → Handing mid
+module _ (link : ℕ) (piece : Bytes) (used : ℕ) (p p' : Record) (old mid : Cutter) where
+  pub handed_none : (body : Option Bytes) → body ≡ None → CutsOff old piece used body mid → p' ≡ p →
+      Handed link p old piece (Ok used) p' mid
   handed_none body none cuts is =
       let within = cuts_within link piece used old body mid cuts in (
         within.0,
@@ -192,85 +224,97 @@ module _ (link : ℕ) (piece : List ℕ) (used : ℕ) (p p' : Record) (old mid :
         record {
           more = [];
           gains = gains_none p p' is;
-          moves = reads_more link piece used old None mid [] (subst (λ b. CutsOff old piece used b mid) none cuts) refl (λ q. refl);
+          moves = reads_more link piece used old None mid [] (rw none at cuts) refl (λ q. refl);
         },
       )
 
-  module _ (some : Option (List ℕ)) (body : List ℕ) (is : some ≡ Some body) (cuts : CutsOff old piece used some mid) where
+  module _ (some : Option Bytes) (body : Bytes) (is : some ≡ Some body)
+      (cuts : CutsOff old piece used some mid) where
     cut : CutsOff old piece used (Some body) mid
-    cut = subst (λ b. CutsOff old piece used b mid) is cuts
+    cut = rw is at cuts
 
-    pub handed_on : (up done : Bool) → Gave link body done p (Ok up) p' → (is_done mid ≡ false → up ≡ false) → Handing mid
+    within : (used ≤ length piece) × (0 < length piece → 0 < used)
+    within = cuts_within link piece used old (Some body) mid cut
+
+    -- the frame of the body is the one call more
+    on : (c : Call) → c.event ≡ Frame link body → (is_done mid ≡ false → is_up c ≡ false) →
+        Gains p (c ∷ []) p' → ReadsOn link p old (take used piece) p' mid
+    on c event early gains = record {
+      more = c ∷ [];
+      gains = gains;
+      moves = reads_more link piece used old (Some body) mid (c ∷ []) cut (ap (λ e. e ∷ []) event)
+          (λ q. ap (λ b. b || false) (early q));
+    }
+
+    pub handed_on : (up done : Bool) → Gave link body done p (Ok up) p' →
+        (is_done mid ≡ false → up ≡ false) → Handed link p old piece (Ok used) p' mid
     handed_on up done gave early =
-        let within = cuts_within link piece used old (Some body) mid cut in (
-          within.0,
-          within.1,
-          record {
-            more = gave.0 ∷ [];
-            gains = gave.3;
-            moves = reads_more link piece used old (Some body) mid (gave.0 ∷ []) cut (ap (λ e. e ∷ []) gave.1) (λ q. ap (λ b. b || false) (gave.2 ∙ early q));
-          },
-        )
+        (within.0, within.1, on gave.0 gave.1 (λ q. gave.2 ∙ early q) gave.3)
 
-    pub handed_up : (new : Cutter) (done : Bool) → new ≡ Messages (record { rest = []; too_long = false }) → Gave link body done p (Ok true) p' → is_done mid ≡ false → Handing new
+    pub handed_up : (new : Cutter) (done : Bool) →
+        new ≡ Messages (record { rest = []; too_long = false }) → Gave link body done p (Ok true) p'
+        →
+        is_done mid ≡ false → Handed link p old piece (Ok used) p' new
     handed_up new done messages gave early =
-        let within = cuts_within link piece used old (Some body) mid cut in (
-          within.0,
-          within.1,
-          record {
-            more = gave.0 ∷ [];
-            gains = gave.3;
-            moves = subst (λ c. Moves link old (take used piece) (gave.0 ∷ []) c) (sym messages) (comes_up link piece used old body mid gave.0 cut early gave.1 gave.2);
-          },
-        )
+        let up = comes_up link piece used old body mid gave.0 cut early gave.1 gave.2 in
+        (within.0, within.1, record { more = gave.0 ∷ []; gains = gave.3; moves = rw messages up })
 
-    pub handed_end : (done : Bool) (stop : ReadEnd) → done ≡ is_done mid → Gave link body done p (Err stop) p' → Stops link p old piece stop p'
+    pub handed_end : (done : Bool) (stop : ReadEnd) → done ≡ is_done mid →
+        Gave link body done p (Err stop) p' → Stops link p old piece stop p'
+    unfolding on
     handed_end done stop kind gave = by (verdict_in (Err gave.0)) refl gave.2.entry
       where
         ended : end_of gave.0 (is_done mid) ≡ Some stop
-        ended = subst (λ d. end_of gave.0 d ≡ Some stop) kind gave.3
+        ended = rw kind at gave.3
 
         still_open : stop ≢ ends.Closed
         still_open = λ q. unclosed gave.0 (is_done mid) (ended ∙ ap (λ s. Some s) q)
 
         none : gave.1 ≡ [] → Stops link p old piece stop p'
         none is =
-            let entered = subst (λ cs. Enters p (Frame link body) (Err gave.0) cs p') is gave.2 in
-            let before : end_of gave.0 (is_done old) ≡ Some stop = subst (λ d. end_of gave.0 d ≡ Some stop) (same_kind old piece used (Some body) mid cut) ended in
-            let same : p' ≡ p = entered.gains ∙ ap (λ cs. record { seat = p.seat; calls = cs }) (append-nil p.calls) in
-            stops_here link p p' old piece stop same (inr (body, gave.0, ends_at (Frame link body) gave.0 p [] p' entered, before)) still_open
+            let entered = rw is at gave.2 in
+            let before = rw (same_kind old piece used (Some body) mid cut) at ended in
+            let same : p' ≡ p =
+            entered.gains ∙ ap (λ cs. record { seat = p.seat; calls = cs }) (append-nil p.calls) in
+            stops_here same (inr (body, gave.0, ends_at entered, before)) still_open
 
-        one : (c : Call) → gave.1 ≡ c ∷ [] → c.event ≡ Frame link body → is_up c ≡ false → Stops link p old piece stop p'
+        one : (c : Call) → gave.1 ≡ c ∷ [] → c.event ≡ Frame link body → is_up c ≡ false →
+            Stops link p old piece stop p'
         one c is event down =
-            let entered = subst (λ cs. Enters p (Frame link body) (Err gave.0) cs p') is gave.2 in record {
+            let entered = rw is at gave.2 in record {
               used = take used piece;
               unused = drop used piece;
               cutter = mid;
               whole = sym (take-append-drop used piece);
-              reads = record {
-                more = c ∷ [];
-                gains = entered.gains;
-                moves = reads_more link piece used old (Some body) mid (c ∷ []) cut (ap (λ e. e ∷ []) event) (λ q. ap (λ b. b || false) down);
-              };
-              reason = inr (body, gave.0, ends_at (Frame link body) gave.0 p (c ∷ []) p' entered, ended);
+              reads = on c event (λ q. down) entered.gains;
+              reason = inr (body, gave.0, ends_at entered, ended);
               unclosed = still_open;
             }
 
-        by : (v : Option Verdict) → verdict_in (Err gave.0) ≡ v → IsEntry (Frame link body) v gave.1 → Stops link p old piece stop p'
+        by : (v : Option Verdict) → verdict_in (Err gave.0) ≡ v → IsEntry (Frame link body) v gave.1
+            →
+            Stops link p old piece stop p'
         by None q entry = none entry
-        by (Some v) q entry = one entry.0 entry.1 entry.2 (ap is_up_answer (entry.3 ∙ (fault_refuses gave.0 v q).1))
+        by (Some v) q entry =
+            one entry.0 entry.1 entry.2 (ap is_up_answer (entry.3 ∙ (fault_refuses gave.0 v q).1))
 
 -- ---- the whole
 
 unread : (link : ℕ) → IsRead link [] [] (Handshake [])
 unread link = record {
-  handshake = record { bodies = []; splits = record { fit = All-nil _; whole = refl; partial = IsPartial-empty w16 reads_16 }; frames = refl };
+  handshake = record {
+    bodies = [];
+    splits = record { fit = All-nil _; whole = refl; partial = IsPartial-empty w16 reads_16 };
+    frames = refl;
+  };
   none_up = refl;
 }
 
 -- all was read
-pub reads_to_end : (link : ℕ) (p p' : Record) (bytes : List ℕ) (cutter : Cutter) (stop : ReadEnd) → reader_gives_up stop ≡ true → ReadsOn link p (Handshake []) bytes p' cutter → ReadsTo link p bytes stop p'
-reads_to_end link p p' bytes cutter stop own reads = record {
+pub reads_to_end : {link : ℕ} {p p' : Record} {bytes : Bytes} {cutter : Cutter} {stop : ReadEnd} →
+    reader_gives_up stop ≡ true → ReadsOn link p (Handshake []) bytes p' cutter →
+    ReadsTo link p bytes stop p'
+reads_to_end {link} {bytes} {cutter} own reads = record {
   used = bytes;
   unused = [];
   frames = reads.more;
@@ -283,8 +327,9 @@ reads_to_end link p p' bytes cutter stop own reads = record {
 }
 
 -- the reader stopped before
-pub reads_to_stop : (link : ℕ) (p p' : Record) (bytes : List ℕ) (stop : ReadEnd) → Stops link p (Handshake []) bytes stop p' → ReadsTo link p bytes stop p'
-reads_to_stop link p p' bytes stop stops = record {
+pub reads_to_stop : {link : ℕ} {p p' : Record} {bytes : Bytes} {stop : ReadEnd} →
+    Stops link p (Handshake []) bytes stop p' → ReadsTo link p bytes stop p'
+reads_to_stop {link} stops = record {
   used = stops.used;
   unused = stops.unused;
   frames = stops.reads.more;

@@ -12,10 +12,10 @@ use Rattle.node_threads.specs.declared.fault.CallFault.TheVariants.{StrangePass,
 use Rattle.node_threads.specs.declared.pass.Call.{Call}
 use Rattle.node_threads.specs.declared.accepting.AcceptEnd.{AcceptEnd}
 use Rattle.node_threads.specs.declared.accepting.AcceptEnd.TheVariants as ends
-use Rattle.node_threads.specs.declared.accepting.Opening.{Opening}
-use Rattle.node_threads.specs.declared.accepting.Opening.TheVariants as openings
+use Rattle.node_threads.specs.declared.opening.LinkAnswer.{LinkAnswer}
+use Rattle.node_threads.specs.declared.opening.LinkAnswer.TheVariants as answers
 use Rattle.node_threads.specs.declared.accepting.Stop.{Stop}
-use Rattle.node_threads.specs.declared.accepting.Pair.{Pair}
+use Rattle.node_threads.specs.declared.serving.Pair.{Pair}
 use Rattle.node_threads.specs.declared.accepting.Held.{Held}
 use Rattle.node_threads.specs.declared.accepting.Held.TheVariants.{Running, Ended}
 use Rattle.node_threads.specs.Calls.{Record, Gains}
@@ -44,16 +44,16 @@ IsUnentered ends.Memory = ⊤
 IsUnentered end = ⊥
 
 -- the same of one answer to an Opened of this challenge, which is then that of the call
-abbrev pub Asked : ℕ → Record → Opening → Record → Type 0
-Asked challenge pass (openings.Link link) pass' = Opens (Some link) pass pass' × (new_challenges pass pass' ≡ challenge ∷ [])
-Asked challenge pass openings.Refused pass' = Opens None pass pass' × (new_challenges pass pass' ≡ challenge ∷ [])
-Asked challenge pass (openings.End end) pass' = Opens None pass pass' × IsUnentered end × ((new_challenges pass pass' ≡ challenge ∷ []) ⊎ (new_challenges pass pass' ≡ []))
+abbrev pub Asked : ℕ → Record → LinkAnswer → Record → Type 0
+Asked challenge pass (answers.Link link) pass' = Opens (Some link) pass pass' × (new_challenges pass pass' ≡ challenge ∷ [])
+Asked challenge pass answers.Refused pass' = Opens None pass pass' × (new_challenges pass pass' ≡ challenge ∷ [])
+Asked challenge pass (answers.End end) pass' = Opens None pass pass' × IsUnentered end × ((new_challenges pass pass' ≡ challenge ∷ []) ⊎ (new_challenges pass pass' ≡ []))
 
 -- what an Opened without a reply makes of its connection: a full audit, a strange pass and want of memory are ends
-abbrev pub IsUnopened : CallFault → Opening → Type 0
-IsUnopened StrangePass opening = opening ≡ openings.End ends.StrangePass
-IsUnopened (Core OutOfMemory) opening = opening ≡ openings.End ends.Memory
-IsUnopened (Core (Refused rule)) opening = ((rule ≡ rules.EntriesFull) × (opening ≡ openings.End ends.EntriesFull)) ⊎ ((rule ≢ rules.EntriesFull) × (opening ≡ openings.Refused))
+abbrev pub IsUnopened : CallFault → LinkAnswer → Type 0
+IsUnopened StrangePass opening = opening ≡ answers.End ends.StrangePass
+IsUnopened (Core OutOfMemory) opening = opening ≡ answers.End ends.Memory
+IsUnopened (Core (Refused rule)) opening = ((rule ≡ rules.EntriesFull) × (opening ≡ answers.End ends.EntriesFull)) ⊎ ((rule ≢ rules.EntriesFull) × (opening ≡ answers.Refused))
 
 -- ---- a link is served
 

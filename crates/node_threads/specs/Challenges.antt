@@ -3,7 +3,7 @@ use Rattle.std.specs.Prelude.{◌≡◌, ◌⊎◌, ℕ, List, [], ◌∷◌, �
 use Rattle.rand_core.specs.Stream.{Stream}
 use Rattle.node_threads.specs.declared.accepting.AcceptEnd.{AcceptEnd}
 use Rattle.node_threads.specs.declared.accepting.Stop.{Stop}
-use Rattle.node_threads.specs.declared.accepting.Pair.{Pair}
+use Rattle.node_threads.specs.declared.serving.Pair.{Pair}
 use Rattle.node_threads.specs.declared.accepting.Held.{Held}
 use Rattle.node_threads.specs.Drawing.{Draws, DrawsOneMore, new_challenges}
 use Rattle.node_threads.specs.Accepting.{IsUnentered, Finishes}

@@ -1,20 +1,17 @@
 //! Connections that come in at a door, each served by a pair of passes.
-ghost use Rattle.std.specs.Prelude.{◌≡◌, ◌≢◌, ◌≤◌, [], vec_len, vec_capacity, None, Some, IfOk, IfErr};
+ghost use Rattle.std.specs.Prelude.{◌≡◌, ◌≢◌, ◌≤◌, [], vec_len, vec_capacity};
 ghost use Rattle.std.specs.List.{AllZip};
 ghost use Rattle.node_threads.specs.declared.accepting.AcceptEnd.TheVariants as ends;
-ghost use Rattle.node_threads.specs.Accepting.{Opens, Asked, IsUnopened, Works, IsAtWork, Finishes, Turns, HaveServed};
+ghost use Rattle.node_threads.specs.Accepting.{Works, IsAtWork, Finishes, Turns, HaveServed};
 ghost use Rattle.rand_core.specs.Stream.{Stream};
-ghost use Rattle.node_threads.specs.Drawing.{Draws, AreNext, new_challenges};
+ghost use Rattle.node_threads.specs.Drawing.{AreNext};
 ghost use Rattle.node_threads.specs.Challenges.{opened_with, HaveDrawn, Spends};
 
 use crate::ends::{Gate, LinkOut};
-use crate::fault::CallFault;
 use crate::node::Node;
-use crate::pass::Pass;
-use crate::serving::serve_link;
+use crate::opening::open_next;
+use crate::serving::{Connection, Pair, serve_link};
 use cookie_digest::ChallengeSource;
-use node_core::CoreFault;
-use policy_audit::{Event, Reply, Rule};
 use rand_core::Rng;
 use std::alloc::Global;
 use std::io::Read;
@@ -48,14 +45,6 @@ pub enum AcceptEnd {
     StrangePass,
     /// Memory was wanting.
     Memory,
-}
-
-/// The passes that serve one link.
-#[derive(Debug, Drop)]
-pub struct Pair {
-    /// It opens the link, and reads.
-    pub reader: Pass,
-    pub writer: Pass,
 }
 
 /// What `accept_links` gives back.
@@ -104,9 +93,14 @@ where
             ensures used { result.end ≡ ends.PassesUsed → result.served ≡ vec_len pairs }
             ensures drawn { AreNext (S.stream source.entry.now) (opened_with pairs.items result.pairs.items) }
         {
-            serve_all(
-                scope, rt, alloc, node, pairs, door, source, gate, held, back,
-            )
+            let host = Host {
+                scope,
+                rt,
+                alloc,
+                node,
+                gate,
+            };
+            serve_all(&host, pairs, door, source, held, back)
         },
     )
 }
@@ -123,16 +117,22 @@ fn unserved(pairs: Vec<Pair>) -> Accepted
     }
 }
 
-/// Serves connections until there is an end, and waits for all links. Nothing grows here.
-fn serve_all<'s, E: 's, R, D, S, G>(
+/// Where links are served: at a node, each on a thread of its own.
+#[derive(Drop)]
+struct Host<'s, E, R, G> {
     scope: &'s Scope<'s, E>,
     rt: &'s R,
     alloc: Global,
     node: &'s Node,
+    gate: &'s G,
+}
+
+/// Serves connections until there is an end, and waits for all links. Nothing grows here.
+fn serve_all<'s, E: 's, R, D, S, G>(
+    host: &Host<'s, E, R, G>,
     pairs: Vec<Pair>,
     door: &mut D,
     source: &mut ChallengeSource<S>,
-    gate: &'s G,
     mut held: Vec<Held>,
     back: Vec<Pair>,
 ) -> Accepted
@@ -152,16 +152,14 @@ where
     let mut stop = None;
     for pair in pairs {
         let place = held.len();
-        held.push_reserved(serve_next(
-            scope, rt, alloc, node, pair, door, source, gate, place, &mut stop,
-        ));
+        held.push_reserved(serve_next(host, pair, door, source, place, &mut stop));
     }
     let Stop { served, end } = stop.unwrap_or(Stop {
         served: held.len(),
         end: AcceptEnd::PassesUsed,
     });
     Accepted {
-        pairs: finish_all(rt, held, back),
+        pairs: finish_all(host.rt, held, back),
         served,
         end,
     }
@@ -196,14 +194,10 @@ impl Promise<Pair> for OfLink {
 
 /// What the pair at this place does: it serves the next connection. Where there is an end, it rests.
 fn serve_next<'s, E: 's, R, D, S, G>(
-    scope: &'s Scope<'s, E>,
-    rt: &'s R,
-    alloc: Global,
-    node: &'s Node,
+    host: &Host<'s, E, R, G>,
     mut pair: Pair,
     door: &mut D,
     source: &mut ChallengeSource<S>,
-    gate: &'s G,
     place: usize,
     stop: &mut Option<Stop>,
 ) -> Held
@@ -220,8 +214,8 @@ where
     if stop.is_some() {
         return Held::Ended(pair);
     }
-    match open_next(rt, node, &mut pair.reader, door, source) {
-        Ok(opened) => start(scope, rt, alloc, node, pair, opened, gate),
+    match open_next(host.rt, host.node, &mut pair.reader, door, source) {
+        Ok(opened) => start(host, pair, opened),
         Err(end) => {
             *stop = Some(Stop { served: place, end });
             Held::Ended(pair)
@@ -229,101 +223,11 @@ where
     }
 }
 
-/// A connection with its link.
-#[derive(Drop)]
-struct Connection<I, W> {
-    link: u32,
-    input: I,
-    output: W,
-}
-
-/// Opens a link for the next connection, unless there is an end.
-fn open_next<R: Wait, D: Door, S: Rng>(
-    rt: &R,
-    node: &Node,
-    reader: &mut Pass,
-    door: &mut D,
-    source: &mut ChallengeSource<S>,
-) -> Result<Connection<D::Input, D::Output>, AcceptEnd>
-    ensures ok { IfOk result (λ opened. Opens (Some opened.link) reader.old reader.new) }
-    ensures drawn { IfOk result (λ _. Draws (S.stream source.old) (new_challenges reader.old reader.new) (S.stream source.new)) }
-    ensures none { IfErr result (λ end. Opens None reader.old reader.new × (end ≢ ends.PassesUsed)) }
-    ensures left { IfErr result (λ end. HaveDrawn end (S.stream source.old) (new_challenges reader.old reader.new) (S.stream source.new)) }
-{
-    for _ in rt.forever() {
-        let (input, mut output) = next_of(door)?;
-        match open(rt, node, reader, source.draw()) {
-            Opening::Link(link) => {
-                return Ok(Connection {
-                    link,
-                    input,
-                    output,
-                });
-            }
-            Opening::Refused => output.hang_up(),
-            Opening::End(end) => {
-                output.hang_up();
-                return Err(end);
-            }
-        }
-    }
-    unreachable!()
-}
-
-fn next_of<D: Door>(door: &mut D) -> Result<(D::Input, D::Output), AcceptEnd>
-    ensures { IfErr result (λ end. end ≢ ends.PassesUsed) }
-{
-    match door.next() {
-        Ok(Some(sides)) => Ok(sides),
-        Ok(None) => Err(AcceptEnd::NoMore),
-        Err(_) => Err(AcceptEnd::DoorFault),
-    }
-}
-
-/// What an Opened was answered.
-#[derive(Clone, Copy)]
-enum Opening {
-    Link(u32),
-    /// The node has no room for the link.
-    Refused,
-    End(AcceptEnd),
-}
-
-fn open<R: Wait>(rt: &R, node: &Node, reader: &mut Pass, challenge: u32) -> Opening
-    ensures { Asked challenge reader.old result reader.new }
-{
-    match reader.call(node, rt, Event::Opened(challenge)) {
-        Ok(Reply::Link(link)) => Opening::Link(*link),
-        Ok(_) => unreachable!(),
-        Err(fault) => unopened(fault),
-    }
-}
-
-fn unopened(fault: CallFault) -> Opening
-    ensures { IsUnopened fault result }
-{
-    match fault {
-        CallFault::StrangePass => Opening::End(AcceptEnd::StrangePass),
-        CallFault::Core(CoreFault::OutOfMemory) => Opening::End(AcceptEnd::Memory),
-        CallFault::Core(CoreFault::Refused(rule)) => {
-            if rule == Rule::EntriesFull {
-                Opening::End(AcceptEnd::EntriesFull)
-            } else {
-                Opening::Refused
-            }
-        }
-    }
-}
-
 /// Serves a link on a thread of its own, or, where none can be made, here.
 fn start<'s, E: 's, R, I, W, G>(
-    scope: &'s Scope<'s, E>,
-    rt: &'s R,
-    alloc: Global,
-    node: &'s Node,
+    host: &Host<'s, E, R, G>,
     pair: Pair,
     opened: Connection<I, W>,
-    gate: &'s G,
 ) -> Held
 where
     R: Threads + Wait + Sync + 's,
@@ -336,6 +240,13 @@ where
         link: opened.link,
         pair: Snapshot::of(&pair),
     };
+    let Host {
+        scope,
+        rt,
+        alloc,
+        node,
+        gate,
+    } = *host;
     match scope.spawn_with(promise, move || {
         serve_pair(rt, alloc, node, pair, opened, gate)
     }) {
@@ -360,26 +271,7 @@ where
     G: Gate,
     ensures { Works opened.link pair result }
 {
-    let Connection {
-        link,
-        input,
-        output,
-    } = opened;
-    let served = serve_link(
-        rt,
-        alloc,
-        node,
-        link,
-        pair.reader,
-        pair.writer,
-        input,
-        output,
-        gate,
-    );
-    Pair {
-        reader: served.reader,
-        writer: served.writer,
-    }
+    serve_link(rt, alloc, node, pair, opened, gate).pair
 }
 
 /// Waits for all pairs.

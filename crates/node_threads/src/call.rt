@@ -25,15 +25,14 @@ impl Pass {
         Ok(self.last_reply())
     }
 
-    /// Takes the node's lock, answers an event of this seat, keeps the call where it made an entry, and wakes who waits. The
-    /// lock is free again while the caller looks at the reply.
+    /// Takes the node's lock, answers an event of this seat, keeps the call where it made an entry, and wakes whom it concerns.
+    /// The lock is free again while the caller looks at the reply.
     pub fn call<R: Wait>(&mut self, node: &Node, rt: &R, event: Event) -> Result<&Reply, CallFault>
         ensures* { sem 𝓛 (PassEnds self.entry (λ pass. Called self.old event (answer_now result) pass)) }
     {
         let mut shared = node.shared.lock(rt);
         let answer = self.apply(&mut shared, event);
-        drop(shared);
-        node.moved.notify_all();
+        node.give_back(shared);
         answer
     }
 }

@@ -100,7 +100,12 @@ impl Node {
         ensures ok { IfOk result (λ closed. IsClosed closed.core closed.passes.items × (closed.passes ≡ passes)) }
         ensures refused { IfErr result (λ fault. IsRefused fault.rule fault.passes.items × (fault.passes ≡ passes)) }
     {
-        let Node { shared, moved } = self;
+        let Node {
+            shared,
+            moved,
+            news,
+            writers,
+        } = self;
         match shared.into_inner().close(passes) {
             Ok(closed) => Ok(closed),
             Err(
@@ -114,6 +119,8 @@ impl Node {
                 node: Node {
                     shared: Mutex::new(shared),
                     moved,
+                    news,
+                    writers,
                 },
                 passes,
             }),

@@ -99,6 +99,18 @@ pub trait Gate {
 
     /// A frame of that link was answered.
     fn answered(&self, link: u32);
+
+    /// The link has come up with the frame that was answered last.
+    fn came_up(&self, _link: u32) {}
+}
+
+/// A gate that holds nobody.
+pub struct OpenGate;
+
+impl Gate for OpenGate {
+    fn reading(&self, _link: u32) {}
+
+    fn answered(&self, _link: u32) {}
 }
 
 /// What a writer writes to, and hangs up at its end.

@@ -9,7 +9,7 @@ use dist_types::OutOfMemory;
 use node_core::{NodeCore, OpenFault};
 use policy_audit::Opening;
 use std::alloc::Global;
-use std::sync::{Condvar, Mutex, Wait};
+use std::sync::{Condvar, Mutex, MutexGuard, Wait};
 
 /// A node for many threads.
 #[derive(Drop)]
@@ -18,6 +18,10 @@ pub struct Node {
     pub shared: Mutex<Shared>,
     /// Told of each `call`.
     pub moved: Condvar,
+    /// Told of each `call` with news (`Shared::last_news`).
+    pub news: Condvar,
+    /// Told of each `call` that brings something for the link of a writer that rests.
+    pub(crate) writers: Condvar,
 }
 
 impl Shared {
@@ -63,16 +67,38 @@ impl Node {
         let node = Node {
             shared: Mutex::new(shared),
             moved: Condvar::new(),
+            news: Condvar::new(),
+            writers: Condvar::new(),
         };
         Ok((node, passes))
     }
 
-    /// All writers are to hang up: a link couldn't be given up for want of memory.
-    pub(crate) fn mark_stuck<R: Wait>(&self, rt: &R) {
-        let mut shared = self.shared.lock(rt);
-        shared.set_stuck();
+    /// Gives the lock back, and wakes whom it concerns what was called under it.
+    pub(crate) fn give_back(&self, shared: MutexGuard<'_, Shared>) {
+        let calls_writers = shared.calls_writers();
+        let has_news = shared.is_last_news();
         drop(shared);
         self.moved.notify_all();
+        if calls_writers {
+            self.writers.notify_all();
+        }
+        if has_news {
+            self.news.notify_all();
+        }
+    }
+
+    /// Wakes all who wait for the node, so that each looks at it, and at what has changed beside it.
+    pub fn wake<R: Wait>(&self, rt: &R) {
+        drop(self.shared.lock(rt));
+        self.moved.notify_all();
+        self.writers.notify_all();
+        self.news.notify_all();
+    }
+
+    /// All writers are to hang up: a link couldn't be given up for want of memory.
+    pub(crate) fn mark_stuck<R: Wait>(&self, rt: &R) {
+        self.shared.lock(rt).set_stuck();
+        self.wake(rt);
     }
 }
 

@@ -12,6 +12,7 @@ use crate::fault::CallFault;
 use crate::node::Node;
 use crate::pass::Pass;
 use crate::retreat::leave;
+use crate::work::LinkWork;
 use dist_types::Body;
 use handshake_frames::Fed;
 use node_core::CoreFault;
@@ -41,44 +42,51 @@ pub fn read_link<R: Wait, I: Read, G: Gate>(
     ensures bytes { (bytes : List ℕ) × Consumes (I.remaining input.old) (I.remaining input.new) bytes × ReadsAs link pass.old bytes result pass.new }
     ensures closed { result ≡ ends.Closed → IsAtEnd (I.remaining input.new) }
 {
-    let stop = read_on(rt, alloc, node, pass, link, input, gate);
-    let step = leave(rt, node, pass, link, stop.gives_up());
+    let work = LinkWork {
+        rt,
+        alloc,
+        node,
+        link,
+    };
+    read_to_end(&work, pass, input, gate)
+}
+
+/// Reads until there is an end, and gives the link up where that is due.
+pub(crate) fn read_to_end<R: Wait, I: Read, G: Gate>(
+    work: &LinkWork<'_, R>,
+    pass: &mut Pass,
+    input: &mut I,
+    gate: &G,
+) -> ReadEnd
+    ensures bytes { (bytes : List ℕ) × Consumes (I.remaining input.old) (I.remaining input.new) bytes × ReadsAs work.now.link pass.old bytes result pass.new }
+    ensures closed { result ≡ ends.Closed → IsAtEnd (I.remaining input.new) }
+{
+    let stop = read_on(work, pass, input, gate);
+    let step = leave(work, pass, stop.gives_up());
     stop.after(step)
 }
 
 /// Reads until there is an end, in pieces.
 fn read_on<R: Wait, I: Read, G: Gate>(
-    rt: &R,
-    alloc: Global,
-    node: &Node,
+    work: &LinkWork<'_, R>,
     pass: &mut Pass,
-    link: u32,
     input: &mut I,
     gate: &G,
 ) -> ReadEnd
-    ensures bytes { (bytes : List ℕ) × Consumes (I.remaining input.old) (I.remaining input.new) bytes × ReadsTo link pass.old bytes result pass.new }
+    ensures bytes { (bytes : List ℕ) × Consumes (I.remaining input.old) (I.remaining input.new) bytes × ReadsTo work.now.link pass.old bytes result pass.new }
     ensures closed { result ≡ ends.Closed → IsAtEnd (I.remaining input.new) }
 {
     let mut piece = [0u8; PIECE];
-    let mut cutter = Cutter::new(alloc);
+    let mut cutter = Cutter::new(work.alloc);
     for _ in 0..TURNS {
-        gate.reading(link);
+        gate.reading(work.link);
         let count = match input.read(&mut piece) {
             Ok(0) => return ReadEnd::Closed,
             Ok(count) => count,
             Err(error) if error.kind() == ErrorKind::Interrupted => continue,
             Err(_) => return ReadEnd::ReadFault,
         };
-        if let Err(end) = hand_in_all(
-            rt,
-            alloc,
-            node,
-            pass,
-            link,
-            &mut cutter,
-            &piece[..count],
-            gate,
-        ) {
+        if let Err(end) = hand_in_all(work, pass, &mut cutter, &piece[..count], gate) {
             return end;
         }
     }
@@ -87,21 +95,18 @@ fn read_on<R: Wait, I: Read, G: Gate>(
 
 /// Hands in the bodies of a piece.
 fn hand_in_all<R: Wait, G: Gate>(
-    rt: &R,
-    alloc: Global,
-    node: &Node,
+    work: &LinkWork<'_, R>,
     pass: &mut Pass,
-    link: u32,
     cutter: &mut Cutter,
     piece: &[u8],
     gate: &G,
 ) -> Result<(), ReadEnd>
-    ensures ok { OnOk result (ReadsOn link pass.old cutter.old piece.now pass.new cutter.new) }
-    ensures ended { IfErr result (λ end. Stops link pass.old cutter.old piece.now end pass.new) }
+    ensures ok { OnOk result (ReadsOn work.now.link pass.old cutter.old piece.now pass.new cutter.new) }
+    ensures ended { IfErr result (λ end. Stops work.now.link pass.old cutter.old piece.now end pass.new) }
 {
     let mut left = piece;
     while !left.is_empty() {
-        let used = hand_in(rt, alloc, node, pass, link, cutter, left, gate)?;
+        let used = hand_in(work, pass, cutter, left, gate)?;
         (_, left) = left.split_at(used);
     }
     Ok(())
@@ -109,42 +114,38 @@ fn hand_in_all<R: Wait, G: Gate>(
 
 /// Cuts off a body at most and hands it in: how many bytes were used.
 fn hand_in<R: Wait, G: Gate>(
-    rt: &R,
-    alloc: Global,
-    node: &Node,
+    work: &LinkWork<'_, R>,
     pass: &mut Pass,
-    link: u32,
     cutter: &mut Cutter,
     piece: &[u8],
     gate: &G,
 ) -> Result<usize, ReadEnd>
-    ensures { Handed link pass.old cutter.old piece.now result pass.new cutter.new }
+    ensures { Handed work.now.link pass.old cutter.old piece.now result pass.new cutter.new }
 {
     let Fed { used, body } = cutter.feed(piece)?;
     let Some(body) = body else {
         return Ok(used);
     };
     let done = cutter.is_done();
-    let answer = give(rt, node, pass, link, body, done);
-    gate.answered(link);
+    let answer = give(work, pass, body, done);
+    gate.answered(work.link);
     if answer? && !done {
-        *cutter = Cutter::of_messages(alloc);
+        *cutter = Cutter::of_messages(work.alloc);
+        gate.came_up(work.link);
     }
     Ok(used)
 }
 
 /// Hands in a body, and tells whether its frame was answered `Up`.
 fn give<R: Wait>(
-    rt: &R,
-    node: &Node,
+    work: &LinkWork<'_, R>,
     pass: &mut Pass,
-    link: u32,
     body: Body,
     done: bool,
 ) -> Result<bool, ReadEnd>
-    ensures { Gave link body done pass.old result pass.new }
+    ensures { Gave work.now.link body done pass.old result pass.new }
 {
-    match pass.call(node, rt, Event::Frame(link, body)) {
+    match pass.call(work.node, work.rt, Event::Frame(work.link, body)) {
         Ok(reply) => Ok(is_up(reply)),
         Err(fault) => match end_of(fault, done) {
             Some(end) => Err(end),

@@ -8,8 +8,8 @@ ghost use Rattle.node_threads.specs.declared.pass.Call.{Call};
 ghost use Rattle.node_threads.specs.Retreat.{tries_after, step_after, GivesUp, Leaves};
 
 use crate::fault::CallFault;
-use crate::node::Node;
 use crate::pass::Pass;
+use crate::work::LinkWork;
 use node_core::CoreFault;
 use policy_audit::{Event, Reply, Rule};
 use std::marker::Model;
@@ -78,15 +78,15 @@ impl Retreat {
 }
 
 /// Calls `Lost` until it is settled. Where memory is wanting to the end, all writers of the node are told.
-fn lose<R: Wait>(rt: &R, node: &Node, pass: &mut Pass, link: u32) -> RetreatStep
-    ensures { (lost : List Call) × GivesUp link pass.old lost result pass.new }
+fn lose<R: Wait>(work: &LinkWork<'_, R>, pass: &mut Pass) -> RetreatStep
+    ensures { (lost : List Call) × GivesUp work.now.link pass.old lost result pass.new }
 {
     let mut retreat = Retreat::new();
     loop {
-        match retreat.next(&pass.call(node, rt, Event::Lost(link))) {
+        match retreat.next(&pass.call(work.node, work.rt, Event::Lost(work.link))) {
             RetreatStep::Again => {}
             RetreatStep::Stuck => {
-                node.mark_stuck(rt);
+                work.node.mark_stuck(work.rt);
                 return RetreatStep::Stuck;
             }
             step => return step,
@@ -95,17 +95,11 @@ fn lose<R: Wait>(rt: &R, node: &Node, pass: &mut Pass, link: u32) -> RetreatStep
 }
 
 /// Gives the link up, where its worker is to.
-pub(crate) fn leave<R: Wait>(
-    rt: &R,
-    node: &Node,
-    pass: &mut Pass,
-    link: u32,
-    gives_up: bool,
-) -> RetreatStep
-    ensures { (lost : List Call) × Leaves link gives_up pass.old lost result pass.new }
+pub(crate) fn leave<R: Wait>(work: &LinkWork<'_, R>, pass: &mut Pass, gives_up: bool) -> RetreatStep
+    ensures { (lost : List Call) × Leaves work.now.link gives_up pass.old lost result pass.new }
 {
     if gives_up {
-        lose(rt, node, pass, link)
+        lose(work, pass)
     } else {
         RetreatStep::Settled
     }

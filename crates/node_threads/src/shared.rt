@@ -9,9 +9,10 @@ ghost use Rattle.node_threads.specs.Applied.{Fits, Applied, IsKept, room_after};
 
 use crate::fault::CallFault;
 use crate::pass::{Call, Pass};
+use crate::resting::Resting;
 use dist_types::{OutOfMemory, TryClone};
 use node_core::{CoreFault, NodeCore};
-use policy_audit::{Event, Rule, Verdict};
+use policy_audit::{Entry, Event, Reply, Rule, Verdict};
 use std::alloc::Global;
 use std::marker::Model;
 
@@ -27,6 +28,10 @@ pub struct Shared {
     stuck: bool,
     /// How often in a row memory was wanting for an event. No contract rests on it.
     wants: u32,
+    /// The number of the last entry that is news, or 0. No contract rests on it.
+    last_news: u32,
+    /// Which writers rest. No contract rests on it.
+    resting: Resting,
 }
 
 impl Drop for Shared {
@@ -37,6 +42,8 @@ impl Drop for Shared {
             counts: _,
             stuck: _,
             wants: _,
+            last_news: _,
+            resting: _,
         } = self;
     }
 }
@@ -66,6 +73,8 @@ impl Shared {
             counts,
             stuck: false,
             wants: 0,
+            last_news: 0,
+            resting: Resting::NOBODY,
         })
     }
 
@@ -123,6 +132,66 @@ impl Shared {
         self.stuck || self.core.is_full() || self.core.waiting(link) != Some(0)
     }
 
+    /// The writer of this link rests from now on, at a place of its own if there is one.
+    pub(crate) fn rest(&mut self, link: u32) -> Option<usize>
+        ensures { self.new ≡ self.old }
+    {
+        self.resting.enter(link)
+    }
+
+    /// The writer at this place rests no more.
+    pub(crate) fn rise(&mut self, place: Option<usize>)
+        ensures { self.new ≡ self.old }
+    {
+        self.resting.leave(place);
+    }
+
+    /// Whether a writer that rests has something to do behind the last entry.
+    pub(crate) fn calls_writers(&self) -> bool {
+        !self.resting.is_empty() && (self.core.is_full() || self.may_owe()) && self.calls_resting()
+    }
+
+    /// Whether a writer that rests has something to do.
+    fn calls_resting(&self) -> bool {
+        for resting in self.resting.links() {
+            if let Some(link) = resting
+                && self.calls_writer(*link)
+            {
+                return true;
+            }
+        }
+        false
+    }
+
+    /// Whether a link may be owed a frame, or may have ended, with the last entry.
+    fn may_owe(&self) -> bool {
+        match self.core.audit().get(self.core.audit().len() as u32) {
+            Some(entry) => !is_quiet(&entry.event),
+            None => false,
+        }
+    }
+
+    /// The number of the last entry that is news to who watches the node: rows changed, or a peer came or went. 0 if there is none.
+    pub fn last_news(&self) -> u32 {
+        self.last_news
+    }
+
+    /// Whether the last entry is news.
+    pub(crate) fn is_last_news(&self) -> bool {
+        self.last_news as usize == self.core.audit().len()
+    }
+
+    /// Notes whether the last entry is news.
+    fn note_news(&mut self, number: u32)
+        ensures { self.new ≡ self.old }
+    {
+        if let Some(entry) = self.core.audit().get(number)
+            && is_news(entry)
+        {
+            self.last_news = number;
+        }
+    }
+
     /// How many seats there are.
     pub(crate) fn seats(&self) -> u32
         ensures { result ≡ length self.now.counts }
@@ -139,6 +208,8 @@ impl Shared {
             counts: _,
             stuck: _,
             wants: _,
+            last_news: _,
+            resting: _,
         } = self;
         core
     }
@@ -206,8 +277,41 @@ impl Shared {
         let verdict = judge(&mut self.core, seat, event)?;
         let number = self.core.audit().len() as u32;
         self.counts[seat as usize] += 1;
+        self.note_news(number);
         Ok((number, verdict))
     }
+}
+
+/// Whether the entry is news to who watches the node: it changed rows, or a peer may have come or gone with it.
+fn is_news(entry: &Entry) -> bool {
+    if entry.has_changes() {
+        return true;
+    }
+    let Verdict::Accepted(reply) = &entry.verdict else {
+        return false;
+    };
+    match &entry.event {
+        Event::Frame(..) => matches!(reply, Reply::Up { .. }),
+        Event::Lost(_) | Event::Disconnect(_) | Event::Restart => true,
+        _ => false,
+    }
+}
+
+/// Whether an event owes no link a frame, and ends none.
+fn is_quiet(event: &Event) -> bool {
+    matches!(
+        event,
+        Event::Take(_)
+            | Event::Spawn
+            | Event::Members(..)
+            | Event::LocalMembers(..)
+            | Event::Groups(_)
+            | Event::LocalGroups(_)
+            | Event::Monitor(..)
+            | Event::MonitorScope(_)
+            | Event::Demonitor(_)
+            | Event::Updates(_)
+    )
 }
 
 /// Makes room for a call, and a copy of its event.

@@ -10,6 +10,7 @@ use crate::fault::CallFault;
 use crate::node::Node;
 use crate::pass::Pass;
 use crate::retreat::leave;
+use crate::work::LinkWork;
 use dist_types::OutOfMemory;
 use node_core::CoreFault;
 use policy_audit::{Event, OutFrame, Reply, Rule};
@@ -29,28 +30,43 @@ pub fn write_link<R: Wait, W: LinkOut>(
     ensures takes { WritesAs link pass.old (W.contents output.old) result (W.contents output.new) pass.new }
     ensures hung_up { W.is_hung_up output.new }
 {
-    let stop = write_on(rt, alloc, node, pass, link, output);
-    let step = leave(rt, node, pass, link, stop.gives_up());
+    let work = LinkWork {
+        rt,
+        alloc,
+        node,
+        link,
+    };
+    write_to_end(&work, pass, output)
+}
+
+/// Takes and writes until there is an end, gives the link up where that is due, and hangs up.
+pub(crate) fn write_to_end<R: Wait, W: LinkOut>(
+    work: &LinkWork<'_, R>,
+    pass: &mut Pass,
+    output: &mut W,
+) -> WriteEnd
+    ensures takes { WritesAs work.now.link pass.old (W.contents output.old) result (W.contents output.new) pass.new }
+    ensures hung_up { W.is_hung_up output.new }
+{
+    let stop = write_on(work, pass, output);
+    let step = leave(work, pass, stop.gives_up());
     output.hang_up();
     stop.after(step)
 }
 
 /// Takes and writes until there is an end.
 fn write_on<R: Wait, W: LinkOut>(
-    rt: &R,
-    alloc: Global,
-    node: &Node,
+    work: &LinkWork<'_, R>,
     pass: &mut Pass,
-    link: u32,
     output: &mut W,
 ) -> WriteEnd
-    ensures { WritesTo link pass.old (W.contents output.old) result (W.contents output.new) pass.new }
+    ensures { WritesTo work.now.link pass.old (W.contents output.old) result (W.contents output.new) pass.new }
 {
-    for _ in rt.forever() {
-        if is_stuck_at(rt, node, link) {
+    for _ in work.rt.forever() {
+        if is_stuck_at(work) {
             return WriteEnd::StuckLink;
         }
-        if let Err(end) = write_once(rt, alloc, node, pass, link, output) {
+        if let Err(end) = write_once(work, pass, output) {
             return end;
         }
     }
@@ -58,28 +74,30 @@ fn write_on<R: Wait, W: LinkOut>(
 }
 
 /// Waits until the writer of the link has something to do, and tells whether that is to end.
-fn is_stuck_at<R: Wait>(rt: &R, node: &Node, link: u32) -> bool {
-    let shared = node.moved.wait_while(
-        rt,
-        node.shared.lock(rt),
-        |shared| !shared.calls_writer(link),
-    );
+fn is_stuck_at<R: Wait>(work: &LinkWork<'_, R>) -> bool {
+    let LinkWork { rt, node, link, .. } = *work;
+    let mut shared = node.shared.lock(rt);
+    let place = shared.rest(link);
+    let told = if place.is_some() {
+        &node.writers
+    } else {
+        &node.moved
+    };
+    let mut shared = told.wait_while(rt, shared, |shared| !shared.calls_writer(link));
+    shared.rise(place);
     shared.is_stuck()
 }
 
 /// Takes what waits, and writes it.
 fn write_once<R: Wait, W: LinkOut>(
-    rt: &R,
-    alloc: Global,
-    node: &Node,
+    work: &LinkWork<'_, R>,
     pass: &mut Pass,
-    link: u32,
     output: &mut W,
 ) -> Result<(), WriteEnd>
-    ensures { Took link pass.old (W.contents output.old) result (W.contents output.new) pass.new }
+    ensures { Took work.now.link pass.old (W.contents output.old) result (W.contents output.new) pass.new }
 {
-    let wire = match pass.call(node, rt, Event::Take(link)) {
-        Ok(Reply::Out(frames)) => wire_of(alloc, frames.as_slice()),
+    let wire = match pass.call(work.node, work.rt, Event::Take(work.link)) {
+        Ok(Reply::Out(frames)) => wire_of(work.alloc, frames.as_slice()),
         Ok(_) => return Ok(()),
         Err(fault) => return Err(end_of(fault)),
     };

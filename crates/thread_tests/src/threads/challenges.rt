@@ -120,15 +120,6 @@ impl<'a> Door for Callers<'a> {
     }
 }
 
-/// Holds nobody.
-struct Open;
-
-impl Gate for Open {
-    fn reading(&self, _link: u32) {}
-
-    fn answered(&self, _link: u32) {}
-}
-
 /// The node b@h and two pairs of its passes.
 fn two_pairs(alloc: Global) -> Option<(Node, Vec<Pair>)> {
     let (node, mut passes) = Node::new(alloc, opening(alloc, b"b@h", 4, 1000)?, 4).ok()?;
@@ -147,7 +138,7 @@ fn serve_two<R: Threads + Wait + Sync>(rt: &R, alloc: Global) -> Option<(usize, 
     let asked = [Asked::new(), Asked::new()];
     let mut door = Callers { left: &asked };
     let mut source = ChallengeSource::new(ChaCha20Rng::from_seed([0; 32]));
-    let accepted = accept_links(rt, alloc, &node, pairs, &mut door, &mut source, &Open);
+    let accepted = accept_links(rt, alloc, &node, pairs, &mut door, &mut source, &OpenGate);
     let challenges = [
         asked[0].challenge.load(Ordering::SeqCst),
         asked[1].challenge.load(Ordering::SeqCst),

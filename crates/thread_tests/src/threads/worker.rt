@@ -135,15 +135,6 @@ impl LinkOut for Wire<'_> {
     }
 }
 
-/// Holds nobody.
-struct Open;
-
-impl Gate for Open {
-    fn reading(&self, _link: u32) {}
-
-    fn answered(&self, _link: u32) {}
-}
-
 /// Holds each read but the first until all that is owed was written, or the writer has hung up.
 #[derive(Drop)]
 struct Holding<'a> {
@@ -248,7 +239,7 @@ fn read_by<R: Wait>(
     sent: &mut Sent,
 ) -> Option<Seen> {
     let reader = passes.first_mut()?;
-    let end = read_link(rt, alloc, node, reader, 1, sent, &Open);
+    let end = read_link(rt, alloc, node, reader, 1, sent, &OpenGate);
     let (frames, lost) = calls_of(reader)?;
     Some(Seen { end, frames, lost })
 }
@@ -301,7 +292,7 @@ fn serve<R: Threads + Wait + Sync>(
     let (node, mut passes) = with_link(rt, alloc, 100)?;
     let writer = passes.pop()?;
     let reader = passes.pop()?;
-    let served = serve_with(rt, alloc, &node, reader, writer, sent, wire);
+    let served = serve_with(rt, alloc, &node, Pair { reader, writer }, sent, wire);
     ended(node, served, passes)
 }
 
@@ -309,28 +300,31 @@ fn serve_with<R: Threads + Wait + Sync>(
     rt: &R,
     alloc: Global,
     node: &Node,
-    reader: Pass,
-    writer: Pass,
+    pair: Pair,
     sent: Sent,
     wire: Wire<'_>,
-) -> Served {
+) -> ServedLink {
     let gate = Holding {
         reads: AtomicU64::new(0),
         told: wire.told,
     };
-    serve_link(rt, alloc, node, 1, reader, writer, sent, wire, &gate)
+    let connection = Connection {
+        link: 1,
+        input: sent,
+        output: wire,
+    };
+    serve_link(rt, alloc, node, pair, connection, &gate)
 }
 
 /// Closes the node with the passes of both workers.
-fn ended(node: Node, served: Served, mut passes: Vec<Pass>) -> Option<Ends> {
-    let Served {
-        reader,
+fn ended(node: Node, served: ServedLink, mut passes: Vec<Pass>) -> Option<Ends> {
+    let ServedLink {
+        pair,
         read,
-        writer,
         written,
     } = served;
-    passes.push(reader).ok()?;
-    passes.push(writer).ok()?;
+    passes.push(pair.reader).ok()?;
+    passes.push(pair.writer).ok()?;
     closed(node, passes)?;
     Some(Ends { read, written })
 }

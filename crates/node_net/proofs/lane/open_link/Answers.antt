@@ -10,8 +10,11 @@ returns-in-Ok-Link g c =
     let found = c.in-Ok-Link.field-0-is in
     let named = c.in-Ok-Link.link-is in
     let same : c.in-Ok-Link.field-0.now ≡ Link c.in-Ok-Link.link = cc in
-    opens_told c.args.pass.now c.call.follows.lender-at-none c.args.event c.requires.opening.0 c.requires.opening.1 c.in-Ok-Link.link
-    (subst (λ (r : Reply). Called c.args.pass.now c.args.event (Ok r) c.call.follows.lender-at-none) same (rw c.in-Ok-Link.is at c.call.follows.holds-at-none))
+    opens_told c.args.pass.now c.call.follows.lender-at-none c.args.event c.requires.opening.0
+    c.requires.opening.1 c.in-Ok-Link.link
+    (subst (λ (r : Reply). Called c.args.pass.now c.args.event (Ok r) c.call.follows.lender-at-none)
+    same (rw c.in-Ok-Link.is at c.call.follows.holds-at-none))
 
 pub returns-2 : goal.returns-2
-returns-2 g c = opens_untold c.args.pass.now c.call.follows.lender-at-none c.args.event c.requires.opening.0 c.requires.opening.1 _ c.call.follows.holds-at-none
+returns-2 g c = opens_untold c.args.pass.now c.call.follows.lender-at-none c.args.event
+    c.requires.opening.0 c.requires.opening.1 _ c.call.follows.holds-at-none

@@ -7,6 +7,8 @@ returns-then-are_seated c =
     let ps = c.args.passes.now in
     let lists = c.calls_by_seat.result in
     let inside = c.are_seated.ensures.0 c.if-are_seated.true in (
-      λ yes. own_from_left c.args.seats es ps lists c.calls_by_seat.ensures inside (c.are_entries.ensures.0 yes),
-      λ own. c.are_entries.ensures.1 (left_from_own c.args.seats es ps lists c.calls_by_seat.ensures c.requires.each own),
+      λ yes. own_from_left c.args.seats es ps lists c.calls_by_seat.ensures inside
+          (c.are_entries.ensures.0 yes),
+      λ own. c.are_entries.ensures.1 (left_from_own c.args.seats es ps lists c.calls_by_seat.ensures
+          c.requires.each own),
     )

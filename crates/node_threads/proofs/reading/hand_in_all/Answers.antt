@@ -1,18 +1,17 @@
-use Rattle.std.proofs.Common.{◌≡◌, [], ◌++◌, take, drop, refl, sym, ap, ◌∙◌, append_assoc}
+use Rattle.std.proofs.Common.{◌≡◌, [], ◌++◌, take, drop, refl, append_assoc}
 use Rattle.std.proofs.lemmas.List.{take-append-drop}
 use Rattle.std.proofs.lemmas.Result.{err_from_is_err_and}
 use Rattle.node_threads.proofs.Steps.{reads_none, reads_then, stops_then}
 use Rattle.node_threads.proofs.reading.hand_in_all.Goals as goal
 
 pub loop-left-init : goal.loop-left-init
-loop-left-init g c = ([], refl, reads_none c.args.link c.args.pass.now c.args.pass.now c.args.cutter.now refl)
+loop-left-init g c = ([], refl, reads_none refl)
 
 pub returns-in_err-used-clause-ended : goal.returns-in_err-used-clause-ended
 returns-in_err-used-clause-ended g c =
     let failed = err_from_is_err_and c.from_residual.result c.from_residual.ensures.1 in
     let so_far = c.loop-left.invariant in
-    rw (failed.1, failed.2) (stops_then c.args.link c.args.pass.now c.loop-left.pass c.hand_in.new.pass c.args.cutter.now c.loop-left.cutter c.args.piece.now so_far.0 c.loop-left.left.now
-    c.in_err-used.field-0.0 so_far.1 so_far.2 c.in_err-used.ensures)
+    rw (failed.1, failed.2) (stops_then so_far.1 so_far.2 c.in_err-used.ensures)
 
 pub loop-left-preserved : goal.loop-left-preserved
 loop-left-preserved g c =
@@ -20,8 +19,10 @@ loop-left-preserved g c =
     let left = c.loop-left.left.now in
     let used = c.in_ok-used.used in
     let whole : c.args.piece.now ≡ (so_far.0 ++ take used left) ++ drop used left =
-    so_far.1 ∙ ap (λ xs. so_far.0 ++ xs) (sym (take-append-drop used left)) ∙ sym (append_assoc so_far.0 (take used left) (drop used left)) in (
+    rw (append_assoc so_far.0 (take used left) (drop used left), take-append-drop used left)
+    so_far.1
+    in (
       so_far.0 ++ take used left,
       rw c.split_at.ensures.back whole,
-      reads_then c.args.link c.args.pass.now c.loop-left.pass c.hand_in.new.pass c.args.cutter.now c.loop-left.cutter c.hand_in.new.cutter so_far.0 (take used left) so_far.2 c.in_ok-used.ensures.2,
+      reads_then so_far.2 c.in_ok-used.ensures.2,
     )

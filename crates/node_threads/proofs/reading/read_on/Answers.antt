@@ -1,8 +1,6 @@
-use Rattle.std.proofs.Common.{ℕ, List, [], ◌++◌, take, refl, subst, append-nil}
+use Rattle.std.proofs.Common.{ℕ, [], ◌++◌, take, refl, append-nil}
 use Rattle.std.specs.Io.KnownBytes.{Consumes}
 use Rattle.std.proofs.KnownBytes.{Consumes-trans, Consumes-kept}
-use Rattle.node_threads.specs.declared.cutter.Cutter.TheVariants.{Handshake}
-use Rattle.node_threads.specs.declared.ends.ReadEnd.TheVariants as ends
 use Rattle.node_threads.proofs.Steps.{reads_then, stops_then, reads_to_end, reads_to_stop}
 use Rattle.node_threads.proofs.reading.read_on.Goals as goal
 
@@ -12,39 +10,40 @@ returns-in-Ok-eq0-clause-bytes g c =
     let was = g.I.Read.remaining c.args.input.now in
     let mid = g.I.Read.remaining c.loop.input in
     let now = g.I.Read.remaining c.read.new.self in
-    let none : Consumes mid now [] = subst (λ (n : ℕ). Consumes mid now (take n c.read.new.buf)) c.in-Ok-eq0.field-0-test (rw c.in-Ok-eq0.is at c.read.ensures.bytes).0 in
-    let all : Consumes was now so_far.0 = subst (λ (bs : List ℕ). Consumes was now bs) (append-nil so_far.0) (Consumes-trans was mid now so_far.0 [] so_far.1 none) in
-    (so_far.0, all, reads_to_end c.args.link c.args.pass.now c.loop.pass so_far.0 c.loop.cutter ends.Closed refl so_far.2)
+    let none : Consumes mid now [] =
+    rw c.in-Ok-eq0.field-0-test at (rw c.in-Ok-eq0.is at c.read.ensures.bytes).0 in
+    let all = rw (append-nil so_far.0) at (Consumes-trans was mid now so_far.0 [] so_far.1 none) in
+    (so_far.0, all, reads_to_end refl so_far.2)
 
 pub returns-in-Err-2-clause-bytes : goal.returns-in-Err-2-clause-bytes
 returns-in-Err-2-clause-bytes g c =
-    let so_far = c.loop.invariant in (
+    let so_far = c.loop.invariant in
+    let mid = g.I.Read.remaining c.loop.input in (
       so_far.0,
-      Consumes-kept (g.I.Read.remaining c.args.input.now) (g.I.Read.remaining c.loop.input) (g.I.Read.remaining c.read.new.self) so_far.0 so_far.1 c.in-Err-2.ensures.bytes,
-      reads_to_end c.args.link c.args.pass.now c.loop.pass so_far.0 c.loop.cutter ends.ReadFault refl so_far.2,
+      Consumes-kept _ mid _ so_far.0 so_far.1 c.in-Err-2.ensures.bytes,
+      reads_to_end refl so_far.2,
     )
 
 pub returns-in-Err-hand_in_all-clause-bytes : goal.returns-in-Err-hand_in_all-clause-bytes
 returns-in-Err-hand_in_all-clause-bytes g c =
     let so_far = c.loop.invariant in
+    let mid = g.I.Read.remaining c.loop.input in
     let piece = take c.in-Ok.count c.read.new.buf in (
       so_far.0 ++ piece,
-      Consumes-trans (g.I.Read.remaining c.args.input.now) (g.I.Read.remaining c.loop.input) (g.I.Read.remaining c.read.new.self) so_far.0 piece so_far.1 c.in-Ok.ensures.bytes.0,
-      reads_to_stop c.args.link c.args.pass.now c.hand_in_all.new.pass (so_far.0 ++ piece) c.in-Err-hand_in_all.end
-          (stops_then c.args.link c.args.pass.now c.loop.pass c.hand_in_all.new.pass (Handshake []) c.loop.cutter (so_far.0 ++ piece) so_far.0 piece c.in-Err-hand_in_all.end refl so_far.2
-          c.in-Err-hand_in_all.ensures.ended),
+      Consumes-trans _ mid _ so_far.0 piece so_far.1 c.in-Ok.ensures.bytes.0,
+      reads_to_stop (stops_then refl so_far.2 c.in-Err-hand_in_all.ensures.ended),
     )
 
 pub loop-preserved : goal.loop-preserved
 loop-preserved g c =
     let so_far = c.loop.invariant in
+    let mid = g.I.Read.remaining c.loop.input in
     let piece = take c.in-Ok.count c.read.new.buf in (
       so_far.0 ++ piece,
-      Consumes-trans (g.I.Read.remaining c.args.input.now) (g.I.Read.remaining c.loop.input) (g.I.Read.remaining c.read.new.self) so_far.0 piece so_far.1 c.in-Ok.ensures.bytes.0,
-      reads_then c.args.link c.args.pass.now c.loop.pass c.hand_in_all.new.pass (Handshake []) c.loop.cutter c.hand_in_all.new.cutter so_far.0 piece so_far.2 c.in_default.ensures.ok,
+      Consumes-trans _ mid _ so_far.0 piece so_far.1 c.in-Ok.ensures.bytes.0,
+      reads_then so_far.2 c.in_default.ensures.ok,
     )
 
 pub returns-clause-bytes : goal.returns-clause-bytes
 returns-clause-bytes g c =
-    let so_far = c.loop.invariant in
-    (so_far.0, so_far.1, reads_to_end c.args.link c.args.pass.now c.loop.pass so_far.0 c.loop.cutter ends.ReadFault refl so_far.2)
+    let so_far = c.loop.invariant in (so_far.0, so_far.1, reads_to_end refl so_far.2)

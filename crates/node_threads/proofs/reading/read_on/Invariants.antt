@@ -6,4 +6,6 @@ use Rattle.node_threads.proofs.reading.read_on.Given as goal
 
 -- all that came so far was read
 abbrev pub invariant-loop : goal.invariant-loop
-invariant-loop g l = (bytes : List ℕ) × Consumes (g.I.Read.remaining l.fn.input) (g.I.Read.remaining l.input) bytes × ReadsOn l.link l.fn.pass (Handshake []) bytes l.pass l.cutter
+invariant-loop g l = (bytes : List ℕ) × Consumes (g.I.Read.remaining l.fn.input)
+    (g.I.Read.remaining l.input) bytes × ReadsOn l.work.link l.fn.pass (Handshake []) bytes l.pass
+    l.cutter

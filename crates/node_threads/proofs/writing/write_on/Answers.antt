@@ -2,14 +2,10 @@ use Rattle.node_threads.proofs.Written.{written_more, writes_to, writes_stuck}
 use Rattle.node_threads.proofs.writing.write_on.Goals as goal
 
 pub returns-in-Err : goal.returns-in-Err
-returns-in-Err g c =
-    writes_to c.args.link c.args.pass.now c.loop.pass c.write_once.new.pass (g.W.Write.contents c.args.output.now) (g.W.Write.contents c.loop.output) (g.W.Write.contents c.write_once.new.output)
-    c.in-Err.end c.loop.invariant c.in-Err.ensures
+returns-in-Err g c = writes_to c.loop.invariant c.in-Err.ensures
 
 pub loop-preserved : goal.loop-preserved
-loop-preserved g c =
-    written_more c.args.link c.args.pass.now c.loop.pass c.write_once.new.pass (g.W.Write.contents c.args.output.now) (g.W.Write.contents c.loop.output) (g.W.Write.contents c.write_once.new.output)
-    c.loop.invariant c.in_default.ensures
+loop-preserved g c = written_more c.loop.invariant c.in_default.ensures
 
 pub returns-then-is_stuck_at : goal.returns-then-is_stuck_at
-returns-then-is_stuck_at g c = writes_stuck c.args.link c.args.pass.now c.loop.pass (g.W.Write.contents c.args.output.now) (g.W.Write.contents c.loop.output) c.loop.invariant
+returns-then-is_stuck_at g c = writes_stuck c.loop.invariant

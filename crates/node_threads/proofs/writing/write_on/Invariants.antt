@@ -3,4 +3,5 @@ use Rattle.node_threads.proofs.writing.write_on.Given as goal
 
 -- all that was taken so far was written
 abbrev pub invariant-loop : goal.invariant-loop
-invariant-loop g l = HasWritten l.link l.fn.pass (g.W.Write.contents l.fn.output) (g.W.Write.contents l.output) l.pass
+invariant-loop g l = HasWritten l.work.link l.fn.pass (g.W.Write.contents l.fn.output)
+    (g.W.Write.contents l.output) l.pass

@@ -7,10 +7,13 @@ use Rattle.node_threads.proofs.shared.Shared.new.Goals as goal
 
 pub invariant_of-result : goal.invariant_of-result
 invariant_of-result c =
-    let zeros : c.in_ok-counts.counts.items ≡ replicate c.args.seats 0 = c.in_ok-counts.ensures.items_if_clones_equal (λ y h. h) in
+    let zeros : c.in_ok-counts.counts.items ≡ replicate c.args.seats 0 =
+    c.in_ok-counts.ensures.items_if_clones_equal (λ y h. h) in
     record {
-      legal = subst (λ (es : List Entry). IsLegalIn c.args.core.opening es) (sym c.requires.unused) tt;
-      counted = subst (λ (es : List Entry). AreCounted c.in_ok-counts.counts.items es) (sym c.requires.unused)
+      legal = subst (λ (es : List Entry). IsLegalIn c.args.core.opening es) (sym c.requires.unused)
+          tt;
+      counted = subst (λ (es : List Entry). AreCounted c.in_ok-counts.counts.items es)
+          (sym c.requires.unused)
           (subst (λ (ns : List ℕ). AreCounted ns []) (sym zeros) (AreCounted_none c.args.seats));
       some = omega (arith, c.in_ok-counts.ensures.len, c.requires.some);
       few = omega (arith, c.in_ok-counts.ensures.len, c.requires.few);

@@ -1,6 +1,6 @@
 use Rattle.std.proofs.Common.{sym, ◌∙◌}
-use Rattle.node_threads.proofs.Leaving.{stop_closed}
-use Rattle.node_threads.proofs.reading.read_link.Goals as goal
+use Rattle.node_threads.proofs.Answered.{stop_closed}
+use Rattle.node_threads.proofs.reading.read_to_end.Goals as goal
 
 pub returns : goal.returns
 returns g c =
@@ -19,5 +19,6 @@ returns g c =
           end_is = c.after.ensures;
         },
       );
-      closed = λ q. c.read_on-stop.ensures.closed (stop_closed c.leave-step.result c.read_on-stop.result (sym c.after.ensures ∙ q));
+      closed = λ q. c.read_on-stop.ensures.closed
+          (stop_closed c.leave-step.result c.read_on-stop.result (sym c.after.ensures ∙ q));
     }

@@ -1,5 +1,5 @@
 use Rattle.node_threads.proofs.Written.{writes_kept}
-use Rattle.node_threads.proofs.writing.write_link.Goals as goal
+use Rattle.node_threads.proofs.writing.write_to_end.Goals as goal
 
 pub returns-clause-takes : goal.returns-clause-takes
 returns-clause-takes g c =
@@ -8,8 +8,7 @@ returns-clause-takes g c =
       mid = c.write_on-stop.new.pass;
       lost = left.0;
       step = c.leave-step.result;
-      writes = writes_kept c.args.link c.args.pass.now c.write_on-stop.new.pass (g.W.Write.contents c.args.output.now) (g.W.Write.contents c.write_on-stop.new.output) (g.W.Write.contents c.hang_up.new.self)
-          c.write_on-stop.result c.hang_up.ensures.bytes c.write_on-stop.ensures;
+      writes = writes_kept c.hang_up.ensures.bytes c.write_on-stop.ensures;
       leaves = rw c.gives_up.ensures at left.1;
       end_is = c.after.ensures;
     }

@@ -1,8 +1,9 @@
 use Rattle.std.proofs.Common.{None}
 use Rattle.node_threads.specs.Accepting.{Opens}
 use Rattle.node_threads.specs.Drawing.{Draws, new_challenges}
-use Rattle.node_threads.proofs.accepting.open_next.Given as goal
+use Rattle.node_threads.proofs.opening.open_next.Given as goal
 
 -- those so far were refused, and had the next words
 abbrev pub invariant-loop : goal.invariant-loop
-invariant-loop g l = Opens None l.fn.reader l.reader × Draws (g.S.Rng.stream l.fn.source) (new_challenges l.fn.reader l.reader) (g.S.Rng.stream l.source)
+invariant-loop g l = Opens None l.fn.reader l.reader × Draws (g.S.Rng.stream l.fn.source)
+    (new_challenges l.fn.reader l.reader) (g.S.Rng.stream l.source)
