@@ -3,19 +3,19 @@
 
 mod options;
 mod pair;
+mod sockets;
 mod world;
 
 use clap::ArgMatches;
-use clap::error::{Error as LineError, ErrorKind as LineFault};
+use command_line::{OUT_OF_MEMORY, failed, matched, told, words};
 use options::{command, opening};
 use pair::{PairEnd, pair};
 use pg_script::RunFault;
 use pg_text::{diagnose, without_feed};
 use policy_audit::Opening;
 use std::alloc::{AllocError, Global};
-use std::env::Env;
 use std::fmt::Display;
-use std::io::{self, BufReader, ErrorKind};
+use std::io::{self, BufReader};
 use std::net::{Net, TcpListener, TcpStream};
 use std::process::ExitCode;
 use std::sync::Wait;
@@ -24,76 +24,16 @@ use std::time::Clock;
 use world::{Stop, play_world};
 use world_script::why_unread;
 
-const OUT_OF_MEMORY: &str = "error: out of memory";
-
 /// Status 0 at the end of a script, 1 at a fault of the script, of a stream or of memory, 2 at one of the command line.
 fn main(rt: HostRuntime) -> ExitCode {
     let words = match words(&rt) {
         Ok(words) => words,
         Err(status) => return status,
     };
-    match matches(&rt, words.as_slice()) {
+    match matched(&rt, command(rt.alloc()), words.as_slice()) {
         Ok(matches) => follow(&rt, &matches),
         Err(status) => status,
     }
-}
-
-/// The words of the command line, or the status of a program that can't have them.
-fn words<R: AllocGlobal + Env + Eprint>(rt: &R) -> Result<Vec<String>, ExitCode> {
-    match std::env::args(rt) {
-        Ok(words) => words
-            .collect(rt.alloc())
-            .map_err(|_| failed(rt, 1, OUT_OF_MEMORY)),
-        Err(error) if error.kind() == ErrorKind::InvalidData => Err(failed(
-            rt,
-            2,
-            "error: the command line has a word that is not UTF-8",
-        )),
-        Err(_) => Err(failed(rt, 1, OUT_OF_MEMORY)),
-    }
-}
-
-/// What the words of the command line say, or the status of a program that has nothing else to do.
-fn matches<'a, R: AllocGlobal + Print + Eprint>(
-    rt: &R,
-    words: &'a [String],
-) -> Result<ArgMatches<'a>, ExitCode> {
-    let Ok(command) = command(rt.alloc()) else {
-        return Err(failed(rt, 1, OUT_OF_MEMORY));
-    };
-    command
-        .try_get_matches_from(words)
-        .map_err(|error| unmatched(rt, &error))
-}
-
-/// Ends a program whose command line has no matches: it is refused, or it asks for a text, as `--help` does.
-fn unmatched<R: AllocGlobal + Print + Eprint>(rt: &R, error: &LineError) -> ExitCode {
-    if error.kind() == LineFault::OutOfMemory {
-        return failed(rt, 1, OUT_OF_MEMORY);
-    }
-    if error.use_stderr() {
-        return match refusal(rt.alloc(), error) {
-            Ok(line) => failed(rt, 2, line.as_str()),
-            Err(_) => failed(rt, 1, OUT_OF_MEMORY),
-        };
-    }
-    match error.print(rt) {
-        Ok(()) => ExitCode::SUCCESS,
-        Err(_) => failed(rt, 1, "error: standard output can't be written"),
-    }
-}
-
-/// What the parser of the command line says, as one line: its first paragraph, which names the words at fault.
-fn refusal(alloc: Global, error: &LineError) -> Result<String, AllocError> {
-    let text = error.to_string(alloc)?;
-    let mut line = String::new(alloc);
-    for part in text.lines().take_while(|part| !part.is_empty()) {
-        if !line.is_empty() {
-            line.push(' ')?;
-        }
-        line.push_str(part.trim())?;
-    }
-    Ok(line)
 }
 
 /// Does what the command line asks for.
@@ -141,10 +81,7 @@ fn meet<
     match pair(rt, rt.alloc(), &mut io::writer(rt)) {
         PairEnd::Done => ExitCode::SUCCESS,
         PairEnd::Late => ExitCode::from(1),
-        PairEnd::Failed(error) => match format!(in rt.alloc(); "error: {error}") {
-            Ok(text) => failed(rt, 1, text.as_str()),
-            Err(_) => failed(rt, 1, OUT_OF_MEMORY),
-        },
+        PairEnd::Failed(error) => told(rt, 1, &error),
     }
 }
 
@@ -158,10 +95,7 @@ fn play<R: AllocGlobal + Input + Print + Eprint>(rt: &R, opening: Opening) -> Ex
     match pg_script::play(rt.alloc(), opening, &mut reader, &mut line, &mut writer) {
         Ok(()) => ExitCode::SUCCESS,
         Err(RunFault::Script(number)) => misread(rt, number, without_feed(line.as_slice())),
-        Err(fault) => match format!(in rt.alloc(); "error: {fault}") {
-            Ok(text) => failed(rt, 1, text.as_str()),
-            Err(_) => failed(rt, 1, OUT_OF_MEMORY),
-        },
+        Err(fault) => told(rt, 1, &fault),
     }
 }
 
@@ -225,11 +159,4 @@ fn about<D: Display>(
         "" => format!(in alloc; "line {number}: {reason}"),
         _ => format!(in alloc; "line {number}: {reason}: {part:.80}"),
     }
-}
-
-/// One line on standard error, and this status.
-fn failed(rt: &impl Eprint, status: u8, line: &str) -> ExitCode {
-    // There is nobody left to be told where standard error is closed.
-    rt.eprintln(line).ok();
-    ExitCode::from(status)
 }

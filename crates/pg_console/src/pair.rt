@@ -1,14 +1,15 @@
 //! Two nodes in one process, linked over the loopback: each has a process in one group, and lists that of the other.
+use crate::sockets::{connected, second_of};
 use anyhow::{Result, bail};
 use cookie_digest::ChallengeSource;
 use dist_types::{Cookie, Group, Items, NodeName, OutOfMemory, Pid, Scope, TextFault, TryClone};
-use node_threads::{Gate, Node, Pass, Served, serve_link};
+use node_threads::{Connection, Node, OpenGate, Pair, Pass, ServedLink, serve_link};
 use pg_text::Printed;
 use policy_audit::{Event, Members, Opening, Reply};
 use rand_chacha::ChaCha20Rng;
 use rand_core::SeedableRng;
 use std::alloc::Global;
-use std::io::{self, Write};
+use std::io::Write;
 use std::net::{Net, Shutdown, TcpListener, TcpStream};
 use std::sync::Wait;
 use std::thread;
@@ -44,15 +45,6 @@ where
     }
 }
 
-/// Holds nobody.
-struct Open;
-
-impl Gate for Open {
-    fn reading(&self, _link: u32) {}
-
-    fn answered(&self, _link: u32) {}
-}
-
 /// A node with a process in the group, and its caller.
 #[derive(Drop)]
 struct Member {
@@ -62,14 +54,11 @@ struct Member {
     writer: Pass,
 }
 
-/// An end of the link: its number, the passes of its workers, and the socket of each.
+/// An end of the link: the passes of its workers, and the sockets.
 #[derive(Drop)]
 struct End {
-    link: u32,
-    reader: Pass,
-    writer: Pass,
-    input: TcpStream,
-    output: TcpStream,
+    pair: Pair,
+    connection: Connection<TcpStream, TcpStream>,
 }
 
 /// A node, its caller, and its end of the link.
@@ -92,7 +81,7 @@ impl Linked {
 struct Parted {
     node: Node,
     caller: Pass,
-    served: Served,
+    served: ServedLink,
 }
 
 /// Whether each node has listed both processes.
@@ -178,26 +167,6 @@ fn openings(alloc: Global) -> Result<(Event, Event), TextFault> {
     Ok((dial, Event::Opened(source.draw())))
 }
 
-/// Both ends of a connection over the loopback, and what cuts it.
-fn connected<R>(rt: &R) -> Result<(TcpStream, TcpStream, TcpStream)>
-where
-    R: Net<Listener = TcpListener, Stream = TcpStream>,
-{
-    let (out, back) = both_ends(rt)?;
-    let hook = out.try_clone()?;
-    Ok((out, back, hook))
-}
-
-fn both_ends<R>(rt: &R) -> io::Result<(TcpStream, TcpStream)>
-where
-    R: Net<Listener = TcpListener, Stream = TcpStream>,
-{
-    let listener = TcpListener::bind(rt, "127.0.0.1:0")?;
-    let out = TcpStream::connect(rt, listener.local_addr()?)?;
-    let (back, _) = listener.accept()?;
-    Ok((out, back))
-}
-
 /// A node of that name with a process in the group.
 fn start<R: Wait + Sync>(rt: &R, alloc: Global, name: &[u8]) -> Result<Member> {
     let (node, passes) = Node::new(alloc, opening(alloc, name)?, 3)?;
@@ -267,19 +236,14 @@ fn link<R: Wait + Sync>(rt: &R, member: Member, event: Event, input: TcpStream) 
     } = member;
     let link = open_link(rt, &node, &mut reader, event)?;
     let end = End {
-        link,
-        reader,
-        writer,
-        input,
-        output,
+        pair: Pair { reader, writer },
+        connection: Connection {
+            link,
+            input,
+            output,
+        },
     };
     Ok(Linked { node, caller, end })
-}
-
-/// A second handle of this socket, which sends without delay.
-fn second_of(socket: &TcpStream) -> io::Result<TcpStream> {
-    socket.set_nodelay(true)?;
-    socket.try_clone()
 }
 
 /// The number of the link that the event opens.
@@ -290,15 +254,9 @@ fn open_link<R: Wait + Sync>(rt: &R, node: &Node, reader: &mut Pass, event: Even
     }
 }
 
-fn serve<R: Threads + Wait + Sync>(rt: &R, alloc: Global, node: &Node, end: End) -> Served {
-    let End {
-        link,
-        reader,
-        writer,
-        input,
-        output,
-    } = end;
-    serve_link(rt, alloc, node, link, reader, writer, input, output, &Open)
+fn serve<R: Threads + Wait + Sync>(rt: &R, alloc: Global, node: &Node, end: End) -> ServedLink {
+    let End { pair, connection } = end;
+    serve_link(rt, alloc, node, pair, connection, &OpenGate)
 }
 
 /// Serves both ends until the link has ended.
@@ -307,7 +265,7 @@ fn serve_both<R: Threads + Wait + Sync>(
     alloc: Global,
     near: (&Node, End),
     far: (&Node, End),
-) -> (Served, Served) {
+) -> (ServedLink, ServedLink) {
     thread::join(
         rt,
         move || serve(rt, alloc, near.0, near.1),
@@ -420,7 +378,7 @@ fn close<W: Write>(alloc: Global, writer: &mut W, name: &[u8], parted: Parted) -
         caller,
         served,
     } = parted;
-    let passes = vec![in alloc; caller, served.reader, served.writer]?;
+    let passes = vec![in alloc; caller, served.pair.reader, served.pair.writer]?;
     if let Err(fault) = node.close(passes) {
         bail!("the node is not closed: {}", fault.rule);
     }

@@ -1,355 +1,142 @@
 //! The whole run of the program.
-use crate::control;
-use crate::hub::Hub;
-use crate::life::{Links, live};
-use crate::lines::LineQueue;
-use crate::operator::Operator;
-use crate::options::Options;
-use crate::settings::given;
-use crate::turn::{LaneMaker, begin, finish, turn};
-use anyhow::{Result, anyhow, bail};
-use node_net::Lane;
+use crate::places::{Places, open_places};
+use crate::threads::Queues;
+use anyhow::{Result, bail};
+use node_net::{Arrivals, Lane, start_taking};
+use pg_control::{Operator, start_control, start_operator};
+use pg_hub::{Host, Hub};
+use pg_lives::{Closer, LifeMaker, LinkSettings, Site, finish, given, live_on};
+use pg_options::Options;
 use pg_session::Seen;
-use policy_audit::{Event, Opening};
+use pg_streams::Streams;
 use rand_chacha::ChaCha20Rng;
 use std::alloc::Global;
-use std::fs::{self, Files};
-use std::net::{Net, SocketAddr, TcpListener, TcpStream};
-use std::os::unix::net::UnixListener;
-use std::sync::Wait;
+use std::fs::{File, Files};
+use std::rt::HostRuntime;
+use std::sync::{Arc, Wait};
 use std::thread;
 use std::thread::{Scope, Threads};
 use std::time::Clock;
 
-/// What each life of the node is made with.
-#[derive(Drop)]
-struct Plan<'a> {
-    opening: Opening,
-    links: Links,
-    /// Where peers are to connect.
-    listen: Option<SocketAddr>,
-    /// Where peers connect, with the port that was got.
-    addr: Option<SocketAddr>,
-    /// The path of the control socket.
-    control: Option<&'a str>,
-    /// The path of the file for audits that have ended.
-    audit: Option<&'a str>,
-    maker: LaneMaker,
-}
-
-impl<'a> Plan<'a> {
-    /// What the options say of each life, and what the first one is told.
-    fn of(
-        alloc: Global,
-        options: Options<'a>,
-        words: ChaCha20Rng,
-    ) -> Result<(Plan<'a>, Vec<Event>)> {
-        let Options {
-            opening,
-            listen,
-            targets,
-            limits,
-            allowed,
-            cookies,
-            control,
-            audit,
-        } = options;
-        let plan = Plan {
-            opening,
-            links: Links { targets, limits },
-            listen,
-            addr: None,
-            control,
-            audit,
-            maker: LaneMaker::new(words),
-        };
-        Ok((plan, given(alloc, allowed, cookies)?))
-    }
+/// What the program serves, and by what.
+#[derive(Clone, Copy, Drop)]
+struct Program<'a> {
+    site: Site<'a>,
+    places: &'a Places<'a>,
+    closer: &'a Closer<'a>,
+    streams: Streams<'a>,
 }
 
 /// Runs a node until the end of standard input, or until `quit`.
-pub fn run<R>(
+pub fn run<R: Host + Files<File = File>>(
     rt: &R,
+    files: &HostRuntime,
     alloc: Global,
     options: Options<'_>,
     words: ChaCha20Rng,
-    lines: &LineQueue,
-) -> Result<()>
-where
-    R: Net<Listener = TcpListener, Stream = TcpStream>
-        + Threads
-        + Wait
-        + Clock
-        + Files
-        + Print
-        + Eprint
-        + Sync,
-{
-    let (mut plan, settings) = Plan::of(alloc, options, words)?;
-    run_plan(rt, alloc, &mut plan, settings, lines)
-}
-
-fn run_plan<R>(
-    rt: &R,
-    alloc: Global,
-    plan: &mut Plan<'_>,
-    settings: Vec<Event>,
-    lines: &LineQueue,
-) -> Result<()>
-where
-    R: Net<Listener = TcpListener, Stream = TcpStream>
-        + Threads
-        + Wait
-        + Clock
-        + Files
-        + Print
-        + Eprint
-        + Sync,
-{
-    let (hub, lanes) = begin(rt, alloc, &plan.opening, settings, &mut plan.maker)?;
-    let ended = open_and_serve(rt, alloc, &hub, plan, lanes, lines)?;
-    finish(rt, alloc, hub, ended, plan.audit)
-}
-
-/// Serves all connections and links at the addresses of the plan. The lanes come back.
-fn open_and_serve<R>(
-    rt: &R,
-    alloc: Global,
-    hub: &Hub,
-    plan: &mut Plan<'_>,
-    lanes: Vec<Lane>,
-    lines: &LineQueue,
-) -> Result<Vec<Lane>>
-where
-    R: Net<Listener = TcpListener, Stream = TcpStream>
-        + Threads
-        + Wait
-        + Clock
-        + Files
-        + Print
-        + Eprint
-        + Sync,
-{
-    let (listener, door) = open(rt, alloc, plan)?;
-    let ended = serve(rt, alloc, hub, plan, listener, lanes, door.as_ref(), lines);
-    if let Some(path) = plan.control {
-        // The path is gone where somebody else has taken it away.
-        fs::remove_file(rt, path).ok();
-    }
-    ended
-}
-
-/// Opens the addresses where peers and clients connect, if there are any.
-fn open<R>(
-    rt: &R,
-    alloc: Global,
-    plan: &mut Plan<'_>,
-) -> Result<(Option<TcpListener>, Option<UnixListener>)>
-where
-    R: Net<Listener = TcpListener, Stream = TcpStream> + Files + Print + Eprint,
-{
-    let listener = listen_at(rt, plan)?;
-    let door = open_door(rt, alloc, plan.control, plan.opening.creation)?;
-    Ok((listener, door))
-}
-
-/// Opens the address where peers connect, if there is one.
-fn listen_at<R>(rt: &R, plan: &mut Plan<'_>) -> Result<Option<TcpListener>>
-where
-    R: Net<Listener = TcpListener, Stream = TcpStream> + Print + Eprint,
-{
-    let Some(addr) = plan.listen else {
-        return Ok(None);
+    queues: &Queues,
+) -> Result<()> {
+    let Options {
+        opening,
+        listen,
+        targets,
+        limits,
+        allowed,
+        cookies,
+        control,
+        clients,
+        audit,
+    } = options;
+    let closer = Closer::new(rt, files, alloc, audit)?;
+    let settings = given(alloc, allowed, cookies)?;
+    let warnings = Arc::try_clone(&queues.warnings)?;
+    let mut maker = LifeMaker::new(opening, words);
+    let seats = clients.saturating_add(1);
+    let (hub, lanes) = maker.begin(rt, alloc, seats, settings, warnings)?;
+    let places = open_places(rt, alloc, listen, control, queues)?;
+    let links = LinkSettings { targets, limits };
+    let site = Site {
+        hub: &hub,
+        links: &links,
+        arrivals: places.arrivals.as_ref(),
     };
-    let listener = bind(rt, addr)?;
-    plan.addr = Some(announce(rt, &listener)?);
-    Ok(Some(listener))
-}
-
-fn bind<R: Net<Listener = TcpListener, Stream = TcpStream>>(
-    rt: &R,
-    addr: SocketAddr,
-) -> Result<TcpListener> {
-    TcpListener::bind(rt, addr).map_err(|error| anyhow!("--listen {addr}: {error}"))
-}
-
-/// Prints where peers connect.
-fn announce<R: Print + Eprint>(rt: &R, listener: &TcpListener) -> Result<SocketAddr> {
-    let addr = listener.local_addr()?;
-    println!(rt; "listening {addr}")?;
-    if addr.ip().is_unspecified() {
-        rt.eprintln(
-            "warning: all networks can reach the node, and names and rows cross them in plain",
-        ).ok();
-    }
-    Ok(addr)
-}
-
-/// Opens the control socket of this path, if there is one, and prints it.
-fn open_door<R: Files + Net + Print>(
-    rt: &R,
-    alloc: Global,
-    path: Option<&str>,
-    number: u32,
-) -> Result<Option<UnixListener>> {
-    let Some(path) = path else {
-        return Ok(None);
+    let program = Program {
+        site,
+        places: &places,
+        closer: &closer,
+        streams: queues.streams(),
     };
-    let door = control::bind(rt, alloc, path, number)?;
-    rt.println(format!(in alloc; "control {path}")?.as_str())?;
-    Ok(Some(door))
+    let ended = serve(rt, program, &mut maker, lanes);
+    places.remove(rt, alloc);
+    finish(rt, hub, &closer, ended?)
 }
 
 /// Serves all connections and links until the end. The lanes come back.
-fn serve<R>(
+fn serve<R: Host>(
     rt: &R,
-    alloc: Global,
-    hub: &Hub,
-    plan: &mut Plan<'_>,
-    listener: Option<TcpListener>,
+    program: Program<'_>,
+    maker: &mut LifeMaker,
     lanes: Vec<Lane>,
-    door: Option<&UnixListener>,
-    lines: &LineQueue,
-) -> Result<Vec<Lane>>
-where
-    R: Net<Listener = TcpListener, Stream = TcpStream>
-        + Threads
-        + Wait
-        + Clock
-        + Files
-        + Print
-        + Eprint
-        + Sync,
-{
-    let Some((seat, seen)) = hub.enter(rt) else {
+) -> Result<Vec<Lane>> {
+    let Program {
+        site,
+        places,
+        closer,
+        streams,
+    } = program;
+    let Some((seat, seen)) = site.hub.enter(rt) else {
         bail!("out of memory");
     };
-    let operator = Operator::new(seat, door.is_none());
-    let ended = thread::scope(thread::scope_env(), rt, |scope| {
-        let are_made = start_all(scope, rt, alloc, hub, &operator, seen, lines, door);
-        let ended = live_on(rt, alloc, hub, plan, listener, lanes, are_made);
-        hub.quit(rt);
-        lines.end(rt);
-        if let Some(door) = door {
-            // A listener that can't be shut has failed already.
-            control::shut(door).ok();
-        }
+    let operator = Operator::new(site.hub, seat, streams, places.door.is_none());
+    thread::scope(thread::scope_env(), rt, |scope| {
+        let are_made = start_all(scope, rt, program, &operator, seen);
+        let ended = live_on(rt, site, maker, closer, lanes, are_made);
+        site.hub.quit(rt);
+        streams.end(rt);
+        closer.end(rt);
+        places.shut(rt);
         ended
-    });
-    if operator.has_failed() {
-        bail!("standard output can't be written");
-    }
-    ended
+    })
 }
 
-/// One life after another, until the program is to end; none where the threads for commands couldn't be made.
-fn live_on<R>(
-    rt: &R,
-    alloc: Global,
-    hub: &Hub,
-    plan: &mut Plan<'_>,
-    listener: Option<TcpListener>,
-    lanes: Vec<Lane>,
-    are_made: bool,
-) -> Result<Vec<Lane>>
-where
-    R: Net<Listener = TcpListener, Stream = TcpStream>
-        + Threads
-        + Wait
-        + Clock
-        + Files
-        + Eprint
-        + Sync,
-{
-    if !are_made {
-        bail!("no thread can be made");
-    }
-    let mut listener = listener;
-    let mut lanes = lanes;
-    for _ in rt.forever() {
-        let ended = live(rt, alloc, hub, &plan.links, listener, lanes);
-        if hub.is_quitting() {
-            return Ok(ended);
-        }
-        (listener, lanes) = live_again(rt, alloc, hub, plan, ended)?;
-    }
-    unreachable!()
-}
-
-/// What the next life is begun with.
-fn live_again<R>(
-    rt: &R,
-    alloc: Global,
-    hub: &Hub,
-    plan: &mut Plan<'_>,
-    ended: Vec<Lane>,
-) -> Result<(Option<TcpListener>, Vec<Lane>)>
-where
-    R: Net<Listener = TcpListener, Stream = TcpStream> + Wait + Files,
-{
-    let (maker, opening) = (&mut plan.maker, &mut plan.opening);
-    let lanes = turn(rt, alloc, hub, ended, maker, plan.audit, opening)?;
-    let listener = match plan.addr {
-        Some(addr) => Some(bind(rt, addr)?),
-        None => None,
-    };
-    Ok((listener, lanes))
-}
-
-/// Starts the threads for commands: whether all could be made.
-fn start_all<'s, E: 's, R: Threads + Wait + Clock + Print + Sync + 's>(
+/// Starts the threads that last as long as the program: whether all could be made.
+fn start_all<'s, E: 's, R: Host + 's>(
     scope: &'s Scope<'s, E>,
     rt: &'s R,
-    alloc: Global,
-    hub: &'s Hub,
-    operator: &'s Operator,
+    program: Program<'s>,
+    operator: &'s Operator<'_>,
     seen: Seen,
-    lines: &'s LineQueue,
-    door: Option<&'s UnixListener>,
 ) -> bool {
-    start_answering(scope, rt, alloc, hub, operator, lines)
-        && start_telling(scope, rt, alloc, hub, operator, seen, lines)
-        && start_control(scope, rt, alloc, hub, door)
+    let Program {
+        site,
+        places,
+        closer,
+        ..
+    } = program;
+    let are_served = start_operator(scope, rt, operator, seen);
+    let are_let_in = start_control(scope, rt, site.hub, places.door.as_ref());
+    let are_closed = start_closing(scope, rt, site.hub, closer);
+    let are_taken = start_arrivals(scope, rt, site.arrivals);
+    are_served && are_let_in && are_closed && are_taken
 }
 
-fn start_answering<'s, E: 's, R: Threads + Wait + Print + Sync + 's>(
+fn start_closing<'s, E: 's, R: Threads + Wait + Sync + 's>(
     scope: &'s Scope<'s, E>,
     rt: &'s R,
-    alloc: Global,
     hub: &'s Hub,
-    operator: &'s Operator,
-    lines: &'s LineQueue,
+    closer: &'s Closer<'_>,
 ) -> bool {
-    scope
-        .spawn(move || operator.answer(rt, alloc, hub, lines))
-        .is_ok()
+    scope.spawn(move || closer.close_all(rt, hub)).is_ok()
 }
 
-fn start_telling<'s, E: 's, R: Threads + Wait + Print + Sync + 's>(
+/// Starts the thread that takes connections of peers, where there is an address for them: whether it could be made.
+fn start_arrivals<'s, E: 's, R: Threads + Wait + Clock + Sync + 's>(
     scope: &'s Scope<'s, E>,
     rt: &'s R,
-    alloc: Global,
-    hub: &'s Hub,
-    operator: &'s Operator,
-    seen: Seen,
-    lines: &'s LineQueue,
+    arrivals: Option<&'s Arrivals>,
 ) -> bool {
-    scope
-        .spawn(move || operator.tell(rt, alloc, hub, seen, lines))
-        .is_ok()
-}
-
-fn start_control<'s, E: 's, R: Threads + Wait + Clock + Sync + 's>(
-    scope: &'s Scope<'s, E>,
-    rt: &'s R,
-    alloc: Global,
-    hub: &'s Hub,
-    door: Option<&'s UnixListener>,
-) -> bool {
-    match door {
-        Some(door) => scope
-            .spawn(move || control::serve_control(rt, alloc, hub, door))
-            .is_ok(),
+    match arrivals {
+        Some(arrivals) => start_taking(scope, rt, arrivals),
         None => true,
     }
 }

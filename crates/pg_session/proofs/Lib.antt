@@ -1,3 +1,4 @@
 pub mod Asking
 pub mod Callers
 pub mod Telling
+pub mod Places

@@ -11,6 +11,7 @@ use Rattle.node_threads.specs.Calls.{Record, Gains}
 use Rattle.node_threads.specs.Applied.{Called}
 use Rattle.pg_text.specs.Answers.{step_line}
 use Rattle.pg_session.specs.Asked.{is_made}
+use Rattle.pg_session.specs.Notices.{Known}
 use Rattle.pg_session.specs.Processes.{has, spawned, exited_by, moves_only, OwnAfter}
 
 -- whether a connection that has spawned these may call this
@@ -31,21 +32,26 @@ GoesOn pass pass' = (more : List Call) × Gains pass more pass'
 
 -- ---- the seat of a connection
 
--- its calls, the processes that it has, and whether a connection sits there
+-- its calls, the processes that it has, whether a connection sits there, and who is up as far as that knows
 pub record Seat : Type 0 where
   pub pass : Record
   pub own : List Pid
   pub taken : Bool
+  pub known : Known
 
 -- it has spawned those that it has
 abbrev pub IsSeat : Seat → Type 0
 IsSeat seat = (p : Pid) → has seat.own p ≡ true → has (spawned seat.pass.calls) p ≡ true
 
+-- the line for a pass that the node doesn't know
+abbrev pub stranger_line : List ℕ
+stranger_line = codes "fault the pass isn't of this node\n"
+
 -- the line for what a call is answered
 abbrev pub call_line : Result Reply CallFault → List ℕ
 call_line (Ok reply) = step_line (Ok reply)
 call_line (Err (Core fault)) = step_line (Err fault)
-call_line (Err StrangePass) = codes "fault the pass isn't of this node\n"
+call_line (Err StrangePass) = stranger_line
 
 -- one call of the event, whose answer was added to these bytes
 abbrev pub AnswersCall : Seat → Event → List ℕ → Seat → List ℕ → Type 0

@@ -3,4 +3,5 @@ pub mod Processes
 pub mod Calls
 pub mod Outcomes
 pub mod Answers
+pub mod Kinds
 pub mod Notices

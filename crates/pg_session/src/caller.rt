@@ -1,18 +1,18 @@
 //! The right of a connection to call the node.
-ghost use Rattle.std.specs.Prelude.{◌≡◌, ◌⊎◌, ◌++◌, true, map, IfErr, IfOk, OnOk, Result, Ok, Err};
+ghost use Rattle.std.specs.Prelude.{◌≡◌, ◌⊎◌, ◌↔◌, ◌++◌, true, length, map, IsTrue, IfErr, IfOk, OnOk, Result, Ok, Err};
 ghost use Rattle.std.specs.List.{flat_map};
 ghost use Rattle.policy_audit.specs.declared.event.Event.TheVariants.{Updates};
 ghost use Rattle.policy_audit.specs.declared.reply.Reply.{Reply};
 ghost use Rattle.node_threads.specs.declared.fault.CallFault.{CallFault};
-ghost use Rattle.node_threads.specs.Applied.{Called, answer_now};
+ghost use Rattle.node_threads.specs.Applied.{Called, Fits, answer_now};
 ghost use Rattle.pg_session.specs.Processes.{spawned};
-ghost use Rattle.pg_session.specs.Calls.{IsCalled, AreConnections, call_line, may_call};
-ghost use Rattle.pg_session.specs.Outcomes.{IsOutcome, CameFrom};
-ghost use Rattle.pg_session.specs.Notices.{change, notice_line, fetched, Tells};
+ghost use Rattle.pg_session.specs.Calls.{IsCalled, AreConnections, call_line, stranger_line, may_call};
+ghost use Rattle.pg_session.specs.Outcomes.{IsOutcome, CameFrom, lack_by};
+ghost use Rattle.pg_session.specs.Notices.{change, notice_line, fetched, Known, Tells};
 
 use dist_types::{OutOfMemory, Pid, TryClone};
 use node_core::CoreFault;
-use node_threads::{CallFault, Node, Pass};
+use node_threads::{CallFault, Node, Pass, Shared};
 use pg_text::{put_accepted, put_told, put_unanswered, put_word};
 use policy_audit::{Event, Reply, Rule, Update};
 use std::alloc::Global;
@@ -31,14 +31,33 @@ impl Drop for Caller {
     }
 }
 
+/// What was wanting for a call that made no entry.
+#[derive(Clone, Copy, Debug, PartialEq, Eq)]
+pub enum Lack {
+    /// The audit has no room.
+    Room,
+    Memory,
+}
+
 /// What a call has come to.
 #[derive(Drop)]
 pub enum Outcome {
-    Refused,
+    /// It was not accepted, for want of that, if of any.
+    Refused(Option<Lack>),
     Done,
     Process(Pid),
     /// A monitor, by the number of its entry.
     Monitor(u32),
+}
+
+impl Outcome {
+    /// What was wanting for the call.
+    pub fn lack(&self) -> Option<Lack> {
+        match self {
+            Outcome::Refused(lack) => *lack,
+            _ => None,
+        }
+    }
 }
 
 /// What has become of a monitor whose updates were asked for.
@@ -75,12 +94,26 @@ impl Caller {
         }
     }
 
+    /// How many of its calls are entries.
+    pub fn calls(&self) -> usize
+        ensures { result ≡ length self.now.calls }
+    {
+        self.pass.calls().len()
+    }
+
     pub fn into_pass(self) -> Pass
         ensures same { result ≡ self }
         ensures connections { AreConnections result.calls }
     {
         let Caller { pass } = self;
         pass
+    }
+
+    /// Whether the node would take a call.
+    pub fn is_known_to(&self, shared: &Shared) -> bool
+        ensures { IsTrue result ↔ Fits shared.now self.now }
+    {
+        shared.knows(&self.pass)
     }
 
     /// Makes a call, and adds the line of its answer. The outcome is told also where there is no memory for the line.
@@ -112,7 +145,7 @@ impl Caller {
         out: &mut Vec<u8>,
     ) -> Result<Fetched, OutOfMemory>
         ensures called { IsCalled self.old (Updates number) self.new }
-        ensures told { OnOk result (Tells self.old out.old.items self.new out.new.items) }
+        ensures told { OnOk result ((known : Known) → Tells self.old known out.old.items self.new known out.new.items) }
     {
         let answer = self.pass.call(node, rt, Event::Updates(number));
         put_fetched(alloc, number, answer, out)
@@ -151,7 +184,7 @@ fn put_answer(
             put_accepted(alloc, reply, out)
         }
         Err(fault) => {
-            *outcome = Outcome::Refused;
+            *outcome = Outcome::Refused(lack_by(fault));
             put_call_fault(fault, out)
         }
     }
@@ -167,14 +200,38 @@ fn outcome_of(alloc: Global, reply: &Reply) -> Result<Outcome, OutOfMemory>
     })
 }
 
+/// What was wanting for a call that was answered by this fault.
+fn lack_by(fault: CallFault) -> Option<Lack>
+    ensures { result ≡ lack_by fault }
+{
+    match fault {
+        CallFault::StrangePass => None,
+        CallFault::Core(CoreFault::OutOfMemory) => Some(Lack::Memory),
+        CallFault::Core(CoreFault::Refused(rule)) => {
+            if rule == Rule::EntriesFull {
+                Some(Lack::Room)
+            } else {
+                None
+            }
+        }
+    }
+}
+
 /// Adds the line for a call that was not accepted.
 fn put_call_fault(fault: CallFault, out: &mut Vec<u8>) -> Result<(), OutOfMemory>
     ensures { OnOk result (out.new.items ≡ out.old.items ++ call_line (Err fault)) }
 {
     match fault {
         CallFault::Core(fault) => put_unanswered(fault, out),
-        CallFault::StrangePass => put_word("fault the pass isn't of this node\n", out),
+        CallFault::StrangePass => put_stranger(out),
     }
+}
+
+/// Adds the line for a pass that the node doesn't know.
+pub fn put_stranger(out: &mut Vec<u8>) -> Result<(), OutOfMemory>
+    ensures { OnOk result (out.new.items ≡ out.old.items ++ stranger_line) }
+{
+    put_word("fault the pass isn't of this node\n", out)
 }
 
 /// Adds a line for each update that a monitor was told, if it was.

@@ -2,13 +2,21 @@
 #![tactic(auto)]
 
 mod caller;
+mod kind;
+mod leaving;
 mod news;
+mod notice;
 mod processes;
 mod reading;
 mod request;
+mod roster;
 mod session;
+mod stake;
+mod stops;
 mod watch;
 
-pub use caller::Caller;
-pub use news::Seen;
+pub use caller::{Caller, Lack};
+pub use news::{LostLinks, Seen};
+pub use notice::DownReason;
+pub use roster::Roster;
 pub use session::{Next, Session};

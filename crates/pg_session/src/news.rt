@@ -1,12 +1,22 @@
 //! What a connection is told unasked: the peers that come and go, and that the node has begun anew.
-ghost use Rattle.std.specs.Prelude.{◌≡◌, ◌++◌, OnOk};
-ghost use Rattle.pg_session.specs.Notices.{TellsOthers, notice_line, up, down};
+ghost use Rattle.std.specs.Prelude.{◌≡◌, ◌<◌, [], None, Some, false, length, position, OnOk, OnErr};
+ghost use Rattle.std.specs.List.{list_any};
+ghost use Rattle.policy_audit.specs.History.{creation};
+ghost use Rattle.pg_session.specs.Notices.{Known, TellsNews, is_named};
 
+use crate::notice::{DownReason, Peer, put_all_down, put_down, put_life, put_up};
 use dist_types::{NodeName, OutOfMemory, TryClone};
 use node_core::NodeCore;
-use pg_text::{put_bytes, put_number, put_numbered_line, put_word};
-use policy_audit::{Entry, Later, Reply, Verdict};
+use node_threads::Shared;
+use policy_audit::{Entry, Event, Later, Reply, Verdict};
 use std::alloc::Global;
+use std::marker::Model;
+
+/// Who knows why links were lost.
+pub trait LostLinks {
+    /// Why the link of this number, which was up, was lost. The node is locked meanwhile.
+    fn reason(&self, core: &NodeCore, link: u32) -> DownReason;
+}
 
 /// How far a connection has been told: which life of the node, and how many of its entries.
 #[derive(Clone, Copy, Debug, PartialEq, Eq)]
@@ -23,6 +33,16 @@ impl Seen {
             entries: core.audit().len(),
         }
     }
+
+    /// That of the life.
+    pub fn creation(&self) -> u32 {
+        self.creation
+    }
+
+    /// Whether there is news since, which a connection may have to be told.
+    pub fn is_behind(&self, shared: &Shared) -> bool {
+        shared.core().creation() != self.creation || shared.last_news() as usize > self.entries
+    }
 }
 
 /// What a connection has been told.
@@ -30,13 +50,23 @@ impl Seen {
 pub struct News {
     seen: Seen,
     /// Those that are up as far as it knows.
-    peers: Vec<NodeName>,
+    peers: Vec<Peer>,
     /// The creation of a new life, until it is told.
     restarted: Option<u32>,
 }
 
+impl Model for News {
+    ghost use Rattle.pg_session.specs.Notices.{Known};
+
+    ghost Value = { Known };
+
+    ghost view = { λ news. record { peers = news.peers.items; anew = news.restarted } };
+}
+
 impl News {
-    pub fn new(alloc: Global) -> News {
+    pub fn new(alloc: Global) -> News
+        ensures { result ≡ record { peers = []; anew = None } }
+    {
         News {
             seen: Seen {
                 creation: 0,
@@ -51,17 +81,25 @@ impl News {
         self.seen
     }
 
-    /// From now on.
-    pub fn start(&mut self, core: &NodeCore) -> Result<(), OutOfMemory> {
-        self.peers = core.peers()?.into_vec();
+    /// Takes the place of this one, as if it had been told the same.
+    pub fn start(&mut self, alloc: Global, as_told: &News) -> Result<(), OutOfMemory>
+        ensures ok { OnOk result (self.new.anew ≡ None) }
+        ensures same { OnErr result (self.new ≡ self.old) }
+    {
+        let mut peers = Vec::with_capacity(alloc, as_told.peers.len())?;
+        for peer in &as_told.peers {
+            peers.push(peer.try_clone(alloc)?)?;
+        }
+        self.peers = peers;
         self.restarted = None;
-        self.seen = Seen::of(core);
+        self.seen = as_told.seen;
         Ok(())
     }
 
-    /// The node has begun anew: its peers are gone.
-    pub fn begin_anew(&mut self, core: &NodeCore) {
-        self.peers.clear();
+    /// The node has begun anew, which is to be told.
+    pub fn begin_anew(&mut self, core: &NodeCore)
+        ensures { self.new ≡ record { peers = self.old.peers; anew = Some (creation core.now) } }
+    {
         self.restarted = Some(core.creation());
         self.seen = Seen {
             creation: core.creation(),
@@ -69,14 +107,17 @@ impl News {
         };
     }
 
-    /// Adds that the node has begun anew, if that isn't told yet.
+    /// Adds that the node has begun anew, if that isn't told yet, behind the end of each peer.
     pub fn put_restart(&mut self, out: &mut Vec<u8>) -> Result<(), OutOfMemory>
-        ensures { OnOk result (TellsOthers out.old.items out.new.items) }
+        ensures told { OnOk result (TellsNews self.old out.old.items self.new out.new.items) }
+        ensures done { OnOk result (self.new.anew ≡ None) }
+        ensures same { OnErr result (self.new ≡ self.old) }
     {
         let Some(creation) = self.restarted else {
             return Ok(());
         };
-        put_numbered_line("! restarted ", u64::from(creation), out)?;
+        put_life(self.peers.as_slice(), creation, out)?;
+        self.peers.clear();
         self.restarted = None;
         Ok(())
     }
@@ -87,115 +128,154 @@ impl News {
     }
 
     /// Adds which peers came and went in the unseen entries, which are seen then.
-    pub fn put_peers(
+    pub fn put_peers<E: LostLinks>(
         &mut self,
         alloc: Global,
         core: &NodeCore,
+        lost: &E,
         out: &mut Vec<u8>,
     ) -> Result<(), OutOfMemory>
-        ensures { OnOk result (TellsOthers out.old.items out.new.items) }
+        ensures { OnOk result (TellsNews self.old out.old.items self.new out.new.items) }
     {
-        let entries = self.unseen(core);
-        put_coming(&mut self.peers, alloc, entries, out)?;
-        put_gone(self.peers.as_slice(), core, out)?;
-        self.peers.retain(|peer| core.is_peer_up(peer));
+        self.put_entries(alloc, core, lost, out)?;
         self.seen = Seen::of(core);
         Ok(())
     }
-}
 
-/// Adds which peers came up in these entries.
-fn put_coming(
-    peers: &mut Vec<NodeName>,
-    alloc: Global,
-    entries: Later<'_>,
-    out: &mut Vec<u8>,
-) -> Result<(), OutOfMemory>
-    ensures { OnOk result (TellsOthers out.old.items out.new.items) }
-{
-    for entry in entries {
-        put_if_up(peers, alloc, entry, out)?;
+    fn put_entries<E: LostLinks>(
+        &mut self,
+        alloc: Global,
+        core: &NodeCore,
+        lost: &E,
+        out: &mut Vec<u8>,
+    ) -> Result<(), OutOfMemory>
+        ensures { OnOk result (TellsNews self.old out.old.items self.new out.new.items) }
+    {
+        for entry in self.unseen(core) {
+            self.put_entry(alloc, core, entry, lost, out)?;
+        }
+        Ok(())
     }
-    Ok(())
-}
 
-/// Adds that a peer has come up, if the entry says so.
-fn put_if_up(
-    peers: &mut Vec<NodeName>,
-    alloc: Global,
-    entry: &Entry,
-    out: &mut Vec<u8>,
-) -> Result<(), OutOfMemory>
-    ensures { OnOk result (TellsOthers out.old.items out.new.items) }
-{
-    let Verdict::Accepted(
-        Reply::Up {
+    /// Adds which peer came or went with an entry. The link of a peer that is up ends with no others than these.
+    fn put_entry<E: LostLinks>(
+        &mut self,
+        alloc: Global,
+        core: &NodeCore,
+        entry: &Entry,
+        lost: &E,
+        out: &mut Vec<u8>,
+    ) -> Result<(), OutOfMemory>
+        ensures { OnOk result (TellsNews self.old out.old.items self.new out.new.items) }
+    {
+        let Verdict::Accepted(reply) = &entry.verdict else {
+            return Ok(());
+        };
+        match &entry.event {
+            Event::Frame(link, _) => self.put_coming(alloc, *link, reply, out),
+            Event::Lost(link) => self.put_lost(*link, lost.reason(core, *link), out),
+            Event::Disconnect(name) => self.put_named(name, DownReason::Disconnected, out),
+            Event::Restart => self.put_all(DownReason::Restarted, out),
+            _ => Ok(()),
+        }
+    }
+
+    /// Adds that a peer has come up over this link, if the reply says so. A link of it that was up before is gone.
+    fn put_coming(
+        &mut self,
+        alloc: Global,
+        link: u32,
+        reply: &Reply,
+        out: &mut Vec<u8>,
+    ) -> Result<(), OutOfMemory>
+        ensures { OnOk result (TellsNews self.old out.old.items self.new out.new.items) }
+    {
+        let Reply::Up {
             peer,
             creation,
             visible,
-        },
-    ) = &entry.verdict
-    else {
-        return Ok(());
-    };
-    meet(peers, alloc, peer, out)?;
-    put_up(peer, *creation, *visible, out)
-}
-
-/// A peer has come up. A link of it that was up before is gone.
-fn meet(
-    peers: &mut Vec<NodeName>,
-    alloc: Global,
-    peer: &NodeName,
-    out: &mut Vec<u8>,
-) -> Result<(), OutOfMemory>
-    ensures { OnOk result (TellsOthers out.old.items out.new.items) }
-{
-    if peers.iter().any(|known| known == peer) {
-        return put_down(peer, out);
+        } = reply
+        else {
+            return Ok(());
+        };
+        let name = peer.try_clone(alloc)?;
+        let peer = Peer {
+            name,
+            creation: *creation,
+            link,
+        };
+        self.put_newer(peer, *visible, out)
     }
-    peers.push(peer.try_clone(alloc)?)?;
-    Ok(())
-}
 
-/// Adds which of these peers are gone.
-fn put_gone(peers: &[NodeName], core: &NodeCore, out: &mut Vec<u8>) -> Result<(), OutOfMemory>
-    ensures { OnOk result (TellsOthers out.old.items out.new.items) }
-{
-    for peer in peers {
-        put_if_gone(peer, core, out)?;
+    /// Adds that a peer has come up, in the place of a link of it that was up.
+    fn put_newer(&mut self, peer: Peer, visible: bool, out: &mut Vec<u8>) -> Result<(), OutOfMemory>
+        ensures { OnOk result (TellsNews self.old out.old.items self.new out.new.items) }
+    {
+        self.put_named(&peer.name, DownReason::Replaced, out)?;
+        put_up(&peer, visible, out)?;
+        self.peers.push(peer)?;
+        Ok(())
     }
-    Ok(())
-}
 
-fn put_if_gone(peer: &NodeName, core: &NodeCore, out: &mut Vec<u8>) -> Result<(), OutOfMemory>
-    ensures { OnOk result (TellsOthers out.old.items out.new.items) }
-{
-    if core.is_peer_up(peer) {
-        return Ok(());
+    /// Adds that a link is gone, if a peer was up over it.
+    fn put_lost(
+        &mut self,
+        link: u32,
+        reason: DownReason,
+        out: &mut Vec<u8>,
+    ) -> Result<(), OutOfMemory>
+        ensures { OnOk result (TellsNews self.old out.old.items self.new out.new.items) }
+    {
+        match self.peers.iter().position(|peer| peer.link == link) {
+            Some(place) => self.put_gone(place, reason, out),
+            None => Ok(()),
+        }
     }
-    put_down(peer, out)
-}
 
-fn put_up(
-    peer: &NodeName,
-    creation: u32,
-    visible: bool,
-    out: &mut Vec<u8>,
-) -> Result<(), OutOfMemory>
-    ensures { OnOk result (out.new.items ≡ out.old.items ++ notice_line (up peer.now creation visible)) }
-{
-    let ending = if visible { " visible\n" } else { " hidden\n" };
-    put_word("! up ", out)?;
-    put_bytes(peer.as_bytes(), out)?;
-    put_number(" ", u64::from(creation), out)?;
-    put_word(ending, out)
-}
+    /// Adds that the peer of this name is gone, if it was up.
+    fn put_named(
+        &mut self,
+        name: &NodeName,
+        reason: DownReason,
+        out: &mut Vec<u8>,
+    ) -> Result<(), OutOfMemory>
+        ensures told { OnOk result (TellsNews self.old out.old.items self.new out.new.items) }
+        ensures none { OnOk result (list_any (is_named name.now) self.new.peers ≡ false) }
+    {
+        while let Some(place) = self.place_of(name) {
+            self.put_gone(place, reason, out)?;
+        }
+        Ok(())
+    }
 
-fn put_down(peer: &NodeName, out: &mut Vec<u8>) -> Result<(), OutOfMemory>
-    ensures { OnOk result (out.new.items ≡ out.old.items ++ notice_line (down peer.now)) }
-{
-    put_word("! down ", out)?;
-    put_bytes(peer.as_bytes(), out)?;
-    put_word("\n", out)
+    fn place_of(&self, name: &NodeName) -> Option<usize>
+        ensures { result ≡ position (is_named name.now) self.now.peers }
+    {
+        self.peers.iter().position(|peer| peer.name == *name)
+    }
+
+    /// Adds that the peer at a place is gone.
+    fn put_gone(
+        &mut self,
+        place: usize,
+        reason: DownReason,
+        out: &mut Vec<u8>,
+    ) -> Result<(), OutOfMemory>
+        requires { place < length self.old.peers }
+        ensures told { OnOk result (TellsNews self.old out.old.items self.new out.new.items) }
+        ensures fewer { OnOk result (length self.new.peers < length self.old.peers) }
+    {
+        put_down(&self.peers[place], reason, out)?;
+        self.peers.remove(place);
+        Ok(())
+    }
+
+    /// Adds that all peers are gone.
+    fn put_all(&mut self, reason: DownReason, out: &mut Vec<u8>) -> Result<(), OutOfMemory>
+        ensures { OnOk result (TellsNews self.old out.old.items self.new out.new.items) }
+    {
+        put_all_down(self.peers.as_slice(), reason, out)?;
+        self.peers.clear();
+        Ok(())
+    }
 }

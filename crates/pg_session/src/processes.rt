@@ -1,6 +1,6 @@
 //! The processes of a connection.
 ghost use Rattle.std.specs.Prelude.{◌≡◌, [], true, false, cond, IfSome, IfNone, OnOk, OnErr};
-ghost use Rattle.std.specs.List.{list_all};
+ghost use Rattle.std.specs.List.{list_all, list_any};
 ghost use Rattle.dist_types.specs.declared.pid.Pid.{Pid};
 ghost use Rattle.dist_types.specs.Listing.{same_pid};
 ghost use Rattle.pg_session.specs.Processes.{has};
@@ -43,6 +43,13 @@ impl Processes {
         ensures { result ≡ list_all (has self.now) pids.now }
     {
         pids.iter().all(|pid| self.has(pid))
+    }
+
+    /// Whether one of these is among them.
+    pub fn has_any(&self, pids: &[Pid]) -> bool
+        ensures { result ≡ list_any (has self.now) pids.now }
+    {
+        pids.iter().any(|pid| self.has(pid))
     }
 
     fn has(&self, pid: &Pid) -> bool

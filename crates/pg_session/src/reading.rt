@@ -1,10 +1,11 @@
-//! Requests for which the node is only read.
+//! Requests for which the node is only read. A node that doesn't know the pass of a connection tells it nothing else.
 ghost use Rattle.std.specs.Prelude.{◌≡◌, ◌++◌, OnOk};
 ghost use Rattle.node_core.specs.Reading.{IsAnswer};
 ghost use Rattle.pg_text.specs.Answers.{spaced};
 ghost use Rattle.pg_session.specs.Answers.{AnswersRead, nodes_line};
 ghost use Rattle.pg_session.specs.declared.request.Request.TheVariants as requests;
 
+use crate::caller::{Caller, put_stranger};
 use dist_types::{NodeName, OutOfMemory};
 use node_core::{CoreFault, NodeCore};
 use node_threads::Node;
@@ -24,12 +25,17 @@ pub fn put_query<R: Wait>(
     rt: &R,
     alloc: Global,
     node: &Node,
+    caller: &Caller,
     event: Event,
     out: &mut Vec<u8>,
 ) -> Result<(), OutOfMemory>
-    ensures { OnOk result (AnswersRead (requests.Query event) out.old.items out.new.items) }
+    ensures { OnOk result (AnswersRead (requests.Query event) caller.now out.old.items out.new.items) }
 {
     let shared = node.shared.lock(rt);
+    if !caller.is_known_to(&shared) {
+        drop(event);
+        return put_stranger(out);
+    }
     let answer = look(shared.core(), &event);
     drop(shared);
     drop(event);
@@ -49,10 +55,18 @@ fn look(core: &NodeCore, event: &Event) -> Result<Reply, CoreFault>
 }
 
 /// Adds how many entries there are.
-pub fn put_size<R: Wait>(rt: &R, node: &Node, out: &mut Vec<u8>) -> Result<(), OutOfMemory>
-    ensures { OnOk result (AnswersRead requests.Size out.old.items out.new.items) }
+pub fn put_size<R: Wait>(
+    rt: &R,
+    node: &Node,
+    caller: &Caller,
+    out: &mut Vec<u8>,
+) -> Result<(), OutOfMemory>
+    ensures { OnOk result (AnswersRead requests.Size caller.now out.old.items out.new.items) }
 {
     let shared = node.shared.lock(rt);
+    if !caller.is_known_to(&shared) {
+        return put_stranger(out);
+    }
     let size = shared.core().audit().len();
     drop(shared);
     put_numbered_line("size ", size as u64, out)
@@ -62,20 +76,32 @@ pub fn put_size<R: Wait>(rt: &R, node: &Node, out: &mut Vec<u8>) -> Result<(), O
 pub fn put_found<R: Wait>(
     rt: &R,
     node: &Node,
+    caller: &Caller,
     number: u32,
     out: &mut Vec<u8>,
 ) -> Result<(), OutOfMemory>
-    ensures { OnOk result (AnswersRead (requests.Audit number) out.old.items out.new.items) }
+    ensures { OnOk result (AnswersRead (requests.Audit number) caller.now out.old.items out.new.items) }
 {
     let shared = node.shared.lock(rt);
+    if !caller.is_known_to(&shared) {
+        return put_stranger(out);
+    }
     put_entry(shared.core().audit().get(number), out)
 }
 
 /// Adds which peers are up.
-pub fn put_peers<R: Wait>(rt: &R, node: &Node, out: &mut Vec<u8>) -> Result<(), OutOfMemory>
-    ensures { OnOk result (AnswersRead requests.Nodes out.old.items out.new.items) }
+pub fn put_peers<R: Wait>(
+    rt: &R,
+    node: &Node,
+    caller: &Caller,
+    out: &mut Vec<u8>,
+) -> Result<(), OutOfMemory>
+    ensures { OnOk result (AnswersRead requests.Nodes caller.now out.old.items out.new.items) }
 {
     let shared = node.shared.lock(rt);
+    if !caller.is_known_to(&shared) {
+        return put_stranger(out);
+    }
     let names = shared.core().peers();
     drop(shared);
     put_nodes(&names?, out)

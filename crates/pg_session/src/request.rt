@@ -1,9 +1,9 @@
 //! What a line asks for.
 ghost use Rattle.std.specs.Prelude.{◌≡◌, ◌++◌, List, ℕ, IfOk, IfErr, OnOk, Some, codes};
-ghost use Rattle.node_core.specs.Calm.{is_query};
 ghost use Rattle.pg_text.specs.Faults.{IsUnread};
-ghost use Rattle.pg_session.specs.Asked.{is_call, asked_by, asked_of_event, IsAsked};
+ghost use Rattle.pg_session.specs.Asked.{asked_by, asked_of_event, IsAsked};
 
+use crate::kind::Kind;
 use dist_types::OutOfMemory;
 use pg_text::{Command, LineFault, Reason, diagnose, first_word, parse, put_bytes, put_word};
 use policy_audit::Event;
@@ -61,48 +61,13 @@ fn request_of(event: Event) -> Result<Request, LineFault>
     ensures call { IfOk result IsAsked }
     ensures fault { IfErr result (λ fault. IsUnread fault (asked_of_event event)) }
 {
-    if is_query(&event) {
-        return Ok(Request::Query(event));
-    }
-    if is_call(&event) {
-        return Ok(Request::Call(event));
-    }
-    drop(event);
-    Err(LineFault::Script)
-}
-
-/// Whether a connection may make this call by a line: those are its own that speak for no link, end no life of the node, and ask
-/// for nothing that it is told unasked or that can be read without an entry.
-fn is_call(event: &Event) -> bool
-    ensures { result ≡ is_call event.now }
-{
-    match event {
-        Event::SetCookie(_)
-        | Event::SetCookieFor(_, _)
-        | Event::Allow(_)
-        | Event::StartScope(_)
-        | Event::StopScope(_)
-        | Event::Spawn
-        | Event::Exit(_)
-        | Event::Join(_, _, _)
-        | Event::Leave(_, _, _)
-        | Event::Monitor(_, _)
-        | Event::MonitorScope(_)
-        | Event::Demonitor(_)
-        | Event::Disconnect(_) => true,
-        _ => false,
-    }
-}
-
-fn is_query(event: &Event) -> bool
-    ensures { result ≡ is_query event.now }
-{
-    match event {
-        Event::Members(_, _)
-        | Event::LocalMembers(_, _)
-        | Event::Groups(_)
-        | Event::LocalGroups(_) => true,
-        _ => false,
+    match Kind::of(&event) {
+        Kind::Query => Ok(Request::Query(event)),
+        Kind::Barred => {
+            drop(event);
+            Err(LineFault::Script)
+        }
+        _ => Ok(Request::Call(event)),
     }
 }
 

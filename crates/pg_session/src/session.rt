@@ -1,34 +1,35 @@
 //! The seat of one connection: what it asks, and what it has of the node.
-ghost use Rattle.std.specs.Prelude.{◌≡◌, ◌⊎◌, ◌<◌, [], false, true, vec_len, vec_capacity, IfOk, OnOk, OnErr, Some};
+ghost use Rattle.std.specs.Prelude.{◌≡◌, ◌⊎◌, [], false, true, length, IfOk, OnOk, OnErr, Some, None};
+ghost use Rattle.policy_audit.specs.History.{creation};
 ghost use Rattle.pg_text.specs.Lines.{is_quiet};
 ghost use Rattle.pg_session.specs.Asked.{is_call, asked_by, next_after, next_behind, IsAsked};
 ghost use Rattle.pg_session.specs.Answers.{Answers, Makes};
 ghost use Rattle.dist_types.specs.declared.pid.Pid.{Pid};
-ghost use Rattle.pg_session.specs.Processes.{has, exited_by, spawned};
-ghost use Rattle.pg_session.specs.Calls.{Seat, GoesOn, IsCalled, AnswersCall, may_call};
-ghost use Rattle.pg_session.specs.Outcomes.{Kept};
-ghost use Rattle.pg_session.specs.Notices.{Tells, TellsOthers};
-ghost use Rattle.policy_audit.specs.declared.event.Event.TheVariants as events;
+ghost use Rattle.pg_session.specs.Processes.{has};
+ghost use Rattle.pg_session.specs.Calls.{Seat, GoesOn};
+ghost use Rattle.pg_session.specs.Notices.{Tells, TellsNews};
 ghost use Rattle.pg_session.specs.declared.request.Request.TheVariants as requests;
 
-use crate::caller::{Caller, Outcome};
-use crate::news::{News, Seen};
+use crate::caller::{Caller, Lack, Outcome};
+use crate::kind::Kind;
+use crate::leaving::{end_process, end_watch};
+use crate::news::{LostLinks, News, Seen};
 use crate::processes::Processes;
 use crate::reading::{HELP, put_found, put_peers, put_query, put_size};
 use crate::request::{Request, put_fault, read_request};
-use crate::watch::Watch;
-use dist_types::{OutOfMemory, Pid, TryClone};
+use crate::roster::Roster;
+use crate::stake::{keep, prepare};
+use crate::stops::put_stops;
+use crate::watch::{Watch, note_all, tell_all};
+use dist_types::OutOfMemory;
 use node_core::NodeCore;
 use node_threads::Node;
-use pg_text::{LineFault, is_quiet, moved_pids, put_word};
-use policy_audit::{Event, Later};
+use pg_text::{LineFault, is_quiet, put_word};
+use policy_audit::Event;
 use std::alloc::Global;
 use std::marker::Model;
 use std::mem::replace;
 use std::sync::Wait;
-
-/// How often a call is tried that ends what a connection had.
-const TRIES: u32 = 64;
 
 /// The seat of one connection.
 pub struct Session {
@@ -37,6 +38,8 @@ pub struct Session {
     watches: Vec<Watch>,
     news: News,
     is_open: bool,
+    /// What was wanting for the call of the last line. No contract rests on it.
+    lack: Option<Lack>,
 }
 
 impl Drop for Session {
@@ -47,6 +50,7 @@ impl Drop for Session {
             watches: _,
             news: _,
             is_open: _,
+            lack: _,
         } = self;
     }
 }
@@ -56,9 +60,9 @@ impl Model for Session {
 
     ghost Value = { Seat };
 
-    ghost view = { λ session. record { pass = session.caller; own = session.processes; taken = session.is_open } };
+    ghost view = { λ session. record { pass = session.caller; own = session.processes; taken = session.is_open; known = session.news } };
 
-    ghost invariant = { λ session. IsSeat (record { pass = session.caller; own = session.processes; taken = session.is_open }) };
+    ghost invariant = { λ session. IsSeat (record { pass = session.caller; own = session.processes; taken = session.is_open; known = session.news }) };
 }
 
 /// Whether the program goes on behind a line.
@@ -71,7 +75,7 @@ pub enum Next {
 impl Session {
     /// A seat that nobody has.
     pub fn new(alloc: Global, caller: Caller) -> Session
-        ensures { result ≡ record { pass = caller; own = []; taken = false } }
+        ensures { result ≡ record { pass = caller; own = []; taken = false; known = record { peers = []; anew = None } } }
     {
         Session {
             caller,
@@ -79,6 +83,7 @@ impl Session {
             watches: Vec::new(alloc),
             news: News::new(alloc),
             is_open: false,
+            lack: None,
         }
     }
 
@@ -89,20 +94,39 @@ impl Session {
         self.is_open
     }
 
+    /// How many calls the seat has made that are entries.
+    pub fn calls(&self) -> usize
+        ensures { result ≡ length self.now.pass.calls }
+    {
+        self.caller.calls()
+    }
+
+    /// What was wanting for the call that the last line asked for, if the call made no entry for want of that.
+    pub fn lack(&self) -> Option<Lack> {
+        self.lack
+    }
+
     /// Gives the seat to a connection, which is told what happens from now on.
-    pub fn open(&mut self, core: &NodeCore) -> Result<Seen, OutOfMemory>
-        ensures ok { OnOk result (self.new ≡ record self.old { taken = true }) }
+    pub fn open(
+        &mut self,
+        alloc: Global,
+        core: &NodeCore,
+        roster: &mut Roster,
+    ) -> Result<Seen, OutOfMemory>
+        ensures ok { OnOk result (self.new ≡ record self.old { taken = true; known = self.new.known }) }
+        ensures done { OnOk result (self.new.known.anew ≡ None) }
         ensures same { OnErr result (self.new ≡ self.old) }
     {
-        self.news.start(core)?;
+        roster.follow(alloc, core)?;
+        self.news.start(alloc, roster.news())?;
         self.is_open = true;
         Ok(self.news.seen())
     }
 
-    /// Takes the right to call the next life, and gives back that to call the last one. Processes and monitors of the last life are
-    /// gone with it, which the connection is told.
+    /// Takes the right to call the next life, and gives back that to call the last one. Processes, monitors and peers of the last
+    /// life are gone with it, which the connection is told next.
     pub fn begin_anew(&mut self, caller: Caller, core: &NodeCore) -> Caller
-        ensures next { self.new ≡ record { pass = caller; own = []; taken = self.old.taken } }
+        ensures next { self.new ≡ record { pass = caller; own = []; taken = self.old.taken; known = record { peers = self.old.known.peers; anew = Some (creation core.now) } } }
         ensures last { result ≡ self.old.pass }
     {
         self.processes.clear();
@@ -120,14 +144,17 @@ impl Session {
             watches: _,
             news: _,
             is_open: _,
+            lack: _,
         } = self;
         caller
     }
 
-    /// Adds that the node has begun anew, if the connection hasn't been told.
+    /// Adds that the node has begun anew, if the connection hasn't been told, behind the end of each peer that it takes for up.
     pub fn put_restart(&mut self, out: &mut Vec<u8>) -> Result<(), OutOfMemory>
-        ensures same { self.new ≡ self.old }
-        ensures told { OnOk result (TellsOthers out.old.items out.new.items) }
+        ensures rest { self.new ≡ record self.old { known = self.new.known } }
+        ensures told { OnOk result (TellsNews self.old.known out.old.items self.new.known out.new.items) }
+        ensures done { OnOk result (self.new.known.anew ≡ None) }
+        ensures same { OnErr result (self.new ≡ self.old) }
     {
         self.news.put_restart(out)
     }
@@ -148,7 +175,9 @@ impl Session {
         ensures next { IfOk result (λ next. next ≡ next_behind line.now) }
         ensures once { Makes (asked_by line.now) self.old self.new }
         ensures taken { self.new.taken ≡ self.old.taken }
+        ensures known { self.new.known ≡ self.old.known }
     {
+        self.lack = None;
         if is_quiet(line) {
             return Ok(Next::Line);
         }
@@ -175,13 +204,14 @@ impl Session {
         ensures next { IfOk result (λ next. next ≡ next_after (Some request)) }
         ensures once { Makes (Some request) self.old self.new }
         ensures taken { self.new.taken ≡ self.old.taken }
+        ensures known { self.new.known ≡ self.old.known }
     {
         match request {
             Request::Call(event) => self.call(rt, alloc, node, event, out)?,
-            Request::Query(event) => put_query(rt, alloc, node, event, out)?,
-            Request::Size => put_size(rt, node, out)?,
-            Request::Audit(number) => put_found(rt, node, number, out)?,
-            Request::Nodes => put_peers(rt, node, out)?,
+            Request::Query(event) => put_query(rt, alloc, node, &self.caller, event, out)?,
+            Request::Size => put_size(rt, node, &self.caller, out)?,
+            Request::Audit(number) => put_found(rt, node, &self.caller, number, out)?,
+            Request::Nodes => put_peers(rt, node, &self.caller, out)?,
             Request::Help => put_word(HELP, out)?,
             Request::Quit => {
                 put_word("ok\n", out)?;
@@ -191,7 +221,7 @@ impl Session {
         Ok(Next::Line)
     }
 
-    /// Adds the answer to a call, and keeps what the connection has by it.
+    /// Adds the answer to a call for processes that the connection has, if for any, and keeps what it has by it.
     fn call<R: Wait>(
         &mut self,
         rt: &R,
@@ -204,73 +234,61 @@ impl Session {
         ensures ok { OnOk result (Answers (Some (requests.Call event)) self.old out.old.items self.new out.new.items) }
         ensures once { Makes (Some (requests.Call event)) self.old self.new }
         ensures taken { self.new.taken ≡ self.old.taken }
+        ensures known { self.new.known ≡ self.old.known }
     {
-        if !self.processes.has_all(moved_pids(&event)) {
+        let kind = Kind::of(&event);
+        if !self.processes.has_all(kind.pids()) {
             drop(event);
             return put_word("fault not yours\n", out);
         }
-        self.make(rt, alloc, node, event, out)
-    }
-
-    /// Makes a call for processes that the connection has, if for any.
-    fn make<R: Wait>(
-        &mut self,
-        rt: &R,
-        alloc: Global,
-        node: &Node,
-        event: Event,
-        out: &mut Vec<u8>,
-    ) -> Result<(), OutOfMemory>
-        requires { may_call (spawned self.old.pass.calls) event ≡ true }
-        ensures ok { OnOk result (AnswersCall self.old event out.old.items self.new out.new.items) }
-        ensures once { IsCalled self.old.pass event self.new.pass ⊎ (self.new ≡ self.old) }
-        ensures taken { self.new.taken ≡ self.old.taken }
-    {
-        let prepared = prepare(alloc, &mut self.processes, &mut self.watches, &event);
+        let prepared = prepare(alloc, &mut self.processes, &mut self.watches, kind);
         let Ok(stake) = prepared else {
             drop(event);
             return Err(OutOfMemory);
         };
-        let Stake { exits, ends, watch } = stake;
-        let mut outcome = Outcome::Refused;
+        let mut outcome = Outcome::Refused(None);
         let answered = self.caller.call(rt, alloc, node, event, &mut outcome, out);
-        keep_watch(&mut self.watches, &outcome, ends, watch);
-        keep_process(&mut self.processes, outcome, exits)?;
+        self.lack = outcome.lack();
+        keep(&mut self.processes, &mut self.watches, outcome, stake)?;
         answered
     }
 
     /// Adds what has happened since the last time, as lines that come unasked.
-    pub fn tell<R: Wait>(
+    pub fn tell<R: Wait, E: LostLinks>(
         &mut self,
         rt: &R,
         alloc: Global,
         node: &Node,
+        lost: &E,
         out: &mut Vec<u8>,
     ) -> Result<Seen, OutOfMemory>
-        ensures told { OnOk result (Tells self.old.pass out.old.items self.new.pass out.new.items) }
+        ensures told { OnOk result (Tells self.old.pass self.old.known out.old.items self.new.pass self.new.known out.new.items) }
+        ensures done { OnOk result (self.new.known.anew ≡ None) }
         ensures own { self.new.own ≡ self.old.own }
         ensures taken { self.new.taken ≡ self.old.taken }
     {
         self.news.put_restart(out)?;
-        self.look(rt, alloc, node, out)?;
+        self.look(rt, alloc, node, lost, out)?;
         tell_all(&mut self.watches, &mut self.caller, rt, alloc, node, out)?;
         Ok(self.news.seen())
     }
 
-    /// Adds which peers came and went, and notes which monitors have something to tell.
-    fn look<R: Wait>(
+    /// Adds which peers came and went and which scopes stopped, and notes which monitors have something to tell.
+    fn look<R: Wait, E: LostLinks>(
         &mut self,
         rt: &R,
         alloc: Global,
         node: &Node,
+        lost: &E,
         out: &mut Vec<u8>,
     ) -> Result<(), OutOfMemory>
-        ensures same { self.new ≡ self.old }
-        ensures told { OnOk result (TellsOthers out.old.items out.new.items) }
+        ensures rest { self.new ≡ record self.old { known = self.new.known } }
+        ensures told { OnOk result (TellsNews self.old.known out.old.items self.new.known out.new.items) }
     {
         let shared = node.shared.lock(rt);
         note_all(&mut self.watches, self.news.unseen(shared.core()));
-        self.news.put_peers(alloc, shared.core(), out)
+        put_stops(&self.processes, self.news.unseen(shared.core()), out)?;
+        self.news.put_peers(alloc, shared.core(), lost, out)
     }
 
     /// Ends one thing that the connection has, a process or a monitor: whether there was one. If not, the seat is free.
@@ -290,147 +308,5 @@ impl Session {
         }
         self.is_open = false;
         false
-    }
-}
-
-/// Notes which monitors have something to tell of these entries.
-fn note_all(watches: &mut Vec<Watch>, entries: Later<'_>) {
-    for entry in entries {
-        for watch in watches.iter_mut() {
-            watch.note(entry);
-        }
-    }
-}
-
-/// Adds what the monitors have to tell, and lets go of those that have ended.
-fn tell_all<R: Wait>(
-    watches: &mut Vec<Watch>,
-    caller: &mut Caller,
-    rt: &R,
-    alloc: Global,
-    node: &Node,
-    out: &mut Vec<u8>,
-) -> Result<(), OutOfMemory>
-    ensures goes { GoesOn caller.old caller.new }
-    ensures told { OnOk result (Tells caller.old out.old.items caller.new out.new.items) }
-{
-    for watch in watches.iter_mut() {
-        watch.tell(caller, rt, alloc, node, out)?;
-    }
-    watches.retain(|watch| !watch.is_over);
-    Ok(())
-}
-
-/// What a connection has to note once a call is accepted.
-#[derive(Drop)]
-struct Stake {
-    /// A process that exits.
-    exits: Option<Pid>,
-    /// A monitor that ends.
-    ends: Option<u32>,
-    /// A monitor that begins.
-    watch: Option<Watch>,
-}
-
-/// Makes room for what a call may bring, and tells what it is about.
-fn prepare(
-    alloc: Global,
-    processes: &mut Processes,
-    watches: &mut Vec<Watch>,
-    event: &Event,
-) -> Result<Stake, OutOfMemory>
-    ensures stake { IfOk result (λ stake. stake.exits ≡ exited_by event.now) }
-    ensures same { processes.new ≡ processes.old }
-    ensures room { OnOk result (vec_len watches.new < vec_capacity watches.new) }
-{
-    processes.reserve()?;
-    watches.reserve(1)?;
-    Ok(Stake {
-        exits: exited(alloc, event)?,
-        ends: ended(event),
-        watch: Watch::of_call(alloc, event)?,
-    })
-}
-
-/// The process that an event makes exit.
-fn exited(alloc: Global, event: &Event) -> Result<Option<Pid>, OutOfMemory>
-    ensures { IfOk result (λ pid. pid ≡ exited_by event.now) }
-{
-    match event {
-        Event::Exit(pid) => Ok(Some(pid.try_clone(alloc)?)),
-        _ => Ok(None),
-    }
-}
-
-/// The monitor that an event ends.
-fn ended(event: &Event) -> Option<u32> {
-    match event {
-        Event::Demonitor(number) => Some(*number),
-        _ => None,
-    }
-}
-
-/// Keeps a process that a call has brought, in the room that there is, or lets go of one that has exited.
-fn keep_process(
-    processes: &mut Processes,
-    outcome: Outcome,
-    exits: Option<Pid>,
-) -> Result<(), OutOfMemory>
-    ensures ok { OnOk result (Kept outcome exits processes.old processes.new) }
-    ensures same { OnErr result (processes.new ≡ processes.old) }
-{
-    match (outcome, exits) {
-        (Outcome::Process(pid), _) => processes.add(pid)?,
-        (Outcome::Refused, _) | (_, None) => {}
-        (_, Some(pid)) => processes.remove(&pid),
-    }
-    Ok(())
-}
-
-/// Keeps a monitor that a call has begun, or lets go of one that it has ended.
-fn keep_watch(watches: &mut Vec<Watch>, outcome: &Outcome, ends: Option<u32>, watch: Option<Watch>)
-    requires { vec_len watches.old < vec_capacity watches.old }
-{
-    match (outcome, ends, watch) {
-        (Outcome::Monitor(number), _, Some(mut watch)) => {
-            watch.number = *number;
-            watches.push_reserved(watch);
-        }
-        (Outcome::Done, Some(number), _) => watches.retain(|watch| watch.number != number),
-        _ => {}
-    }
-}
-
-/// Makes a process exit, unless memory is wanting for long.
-fn end_process<R: Wait>(caller: &mut Caller, rt: &R, alloc: Global, node: &Node, pid: &Pid)
-    requires { may_call (spawned caller.old.calls) (events.Exit pid.now) ≡ true }
-    ensures { GoesOn caller.old caller.new }
-{
-    for _ in 0..TRIES {
-        if try_exit(caller, rt, alloc, node, pid) {
-            return;
-        }
-    }
-}
-
-/// Makes a process exit: whether the call was made. Where memory is wanting, it wasn't.
-fn try_exit<R: Wait>(caller: &mut Caller, rt: &R, alloc: Global, node: &Node, pid: &Pid) -> bool
-    requires { may_call (spawned caller.old.calls) (events.Exit pid.now) ≡ true }
-    ensures { IsCalled caller.old (events.Exit pid.now) caller.new ⊎ (caller.new ≡ caller.old) }
-{
-    match pid.try_clone(alloc) {
-        Ok(copy) => caller.end(rt, node, Event::Exit(copy)),
-        Err(_) => false,
-    }
-}
-
-/// Ends a monitor, unless memory is wanting for long.
-fn end_watch<R: Wait>(caller: &mut Caller, rt: &R, node: &Node, number: u32)
-    ensures { GoesOn caller.old caller.new }
-{
-    for _ in 0..TRIES {
-        if caller.end(rt, node, Event::Demonitor(number)) {
-            return;
-        }
     }
 }

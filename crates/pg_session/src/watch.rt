@@ -1,14 +1,14 @@
 //! Monitors that tell unasked.
 ghost use Rattle.std.specs.Prelude.{◌≡◌, ◌⊎◌, OnOk};
 ghost use Rattle.policy_audit.specs.declared.event.Event.TheVariants.{Updates};
-ghost use Rattle.pg_session.specs.Calls.{IsCalled};
-ghost use Rattle.pg_session.specs.Notices.{Tells, TellsOthers};
+ghost use Rattle.pg_session.specs.Calls.{GoesOn, IsCalled};
+ghost use Rattle.pg_session.specs.Notices.{Known, Tells, TellsMore};
 
 use crate::caller::{Caller, Fetched};
 use dist_types::{Group, OutOfMemory, Scope, TryClone};
 use node_threads::Node;
 use pg_text::put_numbered_line;
-use policy_audit::{Change, Entry, Event, Verdict};
+use policy_audit::{Change, Entry, Event, Later, Verdict};
 use std::alloc::Global;
 use std::sync::Wait;
 
@@ -27,31 +27,19 @@ pub struct Watch {
 }
 
 impl Watch {
-    /// The monitor that a call asks for, if it asks for one.
-    pub fn of_call(alloc: Global, event: &Event) -> Result<Option<Watch>, OutOfMemory> {
-        match event {
-            Event::Monitor(scope, group) => Watch::of(alloc, scope, Some(group)),
-            Event::MonitorScope(scope) => Watch::of(alloc, scope, None),
-            _ => Ok(None),
-        }
-    }
-
-    fn of(
-        alloc: Global,
-        scope: &Scope,
-        group: Option<&Group>,
-    ) -> Result<Option<Watch>, OutOfMemory> {
+    /// A monitor that has no entry yet.
+    pub fn of(alloc: Global, scope: &Scope, group: Option<&Group>) -> Result<Watch, OutOfMemory> {
         let group = match group {
             Some(group) => Some(group.try_clone(alloc)?),
             None => None,
         };
-        Ok(Some(Watch {
+        Ok(Watch {
             number: 0,
             scope: scope.try_clone(alloc)?,
             group,
             is_due: false,
             is_over: false,
-        }))
+        })
     }
 
     /// Notes whether an entry behind its own has changed what it watches, or has ended it. `Updates` is asked of no other monitor:
@@ -100,7 +88,7 @@ impl Watch {
         out: &mut Vec<u8>,
     ) -> Result<(), OutOfMemory>
         ensures called { IsCalled caller.old (Updates self.old.number) caller.new ⊎ (caller.new ≡ caller.old) }
-        ensures told { OnOk result (Tells caller.old out.old.items caller.new out.new.items) }
+        ensures told { OnOk result ((known : Known) → Tells caller.old known out.old.items caller.new known out.new.items) }
     {
         if !self.is_due || self.is_over {
             return self.put_end(out);
@@ -120,11 +108,39 @@ impl Watch {
 
     /// Adds that it has ended, if it has.
     fn put_end(&self, out: &mut Vec<u8>) -> Result<(), OutOfMemory>
-        ensures { OnOk result (TellsOthers out.old.items out.new.items) }
+        ensures { OnOk result (TellsMore out.old.items out.new.items) }
     {
         if !self.is_over {
             return Ok(());
         }
         put_numbered_line("! ended ", u64::from(self.number), out)
     }
+}
+
+/// Notes which monitors have something to tell of these entries.
+pub fn note_all(watches: &mut Vec<Watch>, entries: Later<'_>) {
+    for entry in entries {
+        for watch in watches.iter_mut() {
+            watch.note(entry);
+        }
+    }
+}
+
+/// Adds what the monitors have to tell, and lets go of those that have ended.
+pub fn tell_all<R: Wait>(
+    watches: &mut Vec<Watch>,
+    caller: &mut Caller,
+    rt: &R,
+    alloc: Global,
+    node: &Node,
+    out: &mut Vec<u8>,
+) -> Result<(), OutOfMemory>
+    ensures goes { GoesOn caller.old caller.new }
+    ensures told { OnOk result ((known : Known) → Tells caller.old known out.old.items caller.new known out.new.items) }
+{
+    for watch in watches.iter_mut() {
+        watch.tell(caller, rt, alloc, node, out)?;
+    }
+    watches.retain(|watch| !watch.is_over);
+    Ok(())
 }

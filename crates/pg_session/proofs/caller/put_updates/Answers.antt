@@ -7,5 +7,7 @@ use Rattle.pg_session.proofs.caller.put_updates.Goals as goal
 
 pub returns : goal.returns
 returns c =
-    let lines : c.loop-update.out.items ≡ c.args.out.now.items ++ flat_map (λ u. notice_line (change c.args.number u)) c.args.updates.now = grind (arith, common_steps) in
+    let lines : c.loop-update.out.items ≡ c.args.out.now.items ++ flat_map
+    (λ u. notice_line (change c.args.number u)) c.args.updates.now =
+    grind (arith, common_steps) in
     rw (flat_map-map notice_line (change c.args.number) c.args.updates.now) lines

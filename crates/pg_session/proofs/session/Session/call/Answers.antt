@@ -1,11 +1,67 @@
-use Rattle.std.proofs.Common.{◌≡◌, true, sym, subst, ◌∙◌}
+use Rattle.std.proofs.Common.{◌≡◌, true, sym, subst, ◌∙◌, inl}
 use Rattle.std.specs.List.{list_all}
-use Rattle.pg_session.specs.Processes.{has, spawned}
-use Rattle.pg_session.proofs.Callers.{may_own}
+use Rattle.pg_session.specs.Processes.{has, spawned, moves_only}
+use Rattle.pg_session.specs.Calls.{Seat}
+use Rattle.pg_session.specs.Kinds.{exit_at}
+use Rattle.pg_session.specs.Outcomes.{Kept}
+use Rattle.pg_session.proofs.Callers.{may_own, answers_call, makes_seat, on_ok}
+use Rattle.pg_session.proofs.session.Session.call.Given.{Over}
 use Rattle.pg_session.proofs.session.Session.call.Goals as goal
+use Rattle.pg_session.proofs.session.Session.call.Goals.{After-has_all}
 
-pub make-requires : goal.make-requires
-make-requires g c =
-    let own = c.self.inside.processes in
-    rw (← c.self.view_is) (may_own own (spawned c.self.inside.caller.calls) c.args.event c.self.invariant c.requires
-    (subst (λ ps. list_all (has own) ps ≡ true) c.moved_pids.ensures (sym c.has_all.ensures ∙ c.if-not-has_all.false)))
+-- the processes that the event moves are the connection's
+moves : (g : Over) (c : After-has_all g) → c.has_all.result ≡ true
+    → moves_only c.self.inside.processes c.args.event ≡ true
+moves g c all = subst (λ ps. list_all (has c.self.inside.processes) ps ≡ true)
+    (c.pids.ensures ∙ c.of-kind.ensures.moved) (sym c.has_all.ensures ∙ all)
+
+pub call-answered-requires : goal.call-answered-requires
+call-answered-requires g c =
+    may_own c.self.inside.processes (spawned c.self.inside.caller.calls) c.args.event
+    c.self.invariant c.requires (moves g (goal.at.call-answered-requires g c).After-has_all
+    c.if-not-has_all.false)
+
+pub invariant_of-self-2 : goal.invariant_of-self-2
+invariant_of-self-2 g c =
+    let before : Seat = record {
+      pass = c.self.inside.caller;
+      own = c.self.inside.processes;
+      taken = c.self.inside.is_open;
+      known = c.self.inside.news;
+    } in
+    let after : Seat = record before {
+      pass = c.call-answered.new.self;
+      own = c.keep.new.processes;
+    } in
+    let exits = exit_at c.in-Ok.stake in
+    makes_seat before after c.args.event c.call-answered.new.outcome exits c.self.invariant
+    c.call-answered.ensures.called (c.call-answered.ensures.own tt)
+    (subst (λ own. Kept c.call-answered.new.outcome exits own c.keep.new.processes)
+    c.prepare-prepared.ensures.same c.in_ok-keep.ensures.ok)
+
+pub returns-clause-ok : goal.returns-clause-ok
+returns-clause-ok g c =
+    let before : Seat = record {
+      pass = c.self.inside.caller;
+      own = c.self.inside.processes;
+      taken = c.self.inside.is_open;
+      known = c.self.inside.news;
+    } in
+    let after : Seat = record before {
+      pass = c.call-answered.new.self;
+      own = c.keep.new.processes;
+    } in
+    let exits = exit_at c.in-Ok.stake in
+    let own = moves g (goal.at.returns-clause-ok g c).After-has_all c.if-not-has_all.false in
+    rw (← c.self.view_is) (on_ok c.call-answered.result (λ it. inl (own, it))
+    (answers_call before after c.args.event c.args.out.now.items c.call-answered.new.out.items
+    c.call-answered.new.outcome exits c.call-answered.result
+    (c.in-Ok.ensures.stake ∙ c.of-kind.ensures.exits) c.call-answered.ensures.ok
+    (subst (λ own. Kept c.call-answered.new.outcome exits own c.keep.new.processes)
+    c.prepare-prepared.ensures.same c.in_ok-keep.ensures.ok)))
+
+pub returns-clause-once : goal.returns-clause-once
+returns-clause-once g c = rw (← c.self.view_is) (inl c.call-answered.ensures.called)
+
+pub returns-in_err-keep-clause-once : goal.returns-in_err-keep-clause-once
+returns-in_err-keep-clause-once g c = rw (← c.self.view_is) (inl c.call-answered.ensures.called)

@@ -1,12 +1,26 @@
-use Rattle.std.proofs.Common.{◌≡◌, ap, ◌∙◌}
+use Rattle.std.proofs.Common.{ap, ◌∙◌}
 use Rattle.pg_session.specs.Calls.{Seat}
-use Rattle.pg_session.proofs.Telling.{others_more, tells_others, tells_more}
+use Rattle.pg_session.specs.Notices.{Known}
+use Rattle.pg_session.proofs.Telling.{news_more, tells_then, all_told}
 use Rattle.pg_session.proofs.session.Session.tell.Goals as goal
 
 pub returns-clause-told : goal.returns-clause-told
 returns-clause-told g c =
-    let same : c.self-2.inside.caller ≡ c.args.self.now.pass = ap (λ (s : Seat). s.pass) (c.self-2.view_is ∙ c.look.ensures.same ∙ c.self.view_is) in
-    let others = others_more c.args.out.now.items c.put_restart.new.out.items c.look.new.out.items c.in_ok-put_restart.ensures c.in_ok-look.ensures.told in
-    tells_more c.args.self.now.pass c.self-2.inside.caller c.tell_all.new.caller c.args.out.now.items c.look.new.out.items c.tell_all.new.out.items
-    (tells_others c.args.self.now.pass c.self-2.inside.caller c.args.out.now.items c.look.new.out.items same others)
-    c.in_ok-tell_all.ensures.told
+    let same = ap (λ (s : Seat). s.pass) c.self-2.view_is ∙ ap (λ (s : Seat). s.pass)
+    c.look.ensures.rest ∙ ap (λ (s : Seat). s.pass) c.self.view_is in
+    let from = ap (λ (s : Seat). s.known) c.self.view_is in
+    let to = ap (λ (s : Seat). s.known) c.self-2.view_is in
+    let news = news_more c.self.inside.news c.put_restart.new.self c.look.new.self.known
+    c.args.out.now.items c.put_restart.new.out.items c.look.new.out.items
+    c.in_ok-put_restart.ensures.told c.in_ok-look.ensures.told in
+    tells_then c.args.self.now.pass c.self-2.inside.caller c.tell_all.new.caller
+    c.args.self.now.known c.self.inside.news c.look.new.self.known c.self-2.inside.news
+    c.args.out.now.items c.look.new.out.items c.tell_all.new.out.items same from to news
+    (c.in_ok-tell_all.ensures.told c.self-2.inside.news)
+
+pub returns-clause-done : goal.returns-clause-done
+returns-clause-done g c =
+    let to = ap (λ (s : Seat). s.known) c.self-2.view_is in
+    let told = c.in_ok-look.ensures.told c.self.inside.caller in
+    ap (λ (k : Known). k.anew) to ∙ all_told c.put_restart.new.self c.look.new.self.known
+    told.notices told.becomes c.in_ok-put_restart.ensures.done

@@ -1,12 +1,17 @@
 use Rattle.std.proofs.Common.{refl, codes, decimal}
 use Rattle.pg_session.specs.Notices.{ended}
 use Rattle.pg_session.proofs.Callers.{on_ok}
-use Rattle.pg_session.proofs.Telling.{others_one, in_line}
+use Rattle.pg_session.proofs.Telling.{news_none, news_one, in_line}
 use Rattle.pg_session.proofs.watch.Watch.put_end.Goals as goal
+
+pub returns-then-not-self : goal.returns-then-not-self
+returns-then-not-self c = λ k. news_none k c.args.out.now.items
 
 pub returns : goal.returns
 returns c =
     on_ok c.put_numbered_line.result
-    (λ is. others_one (ended c.from.result) c.args.out.now.items c.put_numbered_line.new.out.items refl
-    (in_line c.args.out.now.items (codes "! ended ") (decimal c.from.result) (codes "\n") c.put_numbered_line.new.out.items is))
+    (λ is k. news_one k k (ended c.from.result) c.args.out.now.items
+    c.put_numbered_line.new.out.items refl refl
+    (in_line c.args.out.now.items (codes "! ended ") (decimal c.from.result) (codes "\n")
+    c.put_numbered_line.new.out.items is))
     c.put_numbered_line.ensures

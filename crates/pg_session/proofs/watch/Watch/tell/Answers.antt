@@ -1,15 +1,16 @@
-use Rattle.std.proofs.Common.{refl}
 use Rattle.pg_session.proofs.Callers.{on_ok}
-use Rattle.pg_session.proofs.Telling.{tells_others, tells_more}
+use Rattle.pg_session.proofs.Telling.{tells_more}
 use Rattle.pg_session.proofs.watch.Watch.tell.Goals as goal
 
 pub returns-then-not-self-clause-told : goal.returns-then-not-self-clause-told
-returns-then-not-self-clause-told g c =
-    on_ok c.put_end.result (λ others. tells_others c.args.caller.now c.args.caller.now c.args.out.now.items c.put_end.new.out.items refl others) c.put_end.ensures
+returns-then-not-self-clause-told g c = on_ok c.put_end.result (λ more k. more k c.args.caller.now)
+    c.put_end.ensures
 
 pub returns-clause-told : goal.returns-clause-told
 returns-clause-told g c =
     on_ok c.put_end-2.result
-    (λ others. tells_more c.args.caller.now c.fetch.new.self c.fetch.new.self c.args.out.now.items c.fetch.new.out.items c.put_end-2.new.out.items c.in_ok-fetched.ensures.told
-    (tells_others c.fetch.new.self c.fetch.new.self c.fetch.new.out.items c.put_end-2.new.out.items refl others))
+    (λ more k. tells_more c.args.caller.now c.fetch.new.self c.fetch.new.self k k k
+    c.args.out.now.items c.fetch.new.out.items c.put_end-2.new.out.items
+    (c.in_ok-fetched.ensures.told k)
+    (more k c.fetch.new.self))
     c.put_end-2.ensures

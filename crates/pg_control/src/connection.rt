@@ -1,0 +1,158 @@
+//! One connection: a thread answers its lines, and another tells its news.
+use pg_hub::Hub;
+use pg_session::{Next, Seen};
+use pg_streams::{self, Lines, is_too_long};
+use pg_text::put_word;
+use std::io::{self, ErrorKind, Write};
+use std::sync::atomic::{AtomicBool, Ordering};
+use std::sync::{Mutex, Wait};
+
+/// Behind how many lines in a row a connection lets others go first.
+const IN_A_ROW: u32 = 16;
+
+/// How many bytes of room a connection keeps for its next line and its next answer: others need the memory, too.
+const KEPT: usize = 65_536;
+
+/// What both threads of a connection share.
+#[derive(Drop)]
+pub struct Desk<'a> {
+    pub hub: &'a Hub,
+    seat: usize,
+    /// Held for a whole answer, or for all that there is to tell, so that neither stands inside the other.
+    printing: Mutex<()>,
+    has_ended: AtomicBool,
+}
+
+impl<'a> Desk<'a> {
+    pub fn new(hub: &'a Hub, seat: usize) -> Desk<'a> {
+        Desk {
+            hub,
+            seat,
+            printing: Mutex::new(()),
+            has_ended: AtomicBool::new(false),
+        }
+    }
+
+    /// There are no further lines, and nothing is to be told any more.
+    pub fn end<R: Wait>(&self, rt: &R) {
+        self.has_ended.store(true, Ordering::SeqCst);
+        self.hub.wake(rt);
+    }
+
+    /// Answers lines until there are no more, or one ends the program.
+    pub fn answer_all<R: Wait, L: Lines, W: Write>(
+        &self,
+        rt: &R,
+        lines: &mut L,
+        writer: &mut W,
+    ) -> io::Result<()> {
+        let mut line = Vec::new(self.hub.alloc);
+        let mut out = Vec::new(self.hub.alloc);
+        for _ in rt.forever() {
+            for _ in 0..IN_A_ROW {
+                if self.hub.is_quitting() {
+                    return Ok(());
+                }
+                let asked = match lines.next(&mut line) {
+                    pg_streams::Next::Line => Some(line.as_slice()),
+                    pg_streams::Next::LostLine => None,
+                    pg_streams::Next::End => return Ok(()),
+                };
+                self.answer_one(rt, asked, &mut out, writer)?;
+                trim(&mut line);
+                trim(&mut out);
+            }
+            self.hub.crowd.let_go_first(rt);
+        }
+        unreachable!()
+    }
+
+    /// Answers a line, which may end the program, or one that was lost.
+    fn answer_one<R: Wait, W: Write>(
+        &self,
+        rt: &R,
+        line: Option<&[u8]>,
+        out: &mut Vec<u8>,
+        writer: &mut W,
+    ) -> io::Result<()> {
+        let hub = self.hub;
+        hub.wait_for_room(rt);
+        let printing = self.printing.lock(rt);
+        out.clear();
+        // From here to its answer a line waits for no client.
+        hub.crowd.enter();
+        let next = self.answer(rt, line, out);
+        hub.crowd.leave(rt);
+        let next = next?;
+        send(writer, out.as_slice())?;
+        drop(printing);
+        if next == Next::Quit {
+            hub.quit(rt);
+        }
+        Ok(())
+    }
+
+    /// Adds the answer to a line. Without memory for it that is the answer, and then the call may have been made.
+    fn answer<R: Wait>(&self, rt: &R, line: Option<&[u8]>, out: &mut Vec<u8>) -> io::Result<Next> {
+        let fault = match line {
+            Some(line) if is_too_long(line) => "fault the line is too long\n",
+            Some(line) => {
+                if let Ok(next) = self.hub.answer(rt, self.seat, line, out) {
+                    return Ok(next);
+                }
+                out.clear();
+                "fault out of memory\n"
+            }
+            None => {
+                self.hub.lose_line(rt);
+                "fault out of memory\n"
+            }
+        };
+        match put_word(fault, out) {
+            Ok(()) => Ok(Next::Line),
+            Err(_) => Err(io::Error::from(ErrorKind::OutOfMemory)),
+        }
+    }
+
+    /// Tells news until the connection or the program ends.
+    pub fn tell_all<R: Wait, W: Write>(
+        &self,
+        rt: &R,
+        mut seen: Seen,
+        writer: &mut W,
+    ) -> io::Result<()> {
+        let mut out = Vec::new(self.hub.alloc);
+        for _ in rt.forever() {
+            if !self.hub.wait_for_news(rt, seen, &self.has_ended) {
+                return Ok(());
+            }
+            let printing = self.printing.lock(rt);
+            out.clear();
+            match self.hub.tell(rt, self.seat, &mut out) {
+                Ok(Some(now)) => seen = now,
+                Ok(None) => return Ok(()),
+                Err(_) => return Err(io::Error::from(ErrorKind::OutOfMemory)),
+            }
+            send(writer, out.as_slice())?;
+            drop(printing);
+            trim(&mut out);
+        }
+        unreachable!()
+    }
+}
+
+/// Lets go of the room of bytes that aren't needed any more, where it is much.
+fn trim(bytes: &mut Vec<u8>) {
+    if bytes.capacity() > KEPT {
+        bytes.clear();
+        bytes.shrink_to_fit();
+    }
+}
+
+fn send<W: Write>(writer: &mut W, bytes: &[u8]) -> io::Result<()> {
+    if bytes.is_empty() {
+        return Ok(());
+    }
+    writer.write_all(bytes)?;
+    writer.flush()
+}

@@ -1,0 +1,172 @@
+//! The control socket: its connections ask by lines, each with a seat of its own.
+use crate::connection::Desk;
+use crate::door::Door;
+use crate::refusing::{refuse, refuse_here};
+use pg_hub::{Hub, Stream};
+use pg_session::Seen;
+use pg_streams::ReadLines;
+use std::io::{self, BufReader};
+use std::net::Shutdown;
+use std::os::unix::net::{SocketAddr, UnixStream};
+use std::sync::{Arc, Wait};
+use std::thread;
+use std::thread::{Scope, Threads};
+use std::time::{Clock, Duration};
+
+/// The milliseconds that a write may stand still, because the connection isn't read from.
+const PATIENCE: u64 = 10_000;
+
+/// The milliseconds of rest after a connection that couldn't be taken.
+const REST: u64 = 100;
+
+/// Starts the thread that takes connections, where there is a door for them: whether it could be made.
+pub fn start_control<'s, E: 's, R: Threads + Wait + Clock + Sync + 's>(
+    scope: &'s Scope<'s, E>,
+    rt: &'s R,
+    hub: &'s Hub,
+    door: Option<&'s Door<'_>>,
+) -> bool {
+    match door {
+        Some(door) => scope.spawn(move || serve_control(rt, hub, door)).is_ok(),
+        None => true,
+    }
+}
+
+/// Takes connections until the program is to end, and waits until each has ended.
+fn serve_control<R: Threads + Wait + Clock + Sync>(rt: &R, hub: &Hub, door: &Door<'_>) {
+    thread::scope(thread::scope_env(), rt, |scope| {
+        take_all(scope, rt, hub, door)
+    });
+}
+
+/// Takes connections until the program is to end.
+fn take_all<'s, E: 's, R: Threads + Wait + Clock + Sync + 's>(
+    scope: &'s Scope<'s, E>,
+    rt: &'s R,
+    hub: &'s Hub,
+    door: &Door<'_>,
+) {
+    for _ in rt.forever() {
+        let accepted = door.listener.accept();
+        if hub.is_quitting() {
+            return;
+        }
+        take_in(scope, rt, hub, accepted);
+    }
+}
+
+/// Serves a connection, or tells it that there is no room. Where there is no connection it rests.
+fn take_in<'s, E: 's, R: Threads + Wait + Clock + Sync + 's>(
+    scope: &'s Scope<'s, E>,
+    rt: &'s R,
+    hub: &'s Hub,
+    accepted: io::Result<(UnixStream, SocketAddr)>,
+) {
+    let Ok((stream, _)) = accepted else {
+        thread::sleep(rt, Duration::from_millis(REST));
+        return;
+    };
+    match Arc::new(hub.alloc, stream) {
+        Ok(stream) => {
+            if !is_served(scope, rt, hub, &stream) {
+                refuse(scope, rt, hub, stream);
+            }
+        }
+        Err(failed) => refuse_here(rt, &failed.value),
+    }
+}
+
+/// Gives a connection a seat and a thread: whether both could be had.
+fn is_served<'s, E: 's, R: Threads + Wait + Clock + Sync + 's>(
+    scope: &'s Scope<'s, E>,
+    rt: &'s R,
+    hub: &'s Hub,
+    stream: &Stream,
+) -> bool {
+    let patience = Duration::from_millis(PATIENCE);
+    if stream.set_write_timeout(Some(patience)).is_err() {
+        return false;
+    }
+    let Some((seat, seen)) = hub.enter(rt) else {
+        return false;
+    };
+    let is_started = start_serving(scope, rt, hub, seat, seen, stream);
+    if !is_started {
+        give_up(rt, hub, seat);
+    }
+    is_started
+}
+
+/// Starts the thread of a connection, if whoever ends the program can have its stream: whether it could be made.
+fn start_serving<'s, E: 's, R: Threads + Wait + Clock + Sync + 's>(
+    scope: &'s Scope<'s, E>,
+    rt: &'s R,
+    hub: &'s Hub,
+    seat: usize,
+    seen: Seen,
+    stream: &Stream,
+) -> bool {
+    if !hub.clients.add(rt, seat, stream) {
+        return false;
+    }
+    let Ok(stream) = Arc::try_clone(stream) else {
+        return false;
+    };
+    scope
+        .spawn(move || serve(rt, hub, seat, seen, &stream))
+        .is_ok()
+}
+
+/// The connection of a seat has ended.
+fn give_up<R: Wait>(rt: &R, hub: &Hub, seat: usize) {
+    hub.clients.remove(rt, seat);
+    hub.leave(rt, seat);
+}
+
+/// Serves a connection until it ends.
+fn serve<R: Threads + Wait + Clock + Sync>(
+    rt: &R,
+    hub: &Hub,
+    seat: usize,
+    seen: Seen,
+    stream: &UnixStream,
+) {
+    if !is_answered(rt, &Desk::new(hub, seat), seen, stream) {
+        refuse_here(rt, stream);
+    }
+    give_up(rt, hub, seat);
+}
+
+/// Answers the lines of a connection and tells its news, if there is memory and a thread for both.
+fn is_answered<R: Threads + Wait + Clock + Sync>(
+    rt: &R,
+    desk: &Desk<'_>,
+    seen: Seen,
+    stream: &UnixStream,
+) -> bool {
+    let Ok(reader) = BufReader::new(desk.hub.alloc, stream) else {
+        return false;
+    };
+    thread::scope(thread::scope_env(), rt, |scope| {
+        let is_told = scope.spawn(move || tell(rt, desk, seen, stream)).is_ok();
+        if is_told {
+            answer(rt, desk, reader, stream);
+        }
+        is_told
+    })
+}
+
+/// Tells news until the connection or the program ends, and hangs up.
+fn tell<R: Wait>(rt: &R, desk: &Desk<'_>, seen: Seen, stream: &UnixStream) {
+    let mut writer = stream;
+    desk.tell_all(rt, seen, &mut writer).ok();
+    stream.shutdown(Shutdown::Both).ok();
+}
+
+/// Answers lines until there are no more, and ends the connection.
+fn answer<R: Wait>(rt: &R, desk: &Desk<'_>, reader: BufReader<&UnixStream>, stream: &UnixStream) {
+    let mut writer = stream;
+    desk.answer_all(rt, &mut ReadLines { reader }, &mut writer)
+        .ok();
+    desk.end(rt);
+}

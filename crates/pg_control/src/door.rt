@@ -1,0 +1,178 @@
+//! The place of the control socket: a path that one program at a time serves.
+use anyhow::{Result, anyhow, bail};
+use std::alloc::Global;
+use std::fs::{self, File, Files, Metadata, OpenFile, Permissions, TryLockError};
+use std::net::{Net, Shutdown};
+use std::os::fd::OwnedFd;
+use std::os::unix::fs::{FileTypeExt, MetadataExt, OpenOptionsExt, PermissionsExt};
+use std::os::unix::net::{UnixListener, UnixStream};
+use std::time::{Clock, Duration};
+use std::{io, thread};
+
+/// The mode of the socket, and of the file that is locked: they are the owner's alone.
+const OWNERS: u32 = 0o600;
+
+/// How often the lock of a path is tried, and the milliseconds of rest behind each time.
+const TRIES: u32 = 100;
+
+const REST: u64 = 20;
+
+/// The control socket at its path.
+#[derive(Drop)]
+pub struct Door<'a> {
+    pub listener: UnixListener,
+    /// The same socket, as what can be shut. It is made at once, since later there may be no descriptor for it.
+    handle: UnixStream,
+    path: &'a str,
+    file: FileNumber,
+}
+
+/// Which file it is, whatever it is called.
+#[derive(Clone, Copy, Debug, PartialEq, Eq)]
+struct FileNumber {
+    device: u64,
+    number: u64,
+}
+
+impl FileNumber {
+    fn of(found: &Metadata) -> FileNumber {
+        FileNumber {
+            device: found.dev(),
+            number: found.ino(),
+        }
+    }
+}
+
+impl<'a> Door<'a> {
+    /// Makes the socket of this path, in the place of one that no program answers at. Programs that begin there at the same moment
+    /// do so one after another, and all but the first find that another one answers.
+    pub fn open<R: Files<File = File> + Net + Clock>(
+        rt: &R,
+        alloc: Global,
+        path: &'a str,
+    ) -> Result<Door<'a>> {
+        let turn = take_turn(rt, alloc, path)?;
+        let opened = open_in_turn(rt, alloc, path);
+        turn.end(rt);
+        opened
+    }
+
+    /// Wakes who waits for a connection, now and later.
+    pub fn shut(&self) {
+        // One that can't be shut has failed already.
+        self.handle.shutdown(Shutdown::Both).ok();
+    }
+
+    /// Takes the socket's file away, unless another one stands at its path by now.
+    pub fn remove<R: Files<File = File> + Clock>(&self, rt: &R, alloc: Global) {
+        let turn = take_turn(rt, alloc, self.path).ok();
+        if file_at(rt, self.path) == Some(self.file) {
+            fs::remove_file(rt, self.path).ok();
+        }
+        if let Some(turn) = turn {
+            turn.end(rt);
+        }
+    }
+}
+
+/// Makes the socket of this path while no other program does.
+fn open_in_turn<'a, R: Files + Net>(rt: &R, alloc: Global, path: &'a str) -> Result<Door<'a>> {
+    if let Ok(found) = fs::symlink_metadata(rt, path) {
+        if !found.file_type().is_socket() {
+            bail!("--control: {path:.80}: there is a file that is no socket");
+        }
+        if UnixStream::connect(rt, path).is_ok() {
+            bail!("--control: {path:.80}: another program answers there");
+        }
+    }
+    let first = format!(in alloc; "{path}.new")?;
+    let opened = bind(rt, first.as_str(), path);
+    opened.map_err(|error| anyhow!("--control: {path:.60}: {error}"))
+}
+
+/// Makes the socket under a first name. It gets its path once nobody but the owner can connect.
+fn bind<'a, R: Files + Net>(rt: &R, first: &str, path: &'a str) -> io::Result<Door<'a>> {
+    // One of a program that ended in here.
+    remove_socket(rt, first);
+    let bound = bind_as(rt, first, path);
+    if bound.is_err() {
+        remove_socket(rt, first);
+    }
+    bound
+}
+
+fn bind_as<'a, R: Files + Net>(rt: &R, first: &str, path: &'a str) -> io::Result<Door<'a>> {
+    let listener = UnixListener::bind(rt, first)?;
+    fs::set_permissions(rt, first, Permissions::from_mode(OWNERS))?;
+    let handle = UnixStream::from(OwnedFd::from(listener.try_clone()?));
+    let file = FileNumber::of(&fs::symlink_metadata(rt, first)?);
+    fs::rename(rt, first, path)?;
+    Ok(Door {
+        listener,
+        handle,
+        path,
+        file,
+    })
+}
+
+fn remove_socket<R: Files>(rt: &R, path: &str) {
+    if let Ok(found) = fs::symlink_metadata(rt, path) {
+        if found.file_type().is_socket() {
+            fs::remove_file(rt, path).ok();
+        }
+    }
+}
+
+fn file_at<R: Files>(rt: &R, path: &str) -> Option<FileNumber> {
+    let found = fs::symlink_metadata(rt, path).ok()?;
+    Some(FileNumber::of(&found))
+}
+
+/// The right to change what stands at a path: a locked file beside it, whose lock the system takes from a program that ends.
+#[derive(Drop)]
+struct Turn {
+    name: String,
+    file: File,
+}
+
+impl Turn {
+    fn end<R: Files>(self, rt: &R) {
+        let Turn { name, file } = self;
+        // It is locked still, so nobody else has the right to it.
+        fs::remove_file(rt, name.as_str()).ok();
+        drop(file);
+    }
+}
+
+/// Waits for a while until no other program has the right.
+fn take_turn<R: Files<File = File> + Clock>(rt: &R, alloc: Global, path: &str) -> Result<Turn> {
+    let name = format!(in alloc; "{path}.lock")?;
+    for _ in 0..TRIES {
+        match try_lock(rt, name.as_str()) {
+            Ok(Some(file)) => return Ok(Turn { name, file }),
+            Ok(None) => thread::sleep(rt, Duration::from_millis(REST)),
+            Err(error) => bail!("--control: {path:.60}.lock: {error}"),
+        }
+    }
+    bail!("--control: {path:.80}: another program begins there")
+}
+
+/// The file of this name, if it could be locked, and still stands there: whoever had it takes it away.
+fn try_lock<R: Files<File = File>>(rt: &R, name: &str) -> io::Result<Option<File>> {
+    let file = open_to_lock(rt, name)?;
+    match file.try_lock() {
+        Ok(()) => {}
+        Err(TryLockError::WouldBlock) => return Ok(None),
+        Err(TryLockError::Error(error)) => return Err(error),
+    }
+    if file_at(rt, name) == Some(FileNumber::of(&file.metadata()?)) {
+        return Ok(Some(file));
+    }
+    Ok(None)
+}
+
+fn open_to_lock<R: Files<File = File>>(rt: &R, name: &str) -> io::Result<File> {
+    let mut options = File::options();
+    options.write(true).create(true).mode(OWNERS);
+    options.open(rt, name)
+}

@@ -1,0 +1,92 @@
+//! Standard input and output, as a connection that lasts as long as the program.
+use crate::connection::Desk;
+use pg_hub::Hub;
+use pg_session::Seen;
+use pg_streams::{QueuedLines, QueuedOutput, Streams};
+use std::sync::Wait;
+use std::thread::{Scope, Threads};
+
+/// The operator of the node.
+#[derive(Drop)]
+pub struct Operator<'a> {
+    desk: Desk<'a>,
+    streams: Streams<'a>,
+    /// Whether the end of standard input is that of the program.
+    is_alone: bool,
+}
+
+impl<'a> Operator<'a> {
+    pub fn new(hub: &'a Hub, seat: usize, streams: Streams<'a>, is_alone: bool) -> Operator<'a> {
+        Operator {
+            desk: Desk::new(hub, seat),
+            streams,
+            is_alone,
+        }
+    }
+
+    /// Answers the lines of standard input.
+    fn answer<R: Wait>(&self, rt: &R) {
+        let Streams { lines, output } = self.streams;
+        let hub = self.desk.hub;
+        let mut lines = QueuedLines { rt, lines };
+        let mut writer = QueuedOutput { rt, output };
+        for _ in rt.forever() {
+            match self.desk.answer_all(rt, &mut lines, &mut writer) {
+                Ok(()) => break,
+                // There was no memory for a line: the next life goes on.
+                Err(_) => hub.want_memory(rt),
+            }
+        }
+        if self.is_alone && !hub.is_quitting() {
+            output.be_patient(rt);
+            hub.quit(rt);
+        }
+    }
+
+    /// Tells news on standard output until the program ends.
+    fn tell<R: Wait>(&self, rt: &R, seen: Seen) {
+        let Streams { lines, output } = self.streams;
+        let hub = self.desk.hub;
+        let mut writer = QueuedOutput { rt, output };
+        for _ in rt.forever() {
+            match self.desk.tell_all(rt, seen, &mut writer) {
+                Ok(()) => break,
+                // There was no memory for a line: the next life tells what it can.
+                Err(_) => {
+                    hub.want_memory(rt);
+                    hub.wait_for_room(rt);
+                }
+            }
+        }
+        lines.end(rt);
+    }
+
+    /// Waits for a fault of standard output, which is told, or ends the program that is nothing without it.
+    fn watch<R: Wait>(&self, rt: &R) {
+        let hub = self.desk.hub;
+        let output = self.streams.output;
+        let Some(fault) = output.wait_for_fault(rt) else {
+            return;
+        };
+        if output.is_needed {
+            hub.quit(rt);
+        } else if let Ok(line) = format!(in hub.alloc;
+            "warning: {fault}; nothing more is written there"
+        ) {
+            hub.warn(rt, line.as_str());
+        }
+    }
+}
+
+/// Starts the threads of the operator, who has been told so much: whether all could be made.
+pub fn start_operator<'s, E: 's, R: Threads + Wait + Sync + 's>(
+    scope: &'s Scope<'s, E>,
+    rt: &'s R,
+    operator: &'s Operator<'_>,
+    seen: Seen,
+) -> bool {
+    let is_answered = scope.spawn(move || operator.answer(rt)).is_ok();
+    let is_told = scope.spawn(move || operator.tell(rt, seen)).is_ok();
+    let is_watched = scope.spawn(move || operator.watch(rt)).is_ok();
+    is_answered && is_told && is_watched
+}

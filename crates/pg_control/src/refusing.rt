@@ -1,0 +1,104 @@
+//! Clients for which there is no room.
+use pg_hub::{Hub, Stream};
+use std::io::{self, Read, Write};
+use std::net::Shutdown;
+use std::os::unix::net::UnixStream;
+use std::sync::{Arc, Wait};
+use std::thread::{Scope, Threads};
+use std::time::{Clock, Duration, Instant};
+
+/// The milliseconds for which such a client is heard out at most.
+const HEARING: u64 = 300;
+
+/// How many bytes are read at a time.
+const PIECE: usize = 4_096;
+
+/// Tells a client that there is no room, and hears it out on a thread, so that it can write its line before it reads. Where there
+/// are too many such threads it can't.
+pub fn refuse<'s, E: 's, R: Threads + Wait + Clock + Sync + 's>(
+    scope: &'s Scope<'s, E>,
+    rt: &'s R,
+    hub: &'s Hub,
+    stream: Stream,
+) {
+    say_full(&stream);
+    if !is_heard(scope, rt, hub, &stream) {
+        end(&stream);
+    }
+}
+
+/// The same on this thread.
+pub fn refuse_here<R: Clock>(rt: &R, stream: &UnixStream) {
+    say_full(stream);
+    hear_out(rt, stream).ok();
+    end(stream);
+}
+
+fn say_full(stream: &UnixStream) {
+    let mut writer = stream;
+    writer.write_all(b"fault full\n").ok();
+    stream.shutdown(Shutdown::Write).ok();
+}
+
+/// Starts a thread that hears a client out: whether one could be made.
+fn is_heard<'s, E: 's, R: Threads + Wait + Clock + Sync + 's>(
+    scope: &'s Scope<'s, E>,
+    rt: &'s R,
+    hub: &'s Hub,
+    stream: &Stream,
+) -> bool {
+    let Ok(stream) = Arc::try_clone(stream) else {
+        return false;
+    };
+    if !hub.clients.add_hearer() {
+        return false;
+    }
+    let is_started = scope.spawn(move || hear(rt, hub, &stream)).is_ok();
+    if !is_started {
+        hub.clients.remove_hearer();
+    }
+    is_started
+}
+
+fn hear<R: Clock>(rt: &R, hub: &Hub, stream: &UnixStream) {
+    hear_out(rt, stream).ok();
+    end(stream);
+    hub.clients.remove_hearer();
+}
+
+/// Reads until the client ends, or for as long as it is heard out.
+fn hear_out<R: Clock>(rt: &R, stream: &UnixStream) -> io::Result<()> {
+    let start = Instant::now(rt)?;
+    let limit = Duration::from_millis(HEARING);
+    for _ in 0..u64::MAX {
+        let left = limit.saturating_sub(start.elapsed(rt)?);
+        if left.is_zero() {
+            return Ok(());
+        }
+        stream.set_read_timeout(Some(left))?;
+        if is_at_end(stream)? {
+            return Ok(());
+        }
+    }
+    Ok(())
+}
+
+fn is_at_end(stream: &UnixStream) -> io::Result<bool> {
+    let mut reader = stream;
+    let mut piece = [0u8; PIECE];
+    Ok(reader.read(&mut piece)? == 0)
+}
+
+/// Ends a connection. What the client has written is read, since a socket that is closed with unread bytes takes the last line from
+/// its client; nothing more can come behind the end.
+fn end(stream: &UnixStream) {
+    stream.shutdown(Shutdown::Both).ok();
+    if stream.set_nonblocking(true).is_err() {
+        return;
+    }
+    for _ in 0..u64::MAX {
+        if is_at_end(stream).unwrap_or(true) {
+            return;
+        }
+    }
+}

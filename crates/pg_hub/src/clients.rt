@@ -1,0 +1,74 @@
+//! The clients of the control socket, as whoever ends the program has them.
+use std::alloc::Global;
+use std::net::Shutdown;
+use std::os::unix::net::UnixStream;
+use std::sync::atomic::{AtomicUsize, Ordering};
+use std::sync::{Arc, Mutex, Wait};
+
+/// The stream of a client, which the threads that serve it share with whoever ends the program.
+pub type Stream = Arc<UnixStream, Global>;
+
+/// The most threads that hear out clients which aren't served.
+const HEARERS: usize = 8;
+
+#[derive(Drop)]
+pub struct Clients {
+    streams: Mutex<Streams>,
+    hearers: AtomicUsize,
+}
+
+#[derive(Drop)]
+struct Streams {
+    /// Those of all clients that are served, each with its seat.
+    open: Vec<(usize, Stream)>,
+    are_ended: bool,
+}
+
+impl Clients {
+    pub fn new(alloc: Global) -> Clients {
+        Clients {
+            streams: Mutex::new(Streams {
+                open: Vec::new(alloc),
+                are_ended: false,
+            }),
+            hearers: AtomicUsize::new(0),
+        }
+    }
+
+    /// Adds the stream of a client that is served: whether it could be. After the end it can't.
+    pub fn add<R: Wait>(&self, rt: &R, seat: usize, stream: &Stream) -> bool {
+        let Ok(copy) = Arc::try_clone(stream) else {
+            return false;
+        };
+        let mut streams = self.streams.lock(rt);
+        !streams.are_ended && streams.open.push((seat, copy)).is_ok()
+    }
+
+    pub fn remove<R: Wait>(&self, rt: &R, seat: usize) {
+        let mut streams = self.streams.lock(rt);
+        streams.open.retain(|(taken, _)| *taken != seat);
+    }
+
+    /// Ends all connections, whatever their own threads wait for.
+    pub fn end_all<R: Wait>(&self, rt: &R) {
+        let mut streams = self.streams.lock(rt);
+        streams.are_ended = true;
+        for (_, stream) in streams.open.iter() {
+            // One that can't be shut has ended already.
+            stream.shutdown(Shutdown::Both).ok();
+        }
+    }
+
+    /// Counts one more thread that hears a client out: whether there may be one.
+    pub fn add_hearer(&self) -> bool {
+        if self.hearers.fetch_add(1, Ordering::SeqCst) < HEARERS {
+            return true;
+        }
+        self.remove_hearer();
+        false
+    }
+
+    pub fn remove_hearer(&self) {
+        self.hearers.fetch_sub(1, Ordering::SeqCst);
+    }
+}

@@ -1,0 +1,256 @@
+//! From one life of the node to the next.
+use crate::closing::EndedLife;
+use crate::life::LANES;
+use crate::settings::held;
+use anyhow::{Result, bail};
+use cookie_digest::ChallengeSource;
+use dist_types::TryClone;
+use node_core::NodeCore;
+use node_net::Lane;
+use node_threads::{Node, Pass};
+use pg_hub::{House, Hub};
+use pg_session::{Caller, Session};
+use pg_streams::Warnings;
+use policy_audit::{Event, Opening};
+use rand_chacha::ChaCha20Rng;
+use std::alloc::Global;
+use std::mem::{replace, swap};
+use std::sync::{Arc, Mutex, Wait};
+use std::vec;
+
+/// The passes of a node with this many seats of connections: that of the keeper, one for each seat, and two for each lane.
+fn passes_for(seats: u32) -> u32 {
+    seats.saturating_add(1 + 2 * LANES as u32)
+}
+
+/// Makes the lanes of each life. No two of them draw the same challenges.
+#[derive(Drop)]
+struct LaneMaker {
+    words: ChaCha20Rng,
+    made: u64,
+}
+
+impl LaneMaker {
+    fn new(words: ChaCha20Rng) -> LaneMaker {
+        LaneMaker { words, made: 0 }
+    }
+
+    fn make(&mut self, reader: Pass, writer: Pass) -> Result<Lane> {
+        // The first stream is that of the words that were drawn before.
+        self.made = self.made.saturating_add(1);
+        let mut words = self.words.clone()?;
+        words.set_stream(self.made);
+        match Lane::new(reader, writer, ChallengeSource::new(words)) {
+            Ok(lane) => Ok(lane),
+            Err(_) => bail!("a pass of a new node has made calls"),
+        }
+    }
+
+    fn make_next(&mut self, passes: &mut vec::IntoIter<Pass>) -> Result<Lane> {
+        let reader = next_pass(passes)?;
+        self.make(reader, next_pass(passes)?)
+    }
+
+    fn make_all(&mut self, alloc: Global, passes: &mut vec::IntoIter<Pass>) -> Result<Vec<Lane>> {
+        let mut lanes = Vec::new(alloc);
+        for _ in 0..LANES {
+            lanes.push(self.make_next(passes)?)?;
+        }
+        Ok(lanes)
+    }
+}
+
+fn next_pass(passes: &mut vec::IntoIter<Pass>) -> Result<Pass> {
+    match passes.next() {
+        Some(pass) => Ok(pass),
+        None => bail!("a new node has too few passes"),
+    }
+}
+
+fn next_caller(passes: &mut vec::IntoIter<Pass>) -> Result<Caller> {
+    match Caller::new(next_pass(passes)?) {
+        Ok(caller) => Ok(caller),
+        Err(_) => bail!("a pass of a new node has made calls"),
+    }
+}
+
+/// Makes one life after another.
+#[derive(Drop)]
+pub struct LifeMaker {
+    /// That of the last life.
+    opening: Opening,
+    lanes: LaneMaker,
+}
+
+impl LifeMaker {
+    /// The first life begins so. The challenges of all lives are drawn from these words.
+    pub fn new(opening: Opening, words: ChaCha20Rng) -> LifeMaker {
+        LifeMaker {
+            opening,
+            lanes: LaneMaker::new(words),
+        }
+    }
+
+    /// The first life, which is told these settings.
+    pub fn begin<R: Wait>(
+        &mut self,
+        rt: &R,
+        alloc: Global,
+        seats: u32,
+        settings: Vec<Event>,
+        warnings: Arc<Warnings>,
+    ) -> Result<(Hub, Vec<Lane>)> {
+        let opening = copy(alloc, &self.opening)?;
+        let (node, passes) = Node::new(alloc, opening, passes_for(seats))?;
+        let mut passes = passes.into_iter();
+        let keeper = new_keeper(rt, &node, &mut passes, settings)?;
+        let sessions = new_sessions(alloc, &mut passes, seats)?;
+        let lanes = self.lanes.make_all(alloc, &mut passes)?;
+        let house = House { keeper, sessions };
+        let hub = Hub::new(alloc, node, house, seats, self.opening.entries, warnings);
+        check_room(rt, &hub, &hub.node)?;
+        Ok((hub, lanes))
+    }
+
+    /// Ends a life, whose lanes have come back, and begins the next one with the next creation: the lanes of that, and the life
+    /// that has ended.
+    pub fn turn<R: Wait>(
+        &mut self,
+        rt: &R,
+        hub: &Hub,
+        lanes: Vec<Lane>,
+    ) -> Result<(Vec<Lane>, EndedLife)> {
+        self.opening.creation = self.opening.creation.wrapping_add(1).max(1);
+        let opening = copy(hub.alloc, &self.opening)?;
+        let (node, new) = Node::new(hub.alloc, opening, passes_for(hub.seats))?;
+        let mut new = new.into_iter();
+        let mut passes = passes_of(hub.alloc, hub.seats, lanes)?;
+        exchange(rt, hub, &node, &mut new, &mut passes)?;
+        hub.wake(rt);
+        let lanes = self.lanes.make_all(hub.alloc, &mut new)?;
+        Ok((lanes, EndedLife { node, passes }))
+    }
+}
+
+/// An error where what a new node was told first leaves no room.
+fn check_room<R: Wait>(rt: &R, hub: &Hub, node: &Node) -> Result<()> {
+    if hub.is_nearly_full(node.shared.lock(rt).core()) {
+        bail!("--entries: too few for the cookies, names and scopes that were set");
+    }
+    Ok(())
+}
+
+fn new_keeper<R: Wait>(
+    rt: &R,
+    node: &Node,
+    passes: &mut vec::IntoIter<Pass>,
+    settings: Vec<Event>,
+) -> Result<Pass> {
+    let mut keeper = next_pass(passes)?;
+    set_up(rt, node, &mut keeper, settings)?;
+    Ok(keeper)
+}
+
+fn new_sessions(
+    alloc: Global,
+    passes: &mut vec::IntoIter<Pass>,
+    seats: u32,
+) -> Result<Vec<Mutex<Session>>> {
+    let mut sessions = Vec::new(alloc);
+    for _ in 0..seats {
+        let session = Session::new(alloc, next_caller(passes)?);
+        sessions.push(Mutex::new(session))?;
+    }
+    Ok(sessions)
+}
+
+/// Says what holds before the first link.
+fn set_up<R: Wait>(rt: &R, node: &Node, keeper: &mut Pass, settings: Vec<Event>) -> Result<()> {
+    for event in settings {
+        if let Err(fault) = keeper.call(node, rt, event) {
+            bail!("a cookie, a name or a scope can't be set: {fault}");
+        }
+    }
+    Ok(())
+}
+
+/// Puts the life of a new node into the hub, and the old one into this node, while nobody has a seat of the house. The new life is
+/// told first what held at the end of the old one, so that nobody is let in where that leaves no room.
+fn exchange<R: Wait>(
+    rt: &R,
+    hub: &Hub,
+    node: &Node,
+    new: &mut vec::IntoIter<Pass>,
+    old: &mut Vec<Pass>,
+) -> Result<()> {
+    let mut house = hub.house.write(rt);
+    let settings = held(hub.alloc, hub.node.shared.lock(rt).core())?;
+    let keeper = new_keeper(rt, node, new, settings)?;
+    check_room(rt, hub, node)?;
+    swap(&mut *hub.node.shared.lock(rt), &mut *node.shared.lock(rt));
+    hub.begin_anew();
+    old.push(replace(&mut house.keeper, keeper))?;
+    let shared = hub.node.shared.lock(rt);
+    change_callers(shared.core(), &mut house.sessions, new, old)
+}
+
+/// Gives all sessions passes of the new life, and takes those of the old one.
+fn change_callers(
+    core: &NodeCore,
+    sessions: &mut Vec<Mutex<Session>>,
+    passes: &mut vec::IntoIter<Pass>,
+    old: &mut Vec<Pass>,
+) -> Result<()> {
+    for session in sessions.iter_mut() {
+        let session = session.get_mut();
+        let ended = session.begin_anew(next_caller(passes)?, core);
+        old.push(ended.into_pass())?;
+    }
+    Ok(())
+}
+
+/// A copy of an opening.
+fn copy(alloc: Global, opening: &Opening) -> Result<Opening> {
+    Ok(Opening {
+        name: opening.name.try_clone(alloc)?,
+        cookie: opening.cookie.try_clone(alloc)?,
+        hidden: opening.hidden,
+        creation: opening.creation,
+        entries: opening.entries,
+    })
+}
+
+fn passes_of(alloc: Global, seats: u32, lanes: Vec<Lane>) -> Result<Vec<Pass>> {
+    let mut passes = Vec::new(alloc);
+    // All at once, so that no want of memory comes between the two lives.
+    passes.reserve(passes_for(seats) as usize)?;
+    for lane in lanes {
+        let (reader, writer) = lane.into_passes();
+        passes.push(reader)?;
+        passes.push(writer)?;
+    }
+    Ok(passes)
+}
+
+/// The end of the last life.
+pub fn last(hub: Hub, lanes: Vec<Lane>) -> Result<EndedLife> {
+    let (alloc, seats) = (hub.alloc, hub.seats);
+    let (node, house) = hub.into_parts();
+    let passes = all_passes(alloc, seats, lanes, house)?;
+    Ok(EndedLife { node, passes })
+}
+
+fn all_passes(alloc: Global, seats: u32, lanes: Vec<Lane>, house: House) -> Result<Vec<Pass>> {
+    let mut passes = passes_of(alloc, seats, lanes)?;
+    let House { keeper, sessions } = house;
+    passes.push(keeper)?;
+    add_sessions(sessions, &mut passes)?;
+    Ok(passes)
+}
+
+fn add_sessions(sessions: Vec<Mutex<Session>>, passes: &mut Vec<Pass>) -> Result<()> {
+    for session in sessions {
+        passes.push(session.into_inner().into_caller().into_pass())?;
+    }
+    Ok(())
+}

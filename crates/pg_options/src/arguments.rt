@@ -1,0 +1,122 @@
+//! The arguments of the program, for the parser.
+use clap::{Arg, ArgAction, Command, Error as ClapError, value_parser};
+use std::alloc::Global;
+
+/// What stands behind the help of the parser.
+const COMMANDS: &str = "\
+Commands, one a line, on standard input and on each control connection; a word with .. may come any number of times:
+  node       cookie COOKIE | cookie_for NAME COOKIE | allow NAME.. | disconnect NAME | nodes
+  scopes     start SCOPE | stop SCOPE
+  processes  spawn | exit PROCESS | join SCOPE GROUP PROCESS.. | leave SCOPE GROUP PROCESS..
+  queries    members SCOPE GROUP | local_members SCOPE GROUP | groups SCOPE | local_groups SCOPE
+  monitors   monitor SCOPE GROUP | monitor_scope SCOPE | demonitor REF
+  others     size | audit ENTRY | help | quit
+
+Example:
+  pg_node b@h --cookie-file cookie --listen 127.0.0.1:4369 --control node.sock
+
+Status: 0 at the end of standard input or at quit; 1 at a fault of a file, a socket or standard output, or for want of memory;
+2 at a fault of the command line. docs/FORMATS.md has the answers.";
+
+/// The arguments of the program.
+pub fn command<'a>(alloc: Global) -> Result<Command<'a>, ClapError> {
+    let name = Arg::new(alloc, "NAME")
+        .help("The node's own name, as b@h")
+        .required(true);
+    let command = Command::new(alloc, "pg_node")
+        .version("0.1.0")
+        .about("A node of process groups, linked with others over TCP")
+        .after_help(COMMANDS)
+        .arg(name)?;
+    let command = peer_arguments(alloc, command)?;
+    let command = node_arguments(alloc, command)?;
+    link_arguments(alloc, command)
+}
+
+/// The command with one more argument. A function of its own, so that a check meets the clauses of `arg` once.
+fn with<'a>(command: Command<'a>, arg: Arg<'a>) -> Result<Command<'a>, ClapError> {
+    Ok(command.arg(arg)?)
+}
+
+fn peer_arguments<'a>(alloc: Global, command: Command<'a>) -> Result<Command<'a>, ClapError> {
+    let file = "A file with the secret that the node shares with its peers";
+    let command = with(command, text(alloc, "cookie-file", "FILE", file))?;
+    let shown = "The secret itself, which others can see on the command line";
+    let command = with(command, text(alloc, "cookie", "TEXT", shown))?;
+    let files = "A file with the secret for one peer";
+    let command = with(command, texts(alloc, "cookie-for", "NAME=FILE", files))?;
+    let peers = "A peer that may connect; all may, where none is given";
+    with(command, texts(alloc, "allow", "NAME", peers))
+}
+
+fn node_arguments<'a>(alloc: Global, command: Command<'a>) -> Result<Command<'a>, ClapError> {
+    let command = with(command, hidden(alloc))?;
+    let command = with(command, creation(alloc))?;
+    let command = with(command, entries(alloc))?;
+    let audit = "Where audits that have ended are written";
+    with(command, text(alloc, "audit", "FILE", audit))
+}
+
+fn hidden<'a>(alloc: Global) -> Arg<'a> {
+    Arg::new(alloc, "hidden")
+        .long("hidden")
+        .help("Makes each link a hidden one")
+        .action(ArgAction::SetTrue)
+}
+
+fn creation<'a>(alloc: Global) -> Arg<'a> {
+    Arg::new(alloc, "creation")
+        .long("creation")
+        .value_name("N")
+        .help("The node's creation, at least 1; drawn where it isn't given")
+        .value_parser(value_parser!(u32).range(1..))
+}
+
+fn entries<'a>(alloc: Global) -> Arg<'a> {
+    Arg::new(alloc, "entries")
+        .long("entries")
+        .value_name("N")
+        .help("The most entries of an audit, at least 64; the node begins anew before it is full")
+        .value_parser(value_parser!(u32).range(64..))
+        .default_value("1000000")
+}
+
+fn clients<'a>(alloc: Global) -> Arg<'a> {
+    Arg::new(alloc, "clients")
+        .long("clients")
+        .value_name("N")
+        .help("The most clients of the control socket at once, up to 126")
+        .value_parser(value_parser!(u32).range(1..127))
+        .default_value("100")
+}
+
+fn link_arguments<'a>(alloc: Global, command: Command<'a>) -> Result<Command<'a>, ClapError> {
+    let listen = "Where peers connect; port 0 is a free one";
+    let command = with(command, text(alloc, "listen", "HOST:PORT", listen))?;
+    let dial = "A peer to keep a link to";
+    let command = with(command, texts(alloc, "dial", "NAME=HOST:PORT", dial))?;
+    let control = "A Unix socket for commands";
+    let command = with(command, text(alloc, "control", "PATH", control))?;
+    let command = with(command, clients(alloc))?;
+    let setup = "For a whole handshake";
+    let command = with(command, millis(alloc, "setuptime", "7000", setup))?;
+    let tick = "A link is lost that is silent for so long";
+    with(command, millis(alloc, "ticktime", "60000", tick))
+}
+
+fn text<'a>(alloc: Global, name: &'a str, value: &'a str, help: &'a str) -> Arg<'a> {
+    Arg::new(alloc, name)
+        .long(name)
+        .value_name(value)
+        .help(help)
+}
+
+fn texts<'a>(alloc: Global, name: &'a str, value: &'a str, help: &'a str) -> Arg<'a> {
+    text(alloc, name, value, help).action(ArgAction::Append)
+}
+
+fn millis<'a>(alloc: Global, name: &'a str, usual: &'a str, help: &'a str) -> Arg<'a> {
+    text(alloc, name, "MS", help)
+        .value_parser(value_parser!(u32).range(8..))
+        .default_value(usual)
+}

@@ -1,0 +1,177 @@
+//! What the command line says.
+use crate::cookies::{cookies, own_cookie};
+use crate::fault::{Fault, misused};
+use anyhow::anyhow;
+use clap::ArgMatches;
+use dist_types::{Cookie, NodeName};
+use node_net::{Limits, Target};
+use policy_audit::Opening;
+use rand::Rng;
+use std::alloc::Global;
+use std::fs::Files;
+use std::time::Duration;
+
+/// The most entries of an audit, where none are given.
+const ENTRIES: u32 = 1_000_000;
+
+/// The fewest: room for what a new life of the node says first, and for its last sixteenth.
+const FEWEST: u32 = 64;
+
+/// The most clients of the control socket at once, where no number is given.
+const CLIENTS: u32 = 100;
+
+/// What the program runs with.
+#[derive(Drop)]
+pub struct Options<'a> {
+    pub opening: Opening,
+    /// HOST:PORT.
+    pub listen: Option<&'a str>,
+    pub targets: Vec<Target>,
+    pub limits: Limits,
+    pub allowed: Vec<NodeName>,
+    pub cookies: Vec<(NodeName, Cookie)>,
+    /// The path of the control socket.
+    pub control: Option<&'a str>,
+    /// The most clients at once.
+    pub clients: u32,
+    /// The path of the file for audits that have ended.
+    pub audit: Option<&'a str>,
+}
+
+/// What the program runs with. Files with cookies are read.
+pub fn read_options<'a, R: Files>(
+    rt: &R,
+    alloc: Global,
+    words: &mut impl Rng,
+    matches: &ArgMatches<'a>,
+) -> Result<Options<'a>, Fault> {
+    let (opening, listen) = node_options(rt, alloc, words, matches)?;
+    let (targets, allowed, cookies) = peer_options(rt, alloc, matches)?;
+    Ok(Options {
+        opening,
+        listen,
+        targets,
+        limits: limits(matches),
+        allowed,
+        cookies,
+        control: matches.get_str("control"),
+        clients: matches.get_one::<u32>("clients").unwrap_or(CLIENTS),
+        audit: matches.get_str("audit"),
+    })
+}
+
+fn node_options<'a, R: Files>(
+    rt: &R,
+    alloc: Global,
+    words: &mut impl Rng,
+    matches: &ArgMatches<'a>,
+) -> Result<(Opening, Option<&'a str>), Fault> {
+    let opening = opening(rt, alloc, words, matches)?;
+    Ok((opening, listen(matches)?))
+}
+
+fn peer_options<R: Files>(
+    rt: &R,
+    alloc: Global,
+    matches: &ArgMatches<'_>,
+) -> Result<(Vec<Target>, Vec<NodeName>, Vec<(NodeName, Cookie)>), Fault> {
+    let targets = targets(alloc, matches)?;
+    let allowed = allowed(alloc, matches)?;
+    Ok((targets, allowed, cookies(rt, alloc, matches)?))
+}
+
+fn opening<R: Files>(
+    rt: &R,
+    alloc: Global,
+    words: &mut impl Rng,
+    matches: &ArgMatches<'_>,
+) -> Result<Opening, Fault> {
+    Ok(Opening {
+        name: name(alloc, "NAME", matches.get_str("NAME").unwrap_or(""))?,
+        cookie: own_cookie(rt, alloc, matches)?,
+        hidden: matches.get_flag("hidden"),
+        creation: matches
+            .get_one::<u32>("creation")
+            .unwrap_or_else(|| words.next_u32().max(1)),
+        entries: matches
+            .get_one::<u32>("entries")
+            .unwrap_or(ENTRIES)
+            .max(FEWEST),
+    })
+}
+
+fn allowed(alloc: Global, matches: &ArgMatches<'_>) -> Result<Vec<NodeName>, Fault> {
+    let mut names = Vec::new(alloc);
+    for word in matches.get_strs("allow").unwrap_or(&[]) {
+        names.push(name(alloc, "--allow", word)?)?;
+    }
+    Ok(names)
+}
+
+fn listen<'a>(matches: &ArgMatches<'a>) -> Result<Option<&'a str>, Fault> {
+    match matches.get_str("listen") {
+        Some(word) if !is_place(word) => Err(misused(anyhow!(
+            "--listen: no HOST:PORT: {word:.60}"
+        ))),
+        word => Ok(word),
+    }
+}
+
+/// Whether the word is a host, by name or number, and a port.
+fn is_place(word: &str) -> bool {
+    match word.rsplit_once(':') {
+        Some((host, port)) => !host.is_empty() && port.parse::<u16>().is_ok(),
+        None => false,
+    }
+}
+
+fn targets(alloc: Global, matches: &ArgMatches<'_>) -> Result<Vec<Target>, Fault> {
+    let mut targets = Vec::new(alloc);
+    let own = matches.get_str("NAME");
+    for word in matches.get_strs("dial").unwrap_or(&[]) {
+        targets.push(target(alloc, own, word)?)?;
+    }
+    Ok(targets)
+}
+
+fn target(alloc: Global, own: Option<&str>, word: &str) -> Result<Target, Fault> {
+    let Some((peer, place)) = word.split_once('=') else {
+        return Err(misused(anyhow!("--dial: no NAME=HOST:PORT: {word:.60}")));
+    };
+    if Some(peer) == own {
+        return Err(misused(anyhow!("--dial: the node's own name: {word:.60}")));
+    }
+    let peer = name(alloc, "--dial", peer)?;
+    if !is_place(place) {
+        return Err(misused(anyhow!("--dial: no HOST:PORT: {place:.60}")));
+    }
+    match Target::new(alloc, peer, copy(alloc, place)?) {
+        Ok(target) => Ok(target),
+        Err(_) => Err(Fault::of_memory()),
+    }
+}
+
+fn copy(alloc: Global, text: &str) -> Result<String, Fault> {
+    let mut copied = String::new(alloc);
+    match copied.push_str(text) {
+        Ok(()) => Ok(copied),
+        Err(_) => Err(Fault::of_memory()),
+    }
+}
+
+fn limits(matches: &ArgMatches<'_>) -> Limits {
+    let millis = |name: &str, usual: u32| {
+        Duration::from_millis(u64::from(matches.get_one::<u32>(name).unwrap_or(usual)))
+    };
+    Limits {
+        setup: millis("setuptime", 7_000),
+        tick: millis("ticktime", 60_000),
+    }
+}
+
+/// The name of a node that stands at this option.
+pub fn name(alloc: Global, option: &str, word: &str) -> Result<NodeName, Fault> {
+    NodeName::parse(alloc, word.as_bytes()).map_err(|fault| misused(anyhow!(
+        "{option}: {fault}: {word:.60}"
+    )))
+}

@@ -1,0 +1,24 @@
+use Rattle.std.proofs.Common.{◌≡◌, ◌++◌, Some, None, [], refl, subst, codes, decimal}
+use Rattle.pg_session.specs.declared.notice.DownReason.TheVariants as reasons
+use Rattle.pg_session.specs.Notices.{restarted}
+use Rattle.pg_session.proofs.Callers.{on_ok}
+use Rattle.pg_session.proofs.Telling.{news_one, news_more, news_all_gone, in_line}
+use Rattle.pg_session.proofs.notice.put_life.Goals as goal
+
+pub returns : goal.returns
+returns c =
+    on_ok c.put_numbered_line.result
+    (λ is. news_more (record { peers = c.args.peers.now; anew = Some c.args.creation })
+    (record { peers = []; anew = Some c.args.creation }) (record { peers = []; anew = None })
+    c.args.out.now.items
+    c.put_all_down.new.out.items c.put_numbered_line.new.out.items
+    (news_all_gone reasons.Restarted c.args.peers.now (Some c.args.creation) c.args.out.now.items
+    c.put_all_down.new.out.items c.in_ok-put_all_down.ensures)
+    (news_one (record { peers = []; anew = Some c.args.creation })
+    (record { peers = []; anew = None }) (restarted c.args.creation) c.put_all_down.new.out.items
+    c.put_numbered_line.new.out.items (refl, refl) refl
+    (in_line c.put_all_down.new.out.items (codes "! restarted ") (decimal c.args.creation)
+    (codes "\n") c.put_numbered_line.new.out.items
+    (subst (λ n. c.put_numbered_line.new.out.items ≡ c.put_all_down.new.out.items ++ codes
+    "! restarted " ++ decimal n ++ codes "\n") c.from.ensures is))))
+    c.put_numbered_line.ensures
