@@ -79,5 +79,5 @@ while control.connect_ex(control_path):
 lines = control.makefile()
 join()
 while True:
-    if next_line().startswith("! restarted "):
+    if next_line().startswith(("! restarted ", "! stopped jobs")):
         join()

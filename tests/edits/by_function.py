@@ -1,22 +1,15 @@
-"""Plays rows in one copy of the repository, function by function: a row is made, the functions that it changes are checked, and the copy is as
-before. What none of them refuses, or what is in no function, the whole crate has to refuse."""
+"""Plays rows in one copy of the repository, function by function: rows that change different functions are made at once, and those functions are
+checked. What isn't refused so is made alone; what none of its functions refuses, or what is in no function, the whole crate has to refuse."""
 
 import os
-import re
 import shutil
-import signal
-import subprocess
 
+from checks import COMPILE, PROVED, REFUSED, UNKNOWN, UNSURE, Crate, check, refused_functions
 from functions import changed_functions
 from rows import ROOT, rows, text_of
 
-SECONDS = 1800
-REFUSED, PROVED, UNKNOWN = 'refused', 'NOT REFUSED', 'no such function'
-COMPILE, LIMIT, UNSURE = 'COMPILE ERROR', 'ONLY A LIMIT', 'NOT TRIED'
-LIMITS = re.compile(r'antt ran out of (stack|the (steps|memory) )|(outgrew the memory limit|stopped at the step limit) \(')
-# How the prover says that it can't read a text: the fault has no function, or is one of names and of grammar.
-READING = re.compile(r'is not in scope|has no field|is no name|operand is missing|expected the end|cannot continue')
-FAULT = re.compile(r'(?:\./)?((?:src|specs)/\S+):\d+:\d+: error: (?:(`[^`]*`): )?(.*)')
+# How many rows are made at once.
+TOGETHER = 8
 
 
 def copy_of_repository(to):
@@ -26,87 +19,100 @@ def copy_of_repository(to):
         shutil.copy(os.path.join(ROOT, file), to)
 
 
-def output(words, folder):
-    """The status of a command that is run in a folder, None where it takes too long, and its lines. It ends with all that it started."""
-    with subprocess.Popen(words, cwd=folder, stdin=subprocess.DEVNULL, stdout=subprocess.PIPE, stderr=subprocess.STDOUT, text=True,
-                          errors='replace', start_new_session=True) as run:
-        try:
-            said, _ = run.communicate(timeout=SECONDS)
-            return run.returncode, said.rstrip('\n').split('\n')
-        except subprocess.TimeoutExpired:
-            return None, []
-        finally:
-            if run.poll() is None:
-                os.killpg(run.pid, signal.SIGTERM)
+def groups(crate, rows_left):
+    """These rows, each with the functions that it changes, in groups in which no two change one function. A row that changes anything else stands in none."""
+    found = []
+    for row in rows_left:
+        names = changed_functions(crate.folder, row)
+        free = (group for group in found if len(group) < TOGETHER and not any(set(names) & set(others) for _, others in group))
+        group = next(free, None) if names else None
+        if group is None and names:
+            found.append(group := [])
+        if names:
+            group.append((row, names))
+    return found
 
 
-def cannot_read(line):
-    """Whether the prover says so of a text of src/ or specs/, where a wrong deed leaves what can be read, and is false."""
-    fault = FAULT.match(line)
-    return bool(fault) and (not fault[2] or bool(READING.search(re.sub(r'`[^`]*`', '', fault[3]))))
+def made_together(crate, group):
+    """The rows of a group that can be made beside each other; what a check of their functions comes to, and its lines. The crate is as before then."""
+    before, made = {}, []
+    try:
+        for row, names in group:
+            texts, fault = row.edited(crate.folder)
+            if not fault:
+                before = {**{file: text_of(os.path.join(crate.folder, file)) for file in texts}, **before}
+                write(crate, texts)
+                made.append((row, names))
+        kind, _, lines = check(crate, dict.fromkeys(name for _, names in made for name in names))
+        return made, kind, lines
+    finally:
+        write(crate, before)
 
 
-def judged(status, lines):
-    """What a check came to, and the line that says so best."""
-    first = next((line for line in lines if re.match(r'\S+:\d+:\d+: error|fn \S+: (not proved|no proof)', line)), lines[-1] if lines else '')[:160]
-    if status == 0:
-        return PROVED, ''
-    if any('has no function' in line or 'several functions are named' in line for line in lines):
-        return UNKNOWN, ''
-    if unread := [line for line in lines if cannot_read(line)]:
-        return COMPILE, unread[0][:160]
-    if status == 1 and any(re.match('logic=not-proved|only=[1-9]', line) for line in lines):
-        return REFUSED, first
-    if compiler := [line for line in lines if re.search(r'\berror\[[\w-]+\]|^rattle: error', line)]:
-        return COMPILE, compiler[0][:160]
-    if limit := [line for line in lines if LIMITS.search(line)]:
-        return LIMIT, limit[0][:160]
-    return UNSURE, f'its check took over {SECONDS} s' if status is None else f'status {status}: {first}'
+def tried_together(crate, group):
+    """The rows of a group that the prover refuses, each by a function that it changes, with that function and the line that says so. Where a function
+    has another name the others are tried, and where they can't be compiled, or came to nothing, each half."""
+    if not group:
+        return {}
+    made, kind, lines = made_together(crate, group)
+    if kind == UNKNOWN:
+        known = [(row, names) for row, names in made if not any(f'::{name}`' in line for line in lines for name in names)]
+        return tried_together(crate, known) if len(known) < len(made) else {}
+    if kind in (COMPILE, UNSURE):
+        half = len(made) // 2
+        return {**tried_together(crate, made[:half]), **tried_together(crate, made[half:])} if half else {}
+    refused = refused_functions(crate.name, lines)
+    by = {row.name: next((name for name in names if name in refused), None) for row, names in made}
+    return {row: (name, refused[name]) for row, name in by.items() if name}
 
 
-def check(folder, function=None):
-    """What a check of a crate comes to, or of a function of it."""
-    only = ['--only', f'{os.path.basename(folder)}::{function}'] if function else []
-    return judged(*output(['rt', 'check', *only], folder))
-
-
-def tried(folder, row):
+def tried(crate, row):
     """What a row comes to in a crate of the copy, by which function, and the line that says so. The crate is as before then."""
-    texts, fault = row.edited(folder)
+    texts, fault = row.edited(crate.folder)
     if fault:
         return UNSURE, '', fault
-    names, before = changed_functions(folder, row), {file: text_of(os.path.join(folder, file)) for file in texts}
-    write(folder, texts)
+    names, before = changed_functions(crate.folder, row), {file: text_of(os.path.join(crate.folder, file)) for file in texts}
+    write(crate, texts)
     try:
         for name in names:
-            kind, said = check(folder, name)
+            kind, said, _ = check(crate, [name])
             if kind not in (PROVED, UNKNOWN):
                 return kind, name, said
-        kind, said = check(folder)
+        kind, said, _ = check(crate)
         return kind, 'the whole crate', said or ', '.join(names)
     finally:
-        write(folder, before)
+        write(crate, before)
 
 
-def write(folder, texts):
+def write(crate, texts):
     for file, text in texts.items():
-        with open(os.path.join(folder, file), 'w', encoding='utf-8') as to:
+        with open(os.path.join(crate.folder, file), 'w', encoding='utf-8') as to:
             to.write(text)
 
 
-def count_by_function(crates, copy, words):
-    """How many rows are refused, and how many not; a line for each. The rows of a crate that isn't proved without them count as not refused."""
+def verdicts(crate, rows_left):
+    """What each of these rows comes to, by which function, and the line that says so, as soon as that is known."""
+    left = list(rows_left)
+    for group in groups(crate, rows_left):
+        refused = tried_together(crate, group)
+        for row in [row for row, _ in group if row.name in refused]:
+            yield row, REFUSED, *refused[row.name]
+        left = [row for row in left if row.name not in refused]
+    for row in left:
+        yield row, *tried(crate, row)
+
+
+def count_by_function(names, copy, is_wanted, are_behind_ci):
+    """How many rows are refused, and how many not; a line for each. The rows of a crate that isn't proved without them count as not refused: it is
+    checked first, unless `rt ci` has just proved it."""
     passed = failed = 0
-    for crate in crates:
-        folder = os.path.join(copy, 'crates', crate)
-        kind, said = check(folder)
+    for name in names:
+        crate, wanted = Crate(os.path.join(copy, 'crates', name), are_behind_ci), [row for row in rows(name) if is_wanted(row)]
+        kind, said, _ = check(crate) if wanted and not are_behind_ci else (PROVED, '', [])
         if kind != PROVED:
-            print(f'{crate}: it isn\'t proved without any edit: {kind}: {said}', flush=True)
-        for row in rows(crate) if kind == PROVED else []:
-            if words and row.name not in words:
-                continue
-            verdict, by, line = tried(folder, row)
-            print(f'{crate}/{row.name}: {verdict} ({by}) {line}'.rstrip(), flush=True)
+            print(f'{name}: it isn\'t proved without any edit: {kind}: {said}', flush=True)
+            failed += len(wanted)
+        for row, verdict, by, line in verdicts(crate, wanted) if kind == PROVED else []:
+            print(f'{name}/{row.name}: {verdict} ({by}) {line}'.rstrip(), flush=True)
             passed, failed = passed + (verdict == REFUSED), failed + (verdict != REFUSED)
-        failed += len(rows(crate)) if kind != PROVED else 0
     return passed, failed

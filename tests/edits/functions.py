@@ -4,12 +4,14 @@ an `impl`, end with a line that closes them where they began."""
 import os
 import re
 from collections import namedtuple
+from functools import cache
 
 from rows import text_of
 
-# A function's name, as `linking::Kept::dial` or `pid::PidTryClone::try_clone`, its text and where that stands.
+# A function's name, as `kept::Kept::dial` or `pid::PidTryClone::try_clone`, its text and where that stands.
 Function = namedtuple('Function', 'name text first behind')
 FN = re.compile(r'^( *)(?:pub(?:\([a-z]+\))? )?(?:const )?fn (\w+)', re.MULTILINE)
+TYPE = re.compile(r'^(?:pub(?:\([a-z]+\))? )?(?:struct|enum) (\w+)', re.MULTILINE)
 IMPL = re.compile(r'^impl\b(?:<.*?>)? ?([^{;]*?)\s*\{', re.MULTILINE | re.DOTALL)
 
 
@@ -20,7 +22,7 @@ def functions(crate, file):
     for match in FN.finditer(text):
         behind = end_of(text, match.start(), match.group(1))
         owner = owner_of(text, match.start()) if match.group(1) else []
-        name = '::'.join(module + owner + [match.group(2)])
+        name = '::'.join(home_of(crate, owner, module) + owner + [match.group(2)])
         found.append(Function(name, text[match.start():behind], match.start(), behind))
     return found
 
@@ -29,6 +31,22 @@ def module_of(file):
     """The path of a file's module in its crate: none of src/lib.rt, `tables::told` of src/tables/told.rt."""
     words = file.removeprefix('src/').removesuffix('.rt').split('/')
     return [] if words[-1] in ('lib', 'main') else [word for word in words if word != 'mod']
+
+
+def home_of(crate, owner, module):
+    """The path by which a function's owner is named: that of the module that declares the type, else of the one where its `impl` stands."""
+    homes = types(crate).get(owner[0], []) if owner else []
+    return homes[0] if len(homes) == 1 else module
+
+
+@cache
+def types(crate):
+    """The modules that declare a type of a name, for each name of a type. No row moves one."""
+    found = {}
+    for file in sources(crate):
+        for name in TYPE.findall(text_of(os.path.join(crate, file))):
+            found.setdefault(name, []).append(module_of(file))
+    return found
 
 
 def end_of(text, start, indent):
@@ -58,8 +76,10 @@ def plain(words):
 
 
 def changed_functions(crate, row):
-    """The names of the functions that a row changes; of a constant, of those that use it. None where it changes anything else, as a type or
-    a definition, which only a check of the whole crate looks at."""
+    """The names of the functions that a row changes, or that it names; of a constant, of those that use it. None where it changes anything else, as a
+    type or a definition, which only a check of the whole crate looks at."""
+    if row.by:
+        return row.by
     names = []
     for file, old, _ in row.pairs:
         if not file.startswith('src/'):

@@ -5,22 +5,23 @@ import re
 
 ROOT = os.path.realpath(os.path.join(os.path.dirname(os.path.realpath(__file__)), '../..'))
 TABLE = 'must-fail/more_edits.md'
+GATE = '## In the gate'
+# Where a text goes on in a new line.
+BREAK = '⏎'
 
 
 class Row:
-    """A wrong deed: its name, and the pairs of a text and what stands in its place, each with the file that has it."""
+    """A wrong deed: its name, the pairs of a text and what stands in its place, each with the file that has it, the functions that have to refuse it,
+    where the row names some, and whether the gate tries it."""
 
-    def __init__(self, line):
-        deed, files, olds, news = (cell.replace('\\|', '|') for cell in re.split(r'(?<!\\)\|', line.strip()[1:-1]))
-        self.name = deed.strip().replace(' ', '_').replace(',', '')
-        files, olds, news = (re.findall('`([^`]*)`', cell) or [''] for cell in (files, olds, news))
+    def __init__(self, line, in_gate):
+        cells = [cell.replace('\\|', '|').replace(BREAK, '\n') for cell in re.split(r'(?<!\\)\|', line.strip()[1:-1])]
+        deed, *cells = cells[0], *(re.findall('`([^`]*)`', cell) for cell in cells[1:])
+        files, olds, news = (cell or [''] for cell in cells[:3])
+        self.name, self.by, self.in_gate = deed.strip().replace(' ', '_').replace(',', ''), [name for cell in cells[3:] for name in cell], in_gate
         if len(olds) != len(news) or len(files) not in (1, len(olds)):
             raise ValueError(f'{deed}: a file, a text and a new text belong together')
         self.pairs = list(zip(files * (len(olds) // len(files)), olds, news))
-
-    def edit(self):
-        """The deed in the form of a must-fail edit."""
-        return ''.join(f'file: {file}\nold: {old}\nnew: {new}\n' for file, old, new in self.pairs)
 
     def edited(self, folder):
         """The texts of the files that it changes in this crate, and why it can't be made, or None."""
@@ -48,6 +49,10 @@ def crates_with_tables():
 
 
 def rows(crate):
-    """The rows of a crate's table."""
-    lines = text_of(os.path.join(ROOT, 'crates', crate, TABLE)).splitlines()
-    return [Row(line) for line in lines if line.startswith('| ')][1:]
+    """The rows of a crate's tables. The gate tries those under its heading."""
+    found, heading = [], ''
+    for line in text_of(os.path.join(ROOT, 'crates', crate, TABLE)).splitlines():
+        heading = line if line.startswith('## ') else heading
+        if line.startswith('| ') and not line.startswith('| Wrong deed |'):
+            found.append(Row(line, heading == GATE))
+    return found

@@ -20,7 +20,8 @@ class Client:
     def __init__(self, field, *words):
         program, *rest = words
         self.process = subprocess.Popen([sys.executable, "-u", os.path.join(EXAMPLES, program), *map(str, rest)],
-                                        stdin=subprocess.PIPE, stdout=subprocess.PIPE, text=True, bufsize=1)
+                                        stdin=subprocess.PIPE, stdout=subprocess.PIPE, stderr=subprocess.PIPE,
+                                        text=True, bufsize=1)
         self.lines = queue.Queue()
         threading.Thread(target=lambda: [self.lines.put(line.rstrip("\n")) for line in self.process.stdout], daemon=True).start()
         field.keep(self)
@@ -36,6 +37,13 @@ class Client:
 
     def send(self, line):
         self.process.stdin.write(line + "\n")
+
+    def expect_end(self, status, words):
+        """That it ends so, with one line on standard error that has these words."""
+        expect("the status of an example", status, self.process.wait(LIMIT))
+        line, *more = self.process.stderr.read().splitlines()
+        expect_that(words in line, f"{words!r} on standard error", line)
+        expect("further lines on standard error", [], more)
 
     def close(self):
         self.process.kill()
@@ -87,3 +95,33 @@ def work_goes_on(field):
     router.expect(f"here {address}")
     router.send("one")
     router.expect(f"{address} did one")
+
+
+@case
+def ends_of_examples(field):
+    """Worker and router say so, and end with status 1, when their node dies or has no room; without words they say how they are used."""
+    a = field.node("a@h", "--clients", "2", port=None)
+    address = f"127.0.0.1:{field.free_port()}"
+    worker = Client(field, "worker.py", a.control_path, address)
+    router = Client(field, "router.py", a.control_path)
+    router.expect(f"here {address}")
+    other = f"127.0.0.1:{field.free_port()}"
+    for words in (("worker.py", a.control_path, other), ("router.py", a.control_path)):
+        Client(field, *words).expect_end(1, "no room")
+    a.kill()
+    for client in (worker, router):
+        client.expect_end(1, "the node is gone")
+    for words in (("worker.py",), ("worker.py", a.control_path, "nowhere"), ("router.py",), ("router.py", "a", "b")):
+        Client(field, *words).expect_end(2, f"usage: {words[0]} CONTROL")
+
+
+@case
+def router_at_its_end(field):
+    """A router ends with status 0 at the end of its input."""
+    a = field.node("a@h", port=None)
+    router = Client(field, "router.py", a.control_path)
+    router.send("one")
+    router.expect("nobody")
+    router.process.stdin.close()
+    expect("the status", 0, router.process.wait(LIMIT))
+    expect("its words on standard error", "", router.process.stderr.read())

@@ -257,7 +257,7 @@ def quit_and_end(field):
     await_nodes(a, ["b@h"])
     b.process.stdin.close()
     expect("the status at the end of standard input", 0, b.status())
-    a.told("! down b@h")
+    a.told("! down b@h [0-9]+ closed")
     a.process.stdin.close()
     control = field.control(a)
     pid = member(control)

@@ -65,7 +65,7 @@ def kill_9(field):
     monitors = [(node, node.ask("monitor_scope pg").split()[1]) for node in others]
     a.kill()
     for node, number in monitors:
-        node.told_all(f"! leave {number} g 2 {' '.join(lost)}", "! down a@h")
+        node.told_all(f"! leave {number} g 2 {' '.join(lost)}", "! down a@h [0-9]+ closed")
         await_members(node, [])
         await_nodes(node, [])
 
@@ -81,7 +81,7 @@ def started_again(field):
     await_members(b, [old])
     b.told("! up a@h [0-9]+ visible")
     a.kill()
-    b.told("! down a@h")
+    b.told("! down a@h [0-9]+ closed")
     again = field.node("a@h", port=port)
     _, up = b.told("! up a@h ([0-9]+) visible")
     new = member(again)
@@ -116,7 +116,8 @@ def disconnected(field):
     await_members(b, [pid])
     b.told("! up a@h [0-9]+ visible")
     asked(a, "disconnect b@h")
-    b.told("! down a@h")
+    a.told("! down b@h [0-9]+ disconnected")
+    b.told("! down a@h [0-9]+ closed")
     b.told("! up a@h [0-9]+ visible")
     await_members(b, [pid])
 

@@ -28,8 +28,9 @@ def audit_turn(field):
     b.told("! up a@h 41 visible")
     fill(control, pid)
     for talk in (control, a):
+        talk.told("! down b@h [0-9]+ restarted")
         talk.told("! restarted 42")
-    b.told("! down a@h")
+    b.told("! down a@h 41 closed")
     b.told("! up a@h 42 visible")
     again = new_pid(control)
     expect("a process of the new life", "a@h/42/1", again)

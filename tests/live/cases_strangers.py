@@ -168,7 +168,7 @@ def huge_length(field):
         peer.sync([("g", 1)])
     await_members(a, [goes.pid(1), stays.pid(1)])
     goes.send_bytes(b"\xff\xff\xff\xff" + bytes(100))
-    a.told("! down goes@h")
+    a.told("! down goes@h .*")
     goes.await_end()
     await_members(a, [stays.pid(1)])
     await_nodes(a, ["stays@h"])
@@ -246,7 +246,7 @@ def never_reads(field):
         asked(a, f"join pg {group} {rows}")
         asked(a, f"leave pg {group} {rows}")
         told += 2
-        return a.untold("! down peer@h")
+        return a.untold("! down peer@h 7 slow")
 
     # (each is told by a quarter of a megabyte, and the kernel holds some of them: a busy machine needs a while to fill it)
     until("the loss of a peer that doesn't read", tell_more, limit=150, pause=0.1)

@@ -34,7 +34,7 @@ def silent_peer(field):
     began = time.monotonic()
     peer.sync([("g", 1)])
     await_members(a, [peer.pid(1)], limit=5)
-    when, _ = a.told("! down peer@h")
+    when, _ = a.told("! down peer@h 7 silent")
     expect_that(when - began > 4.5, "a link to last for the tick time of 5 s", f"{when - began:.2f} s")
     await_members(a, [])
     peer.await_end()
@@ -69,7 +69,7 @@ def long_stop(field):
     began = time.monotonic()
     a.signal(signal.SIGSTOP)
     try:
-        b.told("! down a@h")
+        b.told("! down a@h [0-9]+ silent")
         expect_that(seconds_since(began) < 30, "a loss soon after the tick time of 3 s", f"{seconds_since(began):.1f} s")
         await_members(b, [])
     finally:

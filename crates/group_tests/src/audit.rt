@@ -1,4 +1,4 @@
-//! What is printed, frames on the wire, the audit, and copies with ample memory.
+//! How rules are printed, and copies of what an audit keeps.
 use dist_types::{
     Body, Group, GroupChange, Items, NodeName, OutOfMemory, Pid, Pids, Scope, TryClone,
 };
@@ -66,228 +66,12 @@ fn is_printed(alloc: Global, rule: Rule, printed: &str) -> Result<bool, Fail> {
     Ok(is_same)
 }
 
-/// A frame.
-struct Wire {
-    wide: bool,
-    body: &'static [u8],
-    /// What goes over the wire.
-    sent: &'static [u8],
-}
-
-static WIRES: [Wire; 3] = [
-    Wire {
-        wide: false,
-        body: b"sok",
-        sent: b"\x00\x03sok",
-    },
-    Wire {
-        wide: true,
-        body: b"D\x02pg",
-        sent: b"\x00\x00\x00\x04D\x02pg",
-    },
-    Wire {
-        wide: false,
-        body: b"",
-        sent: b"\x00\x00",
-    },
-];
-
-#[test]
-fn puts_the_length_before_the_body(rt: HostRuntime) -> Result<(), Fail> {
-    send_frames(rt.alloc())
-}
-
-/// Fails at the first frame of which something else goes over the wire.
-fn send_frames(alloc: Global) -> Result<(), Fail> {
-    for Wire { wide, body, sent } in &WIRES {
-        if !is_sent(alloc, *wide, body, sent)? {
-            return Err(Fail::new(format_args!("{body:?} is sent otherwise")));
-        }
-    }
-    Ok(())
-}
-
-fn is_sent(alloc: Global, wide: bool, body: &[u8], sent: &[u8]) -> Result<bool, Fail> {
-    if body.len() > 255 {
-        return Ok(false);
-    }
-    let body = Body::of(Vec::from_slice(alloc, body)?);
-    let frame = OutFrame { wide, body };
-    let mut out = Vec::new(alloc);
-    let written = frame.wire(&mut out);
-    let is_same = out.as_slice() == sent;
-    drop(out);
-    drop(frame);
-    written?;
-    Ok(is_same)
-}
-
-// What makes an audit, an event or an answer ends it by `drop` or hands it on, and others use it by reference: a check follows the
+// What makes an event or an answer ends it by `drop` or hands it on, and others use it by reference: a check follows the
 // end of a value, variant by variant, along every way out of the function that holds it.
 
 /// Fails with this text where it does not hold.
 fn expect(what: &'static str, holds: bool) -> Result<(), Fail> {
     if holds { Ok(()) } else { Err(Fail::new(what)) }
-}
-
-/// Enters a refusal that changes nothing.
-fn enter(alloc: Global, audit: &mut Audit, seat: u32) -> Result<(), AuditFault> {
-    let none = Items::of(Vec::new(alloc));
-    audit.push(seat, Event::Spawn, Verdict::Refused(Rule::PidsFull), none)
-}
-
-/// Enters the two entries that an audit may have.
-fn fill(alloc: Global, audit: &mut Audit) -> Result<(), Fail> {
-    enter(alloc, audit, 7)?;
-    Ok(enter(alloc, audit, 8)?)
-}
-
-#[test]
-fn refuses_an_entry_past_the_limit(rt: HostRuntime) -> Result<(), Fail> {
-    let mut audit = Audit::new(rt.alloc(), 2);
-    let refused = refuses_a_third(rt.alloc(), &mut audit);
-    drop(audit);
-    refused
-}
-
-fn refuses_a_third(alloc: Global, audit: &mut Audit) -> Result<(), Fail> {
-    expect("room in an empty audit", audit.make_room() == Ok(()))?;
-    fill(alloc, audit)?;
-    let full = Err(AuditFault::EntriesFull);
-    expect("no third entry", enter(alloc, audit, 9) == full)?;
-    expect("no room for a third", audit.make_room() == full)
-}
-
-#[test]
-fn finds_entries_by_number(rt: HostRuntime) -> Result<(), Fail> {
-    let mut audit = Audit::new(rt.alloc(), 2);
-    let found = finds_both(rt.alloc(), &mut audit);
-    drop(audit);
-    found
-}
-
-fn finds_both(alloc: Global, audit: &mut Audit) -> Result<(), Fail> {
-    fill(alloc, audit)?;
-    expect("no entry 0", found(audit, 0).is_none())?;
-    expect("entry 1", found(audit, 1) == Some((1, 7)))?;
-    expect("entry 2", found(audit, 2) == Some((2, 8)))?;
-    expect("no entry 3", found(audit, 3).is_none())
-}
-
-/// The number and the seat of an entry.
-fn found(audit: &Audit, number: u32) -> Option<(u32, u32)> {
-    let entry = audit.get(number)?;
-    Some((entry.number, entry.seat))
-}
-
-#[test]
-fn counts_entries_behind_a_number(rt: HostRuntime) -> Result<(), Fail> {
-    let mut audit = Audit::new(rt.alloc(), 2);
-    let counted = counts_both(rt.alloc(), &mut audit);
-    drop(audit);
-    counted
-}
-
-fn counts_both(alloc: Global, audit: &mut Audit) -> Result<(), Fail> {
-    fill(alloc, audit)?;
-    expect("all entries", audit.len() == 2)?;
-    expect("those behind the first", audit.after(1).count() == 1)?;
-    expect(
-        "none behind one that isn't there",
-        audit.after(9).count() == 0,
-    )
-}
-
-#[test]
-fn goes_on_past_the_end_of_a_page(rt: HostRuntime) -> Result<(), Fail> {
-    let mut audit = Audit::new(rt.alloc(), 600);
-    let went_on = goes_on(rt.alloc(), &mut audit);
-    drop(audit);
-    went_on
-}
-
-fn goes_on(alloc: Global, audit: &mut Audit) -> Result<(), Fail> {
-    enter_many(alloc, audit, 256)?;
-    expect("a whole page", audit.len() == 256)?;
-    expect("the last of a page", found(audit, 256) == Some((256, 256)))?;
-    expect("none on the next page", found(audit, 257).is_none())?;
-    expect("no later one yet", audit.after(256).count() == 0)?;
-    enter_many(alloc, audit, 257)?;
-    expect("two pages and one", audit.len() == 513)?;
-    finds_at_borders(audit)?;
-    goes_over_borders(audit)
-}
-
-/// Enters so many refusals, each of a seat with the entry's number.
-fn enter_many(alloc: Global, audit: &mut Audit, count: u32) -> Result<(), Fail> {
-    for _ in 0..count {
-        let seat = u32::try_from(audit.len()).unwrap_or(0).wrapping_add(1);
-        enter(alloc, audit, seat)?;
-    }
-    Ok(())
-}
-
-fn finds_at_borders(audit: &Audit) -> Result<(), Fail> {
-    for number in [1, 255, 256, 257, 258, 511, 512, 513] {
-        expect(
-            "the entry of that number",
-            found(audit, number) == Some((number, number)),
-        )?;
-    }
-    expect("none behind the last", found(audit, 514).is_none())
-}
-
-fn goes_over_borders(audit: &Audit) -> Result<(), Fail> {
-    for number in [0, 1, 255, 256, 257, 511, 512, 513, 514, 1024] {
-        expect("those behind it", lists_behind(audit, number))?;
-    }
-    Ok(())
-}
-
-/// Whether the entries behind that number are the later ones, each once and in their order.
-fn lists_behind(audit: &Audit, number: usize) -> bool {
-    let mut next = number;
-    for entry in audit.after(number) {
-        next = next.wrapping_add(1);
-        if usize::try_from(entry.number) != Ok(next) {
-            return false;
-        }
-    }
-    next == audit.len().max(number)
-}
-
-#[test]
-fn finds_changes_behind_pages_without_one(rt: HostRuntime) -> Result<(), Fail> {
-    let mut audit = Audit::new(rt.alloc(), 600);
-    let found = finds_one_change(rt.alloc(), &mut audit);
-    drop(audit);
-    found
-}
-
-fn finds_one_change(alloc: Global, audit: &mut Audit) -> Result<(), Fail> {
-    enter_many(alloc, audit, 300)?;
-    expect("no change yet", count_changes(audit, 0) == 0)?;
-    enter_change(alloc, audit)?;
-    enter_many(alloc, audit, 250)?;
-    expect("the change", count_changes(audit, 0) == 1)?;
-    expect("behind its page", count_changes(audit, 300) == 1)?;
-    expect("not behind it", count_changes(audit, 301) == 0)
-}
-
-/// How many entries behind that number changed rows.
-fn count_changes(audit: &Audit, number: usize) -> usize {
-    let mut count: usize = 0;
-    for _entry in audit.after(number).changing() {
-        count = count.wrapping_add(1);
-    }
-    count
-}
-
-/// Enters a refusal, as if it had changed rows.
-fn enter_change(alloc: Global, audit: &mut Audit) -> Result<(), Fail> {
-    let changed = Items::of(Vec::from_array(alloc, [change(alloc)?])?);
-    let refused = Verdict::Refused(Rule::PidsFull);
-    Ok(audit.push(7, Event::Spawn, refused, changed)?)
 }
 
 /// One process of a@h.
@@ -343,7 +127,7 @@ fn join(alloc: Global) -> Result<Event, Fail> {
 
 #[test]
 fn copies_a_frame(rt: HostRuntime) -> Result<(), Fail> {
-    let body = Body::of(Vec::from_slice(rt.alloc(), b"sok")?);
+    let body = Body::of(Vec::from_slice(rt.alloc(), b"sok")?)?;
     copies_event(rt.alloc(), Event::Frame(1, body))
 }
 

@@ -1,9 +1,7 @@
-//! Worked cases of the audit, of the monitors of groups, and of the table of a scope.
+//! Worked cases of what an audit keeps, and of a monitor that is moved to the end of the audit.
 #![tactic(auto)]
 
 #[cfg(test)]
 mod audit;
 #[cfg(test)]
 mod monitors;
-#[cfg(test)]
-mod tables;

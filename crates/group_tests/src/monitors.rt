@@ -1,4 +1,4 @@
-//! What monitors tell of a short audit, and the refusals.
+//! Monitors that are moved to the end of a short audit, as no program does: those of a node go to the entry that fetched.
 ghost use Rattle.std.specs.Prelude.{◌≡◌, ◌+◌, [], ◌∷◌, IfOk, OnOk, length, Some, None, codes};
 ghost use Rattle.group_monitors.specs.Monitors.{monitor_of, HasSeen};
 
@@ -173,36 +173,6 @@ fn told_both(
 // Monitors and entries are held by functions with few ways out, since a check follows their end along each.
 
 #[test]
-fn tells_each_monitor_what_is_behind_its_place(rt: HostRuntime) -> Result<(), Fail> {
-    let (first, second) = told_at_first(rt.alloc())?;
-    assert_eq!(rt; first.as_str(), "leave g 1 1;join g 3;join g 1;");
-    assert_eq!(rt; second.as_str(), "join g 1;");
-    Ok(())
-}
-
-fn told_at_first(alloc: Global) -> Result<(String, String), Fail> {
-    let audit = entries(alloc)?;
-    let monitors = three(alloc)?;
-    told_both(alloc, &monitors, &audit, (0, 1), (1, 2))
-}
-
-#[test]
-fn tells_the_same_until_advance(rt: HostRuntime) -> Result<(), Fail> {
-    let (before, again) = told_twice(rt.alloc())?;
-    assert_eq!(rt;
-        (before.as_str(), again.as_str()),
-        ("join g 1;", "join g 1;")
-    );
-    Ok(())
-}
-
-fn told_twice(alloc: Global) -> Result<(String, String), Fail> {
-    let audit = entries(alloc)?;
-    let monitors = three(alloc)?;
-    told_both(alloc, &monitors, &audit, (1, 2), (1, 2))
-}
-
-#[test]
 fn advances_one_monitor_alone(rt: HostRuntime) -> Result<(), Fail> {
     let (advanced, other) = told_after_advance(rt.alloc())?;
     assert_eq!(rt;
@@ -238,106 +208,4 @@ fn told_after_an_entry(alloc: Global) -> Result<String, Fail> {
     };
     enter(alloc, &mut audit, b"pg", &[leave])?;
     told(alloc, &monitors, &audit, 1, 2)
-}
-
-const NONE: &str = "the seat has no monitor of that number";
-
-#[test]
-fn refuses_where_the_seat_has_no_such_monitor(rt: HostRuntime) -> Result<(), Fail> {
-    let answers = answers_to_seats(rt.alloc())?;
-    assert_eq!(rt;
-        answers,
-        [Err(NoMonitor), Err(NoMonitor), Ok(()), Err(NoMonitor)]
-    );
-    Ok(())
-}
-
-/// The answers to another seat's advance and removal, and to the own seat's removal and the same again.
-fn answers_to_seats(alloc: Global) -> Result<[Result<(), NoMonitor>; 4], Fail> {
-    let audit = entries(alloc)?;
-    let mut monitors = three(alloc)?;
-    Ok([
-        monitors.advance(0, 2, &audit),
-        monitors.remove(1, 1),
-        monitors.remove(0, 1),
-        monitors.remove(0, 1),
-    ])
-}
-
-#[test]
-fn tells_another_seat_nothing(rt: HostRuntime) -> Result<(), Fail> {
-    let text = told_to_another_seat(rt.alloc())?;
-    assert_eq!(rt; text.as_str(), NONE);
-    Ok(())
-}
-
-fn told_to_another_seat(alloc: Global) -> Result<String, Fail> {
-    let audit = entries(alloc)?;
-    let monitors = three(alloc)?;
-    told(alloc, &monitors, &audit, 0, 2)
-}
-
-#[test]
-fn forgets_what_is_removed_alone(rt: HostRuntime) -> Result<(), Fail> {
-    let (removed, other) = told_after_removal(rt.alloc())?;
-    assert_eq!(rt; (removed.as_str(), other.as_str()), (NONE, "join g 1;"));
-    Ok(())
-}
-
-fn told_after_removal(alloc: Global) -> Result<(String, String), Fail> {
-    let audit = entries(alloc)?;
-    let mut monitors = three(alloc)?;
-    monitors.remove(0, 1)?;
-    told_both(alloc, &monitors, &audit, (0, 1), (1, 2))
-}
-
-#[test]
-fn drops_the_monitors_of_a_scope(rt: HostRuntime) -> Result<(), Fail> {
-    let (dropped, kept) = told_after_drop(rt.alloc())?;
-    assert_eq!(rt; (dropped.as_str(), kept.as_str()), (NONE, ""));
-    Ok(())
-}
-
-/// What a monitor of pg and one of another scope are told after the end of pg.
-fn told_after_drop(alloc: Global) -> Result<(String, String), Fail> {
-    let scope = Scope::parse(alloc, b"pg")?;
-    let other = Scope::parse(alloc, b"other")?;
-    let audit = entries(alloc)?;
-    let mut monitors = three(alloc)?;
-    monitors.add_scope(1, 4, other)?;
-    monitors.drop_scope(&scope);
-    told_both(alloc, &monitors, &audit, (0, 3), (1, 4))
-}
-
-#[test]
-fn clears_all(rt: HostRuntime) -> Result<(), Fail> {
-    let text = told_after_clear(rt.alloc())?;
-    assert_eq!(rt; text.as_str(), NONE);
-    Ok(())
-}
-
-fn told_after_clear(alloc: Global) -> Result<String, Fail> {
-    let audit = entries(alloc)?;
-    let mut monitors = three(alloc)?;
-    monitors.clear();
-    told(alloc, &monitors, &audit, 1, 2)
-}
-
-#[test]
-fn tells_all_after_a_refused_growth(rt: HostRuntime) -> Result<(), Fail> {
-    let text = insisted(rt.alloc())?;
-    assert_eq!(rt; text.as_str(), "leave g 1 1;join g 3;join g 1;");
-    Ok(())
-}
-
-/// Where one growth is refused, the call is made again: `rt try --test --fail-alloc N`.
-fn insisted(alloc: Global) -> Result<String, Fail> {
-    let audit = entries(alloc)?;
-    let monitors = three(alloc)?;
-    let text = told(alloc, &monitors, &audit, 0, 1)?;
-    if text.as_str() == "out of memory" {
-        told(alloc, &monitors, &audit, 0, 1)
-    } else {
-        Ok(text)
-    }
 }

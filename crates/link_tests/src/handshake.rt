@@ -1,2 +1,0 @@
-mod frames;
-mod streams;
