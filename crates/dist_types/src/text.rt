@@ -1,10 +1,9 @@
 //! The bytes inside each kind of text, with their limits, copies and comparisons.
-ghost use Rattle.std.specs.Prelude.{◌≡◌, List, ℕ, refl, Some, nat_eq, IfOk, IfErr, OnOk};
+ghost use Rattle.std.specs.Prelude.{◌≡◌, ◌∷◌, [], List, ℕ, refl, Some, nat_eq, IfOk, IfErr, OnOk};
 ghost use Rattle.std.specs.Arc.{arc_slice_items};
 ghost use Rattle.std.specs.Cmp as laws_of;
 ghost use Rattle.std.specs.Cmp.Lexicographic.{pointwise, slice_cmp, nat_list_eq_equiv, nat_list_cmp_total, texts_ties, texts_po};
 ghost use Rattle.std.specs.Ordering.{nat_cmp};
-ghost use Rattle.std.specs.Hash as fed;
 ghost use Rattle.std.specs.Cmp.Rules.{hashing};
 ghost use Rattle.std.proofs.Common.{rules};
 ghost use Rattle.dist_types.specs.Text.{IsText};
@@ -131,11 +130,12 @@ impl Ord for Text {
 }
 
 impl Hash for Text {
-    ghost hash_input = { fed.slice fed.u8 };
+    ghost hash_input = { λ text. text ∷ [] };
 
     ghost respects_eq = { Prim.search (hashing, rules) };
 
     fn hash<H: Hasher>(&self, state: &mut H) {
-        self.bytes.hash(state);
+        // (as a slice it would be hashed byte by byte)
+        state.write(self.bytes.as_slice());
     }
 }
