@@ -10,16 +10,18 @@ use Rattle.std.proofs.lemmas.Bool.Decides.{Decides-eqb}
 use Rattle.std.proofs.lemmas.Slice.Eq.{starts_is, bytes_eq-Decides}
 use Rattle.std.proofs.lemmas.Nat.{from_be_bytes-to_be_bytes_2, from_be_bytes-to_be_bytes_4}
 use Rattle.std.proofs.lemmas.Nat.{from_be_bytes-to_be_bytes_8}
-use Rattle.std.proofs.lemmas.List.{take_at, length-take}
+use Rattle.std.proofs.lemmas.List.{take_at, drop_at, length-take}
 use Rattle.handshake_frames.specs.declared.frame.StatusWord.{StatusWord}
 use Rattle.handshake_frames.specs.declared.frame.ReplyFrame.{ReplyFrame}
 use Rattle.handshake_frames.specs.declared.frame.AckFrame.{AckFrame}
 use Rattle.handshake_frames.specs.Frame.{Name, Challenge}
-use Rattle.handshake_frames.specs.Spelling.{counted, status_bytes, name_bytes, NameFits, SpellsName}
-use Rattle.handshake_frames.specs.Spelling.{SpellsStatus, challenge_bytes, ChallengeFits}
+use Rattle.handshake_frames.specs.Spelling.{counted, IsVersion, version_bytes, version_of}
+use Rattle.handshake_frames.specs.Spelling.{status_bytes, name_head, NameFits, SpellsName}
+use Rattle.handshake_frames.specs.Spelling.{SpellsStatus, challenge_head, ChallengeFits}
 use Rattle.handshake_frames.specs.Spelling.{SpellsChallenge, reply_bytes, SpellsReply, ack_bytes}
 use Rattle.handshake_frames.specs.Spelling.{SpellsAck}
-use Rattle.handshake_frames.specs.Reading.{counted_in, name_in, name_frame, words, status_of}
+use Rattle.handshake_frames.specs.Reading.{counted_in, behind_counted, name_in, name_frame}
+use Rattle.handshake_frames.specs.Reading.{words, status_of}
 use Rattle.handshake_frames.specs.Reading.{challenge_in, challenge_frame, reply_in, reply_frame}
 use Rattle.handshake_frames.specs.Reading.{ack_in, ack_frame}
 
@@ -58,42 +60,70 @@ counted_in_fits bytes rest e =
     let short : from_be_bytes w16 (take 2 bytes) < 2 ^ 16 = rw e (omega arith) in
     omega (arith, length-take (from_be_bytes w16 (take 2 bytes)) (drop 2 bytes))
 
+-- ---- what stands behind a name
+
+behind_counted-counted : (name extra : List ℕ) → length name < 2 ^ 16
+    → behind_counted (counted w16 name ++ extra) ≡ extra
+behind_counted-counted name extra fits = ap (λ n. drop n (name ++ extra))
+    (from_be_bytes-to_be_bytes_2 (length name) fits) ∙ drop_at name extra (length name) refl
+
+behind_is : (bytes rest : List ℕ) → bytes ≡ counted w16 (counted_in bytes) ++ rest
+    → behind_counted bytes ≡ rest
+behind_is bytes rest e = ap behind_counted e
+    ∙ behind_counted-counted (counted_in bytes) rest (counted_in_fits bytes rest e)
+
+-- any bytes say a version
+says_version : (extra : List ℕ) → IsVersion (version_of extra)
+says_version extra = grind arith
+
+-- the bytes that say a version are read as that one
+pub version_read : (version : ℕ) → IsVersion version → version ≡ version_of (version_bytes version)
+version_read version is = grind arith
+
 -- ---- a name frame
 
-name_in-name_bytes : (f : Name) (extra : List ℕ) → NameFits f → name_in (name_bytes f ++ extra) ≡ f
-name_in-name_bytes f extra fits =
+name_in-name_head : (f : Name) (extra : List ℕ) → NameFits f → f.version ≡ version_of extra
+    → name_in (name_head f ++ extra) ≡ f
+name_in-name_head f extra fits said =
     λ i. record {
       flags = from_be_bytes-to_be_bytes_8 f.flags fits.flags i;
       creation = from_be_bytes-to_be_bytes_4 f.creation fits.creation i;
       name = counted_in-counted f.name extra fits.length i;
+      version = (ap version_of (behind_counted-counted f.name extra fits.length) ∙ sym said) i;
     }
 
-name_in_fits : (body rest : List ℕ) → body ≡ name_bytes (name_in body) ++ rest
+name_in_fits : (body rest : List ℕ) → body ≡ name_head (name_in body) ++ rest
     → NameFits (name_in body)
 name_in_fits body rest e = record {
   flags = rw e (omega arith);
   creation = rw e (omega arith);
   length = counted_in_fits (drop 13 body) rest (ap (drop 13) e);
+  version = says_version (behind_counted (drop 13 body));
 }
 
 pub name_frame-spelled : (body : List ℕ) (f : Name) → SpellsName body f → name_frame body ≡ Some f
 unfolding name_frame
 name_frame-spelled body f spells =
-    let same : name_in body ≡ f = ap name_in spells.bytes ∙ name_in-name_bytes f spells.extra
-    spells.fits in
-    let begins : starts_with eqb body (name_bytes (name_in body)) ≡ true =
-    subst (λ g. starts_with eqb body (name_bytes g) ≡ true) (sym same)
-    (begins_true body (name_bytes f) spells.extra spells.bytes) in
+    let same : name_in body ≡ f = ap name_in spells.bytes ∙ name_in-name_head f spells.extra
+    spells.fits spells.version in
+    let begins : starts_with eqb body (name_head (name_in body)) ≡ true =
+    subst (λ g. starts_with eqb body (name_head g) ≡ true) (sym same)
+    (begins_true body (name_head f) spells.extra spells.bytes) in
     λ i. cond (begins i) (Some (same i)) None
 
 pub SpellsName-read : (body : List ℕ) (f : Name) → name_frame body ≡ Some f → SpellsName body f
 unfolding name_frame
 SpellsName-read body f read =
-    let found = guarded (starts_with eqb body (name_bytes (name_in body))) (name_in body) f read in
-    let bytes = begins_so body (name_bytes (name_in body)) found.0 in
-    let rest = drop (length (name_bytes (name_in body))) body in
+    let found = guarded (starts_with eqb body (name_head (name_in body))) (name_in body) f read in
+    let bytes = begins_so body (name_head (name_in body)) found.0 in
+    let rest = drop (length (name_head (name_in body))) body in
     subst (SpellsName body) found.1
-    (record { fits = name_in_fits body rest bytes; extra = rest; bytes = bytes })
+    (record {
+      fits = name_in_fits body rest bytes;
+      extra = rest;
+      bytes = bytes;
+      version = ap version_of (behind_is (drop 13 body) rest (ap (drop 13) bytes));
+    })
 
 -- ---- a status frame
 
@@ -113,46 +143,53 @@ SpellsStatus-read body status read =
 
 -- ---- a challenge frame
 
-challenge_in-challenge_bytes : (f : Challenge) (extra : List ℕ) → ChallengeFits f
-    → challenge_in (challenge_bytes f ++ extra) ≡ f
-challenge_in-challenge_bytes f extra fits =
+challenge_in-challenge_head : (f : Challenge) (extra : List ℕ) → ChallengeFits f
+    → f.version ≡ version_of extra → challenge_in (challenge_head f ++ extra) ≡ f
+challenge_in-challenge_head f extra fits said =
     λ i. record {
       flags = from_be_bytes-to_be_bytes_8 f.flags fits.flags i;
       challenge = from_be_bytes-to_be_bytes_4 f.challenge fits.challenge i;
       creation = from_be_bytes-to_be_bytes_4 f.creation fits.creation i;
       name = counted_in-counted f.name extra fits.length i;
+      version = (ap version_of (behind_counted-counted f.name extra fits.length) ∙ sym said) i;
     }
 
-challenge_in_fits : (body rest : List ℕ) → body ≡ challenge_bytes (challenge_in body) ++ rest
+challenge_in_fits : (body rest : List ℕ) → body ≡ challenge_head (challenge_in body) ++ rest
     → ChallengeFits (challenge_in body)
 challenge_in_fits body rest e = record {
   flags = rw e (omega arith);
   challenge = rw e (omega arith);
   creation = rw e (omega arith);
   length = counted_in_fits (drop 17 body) rest (ap (drop 17) e);
+  version = says_version (behind_counted (drop 17 body));
 }
 
 pub challenge_frame-spelled : (body : List ℕ) (f : Challenge) → SpellsChallenge body f
     → challenge_frame body ≡ Some f
 unfolding challenge_frame
 challenge_frame-spelled body f spells =
-    let same : challenge_in body ≡ f = ap challenge_in spells.bytes ∙ challenge_in-challenge_bytes f
-    spells.extra spells.fits in
-    let begins : starts_with eqb body (challenge_bytes (challenge_in body)) ≡ true =
-    subst (λ g. starts_with eqb body (challenge_bytes g) ≡ true) (sym same)
-    (begins_true body (challenge_bytes f) spells.extra spells.bytes) in
+    let same : challenge_in body ≡ f = ap challenge_in spells.bytes ∙ challenge_in-challenge_head f
+    spells.extra spells.fits spells.version in
+    let begins : starts_with eqb body (challenge_head (challenge_in body)) ≡ true =
+    subst (λ g. starts_with eqb body (challenge_head g) ≡ true) (sym same)
+    (begins_true body (challenge_head f) spells.extra spells.bytes) in
     λ i. cond (begins i) (Some (same i)) None
 
 pub SpellsChallenge-read : (body : List ℕ) (f : Challenge) → challenge_frame body ≡ Some f
     → SpellsChallenge body f
 unfolding challenge_frame
 SpellsChallenge-read body f read =
-    let found = guarded (starts_with eqb body (challenge_bytes (challenge_in body)))
+    let found = guarded (starts_with eqb body (challenge_head (challenge_in body)))
     (challenge_in body) f read in
-    let bytes = begins_so body (challenge_bytes (challenge_in body)) found.0 in
-    let rest = drop (length (challenge_bytes (challenge_in body))) body in
+    let bytes = begins_so body (challenge_head (challenge_in body)) found.0 in
+    let rest = drop (length (challenge_head (challenge_in body))) body in
     subst (SpellsChallenge body) found.1
-    (record { fits = challenge_in_fits body rest bytes; extra = rest; bytes = bytes })
+    (record {
+      fits = challenge_in_fits body rest bytes;
+      extra = rest;
+      bytes = bytes;
+      version = ap version_of (behind_is (drop 17 body) rest (ap (drop 17) bytes));
+    })
 
 -- ---- a reply
 

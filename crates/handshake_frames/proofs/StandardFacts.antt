@@ -1,19 +1,35 @@
 -- The worked bodies of the frames are read as what they say.
-use Rattle.std.proofs.Common.{◌≡◌, List, ℕ, [], ◌∷◌, Some, refl, codes}
+use Rattle.std.proofs.Common.{◌≡◌, List, ℕ, [], ◌∷◌, ◌++◌, Some, refl, codes}
 use Rattle.handshake_frames.specs.declared.frame.StatusWord.TheVariants as word
+use Rattle.handshake_frames.specs.Frame.{Name}
 use Rattle.handshake_frames.specs.Reading.{name_frame, status_of, challenge_frame, reply_frame}
 use Rattle.handshake_frames.specs.Reading.{ack_frame}
 
 -- the flags of bits 0 and 24, the creation 5, and `a@h`
-name_body : List ℕ
-name_body = 0x4E ∷ 0 ∷ 0 ∷ 0 ∷ 0 ∷ 1 ∷ 0 ∷ 0 ∷ 1 ∷ 0 ∷ 0 ∷ 0 ∷ 5 ∷ 0 ∷ 3 ∷ 0x61 ∷ 0x40 ∷ 0x68 ∷ 0xAA
-    ∷ []
+head : List ℕ
+head = 0x4E ∷ 0 ∷ 0 ∷ 0 ∷ 0 ∷ 1 ∷ 0 ∷ 0 ∷ 1 ∷ 0 ∷ 0 ∷ 0 ∷ 5 ∷ 0 ∷ 3 ∷ 0x61 ∷ 0x40 ∷ 0x68 ∷ []
 
--- a byte behind the name is not read
-read_name : name_frame (name_body) ≡ Some
-    (record { flags = 0x1000001; creation = 5; name = codes "a@h" })
-unfolding name_frame name_body
-read_name = refl
+said : ℕ → Name
+said version =
+    record { flags = 0x1000001; creation = 5; name = codes "a@h"; version = version }
+
+-- nothing behind the name, and a byte other than 02, say version 1
+read_bare : name_frame head ≡ Some (said 1)
+unfolding name_frame head said
+read_bare = refl
+
+read_other : name_frame (head ++ 0xAA ∷ []) ≡ Some (said 1)
+unfolding name_frame head said
+read_other = refl
+
+-- 02 says version 2, and 02 twice doesn't
+read_2 : name_frame (head ++ 2 ∷ []) ≡ Some (said 2)
+unfolding name_frame head said
+read_2 = refl
+
+read_2_twice : name_frame (head ++ 2 ∷ 2 ∷ []) ≡ Some (said 1)
+unfolding name_frame head said
+read_2_twice = refl
 
 -- MD5 of `password123`
 digest : List ℕ
@@ -25,8 +41,9 @@ unfolding status_of
 read_status = refl
 
 read_challenge : challenge_frame (0x4E ∷ 0 ∷ 0 ∷ 0 ∷ 0 ∷ 1 ∷ 0 ∷ 0 ∷ 1 ∷ 0 ∷ 0 ∷ 0 ∷ 0x7B ∷ 0 ∷ 0
-    ∷ 0 ∷ 4 ∷ 0 ∷ 3 ∷ 0x62 ∷ 0x40 ∷ 0x68 ∷ [])
-    ≡ Some (record { flags = 0x1000001; challenge = 123; creation = 4; name = codes "b@h" })
+    ∷ 0 ∷ 4 ∷ 0 ∷ 3 ∷ 0x62 ∷ 0x40 ∷ 0x68 ∷ 2 ∷ [])
+    ≡ Some
+    (record { flags = 0x1000001; challenge = 123; creation = 4; name = codes "b@h"; version = 2 })
 unfolding challenge_frame
 read_challenge = refl
 

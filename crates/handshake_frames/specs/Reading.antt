@@ -7,11 +7,15 @@ use Rattle.handshake_frames.specs.declared.frame.StatusWord.TheVariants as word
 use Rattle.handshake_frames.specs.declared.frame.ReplyFrame.{ReplyFrame}
 use Rattle.handshake_frames.specs.declared.frame.AckFrame.{AckFrame}
 use Rattle.handshake_frames.specs.Frame.{Name, Challenge}
-use Rattle.handshake_frames.specs.Spelling.{name_bytes, status_bytes, challenge_bytes, reply_bytes, ack_bytes}
+use Rattle.handshake_frames.specs.Spelling.{version_of, name_head, status_bytes, challenge_head, reply_bytes, ack_bytes}
 
 -- the name behind its length of 2 bytes
 abbrev pub counted_in : List ℕ → List ℕ
 counted_in bytes = take (from_be_bytes w16 (take 2 bytes)) (drop 2 bytes)
+
+-- the bytes behind that name
+abbrev pub behind_counted : List ℕ → List ℕ
+behind_counted bytes = drop (from_be_bytes w16 (take 2 bytes)) (drop 2 bytes)
 
 -- the only name frame that the body can spell
 abbrev pub name_in : List ℕ → Name
@@ -19,11 +23,12 @@ name_in body = record {
   flags = from_be_bytes w64 (slice_range body 1 9);
   creation = from_be_bytes w32 (slice_range body 9 13);
   name = counted_in (drop 13 body);
+  version = version_of (behind_counted (drop 13 body));
 }
 
--- the name frame that the body spells: the body begins with its bytes
+-- the name frame that the body spells: the body begins with its bytes up to the name
 unfoldable pub name_frame : List ℕ → Option Name
-name_frame body = if starts_with nat_eq body (name_bytes (name_in body)) then Some (name_in body) else None
+name_frame body = if starts_with nat_eq body (name_head (name_in body)) then Some (name_in body) else None
 
 -- the words of a status frame
 abbrev pub words : List StatusWord
@@ -40,11 +45,12 @@ challenge_in body = record {
   challenge = from_be_bytes w32 (slice_range body 9 13);
   creation = from_be_bytes w32 (slice_range body 13 17);
   name = counted_in (drop 17 body);
+  version = version_of (behind_counted (drop 17 body));
 }
 
--- the challenge frame that the body spells: the body begins with its bytes
+-- the challenge frame that the body spells: the body begins with its bytes up to the name
 unfoldable pub challenge_frame : List ℕ → Option Challenge
-challenge_frame body = if starts_with nat_eq body (challenge_bytes (challenge_in body)) then Some (challenge_in body) else None
+challenge_frame body = if starts_with nat_eq body (challenge_head (challenge_in body)) then Some (challenge_in body) else None
 
 -- the only reply that the body can spell
 abbrev pub reply_in : List ℕ → ReplyFrame

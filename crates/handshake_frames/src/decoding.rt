@@ -11,9 +11,11 @@ use crate::counted::counted_at;
 use crate::fault::BadFrame;
 use crate::frame::{AckFrame, ChallengeFrame, NameFrame, ReplyFrame, StatusWord};
 use crate::status::{WORDS, status_body};
+use crate::version::version_of;
 use dist_types::{Flags, after_kind, u32_at, u64_at};
 
-/// Reads a name frame: `N`, flags 8, creation 4, the name's length 2, the name, and then any bytes.
+/// Reads a name frame: `N`, flags 8, creation 4, the name's length 2, the name, and then any bytes. The version is 2 where
+/// these are exactly 02, else 1.
 pub fn decode_name(body: &[u8]) -> Result<NameFrame<'_>, BadFrame>
     // What is read is spelled so.
     ensures found { IfOk result (λ frame. SpellsName body.now (name_said frame)) }
@@ -35,7 +37,8 @@ pub fn decode_status(body: &[u8]) -> Result<StatusWord, BadFrame>
     word.copied().ok_or(BadFrame)
 }
 
-/// Reads a challenge frame: `N`, flags 8, challenge 4, creation 4, the name's length 2, the name, and then any bytes.
+/// Reads a challenge frame: `N`, flags 8, challenge 4, creation 4, the name's length 2, the name, and then any bytes. The
+/// version is 2 where these are exactly 02, else 1.
 pub fn decode_challenge(body: &[u8]) -> Result<ChallengeFrame<'_>, BadFrame>
     ensures found { IfOk result (λ frame. SpellsChallenge body.now (challenge_said frame)) }
     ensures only { (challenge : Challenge) → SpellsChallenge body.now challenge →
@@ -70,11 +73,12 @@ fn name_at(body: &[u8]) -> Option<NameFrame<'_>>
     let rest = after_kind(b'N', body)?;
     let (flags, rest) = u64_at(rest)?;
     let (creation, rest) = u32_at(rest)?;
-    let (name, _) = counted_at(rest)?;
+    let (name, extra) = counted_at(rest)?;
     Some(NameFrame {
         flags: Flags(flags),
         creation,
         name,
+        version: version_of(extra),
     })
 }
 
@@ -87,12 +91,13 @@ fn challenge_at(body: &[u8]) -> Option<ChallengeFrame<'_>>
     let (flags, rest) = u64_at(rest)?;
     let (challenge, rest) = u32_at(rest)?;
     let (creation, rest) = u32_at(rest)?;
-    let (name, _) = counted_at(rest)?;
+    let (name, extra) = counted_at(rest)?;
     Some(ChallengeFrame {
         flags: Flags(flags),
         challenge,
         creation,
         name,
+        version: version_of(extra),
     })
 }
 

@@ -7,6 +7,8 @@ pub struct NameFrame<'a> {
     pub flags: Flags,
     pub creation: u32,
     pub name: &'a [u8],
+    /// The version of link messages that the sender knows: 2 where the name is followed by the byte 02 alone, else 1.
+    pub version: u8,
 }
 
 /// The word of a status frame. The acceptor answers a name frame with one, and the dialler answers `Alive`.
@@ -34,6 +36,8 @@ pub struct ChallengeFrame<'a> {
     pub challenge: u32,
     pub creation: u32,
     pub name: &'a [u8],
+    /// The version of link messages that the sender knows: 2 where the name is followed by the byte 02 alone, else 1.
+    pub version: u8,
 }
 
 /// The dialler's own challenge, and its digest for the acceptor's.

@@ -12,6 +12,7 @@ mod held;
 mod laws;
 mod reader;
 mod status;
+mod version;
 
 pub use body_so_far::BodySoFar;
 pub use counted::counted_at;

@@ -3,4 +3,9 @@ use Rattle.handshake_frames.proofs.decoding.name_at.Goals as goal
 
 pub returns-clause-found : goal.returns-clause-found
 returns-clause-found c =
-    record { fits = search rules; extra = c.in_ok-name.field-0-1.now; bytes = search rules }
+    record {
+      fits = search rules;
+      extra = c.in_ok-name.extra.now;
+      bytes = search rules;
+      version = c.version_of.ensures;
+    }

@@ -4,6 +4,8 @@ use Rattle.handshake_frames.proofs.encoding.put_name.Goals as goal
 pub returns-clause-ok : goal.returns-clause-ok
 returns-clause-ok c =
     rw (
+      c.in_ok-extend_from_slice-5.ensures.items,
+      c.version_bytes-version.ensures,
       c.in_ok-extend_from_slice-4.ensures.items,
       c.in_ok-extend_from_slice-3.ensures.items,
       c.in_ok-extend_from_slice-2.ensures.items,
