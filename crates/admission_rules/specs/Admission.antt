@@ -3,15 +3,18 @@
 use Rattle.std.specs.Prelude.{◌≡◌, ℕ, ◌≤◌, ◌⊎◌, Bool, if◌then◌else◌, List, [], length, Option, None, Contains, unwrap_or}
 use Rattle.std.specs.Str.{bytes_eq}
 use Rattle.std.specs.Map.{lookup}
+use Rattle.handshake_frames.specs.Spelling.{IsVersion}
 use Rattle.indexmap.specs.IndexMap.{insert_entry}
 use Rattle.indexmap.specs.IndexSet.{insert_all}
 
--- a node, its own cookie, the cookies of peers, and the names allowed, in order of first allowing
+-- a node, its own cookie, the latest version of link messages that it knows, the cookies of peers, and the names allowed, in
+-- order of first allowing
 pub record AdmissionRules : Type 0 where
   pub own : List ℕ
   pub cookie : List ℕ
   pub hidden : Bool
   pub creation : ℕ
+  pub links : ℕ
   pub peers : List (List ℕ × List ℕ)
   pub allowed : List (List ℕ)
 
@@ -23,9 +26,10 @@ max_peers = 1024
 abbrev pub max_allowed : ℕ
 max_allowed = 1024
 
--- what holds of the own name, the cookies of peers and the allowed names of every admission
-pub record IsWithinLimits (own : List ℕ) (peers : List (List ℕ × List ℕ)) (allowed : List (List ℕ)) : Type 0 where
+-- what holds of the own name, the version, the cookies of peers and the allowed names of every admission
+pub record IsWithinLimits (own : List ℕ) (links : ℕ) (peers : List (List ℕ × List ℕ)) (allowed : List (List ℕ)) : Type 0 where
   pub own_apart : lookup (bytes_eq own) peers ≡ None
+  pub version : IsVersion links
   pub few_peers : length peers ≤ max_peers
   pub few_allowed : length allowed ≤ max_allowed
 

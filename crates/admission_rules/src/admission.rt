@@ -1,6 +1,7 @@
 //! The rules by which a node admits its peers (Erlang manual, `erlang:set_cookie`; Kernel manual, `net_kernel:allow`).
 ghost use Rattle.std.specs.Prelude.{◌≡◌, ◌↔◌, ◌≤◌, length, slice_get, IsTrue, OnOk, IfErr, OnErr, IsBitSet, false, []};
 ghost use Rattle.std.specs.Option.{option_copied};
+ghost use Rattle.handshake_frames.specs.Spelling.{IsVersion};
 ghost use Rattle.admission_rules.specs.Admission.{max_peers, max_allowed, cookie_of, with_cookie_for, with_allowed, IsAllowed};
 ghost use Rattle.admission_rules.specs.Fault.{IsCookieFault, IsAllowFault};
 
@@ -12,13 +13,16 @@ use indexmap::{IndexMap, IndexSet};
 use std::alloc::Global;
 use std::marker::Model;
 
-/// A node's own name, creation and cookie, the cookies of its peers, and the names that it allows.
+/// A node's own name, creation and cookie, the latest version of link messages that it knows, the cookies of its peers, and the
+/// names that it allows.
 #[derive(Debug)]
 pub struct Admission {
     own: NodeName,
     cookie: Cookie,
     hidden: bool,
     creation: u32,
+    /// 1 or 2.
+    links: u8,
     /// Never the own name.
     peers: IndexMap<NodeName, Cookie>,
     allowed: IndexSet<NodeName>,
@@ -31,6 +35,7 @@ impl Drop for Admission {
             cookie: _,
             hidden: _,
             creation: _,
+            links: _,
             peers: _,
             allowed: _,
         } = self;
@@ -47,31 +52,35 @@ impl Model for Admission {
       cookie = a.cookie;
       hidden = a.hidden;
       creation = a.creation;
+      links = a.links;
       peers = a.peers.entries;
       allowed = a.allowed.keys;
     } };
 
-    ghost invariant = { λ a. IsWithinLimits a.own a.peers.entries a.allowed.keys };
+    ghost invariant = { λ a. IsWithinLimits a.own a.links a.peers.entries a.allowed.keys };
 }
 
 impl Admission {
     const MAX_PEERS: usize = 1024;
 
-    /// Every peer has the own cookie, and every name is allowed.
+    /// Every peer has the own cookie, and every name is allowed. The version of link messages must be 1 or 2.
     pub fn new(
         alloc: Global,
         own: NodeName,
         cookie: Cookie,
         hidden: bool,
         creation: u32,
+        links: u8,
     ) -> Admission
-        ensures { result ≡ record { own = own; cookie = cookie; hidden = hidden; creation = creation; peers = []; allowed = [] } }
+        requires { IsVersion links }
+        ensures { result ≡ record { own = own; cookie = cookie; hidden = hidden; creation = creation; links = links; peers = []; allowed = [] } }
     {
         Admission {
             own,
             cookie,
             hidden,
             creation,
+            links,
             peers: IndexMap::new(alloc),
             allowed: IndexSet::new(alloc),
         }
@@ -93,6 +102,14 @@ impl Admission {
         ensures { result ≡ self.now.creation }
     {
         self.creation
+    }
+
+    /// The latest version of link messages that the node knows. A link has version 2 where both ends know it.
+    pub fn links(&self) -> u8
+        ensures value { result ≡ self.now.links }
+        ensures limits { IsVersion self.now.links }
+    {
+        self.links
     }
 
     /// The cookie for a node: a peer's own one, and else the node's.

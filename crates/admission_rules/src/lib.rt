@@ -1,4 +1,5 @@
-//! Whom a node admits: its cookie and those of its peers, the names that it allows, and whether it is hidden.
+//! Whom a node admits: its cookie and those of its peers, the names that it allows, whether it is hidden, and the version of link
+//! messages that it knows.
 #![tactic(auto)]
 
 mod admission;
