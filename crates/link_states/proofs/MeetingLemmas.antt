@@ -3,7 +3,6 @@ use Rattle.std.proofs.Common.{◌≡◌, ◌≢◌, ℕ, ◌<◌, ◌≤◌, ◌
 use Rattle.std.proofs.Common.{Option, Some, refl, sym, ap, arith}
 use Rattle.std.specs.Prelude.{bytes_eq}
 use Rattle.std.proofs.lemmas.Bool.{false_from_ne_true}
-use Rattle.std.proofs.lemmas.List.{append-nil}
 use Rattle.std.proofs.lemmas.Slice.Eq.{bytes_eq-Decides}
 use Rattle.md5.proofs.StandardFacts.{length-md5}
 use Rattle.dist_types.specs.Text.{is_node_name}
@@ -14,6 +13,7 @@ use Rattle.handshake_frames.specs.declared.frame.ReplyFrame.{ReplyFrame}
 use Rattle.handshake_frames.specs.declared.frame.AckFrame.{AckFrame}
 use Rattle.handshake_frames.specs.Spelling.{name_bytes, challenge_bytes, reply_bytes, ack_bytes}
 use Rattle.handshake_frames.specs.Spelling.{ReplyFits, AckFits}
+use Rattle.handshake_frames.specs.Spelling.{IsVersion, version_bytes, version_of}
 use Rattle.handshake_frames.specs.Reading.{name_frame, challenge_frame, reply_frame, ack_frame}
 use Rattle.handshake_frames.proofs.ReadingLemmas.{name_frame-spelled, challenge_frame-spelled}
 use Rattle.handshake_frames.proofs.ReadingLemmas.{reply_frame-spelled, ack_frame-spelled}
@@ -24,6 +24,7 @@ use Rattle.link_states.specs.Checks.{PassesAll, name_checks, challenge_checks, r
 use Rattle.link_states.specs.Checks.{ack_checks, allows, outranks, is_answer}
 use Rattle.link_states.specs.Frames.{own_name, own_challenge, reply_owed, ack_owed}
 use Rattle.link_states.specs.Meeting.{MayDial}
+use Rattle.link_states.specs.Peer.{link_version}
 use Rattle.link_states.proofs.AllowedLemmas.{allows_allowed}
 
 own_flags_fit : (hidden : Bool) → own_flags hidden < 2 ^ 64
@@ -42,25 +43,54 @@ other_bytes : (xs ys : List ℕ) → xs ≢ ys → bytes_eq xs ys ≡ false
 other_bytes xs ys apart = false_from_ne_true (bytes_eq xs ys)
     (λ yes. apart ((bytes_eq-Decides xs ys).0 yes))
 
+-- what the other end hears where this one says a version
+heard : ℕ → ℕ
+heard version = version_of (version_bytes version)
+
+heard_is : (version : ℕ) → IsVersion (heard version)
+unfolding heard
+heard_is version = grind arith
+
+-- each end hears whether the other knows version 2
+one_version : (a b : AdmissionRules)
+    → link_version a (heard b.links) ≡ link_version b (heard a.links)
+unfolding heard
+one_version a b = grind arith
+
 name_read : (f : Name) → f.flags < 2 ^ 64 → f.creation < 2 ^ 32 → length f.name ≤ 255
-    → name_frame (name_bytes f) ≡ Some f
+    → name_frame (name_bytes f) ≡ Some (record f { version = heard f.version })
+unfolding heard
 name_read f flags creation name =
-    name_frame-spelled (name_bytes f) f
+    name_frame-spelled (name_bytes f) (record f { version = heard f.version })
     (record {
-      fits = record { flags = flags; creation = creation; length = omega arith };
-      extra = [];
-      bytes = sym (append-nil (name_bytes f));
+      fits = record {
+        flags = flags;
+        creation = creation;
+        length = omega arith;
+        version = heard_is f.version;
+      };
+      extra = version_bytes f.version;
+      bytes = refl;
+      version = refl;
     })
 
 challenge_read : (f : Challenge) → f.flags < 2 ^ 64 → f.challenge < 2 ^ 32 → f.creation < 2 ^ 32
-    → length f.name ≤ 255 → challenge_frame (challenge_bytes f) ≡ Some f
+    → length f.name ≤ 255
+    → challenge_frame (challenge_bytes f) ≡ Some (record f { version = heard f.version })
+unfolding heard
 challenge_read f flags challenge creation name =
-    challenge_frame-spelled (challenge_bytes f) f
+    challenge_frame-spelled (challenge_bytes f) (record f { version = heard f.version })
     (record {
-      fits = record
-          { flags = flags; challenge = challenge; creation = creation; length = omega arith };
-      extra = [];
-      bytes = sym (append-nil (challenge_bytes f));
+      fits = record {
+        flags = flags;
+        challenge = challenge;
+        creation = creation;
+        length = omega arith;
+        version = heard_is f.version;
+      };
+      extra = version_bytes f.version;
+      bytes = refl;
+      version = refl;
     })
 
 named_passes : (b : AdmissionRules) (pending : Pending) (f : Name) (read : Option Name)
@@ -95,29 +125,53 @@ answers a b peers cookie = same_bytes _ _ (ap (λ c. digest_of c peers) cookie)
 only_body : (x y : List ℕ) → x ∷ [] ≡ y ∷ [] → y ≡ x
 only_body x y e = cc
 
+own_name_read : (a b : AdmissionRules) → MayDial a b
+    → name_frame (own_name a) ≡ Some
+    (record {
+      flags = own_flags a.hidden;
+      creation = a.creation;
+      name = a.own;
+      version = heard a.links;
+    })
+own_name_read a b may = name_read
+    (record {
+      flags = own_flags a.hidden;
+      creation = a.creation;
+      name = a.own;
+      version = a.links;
+    }) (own_flags_fit a.hidden) may.creation_of_dialler may.dialler.text.not_long
+
+own_challenge_read : (a b : AdmissionRules) (number : ℕ) → MayDial a b → number < 2 ^ 32
+    → challenge_frame (own_challenge b number) ≡ Some
+    (record {
+      flags = own_flags b.hidden;
+      challenge = number;
+      creation = b.creation;
+      name = b.own;
+      version = heard b.links;
+    })
+own_challenge_read a b number may fits = challenge_read
+    (record {
+      flags = own_flags b.hidden;
+      challenge = number;
+      creation = b.creation;
+      name = b.own;
+      version = b.links;
+    }) (own_flags_fit b.hidden) fits may.creation_of_acceptor may.acceptor.text.not_long
+
 pub name_passes : (a b : AdmissionRules) (pending : Pending) → MayDial a b
     → outranks b pending a.own ≡ false
     → PassesAll (name_checks b pending (name_frame (own_name a)))
 name_passes a b pending may free =
-    let f : Name = record { flags = own_flags a.hidden; creation = a.creation; name = a.own } in
-    named_passes b pending f (name_frame (own_name a))
-    (name_read f (own_flags_fit a.hidden) may.creation_of_dialler may.dialler.text.not_long)
+    named_passes b pending _ (name_frame (own_name a)) (own_name_read a b may)
     (own_flags_speak a.hidden) (own_flags_name a.hidden) ((names_compute a.own).1 may.dialler)
     (other_bytes a.own b.own may.other) (allows_allowed b a.own may.allowed) free
 
 pub challenge_passes : (a b : AdmissionRules) (number : ℕ) → MayDial a b → number < 2 ^ 32
     → PassesAll (challenge_checks b.own (challenge_frame (own_challenge b number)))
 challenge_passes a b number may fits =
-    let f : Challenge =
-    record {
-      flags = own_flags b.hidden;
-      challenge = number;
-      creation = b.creation;
-      name = b.own;
-    } in
-    challenged_passes b.own f (challenge_frame (own_challenge b number))
-    (challenge_read f (own_flags_fit b.hidden) fits may.creation_of_acceptor
-    may.acceptor.text.not_long)
+    challenged_passes b.own _ (challenge_frame (own_challenge b number))
+    (own_challenge_read a b number may fits)
     (own_flags_speak b.hidden) (same_bytes b.own b.own refl)
 
 pub reply_passes : (a b : AdmissionRules) (own peers : ℕ) (body : List ℕ) → MayDial a b
@@ -140,3 +194,17 @@ ack_passes a b peers body may owed =
     acknowledged_passes a b.own peers f (ack_frame body)
     (ack_frame-spelled body f (record { fits = fit; bytes = only_body (ack_bytes f) body owed }))
     (answers b a peers (sym may.cookie))
+
+-- both ends take the same version from each other's frames
+pub same_version : (a b : AdmissionRules) (number : ℕ) (name : Name) (challenge : Challenge)
+    → MayDial a b → number < 2 ^ 32 → name_frame (own_name a) ≡ Some name
+    → challenge_frame (own_challenge b number) ≡ Some challenge
+    → link_version a challenge.version ≡ link_version b name.version
+same_version a b number name challenge may fits named asked =
+    cc (
+      one_version a b,
+      named,
+      asked,
+      own_name_read a b may,
+      own_challenge_read a b number may fits,
+    )

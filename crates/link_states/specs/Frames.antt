@@ -9,14 +9,21 @@ use Rattle.admission_rules.specs.Admission.{AdmissionRules, cookie_of}
 use Rattle.link_states.specs.declared.state_rule.StateRule.{StateRule}
 use Rattle.link_states.specs.declared.state_rule.StateRule.TheVariants as rule
 
--- the node's own name frame
+-- the node's own name frame, with the latest version that it knows
 abbrev pub own_name : AdmissionRules → List ℕ
-own_name rules = name_bytes (record { flags = own_flags rules.hidden; creation = rules.creation; name = rules.own })
+own_name rules =
+    name_bytes (record { flags = own_flags rules.hidden; creation = rules.creation; name = rules.own; version = rules.links })
 
--- the node's own challenge frame
+-- the node's own challenge frame, with that version
 abbrev pub own_challenge : AdmissionRules → ℕ → List ℕ
 own_challenge rules challenge =
-    challenge_bytes (record { flags = own_flags rules.hidden; challenge = challenge; creation = rules.creation; name = rules.own })
+    challenge_bytes (record {
+      flags = own_flags rules.hidden;
+      challenge = challenge;
+      creation = rules.creation;
+      name = rules.own;
+      version = rules.links;
+    })
 
 -- the status that answers a name frame, and the own challenge, which `alive` withholds
 abbrev pub greeting_owed : AdmissionRules → ℕ → StatusWord → List (List ℕ)

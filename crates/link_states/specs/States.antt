@@ -11,6 +11,7 @@ pub record Introduced : Type 0 where
   pub peer : List ℕ
   pub creation : ℕ
   pub visible : Bool
+  pub version : ℕ
   pub challenge : ℕ
 
 -- an end whose peer answered the challenge of this number
@@ -18,8 +19,10 @@ pub record Linked : Type 0 where
   pub peer : List ℕ
   pub creation : ℕ
   pub visible : Bool
+  pub version : ℕ
   pub proof : ℕ
 
 -- the state once its peer has answered the challenge
 abbrev pub linked : Introduced → Linked
-linked state = record { peer = state.peer; creation = state.creation; visible = state.visible; proof = state.challenge }
+linked state =
+    record { peer = state.peer; creation = state.creation; visible = state.visible; version = state.version; proof = state.challenge }

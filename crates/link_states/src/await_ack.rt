@@ -36,13 +36,14 @@ impl Model for AwaitAck {
       peer = state.peer.name;
       creation = state.peer.creation;
       visible = state.peer.visible;
+      version = state.peer.version;
       challenge = state.challenge;
     } };
 }
 
 impl AwaitAck {
     pub(crate) fn new(peer: Peer, challenge: Challenge) -> AwaitAck
-        ensures { result ≡ record { peer = peer.name; creation = peer.creation; visible = peer.visible; challenge = challenge } }
+        ensures { result ≡ record { peer = peer.name; creation = peer.creation; visible = peer.visible; version = peer.version; challenge = challenge } }
     {
         AwaitAck { peer, challenge }
     }

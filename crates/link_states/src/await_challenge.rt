@@ -73,7 +73,7 @@ impl AwaitChallenge {
             Err(refusal) => return Err(stop(alloc, refusal, self)),
         };
         let AwaitChallenge { peer, challenge } = self;
-        let peer = Peer::new(admission, peer, given.flags, given.creation);
+        let peer = Peer::new(admission, peer, given.flags, given.creation, given.version);
         Ok((AwaitAck::new(peer, challenge), frames))
     }
 

@@ -119,7 +119,7 @@ fn peer_named<L: OtherLinks>(
         !outranks(admission, standing, &name),
         StateRule::Simultaneous,
     )?;
-    let peer = Peer::new(admission, name, frame.flags, frame.creation);
+    let peer = Peer::new(admission, name, frame.flags, frame.creation, frame.version);
     Ok((peer, standing))
 }
 

@@ -36,13 +36,14 @@ impl Model for AwaitReply {
       peer = state.peer.name;
       creation = state.peer.creation;
       visible = state.peer.visible;
+      version = state.peer.version;
       challenge = state.challenge;
     } };
 }
 
 impl AwaitReply {
     pub(crate) fn new(peer: Peer, challenge: Challenge) -> AwaitReply
-        ensures { result ≡ record { peer = peer.name; creation = peer.creation; visible = peer.visible; challenge = challenge } }
+        ensures { result ≡ record { peer = peer.name; creation = peer.creation; visible = peer.visible; version = peer.version; challenge = challenge } }
     {
         AwaitReply { peer, challenge }
     }

@@ -24,6 +24,7 @@ pub fn name_frame(alloc: Global, admission: &Admission) -> Result<HandshakeBody,
         flags: Flags::own(admission.hidden()),
         creation: admission.creation(),
         name: admission.own().as_bytes(),
+        version: admission.links(),
     };
     body_of(alloc, &HsFrame::Name(name))
 }
@@ -41,6 +42,7 @@ fn challenge_frame(
         challenge,
         creation: admission.creation(),
         name: admission.own().as_bytes(),
+        version: admission.links(),
     };
     body_of(alloc, &HsFrame::Challenge(challenge))
 }

@@ -1,6 +1,6 @@
 //! What a state knows of its peer.
 ghost use Rattle.std.specs.Prelude.{◌≡◌};
-ghost use Rattle.link_states.specs.Peer.{is_visible};
+ghost use Rattle.link_states.specs.Peer.{is_visible, link_version};
 
 use admission_rules::Admission;
 use dist_types::{Flags, NodeName};
@@ -12,6 +12,8 @@ pub struct Peer {
     pub creation: u32,
     /// Neither end is hidden.
     pub visible: bool,
+    /// The version of the link's messages, 1 or 2.
+    pub version: u8,
 }
 
 impl Drop for Peer {
@@ -20,19 +22,32 @@ impl Drop for Peer {
             name: _,
             creation: _,
             visible: _,
+            version: _,
         } = self;
     }
 }
 
 impl Peer {
-    /// The peer that sent these flags and this creation.
-    pub fn new(admission: &Admission, name: NodeName, flags: Flags, creation: u32) -> Peer
-        ensures { result ≡ record { name = name; creation = creation; visible = is_visible admission.now flags.0 } }
+    /// The peer that sent these flags, this creation and this version.
+    pub fn new(
+        admission: &Admission,
+        name: NodeName,
+        flags: Flags,
+        creation: u32,
+        version: u8,
+    ) -> Peer
+        ensures { result ≡ record {
+          name = name;
+          creation = creation;
+          visible = is_visible admission.now flags.0;
+          version = link_version admission.now version;
+        } }
     {
         Peer {
             name,
             creation,
             visible: is_visible(admission, flags),
+            version: link_version(admission, version),
         }
     }
 }
@@ -41,4 +56,15 @@ fn is_visible(admission: &Admission, flags: Flags) -> bool
     ensures { result ≡ is_visible admission.now flags.0 }
 {
     admission.visible(flags)
+}
+
+/// The version that both ends know.
+fn link_version(admission: &Admission, version: u8) -> u8
+    ensures { result ≡ link_version admission.now version }
+{
+    if admission.links() == 2 && version == 2 {
+        2
+    } else {
+        1
+    }
 }

@@ -28,13 +28,14 @@ impl Model for Up {
       peer = up.peer.name;
       creation = up.peer.creation;
       visible = up.peer.visible;
+      version = up.peer.version;
       proof = up.proof;
     } };
 }
 
 impl Up {
     pub(crate) fn new(peer: Peer, proof: Proof) -> Up
-        ensures { result ≡ record { peer = peer.name; creation = peer.creation; visible = peer.visible; proof = proof } }
+        ensures { result ≡ record { peer = peer.name; creation = peer.creation; visible = peer.visible; version = peer.version; proof = proof } }
     {
         Up { peer, proof }
     }
@@ -58,6 +59,13 @@ impl Up {
         ensures { result ≡ self.now.visible }
     {
         self.peer.visible
+    }
+
+    /// The version of the link's messages: 2 where the node knows it and the peer's name frame or challenge frame says it, else 1.
+    pub fn version(&self) -> u8
+        ensures { result ≡ self.now.version }
+    {
+        self.peer.version
     }
 
     /// That the peer answered the challenge of this handshake.

@@ -1,5 +1,5 @@
 use Rattle.link_states.proofs.MeetingLemmas.{name_passes, challenge_passes, reply_passes}
-use Rattle.link_states.proofs.MeetingLemmas.{ack_passes}
+use Rattle.link_states.proofs.MeetingLemmas.{ack_passes, same_version}
 use Rattle.link_states.proofs.laws.ends_agree.Goals as goal
 
 pub returns-clause-name : goal.returns-clause-name
@@ -13,3 +13,6 @@ returns-clause-reply c = reply_passes
 
 pub returns-clause-ack : goal.returns-clause-ack
 returns-clause-ack c = ack_passes
+
+pub returns-clause-version : goal.returns-clause-version
+returns-clause-version c = same_version
