@@ -111,8 +111,8 @@ module _ (m : Taken) where
     reached n c [] p q = lie (sym q)
     reached n c (a ∷ []) p q = lie (sym q)
     reached n c (a ∷ b ∷ []) p q =
-        let gave = ap (λ x. option_and_then {T = Challenge} {U = Name} (λ f. Some (record { flags = f.flags; creation = f.creation; name = f.name })) x) p.1.1 in
-        record { peer = n; gave = record { flags = p.1.0.flags; creation = p.1.0.creation; name = p.1.0.name }; was_of = refl; is_of = refl; was_given = gave; was_whole = refl; is_whole = refl }
+        let gave = ap (λ x. option_and_then {T = Challenge} {U = Name} (λ f. Some (record { flags = f.flags; creation = f.creation; name = f.name; version = f.version })) x) p.1.1 in
+        record { peer = n; gave = record { flags = p.1.0.flags; creation = p.1.0.creation; name = p.1.0.name; version = p.1.0.version }; was_of = refl; is_of = refl; was_given = gave; was_whole = refl; is_whole = refl }
     reached n c (a ∷ b ∷ r ∷ ts) p q = lie (sym q)
 
     completed_in : (s : Start) (ts : List Taken) → Walk o bo s ts → is_last (awaited_in s ts) ≡ true → Completed (Some (record { start = s; before = bo })) ts

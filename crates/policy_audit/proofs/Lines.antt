@@ -30,7 +30,7 @@ judged lines = map (λ line. line.verdict) lines
 
 -- a history without entries
 abbrev pub begun : List ℕ → List ℕ → Bool → ℕ → ℕ → History
-begun name cookie hidden creation entries = past (record { name = name; cookie = cookie; hidden = hidden; creation = creation; entries = entries }) []
+begun name cookie hidden creation entries = past (record { name = name; cookie = cookie; hidden = hidden; creation = creation; entries = entries; links = 1 }) []
 
 -- the node of most scripts
 abbrev pub node : History

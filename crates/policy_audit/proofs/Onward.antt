@@ -20,7 +20,7 @@ record Made (m : Taken) (oe : Option Opened) (ts : List Taken) (gave : Option Na
 
 -- flags, creation and name in a Challenge
 abbrev pub hello_of : Challenge → Name
-hello_of f = record { flags = f.flags; creation = f.creation; name = f.name }
+hello_of f = record { flags = f.flags; creation = f.creation; name = f.name; version = f.version }
 
 module _ (m : Taken) where
   -- what one frame more makes, by what was awaited

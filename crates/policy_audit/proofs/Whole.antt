@@ -137,8 +137,8 @@ name-up-is-admitted h legal n = (λ up. by (present_link n h.entries) refl (sym 
 gave_in : (o : Opening) (bo : List Entry) (s : Start) (ts : List Taken) → Walk o bo s ts → whole_by (Some (record { start = s; before = bo })) ts ≡ true → (f : Name) × (given_in s ts ≡ Some f) × (peer_in s ts ≡ Some f.name)
 gave_in o bo (ByPeer c) (a ∷ ts) p q = (p.0.0, p.0.1, ap (λ x. option_and_then {T = Name} {U = List ℕ} (λ f. Some f.name) x) p.0.1)
 gave_in o bo (ByDial n c) (a ∷ b ∷ r ∷ ts) p q = (
-  record { flags = p.1.1.0.flags; creation = p.1.1.0.creation; name = p.1.1.0.name },
-  ap (λ x. option_and_then {T = Challenge} {U = Name} (λ f. Some (record { flags = f.flags; creation = f.creation; name = f.name })) x) p.1.1.1,
+  record { flags = p.1.1.0.flags; creation = p.1.1.0.creation; name = p.1.1.0.name; version = p.1.1.0.version },
+  ap (λ x. option_and_then {T = Challenge} {U = Name} (λ f. Some (record { flags = f.flags; creation = f.creation; name = f.name; version = f.version })) x) p.1.1.1,
   ap Some ((same_decides n p.1.1.0.name).0 p.1.1.2),
 )
 gave_in o bo s ts p q = lie (sym q)

@@ -1,19 +1,32 @@
 -- What the peers of links have said about scopes: who is heard, who is told, and which rows are stated.
 use Rattle.std.specs.Prelude.{ℕ, ◌+◌, ◌-◌, Bool, true, false, cond, ◌&&◌, ◌==◌, List, [], ◌∷◌, Option, Some, None}
 use Rattle.std.specs.List.{flat_map}
-use Rattle.std.specs.Option.{unwrap_or}
+use Rattle.std.specs.Option.{unwrap_or, option_map_or}
 use Rattle.dist_types.specs.declared.pid.Pid.{Pid}
 use Rattle.dist_types.specs.declared.row.Row.{Row}
 use Rattle.dist_types.specs.Listing.{same, same_row, occurrences}
 use Rattle.link_frames.specs.declared.message.Message.{Message}
 use Rattle.link_frames.specs.declared.message.Message.TheVariants as said
 use Rattle.link_frames.specs.Reading.{message}
+use Rattle.policy_audit.specs.declared.opening.Opening.{Opening}
 use Rattle.policy_audit.specs.declared.event.Event.{Event}
 use Rattle.policy_audit.specs.declared.event.Event.TheVariants as event
 use Rattle.policy_audit.specs.declared.entry.Entry.{Entry}
 use Rattle.policy_audit.specs.History.{Moment, present, first_of}
-use Rattle.policy_audit.specs.Sides.{is_whole}
+use Rattle.policy_audit.specs.Sides.{is_whole, given}
 use Rattle.policy_audit.specs.Links.{is_up}
+
+-- ---- the version of a link
+
+-- the version that the peer of link l gave
+abbrev pub peer_version : ℕ → List Entry → ℕ
+peer_version l es = option_map_or (λ f. f.version) (given l es) 1
+
+-- 2 where the node and its peer have it, else 1
+abbrev pub link_version : Opening → ℕ → List Entry → ℕ
+link_version o l es = cond (o.links == 2 && peer_version l es == 2) 2 1
+
+-- ---- what is said on it
 
 -- The messages that a link which is up takes: all. (This one word says which frames are taken there.)
 abbrev pub message_taken : List ℕ → Option Message

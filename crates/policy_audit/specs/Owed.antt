@@ -54,11 +54,11 @@ digest_for h l challenge = digest_of (option_map_or (cookie h) (peer_of l h.entr
 
 -- the Name frame of this node
 abbrev pub own_name_frame : History → OutFrame
-own_name_frame h = narrow (name_bytes (record { flags = own_flags h.opening.hidden; creation = creation h; name = h.opening.name }))
+own_name_frame h = narrow (name_bytes (record { flags = own_flags h.opening.hidden; creation = creation h; name = h.opening.name; version = h.opening.links }))
 
 -- the Challenge frame of this node on link l
 abbrev pub own_challenge_frame : History → ℕ → OutFrame
-own_challenge_frame h l = narrow (challenge_bytes (record { flags = own_flags h.opening.hidden; challenge = own_challenge l h.entries; creation = creation h; name = h.opening.name }))
+own_challenge_frame h l = narrow (challenge_bytes (record { flags = own_flags h.opening.hidden; challenge = own_challenge l h.entries; creation = creation h; name = h.opening.name; version = h.opening.links }))
 
 -- a Name of this peer is owed `alive` where a link of it is up, `ok_simultaneous` where an own dial to it is unfinished, else `ok`
 abbrev pub welcome : History → ℕ → List ℕ → List OutFrame

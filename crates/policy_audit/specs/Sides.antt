@@ -93,13 +93,13 @@ taken_in l (m ∷ ms) = and_frame (taken_in l ms) (frame_of l m.before m.event)
 abbrev pub taken : ℕ → List Entry → List Taken
 taken l es = taken_in l (present es)
 
--- flags, creation and name of a peer that has sent these frames: an acceptor has them from the Name, a dialler from the Challenge
+-- flags, creation, name and version of a peer that has sent these frames: an acceptor has them from the Name, a dialler from the Challenge
 abbrev pub given_in : Start → List Taken → Option Name
 given_in (ByPeer c) (name ∷ later) = name_frame name.body
-given_in (ByDial n c) (status ∷ challenge ∷ later) = option_and_then (λ f. Some (record { flags = f.flags; creation = f.creation; name = f.name })) (challenge_frame challenge.body)
+given_in (ByDial n c) (status ∷ challenge ∷ later) = option_and_then (λ f. Some (record { flags = f.flags; creation = f.creation; name = f.name; version = f.version })) (challenge_frame challenge.body)
 given_in start frames = None
 
--- flags, creation and name that the peer of link l has given
+-- flags, creation, name and version that the peer of link l has given
 abbrev pub given : ℕ → List Entry → Option Name
 given l es = option_and_then (λ o. given_in o.start (taken l es)) (opened l es)
 

@@ -12,6 +12,8 @@ pub struct Opening {
     pub creation: u32,
     /// The most entries of the audit.
     pub entries: u32,
+    /// The version of the messages between linked nodes that the node knows.
+    pub links: u8,
 }
 
 impl Drop for Opening {
@@ -22,6 +24,7 @@ impl Drop for Opening {
             hidden: _,
             creation: _,
             entries: _,
+            links: _,
         } = self;
     }
 }
