@@ -1,7 +1,7 @@
 -- What a node says of itself: in its Name on a link that it dialled, and in its Challenge on a link
 -- that it accepted.
 use Rattle.frame_laws.proofs
-use proofs.Words.{Accepted, AllByRecursion, ap, append-nil, arith, Bool, but, ByDial, ByPeer}
+use proofs.Words.{Accepted, AllByRecursion, ap, arith, Bool, but, ByDial, ByPeer}
 use proofs.Words.{Challenge, challenge_bytes, challenge_frame, challenge_frame-spelled}
 use proofs.Words.{challenge_in, cond, creation, Entry, eqb-false, eqb-true, Event, false, hello_in}
 use proofs.Words.{History, is_open, is_opened_by, is_some, IsLegalIn, IsNode, IsWritten, length}
@@ -10,7 +10,7 @@ use proofs.Words.{name_frame-spelled, narrow, None, Opened, opened, Opening, ope
 use proofs.Words.{option_map_or, out_in, OutFrame, owed, owes, Owing, owing, own_challenge}
 use proofs.Words.{own_flags, own_hello, own_name_frame, past, refl, Refused, slice_get, Some}
 use proofs.Words.{SpellsChallenge-read, Start, start_of, status_frame, StatusWord, sym, true}
-use proofs.Words.{unowed, Verdict, verdict, wide, ℕ, [], ◌++◌, ◌+◌, ◌<◌, ◌==◌, ◌^◌, ◌∙◌, ◌∷◌, ◌≡◌}
+use proofs.Words.{unowed, Verdict, verdict, version_bytes, version_read, wide, ℕ, [], ◌++◌, ◌+◌, ◌<◌, ◌==◌, ◌^◌, ◌∙◌, ◌∷◌, ◌≡◌}
 use proofs.Words.{◌≤◌}
 use proofs.Handshakes.{first_byte, HoldsOfHellos}
 use proofs.Openings.{opened_number, opening_low, same_creation, unborn_out}
@@ -71,9 +71,11 @@ module _ (h : History) (node : IsNode h) where
           flags = flags_fit h.opening.hidden;
           creation = own_creation_fits h node;
           length = name_short;
+          version = node.links;
         };
-        extra = [];
-        bytes = sym (append-nil (name_bytes (own_hello h)));
+        extra = version_bytes h.opening.links;
+        bytes = refl;
+        version = version_read h.opening.links node.links;
       })
 
   module _ (l : ℕ) where
@@ -83,6 +85,7 @@ module _ (h : History) (node : IsNode h) where
       challenge = own_challenge l h.entries;
       creation = creation h;
       name = h.opening.name;
+      version = h.opening.links;
     }
 
     -- and so is the own Challenge
@@ -93,9 +96,11 @@ module _ (h : History) (node : IsNode h) where
         challenge = challenge_fits h.entries node.written l;
         creation = own_creation_fits h node;
         length = name_short;
+        version = node.links;
       };
-      extra = [];
-      bytes = sym (append-nil (challenge_bytes own_asked));
+      extra = version_bytes h.opening.links;
+      bytes = refl;
+      version = version_read h.opening.links node.links;
     })
 
     -- a frame in which a Challenge says what this node is

@@ -23,5 +23,6 @@ node_then h node k = record {
   name = node.name;
   creation = node.creation;
   entries = node.entries;
+  links = node.links;
   written = all_before _ (length h.entries - k) h.entries node.written;
 }

@@ -323,6 +323,7 @@ node_before o e es node =
       name = node.name;
       creation = node.creation;
       entries = node.entries;
+      links = node.links;
       written = node.written.1;
     }
 

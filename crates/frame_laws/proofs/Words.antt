@@ -65,10 +65,11 @@ pub use Rattle.policy_audit.proofs.Walked.{but, Far, far, frame_fits, open_opene
 pub use Rattle.policy_audit.specs.Effects.{is_about_rows}
 pub use Rattle.dist_types.specs.Flags.{own_flags}
 pub use Rattle.handshake_frames.proofs.ReadingLemmas.{challenge_frame-spelled, name_frame-spelled}
-pub use Rattle.handshake_frames.proofs.ReadingLemmas.{SpellsChallenge-read}
+pub use Rattle.handshake_frames.proofs.ReadingLemmas.{SpellsChallenge-read, version_read}
 pub use Rattle.handshake_frames.specs.Frame.{Challenge, Name}
 pub use Rattle.handshake_frames.specs.Reading.{challenge_frame, name_frame, reply_frame, status_of}
 pub use Rattle.handshake_frames.specs.Spelling.{ack_bytes, challenge_bytes, name_bytes, reply_bytes}
+pub use Rattle.handshake_frames.specs.Spelling.{IsVersion, version_bytes}
 pub use Rattle.handshake_frames.specs.declared.frame.AckFrame.{AckFrame}
 pub use Rattle.handshake_frames.specs.declared.frame.ReplyFrame.{ReplyFrame}
 pub use Rattle.handshake_frames.specs.declared.frame.StatusWord.{StatusWord}

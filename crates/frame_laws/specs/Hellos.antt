@@ -7,13 +7,13 @@ use Rattle.policy_audit.specs.History.{History, creation}
 use Rattle.policy_audit.specs.Sides.{Start, start_of}
 use Rattle.policy_audit.specs.Links.{is_opened_by}
 
--- the own flags, the creation and the own name
+-- the own flags, the creation, the own name, and the version of link messages that the node knows
 abbrev pub own_hello : History → Name
-own_hello h = record { flags = own_flags h.opening.hidden; creation = creation h; name = h.opening.name }
+own_hello h = record { flags = own_flags h.opening.hidden; creation = creation h; name = h.opening.name; version = h.opening.links }
 
 -- the same of a Challenge
 abbrev pub hello_in : Challenge → Name
-hello_in f = record { flags = f.flags; creation = f.creation; name = f.name }
+hello_in f = record { flags = f.flags; creation = f.creation; name = f.name; version = f.version }
 
 -- how link l was opened, also where a restart came since
 abbrev pub opening_of : ℕ → List Entry → Option Start

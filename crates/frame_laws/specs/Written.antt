@@ -2,6 +2,7 @@
 use Rattle.std.specs.Prelude.{◌<◌, ◌^◌}
 use Rattle.std.specs.List.{AllByRecursion}
 use Rattle.dist_types.specs.Text.{IsText, IsNodeName}
+use Rattle.handshake_frames.specs.Spelling.{IsVersion}
 use Rattle.policy_audit.specs.declared.event.Event.{Event}
 use Rattle.policy_audit.specs.declared.event.Event.TheVariants as event
 use Rattle.policy_audit.specs.History.{History}
@@ -23,4 +24,5 @@ pub record IsNode (h : History) : Type 0 where
   pub name : IsNodeName h.opening.name
   pub creation : h.opening.creation < 2 ^ 32
   pub entries : h.opening.entries < 2 ^ 32
+  pub links : IsVersion h.opening.links
   pub written : AllByRecursion (λ e. IsWritten e.event) h.entries

@@ -67,8 +67,8 @@ pub fn owed_rows()
     ensures { (h : History) → IsNode h → (l : ℕ) (s : List ℕ) → PassesThrough h l s }
 {}
 
-/// What a node says of itself: its own flags, its name, and its creation at the opening of the link. On a link that it dialled the
-/// first frame is a Name that says so, and on a link that a peer opened each Challenge says so.
+/// What a node says of itself: its own flags, its name, its version of link messages, and its creation at the opening of the link.
+/// On a link that it dialled the first frame is a Name that says so, and on a link that a peer opened each Challenge says so.
 pub fn hellos()
     ensures dialled { (h : History) → IsNode h → (l : ℕ) (n : List ℕ) (c : ℕ) → opening_of l h.entries ≡ Some (ByDial n c)
         → (x : Owing) × (slice_get (out h l) 0 ≡ Some x) × (name_frame x.frame.body ≡ Some (own_hello (moment l h))) }
