@@ -7,13 +7,14 @@ use Rattle.node_core.proofs.Entered.{made, accepted_next, answered_by, sound_now
 use Rattle.node_core.proofs.Partings.{partings_change}
 use Rattle.node_core.proofs.Found.{not_so}
 
-pub begun : (o : Opening) → o.entries < 2 ^ 32 → Follows (past o []) (record { admission = record { own = o.name; cookie = o.cookie; hidden = o.hidden; creation = o.creation; peers = []; allowed = [] }; processes = record { spawned = 0; live = [] }; scopes = []; links = []; monitors = [] })
-begun o fits = record {
-  sound = record { legal = tt; fits = fits; few = omega arith; few_spawned = omega arith };
+pub begun : (o : Opening) → o.entries < 2 ^ 32 → o.links ≡ 1 → Follows (past o []) (record { admission = record { own = o.name; cookie = o.cookie; hidden = o.hidden; creation = o.creation; links = o.links; peers = []; allowed = [] }; processes = record { spawned = 0; live = [] }; scopes = []; links = []; monitors = [] })
+begun o fits one = record {
+  sound = record { legal = tt; fits = fits; few = omega arith; few_spawned = omega arith; links = one };
   admission = record {
     own = refl;
     hidden = refl;
     creation = omega arith;
+    links = refl;
     own_cookie = refl;
     cookie = λ n. grind arith;
     peers = λ n. refl;
@@ -36,7 +37,7 @@ module _ (h : History) (seat : ℕ) where
 
   pub anew_now : (parts : Parts) → Follows h parts → (cs : List Change) → ArePartings (λ t. no_count) parts.scopes cs → is_full h ≡ false → (n : ℕ) → n ≡ creation h → (n ≡ 4294967295 → ⊥) → (o : Opening) (number : ℕ) → o ≡ h.opening → number ≡ parts.admission.creation + 1
       → IsNext h (made h seat Event.Restart (Accepted Reply.Done) cs)
-      × Follows (anew cs) (record { admission = record { own = o.name; cookie = o.cookie; hidden = o.hidden; creation = number; peers = []; allowed = [] }; processes = record { spawned = 0; live = [] }; scopes = []; links = []; monitors = [] })
+      × Follows (anew cs) (record { admission = record { own = o.name; cookie = o.cookie; hidden = o.hidden; creation = number; links = o.links; peers = []; allowed = [] }; processes = record { spawned = 0; live = [] }; scopes = []; links = []; monitors = [] })
   anew_now parts t cs gone space n is left o number same more =
       let nobody : (s g : List ℕ) (p : Pid) → listed (anew cs) s g p ≡ 0 = λ s g p. stopped_lists (anew cs) s g p refl in
       let next = accepted_next h seat Event.Restart space Reply.Done cs (rw (not_so (creation h == 4294967295) (λ e. left (is ∙ eqb-true (creation h) 4294967295 e)))) refl
@@ -47,6 +48,7 @@ module _ (h : History) (seat : ℕ) where
           admission = record {
             own = ap (λ x. x.name) same;
             hidden = ap (λ x. x.hidden) same;
+            links = ap (λ x. x.links) same;
             creation = (let was : parts.admission.creation ≡ creation h = t.admission.creation in omega (arith, more, was));
             own_cookie = ap (λ x. x.cookie) same;
             cookie = λ n. grind arith;

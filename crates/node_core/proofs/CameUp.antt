@@ -20,7 +20,7 @@ use Rattle.node_core.proofs.HeardFrames.{by_all, is_last_state}
 pub record ComesUp (h : History) (j : ℕ) (body : List ℕ) (up : Linked) (frames : List (List ℕ)) : Type 0 where
   pub unwhole : is_whole j h.entries ≡ false
   pub last : is_last (awaits j h.entries) ≡ true
-  pub known : IsIntroduced (facts h j) up.peer up.creation up.visible up.proof
+  pub known : IsIntroduced (facts h j) up.peer up.creation up.visible up.version up.proof
   pub holds : (seat : ℕ) → first_broken (checks h seat (Event.Frame j body)) ≡ None
   pub owes : frame_owes h j body (awaits j h.entries) ≡ narrow_frames frames ++ discovers h j
   pub on : (e : Entry) → IsAnswered h e → is_accepted e.verdict ≡ true → e.event ≡ Event.Frame j body → IsOnward j h.entries e (given j h.entries) (peer_of j h.entries) AwaitMessage true
@@ -108,7 +108,7 @@ module _ (h : History) (legal : IsLegal h) (j : ℕ) (body : List ℕ) (up : Lin
   came_up_moves = record {
     state =
         let on = c.on e answered yes is in
-        (own_awaits h e answered yes j body is on (grind (arith, (proved_links h e answered yes j body is up.peer c.last c.known.peer.peer j).open_is, eq-eqb j j refl)), still_introduced h e answered yes j body is on up.peer up.creation up.visible up.proof c.known);
+        (own_awaits h e answered yes j body is on (grind (arith, (proved_links h e answered yes j body is up.peer c.last c.known.peer.peer j).open_is, eq-eqb j j refl)), still_introduced h e answered yes j body is on up.peer up.creation up.visible up.version up.proof c.known);
     frames = grind (arith, (proved_links h e answered yes j body is up.peer c.last c.known.peer.peer j).waiting_is, eq-eqb j j refl, c.owes);
     others = λ l apart q. other_facts h e answered yes j body is l apart (grind (arith, (proved_links h e answered yes j body is up.peer c.last c.known.peer.peer l).open_is, replaced_is h legal up.peer j c.unwhole l));
     waits = λ l apart q. grind (arith, (proved_links h e answered yes j body is up.peer c.last c.known.peer.peer l).waiting_is, replaced_is h legal up.peer j c.unwhole l);

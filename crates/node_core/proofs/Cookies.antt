@@ -34,10 +34,10 @@ module _ (h : History) (rules : AdmissionRules) (t : AdmissionFollows (admission
 
   module _ (seat : ℕ) (r : Reply) where
     pub cookie_follows : (c : List ℕ) → AdmissionFollows (admission_words (answered h seat (Event.SetCookie c) r)) (record rules { cookie = c })
-    cookie_follows c = record { own = t.own; hidden = t.hidden; creation = t.creation; own_cookie = refl; cookie = t.cookie; peers = t.peers; allowed = t.allowed }
+    cookie_follows c = record { own = t.own; hidden = t.hidden; creation = t.creation; links = t.links; own_cookie = refl; cookie = t.cookie; peers = t.peers; allowed = t.allowed }
 
     pub names_follow : (ns : List (List ℕ)) → AdmissionFollows (admission_words (answered h seat (Event.Allow ns) r)) (with_allowed rules ns)
-    names_follow ns = record { own = t.own; hidden = t.hidden; creation = t.creation; own_cookie = t.own_cookie; cookie = t.cookie; peers = t.peers; allowed = all_once ns rules.allowed (allow_list h) t.allowed }
+    names_follow ns = record { own = t.own; hidden = t.hidden; creation = t.creation; links = t.links; own_cookie = t.own_cookie; cookie = t.cookie; peers = t.peers; allowed = all_once ns rules.allowed (allow_list h) t.allowed }
 
     -- a cookie for another node is kept for that node alone
     peer : (n c m : List ℕ) (a : Bool) → same n m ≡ a → lookup (bytes_eq m) (insert_entry bytes_eq rules.peers n c) ≡ cond a (Some c) (lookup (bytes_eq m) rules.peers)
@@ -49,6 +49,7 @@ module _ (h : History) (rules : AdmissionRules) (t : AdmissionFollows (admission
       own = grind (arith, t.own);
       hidden = grind (arith, t.hidden);
       creation = grind (arith, t.creation);
+      links = grind (arith, t.links);
       own_cookie = grind (arith, t.own, t.own_cookie);
       cookie = λ m. grind (arith, t.own, t.cookie m, peer n c m (same n m) refl, same_decides n m, same_decides n h.opening.name, same_decides m h.opening.name);
       peers = λ q. grind (arith, t.own, t.peers q, entry_once n c rules.peers (cookie_peers h) t.peers q);

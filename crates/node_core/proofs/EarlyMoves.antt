@@ -6,10 +6,13 @@ use Rattle.node_core.proofs.Words.{narrow_frames, own_flags, is_visible, Dialled
 use Rattle.node_core.proofs.Words.{if◌then◌else◌, Bool, Option, cond, false, nat_eq, subst, option_map, eq-eqb, eqb-true, same, Name, name_frame, lie}
 use Rattle.node_core.proofs.Words.{is_dialling, is_open, IsLegal, is_name_up, heard_named, IsIntroduced, IsLinkOf, LinksFollow, kept_numbers}
 use Rattle.node_core.proofs.Words.{link_words, KeptLink, dial_beside, dialled_peer, Named, introduced, AwaitReply, welcome, Awaits, Heard, dial_to}
-use Rattle.node_core.proofs.Words.{arith}
+use Rattle.node_core.proofs.Words.{arith, given}
 use Rattle.handshake_frames.specs.Spelling.{challenge_bytes}
+use Rattle.link_states.specs.Peer.{link_version}
+use Rattle.policy_audit.specs.Hearing.{link_version as version_of_link}
 use Rattle.policy_audit.proofs.Onward.{answer_taken, status_taken, challenge_taken, hello_of, name_taken}
 use Rattle.node_core.proofs.FrameRules.{own_awaits, same_challenge, still_dialled, still_introduced, inner_moves, other_facts, same_stay, digest_is}
+use Rattle.node_core.proofs.KeptOn.{version_with}
 use Rattle.node_core.proofs.MovedOn.{AreMoves, stays_but}
 use Rattle.policy_audit.proofs.LinkFrames.{named_links, given_up_by}
 use Rattle.policy_audit.proofs.LinksLeft.{named_numbers}
@@ -22,11 +25,16 @@ use Rattle.link_states.specs.Named as says
 module _ (h : History) (rules : AdmissionRules) (t : AdmissionFollows (admission_words h) rules) where
   -- the own challenge as a frame
   pub own_challenge_is : (j : ℕ) (c : ℕ) → c ≡ own_challenge j h.entries → own_challenge_frame h j ≡ narrow (owes.own_challenge rules c)
-  own_challenge_is j c q = sym (λ i. narrow (challenge_bytes (record { flags = own_flags (t.hidden i); challenge = q i; creation = t.creation i; name = t.own i })))
+  own_challenge_is j c q = sym (λ i. narrow (challenge_bytes (record { flags = own_flags (t.hidden i); challenge = q i; creation = t.creation i; name = t.own i; version = t.links i })))
 
   -- whether the link is visible
   pub visible_is : (flags : ℕ) → is_visible rules flags ≡ (not h.opening.hidden && has_bit 0 flags)
   visible_is flags = grind (arith, t.hidden)
+
+  -- and its version, behind the frame with which the peer gave its own
+  pub version_is : (f : Name) (j : ℕ) (e : Entry) → given j (e ∷ h.entries) ≡ Some f
+      → link_version rules f.version ≡ version_of_link h.opening j (e ∷ h.entries)
+  version_is f j e gave = λ i. version_with (t.links i) (sym gave i)
 
   module _ (e : Entry) (answered : IsAnswered h e) (yes : is_accepted e.verdict ≡ true) (j : ℕ) (body : List ℕ) (is : e.event ≡ Event.Frame j body) where
     abbrev k : History
@@ -36,7 +44,7 @@ module _ (h : History) (rules : AdmissionRules) (t : AdmissionFollows (admission
     answer_moves s a =
         let on = answer_taken h e answered yes j body is a.0.awaited in
         inner_moves h e answered yes j body is (ap is_last a.0.awaited) (ap (λ x. named_by x body) a.0.awaited) on (LinkState.Reply s) (narrow_frames (owes.own_challenge rules s.challenge ∷ []))
-        (λ w. (w, still_introduced h e answered yes j body is on s.peer s.creation s.visible s.challenge a.1)) (grind (arith, a.0.awaited, own_challenge_is j s.challenge a.1.challenge))
+        (λ w. (w, still_introduced h e answered yes j body is on s.peer s.creation s.visible s.version s.challenge a.1)) (grind (arith, a.0.awaited, own_challenge_is j s.challenge a.1.challenge))
 
     pub status_moves : (dial : Dialled) (w : StatusWord) → status_of body ≡ Some w → IsState (facts h j) (LinkState.Status dial) → AreMoves h k j (LinkState.Challenge dial) (narrow_frames (owes.status_owed w)) (stays_but None)
     status_moves dial w said a =
@@ -53,7 +61,16 @@ module _ (h : History) (rules : AdmissionRules) (t : AdmissionFollows (admission
           w,
           record {
             peer = record { peer = on.peer ∙ a.1.peer.peer; other = a.1.peer.other };
-            said = (hello_of f, record { said = on.given; name_is = named; creation_is = refl; visible_is = visible_is f.flags });
+            said = (
+              hello_of f,
+              record {
+                said = on.given;
+                name_is = named;
+                creation_is = refl;
+                visible_is = visible_is f.flags;
+                version_is = version_is (hello_of f) j e on.given;
+              },
+            );
             challenge = a.1.challenge ∙ sym (same_challenge h e answered yes j body is on);
           },
         ))
@@ -82,12 +99,21 @@ module _ (h : History) (legal : IsLegal h) (rules : AdmissionRules) (t : Admissi
   kept_open : (l : ℕ) → (is_open l h.entries && given_up_by j f h.entries l) ≡ false → is_open l (with_entry h e).entries ≡ is_open l h.entries
   kept_open l q = grind (arith, (named_links h e answered yes j body is f a.0.awaited said l).open_is)
 
-  introduced_now : IsIntroduced (facts (with_entry h e) j) f.name f.creation (is_visible rules f.flags) c
+  introduced_now : IsIntroduced (facts (with_entry h e) j) f.name f.creation (is_visible rules f.flags) (link_version rules f.version) c
   introduced_now =
       let on = name_taken h e answered yes j body is f a.0.awaited said in
       record {
         peer = record { peer = on.peer; other = other };
-        said = (f, record { said = on.given; name_is = refl; creation_is = refl; visible_is = visible_is h rules t f.flags });
+        said = (
+          f,
+          record {
+            said = on.given;
+            name_is = refl;
+            creation_is = refl;
+            visible_is = visible_is h rules t f.flags;
+            version_is = version_is h rules t f j e on.given;
+          },
+        );
         challenge = a.1 ∙ sym (same_challenge h e answered yes j body is on);
       }
 

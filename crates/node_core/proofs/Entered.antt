@@ -46,6 +46,7 @@ sound_now h e sound next = record {
   fits = sound.fits;
   few = let space = next.room in omega (arith, space);
   few_spawned = let more = spawned_more e h.entries in let so_far = sound.few_spawned in omega (arith, more, so_far);
+  links = sound.links;
 }
 
 -- all that is kept follows the next entry, where no monitor is concerned

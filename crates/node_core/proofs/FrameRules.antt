@@ -15,7 +15,7 @@ use Rattle.node_core.proofs.Cookies.{cookie_is}
 use Rattle.node_core.proofs.LinkTests.{allowed_by}
 use Rattle.policy_audit.proofs.Onward.{frame_open}
 use Rattle.policy_audit.proofs.LinkFrames.{handshake_links, refused_links}
-use Rattle.node_core.proofs.KeptOn.{facts_same, filter_all}
+use Rattle.node_core.proofs.KeptOn.{facts_same, filter_all, version_with}
 use Rattle.node_core.proofs.MovedOn.{AreMoves, stays_but, moved_follow}
 use Rattle.policy_audit.proofs.HeardNow.{refused_heard}
 use Rattle.policy_audit.proofs.LinksLeft.{refused_numbers}
@@ -87,11 +87,20 @@ module _ (h : History) (e : Entry) (answered : IsAnswered h e) (yes : is_accepte
   pub still_dialled : {next : Awaited} {ends : Bool} (on : IsOnward j h.entries e (given j h.entries) (peer_of j h.entries) next ends) (name : List ℕ) → IsPeer (facts h j) name → IsPeer (facts k j) name
   still_dialled on name a = record { peer = on.peer ∙ a.peer; other = a.other }
 
-  pub still_introduced : {next : Awaited} {ends : Bool} (on : IsOnward j h.entries e (given j h.entries) (peer_of j h.entries) next ends) (name : List ℕ) (creation : ℕ) (visible : Bool) (number : ℕ)
-      → IsIntroduced (facts h j) name creation visible number → IsIntroduced (facts k j) name creation visible number
-  still_introduced on name creation visible number a = record {
+  pub still_introduced : {next : Awaited} {ends : Bool} (on : IsOnward j h.entries e (given j h.entries) (peer_of j h.entries) next ends) (name : List ℕ) (creation : ℕ) (visible : Bool) (version number : ℕ)
+      → IsIntroduced (facts h j) name creation visible version number → IsIntroduced (facts k j) name creation visible version number
+  still_introduced on name creation visible version number a = record {
     peer = still_dialled on name a.peer;
-    said = (a.said.0, record { said = on.given ∙ a.said.1.said; name_is = a.said.1.name_is; creation_is = a.said.1.creation_is; visible_is = a.said.1.visible_is });
+    said = (
+      a.said.0,
+      record {
+        said = on.given ∙ a.said.1.said;
+        name_is = a.said.1.name_is;
+        creation_is = a.said.1.creation_is;
+        visible_is = a.said.1.visible_is;
+        version_is = a.said.1.version_is ∙ sym (ap (version_with h.opening.links) on.given);
+      },
+    );
     challenge = a.challenge ∙ sym (same_challenge on);
   }
 

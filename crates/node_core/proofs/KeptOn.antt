@@ -2,12 +2,16 @@
 use Rattle.node_core.proofs.Words.{IsState, Bool, List, Some, ap, arith, cond, false, get_or, length, map, nat_eq, nat_lt, position, refl, set, subst, suc, sym}
 use Rattle.node_core.proofs.Words.{true, zero, ℕ, [], ◌<◌, ◌∙◌, ◌∷◌, ◌≡◌, AllByRecursion, filter, list_all, option_map_or, eqb-true, ltb-true, position-Some}
 use Rattle.node_core.proofs.Words.{History, is_open, challenge_in, IsLinkOf, LinkWords, LinksFollow, facts, KeptLink, IsSameLink, Climbs, None, is_some}
-use Rattle.node_core.proofs.Words.{list_any, kept_among, is_kept, IsLegal, link_words, map-id}
+use Rattle.node_core.proofs.Words.{list_any, kept_among, is_kept, IsLegal, link_words, map-id, Name, Option, ◌&&◌, ◌==◌}
 use Rattle.std.proofs.Math.Seq.{map-set_same}
 use Rattle.std.proofs.lemmas.List.Folds.{list_all-map, list_all_at}
 use Rattle.std.proofs.lemmas.List.Elements.{All-from_recursion}
 use Rattle.node_core.proofs.Found.{any_map, place_found}
 use Rattle.node_core.proofs.Words.{link_place}
+
+-- the version of a link, by what the node knows and what the peer gave
+abbrev pub version_with : ℕ → Option Name → ℕ
+version_with own gave = cond (own == 2 && option_map_or (λ f. f.version) gave 1 == 2) 2 1
 
 -- what is said of a link is the same, where its words are
 pub facts_same : (h k : History) → k.opening ≡ h.opening → (l : ℕ) → IsSameLink l h.entries k.entries → is_open l k.entries ≡ is_open l h.entries → facts k l ≡ facts h l
@@ -19,6 +23,7 @@ facts_same h k opening l it opens = λ i. record {
   awaited = it.awaits i;
   peer = it.peer i;
   said = it.given i;
+  version = version_with (opening i).links (it.given i);
   challenge = option_map_or (λ o. challenge_in o.start) (it.opened i) 0;
 }
 

@@ -9,7 +9,7 @@ use Rattle.policy_audit.proofs.Onward.{message_taken_on}
 use Rattle.policy_audit.proofs.LinkFrames.{message_links}
 use Rattle.node_core.proofs.Entered.{made, accepted_now, answered_now, next_now}
 use Rattle.node_core.proofs.Calm.{same_links}
-use Rattle.node_core.proofs.KeptOn.{facts_same, one_follows, place_is, same_link}
+use Rattle.node_core.proofs.KeptOn.{facts_same, one_follows, place_is, same_link, version_with}
 use Rattle.node_core.proofs.MessagePlaces.{IsUpHere}
 
 -- the rules for a message on a link that awaits one
@@ -58,6 +58,7 @@ module _ (h : History) (seat l : ℕ) (body : List ℕ) (m : Message) (space : i
             awaited = (it.awaits ∙ sym awaited) i;
             peer = it.peer i;
             said = it.given i;
+            version = version_with h.opening.links (it.given i);
             challenge = option_map_or (λ o. challenge_in o.start) (it.opened i) 0;
           }) opens
       by false e = facts_same h now refl j (entry_link h.entries entry l j body refl e) opens

@@ -17,10 +17,10 @@ pub record IsUpHere (h : History) (l : ℕ) (x : KeptLink) : Type 0 where
   pub number : x.number ≡ l
   pub link : IsLinkOf (link_words h) x
   pub awaited : awaits l h.entries ≡ AwaitMessage
-  pub introduced : IsIntroduced (facts h l) far.peer far.creation far.visible far.proof
+  pub introduced : IsIntroduced (facts h l) far.peer far.creation far.visible far.version far.proof
 
 -- an open link whose side is whole is up
-up_state : (f : LinkFacts) (s : LinkState) → IsState f s → f.open_now ≡ true → f.whole ≡ true → (u : Linked) × (s ≡ LinkState.Up u) × (f.awaited ≡ AwaitMessage) × IsIntroduced f u.peer u.creation u.visible u.proof
+up_state : (f : LinkFacts) (s : LinkState) → IsState f s → f.open_now ≡ true → f.whole ≡ true → (u : Linked) × (s ≡ LinkState.Up u) × (f.awaited ≡ AwaitMessage) × IsIntroduced f u.peer u.creation u.visible u.version u.proof
 up_state f (LinkState.Up u) t o w = (u, refl, t.0.awaited, t.1)
 up_state f LinkState.Ended t o w = lie (sym o ∙ t)
 up_state f s t o w = lie (sym w ∙ t.0.whole)

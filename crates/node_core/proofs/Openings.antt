@@ -113,7 +113,7 @@ module _ {h : History} {parts : Parts} (t : Follows h parts) (seat : ℕ) (peer 
                   challenge = sym (ap (λ o. option_map_or (λ x. challenge_in x.start) o 0) new.opened);
                 },
               );
-              frames = (λ i. narrow (name_bytes (record { flags = own_flags (t.admission.hidden i); creation = t.admission.creation i; name = t.admission.own i })) ∷ []) ∙ sym (dialled_waiting h dial is refl legal peer c refl);
+              frames = (λ i. narrow (name_bytes (record { flags = own_flags (t.admission.hidden i); creation = t.admission.creation i; name = t.admission.own i; version = t.admission.links i })) ∷ []) ∙ sym (dialled_waiting h dial is refl legal peer c refl);
               idle = refl;
             }))),
       )

@@ -13,6 +13,7 @@ pub record AdmissionWords : Type 0 where
   pub own : List ℕ
   pub hidden : Bool
   pub creation : ℕ
+  pub links : ℕ
   pub own_cookie : List ℕ
   pub cookie_set : List ℕ → Option (List ℕ)
   pub peers : List (List ℕ)
@@ -24,6 +25,7 @@ admission_words h = record {
   own = h.opening.name;
   hidden = h.opening.hidden;
   creation = creation h;
+  links = h.opening.links;
   own_cookie = own_cookie h;
   cookie_set = λ n. first_of (cookie_set_for n) (events h.entries);
   peers = cookie_peers h;
@@ -39,6 +41,7 @@ pub record AdmissionFollows (w : AdmissionWords) (rules : AdmissionRules) : Type
   pub own : rules.own ≡ w.own
   pub hidden : rules.hidden ≡ w.hidden
   pub creation : rules.creation ≡ w.creation
+  pub links : rules.links ≡ w.links
   pub own_cookie : rules.cookie ≡ w.own_cookie
   pub cookie : (n : List ℕ) → peer_cookie rules n ≡ cond (same n w.own) None (w.cookie_set n)
   pub peers : AreOnce (map (λ p. p.0) rules.peers) w.peers

@@ -15,12 +15,13 @@ use Rattle.node_core.specs.ScopeFacts.{scope_words, ScopesFollow}
 use Rattle.node_core.specs.ProcessFacts.{process_words, ProcessesFollow}
 use Rattle.node_core.specs.AdmissionFacts.{admission_words, AdmissionFollows}
 
--- the history is the policy's, within its limit
+-- the history is the policy's, within its limit, and the node knows version 1 of link messages alone
 pub record IsSound (h : History) : Type 0 where
   pub legal : IsLegal h
   pub fits : h.opening.entries < 2 ^ 32
   pub few : length h.entries ≤ h.opening.entries
   pub few_spawned : spawned h ≤ length h.entries
+  pub links : h.opening.links ≡ 1
 
 -- what a node keeps that changes
 pub record Parts : Type 0 where

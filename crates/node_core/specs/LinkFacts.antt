@@ -9,6 +9,7 @@ use Rattle.policy_audit.specs.OutFrame.{OutFrame}
 use Rattle.policy_audit.specs.History.{History}
 use Rattle.policy_audit.specs.Sides.{peer_of, given, is_whole, Awaited, AwaitName, AwaitAnswer, AwaitReply, AwaitStatus, AwaitChallenge, AwaitAck, AwaitMessage, awaits}
 use Rattle.policy_audit.specs.Links.{is_open, links}
+use Rattle.policy_audit.specs.Hearing.{link_version}
 use Rattle.policy_audit.specs.Owed.{own_challenge, waiting, is_kept}
 use Rattle.node_core.specs.declared.link_state.LinkState.{LinkState}
 use Rattle.node_core.specs.declared.link_state.LinkState.TheVariants as state
@@ -23,6 +24,7 @@ pub record LinkFacts : Type 0 where
   pub awaited : Awaited
   pub peer : Option (List ℕ)
   pub said : Option Name
+  pub version : ℕ
   pub challenge : ℕ
 
 -- these words of link l
@@ -35,6 +37,7 @@ facts h l = record {
   awaited = awaits l h.entries;
   peer = peer_of l h.entries;
   said = given l h.entries;
+  version = link_version h.opening l h.entries;
   challenge = own_challenge l h.entries;
 }
 
@@ -54,28 +57,29 @@ pub record IsDialled (f : LinkFacts) (dial : Dialled) : Type 0 where
   pub peer : IsPeer f dial.peer
   pub challenge : dial.challenge ≡ f.challenge
 
--- what the peer gave: its name, its creation, and flags that make the link visible or not
-pub record IsGiven (f : LinkFacts) (n : Name) (name : List ℕ) (creation : ℕ) (visible : Bool) : Type 0 where
+-- what the peer gave: its name, its creation, flags that make the link visible or not, and a version that makes the link's
+pub record IsGiven (f : LinkFacts) (n : Name) (name : List ℕ) (creation : ℕ) (visible : Bool) (version : ℕ) : Type 0 where
   pub said : f.said ≡ Some n
   pub name_is : n.name ≡ name
   pub creation_is : creation ≡ n.creation
   pub visible_is : visible ≡ (not f.hidden && has_bit 0 n.flags)
+  pub version_is : version ≡ f.version
 
--- an end whose peer has given its flags and its creation
-pub record IsIntroduced (f : LinkFacts) (name : List ℕ) (creation : ℕ) (visible : Bool) (number : ℕ) : Type 0 where
+-- an end whose peer has given its flags, its creation and its version
+pub record IsIntroduced (f : LinkFacts) (name : List ℕ) (creation : ℕ) (visible : Bool) (version number : ℕ) : Type 0 where
   pub peer : IsPeer f name
-  pub said : (n : Name) × IsGiven f n name creation visible
+  pub said : (n : Name) × IsGiven f n name creation visible version
   pub challenge : number ≡ f.challenge
 
 -- the state is what these words say
 abbrev pub IsState : LinkFacts → LinkState → Type 0
 IsState f (state.Name challenge) = Awaits f AwaitName false × (challenge ≡ f.challenge)
-IsState f (state.Answer s) = Awaits f AwaitAnswer false × IsIntroduced f s.peer s.creation s.visible s.challenge
-IsState f (state.Reply s) = Awaits f AwaitReply false × IsIntroduced f s.peer s.creation s.visible s.challenge
+IsState f (state.Answer s) = Awaits f AwaitAnswer false × IsIntroduced f s.peer s.creation s.visible s.version s.challenge
+IsState f (state.Reply s) = Awaits f AwaitReply false × IsIntroduced f s.peer s.creation s.visible s.version s.challenge
 IsState f (state.Status dial) = Awaits f AwaitStatus false × IsDialled f dial
 IsState f (state.Challenge dial) = Awaits f AwaitChallenge false × IsDialled f dial
-IsState f (state.Ack s) = Awaits f AwaitAck false × IsIntroduced f s.peer s.creation s.visible s.challenge
-IsState f (state.Up s) = Awaits f AwaitMessage true × IsIntroduced f s.peer s.creation s.visible s.proof
+IsState f (state.Ack s) = Awaits f AwaitAck false × IsIntroduced f s.peer s.creation s.visible s.version s.challenge
+IsState f (state.Up s) = Awaits f AwaitMessage true × IsIntroduced f s.peer s.creation s.visible s.version s.proof
 IsState f state.Ended = f.open_now ≡ false
 
 -- what the policy's words say of all links

@@ -1,6 +1,7 @@
 //! A node.
 ghost use Rattle.std.specs.Prelude.{◌≡◌, ◌<◌, ◌≤◌, ◌^◌, ℕ, false, cond, List, [], Some, None, is_some, length, IfOk, IfErr, IfSome, OnOk};
 ghost use Rattle.dist_types.specs.declared.pid.Pid.{Pid};
+ghost use Rattle.handshake_frames.specs.Spelling.{IsVersion};
 ghost use Rattle.scope_core.specs.Table.{count_of};
 ghost use Rattle.policy_audit.specs.History.{past, creation};
 ghost use Rattle.policy_audit.specs.Own.{is_running};
@@ -58,14 +59,19 @@ impl Model for NodeCore {
 }
 
 impl NodeCore {
-    /// A node that has seen nothing. `BadLimit` where the opening allows no entry.
+    /// A node that has seen nothing. `BadLimit` where the opening allows no entry, and else `BadLinks` where its version of link
+    /// messages isn't 1.
     pub fn new(alloc: Global, opening: Opening) -> Result<NodeCore, OpenFault>
         ensures ok { IfOk result (λ core. core ≡ past opening []) }
         ensures refused { IfErr result (λ fault. IsOpenFault fault opening) }
         ensures limit { OnOk result (0 < opening.entries) }
+        ensures links { OnOk result (opening.links ≡ 1) }
     {
         if opening.entries == 0 {
             return Err(OpenFault::BadLimit);
+        }
+        if opening.links != 1 {
+            return Err(OpenFault::BadLinks);
         }
         let admission = admission_of(alloc, &opening, opening.creation)?;
         let audit = Audit::new(alloc, opening.entries);
@@ -88,6 +94,7 @@ impl NodeCore {
         ensures legal { IsLegal self.now }
         ensures few { length self.now.entries ≤ self.now.opening.entries }
         ensures fits { self.now.opening.entries < 2 ^ 32 }
+        ensures links { self.now.opening.links ≡ 1 }
     {
         &self.audit
     }
@@ -169,9 +176,10 @@ pub(crate) fn admission_of(
     opening: &Opening,
     creation: u32,
 ) -> Result<Admission, OutOfMemory>
-    ensures { IfOk result (λ a. a ≡ record { own = opening.now.name; cookie = opening.now.cookie; hidden = opening.now.hidden; creation = creation; peers = []; allowed = [] }) }
+    requires { IsVersion opening.now.links }
+    ensures { IfOk result (λ a. a ≡ record { own = opening.now.name; cookie = opening.now.cookie; hidden = opening.now.hidden; creation = creation; links = opening.now.links; peers = []; allowed = [] }) }
 {
     let own = opening.name.try_clone(alloc)?;
     let cookie = opening.cookie.try_clone(alloc)?;
-    Ok(Admission::new(alloc, own, cookie, opening.hidden, creation))
+    Ok(Admission::new(alloc, own, cookie, opening.hidden, creation, opening.links))
 }
