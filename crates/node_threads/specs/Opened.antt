@@ -1,8 +1,8 @@
 -- A new node, and why there is none.
-use Rattle.std.specs.Prelude.{◌≡◌, ℕ, ◌<◌, ◌≤◌, List, [], length, replicate, slice_get, Some}
+use Rattle.std.specs.Prelude.{◌≡◌, ◌≢◌, ℕ, ◌<◌, ◌≤◌, List, [], length, replicate, slice_get, Some}
 use Rattle.policy_audit.specs.declared.opening.Opening.{Opening}
 use Rattle.node_threads.specs.declared.fault.NewFault.{NewFault}
-use Rattle.node_threads.specs.declared.fault.NewFault.TheVariants.{BadSeats, BadLimit, OutOfMemory}
+use Rattle.node_threads.specs.declared.fault.NewFault.TheVariants.{BadSeats, BadLimit, BadLinks, OutOfMemory}
 use Rattle.policy_audit.specs.History.{past}
 use Rattle.node_threads.specs.Calls.{Record}
 use Rattle.node_threads.specs.Room.{Room}
@@ -20,8 +20,9 @@ pub record IsOpened (seats : ℕ) (passes : List Record) : Type 0 where
 abbrev pub HasBounds : ℕ → Type 0
 HasBounds seats = (0 < seats) × (seats ≤ 256)
 
--- why there is no node
+-- why there is no node: the seats come first, then the limit, and then the version, of which 1 alone is taken
 abbrev pub IsNewFault : NewFault → Opening → ℕ → Type 0
 IsNewFault BadSeats opening seats = HasBounds seats → ⊥
 IsNewFault BadLimit opening seats = HasBounds seats × (opening.entries ≡ 0)
-IsNewFault OutOfMemory opening seats = HasBounds seats × (0 < opening.entries)
+IsNewFault BadLinks opening seats = HasBounds seats × (0 < opening.entries) × (opening.links ≢ 1)
+IsNewFault OutOfMemory opening seats = HasBounds seats × (0 < opening.entries) × (opening.links ≡ 1)

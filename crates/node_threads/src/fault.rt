@@ -9,6 +9,8 @@ pub enum NewFault {
     BadSeats,
     #[error("an audit needs room for one entry at least")]
     BadLimit,
+    #[error("the version of link messages must be 1")]
+    BadLinks,
     #[error("out of memory")]
     OutOfMemory,
 }

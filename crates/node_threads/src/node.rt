@@ -26,7 +26,8 @@ pub struct Node {
 
 impl Shared {
     /// What a new node has behind its lock, where it has seen nothing, with a pass for each seat, in the order of the seats.
-    /// `BadSeats` where there are none or more than 256, and then `BadLimit` where the opening allows no entry.
+    /// `BadSeats` where there are none or more than 256, then `BadLimit` where the opening allows no entry, and then `BadLinks` where
+    /// its version of link messages isn't 1.
     pub fn open(
         alloc: Global,
         opening: Opening,
@@ -34,6 +35,7 @@ impl Shared {
     ) -> Result<(Shared, Vec<Pass>), NewFault>
         ensures ok { IfOk result (λ made. (made.0 ≡ new_room opening seats) × IsOpened seats made.1.items) }
         ensures bounds { OnOk result (HasBounds seats × (0 < opening.entries)) }
+        ensures links { OnOk result (opening.links ≡ 1) }
         ensures refused { IfErr result (λ fault. IsNewFault fault opening seats) }
     {
         if seats == 0 || seats > Node::MAX_SEATS {
@@ -42,6 +44,7 @@ impl Shared {
         let core = match NodeCore::new(alloc, opening) {
             Ok(core) => core,
             Err(OpenFault::BadLimit) => return Err(NewFault::BadLimit),
+            Err(OpenFault::BadLinks) => return Err(NewFault::BadLinks),
             Err(OpenFault::OutOfMemory) => return Err(NewFault::OutOfMemory),
         };
         let Ok(passes) = new_passes(alloc, seats) else {
@@ -61,6 +64,7 @@ impl Node {
     pub fn new(alloc: Global, opening: Opening, seats: u32) -> Result<(Node, Vec<Pass>), NewFault>
         ensures ok { IfOk result (λ made. IsOpened seats made.1.items) }
         ensures bounds { OnOk result (HasBounds seats × (0 < opening.entries)) }
+        ensures links { OnOk result (opening.links ≡ 1) }
         ensures refused { IfErr result (λ fault. IsNewFault fault opening seats) }
     {
         let (shared, passes) = Shared::open(alloc, opening, seats)?;
