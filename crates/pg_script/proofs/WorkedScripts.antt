@@ -17,6 +17,7 @@ node = record {
   hidden = false;
   creation = 4;
   entries = 1000000;
+  links = 1;
 }
 
 -- the stored run

@@ -1,5 +1,5 @@
 -- What a script is played on.
-use Rattle.std.specs.Prelude.{ℕ, []}
+use Rattle.std.specs.Prelude.{◌≡◌, ◌≢◌, ◌<◌, ◌⊎◌, ℕ, []}
 use Rattle.policy_audit.specs.declared.opening.Opening.{Opening}
 use Rattle.policy_audit.specs.History.{History, past}
 
@@ -11,3 +11,11 @@ pub record Playing : Type 0 where
 -- a node that has seen nothing, asked by seat 0
 abbrev pub opened_with : Opening → Playing
 opened_with o = record { history = past o []; seat = 0 }
+
+-- a node may open so: its audit has room for an entry, and it knows version 1 of link messages alone
+abbrev pub MayOpen : Opening → Type 0
+MayOpen o = (0 < o.entries) × (o.links ≡ 1)
+
+-- no node opens so: its audit would have no entry, or it would know another version
+abbrev pub IsBadOpening : Opening → Type 0
+IsBadOpening o = (o.entries ≡ 0) ⊎ (o.links ≢ 1)

@@ -1,9 +1,9 @@
 //! A node as the lines of a script see it.
-ghost use Rattle.std.specs.Prelude.{◌≡◌, ◌++◌, ◌↔◌, ◌⊎◌, ◌<◌, Bool, true, false, IfOk, IfErr, OnOk, Err};
-ghost use Rattle.pg_script.specs.Playing.{opened_with};
+ghost use Rattle.std.specs.Prelude.{◌≡◌, ◌++◌, ◌⊎◌, Bool, true, false, IfOk, IfErr, OnOk, Err};
+ghost use Rattle.pg_script.specs.Playing.{opened_with, MayOpen};
 ghost use Rattle.pg_script.specs.Transcript.{answer_to, left_by, line_text, line_left, is_fault};
 ghost use Rattle.pg_text.specs.declared.command.LineFault.TheVariants as faults;
-ghost use Rattle.node_core.specs.declared.fault.OpenFault.TheVariants as opens;
+ghost use Rattle.node_core.specs.Step.{IsOpenFault};
 
 use dist_types::OutOfMemory;
 use node_core::{NodeCore, OpenFault};
@@ -32,8 +32,8 @@ impl Console {
     /// A console over a node that has seen nothing, asked by seat 0.
     pub fn open(alloc: Global, opening: Opening) -> Result<Console, OpenFault>
         ensures ok { IfOk result (λ console. console ≡ opened_with opening) }
-        ensures limit { OnOk result (0 < opening.entries) }
-        ensures refused { IfErr result (λ fault. (fault ≡ opens.BadLimit) ↔ (opening.entries ≡ 0)) }
+        ensures good { OnOk result (MayOpen opening) }
+        ensures refused { IfErr result (λ fault. IsOpenFault fault opening) }
     {
         let core = NodeCore::new(alloc, opening)?;
         Ok(Console { core, seat: 0 })

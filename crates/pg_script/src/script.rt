@@ -5,7 +5,7 @@ ghost use Rattle.std.specs.Io.BufRead.{take_through, drop_through};
 ghost use Rattle.std.specs.IoError.{error_kind};
 ghost use Rattle.std.specs.declared.io.ErrorKind.TheVariants as kinds;
 ghost use Rattle.pg_text.specs.Answers.{fault_line};
-ghost use Rattle.pg_script.specs.Playing.{opened_with};
+ghost use Rattle.pg_script.specs.Playing.{opened_with, MayOpen, IsBadOpening};
 ghost use Rattle.pg_script.specs.Runs.{RunsAs};
 ghost use Rattle.pg_script.specs.Transcript.{is_fault, line_text, line_left, owed_line};
 ghost use Rattle.policy_audit.specs.declared.opening.Opening.{Opening};
@@ -45,9 +45,9 @@ pub fn run<A: AllocGlobal, R: BufRead, W: Write>(
     reader: &mut R,
     writer: &mut W,
 ) -> Result<(), RunFault>
-    ensures bad { (result ≡ Err faults.BadOpening) ↔ (opening.entries ≡ 0) }
+    ensures bad { (result ≡ Err faults.BadOpening) ↔ IsBadOpening opening }
     ensures untouched { result ≡ Err faults.BadOpening → (reader.new ≡ reader.old) × (writer.new ≡ writer.old) }
-    ensures text { 0 < opening.entries → IfSome (R.remaining reader.old) (λ script.
+    ensures text { MayOpen opening → IfSome (R.remaining reader.old) (λ script.
         RunsAs opening script (W.contents writer.old) (W.contents writer.new) result) }
 {
     let mut line = Vec::new(rt.alloc());
@@ -62,14 +62,14 @@ pub fn play<R: BufRead, W: Write>(
     line: &mut Vec<u8>,
     writer: &mut W,
 ) -> Result<(), RunFault>
-    ensures bad { (result ≡ Err faults.BadOpening) ↔ (opening.entries ≡ 0) }
+    ensures bad { (result ≡ Err faults.BadOpening) ↔ IsBadOpening opening }
     ensures untouched { result ≡ Err faults.BadOpening → (reader.new ≡ reader.old) × (writer.new ≡ writer.old) }
-    ensures text { 0 < opening.entries → IfSome (R.remaining reader.old) (λ script.
+    ensures text { MayOpen opening → IfSome (R.remaining reader.old) (λ script.
         RunsAs opening script (W.contents writer.old) (W.contents writer.new) result) }
 {
     match Console::open(alloc, opening) {
         Ok(mut console) => play_lines(alloc, &mut console, reader, line, writer),
-        Err(OpenFault::BadLimit) => Err(RunFault::BadOpening),
+        Err(OpenFault::BadLimit | OpenFault::BadLinks) => Err(RunFault::BadOpening),
         Err(OpenFault::OutOfMemory) => Err(RunFault::Memory),
     }
 }

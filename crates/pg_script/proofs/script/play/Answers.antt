@@ -2,12 +2,12 @@ use Rattle.pg_script.proofs.Played.{played_start, played_part, if_known}
 use Rattle.pg_script.proofs.script.play.Goals as goal
 
 pub returns-in-Ok-clause-text : goal.returns-in-Ok-clause-text
-returns-in-Ok-clause-text g c = λ positive. c.play_lines.ensures.text c.args.opening
+returns-in-Ok-clause-text g c = λ good. c.play_lines.ensures.text c.args.opening
     c.in-Ok.ensures.ok
 
 -- no memory for the node
 pub returns-in-Err-OutOfMemory-clause-text : goal.returns-in-Err-OutOfMemory-clause-text
 returns-in-Err-OutOfMemory-clause-text g c =
-    λ positive. if_known (g.R.Read.remaining c.args.reader.now)
+    λ good. if_known (g.R.Read.remaining c.args.reader.now)
     (λ script tells. played_part
     (played_start c.args.opening script (g.W.Write.contents c.args.writer.now)))
