@@ -19,7 +19,14 @@ use Rattle.pg_world.specs.declared.world_step.WorldStep.TheVariants as step
 
 fresh_node : (name : List ℕ) → IsNodeName name → IsNode (fresh name)
 fresh_node name is =
-    record { legal = tt; name = is; creation = omega arith; entries = omega arith; written = tt }
+    record {
+      legal = tt;
+      name = is;
+      creation = omega arith;
+      entries = omega arith;
+      links = (omega arith, omega arith);
+      written = tt;
+    }
 
 a_name : IsNodeName (codes "a@h")
 a_name = (names_compute (codes "a@h")).0 refl

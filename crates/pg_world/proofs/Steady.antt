@@ -43,6 +43,7 @@ module _ (w : Nodes) (sound : IsWorld w) (i : ℕ) (h : History) (e : Entry)
     name = node.name;
     creation = node.creation;
     entries = node.entries;
+    links = node.links;
     written = (written, node.written);
   })
 

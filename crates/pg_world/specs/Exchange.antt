@@ -26,7 +26,7 @@ Comes w (t ∷ ts) v = (u : Nodes) × (r : Result WorldReply WorldFault) × IsWo
 
 -- a node that has seen nothing
 abbrev pub fresh : List ℕ → History
-fresh name = past (record { name = name; cookie = codes "password"; hidden = false; creation = 4; entries = 100 }) []
+fresh name = past (record { name = name; cookie = codes "password"; hidden = false; creation = 4; entries = 100; links = 1 }) []
 
 -- `a@h` and `b@h`, without wires
 abbrev pub two_nodes : Nodes
