@@ -10,7 +10,7 @@ use Rattle.world_script.specs.Names.{is_named, place_of}
 
 -- some node, where a list of nodes has to be read past its end
 abbrev pub nobody : History
-nobody = past (record { name = []; cookie = []; hidden = false; creation = 0; entries = 0 }) []
+nobody = past (record { name = []; cookie = []; hidden = false; creation = 0; entries = 0; links = 1 }) []
 
 module _ (name : List ℕ) (hs : List History) where
   named_at : (k : ℕ) → k < length hs

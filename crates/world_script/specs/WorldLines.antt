@@ -51,7 +51,7 @@ settings_of words =
 
 -- what a node starts with
 abbrev pub opened_with : List ℕ → List ℕ → Settings → Opening
-opened_with name cookie s = record { name = name; cookie = cookie; hidden = s.hidden; creation = s.creation; entries = s.entries }
+opened_with name cookie s = record { name = name; cookie = cookie; hidden = s.hidden; creation = s.creation; entries = s.entries; links = 1 }
 
 -- `NAME COOKIE`, and settings
 abbrev pub opening_of : List (List ℕ) → Option Opening

@@ -75,7 +75,7 @@ impl From<OpenFault> for LabFault {
 
     fn from(fault: OpenFault) -> LabFault {
         match fault {
-            OpenFault::BadLimit => LabFault::Script,
+            OpenFault::BadLimit | OpenFault::BadLinks => LabFault::Script,
             OpenFault::OutOfMemory => LabFault::Memory,
         }
     }

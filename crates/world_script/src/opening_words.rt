@@ -40,6 +40,7 @@ pub fn opening(alloc: Global, words: Option<&[u8]>) -> Result<Opening, LineFault
         hidden,
         creation,
         entries,
+        links: 1,
     })
 }
 
