@@ -127,6 +127,7 @@ fn opening(alloc: Global, name: &[u8]) -> Result<Opening> {
         hidden: false,
         creation: 1,
         entries: 1_000,
+        links: 1,
     })
 }
 

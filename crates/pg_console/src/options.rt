@@ -144,5 +144,6 @@ pub fn opening(alloc: Global, run: &ArgMatches<'_>) -> Result<Opening, OptionsFa
         hidden: run.get_flag("hidden"),
         creation: run.get_one::<u32>("creation").unwrap_or(1),
         entries: run.get_one::<u32>("entries").unwrap_or(ENTRIES),
+        links: 1,
     })
 }

@@ -201,6 +201,7 @@ fn opening(alloc: Global, name: &[u8]) -> Result<Opening, TextFault> {
         hidden: false,
         creation: 1,
         entries: 1_000_000,
+        links: 1,
     })
 }
 

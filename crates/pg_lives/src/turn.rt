@@ -217,6 +217,7 @@ fn copy(alloc: Global, opening: &Opening) -> Result<Opening> {
         hidden: opening.hidden,
         creation: opening.creation,
         entries: opening.entries,
+        links: opening.links,
     })
 }
 

@@ -97,6 +97,7 @@ fn opening<R: Files>(
             .get_one::<u32>("entries")
             .unwrap_or(ENTRIES)
             .max(FEWEST),
+        links: 1,
     })
 }
 

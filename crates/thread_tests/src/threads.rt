@@ -5,6 +5,7 @@ mod challenges;
 mod close;
 mod crowd;
 mod news;
+mod openings;
 mod read_back;
 mod retreat;
 mod worker;
@@ -43,6 +44,7 @@ pub(super) fn opening(alloc: Global, name: &[u8], creation: u32, entries: u32) -
         hidden: false,
         creation,
         entries,
+        links: 1,
     })
 }
 

@@ -1,5 +1,5 @@
-//! Nodes that aren't closed, and nodes that aren't made.
-use super::{closed, fault_of, is_done, new_node, opening};
+//! Nodes that aren't closed.
+use super::{closed, fault_of, is_done, new_node};
 use node_threads::*;
 use policy_audit::Event;
 use std::alloc::Global;
@@ -112,60 +112,4 @@ fn close_refusals(rt: HostRuntime) {
         strange: CloseRule::Mismatch,
     };
     assert_eq!(rt; meets_a_stranger(&rt, alloc), Some(wanted));
-}
-
-/// A node of that many seats and entries, and why there is none.
-#[derive(Clone, Copy)]
-struct Refused {
-    seats: u32,
-    entries: u32,
-    fault: NewFault,
-}
-
-const REFUSED: [Refused; 4] = [
-    Refused {
-        seats: 0,
-        entries: 100,
-        fault: NewFault::BadSeats,
-    },
-    Refused {
-        seats: 257,
-        entries: 100,
-        fault: NewFault::BadSeats,
-    },
-    Refused {
-        seats: 0,
-        entries: 0,
-        fault: NewFault::BadSeats,
-    },
-    Refused {
-        seats: 1,
-        entries: 0,
-        fault: NewFault::BadLimit,
-    },
-];
-
-fn opens(alloc: Global, seats: u32) -> bool {
-    new_node(alloc, 1, seats).is_some()
-}
-
-/// Why there is no node of that many seats and entries.
-fn refused_node(alloc: Global, seats: u32, entries: u32) -> Option<NewFault> {
-    Node::new(alloc, opening(alloc, b"a@h", 1, entries)?, seats).err()
-}
-
-#[test]
-fn refuses_seats_and_limits(rt: HostRuntime) {
-    let alloc: Global = rt.alloc();
-    for row in REFUSED {
-        let fault = refused_node(alloc, row.seats, row.entries);
-        assert_eq!(rt;
-            fault,
-            Some(row.fault),
-            "{} seats, {} entries",
-            row.seats,
-            row.entries
-        );
-    }
-    assert!(rt; opens(alloc, 256));
 }
