@@ -2,8 +2,8 @@
 
 from random import Random
 
-from frames import (Discover, Down, RowsJoin, RowsLeave, Sync, ack_body, challenge_body, message_body, name_body, reply_body,
-                    status_body)
+from frames import (VERSION_2, Discover, Down, RowsJoin, RowsLeave, Sync, ack_body, challenge_body, message_body, name_body,
+                    part_body, reply_body, status_body)
 from records import record
 from story import FLAGS, Story, row
 
@@ -52,10 +52,11 @@ def tries_of(rng, place):
 
 def must_be_bad(place):
     """The bodies that spell nothing, whatever the rest is: each beginning, and the whole with a byte behind it, but for frames that
-    end with any bytes. One beginning of a status is another status."""
-    ends_with_any = place.title.startswith(('Name', 'Challenge'))
-    bad = beginnings(place.body) + ([] if ends_with_any else [place.body + b'\0'])
-    return set(bad) - {status_body('ok')}
+    end with any bytes, which may say a version. One beginning of a status is another status. A part is no message of version 1."""
+    if place.title.startswith(('Name', 'Challenge')):
+        return set(beginnings(place.body.removesuffix(VERSION_2)))
+    whole = [place.body] if place.title in PARTS else []
+    return set(beginnings(place.body) + whole + [place.body + b'\0']) - {status_body('ok')}
 
 
 def nothing(story):
@@ -71,11 +72,16 @@ def allowed_peer_is_up(story):
     peer_is_up(story)
 
 
-def rows_are_heard(story):
+def rows_are_heard(story, behind=b''):
     story.tell('start pg', 'spawn', 'join pg g b@h/1/1', 'monitor_scope pg')
-    link = story.accepted(PEER)
+    link = story.accepted(PEER, behind=behind)
     story.message(link, Discover('pg'))
     story.say('take', link)
+
+
+def rows_are_heard_of_version_2(story):
+    """The link is of version 1 all the same, since the node knows no other."""
+    rows_are_heard(story, VERSION_2)
 
 
 def awaits_name(story):
@@ -125,8 +131,17 @@ def right_digest(awaited):
     return story.own_digest(awaited(story))
 
 
+# Each would be right on a link of version 2.
+PARTS = {
+    'part of no rows': part_body(Sync('pg', ())),
+    'part of a Sync': part_body(Sync('pg', (row('g', PEER, 1), row('h', PEER, 2))), last=False),
+    'part of a Join': part_body(RowsJoin('pg', (row('w', PEER, 3),)), number=2),
+    'part of a Leave': part_body(RowsLeave('pg', (row('g', PEER, 1),))),
+}
+
 PLACES = [
     Place('Name', nothing, awaits_name, name_body(FLAGS, 1, PEER)),
+    Place('Name of version 2', nothing, awaits_name, name_body(FLAGS, 1, PEER) + VERSION_2),
     Place('Name of an allowed peer that is up', allowed_peer_is_up, awaits_name, name_body(FLAGS, 1, PEER)),
     Place('Name of a lesser peer that is dialled', nothing, awaits_name_while_dialling, name_body(FLAGS, 1, PEER)),
     Place('answer to alive', peer_is_up, awaits_answer, status_body('true')),
@@ -136,10 +151,12 @@ PLACES = [
     Place('status not_allowed', nothing, awaits_status, status_body('not_allowed')),
     Place('status alive', nothing, awaits_status, status_body('alive')),
     Place('Challenge', nothing, awaits_challenge, challenge_body(FLAGS, 3, 1, PEER)),
+    Place('Challenge of version 2', nothing, awaits_challenge, challenge_body(FLAGS, 3, 1, PEER) + VERSION_2),
     Place('Ack', nothing, awaits_ack, ack_body(right_digest(awaits_ack))),
 ] + [Place(type(message).__name__, rows_are_heard, heard, message_body(message)) for message in (
     Discover('pg'), Down('pg'), Sync('pg', ()), BASE, RowsJoin('pg', (row('w', PEER, 3), row('g', PEER, 1))),
-    RowsLeave('pg', (row('g', PEER, 1), row('h', PEER, 2))))]
+    RowsLeave('pg', (row('g', PEER, 1), row('h', PEER, 2))))
+] + [Place(title, rows_are_heard_of_version_2, heard, body) for title, body in PARTS.items()]
 
 
 def long_row(name_length):

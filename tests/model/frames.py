@@ -20,6 +20,9 @@ Down = record('Down', 'scope')
 STATUSES = ('ok', 'ok_simultaneous', 'nok', 'not_allowed', 'alive', 'true', 'false')
 PUBLISHED, HANDSHAKE_23, DYNAMIC = 1 << 0, 1 << 24, 1 << 33
 MOST_ROWS = 4096
+# Behind the name of a Name or a Challenge: the sender knows version 2 of the link messages. To the node it makes no difference, since
+# that knows version 1 alone.
+VERSION_2 = b'\x02'
 KINDS = {Discover: b'D', Sync: b'S', RowsJoin: b'J', RowsLeave: b'L', Down: b'X'}
 
 
@@ -159,8 +162,15 @@ def row_body(row):
     return counted(group, 1) + counted(pid.name, 2) + pid.creation.to_bytes(4, 'big') + pid.number.to_bytes(8, 'big')
 
 
+def rows_body(rows):
+    return len(rows).to_bytes(4, 'big') + b''.join(row_body(row) for row in rows)
+
+
 def message_body(message):
     body = KINDS[type(message)] + counted(message.scope, 1)
-    if isinstance(message, (Discover, Down)):
-        return body
-    return body + len(message.rows).to_bytes(4, 'big') + b''.join(row_body(row) for row in message.rows)
+    return body if isinstance(message, (Discover, Down)) else body + rows_body(message.rows)
+
+
+def part_body(message, number=1, last=True):
+    """The message as one part of version 2."""
+    return KINDS[type(message)] + counted(message.scope, 1) + number.to_bytes(4, 'big') + bytes([last]) + rows_body(message.rows)

@@ -36,10 +36,10 @@ class Story(Peers):
         self.say('dial', name, challenge)
         return self.h.number
 
-    def accepted(self, name, challenge=7, creation=1):
-        """A link that a peer opens, and that comes up where the peer is allowed; answers its number."""
+    def accepted(self, name, challenge=7, creation=1, behind=b''):
+        """A link that a peer opens, and that comes up where the peer is allowed; answers its number. These bytes stand behind its name."""
         link = self.opens(challenge)
-        self.send(link, name_body(FLAGS, creation, name))
+        self.send(link, name_body(FLAGS, creation, name) + behind)
         if self.model.is_open(self.h, link):
             self.prove(link)
         return link

@@ -1,9 +1,11 @@
-//! Worked cases of texts, values, frames and digests.
+//! Worked cases of texts, values, frames, parts of messages and digests.
 #![tactic(auto)]
 
 #[cfg(test)]
 mod cookies;
 #[cfg(test)]
 mod frames;
+#[cfg(test)]
+mod parts;
 #[cfg(test)]
 mod types;
