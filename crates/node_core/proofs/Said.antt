@@ -9,7 +9,7 @@ use Rattle.dist_types.proofs.Listings.{listing_counts}
 use Rattle.link_frames.specs.Spelling.{HasSpelling}
 use Rattle.scope_core.specs.declared.fault.TableFault.{TableFault}
 use Rattle.policy_audit.proofs.OwnRows.{one_row_listing, rows_in_group}
-use Rattle.scope_core.proofs.NodeLists.{on_err}
+use Rattle.scope_core.proofs.Outcomes.{on_err}
 
 some_left : {A : Type 0} (xs : List A) → not (is_empty xs) ≡ true → 0 < length xs
 some_left [] q = lie (sym q)

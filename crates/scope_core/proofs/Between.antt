@@ -1,142 +1,134 @@
 -- The changes where some rows leave and others join, or take the place of others.
-use Rattle.scope_core.proofs.Words.{◌≡◌, ℕ, ◌+◌, ◌-◌, ◌<◌, Bool, true, false, cond, ◌&&◌, List, [], ◌∷◌, map, None, refl, ◌∙◌, sym, arith}
-use Rattle.scope_core.proofs.Words.{AllByRecursion, or_right, or_left, exact_bytes, Pid, text_cmp, same, mentions, is_among, total, Rises}
-use Rattle.scope_core.proofs.Words.{IsPidListing, IsGroupListing, is_empty, IsProper, texts_total, same_decides, one_of_many, Counted, counted_cmp}
-use Rattle.scope_core.proofs.Words.{heads, moving, IsUnion, Tells, GroupChange, length, Less, Row, how_many, IsDifference, is_row, tally, IsEmptied}
-use Rattle.scope_core.proofs.Words.{Adds, times_beyond, picked, of_node, no_count}
-use Rattle.scope_core.proofs.Shares.{pids_listing}
-use Rattle.scope_core.proofs.Groups.{groups_listing}
-use Rattle.scope_core.proofs.Rising.{all_mapped, all_unmapped, once, row_is, kept_counts, tally_absent}
+use Rattle.scope_core.proofs.Words.{◌≡◌, ℕ, ◌+◌, ◌-◌, ◌<◌, Bool, true, false, cond, ◌&&◌, List, []}
+use Rattle.scope_core.proofs.Words.{◌∷◌, map, refl, ◌∙◌, arith}
+use Rattle.scope_core.proofs.Words.{AllByRecursion, or_right, or_left, exact_bytes, Pid, text_cmp}
+use Rattle.scope_core.proofs.Words.{same, mentions, is_among, total, Rises}
+use Rattle.scope_core.proofs.Words.{IsGroupListing, is_empty, IsProper, texts_total, same_decides}
+use Rattle.scope_core.proofs.Words.{one_of_many, Counted, counted_cmp}
+use Rattle.scope_core.proofs.Words.{Tells, GroupChange, length, Less, Row, how_many, IsDifference}
+use Rattle.scope_core.proofs.Words.{is_row, tally, IsEmptied}
+use Rattle.scope_core.proofs.Words.{Adds, times_beyond, picked, no_count}
+use Rattle.scope_core.proofs.Rising.{all_unmapped, once, row_is, tally_absent}
 
 -- the change where the processes that are hit leave all groups, and some are their rows
-pub part_told : (hit : Pid → Bool) (cs some : List Counted) → ((g : List ℕ) (p : Pid) → tally (is_row g p) some ≡ cond (hit p) (tally (is_row g p) cs) 0) → (changes : List GroupChange) → Tells some [] changes
-    → IsDifference (λ g p. tally (is_row g p) cs) (λ g p. cond (hit p) 0 (tally (is_row g p) cs)) changes
+pub part_told : (hit : Pid → Bool) (cs some : List Counted)
+    → ((g : List ℕ) (p : Pid) → tally (is_row g p) some ≡ cond (hit p) (tally (is_row g p) cs) 0)
+    → (changes : List GroupChange) → Tells some [] changes
+    → IsDifference (λ g p. tally (is_row g p) cs)
+    (λ g p. cond (hit p) 0 (tally (is_row g p) cs)) changes
 part_told hit cs some is changes told = told _ _ (λ g p. grind (arith, is g p)) (λ g p. grind arith)
 
 -- what holds of each that is among them holds of all
-all_among : (P : List ℕ → Type 0) (gs : List (List ℕ)) → ((g : List ℕ) → is_among g gs ≡ true → P g) → AllByRecursion P gs
+all_among : (P : List ℕ → Type 0) (gs : List (List ℕ)) → ((g : List ℕ) → is_among g gs ≡ true → P g)
+    → AllByRecursion P gs
 all_among P [] h = tt
-all_among P (g ∷ gs) h = (h g (or_left _ _ ((same_decides g g).1 refl)), all_among P gs (λ k e. h k (or_right _ _ e)))
+all_among P (g ∷ gs) h =
+    (h g (or_left _ _ ((same_decides g g).1 refl)), all_among P gs (λ k e. h k (or_right _ _ e)))
 
-total_map : {A B : Type 0} (f : B → ℕ) (m : A → B) (xs : List A) → total f (map m xs) ≡ total (λ x. f (m x)) xs
-total_map f m [] = refl
-total_map f m (x ∷ xs) = grind (arith, total_map f m xs)
-
-some_moved : (p : Pid) (ps qs : List Pid) → 0 < mentions p ps + mentions p qs → (is_empty ps && is_empty qs) ≡ false
+some_moved : (p : Pid) (ps qs : List Pid) → 0 < mentions p ps + mentions p qs
+    → (is_empty ps && is_empty qs) ≡ false
 some_moved p [] [] l = grind arith
 some_moved p [] (q ∷ qs) l = refl
 some_moved p (q ∷ ps) qs l = refl
 
-module _ (cs ds : List Counted) (r : Rises counted_cmp cs) (s : Rises counted_cmp ds) (gs : List (List ℕ)) (union : IsUnion (heads None cs) (heads None ds) gs) where
-  left_in : (g : List ℕ) → IsPidListing (λ p. tally (is_row g p) cs) (moving cs ds g).left
-  left_in g = pids_listing g cs r
-
-  joined_in : (g : List ℕ) → IsPidListing (λ p. tally (is_row g p) ds) (moving cs ds g).joined
-  joined_in g = pids_listing g ds s
-
-  left_groups : IsGroupListing (λ g p. tally (is_row g p) cs) (heads None cs)
-  left_groups = groups_listing cs r
-
-  joined_groups : IsGroupListing (λ g p. tally (is_row g p) ds) (heads None ds)
-  joined_groups = groups_listing ds s
-
-  named : (ks : List (List ℕ)) → map (λ c. c.group) (map (moving cs ds) ks) ≡ ks
-  named [] = refl
-  named (k ∷ ks) = grind (arith, named ks)
-
-  proper : (g : List ℕ) → is_among g gs ≡ true → IsProper (moving cs ds g)
-  proper g h = grind (arith, left_in g, joined_in g, union.either g, left_groups.found g, joined_groups.found g, some_moved)
-
-  -- in each group as many are told as are counted, where all groups that are counted are named
-  all_told : (part : GroupChange → List Pid) (count : List ℕ → Pid → ℕ) → ((g : List ℕ) (p : Pid) → mentions p (part (moving cs ds g)) ≡ count g p)
-      → ((g : List ℕ) (p : Pid) → 0 < count g p → is_among g gs ≡ true)
-      → (g : List ℕ) (p : Pid) → total (λ c. cond (same c.group g) (mentions p (part c)) 0) (map (moving cs ds) gs) ≡ count g p
-  all_told part count is among g p =
-      let one = one_of_many text_cmp same texts_total exact_bytes same_decides (λ k. mentions p (part (moving cs ds k))) g gs union.rises in
-      grind (arith, total_map (λ c. cond (same c.group g) (mentions p (part c)) 0) (moving cs ds) gs, one, is g p, among g p)
-
-  -- what leaves and what joins is the difference
-  pub tells : Tells cs ds (map (moving cs ds) gs)
-  tells before after is_less is_more = record {
-    groups = rw named union.rises;
-    proper = all_mapped IsProper (moving cs ds) gs (all_among (λ g. IsProper (moving cs ds g)) gs proper);
-    left = λ g p.
-        all_told (λ c. c.left) (λ k q. tally (is_row k q) cs) (λ k. (left_in k).counts)
-        (λ k q l. grind (arith, union.either k, left_groups.only k q l)) g p
-        ∙ sym (is_less g p);
-    joined = λ g p.
-        all_told (λ c. c.joined) (λ k q. tally (is_row k q) ds) (λ k. (joined_in k).counts)
-        (λ k q l. grind (arith, union.either k, joined_groups.only k q l)) g p
-        ∙ sym (is_more g p);
-  }
-
 module _ (times : Counted → ℕ) where
-  picked_above : (c : Counted) (ds : List Counted) → AllByRecursion (λ d. counted_cmp c d ≡ Less) ds → AllByRecursion (λ d. counted_cmp c d ≡ Less) (picked times ds)
+  picked_above : (c : Counted) (ds : List Counted) → AllByRecursion (λ d. counted_cmp c d ≡ Less) ds
+      → AllByRecursion (λ d. counted_cmp c d ≡ Less) (picked times ds)
   picked_above c [] a = tt
   picked_above c (d ∷ ds) a = grind (arith, picked_above c ds a.1)
 
-  pub picked_rises : (cs : List Counted) → Rises counted_cmp cs → Rises counted_cmp (picked times cs)
+  pub picked_rises : (cs : List Counted) → Rises counted_cmp cs
+      → Rises counted_cmp (picked times cs)
   picked_rises [] r = tt
   picked_rises (c ∷ cs) r = grind (arith, picked_rises cs r.1, picked_above c cs r.0)
 
   -- what is picked is counted as often as times says
-  picked_tally : (test : Row → Bool) (cs : List Counted) → tally test (picked times cs) ≡ total (λ c. cond (test c.row) (times c) 0) cs
+  picked_tally : (test : Row → Bool) (cs : List Counted)
+      → tally test (picked times cs) ≡ total (λ c. cond (test c.row) (times c) 0) cs
   picked_tally test [] = refl
   picked_tally test (c ∷ cs) = grind (arith, picked_tally test cs)
 
 -- what is counted of the rows that are more
-beyond_counts : (cs others : List Counted) → Rises counted_cmp cs → (g : List ℕ) (p : Pid) → tally (is_row g p) (picked (times_beyond others) cs) ≡ tally (is_row g p) cs - tally (is_row g p) others
+beyond_counts : (cs others : List Counted) → Rises counted_cmp cs → (g : List ℕ) (p : Pid)
+    → tally (is_row g p) (picked (times_beyond others) cs)
+    ≡ tally (is_row g p) cs - tally (is_row g p) others
 beyond_counts cs others r g p = picked_tally (times_beyond others) (is_row g p) cs ∙ each cs r
   where
-    each : (xs : List Counted) → Rises counted_cmp xs → total (λ c. cond (is_row g p c.row) (times_beyond others c) 0) xs ≡ tally (is_row g p) xs - tally (is_row g p) others
+    each : (xs : List Counted) → Rises counted_cmp xs
+        → total (λ c. cond (is_row g p c.row) (times_beyond others c) 0) xs
+        ≡ tally (is_row g p) xs - tally (is_row g p) others
     each [] s = omega arith
     each (x ∷ xs) s =
         let none = λ (e : is_row g p x.row ≡ true). tally_absent g p xs (once g p x xs e s.0) in
         grind (arith, each xs s.1, none, row_is g p x.row)
 
 -- the change where the rows take the place of those of the node
-pub synced_change : (n : List ℕ) (rows : List Row) (cs counted : List Counted) (changes : List GroupChange) → Rises counted_cmp (of_node n cs) → Rises counted_cmp counted → Adds rows [] counted
-    → Tells (picked (times_beyond counted) (of_node n cs)) (picked (times_beyond (of_node n cs)) counted) changes
+pub synced_change : (n : List ℕ) (rows : List Row) (cs held counted : List Counted)
+    (changes : List GroupChange) → Rises counted_cmp held
+    → ((g : List ℕ) (p : Pid)
+    → tally (is_row g p) held ≡ cond (same p.node n) (tally (is_row g p) cs) 0)
+    → Rises counted_cmp counted → Adds rows [] counted
+    → Tells (picked (times_beyond counted) held) (picked (times_beyond held) counted) changes
     → ((g : List ℕ) (p : Pid) → same p.node n ≡ false → how_many (is_row g p) rows ≡ 0)
-    → (after : List ℕ → Pid → ℕ) → ((g : List ℕ) (p : Pid) → after g p ≡ cond (same p.node n) (how_many (is_row g p) rows) (tally (is_row g p) cs))
+    → (after : List ℕ → Pid → ℕ)
+    → ((g : List ℕ) (p : Pid)
+    → after g p ≡ cond (same p.node n) (how_many (is_row g p) rows) (tally (is_row g p) cs))
     → IsDifference (λ g p. tally (is_row g p) cs) after changes
-synced_change n rows cs counted changes r s counts told others after is =
+synced_change n rows cs held counted changes r own s counts told others after is =
     told _ after
-    (λ g p. grind (arith, beyond_counts (of_node n cs) counted r g p, kept_counts (λ q. same q.node n) g p cs, counts (is_row g p), is g p, others g p))
-    (λ g p. grind (arith, beyond_counts counted (of_node n cs) s g p, kept_counts (λ q. same q.node n) g p cs, counts (is_row g p), is g p, others g p))
+    (λ g p. grind
+    (arith, beyond_counts held counted r g p, own g p, counts (is_row g p), is g p, others g p))
+    (λ g p. grind
+    (arith, beyond_counts counted held s g p, own g p, counts (is_row g p), is g p, others g p))
 
 -- where no group changes, nothing does
-pub unchanged : (before after : List ℕ → Pid → ℕ) (changes : List GroupChange) → length changes ≡ 0 → IsDifference before after changes → (g : List ℕ) (p : Pid) → before g p ≡ after g p
+pub unchanged : (before after : List ℕ → Pid → ℕ) (changes : List GroupChange) → length changes ≡ 0
+    → IsDifference before after changes → (g : List ℕ) (p : Pid) → before g p ≡ after g p
 unchanged before after [] e d g p = omega (arith, d.left g p, d.joined g p)
 unchanged before after (c ∷ cs) e d g p = grind arith
 
 -- ---- where all groups end
 
 module _ (rows : List Counted) where
-  emptied_proper : (c : GroupChange) → IsEmptied rows c → ((p : Pid) × (0 < tally (is_row c.group p) rows)) → IsProper c
-  emptied_proper c e some = grind (arith, e.left, e.none, e.left.counts some.0, some.1, some_moved some.0 c.left c.joined)
+  emptied_proper : (c : GroupChange) → IsEmptied rows c
+      → ((p : Pid) × (0 < tally (is_row c.group p) rows)) → IsProper c
+  emptied_proper c e some =
+      grind (arith, e.left, e.none, e.left.counts some.0, some.1, some_moved some.0 c.left c.joined)
 
-  emptied_left : (g : List ℕ) (p : Pid) (changes : List GroupChange) → AllByRecursion (IsEmptied rows) changes
-      → total (λ c. cond (same c.group g) (mentions p c.left) 0) changes ≡ total (λ k. cond (same k g) (tally (is_row k p) rows) 0) (map (λ c. c.group) changes)
+  emptied_left : (g : List ℕ) (p : Pid) (changes : List GroupChange)
+      → AllByRecursion (IsEmptied rows) changes
+      → total (λ c. cond (same c.group g) (mentions p c.left) 0) changes
+      ≡ total (λ k. cond (same k g) (tally (is_row k p) rows) 0) (map (λ c. c.group) changes)
   emptied_left g p [] a = refl
   emptied_left g p (c ∷ cs) a = grind (arith, emptied_left g p cs a.1, a.0.left.counts p)
 
-  emptied_joined : (g : List ℕ) (p : Pid) (changes : List GroupChange) → AllByRecursion (IsEmptied rows) changes → total (λ c. cond (same c.group g) (mentions p c.joined) 0) changes ≡ 0
+  emptied_joined : (g : List ℕ) (p : Pid) (changes : List GroupChange)
+      → AllByRecursion (IsEmptied rows) changes
+      → total (λ c. cond (same c.group g) (mentions p c.joined) 0) changes ≡ 0
   emptied_joined g p [] a = refl
   emptied_joined g p (c ∷ cs) a = grind (arith, emptied_joined g p cs a.1, a.0.none)
 
-  all_proper : (changes : List GroupChange) → AllByRecursion (IsEmptied rows) changes → AllByRecursion (λ c. (p : Pid) × (0 < tally (is_row c.group p) rows)) changes → AllByRecursion IsProper changes
+  all_proper : (changes : List GroupChange) → AllByRecursion (IsEmptied rows) changes
+      → AllByRecursion (λ c. (p : Pid) × (0 < tally (is_row c.group p) rows)) changes
+      → AllByRecursion IsProper changes
   all_proper [] a b = tt
   all_proper (c ∷ cs) a b = (emptied_proper c a.0 b.0, all_proper cs a.1 b.1)
 
   -- the change where each group that has a process ends
-  pub all_emptied : (gs : List (List ℕ)) (changes : List GroupChange) → IsGroupListing (λ g p. tally (is_row g p) rows) gs → map (λ c. c.group) changes ≡ gs → AllByRecursion (IsEmptied rows) changes
+  pub all_emptied : (gs : List (List ℕ)) (changes : List GroupChange)
+      → IsGroupListing (λ g p. tally (is_row g p) rows) gs → map (λ c. c.group) changes ≡ gs
+      → AllByRecursion (IsEmptied rows) changes
       → IsDifference (λ g p. tally (is_row g p) rows) no_count changes
   all_emptied gs changes listing names emptied = record {
     groups = rw names listing.rises;
-    proper = all_proper changes emptied (all_unmapped (λ g. (p : Pid) × (0 < tally (is_row g p) rows)) (λ c. c.group) changes (rw names (all_among (λ g. (p : Pid) × (0 < tally (is_row g p) rows)) gs listing.found)));
+    proper =
+        all_proper changes emptied
+        (all_unmapped (λ g. (p : Pid) × (0 < tally (is_row g p) rows)) (λ c. c.group) changes
+        (rw names (all_among (λ g. (p : Pid) × (0 < tally (is_row g p) rows)) gs listing.found)));
     left = λ g p.
-        let one = one_of_many text_cmp same texts_total exact_bytes same_decides (λ k. tally (is_row k p) rows) g gs listing.rises in
+        let one =
+        one_of_many text_cmp same texts_total exact_bytes same_decides
+        (λ k. tally (is_row k p) rows) g gs listing.rises in
         let told = rw names at (emptied_left g p changes emptied) in
         grind (arith, told, one, listing.only g p);
     joined = λ g p. grind (arith, emptied_joined g p changes emptied);

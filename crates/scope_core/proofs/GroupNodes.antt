@@ -1,8 +1,13 @@
 -- A node more in the list of a group, or one less.
-use Rattle.scope_core.proofs.Words.{◌≡◌, ℕ, ◌≤◌, ◌&&◌, ◌+◌, Bool, true, false, cond, List, [], ◌∷◌, Option, None, Some, refl, sym, ap, arith, length}
-use Rattle.scope_core.proofs.Words.{insert, remove, same, same_decides, how_many, how_many_is, sum_by-insert, sum_by-remove, ◌<◌, ◌∙◌, nat_lt, subst, same_sym}
-use Rattle.scope_core.proofs.Words.{is_gt, Less, AllByRecursion, HoldsAt, text_cmp, texts_total, tied_itself, occurrences, is_among, Ascends, Rises, all_from, ltb-true}
-use Rattle.scope_core.proofs.Words.{named_groups, node_names, times_named, get_or, exact_bytes, IsBinarySearchResult, IfOk}
+use Rattle.scope_core.proofs.Words.{◌≡◌, ℕ, ◌≤◌, ◌&&◌, ◌+◌, Bool, true, false, cond, List, [], ◌∷◌}
+use Rattle.scope_core.proofs.Words.{Option, None, Some, refl, sym, ap, arith, length}
+use Rattle.scope_core.proofs.Words.{insert, remove, same, same_decides, how_many, how_many_is}
+use Rattle.scope_core.proofs.Words.{sum_by-insert, sum_by-remove, ◌<◌, ◌∙◌, nat_lt, subst, same_sym}
+use Rattle.scope_core.proofs.Words.{is_gt, Less, AllByRecursion, HoldsAt, text_cmp, texts_total}
+use Rattle.scope_core.proofs.Words.{tied_itself, occurrences, is_among, Ascends, Rises, all_from}
+use Rattle.scope_core.proofs.Words.{ltb-true}
+use Rattle.scope_core.proofs.Words.{named_groups, node_names, times_named, get_or, exact_bytes}
+use Rattle.scope_core.proofs.Words.{IsBinarySearchResult, IfOk}
 use Rattle.scope_core.proofs.Groups.{below, among_counts}
 use Rattle.scope_core.proofs.Rising.{none_pass}
 use Rattle.scope_core.proofs.Searches.{rises_with, rises_without}
@@ -25,79 +30,108 @@ items_of (Some v) = v.items
 
 -- ---- one list
 
-above_none : (m : List ℕ) (ns : List (List ℕ)) → AllByRecursion (λ k. text_cmp m k ≡ Less) ns → times ns m ≡ 0
+above_none : (m : List ℕ) (ns : List (List ℕ)) → AllByRecursion (λ k. text_cmp m k ≡ Less) ns
+    → times ns m ≡ 0
 above_none m [] a = refl
-above_none m (k ∷ ns) a = grind (arith, above_none m ns a.1, same_decides k m, tied_itself texts_total m)
+above_none m (k ∷ ns) a =
+    grind (arith, above_none m ns a.1, same_decides k m, tied_itself texts_total m)
 
 -- no name stands in a rising list twice
 pub times_once : (ns : List (List ℕ)) → Rises text_cmp ns → (n : List ℕ) → times ns n ≤ 1
 times_once [] r n = omega arith
 times_once (k ∷ ns) r n = grind (arith, times_once ns r.1 n, above_none k ns r.0, same_decides k n)
 
-times_insert : (ns : List (List ℕ)) (i : ℕ) (m n : List ℕ) → times (insert ns i m) n ≡ times ns n + cond (same m n) 1 0
+times_insert : (ns : List (List ℕ)) (i : ℕ) (m n : List ℕ)
+    → times (insert ns i m) n ≡ times ns n + cond (same m n) 1 0
 times_insert ns i m n = grind (arith, how_many_is, sum_by-insert)
 
-times_remove : (ns : List (List ℕ)) (i : ℕ) (m n : List ℕ) → i < length ns → HoldsAt (λ k. k ≡ m) ns i → times (remove ns i) n + cond (same m n) 1 0 ≡ times ns n
-times_remove ns i m n l at = grind (arith, how_many_is, sum_by-remove (λ k. cond (same k n) 1 0) ns i m l, at m)
+times_remove : (ns : List (List ℕ)) (i : ℕ) (m n : List ℕ) → i < length ns
+    → HoldsAt (λ k. k ≡ m) ns i → times (remove ns i) n + cond (same m n) 1 0 ≡ times ns n
+times_remove ns i m n l at =
+    grind (arith, how_many_is, sum_by-remove (λ k. cond (same k n) 1 0) ns i m l, at m)
 
 gap_none : (m : List ℕ) (ns : List (List ℕ)) (i : ℕ) → IsNameGap m ns i → times ns m ≡ 0
-gap_none m ns i gap = grind (arith, ltb-true, all_from, none_pass, same_decides, tied_itself texts_total m)
+gap_none m ns i gap =
+    grind (arith, ltb-true, all_from, none_pass, same_decides, tied_itself texts_total m)
 
-pub name_found : (ns : List (List ℕ)) (m : List ℕ) (r : Result ℕ ℕ) → IsBinarySearchResult (λ k. text_cmp k m) ns r → IfOk r (HoldsAt (λ k. k ≡ m) ns)
+pub name_found : (ns : List (List ℕ)) (m : List ℕ) (r : Result ℕ ℕ)
+    → IsBinarySearchResult (λ k. text_cmp k m) ns r → IfOk r (HoldsAt (λ k. k ≡ m) ns)
 name_found ns m (Ok i) h = λ d. exact_bytes (get_or ns i d) m (h d)
 name_found ns m (Err i) h = tt
 
 -- it stands there already
-pub stands : (m : List ℕ) (ns : List (List ℕ)) (i : ℕ) → i < length ns → HoldsAt (λ k. k ≡ m) ns i → Rises text_cmp ns → (n : List ℕ) → times ns n ≡ cond (same m n) 1 (times ns n)
-stands m ns i l at r n = grind (arith, times_remove ns i m n l at, times_once ns r n, same_decides m n)
+pub stands : (m : List ℕ) (ns : List (List ℕ)) (i : ℕ) → i < length ns → HoldsAt (λ k. k ≡ m) ns i
+    → Rises text_cmp ns → (n : List ℕ) → times ns n ≡ cond (same m n) 1 (times ns n)
+stands m ns i l at r n =
+    grind (arith, times_remove ns i m n l at, times_once ns r n, same_decides m n)
 
 -- it is put in
-pub put_in_times : (m : List ℕ) (ns : List (List ℕ)) (i : ℕ) → IsNameGap m ns i → (n : List ℕ) → times (insert ns i m) n ≡ cond (same m n) 1 (times ns n)
-put_in_times m ns i gap n = grind (arith, times_insert ns i m n, gap_none m ns i gap, same_decides m n)
+pub put_in_times : (m : List ℕ) (ns : List (List ℕ)) (i : ℕ) → IsNameGap m ns i → (n : List ℕ)
+    → times (insert ns i m) n ≡ cond (same m n) 1 (times ns n)
+put_in_times m ns i gap n =
+    grind (arith, times_insert ns i m n, gap_none m ns i gap, same_decides m n)
 
-pub put_in_rises : (m : List ℕ) (ns : List (List ℕ)) (i : ℕ) → i ≤ length ns → IsNameGap m ns i → Rises text_cmp ns → Rises text_cmp (insert ns i m)
+pub put_in_rises : (m : List ℕ) (ns : List (List ℕ)) (i : ℕ) → i ≤ length ns → IsNameGap m ns i
+    → Rises text_cmp ns → Rises text_cmp (insert ns i m)
 put_in_rises m ns i l gap r = rises_with texts_total (λ n. n) ns i m l r gap
 
 -- it is taken out
-pub taken_times : (m : List ℕ) (ns : List (List ℕ)) (i : ℕ) → i < length ns → HoldsAt (λ k. k ≡ m) ns i → Rises text_cmp ns → (n : List ℕ) → times (remove ns i) n ≡ cond (same m n) 0 (times ns n)
-taken_times m ns i l at r n = grind (arith, times_remove ns i m n l at, times_once ns r n, same_decides m n)
+pub taken_times : (m : List ℕ) (ns : List (List ℕ)) (i : ℕ) → i < length ns
+    → HoldsAt (λ k. k ≡ m) ns i → Rises text_cmp ns → (n : List ℕ)
+    → times (remove ns i) n ≡ cond (same m n) 0 (times ns n)
+taken_times m ns i l at r n =
+    grind (arith, times_remove ns i m n l at, times_once ns r n, same_decides m n)
 
 -- it isn't there
-pub absent_times : (m : List ℕ) (ns : List (List ℕ)) (i : ℕ) → IsNameGap m ns i → (n : List ℕ) → times ns n ≡ cond (same m n) 0 (times ns n)
+pub absent_times : (m : List ℕ) (ns : List (List ℕ)) (i : ℕ) → IsNameGap m ns i → (n : List ℕ)
+    → times ns n ≡ cond (same m n) 0 (times ns n)
 absent_times m ns i gap n = grind (arith, gap_none m ns i gap, same_decides m n)
 
 -- ---- among the lists of all groups
 
-pub nodes_are : (es : Named) (g : List ℕ) → nodes_of (node_names es) g ≡ items_of (lookup (same g) es)
+pub nodes_are : (es : Named) (g : List ℕ)
+    → nodes_of (node_names es) g ≡ items_of (lookup (same g) es)
 nodes_are [] g = refl
 nodes_are (e ∷ es) g = grind (arith, nodes_are es g)
 
-module _ (es new : Named) (group : List ℕ) (w : Option (Vec (List ℕ) Global)) (up : (q : List ℕ) → lookup (same q) new ≡ cond (same group q) w (lookup (same q) es)) where
+module _ (es new : Named) (group : List ℕ) (w : Option (Vec (List ℕ) Global))
+    (up : (q : List ℕ) → lookup (same q) new ≡ cond (same group q) w (lookup (same q) es)) where
   -- the list of one group is another
-  set_nodes : (g : List ℕ) → nodes_of (node_names new) g ≡ cond (same group g) (items_of w) (nodes_of (node_names es) g)
+  set_nodes : (g : List ℕ)
+      → nodes_of (node_names new) g ≡ cond (same group g) (items_of w) (nodes_of (node_names es) g)
   set_nodes g = grind (arith, nodes_are new g, nodes_are es g, up g)
 
-  pub set_times : (node : List ℕ) (k : ℕ) → ((n : List ℕ) → times (items_of w) n ≡ cond (same node n) k (times_named (node_names es) group n))
-      → (g n : List ℕ) → times_named (node_names new) g n ≡ cond (same group g && same node n) k (times_named (node_names es) g n)
+  pub set_times : (node : List ℕ) (k : ℕ)
+      → ((n : List ℕ)
+      → times (items_of w) n ≡ cond (same node n) k (times_named (node_names es) group n))
+      → (g n : List ℕ)
+      → times_named (node_names new) g n
+      ≡ cond (same group g && same node n) k (times_named (node_names es) g n)
   set_times node k here g n = grind (arith, set_nodes g, here n, same_decides group g)
 
-  pub set_same_times : ((n : List ℕ) → times (items_of w) n ≡ times_named (node_names es) group n) → (g n : List ℕ) → times_named (node_names new) g n ≡ times_named (node_names es) g n
+  pub set_same_times : ((n : List ℕ) → times (items_of w) n ≡ times_named (node_names es) group n)
+      → (g n : List ℕ) → times_named (node_names new) g n ≡ times_named (node_names es) g n
   set_same_times here g n = grind (arith, set_nodes g, here n, same_decides group g)
 
-  pub set_rises : Rises text_cmp (items_of w) → AreInOrder (node_names es) → AreInOrder (node_names new)
+  pub set_rises : Rises text_cmp (items_of w) → AreInOrder (node_names es)
+      → AreInOrder (node_names new)
   set_rises here rise g = by (same group g) (set_nodes g)
     where
-      by : (b : Bool) → nodes_of (node_names new) g ≡ cond b (items_of w) (nodes_of (node_names es) g) → Rises text_cmp (nodes_of (node_names new) g)
+      by : (b : Bool)
+          → nodes_of (node_names new) g ≡ cond b (items_of w) (nodes_of (node_names es) g)
+          → Rises text_cmp (nodes_of (node_names new) g)
       by true e = rw e here
       by false e = rw e (rise g)
 
   pub set_none : items_of w ≡ [] → (n : List ℕ) → times_named (node_names new) group n ≡ 0
   set_none e n = grind (arith, set_nodes group, same_decides group group)
 
-pub found_nodes : (es : Named) (g : List ℕ) (v : Vec (List ℕ) Global) → lookup (same g) es ≡ Some v → v.items ≡ nodes_of (node_names es) g
+pub found_nodes : (es : Named) (g : List ℕ) (v : Vec (List ℕ) Global) → lookup (same g) es ≡ Some v
+    → v.items ≡ nodes_of (node_names es) g
 found_nodes es g v found = sym (nodes_are es g ∙ ap items_of found)
 
-pub none_times : (es : Named) (g : List ℕ) → lookup (same g) es ≡ None → (n : List ℕ) → times_named (node_names es) g n ≡ 0
+pub none_times : (es : Named) (g : List ℕ) → lookup (same g) es ≡ None → (n : List ℕ)
+    → times_named (node_names es) g n ≡ 0
 none_times es g none n = ap (λ ns. times ns n) (nodes_are es g ∙ ap items_of none)
 
 pub err_still : {T E A B : Type 0} (r : Result T E) → (A → B) → OnErr r A → OnErr r B
@@ -109,55 +143,81 @@ err_still (Err e) f a = f a
 abbrev names : Named → List (List ℕ)
 names es = named_groups (node_names es)
 
-absent_names : (k : List ℕ) (es : Named) → AllByRecursion (λ j. same k j ≡ false) (keys_of es) → occurrences same k (names es) ≡ 0
+absent_names : (k : List ℕ) (es : Named) → AllByRecursion (λ j. same k j ≡ false) (keys_of es)
+    → occurrences same k (names es) ≡ 0
 absent_names k [] a = refl
 absent_names k (e ∷ es) a = grind (arith, absent_names k es a.1, same_sym e.0 k)
 
-rest_absent : (e : List ℕ × Vec (List ℕ) Global) (es : Named) → IsDistinct same (keys_of (e ∷ es)) → occurrences same e.0 (names es) ≡ 0
+rest_absent : (e : List ℕ × Vec (List ℕ) Global) (es : Named) → IsDistinct same (keys_of (e ∷ es))
+    → occurrences same e.0 (names es) ≡ 0
 unfolding IsDistinct
 rest_absent e es d = absent_names e.0 es d.0
 
-rest_apart : (e : List ℕ × Vec (List ℕ) Global) (es : Named) → IsDistinct same (keys_of (e ∷ es)) → IsDistinct same (keys_of es)
+rest_apart : (e : List ℕ × Vec (List ℕ) Global) (es : Named) → IsDistinct same (keys_of (e ∷ es))
+    → IsDistinct same (keys_of es)
 unfolding IsDistinct
 rest_apart e es d = d.1
 
 -- no group stands among them twice
-pub names_apart : (es : Named) → IsDistinct same (keys_of es) → (g : List ℕ) → occurrences same g (names es) ≤ 1
+pub names_apart : (es : Named) → IsDistinct same (keys_of es) → (g : List ℕ)
+    → occurrences same g (names es) ≤ 1
 names_apart [] d g = omega arith
 names_apart (e ∷ es) d g =
-    let none = λ (h : same e.0 g ≡ true). subst (λ k. occurrences same k (names es) ≡ 0) ((same_decides e.0 g).0 h) (rest_absent e es d) in
+    let none =
+    λ (h : same e.0 g ≡ true).
+    subst (λ k. occurrences same k (names es) ≡ 0) ((same_decides e.0 g).0 h)
+    (rest_absent e es d) in
     grind (arith, names_apart es (rest_apart e es d) g, none)
 
-pub found_name : (es : Named) → IsDistinct same (keys_of es) → (g : List ℕ) → is_among g (names es) ≡ true → (n : List ℕ) × (0 < times_named (node_names es) g n)
+pub found_name : (es : Named) → IsDistinct same (keys_of es) → (g : List ℕ)
+    → is_among g (names es) ≡ true → (n : List ℕ) × (0 < times_named (node_names es) g n)
 found_name [] d g h = grind arith
-found_name (e ∷ es) d g h = by (same g e.0) e.1.items refl refl (found_name es (rest_apart e es d) g)
+found_name (e ∷ es) d g h =
+    by (same g e.0) e.1.items refl refl (found_name es (rest_apart e es d) g)
   where
-    by : (b : Bool) (ns : List (List ℕ)) → same g e.0 ≡ b → e.1.items ≡ ns → (is_among g (names es) ≡ true → (n : List ℕ) × (0 < times_named (node_names es) g n)) → (n : List ℕ) × (0 < times_named (node_names (e ∷ es)) g n)
+    by : (b : Bool) (ns : List (List ℕ)) → same g e.0 ≡ b → e.1.items ≡ ns
+        → (is_among g (names es) ≡ true → (n : List ℕ) × (0 < times_named (node_names es) g n))
+        → (n : List ℕ) × (0 < times_named (node_names (e ∷ es)) g n)
     by true (m ∷ ns) s i rest = (m, grind (arith, s, i, same_decides m m))
     by true [] s i rest =
-        let none = subst (λ k. occurrences same k (names es) ≡ 0) (sym ((same_decides g e.0).0 s)) (rest_absent e es d) in
+        let none =
+        subst (λ k. occurrences same k (names es) ≡ 0) (sym ((same_decides g e.0).0 s))
+        (rest_absent e es d) in
         grind (arith, h, i, none, among_counts g (names es))
-    by false ns s i rest = let there = rest (grind (arith, h, s, same_sym g e.0)) in (there.0, grind (arith, there.1, s))
+    by false ns s i rest = let there = rest (grind (arith, h, s, same_sym g e.0)) in
+        (there.0, grind (arith, there.1, s))
 
-pub only_name : (es : Named) (g n : List ℕ) → 0 < times_named (node_names es) g n → is_among g (names es) ≡ true
+pub only_name : (es : Named) (g n : List ℕ) → 0 < times_named (node_names es) g n
+    → is_among g (names es) ≡ true
 only_name [] g n l = grind arith
 only_name (e ∷ es) g n l = by e.1.items refl (only_name es g n)
   where
-    by : (ns : List (List ℕ)) → e.1.items ≡ ns → (0 < times_named (node_names es) g n → is_among g (names es) ≡ true) → is_among g (names (e ∷ es)) ≡ true
+    by : (ns : List (List ℕ)) → e.1.items ≡ ns
+        → (0 < times_named (node_names es) g n → is_among g (names es) ≡ true)
+        → is_among g (names (e ∷ es)) ≡ true
     by [] i rest = grind (arith, i, l, rest, same_sym g e.0)
     by (m ∷ ns) i rest = grind (arith, i, l, rest, same_sym g e.0)
 
 -- names that ascend, each once, rise
-all_above : (g : List ℕ) (gs : List (List ℕ)) → AllByRecursion (λ h. is_gt (text_cmp g h) ≡ false) gs → occurrences same g gs ≡ 0 → AllByRecursion (λ h. text_cmp g h ≡ Less) gs
+all_above : (g : List ℕ) (gs : List (List ℕ))
+    → AllByRecursion (λ h. is_gt (text_cmp g h) ≡ false) gs → occurrences same g gs ≡ 0
+    → AllByRecursion (λ h. text_cmp g h ≡ Less) gs
 all_above g [] a o = tt
-all_above g (h ∷ gs) a o = (below g h a.0 (grind (arith, o, same_sym g h)), all_above g gs a.1 (grind (arith, o)))
+all_above g (h ∷ gs) a o =
+    (below g h a.0 (grind (arith, o, same_sym g h)), all_above g gs a.1 (grind (arith, o)))
 
-pub names_rise : (gs : List (List ℕ)) → Ascends text_cmp gs → ((g : List ℕ) → occurrences same g gs ≤ 1) → Rises text_cmp gs
+pub names_rise : (gs : List (List ℕ)) → Ascends text_cmp gs
+    → ((g : List ℕ) → occurrences same g gs ≤ 1) → Rises text_cmp gs
 names_rise [] a once = tt
-names_rise (g ∷ gs) a once = (all_above g gs a.0 (grind (arith, once g, same_decides g g)), names_rise gs a.1 (λ k. grind (arith, once k)))
+names_rise (g ∷ gs) a once = (
+  all_above g gs a.0 (grind (arith, once g, same_decides g g)),
+  names_rise gs a.1 (λ k. grind (arith, once k)),
+)
 
-pub still_among : (xs ys : List (List ℕ)) → IsListing text_cmp same (λ g. occurrences same g xs) ys → (g : List ℕ) → is_among g ys ≡ is_among g xs
-still_among xs ys listing g = among_counts g ys ∙ ap (nat_lt 0) (listing.counts g) ∙ sym (among_counts g xs)
+pub still_among : (xs ys : List (List ℕ)) → IsListing text_cmp same (λ g. occurrences same g xs) ys
+    → (g : List ℕ) → is_among g ys ≡ is_among g xs
+still_among xs ys listing g =
+    among_counts g ys ∙ ap (nat_lt 0) (listing.counts g) ∙ sym (among_counts g xs)
 
 -- what stays of the order where a name is put in, and where one is taken out
 pub ruleset puts_name = (put_in_times, put_in_rises)

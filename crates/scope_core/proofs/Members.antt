@@ -1,67 +1,110 @@
 -- The rows that lists of members and of changes tell of.
-use Rattle.scope_core.proofs.Words.{◌≡◌, ℕ, ◌-◌, false, cond, List, [], ◌∷◌, ◌++◌, map, refl, ◌∙◌, Less, is_gt, AllByRecursion, flat_map, Pid, Row}
-use Rattle.scope_core.proofs.Words.{GroupChange, text_cmp, pid_cmp, row_cmp, same, same_row, occurrences, mentions, total, Rises, Ascends}
-use Rattle.scope_core.proofs.Words.{IsRowListing, IsProper, IsDifference, same_sym, in_one_group, how_many_append, all_append, is_row, row_in}
-use Rattle.scope_core.proofs.Words.{rows_left, rows_joined, arith, ◌≤◌, length, length-append, filter, length-map, exact_bytes, IsPidListing}
-use Rattle.scope_core.proofs.Words.{IsGroupListing, texts_total, same_decides, same_pid_decides, one_of_many, Table, count_of, node_total}
+use Rattle.scope_core.proofs.Words.{◌≡◌, ℕ, ◌-◌, false, cond, List, [], ◌∷◌, ◌++◌, map, refl, ◌∙◌}
+use Rattle.scope_core.proofs.Words.{Less, is_gt, AllByRecursion, flat_map, Pid, Row}
+use Rattle.scope_core.proofs.Words.{GroupChange, text_cmp, pid_cmp, row_cmp, same, same_row}
+use Rattle.scope_core.proofs.Words.{occurrences, mentions, total, Rises, Ascends}
+use Rattle.scope_core.proofs.Words.{IsRowListing, IsProper, IsDifference, same_sym, in_one_group}
+use Rattle.scope_core.proofs.Words.{how_many_append, all_append, is_row, row_in}
+use Rattle.scope_core.proofs.Words.{rows_left, rows_joined, arith, ◌≤◌, length, length-append}
+use Rattle.scope_core.proofs.Words.{filter, length-map, exact_bytes, IsPidListing}
+use Rattle.scope_core.proofs.Words.{IsGroupListing, texts_total, same_decides, same_pid_decides}
+use Rattle.scope_core.proofs.Words.{one_of_many, Table, count_of, node_total}
 use Rattle.scope_core.proofs.Calls.{mentions_in}
 use Rattle.scope_core.proofs.Rising.{all_map, all_unmapped}
 use Rattle.scope_core.proofs.Shares.{same_rows, fewer_rows}
 use Rattle.std.proofs.lemmas.List.Elements.{filter-append}
 
 -- rows of one group ascend as their processes
-not_above_in : (g : List ℕ) (p : Pid) (ps : List Pid) → AllByRecursion (λ q. is_gt (pid_cmp p q) ≡ false) ps → AllByRecursion (λ r. is_gt (row_cmp (row_in g p) r) ≡ false) (map (row_in g) ps)
+not_above_in : (g : List ℕ) (p : Pid) (ps : List Pid)
+    → AllByRecursion (λ q. is_gt (pid_cmp p q) ≡ false) ps
+    → AllByRecursion (λ r. is_gt (row_cmp (row_in g p) r) ≡ false) (map (row_in g) ps)
 not_above_in g p [] a = tt
-not_above_in g p (q ∷ ps) a = grind (arith, not_above_in g p ps a.1, in_one_group (row_in g p) (row_in g q) refl)
+not_above_in g p (q ∷ ps) a =
+    grind (arith, not_above_in g p ps a.1, in_one_group (row_in g p) (row_in g q) refl)
 
-rows_ascend : (g : List ℕ) (ps : List Pid) (rest : List Row) → Ascends pid_cmp ps → AllByRecursion (λ r. text_cmp g r.group ≡ Less) rest → Ascends row_cmp rest → Ascends row_cmp (map (row_in g) ps ++ rest)
+rows_ascend : (g : List ℕ) (ps : List Pid) (rest : List Row) → Ascends pid_cmp ps
+    → AllByRecursion (λ r. text_cmp g r.group ≡ Less) rest → Ascends row_cmp rest
+    → Ascends row_cmp (map (row_in g) ps ++ rest)
 rows_ascend g [] rest a b r = r
 rows_ascend g (p ∷ ps) rest a b r =
-    let below = all_map (λ s. text_cmp g s.group ≡ Less) (λ s. is_gt (row_cmp (row_in g p) s) ≡ false) (λ s l. grind (arith, l)) rest b in
-    (all_append (λ s. is_gt (row_cmp (row_in g p) s) ≡ false) (map (row_in g) ps) rest (not_above_in g p ps a.0) below, rows_ascend g ps rest a.1 b r)
+    let below =
+    all_map (λ s. text_cmp g s.group ≡ Less) (λ s. is_gt (row_cmp (row_in g p) s) ≡ false)
+    (λ s l. grind (arith, l)) rest b in (
+      all_append (λ s. is_gt (row_cmp (row_in g p) s) ≡ false) (map (row_in g) ps) rest
+          (not_above_in g p ps a.0) below,
+      rows_ascend g ps rest a.1 b r,
+    )
 
 module _ (part : GroupChange → List Pid) where
   abbrev moved : List GroupChange → List Row
   moved changes = flat_map (λ c. map (row_in c.group) (part c)) changes
 
-  moved_above : (g : List ℕ) (changes : List GroupChange) → AllByRecursion (λ c. text_cmp g c.group ≡ Less) changes → AllByRecursion (λ r. text_cmp g r.group ≡ Less) (moved changes)
+  moved_above : (g : List ℕ) (changes : List GroupChange)
+      → AllByRecursion (λ c. text_cmp g c.group ≡ Less) changes
+      → AllByRecursion (λ r. text_cmp g r.group ≡ Less) (moved changes)
   moved_above g [] a = tt
-  moved_above g (c ∷ cs) a = all_append (λ r. text_cmp g r.group ≡ Less) (map (row_in c.group) (part c)) (moved cs) (alone (part c)) (moved_above g cs a.1)
+  moved_above g (c ∷ cs) a =
+      all_append (λ r. text_cmp g r.group ≡ Less) (map (row_in c.group) (part c)) (moved cs)
+      (alone (part c)) (moved_above g cs a.1)
     where
-      alone : (ps : List Pid) → AllByRecursion (λ r. text_cmp g r.group ≡ Less) (map (row_in c.group) ps)
+      alone : (ps : List Pid)
+          → AllByRecursion (λ r. text_cmp g r.group ≡ Less) (map (row_in c.group) ps)
       alone [] = tt
       alone (p ∷ ps) = (a.0, alone ps)
 
-  moved_ascends : (changes : List GroupChange) → Rises text_cmp (map (λ c. c.group) changes) → AllByRecursion (λ c. Ascends pid_cmp (part c)) changes → Ascends row_cmp (moved changes)
+  moved_ascends : (changes : List GroupChange) → Rises text_cmp (map (λ c. c.group) changes)
+      → AllByRecursion (λ c. Ascends pid_cmp (part c)) changes → Ascends row_cmp (moved changes)
   moved_ascends [] r a = tt
   moved_ascends (c ∷ cs) r a =
       rows_ascend c.group (part c) (moved cs) a.0
-      (moved_above c.group cs (all_unmapped (λ g. text_cmp c.group g ≡ Less) (λ d. d.group) cs r.0)) (moved_ascends cs r.1 a.1)
+      (moved_above c.group cs (all_unmapped (λ g. text_cmp c.group g ≡ Less) (λ d. d.group) cs r.0))
+      (moved_ascends cs r.1 a.1)
 
-  moved_counts : (x : Row) (changes : List GroupChange) → occurrences same_row x (moved changes) ≡ total (λ c. cond (same c.group x.group) (mentions x.pid (part c)) 0) changes
+  moved_counts : (x : Row) (changes : List GroupChange)
+      → occurrences same_row x (moved changes)
+      ≡ total (λ c. cond (same c.group x.group) (mentions x.pid (part c)) 0) changes
   moved_counts x [] = refl
-  moved_counts x (c ∷ cs) = grind (arith, moved_counts x cs, how_many_append (is_row x.group x.pid) (map (row_in c.group) (part c)) (moved cs), mentions_in c.group x.group x.pid (part c), same_sym x.group c.group)
+  moved_counts x (c ∷ cs) =
+      grind (
+        arith,
+        moved_counts x cs,
+        how_many_append (is_row x.group x.pid) (map (row_in c.group) (part c)) (moved cs),
+        mentions_in c.group x.group x.pid (part c),
+        same_sym x.group c.group,
+      )
 
 -- the rows of what left are what is less
-pub left_listing : (before after : List ℕ → Pid → ℕ) (changes : List GroupChange) → IsDifference before after changes → IsRowListing (λ g p. before g p - after g p) (rows_left changes)
+pub left_listing : (before after : List ℕ → Pid → ℕ) (changes : List GroupChange)
+    → IsDifference before after changes
+    → IsRowListing (λ g p. before g p - after g p) (rows_left changes)
 left_listing before after changes d = record {
-  ascends = moved_ascends (λ c. c.left) changes d.groups (all_map IsProper (λ c. Ascends pid_cmp c.left) (λ c p. p.left) changes d.proper);
+  ascends =
+      moved_ascends (λ c. c.left) changes d.groups
+      (all_map IsProper (λ c. Ascends pid_cmp c.left) (λ c p. p.left) changes d.proper);
   counts = λ x. moved_counts (λ c. c.left) x changes ∙ d.left x.group x.pid;
 }
 
 -- the rows of what joined are what is more
-pub joined_listing : (before after : List ℕ → Pid → ℕ) (changes : List GroupChange) → IsDifference before after changes → IsRowListing (λ g p. after g p - before g p) (rows_joined changes)
+pub joined_listing : (before after : List ℕ → Pid → ℕ) (changes : List GroupChange)
+    → IsDifference before after changes
+    → IsRowListing (λ g p. after g p - before g p) (rows_joined changes)
 joined_listing before after changes d = record {
-  ascends = moved_ascends (λ c. c.joined) changes d.groups (all_map IsProper (λ c. Ascends pid_cmp c.joined) (λ c p. p.joined) changes d.proper);
+  ascends =
+      moved_ascends (λ c. c.joined) changes d.groups
+      (all_map IsProper (λ c. Ascends pid_cmp c.joined) (λ c p. p.joined) changes d.proper);
   counts = λ x. moved_counts (λ c. c.joined) x changes ∙ d.joined x.group x.pid;
 }
 
 -- rows of a node, listed no more often than they are counted, are no more than it has
-pub length_part_of_all : (t : Table) (node : List ℕ) (rows : List Row) → ((g : List ℕ) (p : Pid) → occurrences same_row (row_in g p) rows ≤ cond (same p.node node) (count_of t g p) 0) → length rows ≤ node_total t node
+pub length_part_of_all : (t : Table) (node : List ℕ) (rows : List Row)
+    → ((g : List ℕ) (p : Pid)
+    → occurrences same_row (row_in g p) rows ≤ cond (same p.node node) (count_of t g p) 0)
+    → length rows ≤ node_total t node
 length_part_of_all t node rows few = fewer_rows node t rows (λ r. few r.group r.pid)
 
 -- of a list without the processes of other nodes
-mentions_kept : (node : List ℕ) (p : Pid) (ps : List Pid) → mentions p (filter (λ q. same q.node node) ps) ≡ cond (same p.node node) (mentions p ps) 0
+mentions_kept : (node : List ℕ) (p : Pid) (ps : List Pid)
+    → mentions p (filter (λ q. same q.node node) ps) ≡ cond (same p.node node) (mentions p ps) 0
 mentions_kept node p [] = grind arith
 mentions_kept node p (q ∷ ps) = grind (arith, mentions_kept node p ps, same_pid_decides q p)
 
@@ -73,20 +116,40 @@ module _ (node : List ℕ) (members : List ℕ → List Pid) where
   abbrev rows_of : List (List ℕ) → List Row
   rows_of gs = flat_map (λ g. map (row_in g) (ours g)) gs
 
-  length_rows : (gs : List (List ℕ)) → length (filter (λ p. same p.node node) (flat_map members gs)) ≡ length (rows_of gs)
+  length_rows : (gs : List (List ℕ))
+      → length (filter (λ p. same p.node node) (flat_map members gs)) ≡ length (rows_of gs)
   length_rows [] = refl
   length_rows (g ∷ gs) = grind (arith, length_rows gs, filter-append, length-append, length-map)
 
-  rows_counts : (x : Row) (gs : List (List ℕ)) → occurrences same_row x (rows_of gs) ≡ total (λ g. cond (same g x.group) (mentions x.pid (ours g)) 0) gs
+  rows_counts : (x : Row) (gs : List (List ℕ))
+      → occurrences same_row x (rows_of gs)
+      ≡ total (λ g. cond (same g x.group) (mentions x.pid (ours g)) 0) gs
   rows_counts x [] = refl
-  rows_counts x (g ∷ gs) = grind (arith, rows_counts x gs, how_many_append (is_row x.group x.pid) (map (row_in g) (ours g)) (rows_of gs), mentions_in g x.group x.pid (ours g), same_sym x.group g)
+  rows_counts x (g ∷ gs) =
+      grind (
+        arith,
+        rows_counts x gs,
+        how_many_append (is_row x.group x.pid) (map (row_in g) (ours g)) (rows_of gs),
+        mentions_in g x.group x.pid (ours g),
+        same_sym x.group g,
+      )
 
 -- the members of all groups are as many as the node's rows
-pub length-members : (t : Table) (node : List ℕ) (gs : List (List ℕ)) (members : List ℕ → List Pid) → IsGroupListing (count_of t) gs → ((g : List ℕ) → IsPidListing (count_of t g) (members g))
+pub length-members : (t : Table) (node : List ℕ) (gs : List (List ℕ)) (members : List ℕ → List Pid)
+    → IsGroupListing (count_of t) gs → ((g : List ℕ) → IsPidListing (count_of t g) (members g))
     → length (filter (λ p. same p.node node) (flat_map members gs)) ≡ node_total t node
 length-members t node gs members groups listings =
     length_rows node members gs
     ∙ same_rows node t (rows_of node members gs) (λ r.
-    let one = one_of_many text_cmp same texts_total exact_bytes same_decides (λ g. mentions r.pid (ours node members g)) r.group gs groups.rises in
+    let one =
+    one_of_many text_cmp same texts_total exact_bytes same_decides
+    (λ g. mentions r.pid (ours node members g)) r.group gs groups.rises in
     let kept = mentions_kept node r.pid (members r.group) in
-    grind (arith, rows_counts node members r gs, one, kept, (listings r.group).counts r.pid, groups.only r.group r.pid))
+    grind (
+      arith,
+      rows_counts node members r gs,
+      one,
+      kept,
+      (listings r.group).counts r.pid,
+      groups.only r.group r.pid,
+    ))

@@ -1,14 +1,13 @@
 -- Rows that rise: what is filtered from them rises and is counted, and a row stands in them once.
-use Rattle.scope_core.proofs.Words.{◌≡◌, ℕ, Bool, true, false, List, [], ◌∷◌, Ordering, Less, is_gt, filter, AllByRecursion, and_parts, tied_itself}
-use Rattle.scope_core.proofs.Words.{Pid, Row, text_cmp, pid_cmp, Counted, Rises, is_row, counted_cmp, is_in, same_decides, same_pid_decides}
-use Rattle.scope_core.proofs.Words.{rows_total, in_one_group, arith, refl, how_many, ◌≤◌, ◌<◌, cond, not, tally, IsKept, is_of_node, of_node, same, same_pid, map}
+use Rattle.scope_core.proofs.Words.{◌≡◌, ℕ, Bool, true, false, List, [], ◌∷◌, Less, is_gt, filter}
+use Rattle.scope_core.proofs.Words.{AllByRecursion, and_parts, tied_itself}
+use Rattle.scope_core.proofs.Words.{Pid, Row, text_cmp, pid_cmp, Counted, Rises, is_row}
+use Rattle.scope_core.proofs.Words.{counted_cmp, is_in, same_decides, same_pid_decides}
+use Rattle.scope_core.proofs.Words.{rows_total, in_one_group, arith, refl, how_many, ◌≤◌, ◌<◌, cond}
+use Rattle.scope_core.proofs.Words.{not, tally, is_of_node, map, without_node}
 
-module _ {A : Type 0} (P : A → Type 0) (keep : A → Bool) where
-  pub all_filter : (xs : List A) → AllByRecursion P xs → AllByRecursion P (filter keep xs)
-  all_filter [] b = tt
-  all_filter (x ∷ xs) b = grind (arith, all_filter xs b.1)
-
-pub all_map : {A : Type 0} (P Q : A → Type 0) → ((x : A) → P x → Q x) → (xs : List A) → AllByRecursion P xs → AllByRecursion Q xs
+pub all_map : {A : Type 0} (P Q : A → Type 0) → ((x : A) → P x → Q x) → (xs : List A)
+    → AllByRecursion P xs → AllByRecursion Q xs
 all_map P Q f [] a = tt
 all_map P Q f (x ∷ xs) a = (f x a.0, all_map P Q f xs a.1)
 
@@ -21,75 +20,89 @@ module _ {A B : Type 0} (P : B → Type 0) (f : A → B) where
   all_unmapped [] a = tt
   all_unmapped (x ∷ xs) a = (a.0, all_unmapped xs a.1)
 
-pub none_pass : {A : Type 0} (test : A → Bool) (xs : List A) → AllByRecursion (λ x. test x ≡ false) xs → how_many test xs ≡ 0
+pub none_pass : {A : Type 0} (test : A → Bool) (xs : List A)
+    → AllByRecursion (λ x. test x ≡ false) xs → how_many test xs ≡ 0
 none_pass test [] a = refl
 none_pass test (x ∷ xs) a = grind (arith, none_pass test xs a.1)
 
-pub filter_rises : {A : Type 0} (R : A → A → Ordering) (keep : A → Bool) (xs : List A) → Rises R xs → Rises R (filter keep xs)
-filter_rises R keep [] r = tt
-filter_rises R keep (x ∷ xs) r = grind (arith, filter_rises R keep xs r.1, all_filter)
-
 -- rows of one group rise by their processes
-in_group_above : (g : List ℕ) (c : Counted) (ds : List Counted) → c.row.group ≡ g → AllByRecursion (λ d. counted_cmp c d ≡ Less) ds → AllByRecursion (λ d. pid_cmp c.row.pid d.row.pid ≡ Less) (filter (is_in g) ds)
+in_group_above : (g : List ℕ) (c : Counted) (ds : List Counted) → c.row.group ≡ g
+    → AllByRecursion (λ d. counted_cmp c d ≡ Less) ds
+    → AllByRecursion (λ d. pid_cmp c.row.pid d.row.pid ≡ Less) (filter (is_in g) ds)
 in_group_above g c [] e b = tt
-in_group_above g c (d ∷ ds) e b = grind (arith, in_group_above g c ds e b.1, same_decides, in_one_group)
+in_group_above g c (d ∷ ds) e b =
+    grind (arith, in_group_above g c ds e b.1, same_decides, in_one_group)
 
-pub in_group_rises : (g : List ℕ) (cs : List Counted) → Rises counted_cmp cs → Rises (λ c d. pid_cmp c.row.pid d.row.pid) (filter (is_in g) cs)
+pub in_group_rises : (g : List ℕ) (cs : List Counted) → Rises counted_cmp cs
+    → Rises (λ c d. pid_cmp c.row.pid d.row.pid) (filter (is_in g) cs)
 in_group_rises g [] r = tt
 in_group_rises g (c ∷ cs) r =
-    let above = λ (e : is_in g c ≡ true). in_group_above g c cs ((same_decides c.row.group g).0 e) r.0 in
+    let above =
+    λ (e : is_in g c ≡ true). in_group_above g c cs ((same_decides c.row.group g).0 e) r.0 in
     grind (arith, in_group_rises g cs r.1, above)
 
 pub row_is : (g : List ℕ) (p : Pid) (r : Row) → is_row g p r ≡ true → (r.group ≡ g) × (r.pid ≡ p)
 row_is g p r h = grind (arith, and_parts, same_decides, same_pid_decides)
 
 -- a row doesn't stand again among those above it
-pub once : (g : List ℕ) (p : Pid) (c : Counted) (ds : List Counted) → is_row g p c.row ≡ true → AllByRecursion (λ d. counted_cmp c d ≡ Less) ds → AllByRecursion (λ d. is_row g p d.row ≡ false) ds
+pub once : (g : List ℕ) (p : Pid) (c : Counted) (ds : List Counted) → is_row g p c.row ≡ true
+    → AllByRecursion (λ d. counted_cmp c d ≡ Less) ds
+    → AllByRecursion (λ d. is_row g p d.row ≡ false) ds
 once g p c [] h b = tt
 once g p c (d ∷ ds) h b = grind (arith, once g p c ds h b.1, row_is, tied_itself rows_total d.row)
 
 -- the groups of the rows above a row aren't below its group
-pub groups_above : (c : Counted) (ds : List Counted) → AllByRecursion (λ d. counted_cmp c d ≡ Less) ds → AllByRecursion (λ d. is_gt (text_cmp c.row.group d.row.group) ≡ false) ds
+pub groups_above : (c : Counted) (ds : List Counted)
+    → AllByRecursion (λ d. counted_cmp c d ≡ Less) ds
+    → AllByRecursion (λ d. is_gt (text_cmp c.row.group d.row.group) ≡ false) ds
 groups_above c ds b = grind (arith, all_map)
 
 module _ (keep : Counted → Bool) where
-  pub tally-filter_le : (test : Row → Bool) (cs : List Counted) → tally test (filter keep cs) ≤ tally test cs
+  pub tally-filter_le : (test : Row → Bool) (cs : List Counted)
+      → tally test (filter keep cs) ≤ tally test cs
   tally-filter_le test [] = omega arith
   tally-filter_le test (c ∷ cs) = grind (arith, tally-filter_le test cs)
 
-  pub filter_kept : (cs : List Counted) → IsKept cs → IsKept (filter keep cs)
-  filter_kept cs k = grind (arith, filter_rises, all_filter, tally-filter_le)
-
   -- where each that is kept fails the test, none is counted
-  pub tally_none : (test : Row → Bool) → ((c : Counted) → keep c ≡ true → test c.row ≡ false) → (cs : List Counted) → tally test (filter keep cs) ≡ 0
+  pub tally_none : (test : Row → Bool) → ((c : Counted) → keep c ≡ true → test c.row ≡ false)
+      → (cs : List Counted) → tally test (filter keep cs) ≡ 0
   tally_none test h [] = refl
   tally_none test h (c ∷ cs) = grind (arith, tally_none test h cs)
 
   -- where each that goes fails the test, all are counted
-  pub tally_all : (test : Row → Bool) → ((c : Counted) → keep c ≡ false → test c.row ≡ false) → (cs : List Counted) → tally test (filter keep cs) ≡ tally test cs
+  pub tally_all : (test : Row → Bool) → ((c : Counted) → keep c ≡ false → test c.row ≡ false)
+      → (cs : List Counted) → tally test (filter keep cs) ≡ tally test cs
   tally_all test h [] = refl
   tally_all test h (c ∷ cs) = grind (arith, tally_all test h cs)
 
 -- what is counted once the rows of some processes are gone
-pub gone_counts : (hits : Pid → Bool) (g : List ℕ) (p : Pid) (cs : List Counted) → tally (is_row g p) (filter (λ c. not (hits c.row.pid)) cs) ≡ cond (hits p) 0 (tally (is_row g p) cs)
+pub gone_counts : (hits : Pid → Bool) (g : List ℕ) (p : Pid) (cs : List Counted)
+    → tally (is_row g p) (filter (λ c. not (hits c.row.pid)) cs)
+    ≡ cond (hits p) 0 (tally (is_row g p) cs)
 gone_counts hits g p [] = grind arith
 gone_counts hits g p (c ∷ cs) = grind (arith, gone_counts hits g p cs, same_pid_decides c.row.pid p)
 
 -- and what is counted where no others stay
-pub kept_counts : (hits : Pid → Bool) (g : List ℕ) (p : Pid) (cs : List Counted) → tally (is_row g p) (filter (λ c. hits c.row.pid) cs) ≡ cond (hits p) (tally (is_row g p) cs) 0
+pub kept_counts : (hits : Pid → Bool) (g : List ℕ) (p : Pid) (cs : List Counted)
+    → tally (is_row g p) (filter (λ c. hits c.row.pid) cs) ≡ cond (hits p) (tally (is_row g p) cs) 0
 kept_counts hits g p [] = grind arith
 kept_counts hits g p (c ∷ cs) = grind (arith, kept_counts hits g p cs, same_pid_decides c.row.pid p)
 
--- as those of one process, of the rows of its node
-pub process_counts : (q : Pid) (g : List ℕ) (p : Pid) (cs : List Counted) → tally (is_row g p) (filter (λ c. same_pid c.row.pid q) (of_node q.node cs)) ≡ cond (same_pid p q) (tally (is_row g p) cs) 0
-process_counts q g p cs = grind (arith, kept_counts (λ r. same_pid r q) g p (of_node q.node cs), kept_counts (λ r. same r.node q.node) g p cs)
-
 -- where none of the rows is this one, it isn't counted
-pub tally_absent : (g : List ℕ) (p : Pid) (cs : List Counted) → AllByRecursion (λ c. is_row g p c.row ≡ false) cs → tally (is_row g p) cs ≡ 0
+pub tally_absent : (g : List ℕ) (p : Pid) (cs : List Counted)
+    → AllByRecursion (λ c. is_row g p c.row ≡ false) cs → tally (is_row g p) cs ≡ 0
 tally_absent g p [] a = refl
 tally_absent g p (c ∷ cs) a = grind (arith, tally_absent g p cs a.1)
 
 -- where nothing is counted of other nodes, all rows are of the node
-pub own_from_tally : (node : List ℕ) (cs : List Counted) → AllByRecursion (λ c. 0 < c.count) cs → tally (λ r. not (is_of_node node r)) cs ≡ 0 → AllByRecursion (λ c. c.row.pid.node ≡ node) cs
+pub own_from_tally : (node : List ℕ) (cs : List Counted) → AllByRecursion (λ c. 0 < c.count) cs
+    → tally (λ r. not (is_of_node node r)) cs ≡ 0 → AllByRecursion (λ c. c.row.pid.node ≡ node) cs
 own_from_tally node [] a e = tt
-own_from_tally node (c ∷ cs) a e = grind (arith, own_from_tally node cs a.1, same_decides c.row.pid.node node)
+own_from_tally node (c ∷ cs) a e =
+    grind (arith, own_from_tally node cs a.1, same_decides c.row.pid.node node)
+
+-- where a node has no rows, those of the others are all
+pub tally_others : (n : List ℕ) (test : Row → Bool) (cs : List Counted) → tally (is_of_node n) cs ≡ 0
+    → tally test (without_node n cs) ≡ tally test cs
+tally_others n test [] none = refl
+tally_others n test (c ∷ cs) none = grind (arith, tally_others n test cs, none)

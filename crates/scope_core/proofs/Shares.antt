@@ -1,72 +1,75 @@
 -- What is counted is listed.
-use Rattle.scope_core.proofs.Words.{◌≡◌, ℕ, ◌≤◌, cond, List, [], ◌∷◌, length, refl, ◌∙◌, sym, arith, filter, Row, pid_cmp, row_cmp, Counted}
-use Rattle.scope_core.proofs.Words.{occurrences, same, same_pid, same_row, total, Rises, IsPidListing, IsRowListing, spread, Table, is_row, is_of_node}
-use Rattle.scope_core.proofs.Words.{tally, counted_cmp, count_of, node_total, local_count, local_total, is_in, pids_in, of_node, pids_total, rows_total}
-use Rattle.scope_core.proofs.Words.{same_row_decides, total_filter, spread_ascends, spread_counts, length-spread, same_length, fewer_length}
+use Rattle.scope_core.proofs.Words.{◌≡◌, ℕ, ◌≤◌, cond, List, [], ◌∷◌, length, refl, ◌∙◌, sym, arith}
+use Rattle.scope_core.proofs.Words.{filter, Row, pid_cmp, row_cmp, Counted}
+use Rattle.scope_core.proofs.Words.{occurrences, same, same_pid, same_row, total, Rises}
+use Rattle.scope_core.proofs.Words.{IsPidListing, IsRowListing, spread, Table, is_row, is_of_node}
+use Rattle.scope_core.proofs.Words.{tally, counted_cmp, count_of, node_total, local_count}
+use Rattle.scope_core.proofs.Words.{local_total, is_in, pids_in, of_node, pids_total, rows_total}
+use Rattle.scope_core.proofs.Words.{same_row_decides, total_filter, spread_ascends, spread_counts}
+use Rattle.scope_core.proofs.Words.{length-spread, same_length, fewer_length}
 use Rattle.scope_core.proofs.Rising.{in_group_rises, kept_counts}
 
 -- the processes of the rows of a group
-pub pids_listing : (g : List ℕ) (cs : List Counted) → Rises counted_cmp cs → IsPidListing (λ p. tally (is_row g p) cs) (pids_in g cs)
+pub pids_listing : (g : List ℕ) (cs : List Counted) → Rises counted_cmp cs
+    → IsPidListing (λ p. tally (is_row g p) cs) (pids_in g cs)
 pids_listing g cs r = record {
-  ascends = spread_ascends pid_cmp pids_total (λ c. c.row.pid) (λ c. c.count) (filter (is_in g) cs) (in_group_rises g cs r);
+  ascends =
+      spread_ascends pid_cmp pids_total (λ c. c.row.pid) (λ c. c.count) (filter (is_in g) cs)
+      (in_group_rises g cs r);
   counts = λ p.
       spread_counts same_pid (λ c. c.row.pid) (λ c. c.count) p (filter (is_in g) cs)
       ∙ total_filter (is_in g) (λ c. same_pid c.row.pid p) (λ c. c.count) cs;
 }
 
 -- the rows themselves
-pub rows_listing : (cs : List Counted) → Rises counted_cmp cs → IsRowListing (λ g p. tally (is_row g p) cs) (spread (λ c. c.row) (λ c. c.count) cs)
+pub rows_listing : (cs : List Counted) → Rises counted_cmp cs
+    → IsRowListing (λ g p. tally (is_row g p) cs) (spread (λ c. c.row) (λ c. c.count) cs)
 rows_listing cs r = record {
   ascends = spread_ascends row_cmp rows_total (λ c. c.row) (λ c. c.count) cs r;
   counts = λ x. spread_counts same_row (λ c. c.row) (λ c. c.count) x cs;
 }
 
--- those of one node
-pub node_pids : (n g : List ℕ) (cs : List Counted) → Rises counted_cmp (of_node n cs) → IsPidListing (λ p. cond (same p.node n) (tally (is_row g p) cs) 0) (pids_in g (of_node n cs))
-node_pids n g cs r = let all = pids_listing g (of_node n cs) r in record { ascends = all.ascends; counts = λ p. all.counts p ∙ kept_counts (λ q. same q.node n) g p cs }
-
-pub node_listing : (n : List ℕ) (cs : List Counted) → Rises counted_cmp (of_node n cs) → IsRowListing (λ g p. cond (same p.node n) (tally (is_row g p) cs) 0) (spread (λ c. c.row) (λ c. c.count) (of_node n cs))
-node_listing n cs r = let all = rows_listing (of_node n cs) r in record { ascends = all.ascends; counts = λ x. all.counts x ∙ kept_counts (λ q. same q.node n) x.group x.pid cs }
-
 -- how many rows a node has
-pub node_rows : (node : List ℕ) (cs : List Counted) → total (λ c. c.count) (of_node node cs) ≡ tally (is_of_node node) cs
+pub node_rows : (node : List ℕ) (cs : List Counted)
+    → total (λ c. c.count) (of_node node cs) ≡ tally (is_of_node node) cs
 node_rows node [] = refl
 node_rows node (c ∷ cs) = grind (arith, node_rows node cs)
-
-in_group_le : (g : List ℕ) (cs : List Counted) → total (λ c. c.count) (filter (is_in g) cs) ≤ total (λ c. c.count) cs
-in_group_le g [] = omega arith
-in_group_le g (c ∷ cs) = grind (arith, in_group_le g cs)
-
--- a list is as long as what its rows have
-pub few_rows : (cs : List Counted) → total (λ c. c.count) cs ≤ 4096 → length (spread (λ c. c.row) (λ c. c.count) cs) ≤ 4096
-few_rows cs l = omega (arith, l, length-spread (λ (c : Counted). c.row) (λ c. c.count) cs)
-
-pub few_pids : (g : List ℕ) (cs : List Counted) → total (λ c. c.count) cs ≤ 4096 → length (pids_in g cs) ≤ 4096
-few_pids g cs l = omega (arith, l, length-spread (λ (c : Counted). c.row.pid) (λ c. c.count) (filter (is_in g) cs), in_group_le g cs)
 
 module _ (node : List ℕ) (t : Table) (rows : List Row) where
   abbrev listed : List Row
   listed = spread (λ (c : Counted). c.row) (λ c. c.count) (of_node node t.rows)
 
   -- how often a row stands among those of a node
-  listed_counts : (r : Row) → occurrences same_row r listed ≡ cond (same r.pid.node node) (count_of t r.group r.pid) 0
+  listed_counts : (r : Row)
+      → occurrences same_row r listed ≡ cond (same r.pid.node node) (count_of t r.group r.pid) 0
   listed_counts r =
       spread_counts same_row (λ (c : Counted). c.row) (λ c. c.count) r (of_node node t.rows)
       ∙ kept_counts (λ q. same q.node node) r.group r.pid t.rows
 
   length_listed : length listed ≡ node_total t node
-  length_listed = length-spread (λ (c : Counted). c.row) (λ c. c.count) (of_node node t.rows) ∙ node_rows node t.rows
+  length_listed =
+      length-spread (λ (c : Counted). c.row) (λ c. c.count) (of_node node t.rows)
+      ∙ node_rows node t.rows
 
   -- rows of a node, listed no more often than they are counted, are no more than it has
-  pub fewer_rows : ((r : Row) → occurrences same_row r rows ≤ cond (same r.pid.node node) (count_of t r.group r.pid) 0) → length rows ≤ node_total t node
+  pub fewer_rows :
+      ((r : Row) → occurrences same_row r rows
+      ≤ cond (same r.pid.node node) (count_of t r.group r.pid) 0) → length rows ≤ node_total t node
   fewer_rows few =
-      let l = fewer_length same_row same_row_decides rows listed (λ r. grind (arith, few r, listed_counts r)) in
+      let l =
+      fewer_length same_row same_row_decides rows listed
+      (λ r. grind (arith, few r, listed_counts r)) in
       omega (arith, l, length_listed)
 
   -- and listed just as often, as many
-  pub same_rows : ((r : Row) → occurrences same_row r rows ≡ cond (same r.pid.node node) (count_of t r.group r.pid) 0) → length rows ≡ node_total t node
-  same_rows is = same_length same_row same_row_decides rows listed (λ r. is r ∙ sym (listed_counts r)) ∙ length_listed
+  pub same_rows :
+      ((r : Row) → occurrences same_row r rows
+      ≡ cond (same r.pid.node node) (count_of t r.group r.pid) 0) → length rows ≡ node_total t node
+  same_rows is =
+      same_length same_row same_row_decides rows listed (λ r. is r ∙ sym (listed_counts r))
+      ∙ length_listed
 
 -- the own rows, listed, are as many as the own node has
-pub length_local_rows : (t : Table) (rows : List Row) → IsRowListing (local_count t) rows → length rows ≡ local_total t
+pub length_local_rows : (t : Table) (rows : List Row) → IsRowListing (local_count t) rows
+    → length rows ≡ local_total t
 length_local_rows t rows l = same_rows t.own t rows (λ r. l.counts r)

@@ -1,14 +1,11 @@
 -- Rows that are put in, and taken.
-use Rattle.std.specs.Prelude.{◌≡◌, ℕ, ◌+◌, ◌-◌, ◌≤◌, Bool, true, false, not, cond, nat_le, List, [], ◌∷◌, map}
+use Rattle.std.specs.Prelude.{◌≡◌, ℕ, ◌+◌, ◌≤◌, Bool, not, nat_le, List, map}
 use Rattle.std.specs.List.{filter, flat_map, list_all}
-use Rattle.std.specs.List.Sorted.{IsPartitionPoint}
-use Rattle.std.specs.declared.cmp.Ordering.TheVariants.{Less, Greater}
 use Rattle.dist_types.specs.declared.pid.Pid.{Pid}
 use Rattle.dist_types.specs.declared.row.Row.{Row}
 use Rattle.dist_types.specs.declared.change.GroupChange.{GroupChange}
 use Rattle.scope_core.specs.declared.counted.Counted.{Counted}
-use Rattle.dist_types.specs.Listing.{how_many, same, same_row, occurrences, mentions}
-use Rattle.dist_types.specs.Order.{row_cmp}
+use Rattle.dist_types.specs.Listing.{how_many, same, same_row, occurrences}
 use Rattle.scope_core.specs.Table.{tally, is_row, is_of_node, max_rows}
 
 -- the row of the process in the group
@@ -25,7 +22,8 @@ without_node node rows = filter (λ c. not (same c.row.pid.node node)) rows
 
 -- whether each row of the list stands in it at most as often as it is counted
 abbrev pub are_all_in : List Counted → List Row → Bool
-are_all_in rows gone = list_all (λ r. nat_le (occurrences same_row r gone) (tally (is_row r.group r.pid) rows)) gone
+are_all_in rows gone =
+    list_all (λ r. nat_le (occurrences same_row r gone) (tally (is_row r.group r.pid) rows)) gone
 
 -- new has just these rows more than old
 abbrev pub Adds : List Row → List Counted → List Counted → Type 0
@@ -35,22 +33,10 @@ Adds rows old new = (test : Row → Bool) → tally test new ≡ tally test old 
 abbrev pub Joins : List Counted → List Counted → List Counted → Type 0
 Joins more old new = (test : Row → Bool) → tally test new ≡ tally test old + tally test more
 
--- with these counted rows too no node has more than it may
-abbrev pub HasRoomBeside : List Counted → List Counted → Type 0
-HasRoomBeside more old = (node : List ℕ) → tally (is_of_node node) old + tally (is_of_node node) more ≤ max_rows
-
 -- with these rows too no node has more than it may
 abbrev pub HasRoomFor : List Row → List Counted → Type 0
-HasRoomFor rows old = (node : List ℕ) → tally (is_of_node node) old + how_many (is_of_node node) rows ≤ max_rows
-
--- old has one more of the row than new, if one is taken; else old has none, and stays
-abbrev pub Takes : Bool → Row → List Counted → List Counted → Type 0
-Takes true row old new = Adds (row ∷ []) new old
-Takes false row old new = (new ≡ old) × (tally (is_row row.group row.pid) old ≡ 0)
-
--- new has one less in the group for each mention of a process, as far as it is there
-abbrev pub Leaves : List ℕ → List Pid → List Counted → List Counted → Type 0
-Leaves g ps old new = (h : List ℕ) (p : Pid) → tally (is_row h p) new ≡ tally (is_row h p) old - cond (same h g) (mentions p ps) 0
+HasRoomFor rows old =
+    (node : List ℕ) → tally (is_of_node node) old + how_many (is_of_node node) rows ≤ max_rows
 
 -- the rows of what left
 abbrev pub rows_left : List GroupChange → List Row
@@ -59,7 +45,3 @@ rows_left changes = flat_map (λ c. map (row_in c.group) c.left) changes
 -- the rows of what joined
 abbrev pub rows_joined : List GroupChange → List Row
 rows_joined changes = flat_map (λ c. map (row_in c.group) c.joined) changes
-
--- the rows below the row end here, and those above it begin
-abbrev pub IsGap : Row → List Counted → ℕ → Type 0
-IsGap row rows i = IsPartitionPoint (λ c. row_cmp c.row row ≡ Less) (λ c. row_cmp c.row row ≡ Greater) rows i

@@ -10,4 +10,5 @@ times_beyond others c = c.count - tally (is_row c.row.group c.row.pid) others
 
 -- the rows, each as often as times says, if at all
 abbrev pub picked : (Counted → ℕ) → List Counted → List Counted
-picked times rows = flat_map (λ c. cond (nat_lt 0 (times c)) (record { row = c.row; count = times c } ∷ []) []) rows
+picked times rows =
+    flat_map (λ c. cond (nat_lt 0 (times c)) (record { row = c.row; count = times c } ∷ []) []) rows

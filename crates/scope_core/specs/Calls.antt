@@ -1,11 +1,13 @@
 -- What the calls of a table change, and when they are refused.
-use Rattle.std.specs.Prelude.{◌≡◌, ℕ, ◌+◌, ◌-◌, ◌≤◌, ◌<◌, Bool, true, false, cond, nat_lt, nat_le, List, length}
+use Rattle.std.specs.Prelude.{◌≡◌, ℕ, ◌+◌, ◌-◌, ◌≤◌, ◌<◌, Bool, true, false, cond, nat_lt, nat_le}
+use Rattle.std.specs.Prelude.{List, length}
 use Rattle.std.specs.List.{list_any, list_all}
 use Rattle.dist_types.specs.declared.pid.Pid.{Pid}
 use Rattle.dist_types.specs.declared.row.Row.{Row}
 use Rattle.dist_types.specs.declared.change.GroupChange.{GroupChange}
 use Rattle.scope_core.specs.declared.fault.TableFault.{TableFault}
-use Rattle.scope_core.specs.declared.fault.TableFault.TheVariants.{RowsFull, NotJoined, NotListed, OutOfMemory}
+use Rattle.scope_core.specs.declared.fault.TableFault.TheVariants.{RowsFull, NotJoined, NotListed}
+use Rattle.scope_core.specs.declared.fault.TableFault.TheVariants.{OutOfMemory}
 use Rattle.dist_types.specs.Listing.{same, same_pid, same_row, occurrences, mentions}
 use Rattle.dist_types.specs.Difference.{IsDifference}
 use Rattle.scope_core.specs.Table.{Table, count_of, node_total, local_total, max_rows}
@@ -38,7 +40,8 @@ count_after_drop t n g p = cond (same p.node n) 0 (count_of t g p)
 
 -- the processes of the node are in groups as often as the rows say
 abbrev pub count_after_sync : Table → List ℕ → List Row → List ℕ → Pid → ℕ
-count_after_sync t n rows g p = cond (same p.node n) (occurrences same_row (row_in g p) rows) (count_of t g p)
+count_after_sync t n rows g p =
+    cond (same p.node n) (occurrences same_row (row_in g p) rows) (count_of t g p)
 
 -- one more for each of the rows
 abbrev pub count_after_add : Table → List Row → List ℕ → Pid → ℕ
@@ -86,7 +89,8 @@ IsAddFault t n rows OutOfMemory = node_total t n + length rows ≤ max_rows
 
 -- whether each of the rows stands among them at most as often as it is counted
 abbrev pub are_counted : Table → List Row → Bool
-are_counted t rows = list_all (λ r. nat_le (occurrences same_row r rows) (count_of t r.group r.pid)) rows
+are_counted t rows =
+    list_all (λ r. nat_le (occurrences same_row r rows) (count_of t r.group r.pid)) rows
 
 -- why rows were not taken
 abbrev pub IsTakeFault : Table → List Row → TableFault → Type 0

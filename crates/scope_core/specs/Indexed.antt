@@ -1,10 +1,9 @@
 -- The nodes of each group are those that have rows of it.
-use Rattle.std.specs.Prelude.{◌≡◌, ℕ, Bool, false, cond, ◌&&◌, not, nat_lt, List}
+use Rattle.std.specs.Prelude.{◌≡◌, ℕ, Bool, false, cond, ◌&&◌, nat_lt, List}
 use Rattle.std.specs.List.{list_any}
 use Rattle.dist_types.specs.declared.row.Row.{Row}
-use Rattle.dist_types.specs.declared.pid.Pid.{Pid}
 use Rattle.dist_types.specs.declared.change.GroupChange.{GroupChange}
-use Rattle.dist_types.specs.Listing.{same, same_pid}
+use Rattle.dist_types.specs.Listing.{same}
 use Rattle.scope_core.specs.declared.counted.Counted.{Counted}
 use Rattle.scope_core.specs.Table.{tally}
 use Rattle.scope_core.specs.GroupNodes.{times_named}
@@ -25,18 +24,8 @@ IsIndexed rows index = (g n : List ℕ) → times_named index g n ≡ cond (has_
 abbrev pub is_named : List ℕ → List GroupChange → Bool
 is_named g changes = list_any (λ c. same c.group g) changes
 
--- where a group isn't one of those that changed, the node has a process in it or has none, as before
+-- where a group isn't one of those that changed, the node has a process in it or has none, as
+-- before
 abbrev pub Covers : List GroupChange → List ℕ → List Counted → List Counted → Type 0
-Covers changes node old new = (g : List ℕ) → is_named g changes ≡ false → has_members g node new ≡ has_members g node old
-
--- whether one of the processes is of the node
-abbrev pub is_of_one : List ℕ → List Pid → Bool
-is_of_one n ps = list_any (λ p. same p.node n) ps
-
--- whether it is the row of the process in the group
-abbrev pub is_row_of : List ℕ → Pid → Counted → Bool
-is_row_of g p c = same c.row.group g && same_pid c.row.pid p
-
--- whether other processes have rows of the group
-abbrev pub has_others : List ℕ → Pid → List Counted → Bool
-has_others g p rows = list_any (λ c. same c.row.group g && not (same_pid c.row.pid p)) rows
+Covers changes node old new =
+    (g : List ℕ) → is_named g changes ≡ false → has_members g node new ≡ has_members g node old

@@ -18,7 +18,9 @@ pub record AreListings (count : List ℕ → Pid → ℕ) (kept : KeptLists) : T
   pub pids : (g : List ℕ) (ps : List Pid) → kept_of kept g ≡ Some ps → IsPidListing (count g) ps
   pub groups : (gs : List (List ℕ)) → kept.groups ≡ Some gs → IsGroupListing count gs
 
--- new keeps of other groups what old keeps, and that of the groups at most where there are no others
+-- new keeps of other groups what old keeps, and that of the groups at most where there are no
+-- others
 pub record Forgets (gone : List ℕ → Bool) (old new : KeptLists) : Type 0 where
   pub pids : (g : List ℕ) → kept_of new g ≡ cond (gone g) None (kept_of old g)
-  pub groups : (gs : List (List ℕ)) → new.groups ≡ Some gs → (old.groups ≡ Some gs) × ((g : List ℕ) → gone g ≡ false)
+  pub groups : (gs : List (List ℕ)) → new.groups ≡ Some gs → (old.groups ≡ Some gs)
+      × ((g : List ℕ) → gone g ≡ false)

@@ -3,6 +3,10 @@ pub mod Table
 pub mod Listed
 pub mod Added
 pub mod Beyond
+pub mod SmallMap
+pub mod HashedRows
+pub mod LoweredRows
+pub mod Copies
 pub mod NodeLists
 pub mod GroupNodes
 pub mod Indexed

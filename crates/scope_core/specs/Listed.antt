@@ -1,27 +1,17 @@
 -- What is read off the rows, in their order.
-use Rattle.std.specs.Prelude.{◌≡◌, ℕ, ◌-◌, Bool, true, false, cond, not, ◌&&◌, ◌||◌, nat_lt, List, [], ◌∷◌, Option, Some, None, slice_get, length}
+use Rattle.std.specs.Prelude.{◌≡◌, ℕ, ◌-◌, Bool, true, cond, not, ◌&&◌, nat_lt, List, [], ◌∷◌}
+use Rattle.std.specs.Prelude.{Option, Some, None, slice_get, length}
 use Rattle.std.specs.List.{filter}
-use Rattle.std.specs.List.Sorted.{IsPartitionPoint}
-use Rattle.std.specs.Ordering.{is_lt}
 use Rattle.dist_types.specs.declared.change.GroupChange.{GroupChange}
 use Rattle.scope_core.specs.declared.counted.Counted.{Counted}
 use Rattle.dist_types.specs.declared.pid.Pid.{Pid}
-use Rattle.dist_types.specs.Order.{text_cmp}
-use Rattle.dist_types.specs.Listing.{same, is_among, spread, Rises, IsPidListing}
+use Rattle.dist_types.specs.Listing.{same, spread, IsPidListing}
 use Rattle.dist_types.specs.Difference.{IsDifference}
 use Rattle.scope_core.specs.Table.{is_row, tally}
 
 -- whether this is a row of the group
 abbrev pub is_in : List ℕ → Counted → Bool
 is_in g c = same c.row.group g
-
--- whether the row stands before those of the group
-abbrev pub is_before : List ℕ → Counted → Bool
-is_before g c = is_lt (text_cmp c.row.group g)
-
--- the rows before those of the group end here
-abbrev pub IsStart : List ℕ → List Counted → ℕ → Type 0
-IsStart g rows start = IsPartitionPoint (λ c. is_before g c ≡ true) (λ c. is_before g c ≡ false) rows start
 
 -- whether the group is another than the last
 abbrev pub differs : Option (List ℕ) → List ℕ → Bool
@@ -35,20 +25,13 @@ last_of gs = slice_get gs (length gs - 1)
 -- the groups of the rows that are counted, each where it differs from the last
 abbrev pub heads : Option (List ℕ) → List Counted → List (List ℕ)
 heads last [] = []
-heads last (c ∷ cs) = cond (nat_lt 0 c.count && differs last c.row.group) (c.row.group ∷ heads (Some c.row.group) cs) (heads last cs)
-
--- these are the groups of either list, ascending, each once
-pub record IsUnion (gs hs union : List (List ℕ)) : Type 0 where
-  pub rises : Rises text_cmp union
-  pub either : (g : List ℕ) → is_among g union ≡ (is_among g gs || is_among g hs)
+heads last (c ∷ cs) =
+    cond (nat_lt 0 c.count && differs last c.row.group) (c.row.group ∷ heads (Some c.row.group) cs)
+    (heads last cs)
 
 -- the processes of the rows of the group g, each as often as it is counted
 abbrev pub pids_in : List ℕ → List Counted → List Pid
 pids_in g rows = spread (λ c. c.row.pid) (λ c. c.count) (filter (is_in g) rows)
-
--- what changes in the group g where some rows leave, and others join
-abbrev pub moving : List Counted → List Counted → List ℕ → GroupChange
-moving gone joined g = record { group = g; left = pids_in g gone; joined = pids_in g joined }
 
 -- the changes are each difference in which some rows leave, and others join
 abbrev pub Tells : List Counted → List Counted → List GroupChange → Type 0

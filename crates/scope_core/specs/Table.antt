@@ -57,8 +57,10 @@ pub record IsKept (rows : List Counted) : Type 0 where
   pub counted : AllByRecursion (λ c. 0 < c.count) rows
   pub few : (node : List ℕ) → tally (is_of_node node) rows ≤ max_rows
 
--- total is how many rows the own processes have, and no more than they may; each listing that is kept is right
-pub record IsHeld (own : List ℕ) (total_rows : ℕ) (rows : List Counted) (kept : KeptLists) : Type 0 where
+-- total is how many rows the own processes have, and no more than they may; each listing that is
+-- kept is right
+pub record IsHeld (own : List ℕ) (total_rows : ℕ) (rows : List Counted)
+    (kept : KeptLists) : Type 0 where
   pub few : total_rows ≤ max_rows
   pub total : total_rows ≡ tally (is_of_node own) rows
   pub listed : AreListings (λ g p. tally (is_row g p) rows) kept

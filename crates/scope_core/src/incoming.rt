@@ -1,96 +1,131 @@
 //! Rows that come, counted, and what they change.
-ghost use Rattle.std.specs.Prelude.{◌≡◌, ◌+◌, ◌≤◌, IfOk, OnOk, Bool, [], vec_len};
-ghost use Rattle.std.specs.VecDeque.{deque_len, deque_capacity};
+ghost use Rattle.std.specs.Prelude.{◌≡◌, ◌≢◌, ◌-◌, ◌∷◌, [], drop, length, IfSome, IfOk};
+ghost use Rattle.std.specs.List.{AllByRecursion, HoldsAt};
+ghost use Rattle.std.specs.declared.cmp.Ordering.TheVariants.{Less, Equal};
 ghost use Rattle.dist_types.specs.declared.row.Row.{Row};
-ghost use Rattle.dist_types.specs.Listing.{Rises, how_many};
-ghost use Rattle.scope_core.specs.Table.{counted_cmp, IsKept};
+ghost use Rattle.dist_types.specs.Listing.{Rises};
+ghost use Rattle.dist_types.specs.Order.{row_cmp};
+ghost use Rattle.scope_core.specs.Table.{tally, is_row, counted_cmp, IsKept};
 ghost use Rattle.scope_core.specs.Added.{Adds, HasRoomFor};
 ghost use Rattle.scope_core.specs.Beyond.{times_beyond, picked};
 
 use crate::changes::copies_of;
-use crate::counted::BoxedRow;
-use crate::edits::{FEW, add_all};
-use crate::reads::count_at;
+use crate::counted::Counted;
 use dist_types::{OutOfMemory, Row, TryClone};
 use std::alloc::Global;
-use std::collections::VecDeque;
+use std::cmp::Ordering;
 
 /// The rows in order, each with its count.
-pub fn counted_rows(alloc: Global, rows: &[Row]) -> Result<VecDeque<BoxedRow>, OutOfMemory>
+pub fn counted_rows(alloc: Global, rows: &[Row]) -> Result<Vec<Counted>, OutOfMemory>
     requires { HasRoomFor rows.now [] }
     ensures added { IfOk result (λ counted. Adds rows.now [] counted.items) }
     ensures kept { IfOk result (λ counted. IsKept counted.items) }
 {
-    let copies = copies_of(alloc, rows)?;
-    let counted = counted_of(alloc, copies)?;
-    Ok(counted)
+    // A node states its rows in order.
+    if let Some(counted) = counted_in_order(alloc, rows)? {
+        return Ok(counted);
+    }
+    let mut copies = copies_of(alloc, rows)?;
+    copies.sort_unstable();
+    match counted_in_order(alloc, &copies)? {
+        Some(counted) => Ok(counted),
+        // They are in order now.
+        None => Err(OutOfMemory),
+    }
 }
 
-/// The same of rows that aren't needed any more.
-pub fn counted_of(alloc: Global, rows: Vec<Row>) -> Result<VecDeque<BoxedRow>, OutOfMemory>
-    requires { HasRoomFor rows.items [] }
-    ensures added { IfOk result (λ counted. Adds rows.items [] counted.items) }
-    ensures kept { IfOk result (λ counted. IsKept counted.items) }
+/// Rows with their counts, unless one stands behind a higher one.
+fn counted_in_order(alloc: Global, rows: &[Row]) -> Result<Option<Vec<Counted>>, OutOfMemory>
+    requires { HasRoomFor rows.now [] }
+    ensures added { IfOk result (λ found. IfSome found (λ counted. Adds rows.now [] counted.items)) }
+    ensures kept { IfOk result (λ found. IfSome found (λ counted. IsKept counted.items)) }
 {
-    let mut counted = VecDeque::with_capacity(alloc, rows.len())?;
-    add_all(alloc, &mut counted, falling(rows))?;
-    Ok(counted)
+    let mut counted = Vec::with_capacity(alloc, rows.len())?;
+    for row in rows {
+        match order_behind(&counted, row) {
+            Ordering::Less => counted.push(Counted {
+                row: row.try_clone(alloc)?,
+                count: 1,
+            })?,
+            Ordering::Equal => count_again(&mut counted),
+            Ordering::Greater => return Ok(None),
+        }
+    }
+    Ok(Some(counted))
 }
 
-/// Room for so many more rows, and spare room to merge them, unless they are few.
-pub fn room_for(
-    alloc: Global,
-    rows: &mut VecDeque<BoxedRow>,
-    more: usize,
-) -> Result<VecDeque<BoxedRow>, OutOfMemory>
-    ensures same { rows.new.items ≡ rows.old.items }
-    ensures room { OnOk result (deque_len rows.new + more ≤ deque_capacity rows.new) }
-    ensures empty { IfOk result (λ spare. spare.items ≡ []) }
+/// How the last row stands to another: below it, where there is none.
+fn order_behind(counted: &[Counted], row: &Row) -> Ordering
+    requires { Rises counted_cmp counted.now }
+    ensures behind { result ≡ Less → AllByRecursion (λ c. row_cmp c.row row.now ≡ Less) counted.now }
+    ensures again { result ≡ Equal → HoldsAt (λ c. c.row ≡ row.now) counted.now (length counted.now - 1) }
 {
-    rows.reserve(more)?;
-    let spare = if more < FEW { 0 } else { rows.capacity() };
-    Ok(VecDeque::with_capacity(alloc, spare)?)
+    match counted.last() {
+        Some(last) => last.row.cmp(row),
+        None => Ordering::Less,
+    }
 }
 
-/// The rows, the last in order first. So `add_all` moves few rows.
-fn falling(rows: Vec<Row>) -> Vec<Row>
-    ensures rows { (test : Row → Bool) → how_many test result.items ≡ how_many test rows.items }
-    ensures length { vec_len result ≡ vec_len rows }
+/// One more of the last row.
+fn count_again(counted: &mut Vec<Counted>)
+    requires kept { IsKept counted.old.items }
+    ensures { (row : Row) → HoldsAt (λ c. c.row ≡ row) counted.old.items (length counted.old.items - 1) → HasRoomFor (row ∷ []) counted.old.items
+        → Adds (row ∷ []) counted.old.items counted.new.items × IsKept counted.new.items }
 {
-    let mut falling = rows;
-    falling.sort_unstable();
-    falling.reverse();
-    falling
+    if let Some(last) = counted.last_mut() {
+        last.count += 1;
+    }
 }
 
 /// The rows that are counted more often than among the others, and how much more often.
 pub fn beyond(
     alloc: Global,
-    rows: &VecDeque<BoxedRow>,
-    others: &VecDeque<BoxedRow>,
-) -> Result<VecDeque<BoxedRow>, OutOfMemory>
-    requires { Rises counted_cmp others.now.items }
-    ensures { IfOk result (λ more. more.items ≡ picked (times_beyond others.now.items) rows.now.items) }
+    rows: &[Counted],
+    others: &[Counted],
+) -> Result<Vec<Counted>, OutOfMemory>
+    requires rows { Rises counted_cmp rows.now }
+    requires others { Rises counted_cmp others.now }
+    ensures { IfOk result (λ more. more.items ≡ picked (times_beyond others.now) rows.now) }
 {
-    let mut more = VecDeque::new(alloc);
-    let mut next = 0;
+    let mut more = Vec::new(alloc);
+    let mut rest = others;
     for counted in rows {
-        let count = count_beyond(counted, others, &mut next);
+        rest = from(rest, &counted.row);
+        let count = counted
+            .count
+            .saturating_sub(count_first(rest, &counted.row));
         if count > 0 {
-            let row = counted.row().try_clone(alloc)?;
-            more.push_back(BoxedRow::new(alloc, row, count)?)?;
+            let row = counted.row.try_clone(alloc)?;
+            more.push(Counted { row, count })?;
         }
     }
     Ok(more)
 }
 
-/// How much more often a row is counted than among the others.
-fn count_beyond(counted: &BoxedRow, others: &VecDeque<BoxedRow>, next: &mut usize) -> u32
-    requires { Rises counted_cmp others.now.items }
-    ensures { result ≡ times_beyond others.now.items counted.now }
+/// The rows from the first on that isn't below this one.
+fn from<'a>(rows: &'a [Counted], row: &Row) -> &'a [Counted]
+    requires { Rises counted_cmp rows.now }
+    ensures rises { Rises counted_cmp result.now }
+    ensures low { (r : Row) → row_cmp r row.now ≢ Less → tally (is_row r.group r.pid) result.now ≡ tally (is_row r.group r.pid) rows.now }
+    ensures first { AllByRecursion (λ c. row_cmp row.now c.row ≡ Less) (drop 1 result.now) }
 {
-    let row = counted.row();
-    counted
-        .count()
-        .saturating_sub(count_at(others, next, &row.group, &row.pid))
+    let mut rest = rows;
+    while let Some((first, others)) = rest.split_first() {
+        if first.row >= *row {
+            return rest;
+        }
+        rest = others;
+    }
+    rest
+}
+
+/// How often the row is counted, if it is the first of these.
+fn count_first(rows: &[Counted], row: &Row) -> u32
+    requires { AllByRecursion (λ c. row_cmp row.now c.row ≡ Less) (drop 1 rows.now) }
+    ensures { result ≡ tally (is_row row.now.group row.now.pid) rows.now }
+{
+    match rows.first() {
+        Some(first) => { if first.row == *row { first.count } else { 0 } }
+        None => 0,
+    }
 }

@@ -1,20 +1,23 @@
-//! The rows of a scope, in a list for each node, and the nodes of each group.
-ghost use Rattle.std.specs.Prelude.{◌≡◌, ◌+◌, ◌≤◌, true, false, not, nat_lt, ℕ, List, [], All, IsTrue, IfSome, IfOk, OnOk, OnErr};
-ghost use Rattle.std.specs.List.{filter, list_any};
-ghost use Rattle.dist_types.specs.Listing.{how_many, same_pid, IsPidListing, IsGroupListing};
-ghost use Rattle.scope_core.specs.Table.{tally, is_row, is_of_node, max_rows};
-ghost use Rattle.scope_core.specs.Added.{without_node, are_all_in, Adds, Joins, Leaves, HasRoomFor};
+//! The rows of a scope, and the nodes of each group.
+ghost use Rattle.std.specs.Prelude.{◌≡◌, ◌+◌, ◌≤◌, ◌<◌, ◌∷◌, true, nat_lt, cond, ℕ, List, [], All, IsTrue, IfSome, IfOk, OnOk, OnErr, length};
+ghost use Rattle.std.specs.Option.{IfNone};
+ghost use Rattle.std.specs.List.{list_any, AllByRecursion};
+ghost use Rattle.dist_types.specs.declared.pid.Pid.{Pid};
+ghost use Rattle.dist_types.specs.Listing.{same, same_pid, how_many, mentions, Rises, Ascends, IsPidListing, IsGroupListing};
+ghost use Rattle.dist_types.specs.Order.{pid_cmp};
+ghost use Rattle.dist_types.specs.Difference.{IsDifference};
+ghost use Rattle.scope_core.specs.Table.{tally, is_row, is_of_node, counted_cmp, max_rows, IsKept};
+ghost use Rattle.scope_core.specs.Added.{without_node, are_all_in, Adds, Joins};
 ghost use Rattle.scope_core.specs.NodeLists.{of_node, IsNodeList};
-ghost use Rattle.scope_core.specs.Indexed.{has_members, is_there, is_named, Covers};
+ghost use Rattle.scope_core.specs.Indexed.{has_members, is_named, Covers};
 
-use crate::counted::BoxedRow;
+use crate::counted::Counted;
 use crate::group_nodes::GroupNodes;
-use crate::indexing::{gathered, put_all, settle_all, settle_nodes, unname, unname_process};
+use crate::indexing::{gathered, put_all, settle_all, unname};
 use crate::node_lists::NodeLists;
-use crate::reads::count_at;
+use crate::node_rows::NodeRows;
 use dist_types::{Group, GroupChange, NodeName, OutOfMemory, Pid, Row};
 use std::alloc::Global;
-use std::collections::VecDeque;
 use std::marker::Model;
 
 /// Rows, with an index of the nodes that have rows of each group.
@@ -47,20 +50,18 @@ impl IndexedRows {
         }
     }
 
-    /// The rows of a node, in their order.
-    pub fn of_node(&self, node: &NodeName) -> &VecDeque<BoxedRow>
-        ensures rows { result.now.items ≡ of_node node.now self.now }
-        ensures list { IsNodeList node.now result.now.items }
-        ensures few { (n : List ℕ) → tally (is_of_node n) self.now ≤ max_rows }
-    {
-        self.lists.of_node(node)
-    }
-
     /// The group's name as it is kept here.
     pub fn stored(&self, group: &Group) -> Option<&Group>
         ensures { IfSome result (λ stored. stored.now ≡ group.now) }
     {
         self.index.stored(group)
+    }
+
+    /// No node has more rows than it may.
+    pub fn few(&self)
+        ensures { (n : List ℕ) → tally (is_of_node n) self.now ≤ max_rows }
+    {
+        self.lists.few();
     }
 
     /// How many rows a node has, each as often as it is counted.
@@ -71,26 +72,76 @@ impl IndexedRows {
         self.lists.total_of(node)
     }
 
-    /// How often a process is in a group, for processes that are asked for in their order.
-    pub fn count_next(&self, next: &mut usize, group: &Group, pid: &Pid) -> u32
+    /// The rows of a node in their order.
+    pub fn in_order(&self, alloc: Global, node: &NodeName) -> Result<Vec<Counted>, OutOfMemory>
+        ensures rises { IfOk result (λ rows. Rises counted_cmp rows.items) }
+        ensures counts { IfOk result (λ rows. (g : List ℕ) (p : Pid) → tally (is_row g p) rows.items ≡ cond (same p.node node.now) (tally (is_row g p) self.now) 0) }
+    {
+        match self.lists.get(node) {
+            Some(list) => list.rows().in_order(),
+            None => Ok(Vec::new(alloc)),
+        }
+    }
+
+    /// The rows of a process in their order.
+    pub fn of_process(&self, alloc: Global, pid: &Pid) -> Result<Vec<Counted>, OutOfMemory>
+        ensures kept { IfOk result (λ rows. IsKept rows.items) }
+        ensures counts { IfOk result (λ rows. (g : List ℕ) (p : Pid) → tally (is_row g p) rows.items ≡ cond (same_pid p pid.now) (tally (is_row g p) self.now) 0) }
+    {
+        match self.lists.get(&pid.node) {
+            Some(list) => list.rows().of_process(pid),
+            None => Ok(Vec::new(alloc)),
+        }
+    }
+
+    /// Whether these are the rows of the node in their order.
+    pub fn are_just(&self, node: &NodeName, rows: &[Row]) -> bool
+        requires { All (λ r. r.pid.node ≡ node.now) rows.now }
+        ensures { IsTrue result → (g : List ℕ) (p : Pid) → how_many (is_row g p) rows.now ≡ cond (same p.node node.now) (tally (is_row g p) self.now) 0 }
+    {
+        match self.lists.get(node) {
+            Some(list) => list.total() == rows.len() && list.rows().are_just(rows),
+            None => rows.is_empty(),
+        }
+    }
+
+    /// Puts the processes of a node in a group at the end of a list, each as often as it is counted.
+    pub fn push_members(
+        &self,
+        pids: &mut Vec<Pid>,
+        node: &NodeName,
+        group: &Group,
+    ) -> Result<(), OutOfMemory>
+        ensures counts { OnOk result ((p : Pid) → mentions p pids.new.items ≡ mentions p pids.old.items + cond (same node.now p.node) (tally (is_row group.now p) self.now) 0) }
+        ensures ascends { OnOk result (pids.old.items ≡ [] → Ascends pid_cmp pids.new.items) }
+    {
+        self.lists.push_members(pids, node, group)
+    }
+
+    /// Whether each row stands in the list at most as often as it is counted.
+    pub fn are_all_in(&mut self, node: &NodeName, gone: &[Row]) -> bool
+        requires { All (λ r. r.pid.node ≡ node.now) gone.now }
+        ensures value { result ≡ are_all_in self.old gone.now }
+        ensures same { self.new ≡ self.old }
+    {
+        self.lists.are_all_in(node, gone)
+    }
+
+    /// How often a process is in a group.
+    pub fn count(&self, group: &Group, pid: &Pid) -> u32
         ensures { result ≡ tally (is_row group.now pid.now) self.now }
     {
-        count_at(self.lists.of_node(&pid.node), next, group, pid)
+        match self.lists.get(&pid.node) {
+            Some(list) => list.rows().count_in(group, pid),
+            None => 0,
+        }
     }
 
     /// Whether one of the processes is in the group.
     pub fn is_any_in(&self, group: &Group, pids: &[Pid]) -> bool
         ensures { result ≡ list_any (λ p. nat_lt 0 (tally (is_row group.now p) self.now)) pids.now }
     {
-        pids.iter().any(|pid| self.is_in(group, pid))
-    }
-
-    /// Whether the process is in the group.
-    fn is_in(&self, group: &Group, pid: &Pid) -> bool
-        ensures { result ≡ nat_lt 0 (tally (is_row group.now pid.now) self.now) }
-    {
-        let mut first = 0;
-        self.count_next(&mut first, group, pid) > 0
+        pids.iter().any(|pid| self.count(group, pid) > 0)
     }
 
     /// The groups with a process, in their order.
@@ -114,10 +165,11 @@ impl IndexedRows {
     pub fn join(
         &mut self,
         node: &NodeName,
-        more: VecDeque<BoxedRow>,
+        more: Vec<Counted>,
         changes: &[GroupChange],
     ) -> Result<(), OutOfMemory>
         requires list { IsNodeList node.now more.items }
+        requires rises { Rises counted_cmp more.items }
         requires few { tally (is_of_node node.now) self.old + tally (is_of_node node.now) more.items ≤ max_rows }
         requires changes { Covers changes.now node.now [] more.items }
         requires named { (g : List ℕ) → is_named g changes.now ≡ true → has_members g node.now more.items ≡ true }
@@ -140,10 +192,11 @@ impl IndexedRows {
     pub fn replace(
         &mut self,
         node: &NodeName,
-        rows: VecDeque<BoxedRow>,
+        rows: Vec<Counted>,
         changes: &[GroupChange],
     ) -> Result<(), OutOfMemory>
         requires list { IsNodeList node.now rows.items }
+        requires rises { Rises counted_cmp rows.items }
         requires changes { Covers changes.now node.now self.old rows.items }
         ensures ok { OnOk result (Joins rows.items (without_node node.now self.old) self.new) }
         ensures same { OnErr result (self.new ≡ self.old) }
@@ -157,52 +210,78 @@ impl IndexedRows {
         replaced
     }
 
-    /// Whether each of a node's rows stands among these at most as often as it is counted.
-    pub fn are_all_in(&mut self, node: &NodeName, gone: &[Row]) -> bool
-        requires { All (λ r. r.pid.node ≡ node.now) gone.now }
-        ensures value { result ≡ are_all_in self.old gone.now }
-        ensures fit { IsTrue result → HasRoomFor gone.now [] }
-        ensures same { self.new ≡ self.old }
+    /// The changes where all rows of a node leave.
+    pub fn all_left(&self, alloc: Global, node: &NodeName) -> Result<Vec<GroupChange>, OutOfMemory>
+        ensures { IfOk result (λ changes. IsDifference (λ g p. tally (is_row g p) self.now) (λ g p. cond (same p.node node.now) 0 (tally (is_row g p) self.now)) changes.items) }
     {
-        self.lists.are_all_in(node, gone)
+        match self.lists.get(node) {
+            Some(list) => list.rows().all_left(),
+            None => Ok(Vec::new(alloc)),
+        }
     }
 
-    /// One less for each of a node's rows. Only these groups change.
-    pub fn take_rows(&mut self, node: &NodeName, gone: &[Row], changes: &[GroupChange])
-        requires own { All (λ r. r.pid.node ≡ node.now) gone.now }
-        requires counted { IsTrue (are_all_in self.old gone.now) }
-        requires changes { (g : List ℕ) → is_named g changes.now ≡ false → how_many (is_there g node.now) gone.now ≡ 0 }
-        ensures { Adds gone.now self.new self.old }
+    /// Takes rows away, each as often as it is counted here.
+    pub fn take_rows(&mut self, gone: &[Counted])
+        requires kept { IsKept gone.now }
+        requires counted { AllByRecursion (λ c. c.count ≤ tally (is_row c.row.group c.row.pid) self.old) gone.now }
+        ensures { Joins gone.now self.new self.old }
     {
-        self.lists.take_rows(node, gone);
-        settle_all(&self.lists, &mut self.index, changes, node);
+        for counted in gone {
+            self.take(counted);
+        }
     }
 
-    /// One less in the group for each mention of a process, as far as it is there. Answers how many the node loses, whose processes
-    /// most of them are.
-    pub fn leave(&mut self, group: &Group, pids: &[Pid], node: &NodeName) -> usize
-        ensures counts { Leaves group.now pids.now self.old self.new }
-        ensures total { tally (is_of_node node.now) self.new + result ≡ tally (is_of_node node.now) self.old }
+    /// Takes rows of a node away, which are counted here. Where it has no others, they needn't be looked up.
+    pub fn take_listed(&mut self, node: &NodeName, rows: &[Row], counted: &[Counted])
+        requires own { All (λ r. r.pid.node ≡ node.now) rows.now }
+        requires there { IsTrue (are_all_in self.old rows.now) }
+        requires counted { Adds rows.now [] counted.now }
+        requires kept { IsKept counted.now }
+        ensures rows { (g : List ℕ) (p : Pid) → tally (is_row g p) self.old ≡ tally (is_row g p) self.new + how_many (is_row g p) rows.now }
+        ensures totals { (n : List ℕ) → tally (is_of_node n) self.old ≡ tally (is_of_node n) self.new + how_many (is_of_node n) rows.now }
     {
-        let lost = self.lists.leave(group, pids, node);
-        settle_nodes(&self.lists, &mut self.index, group, pids, node);
-        lost
+        if self.total_of(node) == rows.len() {
+            self.remove_node(node);
+            return;
+        }
+        self.take_rows(counted);
     }
 
-    /// Takes all rows of a process away.
-    pub fn remove_process(&mut self, pid: &Pid)
-        ensures { self.new ≡ filter (λ c. not (same_pid c.row.pid pid.now)) self.old }
+    /// Takes a row away, as often as it is counted here.
+    fn take(&mut self, gone: &Counted)
+        requires some { 0 < gone.now.count }
+        requires counted { gone.now.count ≤ tally (is_row gone.now.row.group gone.now.row.pid) self.old }
+        ensures { Joins (gone.now ∷ []) self.new self.old }
     {
-        let gone = unname_process(self.lists.of_node(&pid.node), &mut self.index, pid);
-        self.lists.remove_process(pid, gone);
+        if self.lists.take(gone) {
+            self.index.take(&gone.row.group, &gone.row.pid.node);
+        }
     }
 
-    /// Takes all rows of a node away.
-    pub fn remove_node(&mut self, node: &NodeName)
-        ensures { self.new ≡ without_node node.now self.old }
+    /// Takes one of the rows of a process out.
+    pub fn pop_of(&mut self, pid: &Pid) -> Option<Counted>
+        ensures gone { IfSome result (λ c. Joins (c ∷ []) self.new self.old) }
+        ensures process { IfSome result (λ c. c.row.pid ≡ pid.now) }
+        ensures fewer { IfSome result (λ c. length self.new < length self.old) }
+        ensures none { IfNone result (tally (λ r. same_pid r.pid pid.now) self.old ≡ 0) }
+        ensures same { IfNone result (self.new ≡ self.old) }
     {
-        unname(self.lists.of_node(node), &mut self.index, node);
-        self.lists.remove_node(node);
+        let (gone, is_last) = self.lists.pop_of(pid)?;
+        if is_last {
+            self.index.take(&gone.row.group, &pid.node);
+        }
+        Some(gone)
+    }
+
+    /// Takes all rows of a node away, and gives them back.
+    pub fn remove_node(&mut self, node: &NodeName) -> Option<NodeRows>
+        ensures rest { self.new ≡ without_node node.now self.old }
+        ensures gone { IfSome result (λ list. (list.node ≡ node.now) × (list.rows ≡ of_node node.now self.old)) }
+        ensures none { IfNone result (of_node node.now self.old ≡ []) }
+    {
+        let gone = self.lists.remove_node(node)?;
+        unname(&mut self.index, gone.rows(), node);
+        Some(gone)
     }
 
     /// Takes all rows away.

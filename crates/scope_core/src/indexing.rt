@@ -1,23 +1,16 @@
 //! What keeps the nodes of each group as the rows have them.
-ghost use Rattle.std.specs.Prelude.{◌≡◌, ◌≤◌, ◌&&◌, ◌||◌, ℕ, Bool, false, List, not, cond, nat_lt, IsTrue, IfOk, OnOk, OnErr};
-ghost use Rattle.dist_types.specs.Listing.{same, same_pid, how_many, mentions, Rises};
+ghost use Rattle.std.specs.Prelude.{◌≡◌, ◌≤◌, ◌&&◌, ℕ, Bool, false, List, not, cond, nat_lt, IfOk, OnOk, OnErr};
+ghost use Rattle.dist_types.specs.Listing.{same, how_many, mentions};
 ghost use Rattle.dist_types.specs.declared.pid.Pid.{Pid};
-ghost use Rattle.std.specs.List.{list_any, list_all};
-ghost use Rattle.std.specs.VecDeque.Iter.{deque_iter_rest};
-ghost use Rattle.scope_core.specs.Listed.{is_in};
 ghost use Rattle.scope_core.specs.GroupNodes.{times_named};
-ghost use Rattle.scope_core.specs.Table.{counted_cmp, tally, is_row};
-ghost use Rattle.scope_core.specs.NodeLists.{IsNodeList};
-ghost use Rattle.scope_core.specs.Indexed.{has_members, is_named, is_of_one, is_row_of, has_others};
+ghost use Rattle.scope_core.specs.Table.{tally, is_row};
+ghost use Rattle.scope_core.specs.Indexed.{has_members, is_named};
 
-use crate::counted::BoxedRow;
 use crate::group_nodes::GroupNodes;
+use crate::hashed_rows::HashedRows;
 use crate::node_lists::NodeLists;
-use crate::reads::{in_group, is_same, pids_of};
 use dist_types::{Group, GroupChange, NodeName, OutOfMemory, Pid};
 use std::alloc::Global;
-use std::collections::VecDeque;
-use std::collections::vec_deque::Iter;
 
 /// The node is one of each changed group's. Where memory is refused, of some of them.
 pub fn put_all(
@@ -38,7 +31,7 @@ pub fn put_all(
 pub fn settle(lists: &NodeLists, index: &mut GroupNodes, group: &Group, node: &NodeName)
     ensures { (g n : List ℕ) → times_named index.new g n ≡ cond ((same group.now g && same node.now n) && not (has_members g n lists.now)) 0 (times_named index.old g n) }
 {
-    if in_group(lists.of_node(node), group).len() == 0 {
+    if !lists.has_group(node, group) {
         index.take(group, node);
     }
 }
@@ -57,94 +50,14 @@ pub fn settle_all(
     }
 }
 
-/// The same for one group, and the node and those of the processes.
-pub fn settle_nodes(
-    lists: &NodeLists,
-    index: &mut GroupNodes,
-    group: &Group,
-    pids: &[Pid],
-    node: &NodeName,
-)
-    ensures { (g n : List ℕ) → times_named index.new g n ≡ cond ((same group.now g && (same node.now n || is_of_one n pids.now)) && not (has_members g n lists.now)) 0 (times_named index.old g n) }
+/// The node, whose rows these are, is no group's any more of which they are.
+pub fn unname(index: &mut GroupNodes, rows: &HashedRows, node: &NodeName)
+    ensures others { (g n : List ℕ) → same node.now n ≡ false → times_named index.new g n ≡ times_named index.old g n }
+    ensures own { (g : List ℕ) → times_named index.new g node.now ≤ cond (has_members g rows.now.node rows.now.rows) 0 (times_named index.old g node.now) }
 {
-    settle(lists, index, group, node);
-    for pid in pids {
-        settle_other(lists, index, group, pid, node);
+    for (group, _) in rows.groups().iter() {
+        index.take(group, node);
     }
-}
-
-/// The same for the node of one process, unless it is this one, which is settled.
-fn settle_other(
-    lists: &NodeLists,
-    index: &mut GroupNodes,
-    group: &Group,
-    pid: &Pid,
-    node: &NodeName,
-)
-    ensures own { IsTrue (same pid.now.node node.now) → (g n : List ℕ) → times_named index.new g n ≡ times_named index.old g n }
-    ensures other { same pid.now.node node.now ≡ false → (g n : List ℕ) → times_named index.new g n ≡ cond ((same group.now g && same pid.now.node n) && not (has_members g n lists.now)) 0 (times_named index.old g n) }
-{
-    if pid.node != *node {
-        settle(lists, index, group, &pid.node);
-    }
-}
-
-/// The node is no group's in which it has one of its rows, which these are.
-pub fn unname(rows: &VecDeque<BoxedRow>, index: &mut GroupNodes, node: &NodeName)
-    ensures { (g n : List ℕ) → times_named index.new g n ≡ cond (list_any (is_in g) rows.now.items && same node.now n) 0 (times_named index.old g n) }
-{
-    for counted in rows {
-        index.take(&counted.row().group, node);
-    }
-}
-
-/// The node of a process is no group's in which it has no other process. These are its rows. Answers how many the process has.
-pub fn unname_process(rows: &VecDeque<BoxedRow>, index: &mut GroupNodes, pid: &Pid) -> usize
-    requires { IsNodeList pid.now.node rows.now.items }
-    ensures gone { result ≡ tally (λ r. same_pid r.pid pid.now) rows.now.items }
-    ensures unnamed { (g n : List ℕ) → times_named index.new g n ≡ cond ((list_any (is_row_of g pid.now) rows.now.items && same pid.now.node n) && not (has_others g pid.now rows.now.items)) 0 (times_named index.old g n) }
-{
-    let mut gone = 0;
-    for counted in rows {
-        gone += unname_row(rows, index, counted, pid);
-    }
-    gone
-}
-
-/// The same for one of the rows.
-fn unname_row(
-    rows: &VecDeque<BoxedRow>,
-    index: &mut GroupNodes,
-    counted: &BoxedRow,
-    pid: &Pid,
-) -> usize
-    requires { IsNodeList pid.now.node rows.now.items }
-    ensures gone { result ≡ cond (same_pid counted.now.row.pid pid.now) counted.now.count 0 }
-    ensures unnamed { (g n : List ℕ) → times_named index.new g n ≡ cond ((is_row_of g pid.now counted.now && same pid.now.node n) && not (has_others g pid.now rows.now.items)) 0 (times_named index.old g n) }
-{
-    if !is_same(&counted.row().pid, pid) {
-        return 0;
-    }
-    let group = &counted.row().group;
-    if is_alone(rows, group, pid) {
-        index.take(group, &pid.node);
-    }
-    counted.count() as usize
-}
-
-/// Whether only the process has a row of the group.
-fn is_alone(rows: &VecDeque<BoxedRow>, group: &Group, pid: &Pid) -> bool
-    requires { Rises counted_cmp rows.now.items }
-    ensures { result ≡ not (has_others group.now pid.now rows.now.items) }
-{
-    are_all_of(in_group(rows, group), pid)
-}
-
-/// Whether all rows are the process's.
-fn are_all_of(mut rows: Iter<'_, BoxedRow>, pid: &Pid) -> bool
-    ensures { result ≡ list_all (λ c. same_pid c.row.pid pid.now) (deque_iter_rest rows.entry) }
-{
-    rows.all(|counted| is_same(&counted.row().pid, pid))
 }
 
 /// The processes of a group, those of a node beside one another.
@@ -159,21 +72,7 @@ pub fn gathered(
 {
     let mut pids = Vec::new(alloc);
     for node in nodes {
-        let mut more = members_of(alloc, lists, node, group)?;
-        pids.append(&mut more)?;
+        lists.push_members(&mut pids, node, group)?;
     }
-    Ok(pids)
-}
-
-/// The processes of a node in a group.
-fn members_of(
-    alloc: Global,
-    lists: &NodeLists,
-    node: &NodeName,
-    group: &Group,
-) -> Result<Vec<Pid>, OutOfMemory>
-    ensures { IfOk result (λ pids. (p : Pid) → mentions p pids.items ≡ cond (same node.now p.node) (tally (is_row group.now p) lists.now) 0) }
-{
-    let pids = pids_of(alloc, in_group(lists.of_node(node), group))?;
     Ok(pids)
 }

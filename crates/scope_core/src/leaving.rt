@@ -40,10 +40,9 @@ fn gone_in_order(
 {
     let mut gone = Vec::with_capacity(alloc, sorted.len())?;
     let mut rest = sorted;
-    let mut next = 0;
     while let Some((pid, others)) = rest.split_first() {
         let again = run_of(others, pid);
-        let count = rows.count_next(&mut next, group, pid) as usize;
+        let count = rows.count(group, pid) as usize;
         push_copies(alloc, &mut gone, pid, count.min(again + 1))?;
         (_, rest) = others.split_at(again);
     }

@@ -3,21 +3,24 @@
 
 mod changes;
 mod counted;
-mod edits;
 mod fault;
+mod group_members;
 mod group_nodes;
+mod hashed_rows;
 mod incoming;
 mod indexed_rows;
 mod indexing;
 mod laws;
 mod leaving;
 mod listings;
-mod lowered;
-mod merged;
-mod node_list;
+mod lowering;
+mod nested_map;
+mod node_indexes;
 mod node_lists;
+mod node_rows;
+mod process_key;
 mod reads;
-mod sweeps;
+mod small_map;
 mod table;
 
 pub use fault::TableFault;

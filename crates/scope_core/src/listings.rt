@@ -1,18 +1,15 @@
 //! What was answered of groups, kept until they change.
-ghost use Rattle.std.specs.Prelude.{◌≡◌, ℕ, List, None, Some, IsTrue, OnOk, OnErr, cond};
-ghost use Rattle.std.specs.List.{list_any};
+ghost use Rattle.std.specs.Prelude.{◌≡◌, ℕ, List, None, Some, false, IsTrue, OnOk, OnErr, cond};
 ghost use Rattle.std.specs.Option.{option_copied};
 ghost use Rattle.dist_types.specs.Listing.{same};
-ghost use Rattle.scope_core.specs.Kept.{kept_of, Forgets};
-ghost use Rattle.scope_core.specs.Listed.{is_in};
-ghost use Rattle.scope_core.specs.Indexed.{is_named, is_row_of};
+ghost use Rattle.scope_core.specs.Kept.{kept_of, Forgets, AreListings};
+ghost use Rattle.dist_types.specs.declared.pid.Pid.{Pid};
+ghost use Rattle.scope_core.specs.Indexed.{has_members, is_named};
 
-use crate::counted::BoxedRow;
-use crate::reads::is_same;
+use crate::hashed_rows::HashedRows;
 use dist_types::{Group, GroupChange, OutOfMemory, Pid, Shared, TryClone};
 use indexmap::IndexMap;
 use std::alloc::Global;
-use std::collections::VecDeque;
 use std::marker::Model;
 
 /// For some groups the list of their processes, and perhaps the list of the groups.
@@ -82,7 +79,7 @@ impl Listings {
     }
 
     /// Keeps no list of the group, nor of the groups.
-    fn forget(&mut self, group: &Group)
+    pub fn forget(&mut self, group: &Group)
         ensures { Forgets (λ g. same group.now g) self.old self.new }
     {
         self.kept.swap_remove(group);
@@ -110,36 +107,13 @@ impl Listings {
         }
     }
 
-    /// Keeps no list of a group of these rows, nor of the groups if there are rows.
-    pub fn forget_rows(&mut self, rows: &VecDeque<BoxedRow>)
-        ensures { Forgets (λ g. list_any (is_in g) rows.now.items) self.old self.new }
+    /// Keeps no list of a group of these rows. What it keeps is right still where the other groups stay.
+    pub fn forget_rows(&mut self, rows: &HashedRows)
+        ensures { (before after : List ℕ → Pid → ℕ) → AreListings before self.old
+            → ((g : List ℕ) → has_members g rows.now.node rows.now.rows ≡ false → (p : Pid) → before g p ≡ after g p) → AreListings after self.new }
     {
-        if self.is_empty() {
-            return;
-        }
-        for counted in rows {
-            self.forget(&counted.row().group);
-        }
-    }
-
-    /// Keeps no list of a group in which the process has one of these rows, nor of the groups if it has one.
-    pub fn forget_process(&mut self, rows: &VecDeque<BoxedRow>, pid: &Pid)
-        ensures { Forgets (λ g. list_any (is_row_of g pid.now) rows.now.items) self.old self.new }
-    {
-        if self.is_empty() {
-            return;
-        }
-        for counted in rows {
-            self.forget_row(counted, pid);
-        }
-    }
-
-    /// The same for one of the rows.
-    fn forget_row(&mut self, counted: &BoxedRow, pid: &Pid)
-        ensures { Forgets (λ g. is_row_of g pid.now counted.now) self.old self.new }
-    {
-        if is_same(&counted.row().pid, pid) {
-            self.forget(&counted.row().group);
+        for (group, _) in rows.groups().iter() {
+            self.forget(group);
         }
     }
 

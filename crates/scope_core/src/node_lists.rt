@@ -1,38 +1,36 @@
-//! The rows of a scope, a sorted list for each node.
-ghost use Rattle.std.specs.Prelude.{◌≡◌, ◌+◌, ◌≤◌, false, not, ℕ, List, [], All, IsTrue, OnOk, OnErr};
-ghost use Rattle.std.specs.List.{filter};
-ghost use Rattle.dist_types.specs.Listing.{same, same_pid};
-ghost use Rattle.scope_core.specs.Table.{tally, is_of_node, max_rows};
-ghost use Rattle.scope_core.specs.Added.{row_in, without_node, are_all_in, Adds, Joins, Takes, Leaves, HasRoomFor};
-ghost use Rattle.scope_core.specs.NodeLists.{of_node, IsNodeList, LeavesOf};
+//! The rows of a scope, node by node.
+ghost use Rattle.std.specs.Prelude.{◌≡◌, ◌+◌, ◌≤◌, ◌<◌, ◌∷◌, ℕ, List, [], not, All, cond, IfSome, OnOk, OnErr, length};
+ghost use Rattle.std.specs.Option.{IfNone};
+ghost use Rattle.dist_types.specs.declared.pid.Pid.{Pid};
+ghost use Rattle.dist_types.specs.Listing.{same, same_pid, mentions, Rises, Ascends};
+ghost use Rattle.dist_types.specs.Order.{pid_cmp};
+ghost use Rattle.scope_core.specs.Table.{tally, is_row, is_of_node, counted_cmp, max_rows};
+ghost use Rattle.scope_core.specs.Added.{without_node, are_all_in, Joins};
+ghost use Rattle.scope_core.specs.Indexed.{has_members};
+ghost use Rattle.scope_core.specs.NodeLists.{of_node, IsNodeList};
 
-use crate::counted::BoxedRow;
-use crate::node_list::NodeList;
+use crate::counted::Counted;
+use crate::node_rows::NodeRows;
 use dist_types::{Group, NodeName, OutOfMemory, Pid, Row, TryClone};
 use indexmap::IndexMap;
 use std::alloc::Global;
-use std::collections::VecDeque;
 use std::marker::Model;
 
-/// Rows, a list for each node. What a call does to one node's rows it does to its list alone, which has at most
-/// `ScopeTable::MAX_ROWS` entries.
+/// Rows, those of a node beside one another. What a call does to one node's rows it does to these alone.
 #[derive(Debug, Drop)]
 pub struct NodeLists {
     alloc: Global,
-    lists: IndexMap<NodeName, NodeList>,
-    /// The rows of a node that has no list.
-    none: VecDeque<BoxedRow>,
-    ghost empty: { none.items ≡ [] },
+    lists: IndexMap<NodeName, NodeRows>,
 }
 
 impl Model for NodeLists {
     ghost use Rattle.std.specs.Prelude.{List};
     ghost use Rattle.scope_core.specs.declared.counted.Counted.{Counted};
-    ghost use Rattle.scope_core.specs.NodeLists.{all_rows, AreNodeLists};
+    ghost use Rattle.scope_core.specs.NodeLists.{all_rows, rows_by_node, AreNodeLists};
 
     ghost Value = { List Counted };
 
-    ghost view = { λ rows. all_rows rows.lists.entries };
+    ghost view = { λ rows. all_rows (rows_by_node rows.lists.entries) };
 
     ghost invariant = { λ rows. AreNodeLists rows.lists.entries };
 }
@@ -45,20 +43,49 @@ impl NodeLists {
         NodeLists {
             alloc,
             lists: IndexMap::new(alloc),
-            none: VecDeque::new(alloc),
         }
     }
 
-    /// The rows of a node, in their order.
-    pub fn of_node(&self, node: &NodeName) -> &VecDeque<BoxedRow>
-        ensures rows { result.now.items ≡ of_node node.now self.now }
-        ensures list { IsNodeList node.now result.now.items }
-        ensures few { (n : List ℕ) → tally (is_of_node n) self.now ≤ max_rows }
+    /// The rows of a node, where it has had some.
+    pub fn get(&self, node: &NodeName) -> Option<&NodeRows>
+        ensures node { IfSome result (λ list. list.now.node ≡ node.now) }
+        ensures rows { IfSome result (λ list. list.now.rows ≡ of_node node.now self.now) }
+        ensures none { IfNone result (of_node node.now self.now ≡ []) }
     {
-        match self.lists.get(node) {
-            Some(list) => list.rows(),
-            None => &self.none,
+        self.lists.get(node)
+    }
+
+    /// Whether a process of the node is in the group.
+    pub fn has_group(&self, node: &NodeName, group: &Group) -> bool
+        ensures { result ≡ has_members group.now node.now self.now }
+    {
+        match self.get(node) {
+            Some(list) => list.rows().has_group(group),
+            None => false,
         }
+    }
+
+    /// Puts the processes of a node in a group at the end of a list, each as often as it is counted.
+    pub fn push_members(
+        &self,
+        pids: &mut Vec<Pid>,
+        node: &NodeName,
+        group: &Group,
+    ) -> Result<(), OutOfMemory>
+        ensures counts { OnOk result ((p : Pid) → mentions p pids.new.items ≡ mentions p pids.old.items + cond (same node.now p.node) (tally (is_row group.now p) self.now) 0) }
+        ensures ascends { OnOk result (pids.old.items ≡ [] → Ascends pid_cmp pids.new.items) }
+    {
+        match self.get(node) {
+            Some(list) => list.rows().push_members(pids, group),
+            None => Ok(()),
+        }
+    }
+
+    /// No node has more rows than it may.
+    pub fn few(&self)
+        ensures { (n : List ℕ) → tally (is_of_node n) self.now ≤ max_rows }
+    {
+        let _lists = &self.lists;
     }
 
     /// How many rows a node has, each as often as it is counted.
@@ -66,101 +93,47 @@ impl NodeLists {
         ensures total { result ≡ tally (is_of_node node.now) self.now }
         ensures few { result ≤ max_rows }
     {
-        match self.lists.get(node) {
+        match self.get(node) {
             Some(list) => list.total(),
             None => 0,
         }
     }
 
     /// Puts rows of a node in.
-    pub fn join(&mut self, node: &NodeName, more: VecDeque<BoxedRow>) -> Result<(), OutOfMemory>
+    pub fn join(&mut self, node: &NodeName, more: Vec<Counted>) -> Result<(), OutOfMemory>
         requires list { IsNodeList node.now more.items }
+        requires rises { Rises counted_cmp more.items }
         requires few { tally (is_of_node node.now) self.old + tally (is_of_node node.now) more.items ≤ max_rows }
         ensures ok { OnOk result (Joins more.items self.old self.new) }
         ensures same { OnErr result (self.new ≡ self.old) }
     {
-        let alloc = self.alloc;
+        // Many beside none are put in at once.
+        if more.len() > 1 && self.total_of(node) == 0 {
+            return self.replace(node, more);
+        }
         let Some(list) = self.lists.get_mut(node) else {
-            return self.begin(node, more);
+            return self.replace(node, more);
         };
-        list.join(alloc, more)
+        list.join(&more)
     }
 
     /// Puts rows in place of those of a node.
-    pub fn replace(&mut self, node: &NodeName, rows: VecDeque<BoxedRow>) -> Result<(), OutOfMemory>
+    pub fn replace(&mut self, node: &NodeName, rows: Vec<Counted>) -> Result<(), OutOfMemory>
         requires list { IsNodeList node.now rows.items }
+        requires rises { Rises counted_cmp rows.items }
         ensures ok { OnOk result (Joins rows.items (without_node node.now self.old) self.new) }
         ensures same { OnErr result (self.new ≡ self.old) }
     {
-        let Some(list) = self.lists.get_mut(node) else {
-            return self.begin(node, rows);
-        };
-        list.replace(rows);
-        Ok(())
-    }
-
-    /// The first rows of a node.
-    fn begin(&mut self, node: &NodeName, rows: VecDeque<BoxedRow>) -> Result<(), OutOfMemory>
-        requires list { IsNodeList node.now rows.items }
-        requires first { of_node node.now self.old ≡ [] }
-        ensures ok { OnOk result (Joins rows.items self.old self.new) }
-        ensures same { OnErr result (self.new ≡ self.old) }
-    {
         let name = node.try_clone(self.alloc)?;
-        self.lists.insert(name, NodeList::of(rows))?;
+        let list = NodeRows::of(self.alloc, node.try_clone(self.alloc)?, rows)?;
+        self.lists.insert(name, list)?;
         Ok(())
     }
 
-    /// One less in the group for each mention of a process, as far as it is there. Answers how many the node loses, whose processes
-    /// most of them are.
-    pub fn leave(&mut self, group: &Group, pids: &[Pid], node: &NodeName) -> usize
-        ensures counts { Leaves group.now pids.now self.old self.new }
-        ensures total { tally (is_of_node node.now) self.new + result ≡ tally (is_of_node node.now) self.old }
-    {
-        let lost = self.leave_of(node, group, pids);
-        for pid in pids {
-            self.leave_other(group, pid, node);
-        }
-        lost
-    }
-
-    /// One less, if the process is another node's and in the group. Answers whether it is.
-    fn leave_other(&mut self, group: &Group, pid: &Pid, node: &NodeName) -> bool
-        ensures own { IsTrue (same pid.now.node node.now) → self.new ≡ self.old }
-        ensures other { same pid.now.node node.now ≡ false → Takes result (row_in group.now pid.now) self.old self.new }
-    {
-        if pid.node == *node {
-            return false;
-        }
-        self.leave_one(group, pid)
-    }
-
-    /// What `leave` does, to the processes of the node alone.
-    fn leave_of(&mut self, node: &NodeName, group: &Group, pids: &[Pid]) -> usize
-        ensures counts { LeavesOf node.now group.now pids.now self.old self.new }
-        ensures total { tally (is_of_node node.now) self.new + result ≡ tally (is_of_node node.now) self.old }
-    {
-        let Some(list) = self.lists.get_mut(node) else {
-            return 0;
-        };
-        list.leave(group, pids, node)
-    }
-
-    /// One less, if the process is in the group. Answers whether it is.
-    fn leave_one(&mut self, group: &Group, pid: &Pid) -> bool
-        ensures { Takes result (row_in group.now pid.now) self.old self.new }
-    {
-        let Some(list) = self.lists.get_mut(&pid.node) else {
-            return false;
-        };
-        list.take(group, pid)
-    }
-
-    /// Whether each of a node's rows stands among these at most as often as it is counted.
+    /// Whether each of a node's rows stands among these at most as often as it is counted. It takes no memory.
     pub fn are_all_in(&mut self, node: &NodeName, gone: &[Row]) -> bool
         requires { All (λ r. r.pid.node ≡ node.now) gone.now }
         ensures value { result ≡ are_all_in self.old gone.now }
-        ensures fit { IsTrue result → HasRoomFor gone.now [] }
         ensures same { self.new ≡ self.old }
     {
         let Some(list) = self.lists.get_mut(node) else {
@@ -169,34 +142,42 @@ impl NodeLists {
         list.are_all_in(gone)
     }
 
-    /// One less for each of a node's rows.
-    pub fn take_rows(&mut self, node: &NodeName, gone: &[Row])
-        requires own { All (λ r. r.pid.node ≡ node.now) gone.now }
-        requires counted { IsTrue (are_all_in self.old gone.now) }
-        ensures { Adds gone.now self.new self.old }
+    /// Takes a row away, as often as it is counted here. Answers whether its node has none of its group any more.
+    pub fn take(&mut self, gone: &Counted) -> bool
+        requires some { 0 < gone.now.count }
+        requires counted { gone.now.count ≤ tally (is_row gone.now.row.group gone.now.row.pid) self.old }
+        ensures taken { Joins (gone.now ∷ []) self.new self.old }
+        ensures last { result ≡ not (has_members gone.now.row.group gone.now.row.pid.node self.new) }
     {
-        let Some(list) = self.lists.get_mut(node) else {
-            return;
+        let Some(list) = self.lists.get_mut(&gone.row.pid.node) else {
+            return true;
         };
-        list.take_rows(gone);
+        list.take(gone);
+        !list.rows().has_group(&gone.row.group)
     }
 
-    /// Takes all rows of a process away, which are so many.
-    pub fn remove_process(&mut self, pid: &Pid, gone: usize)
-        requires { gone ≡ tally (λ r. same_pid r.pid pid.now) (of_node pid.now.node self.old) }
-        ensures { self.new ≡ filter (λ c. not (same_pid c.row.pid pid.now)) self.old }
+    /// Takes one of the rows of a process out. Answers it, and whether its node has none of its group any more.
+    pub fn pop_of(&mut self, pid: &Pid) -> Option<(Counted, bool)>
+        ensures gone { IfSome result (λ r. Joins (r.0 ∷ []) self.new self.old) }
+        ensures process { IfSome result (λ r. r.0.row.pid ≡ pid.now) }
+        ensures last { IfSome result (λ r. r.1 ≡ not (has_members r.0.row.group pid.now.node self.new)) }
+        ensures fewer { IfSome result (λ r. length self.new < length self.old) }
+        ensures none { IfNone result (tally (λ r. same_pid r.pid pid.now) self.old ≡ 0) }
+        ensures same { IfNone result (self.new ≡ self.old) }
     {
-        let Some(list) = self.lists.get_mut(&pid.node) else {
-            return;
-        };
-        list.remove_process(pid, gone);
+        let list = self.lists.get_mut(&pid.node)?;
+        let gone = list.pop_of(pid)?;
+        let is_last = !list.rows().has_group(&gone.row.group);
+        Some((gone, is_last))
     }
 
-    /// Takes all rows of a node away.
-    pub fn remove_node(&mut self, node: &NodeName)
-        ensures { self.new ≡ without_node node.now self.old }
+    /// Takes all rows of a node away, and gives them back.
+    pub fn remove_node(&mut self, node: &NodeName) -> Option<NodeRows>
+        ensures rest { self.new ≡ without_node node.now self.old }
+        ensures gone { IfSome result (λ list. (list.node ≡ node.now) × (list.rows ≡ of_node node.now self.old)) }
+        ensures none { IfNone result (of_node node.now self.old ≡ []) }
     {
-        self.lists.shift_remove(node);
+        self.lists.shift_remove(node)
     }
 
     /// Takes all rows away.

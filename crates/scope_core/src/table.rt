@@ -8,11 +8,11 @@ ghost use Rattle.scope_core.specs.Calls.{Counts, is_any_joined, no_count, count_
 
 use crate::changes::{changes_joined, changes_left, changes_of, in_order, one_change, rows_in};
 use crate::fault::TableFault;
-use crate::incoming::{beyond, counted_of, counted_rows};
+use crate::incoming::{beyond, counted_rows};
 use crate::indexed_rows::IndexedRows;
 use crate::leaving::{all_gone, gone_of};
 use crate::listings::Listings;
-use crate::reads::{groups_of, in_group, pids_of, rows_of, rows_of_process};
+use crate::reads::{groups_of, rows_of};
 use dist_types::{Group, GroupChange, NodeName, OutOfMemory, Pid, Row, Shared, TryClone};
 use std::alloc::Global;
 use std::marker::Model;
@@ -85,9 +85,9 @@ impl ScopeTable {
         if pids.len() > ScopeTable::MAX_ROWS - self.own_rows {
             return Err(TableFault::RowsFull);
         }
-        let fresh = rows_in(self.alloc, group, pids)?;
-        let counted = counted_of(self.alloc, fresh)?;
         let sorted = in_order(self.alloc, pids)?;
+        let fresh = rows_in(self.alloc, group, &sorted)?;
+        let counted = counted_rows(self.alloc, &fresh)?;
         let changes = one_change(self.alloc, group, Vec::new(self.alloc), sorted)?;
         self.rows.join(&self.own, counted, &changes)?;
         self.listings.forget_changed(&changes);
@@ -107,14 +107,33 @@ impl ScopeTable {
         ensures only { OnOk result (IsTrue (is_any_joined self.old group.now pids.now)) }
         ensures same { OnErr result (self.new ≡ self.old) }
     {
-        if !self.rows.is_any_in(group, pids) {
+        let left = self.gone(group, pids)?;
+        if left.is_empty() {
             return Err(TableFault::NotJoined);
         }
-        let left = gone_of(self.alloc, &self.rows, group, pids)?;
+        self.rows.few();
+        let rows = rows_in(self.alloc, group, &left)?;
+        let gone = counted_rows(self.alloc, &rows)?;
         let changes = one_change(self.alloc, group, left, Vec::new(self.alloc))?;
-        self.own_rows -= self.rows.leave(group, pids, &self.own);
+        self.rows.take_rows(&gone);
         self.listings.forget_changed(&changes);
+        self.own_rows = self.rows.total_of(&self.own);
         Ok(changes)
+    }
+
+    /// Who leaves where these are to leave. Want of memory comes last: where nobody is in the group, that is the answer.
+    fn gone(&self, group: &Group, pids: &[Pid]) -> Result<Vec<Pid>, TableFault>
+        ensures value { IfOk result (λ gone. IsPidListing (λ p. min (mentions p pids.now) (count_of self.now group.now p)) gone.items) }
+        ensures refused { IfErr result (IsLeaveFault self.now group.now pids.now) }
+    {
+        match gone_of(self.alloc, &self.rows, group, pids) {
+            Ok(left) => Ok(left),
+            Err(_) => Err(if self.rows.is_any_in(group, pids) {
+                TableFault::OutOfMemory
+            } else {
+                TableFault::NotJoined
+            }),
+        }
     }
 
     /// These are the rows of the peer's processes, in place of those that it had.
@@ -127,17 +146,20 @@ impl ScopeTable {
         ensures limits { OnOk result (length rows.now ≤ max_rows) }
         ensures same { OnErr result (self.new ≡ self.old) }
     {
-        let held = self.rows.of_node(peer);
         // Where there are none to replace, they only join.
-        if held.is_empty() {
+        if self.rows.total_of(peer) == 0 {
             return self.join_remote(peer, rows);
         }
         if rows.len() > ScopeTable::MAX_ROWS {
             return Err(TableFault::RowsFull);
         }
+        if self.rows.are_just(peer, rows) {
+            return Ok(Vec::new(self.alloc));
+        }
+        let held = self.rows.in_order(self.alloc, peer)?;
         let counted = counted_rows(self.alloc, rows)?;
-        let left = beyond(self.alloc, held, &counted)?;
-        let joined = beyond(self.alloc, &counted, held)?;
+        let left = beyond(self.alloc, &held, &counted)?;
+        let joined = beyond(self.alloc, &counted, &held)?;
         let changes = changes_of(self.alloc, &left, &joined)?;
         if changes.is_empty() {
             return Ok(changes);
@@ -190,9 +212,10 @@ impl ScopeTable {
         if !self.rows.are_all_in(peer, rows) {
             return Err(TableFault::NotListed);
         }
+        self.rows.few();
         let counted = counted_rows(self.alloc, rows)?;
         let changes = changes_left(self.alloc, &counted)?;
-        self.rows.take_rows(peer, rows, &changes);
+        self.rows.take_listed(peer, rows, &counted);
         self.listings.forget_changed(&changes);
         self.own_rows -= share_of(&self.own, peer, rows.len());
         Ok(changes)
@@ -202,9 +225,9 @@ impl ScopeTable {
     pub fn exit(&mut self, pid: &Pid)
         ensures { Counts self.old self.new (count_after_exit self.old pid.now) }
     {
-        self.listings
-            .forget_process(self.rows.of_node(&pid.node), pid);
-        self.rows.remove_process(pid);
+        while let Some(gone) = self.rows.pop_of(pid) {
+            self.listings.forget(&gone.row.group);
+        }
         self.own_rows = self.rows.total_of(&self.own);
     }
 
@@ -213,7 +236,7 @@ impl ScopeTable {
         ensures change { IfOk result (λ changes. IsDifference (count_of self.now) (count_after_exit self.now pid.now) changes.items) }
         ensures limits { local_total self.now ≤ max_rows }
     {
-        let rows = rows_of_process(self.alloc, self.rows.of_node(&pid.node), pid)?;
+        let rows = self.rows.of_process(self.alloc, pid)?;
         let changes = changes_left(self.alloc, &rows)?;
         Ok(changes)
     }
@@ -223,8 +246,10 @@ impl ScopeTable {
     pub fn drop_peer(&mut self, peer: &NodeName)
         ensures { Counts self.old self.new (count_after_drop self.old peer.now) }
     {
-        self.listings.forget_rows(self.rows.of_node(peer));
-        self.rows.remove_node(peer);
+        let Some(gone) = self.rows.remove_node(peer) else {
+            return;
+        };
+        self.listings.forget_rows(gone.rows());
         self.own_rows -= share_of(&self.own, peer, self.own_rows);
     }
 
@@ -232,7 +257,7 @@ impl ScopeTable {
     pub fn drop_change(&self, peer: &NodeName) -> Result<Vec<GroupChange>, OutOfMemory>
         ensures { IfOk result (λ changes. IsDifference (count_of self.now) (count_after_drop self.now peer.now) changes.items) }
     {
-        let changes = changes_left(self.alloc, self.rows.of_node(peer))?;
+        let changes = self.rows.all_left(self.alloc, peer)?;
         Ok(changes)
     }
 
@@ -296,8 +321,8 @@ impl ScopeTable {
         ensures value { IfOk result (λ pids. IsPidListing (local_count self.now group.now) pids.items) }
         ensures limits { IfOk result (λ pids. length pids.items ≤ max_rows) }
     {
-        let own = self.rows.of_node(&self.own);
-        let pids = pids_of(self.alloc, in_group(own, group))?;
+        let mut pids = Vec::new(self.alloc);
+        self.rows.push_members(&mut pids, &self.own, group)?;
         Ok(pids)
     }
 
@@ -336,7 +361,8 @@ impl ScopeTable {
     pub fn local_groups(&self) -> Result<Vec<Group>, OutOfMemory>
         ensures { IfOk result (λ groups. IsGroupListing (local_count self.now) groups.items) }
     {
-        let groups = groups_of(self.alloc, self.rows.of_node(&self.own))?;
+        let held = self.rows.in_order(self.alloc, &self.own)?;
+        let groups = groups_of(self.alloc, &held)?;
         Ok(groups)
     }
 
@@ -345,7 +371,8 @@ impl ScopeTable {
         ensures value { IfOk result (λ rows. IsRowListing (local_count self.now) rows.items) }
         ensures limits { IfOk result (λ rows. length rows.items ≤ max_rows) }
     {
-        let rows = rows_of(self.alloc, self.rows.of_node(&self.own))?;
+        let held = self.rows.in_order(self.alloc, &self.own)?;
+        let rows = rows_of(self.alloc, &held)?;
         Ok(rows)
     }
 }

@@ -1,5 +1,5 @@
 use Rattle.node_core.proofs.Words.{◌∙◌, wide, shown_numbers}
-use Rattle.scope_core.proofs.NodeLists.{on_err}
+use Rattle.scope_core.proofs.Outcomes.{on_err}
 use Rattle.node_core.proofs.Told.{forgotten, prepared_told}
 use Rattle.node_core.proofs.scoping.tell_shown.Goals as goal
 

@@ -1,7 +1,7 @@
 use Rattle.node_core.proofs.Words.{ap, arith, eqb-true, sym, vec_len, ◌∙◌, wide, exit_frames, rows_left, said_to, Message}
 use Rattle.std.proofs.lemmas.List.{nil_from_length}
 use Rattle.node_core.proofs.RowsGone.{few_left}
-use Rattle.scope_core.proofs.NodeLists.{on_err}
+use Rattle.scope_core.proofs.Outcomes.{on_err}
 use Rattle.node_core.proofs.Told.{forgot_bare, prepared_among, prepared_none}
 use Rattle.node_core.proofs.telling.exit_one.Goals.{then-not-is_empty+in_ok-rows_left+in_ok-try_clone+in_ok-told}
 use Rattle.node_core.proofs.telling.exit_one.Goals.{else-not-is_empty}

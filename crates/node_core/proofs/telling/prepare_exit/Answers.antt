@@ -2,7 +2,7 @@ use Rattle.node_core.proofs.Words.{append-nil, arith, cond, not, refl, subst, sy
 use Rattle.node_core.proofs.Words.{exit_frames, take_more, AreExits}
 use Rattle.node_core.proofs.Exited.{exits_on}
 use Rattle.node_core.proofs.Partings.{none_by}
-use Rattle.scope_core.proofs.NodeLists.{on_err}
+use Rattle.scope_core.proofs.Outcomes.{on_err}
 use Rattle.node_core.proofs.Told.{prepared_bare}
 use Rattle.node_core.proofs.telling.prepare_exit.Goals.{then-not-is_empty+in_ok-try_clone+in_ok-push, else-not-is_empty}
 use Rattle.node_core.proofs.telling.prepare_exit.Goals as goal

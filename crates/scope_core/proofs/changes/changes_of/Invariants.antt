@@ -1,6 +1,15 @@
-use Rattle.scope_core.proofs.Words.{◌≡◌, map, take, moving}
+use Rattle.scope_core.proofs.Words.{◌+◌, ◌++◌, List, length, Rises, counted_cmp, GroupChange}
+use Rattle.scope_core.proofs.Told.{Told}
 use Rattle.scope_core.proofs.changes.changes_of.Given as goal
 
--- the changes of the groups so far
+-- with what is told of the rows to come, all is told
 abbrev pub invariant-loop-group : goal.invariant-loop-group
-invariant-loop-group l = l.changes.items ≡ map (moving l.gone.items l.joined.items) (take l.group-index l.group-items)
+invariant-loop-group l = record {
+  left : Rises counted_cmp l.left;
+  more : Rises counted_cmp l.more;
+  told : (rest : List GroupChange) → Told l.left l.more rest
+      → Told l.gone l.joined (l.changes.items ++ rest);
+}
+
+abbrev pub decreases-loop-group : goal.decreases-loop-group
+decreases-loop-group l = length l.left + length l.more

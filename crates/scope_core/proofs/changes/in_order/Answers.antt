@@ -1,7 +1,10 @@
-use Rattle.scope_core.proofs.Words.{subst, pid_cmp, same_pid, mentions, IsPidListing, pids_total, sorted_listing}
+use Rattle.scope_core.proofs.Words.{subst, pid_cmp, same_pid, mentions, IsPidListing, pids_total}
+use Rattle.scope_core.proofs.Words.{sorted_listing}
 use Rattle.scope_core.proofs.changes.in_order.Goals as goal
 
 pub returns : goal.returns
 returns c =
-    subst (λ ps. IsPidListing (λ p. mentions p ps) c.sort_unstable.new.self.items) c.in_ok-copies.ensures
-    (sorted_listing pid_cmp same_pid pids_total _ _ c.sort_unstable.ensures.permutation c.sort_unstable.ensures.sorted)
+    subst (λ ps. IsPidListing (λ p. mentions p ps) c.sort_unstable.new.self.items)
+    c.in_ok-copies.ensures
+    (sorted_listing pid_cmp same_pid pids_total _ _ c.sort_unstable.ensures.permutation
+    c.sort_unstable.ensures.sorted)

@@ -3,4 +3,6 @@ use Rattle.scope_core.proofs.group_nodes.add.Goals as goal
 
 pub returns-in-Ok-clause-ok : goal.returns-in-Ok-clause-ok
 returns-in-Ok-clause-ok c =
-    stands c.args.node.now c.args.nodes.now.items c.in-Ok.field-0 (rw c.deref.ensures.value at c.in-Ok.ensures.bound) (rw c.deref.ensures.value at c.in-Ok.ensures.found) c.requires
+    stands c.args.node.now c.args.nodes.now.items c.in-Ok.field-0
+    (rw c.deref.ensures.value at c.in-Ok.ensures.bound)
+    (rw c.deref.ensures.value at c.in-Ok.ensures.found) c.requires

@@ -1,4 +1,5 @@
-use Rattle.scope_core.proofs.Words.{arith, ap, sym, subst, ◌∙◌, ◌+◌, ◌++◌, min, Pid, pid_cmp, Ascends, mentions, tally, is_row}
+use Rattle.scope_core.proofs.Words.{arith, ap, sym, subst, ◌∙◌, ◌+◌, ◌++◌, min, Pid, pid_cmp}
+use Rattle.scope_core.proofs.Words.{Ascends, mentions, tally, is_row}
 use Rattle.scope_core.proofs.Mentioned.{ascends_on, counts_on}
 use Rattle.scope_core.proofs.leaving.gone_in_order.Goals as goal
 
@@ -13,9 +14,12 @@ loop-pid-preserved c =
     let run = c.run_of-again.ensures.run in
     rw (c.in_ok-push_copies.ensures, c.split_at.ensures.back)
     (record {
-      order = ascends_on q n ps run gone c.min.result (omega (arith, c.min.ensures)) (subst (λ xs. Ascends pid_cmp (gone ++ xs)) first c.loop-pid.invariant.order);
+      order =
+          ascends_on q n ps run gone c.min.result (omega (arith, c.min.ensures))
+          (subst (λ xs. Ascends pid_cmp (gone ++ xs)) first c.loop-pid.invariant.order);
       counts = λ p.
-          counts_on q n ps run c.run_of-again.ensures.all count gone c.min.result (c.min.ensures ∙ ap (λ k. min k (n + 1)) c.count_next-count.ensures) p
+          counts_on q n ps run c.run_of-again.ensures.all count gone c.min.result
+          (c.min.ensures ∙ ap (λ k. min k (n + 1)) c.count-count.ensures) p
           ∙ ap (λ xs. mentions p gone + min (mentions p xs) (count p)) (sym first)
           ∙ c.loop-pid.invariant.counts p;
     })

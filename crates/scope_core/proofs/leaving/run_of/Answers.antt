@@ -7,5 +7,12 @@ returns c =
     let q = c.args.pid.now in
     let ps = c.args.pids.now in
     let bound = c.partition_point.ensures.bound in
-    let point = IsPartitionPoint-from_clause (λ x. same_pid x q) ps _ c.partition_point.ensures.partitioned (run_partitions q ps c.requires) (λ a r f' k. search rules) in
-    record { bound = bound; run = front_is q _ ps bound point.0; all = front_counts q _ ps bound point.0 point.1 }
+    let point =
+    IsPartitionPoint-from_clause (λ x. same_pid x q) ps _ c.partition_point.ensures.partitioned
+    (run_partitions q ps c.requires) (λ a r f' k. search rules) in
+    record {
+      bound = bound;
+      run = front_is q _ ps bound point.0;
+      all =
+          front_counts q _ ps bound point.0 point.1;
+    }

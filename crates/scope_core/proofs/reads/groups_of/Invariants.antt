@@ -1,7 +1,9 @@
+use Rattle.scope_core.proofs.Words.{drop}
 use Rattle.scope_core.proofs.Words.{◌≡◌, ◌++◌, None, heads, last_of}
-use Rattle.std.specs.VecDeque.Iter.{deque_iter_rest}
 use Rattle.scope_core.proofs.reads.groups_of.Given as goal
 
 -- the groups so far, and those of the rows to come, are all
 abbrev pub invariant-loop-counted : goal.invariant-loop-counted
-invariant-loop-counted l = l.groups.items ++ heads (last_of l.groups.items) (deque_iter_rest l.counted-iterator) ≡ heads None l.rows.items
+invariant-loop-counted l =
+    l.groups.items ++ heads (last_of l.groups.items) (drop l.counted-index l.rows)
+    ≡ heads None l.rows

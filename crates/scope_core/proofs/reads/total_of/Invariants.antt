@@ -1,7 +1,8 @@
+use Rattle.scope_core.proofs.Words.{drop}
 use Rattle.scope_core.proofs.Words.{◌≡◌, ◌+◌, total}
-use Rattle.std.specs.VecDeque.Iter.{deque_iter_rest}
 use Rattle.scope_core.proofs.reads.total_of.Given as goal
 
 -- the total so far, and that of the rows to come
 abbrev pub invariant-loop-counted : goal.invariant-loop-counted
-invariant-loop-counted l = l.total + total (λ c. c.count) (deque_iter_rest l.counted-iterator) ≡ total (λ c. c.count) l.rows.items
+invariant-loop-counted l =
+    l.total + total (λ c. c.count) (drop l.counted-index l.rows) ≡ total (λ c. c.count) l.rows

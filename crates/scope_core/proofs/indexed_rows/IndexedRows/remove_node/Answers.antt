@@ -1,7 +1,30 @@
-use Rattle.scope_core.proofs.Indexed.{dropped}
+use Rattle.scope_core.proofs.Words.{◌∙◌, ap, sym, subst, refl, arith, cond, has_members, ◌≤◌}
+use Rattle.scope_core.specs.HashedRows.{NodeTable}
 use Rattle.scope_core.specs.GroupNodes.{times_named}
+use Rattle.scope_core.proofs.Indexed.{dropped}
 use Rattle.scope_core.proofs.indexed_rows.IndexedRows.remove_node.Goals as goal
 
 pub invariant_of-self : goal.invariant_of-self
 invariant_of-self c =
-    rw c.remove_node.ensures (dropped c.args.node.now c.self.inside.lists c.of_node.result.now.items (times_named c.self.inside.index) (times_named c.unname.new.index) c.of_node.ensures.rows c.self.invariant c.unname.ensures)
+    let n = c.args.node.now in
+    let named = times_named c.self.inside.index in
+    let none = c.in_err-gone.ensures.none in
+    rw c.remove_node.ensures.rest
+    (dropped n c.self.inside.lists _ named named (sym none) c.self.invariant (λ g m e. refl)
+    (λ g. omega arith))
+
+pub invariant_of-self-2 : goal.invariant_of-self-2
+invariant_of-self-2 c =
+    let n = c.args.node.now in
+    let gone = c.in_ok-gone.gone in
+    let named = times_named c.self.inside.index in
+    let left = times_named c.unname.new.index in
+    let table = c.rows.ensures.rows in
+    let node = ap (λ (t : NodeTable). t.node) table ∙ c.in_ok-gone.ensures.gone.0 in
+    let own = λ (g : _). subst
+    (λ m. left g n ≤ cond (has_members g m c.rows.result.now.rows) 0 (named g n)) node
+    (c.unname.ensures.own g) in
+    let rows = ap (λ (t : NodeTable). t.rows) table ∙ c.in_ok-gone.ensures.gone.1 in
+    rw c.remove_node.ensures.rest
+    (dropped n c.self.inside.lists c.rows.result.now.rows named left rows c.self.invariant
+    c.unname.ensures.others own)

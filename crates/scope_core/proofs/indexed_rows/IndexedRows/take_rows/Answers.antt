@@ -1,13 +1,32 @@
-use Rattle.scope_core.proofs.Indexed.{settled_less, taken_less, covers_taken, taken_others}
-use Rattle.scope_core.specs.GroupNodes.{times_named}
+use Rattle.scope_core.proofs.Words.{◌<◌, ◌≤◌, sym, subst, arith, tally, is_row, take_all, length}
+use Rattle.scope_core.proofs.Words.{Counted}
+use Rattle.scope_core.proofs.Runs.{all_at}
+use Rattle.scope_core.proofs.Tallies.{tally_take}
+use Rattle.scope_core.proofs.GoneRows.{none_before}
 use Rattle.scope_core.proofs.indexed_rows.IndexedRows.take_rows.Goals as goal
 
-pub invariant_of-self : goal.invariant_of-self
-invariant_of-self c =
-    let n = c.args.node.now in
-    let cs = c.args.changes.now in
+pub take-requires-clause-counted : goal.take-requires-clause-counted
+take-requires-clause-counted c =
     let gone = c.args.gone.now in
-    let was = c.self.inside.lists in
-    let now = c.take_rows.new.self in
-    settled_less cs n was now (times_named c.self.inside.index) (times_named c.settle_all.new.index) c.self.invariant c.settle_all.ensures (taken_less n gone was now c.take_rows.ensures)
-    (covers_taken n gone was now c.take_rows.ensures cs c.requires.changes) (taken_others n gone was now c.take_rows.ensures c.requires.own)
+    let i = c.loop-counted.counted-index in
+    let x = c.counted-item.result in
+    let within : i < length gone = omega (arith, c.loop-counted-test.true) in
+    let some = subst
+    (λ (y : Counted). y.count ≤ tally (is_row y.row.group y.row.pid) c.args.self.now)
+    (sym c.counted-item.is)
+    (all_at (λ y. y.count ≤ tally (is_row y.row.group y.row.pid) c.args.self.now) gone i x
+    c.requires.counted within) in
+    let before = none_before gone i x within c.counted-item.is c.requires.kept.rises in
+    omega (arith, some, before, c.loop-counted.invariant (is_row x.row.group x.row.pid))
+
+pub loop-counted-preserved : goal.loop-counted-preserved
+loop-counted-preserved c = λ test.
+    let so_far = c.loop-counted.invariant test in
+    let taken = c.take.ensures test in
+    let next = tally_take test c.args.gone.now c.loop-counted.counted-index c.counted-item.result
+    (omega (arith, c.loop-counted-test.true)) c.counted-item.is in
+    grind (arith, so_far, taken, next)
+
+pub returns : goal.returns
+returns c = rw (← take_all c.loop-counted.counted-index c.args.gone.now c.loop-counted-test.false)
+    c.loop-counted.invariant

@@ -1,13 +1,26 @@
-use Rattle.scope_core.proofs.Words.{subst, same, is_in}
-use Rattle.std.specs.VecDeque.Iter.{deque_iter_rest}
-use Rattle.scope_core.specs.Kept.{Forgets}
-use Rattle.scope_core.proofs.Kept.{forgets_next, forgets_end}
+use Rattle.scope_core.proofs.Words.{◌≡◌, ◌∙◌, ap, arith, true, has_members, length, list_any, same}
+use Rattle.scope_core.proofs.Words.{List, ℕ}
+use Rattle.scope_core.proofs.Kept.{forgets_next, forgets_end, still_listed}
+use Rattle.scope_core.proofs.Indexed.{got_named}
 use Rattle.scope_core.proofs.listings.Listings.forget_rows.Goals as goal
 
-pub loop-counted-preserved : goal.loop-counted-preserved
-loop-counted-preserved c =
-    forgets_next (is_in) c.args.rows.now.items c.args.self.now c.in-Some.counted.now (deque_iter_rest c.next.new.self) (deque_iter_rest c.loop-counted.counted-iterator) c.loop-counted.self c.forget.new.self
-    c.in-Some.ensures.steps c.loop-counted.invariant (subst (λ r. Forgets (λ g. same r.group g) c.loop-counted.self c.forget.new.self) c.row.ensures c.forget.ensures)
+pub loop-group-preserved : goal.loop-group-preserved
+loop-group-preserved c =
+    forgets_next (λ g e. same e.0 g) c.into_iter-group-iterator.result c.args.self.now
+    (c.in-Some.group.now, c.in-Some.field-0-1.now) c.next.new.self c.loop-group.group-iterator
+    c.loop-group.self c.forget.new.self c.in-Some.ensures.steps c.loop-group.invariant
+    c.forget.ensures
 
 pub returns : goal.returns
-returns c = forgets_end (is_in) c.args.rows.now.items c.args.self.now (deque_iter_rest c.loop-counted.counted-iterator) c.loop-counted.self c.in-None.ensures.steps.0 c.loop-counted.invariant
+returns c = λ before after listed stays.
+    let all = c.into_iter-group-iterator.result in
+    let start = c.into_iter-group-iterator.ensures.into_iter_gives
+    ∙ c.iter-group-items.ensures.rest in
+    let got = λ (g : List ℕ) (h : has_members g c.args.rows.now.node c.args.rows.now.rows ≡ true).
+    ap (list_any (λ e. same e.0 g)) start
+    ∙ got_named g c.groups.result.now.entries (c.groups.ensures g h) in
+    let forgot = forgets_end (λ g e. same e.0 g) all c.args.self.now c.loop-group.group-iterator
+    c.loop-group.self (ap length c.in-None.ensures.steps.0) c.loop-group.invariant in
+    still_listed c.args.self.now c.loop-group.self before after listed
+    (λ g. list_any (λ e. same e.0 g) all) forgot
+    (λ g e. stays g (grind (arith, got g, e)))

@@ -1,8 +1,8 @@
-use Rattle.scope_core.proofs.Words.{is_in}
+use Rattle.scope_core.proofs.Words.{same}
 use Rattle.scope_core.proofs.Kept.{Forgetting}
-use Rattle.std.specs.VecDeque.Iter.{deque_iter_rest}
 use Rattle.scope_core.proofs.listings.Listings.forget_rows.Given as goal
 
--- once those of the rows to come are forgotten, those of all rows are
-abbrev pub invariant-loop-counted : goal.invariant-loop-counted
-invariant-loop-counted l = Forgetting (is_in) l.rows.items (deque_iter_rest l.counted-iterator) l.fn.self l.self
+-- once the lists of the groups to come are forgotten too, those of all are
+abbrev pub invariant-loop-group : goal.invariant-loop-group
+invariant-loop-group l =
+    Forgetting (λ g e. same e.0 g) l.initial.group-iterator l.group-iterator l.fn.self l.self

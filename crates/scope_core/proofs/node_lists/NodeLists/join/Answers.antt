@@ -1,40 +1,76 @@
-use Rattle.scope_core.proofs.Words.{ap, sym, subst, ◌∙◌, ◌+◌, ◌≤◌, tally, is_of_node}
-use Rattle.scope_core.proofs.NodeLists.{no_list, list_found, lists_set, joined_or_not, set_joins, list_fits, set_same, err_then}
-use Rattle.scope_core.proofs.Calls.{ok_then}
-use Rattle.scope_core.specs.NodeLists.{all_rows, AreNodeLists}
+use Rattle.scope_core.proofs.Words.{◌≡◌, ◌∙◌, ◌+◌, ap, sym, subst, arith, ◌≤◌, tally, is_of_node}
+use Rattle.scope_core.proofs.Words.{without_node, Row, max_rows}
+use Rattle.scope_core.proofs.Outcomes.{ok_then, err_then}
+use Rattle.scope_core.specs.HashedRows.{NodeTable}
+use Rattle.scope_core.specs.NodeLists.{all_rows, rows_by_node, IsNodeList, AreNodeLists}
+use Rattle.scope_core.proofs.NodeTables.{table_node, none_without, table_fits, tables_set}
+use Rattle.scope_core.proofs.NodeTables.{tables_tally, tables_same}
+use Rattle.scope_core.proofs.Rising.{tally_others}
 use Rattle.scope_core.proofs.node_lists.NodeLists.join.Goals as goal
 
-pub begin-requires-clause-first : goal.begin-requires-clause-first
-begin-requires-clause-first c =
-    rw c.get_mut.follows.holds-at-none (no_list c.args.node.now c.self.inside.lists.entries c.self.invariant (sym c.in_default.ensures.value))
+pub returns-then-total_of-eq0-clause-ok : goal.returns-then-total_of-eq0-clause-ok
+returns-then-total_of-eq0-clause-ok c =
+    let n = c.args.node.now in
+    let none = sym c.total_of.ensures.total ∙ c.if-total_of-eq0.true in
+    ok_then c.replace.result (λ joins (test : Row → _).
+    let others = tally_others n test c.args.self.now none in
+    let all = joins test in omega (arith, others, all)) c.replace.ensures.ok
 
-pub join-requires-clause-kept : goal.join-requires-clause-kept
-join-requires-clause-kept c = (list_found c.args.node.now c.self.inside.lists.entries c.in-Some.list.now c.self.invariant (sym c.in-Some.ensures.value)).kept
+pub returns-in_default-clause-ok : goal.returns-in_default-clause-ok
+returns-in_default-clause-ok c =
+    let n = c.args.node.now in
+    let es = c.self-2.inside.lists.entries in
+    let stay = none_without n es c.self-2.invariant (sym c.in_default.ensures.value) in
+    let was = ap (λ (m : _). without_node n (all_rows (rows_by_node m.entries)))
+    c.get_mut.follows.holds-at-none ∙ stay ∙ c.self-2.view_is in
+    ok_then c.replace-in_default.result (λ joins (test : Row → _). rw was at (joins test)) c.replace-in_default.ensures.ok
+
+pub join-requires-clause-list : goal.join-requires-clause-list
+join-requires-clause-list c =
+    let mine = table_node c.args.node.now c.self-2.inside.lists.entries c.in-Some.list.now
+    c.self-2.invariant.each (sym c.in-Some.ensures.value) in
+    rw c.deref.ensures.value
+    (subst (λ k. IsNodeList k c.args.more.items) (sym mine) c.requires.list)
 
 pub join-requires-clause-few : goal.join-requires-clause-few
 join-requires-clause-few c =
     let n = c.args.node.now in
     let more = c.args.more.items in
-    let few = subst (λ rows. tally (is_of_node n) rows + tally (is_of_node n) more ≤ 4096) (sym c.self.view_is) c.requires.few in
-    list_fits n c.self.inside.lists.entries c.in-Some.list.now (sym c.in-Some.ensures.value) more c.self.invariant c.requires.list few
+    let few = subst (λ rows. tally (is_of_node n) rows + tally (is_of_node n) more ≤ max_rows)
+    (sym c.self-2.view_is) c.requires.few in
+    rw c.deref.ensures.value
+    (table_fits n c.self-2.inside.lists.entries c.in-Some.list.now more c.self-2.invariant
+    (sym c.in-Some.ensures.value) c.requires.list few)
 
 pub invariant_of-self-2 : goal.invariant_of-self-2
 invariant_of-self-2 c =
     let n = c.args.node.now in
-    let es = c.self.inside.lists.entries in
-    let v = c.in-Some.list.now in
+    let es = c.self-2.inside.lists.entries in
     let w = c.join.new.self in
-    let list = list_found n es v c.self.invariant (sym c.in-Some.ensures.value) in
-    let joined = joined_or_not n c.join.result v c.args.more.items w list c.requires.list c.join.ensures.ok c.join.ensures.same c.join.ensures.kept in
-    subst AreNodeLists (sym (c.get_mut.follows.holds w).0) (lists_set n es w c.self.invariant joined)
+    let mine = c.join.ensures.node
+    ∙ table_node n es c.in-Some.list.now c.self-2.invariant.each (sym c.in-Some.ensures.value) in
+    subst AreNodeLists (sym (c.get_mut.follows.holds w).0)
+    (tables_set n es w c.self-2.invariant mine
+    (subst (λ k. IsNodeList k w.rows) mine c.join.ensures.list))
 
 pub returns-clause-ok : goal.returns-clause-ok
 returns-clause-ok c =
-    let es = c.self.inside.lists.entries in
     let w = c.join.new.self in
-    ok_then c.join.result (λ joins test. rw (← c.self.view_is) (ap (λ ls. tally test (all_rows ls)) (c.get_mut.follows.holds w).0 ∙ set_joins c.args.node.now es c.in-Some.list.now (sym c.in-Some.ensures.value) w c.args.more.items joins test)) c.join.ensures.ok
+    let found = sym c.in-Some.ensures.value in
+    ok_then c.join.result (λ joins test.
+    let all = tables_tally c.args.node.now c.self-2.inside.lists.entries c.in-Some.list.now w found
+    test in
+    let new = ap (λ es. tally test (all_rows (rows_by_node es))) (c.get_mut.follows.holds w).0 in
+    let more = joins test
+    ∙ ap (λ rows. tally test c.in-Some.list.now.rows + tally test rows) c.deref.ensures.value in
+    rw (← c.self-2.view_is) (omega (arith, all, new, more)))
+    c.join.ensures.ok
 
 pub returns-clause-same : goal.returns-clause-same
 returns-clause-same c =
     let w = c.join.new.self in
-    err_then c.join.result (λ same. ap all_rows (c.get_mut.follows.holds w).0 ∙ set_same c.args.node.now c.self.inside.lists.entries c.in-Some.list.now w (sym c.in-Some.ensures.value) same ∙ c.self.view_is) c.join.ensures.same
+    err_then c.join.result (λ (same : w ≡ c.in-Some.list.now).
+    ap (λ es. all_rows (rows_by_node es)) (c.get_mut.follows.holds w).0
+    ∙ tables_same c.args.node.now c.self-2.inside.lists.entries c.in-Some.list.now w
+    (sym c.in-Some.ensures.value) (ap (λ (t : NodeTable). t.rows) same) ∙ c.self-2.view_is)
+    c.join.ensures.same

@@ -1,11 +1,30 @@
-use Rattle.scope_core.proofs.Words.{ap, ◌∙◌}
-use Rattle.scope_core.proofs.NodeLists.{lists_removed, removed_rows}
-use Rattle.scope_core.specs.NodeLists.{all_rows}
+use Rattle.scope_core.proofs.Words.{◌∙◌, ap, sym}
+use Rattle.scope_core.proofs.Outcomes.{some_then, none_then}
+use Rattle.scope_core.specs.NodeLists.{of_node}
+use Rattle.scope_core.proofs.NodeTables.{table_node, table_rows, no_table, tables_removed}
+use Rattle.scope_core.proofs.NodeTables.{rows_removed}
 use Rattle.scope_core.proofs.node_lists.NodeLists.remove_node.Goals as goal
 
 pub invariant_of-self : goal.invariant_of-self
 invariant_of-self c =
-    lists_removed c.args.node.now c.self.inside.lists.entries c.shift_remove.new.self.entries c.self.invariant c.shift_remove.ensures.entries c.shift_remove.ensures.unique
+    tables_removed c.args.node.now c.self.inside.lists.entries c.shift_remove.new.self.entries
+    c.self.invariant c.shift_remove.ensures.entries c.shift_remove.ensures.unique
 
-pub returns : goal.returns
-returns c = rw (← c.self.view_is) (ap all_rows c.shift_remove.ensures.entries ∙ removed_rows c.args.node.now c.self.inside.lists.entries c.self.invariant)
+pub returns-clause-rest : goal.returns-clause-rest
+returns-clause-rest c =
+    rw (← c.self.view_is)
+    (rows_removed c.args.node.now c.self.inside.lists.entries c.shift_remove.new.self.entries
+    c.self.invariant c.shift_remove.ensures.entries)
+
+pub returns-clause-gone : goal.returns-clause-gone
+returns-clause-gone c = some_then c.shift_remove.result _ c.shift_remove.ensures.value
+    (λ t found. (
+      table_node c.args.node.now c.self.inside.lists.entries t c.self.invariant.each found,
+      table_rows c.args.node.now c.self.inside.lists.entries t c.self.invariant found
+          ∙ ap (of_node c.args.node.now) c.self.view_is,
+    ))
+
+pub returns-clause-none : goal.returns-clause-none
+returns-clause-none c = none_then c.shift_remove.result _ c.shift_remove.ensures.value
+    (λ none. sym (ap (of_node c.args.node.now) c.self.view_is)
+    ∙ no_table c.args.node.now c.self.inside.lists.entries c.self.invariant none)

@@ -1,34 +1,29 @@
-use Rattle.scope_core.proofs.Words.{arith, ap, sym, subst, ◌∙◌, ◌≡◌, tally, not, is_of_node, without_node}
-use Rattle.scope_core.proofs.Calls.{ok_then}
-use Rattle.scope_core.proofs.NodeLists.{own_total, no_list, none_filtered, node_others, lists_set, set_replaces}
-use Rattle.scope_core.specs.NodeLists.{all_rows, AreNodeLists, IsNodeList}
+use Rattle.scope_core.proofs.Words.{◌≡◌, ◌∙◌, refl, same}
+use Rattle.indexmap.specs.IndexMap.{insert_entry}
+use Rattle.scope_core.specs.HashedRows.{NodeTable}
+use Rattle.scope_core.proofs.NodeTables.{tables_put, rows_put}
+use Rattle.scope_core.proofs.node_lists.NodeLists.replace.Goals.{Joined-branch-5}
 use Rattle.scope_core.proofs.node_lists.NodeLists.replace.Goals as goal
 
-pub begin-requires-clause-first : goal.begin-requires-clause-first
-begin-requires-clause-first c =
-    rw c.get_mut.follows.holds-at-none (no_list c.args.node.now c.self.inside.lists.entries c.self.invariant (sym c.in_default.ensures.value))
+abbrev table_of : (c : Joined-branch-5) → NodeTable
+table_of c = record { node = c.args.node.now; rows = c.args.rows.items }
 
-pub returns-in_default-clause-ok : goal.returns-in_default-clause-ok
-returns-in_default-clause-ok c =
-    let n = c.args.node.now in
-    let es = c.self.inside.lists.entries in
-    let stay = none_filtered n (λ x. not (is_of_node n x.row)) (node_others n) es c.self.invariant (sym c.in_default.ensures.value) in
-    let was : all_rows c.get_mut.follows.lender-at-none.entries ≡ without_node n c.args.self.now =
-    ap (λ (m : _). all_rows m.entries) c.get_mut.follows.holds-at-none ∙ stay ∙ ap (without_node n) c.self.view_is in
-    ok_then c.begin.result (λ joins test. rw was at (joins test)) c.begin.ensures.ok
-
-pub replace-requires : goal.replace-requires
-replace-requires c = omega (arith, own_total c.args.node.now c.args.rows.items c.requires.list, c.requires.list.kept.few c.args.node.now)
+put_is : (c : Joined-branch-5)
+    → c.insert.new.self.entries ≡ insert_entry same c.self.inside.lists.entries c.args.node.now
+    (table_of c)
+put_is c =
+    let list = c.in_ok-list.ensures
+    ∙ (λ i. record { node = c.in_ok-try_clone.ensures i; rows = c.args.rows.items }) in
+    c.in_ok-insert.ensures.entries
+    ∙ (λ i. insert_entry same c.self.inside.lists.entries (c.in_ok-name.ensures i) (list i))
 
 pub invariant_of-self-2 : goal.invariant_of-self-2
 invariant_of-self-2 c =
-    let n = c.args.node.now in
-    let w = c.replace.new.self in
-    subst AreNodeLists (sym (c.get_mut.follows.holds w).0) (lists_set n c.self.inside.lists.entries w c.self.invariant (subst (IsNodeList n) (sym c.replace.ensures) c.requires.list))
+    tables_put c.args.node.now c.self.inside.lists.entries c.insert.new.self.entries (table_of c)
+    c.self.invariant refl c.requires.list (put_is c) c.in_ok-insert.ensures.unique
 
 pub returns-clause-ok : goal.returns-clause-ok
-returns-clause-ok c = λ test.
-    let es = c.self.inside.lists.entries in
-    let w = c.replace.new.self in
-    let puts = set_replaces c.args.node.now es c.in-Some.list.now (sym c.in-Some.ensures.value) w c.self.invariant test in
-    rw (← c.self.view_is, ← c.replace.ensures) (ap (λ ls. tally test (all_rows ls)) (c.get_mut.follows.holds w).0 ∙ puts)
+returns-clause-ok c =
+    rw (← c.self.view_is)
+    (rows_put c.args.node.now c.self.inside.lists.entries c.insert.new.self.entries (table_of c)
+    c.self.invariant (put_is c))

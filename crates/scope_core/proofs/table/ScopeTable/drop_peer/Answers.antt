@@ -1,22 +1,60 @@
-use Rattle.scope_core.proofs.Words.{refl, arith, same, tally, is_row, is_in, list_any, without_node}
+use Rattle.scope_core.proofs.Words.{◌≡◌, ◌∙◌, ap, sym, subst, refl, arith, false, same}
+use Rattle.scope_core.proofs.Words.{same_decides, tally, is_row, is_of_node, has_members}
+use Rattle.scope_core.proofs.Words.{without_node, List, ℕ}
+use Rattle.scope_core.specs.HashedRows.{NodeTable}
 use Rattle.scope_core.proofs.Calls.{own_left}
-use Rattle.scope_core.proofs.Kept.{still_listed, dropped_same}
+use Rattle.scope_core.proofs.Kept.{dropped_same, still_listings}
+use Rattle.scope_core.proofs.NodeLists.{node_tally}
 use Rattle.scope_core.proofs.Rising.{gone_counts}
 use Rattle.scope_core.proofs.table.ScopeTable.drop_peer.Goals as goal
 
+pub returns-in_default : goal.returns-in_default
+returns-in_default c =
+    rw (c.remove_node.ensures.rest, ← c.self.view_is)
+    (record {
+      own = refl;
+      counts =
+          λ g p. gone_counts (λ q. same q.node c.args.peer.now) g p c.self.inside.rows;
+    })
+
 pub returns : goal.returns
-returns c = rw (c.remove_node.ensures, ← c.self.view_is) (record { own = refl; counts = λ g p. gone_counts (λ q. same q.node c.args.peer.now) g p c.self.inside.rows })
+returns c = rw (c.remove_node.ensures.rest, ← c.self.view_is)
+    (record {
+      own = refl;
+      counts =
+          λ g p. gone_counts (λ q. same q.node c.args.peer.now) g p c.self.inside.rows;
+    })
 
 pub invariant_of-self : goal.invariant_of-self
 invariant_of-self c =
     let n = c.args.peer.now in
     let rows = c.self.inside.rows in
+    let none = c.in_default.ensures.none in
+    let zero = node_tally n (is_of_node n) (λ r h. h) rows ∙ ap (tally (is_of_node n)) none in
+    let stays = λ (g : List ℕ). dropped_same n rows _ (sym none) g refl in
     let left = own_left n c.self.inside.own rows c.self.inside.own_rows c.self.invariant.total in
-    rw c.remove_node.ensures
+    rw c.remove_node.ensures.rest
+    (record {
+      few = c.self.invariant.few;
+      total = grind (arith, left, zero, c.self.invariant.total, same_decides n c.self.inside.own);
+      listed = still_listings _ _ c.self.inside.listings stays c.self.invariant.listed;
+    })
+
+pub invariant_of-self-2 : goal.invariant_of-self-2
+invariant_of-self-2 c =
+    let n = c.args.peer.now in
+    let rows = c.self.inside.rows in
+    let left = own_left n c.self.inside.own rows c.self.inside.own_rows c.self.invariant.total in
+    let table = c.rows.ensures.rows in
+    let gone = c.in-Some.ensures.gone in
+    let there = ap (λ (t : NodeTable). t.rows) table ∙ gone.1 in
+    let node = ap (λ (t : NodeTable). t.node) table ∙ gone.0 in
+    rw c.remove_node.ensures.rest
     (record {
       few = omega (arith, c.self.invariant.few);
       total = grind (arith, left, c.share_of.ensures);
-      listed =
-          still_listed c.self.inside.listings c.forget_rows.new.self (λ g p. tally (is_row g p) rows) (λ g p. tally (is_row g p) (without_node n rows)) c.self.invariant.listed
-          (λ g. list_any (is_in g) c.of_node.result.now.items) c.forget_rows.ensures (dropped_same n rows c.of_node.result.now.items c.of_node.ensures.rows);
+      listed = c.forget_rows.ensures (λ g p. tally (is_row g p) rows)
+          (λ g p. tally (is_row g p) (without_node n rows)) c.self.invariant.listed
+          (λ g e. dropped_same n rows c.rows.result.now.rows there g
+          (subst (λ m. has_members g m c.rows.result.now.rows ≡ false) node e));
     })

@@ -1,20 +1,43 @@
-use Rattle.scope_core.proofs.Words.{refl, same_pid, not, filter, tally, is_row, is_row_of, list_any}
-use Rattle.scope_core.proofs.Kept.{still_listed, exited_same}
-use Rattle.scope_core.proofs.Rising.{gone_counts}
+use Rattle.scope_core.proofs.Words.{◌≡◌, ◌∙◌, sym, subst, arith, false, same_pid, same_pid_decides}
+use Rattle.scope_core.proofs.Words.{tally, is_row, Pid}
+use Rattle.scope_core.specs.Kept.{AreListings}
+use Rattle.scope_core.proofs.Kept.{others_stay, popped_listed, none_of_process}
 use Rattle.scope_core.proofs.table.ScopeTable.exit.Goals as goal
 
+pub loop-gone-preserved : goal.loop-gone-preserved
+loop-gone-preserved c =
+    let old = c.loop-gone.self-inside.rows in
+    let new = c.pop_of.new.self in
+    let gone = c.in-Some.gone in
+    let joins = c.in-Some.ensures.gone in
+    record {
+      own = c.loop-gone.invariant.own;
+      others = λ g p e. others_stay gone old new joins g p
+          (subst (λ (q : Pid). same_pid q p ≡ false) (sym c.in-Some.ensures.process) e)
+          ∙ c.loop-gone.invariant.others g p e;
+      listed = popped_listed gone old new joins c.loop-gone.self-inside.listings c.forget.new.self
+          c.loop-gone.invariant.listed c.forget.ensures;
+    }
+
 pub returns : goal.returns
-returns c = rw (c.remove_process.ensures, ← c.self.view_is) (record { own = refl; counts = λ g p. gone_counts (λ q. same_pid q c.args.pid.now) g p c.self.inside.rows })
+returns c =
+    let pid = c.args.pid.now in
+    let same = c.in_default.ensures.same in
+    rw (← c.self.view_is)
+    (record {
+      own = c.loop-gone.invariant.own;
+      counts = λ g p.
+          let others = c.loop-gone.invariant.others g p in
+          let none = none_of_process pid g p c.loop-gone.self-inside.rows
+          c.in_default.ensures.none in
+          rw same (grind (arith, others, none, same_pid_decides p pid, same_pid_decides pid p));
+    })
 
 pub invariant_of-self : goal.invariant_of-self
-invariant_of-self c =
-    let pid = c.args.pid.now in
-    let rows = c.self.inside.rows in
-    rw c.remove_process.ensures
-    (record {
-      few = c.total_of-self-inside.ensures.few;
-      total = rw c.remove_process.ensures at c.total_of-self-inside.ensures.total;
-      listed =
-          still_listed c.self.inside.listings c.forget_process.new.self (λ g p. tally (is_row g p) rows) (λ g p. tally (is_row g p) (filter (λ x. not (same_pid x.row.pid pid)) rows)) c.self.invariant.listed
-          (λ g. list_any (is_row_of g pid) c.of_node.result.now.items) c.forget_process.ensures (exited_same pid rows c.of_node.result.now.items c.of_node.ensures.rows);
-    })
+invariant_of-self c = record {
+  few = c.total_of-self-inside.ensures.few;
+  total = c.total_of-self-inside.ensures.total;
+  listed = subst
+      (λ rows. AreListings (λ g p. tally (is_row g p) rows) c.loop-gone.self-inside.listings)
+      (sym c.in_default.ensures.same) c.loop-gone.invariant.listed;
+}

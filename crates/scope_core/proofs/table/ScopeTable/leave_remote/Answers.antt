@@ -1,36 +1,80 @@
-use Rattle.scope_core.proofs.Words.{rules, arith, sym, ◌∙◌, is_of_node}
-use Rattle.scope_core.proofs.Calls.{all_or_none, none_untold, taken_change}
+use Rattle.scope_core.proofs.Words.{◌≡◌, ◌∙◌, ◌+◌, ◌≤◌, ap, sym, subst, rules, refl, arith}
+use Rattle.scope_core.proofs.Words.{how_many, is_of_node, is_row, max_rows, tally, Table}
+use Rattle.scope_core.proofs.Words.{IsDifference, List, ℕ, Pid}
+use Rattle.scope_core.proofs.Calls.{all_or_none, taken_change}
+use Rattle.scope_core.proofs.GoneRows.{listed_fit}
 use Rattle.scope_core.proofs.Kept.{changed_listed}
+use Rattle.scope_core.proofs.table.ScopeTable.leave_remote.Goals.{After-take_listed}
 use Rattle.scope_core.proofs.table.ScopeTable.leave_remote.Goals as goal
 
+pub counted_rows-requires : goal.counted_rows-requires
+counted_rows-requires c =
+    let n = c.args.peer.now in
+    let t : Table = record { own = c.self.inside.own; rows = c.self.inside.rows } in
+    let few = subst (λ rs. tally (is_of_node n) rs ≤ max_rows) c.are_all_in.ensures.same
+    (c.few.ensures n) in
+    listed_fit n c.args.rows.now c.requires t
+    (sym c.are_all_in.ensures.value ∙ c.if-not-are_all_in.false) few
+
 pub returns-in_err-counted-clause-refused : goal.returns-in_err-counted-clause-refused
-returns-in_err-counted-clause-refused c = rw (← c.self.view_is) (let e = sym c.are_all_in.ensures.value ∙ c.if-not-are_all_in.false in search (rules, e))
+returns-in_err-counted-clause-refused c =
+    rw (← c.self.view_is)
+    (let e = sym c.are_all_in.ensures.value ∙ c.if-not-are_all_in.false in search (rules, e))
 
 pub returns-in_err-changes-clause-refused : goal.returns-in_err-changes-clause-refused
-returns-in_err-changes-clause-refused c = rw (← c.self.view_is) (let e = sym c.are_all_in.ensures.value ∙ c.if-not-are_all_in.false in search (rules, e))
-
-pub take_rows-requires-clause-changes : goal.take_rows-requires-clause-changes
-take_rows-requires-clause-changes c =
-    rw c.deref.ensures.value (none_untold c.args.peer.now c.args.rows.now c.requires c.in_ok-counted.counted.items _ c.in_ok-counted.ensures.added c.in_ok-changes.ensures)
-
-pub returns-clause-change : goal.returns-clause-change
-returns-clause-change c =
+returns-in_err-changes-clause-refused c =
     rw (← c.self.view_is)
-    (taken_change c.args.rows.now c.self.inside.rows c.in_ok-counted.counted.items c.take_rows.new.self c.in_ok-changes.changes.items c.in_ok-changes.ensures c.in_ok-counted.ensures.added (rw c.are_all_in.ensures.same at c.take_rows.ensures))
+    (let e = sym c.are_all_in.ensures.value ∙ c.if-not-are_all_in.false in search (rules, e))
+
+taken : (c : After-take_listed) (g : List ℕ) (p : Pid)
+    → tally (is_row g p) c.self.inside.rows ≡ tally (is_row g p) c.take_listed.new.self
+    + how_many (is_row g p) c.args.rows.now
+taken c g p = ap (tally (is_row g p)) (sym c.are_all_in.ensures.same)
+    ∙ c.take_listed.ensures.rows g p
+
+own_taken : (c : After-take_listed)
+    → tally (is_of_node c.self.inside.own) c.self.inside.rows ≡ tally (is_of_node c.self.inside.own)
+    c.take_listed.new.self + how_many (is_of_node c.self.inside.own) c.args.rows.now
+own_taken c = ap (tally (is_of_node c.self.inside.own)) (sym c.are_all_in.ensures.same)
+    ∙ c.take_listed.ensures.totals c.self.inside.own
+
+change : (c : After-take_listed)
+    → IsDifference (λ g p. tally (is_row g p) c.self.inside.rows)
+    (λ g p. tally (is_row g p) c.take_listed.new.self) c.in_ok-changes.changes.items
+change c =
+    let told = rw c.deref.ensures.value at c.in_ok-changes.ensures in
+    taken_change c.args.rows.now c.self.inside.rows c.in_ok-counted.counted.items
+    c.take_listed.new.self c.in_ok-changes.changes.items told c.in_ok-counted.ensures.added
+    (taken c)
 
 pub overflow_sub-self : goal.overflow_sub-self
 overflow_sub-self c =
-    let own = c.self.inside.own in
-    grind (arith, all_or_none c.args.peer.now c.args.rows.now c.requires own, c.take_rows.ensures (is_of_node own), c.are_all_in.ensures.same, c.self.invariant.total)
+    let share = all_or_none c.args.peer.now c.args.rows.now c.requires c.self.inside.own in
+    grind (
+      arith,
+      share,
+      own_taken (goal.at.overflow_sub-self c).After-take_listed,
+      c.share_of.ensures,
+      c.self.invariant.total,
+    )
+
+pub returns-clause-ok : goal.returns-clause-ok
+returns-clause-ok c =
+    let is = taken (goal.at.returns-clause-ok c).After-take_listed in
+    rw (← c.self.view_is) (record { own = refl; counts = λ g p. grind (arith, is g p) })
+
+pub returns-clause-change : goal.returns-clause-change
+returns-clause-change c =
+    rw (← c.self.view_is) (change (goal.at.returns-clause-change c).After-take_listed)
 
 pub invariant_of-self-2 : goal.invariant_of-self-2
 invariant_of-self-2 c =
-    let own = c.self.inside.own in
-    let share = all_or_none c.args.peer.now c.args.rows.now c.requires own in
+    let at = (goal.at.invariant_of-self-2 c).After-take_listed in
+    let share = all_or_none c.args.peer.now c.args.rows.now c.requires c.self.inside.own in
     record {
       few = omega (arith, c.self.invariant.few);
-      total = grind (arith, share, c.take_rows.ensures (is_of_node own), c.are_all_in.ensures.same, c.self.invariant.total);
-      listed =
-          changed_listed c.self.inside.listings c.forget_changed.new.self _ _ c.self.invariant.listed c.in_ok-changes.changes.items (rw c.deref-2.ensures.value at c.forget_changed.ensures)
-          (taken_change c.args.rows.now c.self.inside.rows c.in_ok-counted.counted.items c.take_rows.new.self c.in_ok-changes.changes.items c.in_ok-changes.ensures c.in_ok-counted.ensures.added (rw c.are_all_in.ensures.same at c.take_rows.ensures));
+      total = grind (arith, share, own_taken at, c.share_of.ensures, c.self.invariant.total);
+      listed = changed_listed c.self.inside.listings c.forget_changed.new.self _ _
+          c.self.invariant.listed c.in_ok-changes.changes.items
+          (rw c.deref-3.ensures.value at c.forget_changed.ensures) (change at);
     }

@@ -8,5 +8,9 @@ invariant_of-self c =
     record {
       few = c.self.invariant.few;
       total = c.self.invariant.total;
-      listed = kept_listed (λ h p. tally (is_row h p) c.self.inside.rows) c.self.inside.listings c.keep.new.self c.self.invariant.listed g c.in_ok-pids.pids (rw c.in_ok-pids.ensures c.in_ok-members.ensures) c.in_ok-keep.ensures.pids c.in_ok-keep.ensures.groups;
+      listed =
+          kept_listed (λ h p. tally (is_row h p) c.self.inside.rows) c.self.inside.listings
+          c.keep.new.self c.self.invariant.listed g c.in_ok-pids.pids
+          (rw c.in_ok-pids.ensures c.in_ok-members.ensures) c.in_ok-keep.ensures.pids
+          c.in_ok-keep.ensures.groups;
     }

@@ -1,8 +1,10 @@
-use Rattle.scope_core.proofs.Words.{Rises, counted_cmp, subst}
-use Rattle.scope_core.proofs.Groups.{node_groups}
+use Rattle.scope_core.proofs.Groups.{groups_listing}
+use Rattle.scope_core.proofs.Kept.{still_groups}
 use Rattle.scope_core.proofs.table.ScopeTable.local_groups.Goals as goal
 
 pub returns : goal.returns
 returns c =
-    rw (c.in_ok-groups.ensures, c.of_node.ensures.rows, ← c.self.view_is)
-    (node_groups c.self.inside.own c.self.inside.rows (subst (Rises counted_cmp) c.of_node.ensures.rows c.of_node.ensures.list.kept.rises))
+    let held = c.in_ok-held.held.items in
+    rw (c.in_ok-groups.ensures, c.deref.ensures.value, ← c.self.view_is)
+    (still_groups _ _ _ c.in_ok-held.ensures.counts
+    (groups_listing held c.in_ok-held.ensures.rises))

@@ -1,13 +1,28 @@
-use Rattle.scope_core.proofs.Words.{Rises, counted_cmp, of_node, subst, arith}
-use Rattle.scope_core.proofs.Shares.{node_pids, node_rows, few_pids}
+use Rattle.scope_core.proofs.Words.{arith, IsPidListing, Table, local_count, same_sym}
+use Rattle.scope_core.proofs.Calls.{length-part}
+use Rattle.scope_core.proofs.table.ScopeTable.local_members.Goals.{In_ok-push_members}
 use Rattle.scope_core.proofs.table.ScopeTable.local_members.Goals as goal
 
+abbrev the_table : (c : In_ok-push_members) → Table
+the_table c = record { own = c.self.inside.own; rows = c.self.inside.rows }
+
+own_listing : (c : In_ok-push_members)
+    → IsPidListing (local_count (the_table c) c.args.group.now) c.push_members.new.pids.items
+own_listing c = record {
+  ascends = c.in_ok-push_members.ensures.ascends c.new-pids.ensures.items;
+  counts = λ p. grind (
+    arith,
+    c.in_ok-push_members.ensures.counts p,
+    c.new-pids.ensures.items,
+    same_sym c.self.inside.own p.node,
+  );
+}
+
 pub returns-clause-value : goal.returns-clause-value
-returns-clause-value c =
-    rw (c.in_ok-pids.ensures, c.in_group.ensures, c.of_node-own.ensures.rows, ← c.self.view_is)
-    (node_pids c.self.inside.own c.args.group.now c.self.inside.rows (subst (Rises counted_cmp) c.of_node-own.ensures.rows c.of_node-own.ensures.list.kept.rises))
+returns-clause-value c = rw (← c.self.view_is) (own_listing c)
 
 pub returns-clause-limits : goal.returns-clause-limits
 returns-clause-limits c =
-    rw (c.in_ok-pids.ensures, c.in_group.ensures, c.of_node-own.ensures.rows)
-    (few_pids c.args.group.now (of_node c.self.inside.own c.self.inside.rows) (omega (arith, node_rows c.self.inside.own c.self.inside.rows, c.self.invariant.few, c.self.invariant.total)))
+    let all = length-part (the_table c) c.args.group.now c.push_members.new.pids.items
+    (λ p. let is = (own_listing c).counts p in omega (arith, is)) in
+    omega (arith, all, c.self.invariant.few, c.self.invariant.total)

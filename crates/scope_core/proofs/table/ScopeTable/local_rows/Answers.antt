@@ -1,12 +1,30 @@
-use Rattle.scope_core.proofs.Words.{Rises, counted_cmp, of_node, subst, arith}
-use Rattle.scope_core.proofs.Shares.{node_listing, node_rows, few_rows}
+use Rattle.scope_core.proofs.Words.{◌∙◌, arith, IsRowListing, Table, local_count}
+use Rattle.scope_core.proofs.Shares.{rows_listing, length_local_rows}
+use Rattle.scope_core.proofs.table.ScopeTable.local_rows.Goals.{After-drop-held-2}
 use Rattle.scope_core.proofs.table.ScopeTable.local_rows.Goals as goal
 
+abbrev the_table : (c : After-drop-held-2) → Table
+the_table c = record { own = c.self.inside.own; rows = c.self.inside.rows }
+
+own_listing : (c : After-drop-held-2)
+    → IsRowListing (local_count (the_table c)) c.in_ok-rows.rows.items
+own_listing c =
+    let all = rows_listing c.in_ok-held.held.items c.in_ok-held.ensures.rises in
+    rw (c.in_ok-rows.ensures, c.deref.ensures.value)
+    (record {
+      ascends = all.ascends;
+      counts = λ r. all.counts r
+          ∙ c.in_ok-held.ensures.counts r.group r.pid;
+    })
+
 pub returns-clause-value : goal.returns-clause-value
-returns-clause-value c =
-    rw (c.in_ok-rows.ensures, c.of_node.ensures.rows, ← c.self.view_is)
-    (node_listing c.self.inside.own c.self.inside.rows (subst (Rises counted_cmp) c.of_node.ensures.rows c.of_node.ensures.list.kept.rises))
+returns-clause-value c = rw (← c.self.view_is) (own_listing c)
 
 pub returns-clause-limits : goal.returns-clause-limits
 returns-clause-limits c =
-    rw (c.in_ok-rows.ensures, c.of_node.ensures.rows) (few_rows (of_node c.self.inside.own c.self.inside.rows) (omega (arith, node_rows c.self.inside.own c.self.inside.rows, c.self.invariant.few, c.self.invariant.total)))
+    omega (
+      arith,
+      length_local_rows (the_table c) c.in_ok-rows.rows.items (own_listing c),
+      c.self.invariant.few,
+      c.self.invariant.total,
+    )

@@ -1,0 +1,132 @@
+-- Rows in order that are counted one by one.
+use Rattle.scope_core.proofs.Words.{IsPermutation, how_many_is, sum_by-IsPermutation, ◌≡◌, ℕ, zero}
+use Rattle.scope_core.proofs.Words.{suc, ◌+◌, ◌<◌, ◌≤◌, Bool, cond, List, [], ◌∷◌, ◌++◌}
+use Rattle.scope_core.proofs.Words.{length, ap, sym, ◌∙◌, arith, subst}
+use Rattle.scope_core.proofs.Words.{Less, AllByRecursion, HoldsAt, get_or, set, drop, same_decides}
+use Rattle.scope_core.proofs.Words.{Rises, row_cmp, Row, Counted, counted_cmp, tally, is_of_node}
+use Rattle.scope_core.proofs.Words.{max_rows, AreCounted, IsKept, HasRoomFor, Adds, how_many}
+use Rattle.scope_core.proofs.Tallies.{tally_append}
+use Rattle.scope_core.proofs.Pushed.{rises_push}
+
+-- ---- one more of a row
+
+abbrev again : Counted → Counted
+again c = record { row = c.row; count = c.count + 1 }
+
+all_set : (P : Counted → Type 0) (cs : List Counted) (i : ℕ) (y : Counted) → P y
+    → AllByRecursion P cs → AllByRecursion P (set cs i y)
+all_set P [] i y p a = tt
+all_set P (c ∷ cs) zero y p a = (p, a.1)
+all_set P (c ∷ cs) (suc i) y p a = (a.0, all_set P cs i y p a.1)
+
+count_le : (cs : List Counted) (i : ℕ) (c : Counted) → i < length cs → c ≡ get_or cs i c
+    → c.count ≤ tally (is_of_node c.row.pid.node) cs
+count_le [] i c l e = absurd (omega (arith, l))
+count_le (x ∷ xs) zero c l e = grind (arith, e, same_decides c.row.pid.node c.row.pid.node)
+count_le (x ∷ xs) (suc i) c l e = grind (arith, count_le xs i c (omega (arith, l)) e)
+
+-- its count has room
+pub count_few : (cs : List Counted) (i : ℕ) (c : Counted) → i < length cs → c ≡ get_or cs i c
+    → IsKept cs → c.count ≤ max_rows
+count_few cs i c l e kept = omega (arith, count_le cs i c l e, kept.few c.row.pid.node)
+
+again_tally : (test : Row → Bool) (cs : List Counted) (i : ℕ) (c : Counted) → i < length cs
+    → c ≡ get_or cs i c
+    → tally test (set cs i (again c)) ≡ tally test cs + cond (test c.row) 1 0
+again_tally test [] i c l e = absurd (omega (arith, l))
+again_tally test (x ∷ xs) zero c l e = grind (arith, e)
+again_tally test (x ∷ xs) (suc i) c l e =
+    grind (arith, again_tally test xs i c (omega (arith, l)) e)
+
+again_rises : (cs : List Counted) (i : ℕ) (c : Counted) → i < length cs → c ≡ get_or cs i c
+    → Rises counted_cmp cs → Rises counted_cmp (set cs i (again c))
+again_rises [] i c l e r = tt
+again_rises (x ∷ xs) zero c l e r =
+    subst (λ y. Rises counted_cmp (record { row = y.row; count = c.count + 1 } ∷ xs)) (sym e) r
+again_rises (x ∷ xs) (suc i) c l e r = (
+  all_set (λ d. counted_cmp x d ≡ Less) xs i (again c) (above x xs i c (omega (arith, l)) e r.0)
+      r.0,
+  again_rises xs i c (omega (arith, l)) e r.1,
+)
+  where
+    above : (x : Counted) (ds : List Counted) (i : ℕ) (c : Counted) → i < length ds
+        → c ≡ get_or ds i c → AllByRecursion (λ d. counted_cmp x d ≡ Less) ds
+        → counted_cmp x c ≡ Less
+    above x [] i c l e a = absurd (omega (arith, l))
+    above x (d ∷ ds) zero c l e a = ap (counted_cmp x) e ∙ a.0
+    above x (d ∷ ds) (suc i) c l e a = above x ds i c (omega (arith, l)) e a.1
+
+-- the last of the rows is counted once more
+pub last_again : (cs : List Counted) (i : ℕ) (c : Counted) → i < length cs → c ≡ get_or cs i c
+    → IsKept cs
+    → (row : Row) → HoldsAt (λ d. d.row ≡ row) cs i → HasRoomFor (row ∷ []) cs
+    → Adds (row ∷ []) cs (set cs i (again c)) × IsKept (set cs i (again c))
+last_again cs i c l e kept row at few = (
+  more,
+  record {
+    rises = again_rises cs i c l e kept.rises;
+    counted = all_set (λ d. 0 < d.count) cs i (again c) (omega arith) kept.counted;
+    few = λ node. let m = more (is_of_node node) in let f = few node in grind (arith, m, f);
+  },
+)
+  where
+    more : Adds (row ∷ []) cs (set cs i (again c))
+    more test =
+        let is : c.row ≡ row =
+        ap (λ (d : Counted). d.row) e ∙ at c in
+        grind (arith, is, again_tally test cs i c l e)
+
+-- an empty list has no last row
+pub no_last : (xs : List Counted) (i : ℕ) (row : Row) → length xs ≡ 0
+    → HoldsAt (λ d. d.row ≡ row) xs i → ⊥
+no_last [] i row l at =
+    let other : Row =
+    record { group = []; pid = record { node = []; creation = 0; number = suc row.pid.number } }
+    in
+    let is =
+    ap (λ (r : Row). r.pid.number) (at (record { row = other; count = 0 })) in
+    omega (arith, is)
+no_last (x ∷ xs) i row l at = omega (arith, l)
+
+-- ---- rows that come
+
+-- with a new one they are kept
+pub new_last : (row : Row) (cs : List Counted) → Rises counted_cmp cs → AreCounted cs
+    → AllByRecursion (λ c. row_cmp c.row row ≡ Less) cs
+    → Rises counted_cmp (cs ++ record { row = row; count = 1 } ∷ [])
+    × AreCounted (cs ++ record { row = row; count = 1 } ∷ [])
+new_last row cs r a b =
+    (rises_push counted_cmp cs (record { row = row; count = 1 }) r b, counted cs a)
+  where
+    counted : (ds : List Counted) → AreCounted ds
+        → AreCounted (ds ++ record { row = row; count = 1 } ∷ [])
+    counted [] a = (omega arith, tt)
+    counted (d ∷ ds) a = (a.0, counted ds a.1)
+
+pub new_tally : (row : Row) (test : Row → Bool) (cs : List Counted)
+    → tally test (cs ++ record { row = row; count = 1 } ∷ []) ≡ tally test cs + cond (test row) 1 0
+new_tally row test cs = grind (arith, tally_append test cs (record { row = row; count = 1 } ∷ []))
+
+-- one row on, in the loop over the rows
+module _ (rows : List Row) (i : ℕ) (row : Row) (next : drop i rows ≡ row ∷ drop (i + 1) rows)
+    (old : List Counted)
+    (was : (test : Row → Bool) → tally test old + how_many test (drop i rows) ≡ how_many test rows)
+  where
+    pub added_next : (new : List Counted) → Adds (row ∷ []) old new → (test : Row → Bool)
+        → tally test new + how_many test (drop (i + 1) rows) ≡ how_many test rows
+    added_next new more test =
+        let w = was test in
+        let m = more test in
+        grind (arith, next, w, m)
+
+    pub has_room : HasRoomFor rows [] → HasRoomFor (row ∷ []) old
+    has_room few node =
+        let w = was (is_of_node node) in
+        let f = few node in
+        grind (arith, next, w, f)
+
+-- the same rows in another order
+pub sorted_as_many : (test : Row → Bool) (rows copies sorted deref : List Row) → copies ≡ rows
+    → IsPermutation copies sorted → deref ≡ sorted → how_many test deref ≡ how_many test rows
+sorted_as_many test rows copies sorted deref e p f =
+    grind (arith, e, f, how_many_is, sum_by-IsPermutation (λ r. cond (test r) 1 0) copies sorted p)

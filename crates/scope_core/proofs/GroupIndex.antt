@@ -1,0 +1,201 @@
+-- What the index of groups counts: the rows of the node, and what changes where all leave.
+use Rattle.scope_core.proofs.Words.{◌≡◌, ℕ, ◌-◌, ◌&&◌, ◌==◌, Bool, true, false, cond, List, []}
+use Rattle.scope_core.proofs.Words.{◌∷◌, ◌++◌}
+use Rattle.scope_core.proofs.Words.{map, flat_map, length, replicate, refl, sym, ap, subst, ◌∙◌}
+use Rattle.scope_core.proofs.Words.{arith, Less}
+use Rattle.scope_core.proofs.Words.{AllByRecursion, Rises, Ascends, text_cmp, pid_cmp, same}
+use Rattle.scope_core.proofs.Words.{same_decides}
+use Rattle.scope_core.proofs.Words.{tied_itself, texts_total, pids_total, tally, is_row, Row, Pid}
+use Rattle.scope_core.proofs.Words.{row_in}
+use Rattle.scope_core.proofs.Words.{how_many, how_many_append, how_many_replicate, mentions}
+use Rattle.scope_core.proofs.Words.{same_pid}
+use Rattle.scope_core.proofs.Words.{spread, spread_ascends, GroupChange, IsDifference, IsProper}
+use Rattle.scope_core.proofs.Words.{is_empty}
+use Rattle.scope_core.proofs.Words.{change_unless_empty}
+use Rattle.dist_types.specs.Difference.{times_left, times_joined}
+use Rattle.std.proofs.lemmas.List.{append-nil}
+use Rattle.std.specs.Map.{keys_of}
+use Rattle.std.specs.List.Sorted.{IsStrictlySortedBy}
+use Rattle.std.specs.BTreeMap.{BTreeMap}
+use Rattle.scope_core.specs.declared.process_key.ProcessKey.{ProcessKey}
+use Rattle.scope_core.specs.declared.small_map.SmallMap.{SmallMap}
+use Rattle.scope_core.specs.SmallMap.{entries_of}
+use Rattle.scope_core.specs.HashedRows.{pid_of, key_of, key_cmp, group_rows, counted_in, IsHashed}
+use Rattle.scope_core.proofs.HashedWrites.{in_group_count}
+use Rattle.scope_core.proofs.Tallies.{tally_append}
+use Rattle.scope_core.proofs.GroupRows.{SortedMembers, flat, flat_tally, flat_others}
+use Rattle.scope_core.proofs.GroupRows.{entries_others}
+
+abbrev Members : Type 0
+Members = List (ProcessKey × ℕ)
+
+abbrev GroupEntry : Type 0
+GroupEntry = List ℕ × SmallMap ProcessKey ℕ
+
+module _ (node : List ℕ) where
+  -- ---- rows, each as often as it is counted
+
+  abbrev pub members_repeated : List ℕ → Members → List Row
+  members_repeated g ms = spread (λ m. row_in g (pid_of node m.0)) (λ m. m.1) ms
+
+  abbrev pub repeated : List GroupEntry → List Row
+  repeated es = flat_map (λ e. members_repeated e.0 (entries_of e.1)) es
+
+  members_times : (g h : List ℕ) (p : Pid) (ms : Members)
+      → how_many (is_row g p) (members_repeated h ms) ≡ tally (is_row g p) (group_rows node h ms)
+  members_times g h p [] = refl
+  members_times g h p (m ∷ ms) =
+      let row = row_in h (pid_of node m.0) in
+      let all = how_many_append (is_row g p) (replicate m.1 row) (members_repeated h ms) in
+      grind (arith, members_times g h p ms, all, how_many_replicate (is_row g p) m.1 row)
+
+  repeated_times : (g : List ℕ) (p : Pid) (es : List GroupEntry)
+      → how_many (is_row g p) (repeated es) ≡ tally (is_row g p) (flat node es)
+  repeated_times g p [] = refl
+  repeated_times g p (e ∷ es) =
+      let test = is_row g p in
+      let ms = entries_of e.1 in
+      let times = how_many_append test (members_repeated e.0 ms) (repeated es) in
+      let counts = tally_append test (group_rows node e.0 ms) (flat node es) in
+      grind (arith, repeated_times g p es, members_times g e.0 p ms, times, counts)
+
+  -- ---- what changes where all leave
+
+  abbrev left_of : GroupEntry → List Pid
+  left_of e = spread (λ m. pid_of node m.0) (λ m. m.1) (entries_of e.1)
+
+  -- that of one group in front, unless it has no process
+  abbrev in_front : Bool → GroupEntry → List GroupChange → List GroupChange
+  in_front none e rest =
+      let all : GroupChange = record { group = e.0; left = left_of e; joined = [] } in
+      cond (none && true) [] (all ∷ []) ++ rest
+
+  abbrev pub all_gone : List GroupEntry → List GroupChange
+  all_gone es = flat_map (λ e. change_unless_empty e.0 (left_of e) []) es
+
+  left_above : (a : ProcessKey) (ms : Members)
+      → AllByRecursion (λ k. key_cmp a k ≡ Less) (keys_of ms)
+      → AllByRecursion (λ m. pid_cmp (pid_of node a) (pid_of node m.0) ≡ Less) ms
+  left_above a [] l = tt
+  left_above a (m ∷ ms) l = (grind (arith, l.0, tied_itself texts_total node), left_above a ms l.1)
+
+  left_rises : (ms : Members) → IsStrictlySortedBy key_cmp (keys_of ms)
+      → Rises (λ m n. pid_cmp (pid_of node m.0) (pid_of node n.0)) ms
+  unfolding IsStrictlySortedBy
+  left_rises [] s = tt
+  left_rises (m ∷ ms) s = (left_above m.0 ms s.0, left_rises ms s.1)
+
+  pub left_ascends : (e : GroupEntry) → SortedMembers e → Ascends pid_cmp (left_of e)
+  left_ascends e s =
+      let ms = entries_of e.1 in
+      spread_ascends pid_cmp pids_total (λ m. pid_of node m.0) (λ m. m.1) ms (left_rises ms s)
+
+  abbrev groups_in : List GroupChange → List (List ℕ)
+  groups_in changes = map (λ c. c.group) changes
+
+  abbrev Above : List ℕ → List (List ℕ) → Type 0
+  Above g hs = AllByRecursion (λ h. text_cmp g h ≡ Less) hs
+
+  above_all : (g : List ℕ) (es : List GroupEntry) → Above g (keys_of es)
+      → Above g (groups_in (all_gone es))
+  above_all g [] l = tt
+  above_all g (e ∷ es) l = by (is_empty (left_of e)) (above_all g es l.1)
+    where
+      by : (b : Bool) → Above g (groups_in (all_gone es))
+          → Above g (groups_in (in_front b e (all_gone es)))
+      by true rest = rest
+      by false rest = (l.0, rest)
+
+  gone_rises : (es : List GroupEntry) → IsStrictlySortedBy text_cmp (keys_of es)
+      → Rises text_cmp (groups_in (all_gone es))
+  unfolding IsStrictlySortedBy
+  gone_rises [] s = tt
+  gone_rises (e ∷ es) s = by (is_empty (left_of e)) (gone_rises es s.1)
+    where
+      by : (b : Bool) → Rises text_cmp (groups_in (all_gone es))
+          → Rises text_cmp (groups_in (in_front b e (all_gone es)))
+      by true rest = rest
+      by false rest = (above_all e.0 es s.0, rest)
+
+  gone_proper : (es : List GroupEntry) → AllByRecursion SortedMembers es
+      → AllByRecursion IsProper (all_gone es)
+  gone_proper [] a = tt
+  gone_proper (e ∷ es) a = by (is_empty (left_of e)) refl (gone_proper es a.1)
+    where
+      by : (b : Bool) → is_empty (left_of e) ≡ b → AllByRecursion IsProper (all_gone es)
+          → AllByRecursion IsProper (in_front b e (all_gone es))
+      by true h rest = rest
+      by false h rest =
+          let left = left_ascends e a.0 in
+          (record { left = left; joined = tt; some = ap (λ b. b && true) h }, rest)
+
+  members_left : (g h : List ℕ) (p : Pid) (ms : Members)
+      → cond (same h g) (mentions p (spread (λ m. pid_of node m.0) (λ m. m.1) ms)) 0
+      ≡ tally (is_row g p) (group_rows node h ms)
+  members_left g h p [] = grind arith
+  members_left g h p (m ∷ ms) =
+      let test = λ (q : Pid). same_pid q p in
+      let pid = pid_of node m.0 in
+      let rest = spread (λ m. pid_of node m.0) (λ m. m.1) ms in
+      let all = how_many_append test (replicate m.1 pid) rest in
+      grind (arith, members_left g h p ms, all, how_many_replicate test m.1 pid)
+
+  none_mentioned : (p : Pid) (ps : List Pid) → is_empty ps ≡ true → mentions p ps ≡ 0
+  none_mentioned p [] e = refl
+  none_mentioned p (q ∷ ps) e = grind arith
+
+  gone_left : (g : List ℕ) (p : Pid) (es : List GroupEntry)
+      → times_left g p (all_gone es) ≡ tally (is_row g p) (flat node es)
+  gone_left g p [] = refl
+  gone_left g p (e ∷ es) =
+      let ms = entries_of e.1 in
+      let all = tally_append (is_row g p) (group_rows node e.0 ms) (flat node es) in
+      let none = none_mentioned p (left_of e) in
+      grind (arith, gone_left g p es, members_left g e.0 p ms, all, none)
+
+  gone_joined : (g : List ℕ) (p : Pid) (es : List GroupEntry) → times_joined g p (all_gone es) ≡ 0
+  gone_joined g p [] = refl
+  gone_joined g p (e ∷ es) = grind (arith, gone_joined g p es)
+
+  -- ---- where the map and the index hold the same rows
+
+  module _ (es : List (Row × ℕ)) (groups : BTreeMap (List ℕ) (SmallMap ProcessKey ℕ))
+      (processes : BTreeMap ProcessKey (SmallMap Row (Unit {0})))
+      (is : IsHashed node es groups processes)
+      (sorted : IsStrictlySortedBy text_cmp (keys_of groups.entries))
+      (members : AllByRecursion SortedMembers groups.entries) where
+    -- each row is counted in the index as in the map
+    pub index_tally : (g : List ℕ) (p : Pid)
+        → tally (is_row g p) (flat node groups.entries) ≡ tally (is_row g p) (counted_in es)
+    index_tally g p =
+        let mine = λ (h : same node p.node ≡ true).
+        let n = (same_decides node p.node).0 h in
+        flat_tally node g p groups.entries (sym n) sorted members
+        ∙ sym (in_group_count node g p es _ is.once n (is.by_group g (key_of p))) in
+        let other = λ (h : same node p.node ≡ false).
+        flat_others node g p groups.entries h ∙ sym (entries_others node g p es is.own h) in
+        grind (arith, mine, other)
+
+    -- a list of all rows has each as often as it is counted
+    pub all_repeated : (rows : List Row) → rows ≡ repeated groups.entries ++ []
+        → (g : List ℕ) (p : Pid) → how_many (is_row g p) rows ≡ tally (is_row g p) (counted_in es)
+    all_repeated rows all g p =
+        ap (how_many (is_row g p)) (all ∙ append-nil (repeated groups.entries))
+        ∙ repeated_times g p groups.entries ∙ index_tally g p
+
+    -- the changes are each difference in which all rows leave
+    pub all_leave : (changes : List GroupChange)
+        → changes ++ all_gone [] ≡ all_gone groups.entries → (before after : List ℕ → Pid → ℕ)
+        → ((g : List ℕ) (p : Pid) → before g p - after g p ≡ tally (is_row g p) (counted_in es))
+        → ((g : List ℕ) (p : Pid) → after g p - before g p ≡ 0) → IsDifference before after changes
+    all_leave changes all before after left none =
+        subst (IsDifference before after) (sym all ∙ append-nil changes) (record {
+          groups = gone_rises groups.entries sorted;
+          proper = gone_proper groups.entries members;
+          left = λ g p. gone_left g p groups.entries ∙ index_tally g p ∙ sym (left g p);
+          joined = λ g p. gone_joined g p groups.entries ∙ sym (none g p);
+        })
+
+pub no_rows : (rows : List Row) → (length rows == 0) ≡ true → rows ≡ []
+no_rows [] e = refl
+no_rows (r ∷ rs) e = grind arith

@@ -1,0 +1,241 @@
+-- The rows of a node, as the index of groups has them in order.
+use Rattle.scope_core.proofs.Words.{◌≡◌, ℕ, ◌+◌, Bool, true, false, cond, List, [], ◌∷◌, ◌++◌}
+use Rattle.scope_core.proofs.Words.{flat_map, Some, refl, sym, ap, ◌∙◌, arith}
+use Rattle.scope_core.proofs.Words.{Less, AllByRecursion, Rises, all_append, text_cmp, row_cmp}
+use Rattle.scope_core.proofs.Words.{same, same_decides, tied_itself, texts_total, tally, is_row}
+use Rattle.scope_core.proofs.Words.{Row, Pid, Counted, counted_cmp, row_in, subst, same_sym}
+use Rattle.scope_core.proofs.Words.{same_pid, mentions, spread, spread_counts, total, replicate}
+use Rattle.scope_core.proofs.Words.{append_assoc}
+use Rattle.std.proofs.lemmas.List.{replicate_more}
+use Rattle.std.specs.Option.{unwrap_or}
+use Rattle.std.specs.Map.{lookup, keys_of}
+use Rattle.std.specs.List.Sorted.{IsStrictlySortedBy}
+use Rattle.std.specs.Ordering.{is_eq}
+use Rattle.scope_core.specs.declared.process_key.ProcessKey.{ProcessKey}
+use Rattle.scope_core.specs.declared.small_map.SmallMap.{SmallMap}
+use Rattle.scope_core.specs.SmallMap.{entries_of, found}
+use Rattle.scope_core.specs.HashedRows.{pid_of, key_of, key_cmp, group_rows, counted_in}
+use Rattle.scope_core.proofs.HashedRows.{one_key, one_text}
+use Rattle.scope_core.proofs.Tallies.{tally_append}
+
+abbrev Groups : Type 0
+Groups = List (List ℕ × SmallMap ProcessKey ℕ)
+
+abbrev pub SortedMembers : List ℕ × SmallMap ProcessKey ℕ → Type 0
+SortedMembers e = IsStrictlySortedBy key_cmp (keys_of (entries_of e.1))
+
+module _ (node : List ℕ) where
+  key_order : (g : List ℕ) (a b : ProcessKey) → key_cmp a b ≡ Less
+      → row_cmp (row_in g (pid_of node a)) (row_in g (pid_of node b)) ≡ Less
+  key_order g a b l = grind (arith, l, tied_itself texts_total g, tied_itself texts_total node)
+
+  above_key : (g : List ℕ) (a : ProcessKey) (n : ℕ) (ms : List (ProcessKey × ℕ))
+      → AllByRecursion (λ k. key_cmp a k ≡ Less) (keys_of ms)
+      → AllByRecursion
+      (λ d. counted_cmp (record { row = row_in g (pid_of node a); count = n }) d ≡ Less)
+      (group_rows node g ms)
+  above_key g a n [] l = tt
+  above_key g a n (m ∷ ms) l = (key_order g a m.0 l.0, above_key g a n ms l.1)
+
+  members_rise : (g : List ℕ) (ms : List (ProcessKey × ℕ)) → IsStrictlySortedBy key_cmp (keys_of ms)
+      → Rises counted_cmp (group_rows node g ms)
+  unfolding IsStrictlySortedBy
+  members_rise g [] s = tt
+  members_rise g (m ∷ ms) s = (above_key g m.0 m.1 ms s.0, members_rise g ms s.1)
+
+  abbrev pub flat : Groups → List Counted
+  flat es = flat_map (λ e. group_rows node e.0 (entries_of e.1)) es
+
+  group_order : (g h : List ℕ) (a b : ProcessKey) → text_cmp g h ≡ Less
+      → row_cmp (row_in g (pid_of node a)) (row_in h (pid_of node b)) ≡ Less
+  group_order g h a b l = grind (arith, l)
+
+  above_rows : (g h : List ℕ) (a : ProcessKey) (n : ℕ) (ms : List (ProcessKey × ℕ))
+      → text_cmp g h ≡ Less
+      → AllByRecursion
+      (λ d. counted_cmp (record { row = row_in g (pid_of node a); count = n }) d ≡ Less)
+      (group_rows node h ms)
+  above_rows g h a n [] l = tt
+  above_rows g h a n (m ∷ ms) l = (group_order g h a m.0 l, above_rows g h a n ms l)
+
+  above_flat : (g : List ℕ) (a : ProcessKey) (n : ℕ) (es : Groups)
+      → AllByRecursion (λ h. text_cmp g h ≡ Less) (keys_of es)
+      → AllByRecursion
+      (λ d. counted_cmp (record { row = row_in g (pid_of node a); count = n }) d ≡ Less) (flat es)
+  above_flat g a n [] l = tt
+  above_flat g a n (e ∷ es) l =
+      all_append (λ d. counted_cmp (record { row = row_in g (pid_of node a); count = n }) d ≡ Less)
+      (group_rows node e.0 (entries_of e.1)) (flat es)
+      (above_rows g e.0 a n (entries_of e.1) l.0) (above_flat g a n es l.1)
+
+  rise_before : (g : List ℕ) (ms : List (ProcessKey × ℕ)) (es : Groups)
+      → Rises counted_cmp (group_rows node g ms)
+      → AllByRecursion (λ h. text_cmp g h ≡ Less) (keys_of es)
+      → Rises counted_cmp (flat es) → Rises counted_cmp (group_rows node g ms ++ flat es)
+  rise_before g [] es r l f = f
+  rise_before g (m ∷ ms) es r l f = (
+    all_append (λ d. counted_cmp (record { row = row_in g (pid_of node m.0); count = m.1 }) d
+        ≡ Less) (group_rows node g ms) (flat es) r.0 (above_flat g m.0 m.1 es l),
+    rise_before g ms es r.1 l f,
+  )
+
+  -- the rows of all groups rise
+  pub flat_rises : (es : Groups) → IsStrictlySortedBy text_cmp (keys_of es)
+      → AllByRecursion SortedMembers es → Rises counted_cmp (flat es)
+  unfolding IsStrictlySortedBy
+  flat_rises [] s a = tt
+  flat_rises (e ∷ es) s a =
+      rise_before e.0 (entries_of e.1) es (members_rise e.0 (entries_of e.1) a.0) s.0
+      (flat_rises es s.1 a.1)
+
+  -- ---- counts
+
+  other_group : (g h : List ℕ) (p : Pid) (ms : List (ProcessKey × ℕ)) → same h g ≡ false
+      → tally (is_row g p) (group_rows node h ms) ≡ 0
+  other_group g h p [] e = refl
+  other_group g h p (m ∷ ms) e = grind (arith, other_group g h p ms e)
+
+  other_node : (g h : List ℕ) (p : Pid) (ms : List (ProcessKey × ℕ)) → same node p.node ≡ false
+      → tally (is_row g p) (group_rows node h ms) ≡ 0
+  other_node g h p [] e = refl
+  other_node g h p (m ∷ ms) e = grind (arith, other_node g h p ms e)
+
+  above_none : (g h : List ℕ) (p : Pid) (k : ProcessKey) (ms : List (ProcessKey × ℕ)) → k ≡ key_of p
+      → AllByRecursion (λ q. key_cmp k q ≡ Less) (keys_of ms)
+      → tally (is_row g p) (group_rows node h ms) ≡ 0
+  above_none g h p k [] e a = refl
+  above_none g h p k (m ∷ ms) e a =
+      grind (arith, above_none g h p k ms e a.1, one_key k m.0, a.0, e)
+
+  members_tally : (g : List ℕ) (p : Pid) (ms : List (ProcessKey × ℕ)) → p.node ≡ node
+      → IsStrictlySortedBy key_cmp (keys_of ms)
+      → tally (is_row g p) (group_rows node g ms)
+      ≡ unwrap_or (lookup (λ q. is_eq (key_cmp (key_of p) q)) ms) 0
+  unfolding IsStrictlySortedBy
+  members_tally g p [] own s = refl
+  members_tally g p (m ∷ ms) own s =
+      let rest = members_tally g p ms own s.1 in
+      let none = λ (h : m.0 ≡ key_of p). above_none g g p m.0 ms h s.0 in
+      grind (
+        arith,
+        rest,
+        none,
+        one_key (key_of p) m.0,
+        same_decides g g,
+        same_decides node p.node,
+        own,
+      )
+
+  later_groups : (g : List ℕ) (p : Pid) (h : List ℕ) (es : Groups) → h ≡ g
+      → AllByRecursion (λ k. text_cmp h k ≡ Less) (keys_of es) → tally (is_row g p) (flat es) ≡ 0
+  later_groups g p h [] e a = refl
+  later_groups g p h (x ∷ es) e a =
+      let rest = later_groups g p h es e a.1 in
+      let mine = other_group g x.0 p (entries_of x.1) in
+      grind (
+        arith,
+        rest,
+        mine,
+        tally_append (is_row g p) (group_rows node x.0 (entries_of x.1)) (flat es),
+        a.0,
+        e,
+        same_decides x.0 g,
+        tied_itself texts_total g,
+      )
+
+  spread_tally : (g : List ℕ) (p : Pid) (ms : List (ProcessKey × ℕ))
+      → total (λ m. cond (same_pid (pid_of node m.0) p) m.1 0) ms
+      ≡ tally (is_row g p) (group_rows node g ms)
+  spread_tally g p [] = refl
+  spread_tally g p (m ∷ ms) = grind (arith, spread_tally g p ms, same_decides g g)
+
+  -- processes of a group are mentioned as often as they are found there
+  pub member_mentions : (g : List ℕ) (p : Pid) (ms : List (ProcessKey × ℕ))
+      → IsStrictlySortedBy key_cmp (keys_of ms)
+      → mentions p (spread (λ m. pid_of node m.0) (λ m. m.1) ms)
+      ≡ cond (same node p.node) (unwrap_or (lookup (λ q. is_eq (key_cmp (key_of p) q)) ms) 0) 0
+  member_mentions g p ms s =
+      let counts =
+      spread_counts same_pid (λ (m : ProcessKey × ℕ). pid_of node m.0) (λ m. m.1) p ms
+      ∙ spread_tally g p ms in
+      let mine =
+      λ (h : same node p.node ≡ true).
+      members_tally g p ms (sym ((same_decides node p.node).0 h)) s in
+      let other = λ (h : same node p.node ≡ false). other_node g g p ms h in
+      grind (arith, counts, mine, other)
+
+  -- a process of the node is counted in the index as it is found there
+  pub flat_tally : (g : List ℕ) (p : Pid) (es : Groups) → p.node ≡ node
+      → IsStrictlySortedBy text_cmp (keys_of es) → AllByRecursion SortedMembers es
+      → tally (is_row g p) (flat es)
+      ≡ unwrap_or (found key_cmp (lookup (λ h. is_eq (text_cmp g h)) es) (key_of p)) 0
+  unfolding IsStrictlySortedBy
+  flat_tally g p [] own s a = refl
+  flat_tally g p (e ∷ es) own s a =
+      let rest = flat_tally g p es own s.1 a.1 in
+      let none = λ (h : e.0 ≡ g). later_groups g p e.0 es h s.0 in
+      let mine = members_tally e.0 p (entries_of e.1) own a.0 in
+      let other = other_group g e.0 p (entries_of e.1) in
+      by (same g e.0) refl rest none mine other
+    where
+      by : (b : Bool) → same g e.0 ≡ b
+          → tally (is_row g p) (flat es)
+          ≡ unwrap_or (found key_cmp (lookup (λ h. is_eq (text_cmp g h)) es) (key_of p)) 0
+          → (e.0 ≡ g → tally (is_row g p) (flat es) ≡ 0)
+          → tally (is_row e.0 p) (group_rows node e.0 (entries_of e.1))
+          ≡ unwrap_or (lookup (λ q. is_eq (key_cmp (key_of p) q)) (entries_of e.1)) 0
+          → (same e.0 g ≡ false → tally (is_row g p) (group_rows node e.0 (entries_of e.1)) ≡ 0)
+          → tally (is_row g p) (group_rows node e.0 (entries_of e.1) ++ flat es)
+          ≡ unwrap_or (found key_cmp
+          (cond (is_eq (text_cmp g e.0)) (Some e.1) (lookup (λ h. is_eq (text_cmp g h)) es))
+          (key_of p)) 0
+      by true h rest none mine other =
+          let is : g ≡ e.0 = (same_decides g e.0).0 h in
+          let here =
+          subst (λ x. tally (is_row x p) (group_rows node e.0 (entries_of e.1))
+          ≡ unwrap_or (lookup (λ q. is_eq (key_cmp (key_of p) q)) (entries_of e.1)) 0)
+          (sym is) mine in
+          let hit = one_text g e.0 ∙ h in
+          grind (
+            arith,
+            here,
+            none (sym is),
+            tally_append (is_row g p) (group_rows node e.0 (entries_of e.1)) (flat es),
+            hit,
+          )
+      by false h rest none mine other =
+          let miss = one_text g e.0 ∙ h in
+          let gone = other (same_sym e.0 g ∙ h) in
+          grind (
+            arith,
+            rest,
+            gone,
+            tally_append (is_row g p) (group_rows node e.0 (entries_of e.1)) (flat es),
+            miss,
+          )
+
+  pub flat_others : (g : List ℕ) (p : Pid) (es : Groups) → same node p.node ≡ false
+      → tally (is_row g p) (flat es) ≡ 0
+  flat_others g p [] e = refl
+  flat_others g p (x ∷ es) e =
+      grind (
+        arith,
+        flat_others g p es e,
+        other_node g x.0 p (entries_of x.1) e,
+        tally_append (is_row g p) (group_rows node x.0 (entries_of x.1)) (flat es),
+      )
+
+-- the map has none of another node's processes
+pub entries_others : (node g : List ℕ) (p : Pid) (es : List (Row × ℕ))
+    → AllByRecursion (λ e. e.0.pid.node ≡ node) es → same node p.node ≡ false
+    → tally (is_row g p) (counted_in es) ≡ 0
+entries_others node g p [] a e = refl
+entries_others node g p (x ∷ es) a e = grind (arith, entries_others node g p es a.1 e, a.0)
+
+-- one row more of a process
+pub behind_next : (rows rest others : List Row) (n : ℕ) (x row : Row) → rows ≡ replicate n x ++ rest
+    → rest ≡ row ∷ others → row ≡ x → rows ≡ replicate (n + 1) x ++ others
+behind_next rows rest others n x row was first is =
+    was ∙ ap (λ rs. replicate n x ++ rs) (first ∙ ap (λ r. r ∷ others) is)
+    ∙ sym (append_assoc (replicate n x) (x ∷ []) others)
+    ∙ ap (λ ys. ys ++ others) (replicate_more n x)

@@ -1,0 +1,311 @@
+-- One row more, or one less, in a map with two indexes; and what is counted there.
+use Rattle.scope_core.proofs.Words.{◌≡◌, ℕ, ◌+◌, ◌&&◌, ◌==◌, Bool, true, false, cond, List, [], ◌∷◌}
+use Rattle.scope_core.proofs.Words.{◌++◌, Option, None, refl, sym, ap, ◌∙◌, arith}
+use Rattle.scope_core.proofs.Words.{Ordering, Equal, AllByRecursion, exact_bytes, tied_itself}
+use Rattle.scope_core.proofs.Words.{texts_total, rows_total, exact_rows, same_decides}
+use Rattle.scope_core.proofs.Words.{same_row_decides, and_parts, same, same_row, text_cmp, row_cmp}
+use Rattle.scope_core.proofs.Words.{Row, tally, is_row, subst, ◌<◌, bare_rows, AreCounted}
+use Rattle.std.specs.Ordering.{eq_by_cmp, is_eq, nat_cmp}
+use Rattle.std.specs.Bool.{Decides}
+use Rattle.std.specs.Cmp.{IsEquivalence, IsTotalOrder}
+use Rattle.std.specs.Option.{is_some, unwrap_or}
+use Rattle.std.specs.Map.{lookup, keys_of, remove_entry, set_value}
+use Rattle.std.specs.List.{IsDistinct}
+use Rattle.std.proofs.lemmas.Map.{NonePasses}
+use Rattle.std.proofs.lemmas.Map.Entries.{none_past_head}
+use Rattle.std.proofs.lemmas.Bool.Decides.{same_from_decides}
+use Rattle.std.proofs.lemmas.Cmp.{nat_cmp_total, on_total, then_total}
+use Rattle.std.proofs.lemmas.Map.Lookups.{exact_pairs, exact_unsigned}
+use Rattle.std.proofs.lemmas.Bool.Decides.{Decides-eqb}
+use Rattle.scope_core.specs.declared.process_key.ProcessKey.{ProcessKey}
+use Rattle.scope_core.specs.HashedRows.{key_of, pid_of, key_cmp, has_key, has_row, stands}
+use Rattle.scope_core.specs.HashedRows.{counted_in}
+
+equal_from : (o : Ordering) → is_eq o ≡ true → o ≡ Equal
+equal_from o e = grind arith
+
+-- ---- what compares equal is the same
+
+pub one_row : (row r : Row) → eq_by_cmp row_cmp row r ≡ same_row row r
+one_row row r =
+    let d : Decides (eq_by_cmp row_cmp row r) (row ≡ r) = (
+      (λ h. exact_rows row r (equal_from (row_cmp row r) h)),
+      (λ h. ap (λ x. is_eq (row_cmp row x)) (sym h) ∙ ap is_eq (tied_itself rows_total row)),
+    ) in
+    same_from_decides (eq_by_cmp row_cmp row r) (same_row row r) d (same_row_decides row r)
+
+pub one_text : (a b : List ℕ) → eq_by_cmp text_cmp a b ≡ same a b
+one_text a b =
+    let d : Decides (eq_by_cmp text_cmp a b) (a ≡ b) = (
+      (λ h. exact_bytes a b (equal_from (text_cmp a b) h)),
+      (λ h. ap (λ x. is_eq (text_cmp a x)) (sym h) ∙ ap is_eq (tied_itself texts_total a)),
+    ) in
+    same_from_decides (eq_by_cmp text_cmp a b) (same a b) d (same_decides a b)
+
+pub keys_total : IsTotalOrder key_cmp
+keys_total =
+    then_total (on_total (λ k. k.creation) nat_cmp_total) (on_total (λ k. k.number) nat_cmp_total)
+
+exact_keys : (a b : ProcessKey) → key_cmp a b ≡ Equal → a ≡ b
+exact_keys a b h =
+    ap (λ (t : ℕ × ℕ). record { creation = t.0; number = t.1 })
+    (exact_pairs nat_cmp nat_cmp exact_unsigned exact_unsigned (a.creation, a.number)
+    (b.creation, b.number) h)
+
+abbrev same_key : ProcessKey → ProcessKey → Bool
+same_key a b = a.creation == b.creation && a.number == b.number
+
+same_key_decides : (a b : ProcessKey) → Decides (same_key a b) (a ≡ b)
+same_key_decides a b = (
+  (λ h. let t = and_parts _ _ h in
+      λ i. record {
+        creation = (Decides-eqb a.creation b.creation).0 t.0 i;
+        number = (Decides-eqb a.number b.number).0 t.1 i;
+      }),
+  (λ h. grind (arith, h, Decides-eqb a.creation b.creation, Decides-eqb a.number b.number)),
+)
+
+pub one_key : (a b : ProcessKey) → eq_by_cmp key_cmp a b ≡ same_key a b
+one_key a b =
+    let d : Decides (eq_by_cmp key_cmp a b) (a ≡ b) = (
+      (λ h. exact_keys a b (equal_from (key_cmp a b) h)),
+      (λ h. ap (λ x. is_eq (key_cmp a x)) (sym h) ∙ ap is_eq (tied_itself keys_total a)),
+    ) in
+    same_from_decides (eq_by_cmp key_cmp a b) (same_key a b) d (same_key_decides a b)
+
+-- a place in the index of groups is that of one row of the node
+pub one_place : (node g : List ℕ) (k : ProcessKey) (row : Row) → row.pid.node ≡ node
+    → (eq_by_cmp text_cmp row.group g && eq_by_cmp key_cmp (key_of row.pid) k)
+    ≡ same_row row (record { group = g; pid = pid_of node k })
+one_place node g k row own =
+    grind (
+      arith,
+      one_text row.group g,
+      one_key (key_of row.pid) k,
+      same_decides row.pid.node node,
+      own,
+    )
+
+-- ---- one row more, and one less, among those of the processes
+
+pub put_copy : (k : ProcessKey) (row r : Row) (was now had has : Bool)
+    → was ≡ (has_key k r.pid && had)
+    → now ≡ cond (eq_by_cmp key_cmp (key_of row.pid) k && eq_by_cmp row_cmp row r) true was
+    → has ≡ cond (same_row row r) true had → now ≡ (has_key k r.pid && has)
+put_copy k row r was now had has w n h =
+    grind (arith, w, n, h, one_row row r, one_key (key_of row.pid) k, same_row_decides row r)
+
+pub take_copy : (k : ProcessKey) (row r : Row) (was now had has : Bool)
+    → was ≡ (has_key k r.pid && had)
+    → now ≡ cond (eq_by_cmp key_cmp (key_of row.pid) k && eq_by_cmp row_cmp row r) false was
+    → has ≡ cond (same_row row r) false had → now ≡ (has_key k r.pid && has)
+take_copy k row r was now had has w n h =
+    grind (arith, w, n, h, one_row row r, one_key (key_of row.pid) k, same_row_decides row r)
+
+pub some_cond : {A : Type 0} (b : Bool) (o w v : Option A) → v ≡ cond b o w
+    → is_some v ≡ cond b (is_some o) (is_some w)
+some_cond b o w v e = grind (arith, e)
+
+-- ---- counts
+
+pub rows_equal : IsEquivalence same_row
+rows_equal = record {
+  refl = λ x. (same_row_decides x x).1 refl;
+  symm = λ x y. same_from_decides (same_row x y) (same_row y x) (same_row_decides x y)
+      ((λ h. sym ((same_row_decides y x).0 h)), (λ h. (same_row_decides y x).1 (sym h)));
+  congr = λ x y z e. ap (λ w. same_row w z) ((same_row_decides x y).0 e);
+}
+
+pub stands_is : (r : Row) (es : List (Row × ℕ)) → stands r (counted_in es) ≡ has_row es r
+stands_is r [] = refl
+stands_is r (e ∷ es) = grind (arith, stands_is r es, rows_equal.symm r e.0)
+
+tally_none : (row : Row) (es : List (Row × ℕ)) → NonePasses (same_row row) es
+    → tally (is_row row.group row.pid) (counted_in es) ≡ 0
+tally_none row [] none = refl
+tally_none row (e ∷ es) none =
+    grind (arith, tally_none row es none.1, none.0, rows_equal.symm row e.0)
+
+rest_once : (e : Row × ℕ) (es : List (Row × ℕ)) → IsDistinct same_row (keys_of (e ∷ es))
+    → IsDistinct same_row (keys_of es)
+unfolding IsDistinct
+rest_once e es d = d.1
+
+-- where each row stands once, a row is counted as the map has it
+pub count_is : (row : Row) (es : List (Row × ℕ)) → IsDistinct same_row (keys_of es)
+    → tally (is_row row.group row.pid) (counted_in es) ≡ unwrap_or (lookup (same_row row) es) 0
+count_is row [] d = refl
+count_is row (e ∷ es) d =
+    let rest = count_is row es (rest_once e es d) in
+    let none =
+    λ (h : same_row row e.0 ≡ true). tally_none row es (none_past_head rows_equal row e es d h) in
+    grind (arith, rest, none, rows_equal.symm row e.0)
+
+pub counted_more : (es : List (Row × ℕ)) (row : Row) (n : ℕ)
+    → counted_in (es ++ (row, n) ∷ []) ≡ counted_in es ++ record { row = row; count = n } ∷ []
+counted_more [] row n = refl
+counted_more (e ∷ es) row n =
+    ap (λ cs. record { row = e.0; count = e.1 } ∷ cs) (counted_more es row n)
+
+-- ---- the same rows are counted alike
+
+abbrev pub Entries : Type 0
+Entries = List (Row × ℕ)
+
+abbrev pub Once : Entries → Type 0
+Once es = IsDistinct same_row (keys_of es)
+
+tally_removed : (test : Row → Bool) (row : Row) (es : Entries)
+    → tally test (counted_in (remove_entry (same_row row) es))
+    + cond (test row) (unwrap_or (lookup (same_row row) es) 0) 0
+    ≡ tally test (counted_in es)
+tally_removed test row [] = grind arith
+tally_removed test row (e ∷ es) = grind (arith, tally_removed test row es, same_row_decides row e.0)
+
+removed_other : (row r : Row) (es : Entries) → same_row row r ≡ false
+    → lookup (same_row r) (remove_entry (same_row row) es) ≡ lookup (same_row r) es
+removed_other row r [] h = refl
+removed_other row r (e ∷ es) h =
+    grind (
+      arith,
+      removed_other row r es h,
+      same_row_decides row e.0,
+      same_row_decides r e.0,
+      same_row_decides row r,
+      h,
+    )
+
+none_absent : (row : Row) (es : Entries) → NonePasses (same_row row) es
+    → lookup (same_row row) es ≡ None
+none_absent row [] none = refl
+none_absent row (e ∷ es) none = grind (arith, none_absent row es none.1, none.0)
+
+removed_itself : (row : Row) (es : Entries) → Once es
+    → lookup (same_row row) (remove_entry (same_row row) es) ≡ None
+removed_itself row [] d = refl
+removed_itself row (e ∷ es) d =
+    let none =
+    λ (h : same_row row e.0 ≡ true). none_absent row es (none_past_head rows_equal row e es d h) in
+    grind (arith, removed_itself row es (rest_once e es d), none)
+
+pub removed_lookup : (row r : Row) (es : Entries) → Once es
+    → lookup (same_row r) (remove_entry (same_row row) es)
+    ≡ cond (same_row row r) None (lookup (same_row r) es)
+removed_lookup row r es d = by (same_row row r) refl
+  where
+    by : (b : Bool) → same_row row r ≡ b
+        → lookup (same_row r) (remove_entry (same_row row) es)
+        ≡ cond b None (lookup (same_row r) es)
+    by true h =
+        subst (λ x. lookup (same_row x) (remove_entry (same_row row) es) ≡ None)
+        ((same_row_decides row r).0 h) (removed_itself row es d)
+    by false h = removed_other row r es h
+
+removed_absent : (k row : Row) (es : Entries)
+    → AllByRecursion (λ x. same_row k x ≡ false) (keys_of es)
+    → AllByRecursion (λ x. same_row k x ≡ false) (keys_of (remove_entry (same_row row) es))
+removed_absent k row [] a = tt
+removed_absent k row (e ∷ es) a = grind (arith, removed_absent k row es a.1)
+
+either_once : (b : Bool) (es fs : Entries) → Once es → Once fs → Once (cond b es fs)
+either_once true es fs d f = d
+either_once false es fs d f = f
+
+removed_once : (row : Row) (es : Entries) → Once es → Once (remove_entry (same_row row) es)
+unfolding IsDistinct
+removed_once row [] d = tt
+removed_once row (e ∷ es) d =
+    either_once (same_row row e.0) es (e ∷ remove_entry (same_row row) es) d.1
+    (removed_absent e.0 row es d.0, removed_once row es d.1)
+
+pub same_tally : (es fs : Entries) → Once es → Once fs
+    → ((r : Row) → lookup (same_row r) fs ≡ lookup (same_row r) es)
+    → (test : Row → Bool) → tally test (counted_in fs) ≡ tally test (counted_in es)
+same_tally [] [] d f same test = refl
+same_tally [] (x ∷ fs) d f same test = let e = same x.0 in grind (arith, e, rows_equal.refl x.0)
+same_tally (e ∷ es) fs d f same test =
+    let at = same e.0 in
+    let rest = λ (r : Row).
+    let gone = removed_lookup e.0 r fs f in
+    let none =
+    λ (h : same_row e.0 r ≡ true).
+    none_absent e.0 es (none_past_head rows_equal e.0 e es d (rows_equal.refl e.0)) in
+    let is : lookup (same_row r) (remove_entry (same_row e.0) fs) ≡ lookup (same_row r) es =
+    grind (arith, gone, same r, none, same_row_decides e.0 r, same_row_decides r e.0) in is in
+    let less =
+    same_tally es (remove_entry (same_row e.0) fs) (rest_once e es d)
+    (removed_once e.0 fs f) rest test in
+    grind (arith, less, tally_removed test e.0 fs, at, rows_equal.refl e.0)
+
+-- where a row is taken out of the map, all others are counted as before
+pub taken_tally : (row : Row) (es fs : Entries) → Once es → Once fs
+    → ((r : Row) → lookup (same_row r) fs ≡ cond (same_row row r) None (lookup (same_row r) es))
+    → (test : Row → Bool)
+    → tally test (counted_in fs)
+    + cond (test row) (tally (is_row row.group row.pid) (counted_in es)) 0
+    ≡ tally test (counted_in es)
+taken_tally row es fs d f gone test =
+    let less =
+    same_tally (remove_entry (same_row row) es) fs (removed_once row es d) f
+    (λ r. gone r ∙ sym (removed_lookup row r es d)) test in
+    grind (arith, less, tally_removed test row es, count_is row es d)
+
+pub set_tally : (row : Row) (n : ℕ) (es : Entries) → is_some (lookup (same_row row) es) ≡ true
+    → (test : Row → Bool)
+    → tally test (counted_in (set_value (same_row row) es n))
+    + cond (test row) (unwrap_or (lookup (same_row row) es) 0) 0
+    ≡ tally test (counted_in es) + cond (test row) n 0
+set_tally row n [] there test = grind arith
+set_tally row n (e ∷ es) there test =
+    let rest =
+    λ (h : same_row row e.0 ≡ false). set_tally row n es (grind (arith, there, h)) test in
+    grind (arith, rest, same_row_decides row e.0)
+
+pub set_bare : (row : Row) (n : ℕ) (es : Entries)
+    → bare_rows (counted_in (set_value (same_row row) es n)) ≡ bare_rows (counted_in es)
+set_bare row n [] = refl
+set_bare row n (e ∷ es) = grind (arith, set_bare row n es)
+
+-- ---- what is true of each row of the map
+
+pub own_at : (node : List ℕ) (r : Row) (es : Entries) → AllByRecursion (λ e. e.0.pid.node ≡ node) es
+    → has_row es r ≡ true → r.pid.node ≡ node
+own_at node r [] a h = grind arith
+own_at node r (e ∷ es) a h = grind (arith, own_at node r es a.1, same_row_decides r e.0, a.0)
+
+pub own_from : (node : List ℕ) (es : Entries)
+    → ((r : Row) → has_row es r ≡ true → r.pid.node ≡ node)
+    → AllByRecursion (λ e. e.0.pid.node ≡ node) es
+own_from node [] h = tt
+own_from node (e ∷ es) h = (
+  h e.0 (grind (arith, rows_equal.refl e.0)),
+  own_from node es (λ r there. h r (grind (arith, there))),
+)
+
+counted_at : (r : Row) (es : Entries) → AreCounted (counted_in es) → has_row es r ≡ true
+    → 0 < unwrap_or (lookup (same_row r) es) 0
+counted_at r [] a h = grind arith
+counted_at r (e ∷ es) a h = grind (arith, counted_at r es a.1, a.0)
+
+pub counted_from : (es : Entries) → Once es
+    → ((r : Row) → has_row es r ≡ true → 0 < unwrap_or (lookup (same_row r) es) 0)
+    → AreCounted (counted_in es)
+counted_from [] d h = tt
+counted_from (e ∷ es) d h =
+    let rest = λ (r : Row) (there : has_row es r ≡ true).
+    let none =
+    λ (same : same_row r e.0 ≡ true). none_absent r es (none_past_head rows_equal r e es d same) in
+    let some = h r (grind (arith, there)) in
+    let is : 0 < unwrap_or (lookup (same_row r) es) 0 = grind (arith, some, none, there) in is in (
+      let some = h e.0 (grind (arith, rows_equal.refl e.0)) in
+          grind (arith, some, rows_equal.refl e.0),
+      counted_from es (rest_once e es d) rest,
+    )
+
+-- where a row is taken out, the others stay counted
+pub taken_counted : (row : Row) (es fs : Entries) → Once fs
+    → ((r : Row) → lookup (same_row r) fs ≡ cond (same_row row r) None (lookup (same_row r) es))
+    → AreCounted (counted_in es) → AreCounted (counted_in fs)
+taken_counted row es fs f gone a =
+    counted_from fs f
+    (λ r there. let was = gone r in let some = counted_at r es a in grind (arith, was, some, there))

@@ -1,0 +1,199 @@
+-- The indexes of a node, made of rows in order.
+use Rattle.scope_core.proofs.Words.{◌≡◌, ℕ, Bool, true, false, cond, List, [], ◌∷◌, map, None}
+use Rattle.scope_core.proofs.Words.{Some, refl, sym, ap, ◌∙◌, arith, length, get_or}
+use Rattle.scope_core.proofs.Words.{Less, AllByRecursion, Rises, text_cmp, same, same_row}
+use Rattle.scope_core.proofs.Words.{same_decides, tied_itself, texts_total, Row, Counted}
+use Rattle.scope_core.proofs.Words.{counted_cmp}
+use Rattle.std.specs.Ordering.{eq_by_cmp, is_eq}
+use Rattle.std.specs.Map.{lookup, keys_of}
+use Rattle.std.specs.List.{IsDistinct}
+use Rattle.scope_core.proofs.Words.{false, ◌++◌, Pid, slice_get, subst}
+use Rattle.scope_core.specs.declared.process_key.ProcessKey.{ProcessKey}
+use Rattle.scope_core.specs.declared.small_map.SmallMap.{SmallMap}
+use Rattle.scope_core.specs.SmallMap.{find, found}
+use Rattle.scope_core.proofs.Told.{AreAbove, AreIn, Run}
+use Rattle.scope_core.specs.HashedRows.{pid_of, key_of, key_cmp, entries_in}
+use Rattle.scope_core.proofs.HashedRows.{one_key, one_text}
+
+-- a row's process and count, as the index of groups has them
+abbrev pub pairs : List Counted → List (ProcessKey × ℕ)
+pairs rows = map (λ c. (key_of c.row.pid, c.count)) rows
+
+module _ (node g : List ℕ) where
+  abbrev pub OfOne : List Counted → Type 0
+  OfOne rows = AllByRecursion (λ c. (c.row.pid.node ≡ node) × (c.row.group ≡ g)) rows
+
+  pub pairs_lookup : (k : ProcessKey) (rows : List Counted) → OfOne rows
+      → lookup (λ q. is_eq (key_cmp k q)) (pairs rows)
+      ≡ lookup (same_row (record { group = g; pid = pid_of node k })) (entries_in rows)
+  pairs_lookup k [] a = refl
+  pairs_lookup k (c ∷ cs) a =
+      grind (
+        arith,
+        pairs_lookup k cs a.1,
+        one_key k (key_of c.row.pid),
+        same_decides g c.row.group,
+        same_decides node c.row.pid.node,
+        a.0,
+      )
+
+  apart : (c : Counted) (cs : List Counted) → (c.row.pid.node ≡ node) × (c.row.group ≡ g) → OfOne cs
+      → AllByRecursion (λ d. counted_cmp c d ≡ Less) cs
+      → AllByRecursion (λ q. eq_by_cmp key_cmp (key_of c.row.pid) q ≡ false) (keys_of (pairs cs))
+  apart c [] o a l = tt
+  apart c (d ∷ cs) o a l =
+      grind (
+        arith,
+        apart c cs o a.1 l.1,
+        l.0,
+        o,
+        a.0,
+        tied_itself texts_total g,
+        tied_itself texts_total node,
+      )
+
+  pub pairs_apart : (rows : List Counted) → OfOne rows → Rises counted_cmp rows
+      → IsDistinct (eq_by_cmp key_cmp) (keys_of (pairs rows))
+  unfolding IsDistinct
+  pairs_apart [] a r = tt
+  pairs_apart (c ∷ cs) a r = (apart c cs a.0 a.1 r.0, pairs_apart cs a.1 r.1)
+
+pub alone : (rows : List Counted) (c : Counted) → length rows ≡ 1 → c ≡ get_or rows 0 c
+    → rows ≡ c ∷ []
+alone [] c l e = absurd (omega (arith, l))
+alone (x ∷ []) c l e = ap (λ y. y ∷ []) (sym e)
+alone (x ∷ y ∷ ys) c l e = absurd (omega (arith, l))
+
+-- ---- the index of groups, made run by run
+
+abbrev Groups : Type 0
+Groups = List (List ℕ × SmallMap ProcessKey ℕ)
+
+-- no two groups are the same, all have rows, and each has the processes of its rows
+pub record Indexes (rows : List Counted) (es : Groups) : Type 0 where
+  pub above : (g : List ℕ) → AreAbove g rows
+      → AllByRecursion (λ h. text_cmp g h ≡ Less) (keys_of es)
+  pub apart : IsDistinct (eq_by_cmp text_cmp) (keys_of es)
+  pub looked : (node : List ℕ) → AllByRecursion (λ c. c.row.pid.node ≡ node) rows
+      → (g : List ℕ) (k : ProcessKey)
+      → found key_cmp (lookup (λ h. is_eq (text_cmp g h)) es) k
+      ≡ lookup (same_row (record { group = g; pid = pid_of node k })) (entries_in rows)
+
+pub indexes_none : (rows : List Counted) → None ≡ slice_get rows 0 → Indexes rows []
+unfolding IsDistinct
+indexes_none [] e = record { above = λ g a. tt; apart = tt; looked = λ node own g k. refl }
+indexes_none (c ∷ cs) e = grind (arith, e)
+
+module _ (test : Row → Bool) where
+  lookup_front : (xs ys : List Counted) → lookup test (entries_in ys) ≡ None
+      → lookup test (entries_in (xs ++ ys)) ≡ lookup test (entries_in xs)
+  lookup_front [] ys none = none
+  lookup_front (x ∷ xs) ys none = grind (arith, lookup_front xs ys none)
+
+  lookup_back : (xs ys : List Counted) → lookup test (entries_in xs) ≡ None
+      → lookup test (entries_in (xs ++ ys)) ≡ lookup test (entries_in ys)
+  lookup_back [] ys none = refl
+  lookup_back (x ∷ xs) ys none = grind (arith, lookup_back xs ys, none)
+
+-- rows of other groups aren't those of the group
+none_above : (g : List ℕ) (p : Pid) (cs : List Counted) → AreAbove g cs
+    → lookup (same_row (record { group = g; pid = p })) (entries_in cs) ≡ None
+none_above g p [] a = refl
+none_above g p (c ∷ cs) a =
+    grind (arith, none_above g p cs a.1, a.0, same_decides g c.row.group, tied_itself texts_total g)
+
+none_other : (g h : List ℕ) (p : Pid) (cs : List Counted) → AreIn g cs → same h g ≡ false
+    → lookup (same_row (record { group = h; pid = p })) (entries_in cs) ≡ None
+none_other g h p [] a n = refl
+none_other g h p (c ∷ cs) a n =
+    grind (
+      arith,
+      none_other g h p cs a.1 n,
+      a.0,
+      same_decides h c.row.group,
+      same_decides c.row.group g,
+      same_decides h g,
+      n,
+    )
+
+own_front : (node : List ℕ) (xs ys : List Counted)
+    → AllByRecursion (λ c. c.row.pid.node ≡ node) (xs ++ ys)
+    → AllByRecursion (λ c. c.row.pid.node ≡ node) xs
+own_front node [] ys a = tt
+own_front node (x ∷ xs) ys a = (a.0, own_front node xs ys a.1)
+
+own_back : (node : List ℕ) (xs ys : List Counted)
+    → AllByRecursion (λ c. c.row.pid.node ≡ node) (xs ++ ys)
+    → AllByRecursion (λ c. c.row.pid.node ≡ node) ys
+own_back node [] ys a = a
+own_back node (x ∷ xs) ys a = own_back node xs ys a.1
+
+of_one : (node g : List ℕ) (xs : List Counted) → AreIn g xs
+    → AllByRecursion (λ c. c.row.pid.node ≡ node) xs → OfOne node g xs
+of_one node g [] a b = tt
+of_one node g (x ∷ xs) a b = ((b.0, (same_decides x.row.group g).0 a.0), of_one node g xs a.1 b.1)
+
+-- where the first row is of the group
+pub first_above : (group : List ℕ) (all : List Counted) (c : Counted) → Some c ≡ slice_get all 0
+    → group ≡ c.row.group → (k : List ℕ) → AreAbove k all → text_cmp k group ≡ Less
+first_above group [] c e is k a = grind (arith, e)
+first_above group (x ∷ xs) c e is k a = grind (arith, e, is, a.0)
+
+-- those of one group before those of the others
+module _ (group : List ℕ) (all xs cs : List Counted)
+    (first : (k : List ℕ) → AreAbove k all → text_cmp k group ≡ Less) (run : Run group all xs cs)
+    (m : SmallMap ProcessKey ℕ)
+    (members : (node g : List ℕ) → OfOne node g xs → (k : ProcessKey)
+    → find key_cmp m k
+    ≡ lookup (same_row (record { group = g; pid = pid_of node k })) (entries_in xs))
+    (tail : Groups) (rest : Indexes cs tail) where
+  all_apart : (ks : List (List ℕ)) → AllByRecursion (λ h. text_cmp group h ≡ Less) ks
+      → AllByRecursion (λ h. eq_by_cmp text_cmp group h ≡ false) ks
+  all_apart [] l = tt
+  all_apart (k ∷ ks) l = (ap is_eq l.0, all_apart ks l.1)
+
+  keys_apart : IsDistinct (eq_by_cmp text_cmp) (group ∷ keys_of tail)
+  unfolding IsDistinct
+  keys_apart = (all_apart (keys_of tail) (rest.above group run.above), rest.apart)
+
+  all_above : (k : List ℕ) → AreAbove k all
+      → AllByRecursion (λ h. text_cmp k h ≡ Less) (group ∷ keys_of tail)
+  all_above k a = (first k a, rest.above k (above_back xs cs (subst (AreAbove k) run.whole a)))
+    where
+      above_back : (ys ds : List Counted) → AreAbove k (ys ++ ds) → AreAbove k ds
+      above_back [] ds b = b
+      above_back (y ∷ ys) ds b = above_back ys ds b.1
+
+  looked_parts : (node : List ℕ) → AllByRecursion (λ d. d.row.pid.node ≡ node) (xs ++ cs)
+      → (g : List ℕ) (k : ProcessKey) → (b : Bool) → same g group ≡ b
+      → found key_cmp (cond b (Some m) (lookup (λ h. is_eq (text_cmp g h)) tail)) k
+      ≡ lookup (same_row (record { group = g; pid = pid_of node k })) (entries_in (xs ++ cs))
+  looked_parts node own g k true e =
+      let is = (same_decides g group).0 e in
+      let test = same_row (record { group = g; pid = pid_of node k }) in
+      members node g
+      (subst (λ h. OfOne node h xs) (sym is)
+      (of_one node group xs run.inside (own_front node xs cs own)))
+      k
+      ∙ sym
+      (lookup_front test xs cs
+      (none_above g (pid_of node k) cs (subst (λ h. AreAbove h cs) (sym is) run.above)))
+  looked_parts node own g k false e =
+      let test = same_row (record { group = g; pid = pid_of node k }) in
+      rest.looked node (own_back node xs cs own) g k
+      ∙ sym (lookup_back test xs cs (none_other group g (pid_of node k) xs run.inside e))
+
+  pub indexes_next : Indexes all ((group, m) ∷ tail)
+  indexes_next = record {
+    above = all_above;
+    apart = keys_apart;
+    looked = λ node own g k.
+        let parts =
+        looked_parts node (subst (AllByRecursion (λ d. d.row.pid.node ≡ node)) run.whole own) g
+        k (same g group) refl in
+        ap (λ b. found key_cmp (cond b (Some m) (lookup (λ h. is_eq (text_cmp g h)) tail)) k)
+        (one_text g group)
+        ∙ parts
+        ∙ ap (λ ds. lookup (same_row (record { group = g; pid = pid_of node k })) (entries_in ds))
+        (sym run.whole);
+  }

@@ -1,0 +1,96 @@
+-- Rows that come, counted, and what they are more than others.
+use Rattle.scope_core.proofs.Words.{append_assoc, picked, zero, suc, ◌≡◌, ℕ, ◌<◌, ◌≤◌}
+use Rattle.scope_core.proofs.Words.{Bool, cond, List, [], ◌∷◌, ◌++◌, drop, Some, slice_get, refl}
+use Rattle.scope_core.proofs.Words.{◌∙◌, arith}
+use Rattle.scope_core.proofs.Words.{Less, AllByRecursion, tied_itself, exact_rows, rows_total}
+use Rattle.scope_core.proofs.Words.{same_row_decides, same_row, Rises, row_cmp, Row, Counted}
+use Rattle.scope_core.proofs.Words.{counted_cmp, tally, is_row}
+use Rattle.scope_core.proofs.Rising.{once, tally_absent, all_map}
+use Rattle.std.specs.Prelude.{◌≢◌}
+
+-- a row below all of these isn't among them
+pub below_none : (row : Row) (cs : List Counted) → AllByRecursion (λ c. row_cmp row c.row ≡ Less) cs
+    → tally (is_row row.group row.pid) cs ≡ 0
+below_none row cs a =
+    let g = row.group in let p = row.pid in
+    tally_absent g p cs
+    (once g p (record { row = row; count = 0 }) cs ((same_row_decides row row).1 refl) a)
+
+-- where only the first of the rows can be this one, it is counted as the first is, or not at all
+pub first_counted : (b : Bool) (row : Row) (rows : List Counted) (c : Counted)
+    → Some c ≡ slice_get rows 0 → same_row c.row row ≡ b
+    → AllByRecursion (λ d. row_cmp row d.row ≡ Less) (drop 1 rows)
+    → cond b c.count 0 ≡ tally (is_row row.group row.pid) rows
+first_counted b row [] c e same a = grind arith
+first_counted b row (x ∷ xs) c e same a = grind (arith, e, same, below_none row xs a)
+
+-- a lower row counts for none that isn't lower
+pub low_next : (row r : Row) (c : Counted) (cs : List Counted) → row_cmp c.row row ≡ Less
+    → row_cmp r row ≢ Less
+    → tally (is_row r.group r.pid) (c ∷ cs) ≡ tally (is_row r.group r.pid) cs
+low_next row r c cs l n = grind (arith, same_row_decides c.row r, l, n)
+
+-- what is above a row that isn't lower than another is above that one
+above_next : (row : Row) (c d : Counted) → row_cmp c.row row ≢ Less → counted_cmp c d ≡ Less
+    → row_cmp row d.row ≡ Less
+above_next row c d n l =
+    grind (
+      arith,
+      rows_total.trans row c.row d.row,
+      rows_total.antisymm c.row row,
+      exact_rows c.row row,
+      n,
+      l,
+    )
+
+pub above_all : (row : Row) (c : Counted) (cs : List Counted) → row_cmp c.row row ≢ Less
+    → AllByRecursion (λ d. counted_cmp c d ≡ Less) cs
+    → AllByRecursion (λ d. row_cmp row d.row ≡ Less) cs
+above_all row c cs n a =
+    all_map (λ d. counted_cmp c d ≡ Less) (λ d. row_cmp row d.row ≡ Less)
+    (λ d. above_next row c d n) cs a
+
+-- ---- a row on, in the loop over rows of which some are more
+
+-- the row is counted among the rows as among the others
+abbrev pub IsCountedAs : List Counted → List Counted → Counted → Type 0
+IsCountedAs others rows c =
+    tally (is_row c.row.group c.row.pid) rows ≡ tally (is_row c.row.group c.row.pid) others
+
+pub rises_drop : (i : ℕ) (cs : List Counted) → Rises counted_cmp cs → Rises counted_cmp (drop i cs)
+rises_drop zero cs r = r
+rises_drop (suc i) [] r = tt
+rises_drop (suc i) (c ∷ cs) r = rises_drop i cs r.1
+
+module _ (row : Row) (rest left others : List Counted)
+    (low : (r : Row) → row_cmp r row ≢ Less
+    → tally (is_row r.group r.pid) left ≡ tally (is_row r.group r.pid) rest) where
+  low_one : (d : Counted) → row_cmp row d.row ≡ Less
+      → tally (is_row d.row.group d.row.pid) left ≡ tally (is_row d.row.group d.row.pid) rest
+  low_one d l = low d.row (grind (arith, rows_total.antisymm d.row row, l))
+
+  -- the rows above it are counted among those left as before
+  pub low_all : (ds : List Counted) → AllByRecursion (λ d. row_cmp row d.row ≡ Less) ds
+      → AllByRecursion (IsCountedAs others rest) ds → AllByRecursion (IsCountedAs others left) ds
+  low_all [] l a = tt
+  low_all (d ∷ ds) l a = (low_one d l.0 ∙ a.0, low_all ds l.1 a.1)
+
+  -- and so is the row itself
+  pub low_itself : tally (is_row row.group row.pid) left ≡ tally (is_row row.group row.pid) rest
+  low_itself = low row (grind (arith, tied_itself rows_total row))
+
+module _ (times : Counted → ℕ) (more : List Counted) (c : Counted) (cs : List Counted) where
+  pub picked_more : (n : ℕ) → n ≡ times c → 0 < n
+      → (more ++ record { row = c.row; count = n } ∷ []) ++ picked times cs
+      ≡ more ++ picked times (c ∷ cs)
+  picked_more n e l =
+      grind (
+        arith,
+        e,
+        l,
+        append_assoc more (record { row = c.row; count = n } ∷ []) (picked times cs),
+      )
+
+  pub picked_none : (n : ℕ) → n ≡ times c → n ≤ 0
+      → more ++ picked times cs ≡ more ++ picked times (c ∷ cs)
+  picked_none n e l = grind (arith, e, l)

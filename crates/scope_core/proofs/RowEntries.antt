@@ -1,0 +1,92 @@
+-- Rows in order as the entries of a map, and the map with its indexes.
+use Rattle.scope_core.proofs.Words.{◌≡◌, ℕ, ◌&&◌, false, List, [], ◌∷◌, ◌++◌, None, refl}
+use Rattle.scope_core.proofs.Words.{sym, ap, subst, ◌∙◌, append_assoc, arith, Less, AllByRecursion}
+use Rattle.scope_core.proofs.Words.{Rises}
+use Rattle.scope_core.proofs.Words.{Row, Counted, same_row, same_row_decides, row_cmp, text_cmp}
+use Rattle.scope_core.proofs.Words.{counted_cmp}
+use Rattle.scope_core.proofs.Words.{tied_itself, rows_total}
+use Rattle.std.specs.Option.{is_some}
+use Rattle.std.specs.Map.{lookup, keys_of}
+use Rattle.std.specs.List.{IsDistinct}
+use Rattle.std.specs.BTreeMap.{BTreeMap}
+use Rattle.scope_core.specs.declared.process_key.ProcessKey.{ProcessKey}
+use Rattle.scope_core.specs.declared.small_map.SmallMap.{SmallMap}
+use Rattle.scope_core.specs.SmallMap.{find_in}
+use Rattle.scope_core.specs.HashedRows.{counted_in, entries_in, has_key, pid_of, key_cmp, stands}
+use Rattle.scope_core.specs.HashedRows.{IsHashed}
+use Rattle.scope_core.proofs.HashedRows.{rows_equal, stands_is}
+use Rattle.scope_core.proofs.Rising.{all_mapped}
+
+abbrev Entries : Type 0
+Entries = List (Row × ℕ)
+
+pub back_again : (rows : List Counted) → counted_in (entries_in rows) ≡ rows
+back_again [] = refl
+back_again (c ∷ cs) = ap (λ ds. c ∷ ds) (back_again cs)
+
+apart : (c : Counted) (cs : List Counted) → AllByRecursion (λ d. counted_cmp c d ≡ Less) cs
+    → AllByRecursion (λ r. same_row c.row r ≡ false) (keys_of (entries_in cs))
+apart c [] l = tt
+apart c (d ∷ cs) l =
+    grind (arith, apart c cs l.1, l.0, same_row_decides c.row d.row, tied_itself rows_total c.row)
+
+pub rising_once : (rows : List Counted) → Rises counted_cmp rows
+    → IsDistinct same_row (keys_of (entries_in rows))
+unfolding IsDistinct
+rising_once [] r = tt
+rising_once (c ∷ cs) r = (apart c cs r.0, rising_once cs r.1)
+
+-- ---- one row after another
+
+at_middle : (r row : Row) (n : ℕ) (es fs : Entries)
+    → AllByRecursion (λ x. same_row r x ≡ false) (keys_of (es ++ (row, n) ∷ fs))
+    → same_row r row ≡ false
+at_middle r row n [] fs a = a.0
+at_middle r row n (e ∷ es) fs a = at_middle r row n es fs a.1
+
+-- a row that stands once isn't among those before it
+once_before : (row : Row) (n : ℕ) (es fs : Entries)
+    → IsDistinct same_row (keys_of (es ++ (row, n) ∷ fs)) → lookup (same_row row) es ≡ None
+unfolding IsDistinct
+once_before row n [] fs d = refl
+once_before row n (e ∷ es) fs d =
+    let other = at_middle e.0 row n es fs d.0 in
+    grind (arith, once_before row n es fs d.1, other, rows_equal.symm e.0 row)
+
+-- the entries of the rows so far are es, and c is the next row
+module _ (rows rest more : List Counted) (c : Counted) (es : Entries)
+    (all : es ++ entries_in rest ≡ entries_in rows) (next : rest ≡ c ∷ more) where
+  pub next_fresh : Rises counted_cmp rows → lookup (same_row c.row) es ≡ None
+  next_fresh rises =
+      let split = sym all ∙ ap (λ cs. es ++ entries_in cs) next in
+      let once = subst (λ xs. IsDistinct same_row (keys_of xs)) split (rising_once rows rises) in
+      once_before c.row c.count es (entries_in more) once
+
+  pub next_in : (fs : Entries) → fs ≡ es ++ (c.row, c.count) ∷ []
+      → fs ++ entries_in more ≡ entries_in rows
+  next_in fs is =
+      ap (λ xs. xs ++ entries_in more) is
+      ∙ append_assoc es ((c.row, c.count) ∷ []) (entries_in more)
+      ∙ sym (ap (λ cs. es ++ entries_in cs) next) ∙ all
+
+-- ---- the map and its indexes
+
+pub hashed_of : (node : List ℕ) (rows : List Counted) (es : Entries)
+    (groups : BTreeMap (List ℕ) (SmallMap ProcessKey ℕ))
+    (processes : BTreeMap ProcessKey (SmallMap Row (Unit {0})))
+    → AllByRecursion (λ c. c.row.pid.node ≡ node) rows → Rises counted_cmp rows
+    → es ≡ entries_in rows
+    → ((g : List ℕ) (k : ProcessKey) → find_in text_cmp key_cmp groups g k
+    ≡ lookup (same_row (record { group = g; pid = pid_of node k })) (entries_in rows))
+    → ((k : ProcessKey) (r : Row) → is_some (find_in key_cmp row_cmp processes k r)
+    ≡ (has_key k r.pid && stands r rows))
+    → IsHashed node es groups processes
+hashed_of node rows es groups processes own rises made by_group by_process =
+    let there = λ (r : Row).
+    ap (stands r) (sym (back_again rows)) ∙ stands_is r (entries_in rows) in
+    subst (λ xs. IsHashed node xs groups processes) (sym made) (record {
+      once = rising_once rows rises;
+      own = all_mapped (λ e. e.0.pid.node ≡ node) (λ c. (c.row, c.count)) rows own;
+      by_group = by_group;
+      by_process = λ k r. by_process k r ∙ ap (λ b. has_key k r.pid && b) (there r);
+    })

@@ -1,0 +1,62 @@
+use Rattle.scope_core.proofs.Words.{◌≡◌, arith, false, is_gt, text_cmp, texts_total, or_left}
+use Rattle.scope_core.proofs.Words.{or_right}
+use Rattle.scope_core.proofs.Told.{none_below_first, itself, first_in}
+use Rattle.scope_core.proofs.changes.first_group.Goals.{then-lt, else-lt}
+use Rattle.scope_core.proofs.changes.first_group.Goals as goal
+
+pub returns-after-lt-clause-gone : goal.returns-after-lt-clause-gone
+returns-after-lt-clause-gone c =
+    let one = c.in-Some-Some.one.now in
+    let g = c.if-lt.result.now in
+    let low : is_gt (text_cmp g one.row.group) ≡ false = elim c.if-lt.branch [
+      | then-lt w ↦ grind (arith, w.result-is, w.if-lt.ensures)
+      | else-lt w ↦ grind (arith, w.result-is, itself one.row.group)
+    ] in none_below_first g c.args.gone.now one c.in-Some-Some.ensures.value low c.requires.gone
+
+pub returns-after-lt-clause-joined : goal.returns-after-lt-clause-joined
+returns-after-lt-clause-joined c =
+    let one = c.in-Some-Some.one.now in
+    let other = c.in-Some-Some.other.now in
+    let g = c.if-lt.result.now in
+    let low : is_gt (text_cmp g other.row.group) ≡ false = elim c.if-lt.branch [
+      | then-lt w ↦ grind (arith, w.result-is, itself other.row.group)
+      | else-lt w ↦
+          grind (
+            arith,
+            w.result-is,
+            w.if-lt.ensures,
+            texts_total.antisymm one.row.group other.row.group,
+          )
+    ] in
+    none_below_first g c.args.joined.now other c.in-Some-Some.ensures'.value low c.requires.joined
+
+pub returns-after-lt-clause-some : goal.returns-after-lt-clause-some
+returns-after-lt-clause-some c =
+    let one = c.in-Some-Some.one.now in
+    let other = c.in-Some-Some.other.now in
+    let first = first_in c.args.gone.now one c.in-Some-Some.ensures.value in
+    let second = first_in c.args.joined.now other c.in-Some-Some.ensures'.value in
+    elim c.if-lt.branch [
+      | then-lt w ↦ grind (arith, w.result-is, second)
+      | else-lt w ↦ grind (arith, w.result-is, first)
+    ]
+
+pub returns-in-Some-None-clause-gone : goal.returns-in-Some-None-clause-gone
+returns-in-Some-None-clause-gone c =
+    let one = c.in-Some-None.one.now in
+    none_below_first one.row.group c.args.gone.now one c.in-Some-None.ensures.value
+    (itself one.row.group) c.requires.gone
+
+pub returns-in-Some-None-clause-some : goal.returns-in-Some-None-clause-some
+returns-in-Some-None-clause-some c =
+    or_left _ _ (first_in c.args.gone.now c.in-Some-None.one.now c.in-Some-None.ensures.value)
+
+pub returns-in-None-Some-clause-joined : goal.returns-in-None-Some-clause-joined
+returns-in-None-Some-clause-joined c =
+    let other = c.in-None-Some.other.now in
+    none_below_first other.row.group c.args.joined.now other c.in-None-Some.ensures'.value
+    (itself other.row.group) c.requires.joined
+
+pub returns-in-None-Some-clause-some : goal.returns-in-None-Some-clause-some
+returns-in-None-Some-clause-some c =
+    or_right _ _ (first_in c.args.joined.now c.in-None-Some.other.now c.in-None-Some.ensures'.value)

@@ -1,0 +1,32 @@
+use Rattle.scope_core.proofs.Words.{◌≡◌, ◌∷◌, arith, subst, row_in, AllByRecursion, same_decides}
+use Rattle.scope_core.proofs.Words.{same_row_decides}
+use Rattle.std.proofs.lemmas.Grind.{common_steps}
+use Rattle.scope_core.specs.HashedRows.{pid_of}
+use Rattle.scope_core.proofs.GroupRows.{behind_next}
+use Rattle.scope_core.proofs.group_members.behind.Goals as goal
+
+pub loop-preserved : goal.loop-preserved
+loop-preserved c = λ node own.
+    let was = c.loop.invariant node own in
+    let row = c.in_ok-row.row.now in
+    let others = c.in_ok-row.others.now in
+    let x = row_in c.args.group.now (pid_of node c.args.key) in
+    let first : c.loop.rest.now ≡ row ∷ others =
+    grind (arith, common_steps, c.in_ok-row.ensures.cases) in
+    let mine = subst (AllByRecursion (λ r. r.pid.node ≡ node)) first was.1 in
+    let is : row ≡ x =
+    (same_row_decides row x).0
+    (grind (
+      arith,
+      mine.0,
+      same_decides row.pid.node node,
+      c.ne.ensures,
+      c.if-ne.false,
+      c.ne-else-ne.ensures,
+      c.if-ne-2.false,
+      c.of.ensures,
+    )) in
+    (behind_next c.args.rows.now c.loop.rest.now others c.loop.counter x row was.0 first is, mine.1)
+
+pub returns-clause-own : goal.returns-clause-own
+returns-clause-own c = λ node own. (c.loop.invariant node own).1

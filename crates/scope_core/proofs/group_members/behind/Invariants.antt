@@ -1,0 +1,9 @@
+use Rattle.scope_core.proofs.Words.{◌≡◌, ◌++◌, ℕ, List, AllByRecursion, replicate, row_in}
+use Rattle.scope_core.specs.HashedRows.{pid_of}
+use Rattle.scope_core.proofs.group_members.behind.Given as goal
+
+-- so many rows are the process's so far
+abbrev pub invariant-loop : goal.invariant-loop
+invariant-loop l = (node : List ℕ) → AllByRecursion (λ r. r.pid.node ≡ node) l.rows
+    → (l.rows ≡ replicate l.counter (row_in l.group (pid_of node l.key)) ++ l.rest)
+    × AllByRecursion (λ r. r.pid.node ≡ node) l.rest

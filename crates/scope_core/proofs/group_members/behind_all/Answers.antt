@@ -1,0 +1,33 @@
+use Rattle.scope_core.proofs.Words.{◌++◌, ◌∙◌, ap, arith, append_assoc, replicate, row_in, List}
+use Rattle.std.specs.List.Sorted.{IsStrictlySortedBy}
+use Rattle.dist_types.specs.declared.row.Row.{Row}
+use Rattle.scope_core.specs.HashedRows.{pid_of}
+use Rattle.scope_core.proofs.Outcomes.{some_any}
+use Rattle.scope_core.proofs.group_members.behind_all.Goals as goal
+
+pub loop-key-preserved : goal.loop-key-preserved
+loop-key-preserved c = λ node own.
+    let was = c.loop-key.invariant node own in
+    let row = row_in c.args.group.now (pid_of node c.in-Some.key.now) in
+    let x = replicate c.in-Some.count.now row in
+    let first = c.in_ok-rest-in-Many.ensures.begins node was.0 in
+    let steps = c.in-Some.ensures.steps in (
+      c.in_ok-rest-in-Many.ensures.own node was.0,
+      λ xs h. was.1 xs (first ∙ ap (λ (rs : List Row). x ++ rs) h
+          ∙ grind (arith, append_assoc, steps)),
+    )
+
+pub returns-in-None-clause-begins : goal.returns-in-None-clause-begins
+returns-in-None-clause-begins c = λ node own.
+    (c.loop-key.invariant node own).1 c.loop-key.rest.now (grind (arith, c.in-None.ensures.steps))
+
+pub returns-in-None-clause-own : goal.returns-in-None-clause-own
+returns-in-None-clause-own c = λ node own. (c.loop-key.invariant node own).0
+
+pub returns-in-Empty-clause-ordered : goal.returns-in-Empty-clause-ordered
+unfolding IsStrictlySortedBy
+returns-in-Empty-clause-ordered c = rw c.in-Empty.is tt
+
+pub returns-in-One-clause-ordered : goal.returns-in-One-clause-ordered
+unfolding IsStrictlySortedBy
+returns-in-One-clause-ordered c = rw c.in-One.is (some_any c.behind.result (tt, tt))

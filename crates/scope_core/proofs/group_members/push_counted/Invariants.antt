@@ -1,0 +1,10 @@
+use Rattle.scope_core.proofs.Words.{◌≡◌, ◌++◌}
+use Rattle.scope_core.specs.HashedRows.{group_rows}
+use Rattle.scope_core.specs.SmallMap.{entries_of}
+use Rattle.scope_core.proofs.group_members.push_counted.Given as goal
+
+-- with those of the entries to come, all are there
+abbrev pub invariant-loop-key : goal.invariant-loop-key
+invariant-loop-key l =
+    l.rows.items ++ group_rows l.node l.group l.key-iterator
+    ≡ l.fn.rows.items ++ group_rows l.node l.group (entries_of l.members)

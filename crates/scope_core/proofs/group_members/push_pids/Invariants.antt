@@ -1,0 +1,10 @@
+use Rattle.scope_core.proofs.Words.{◌≡◌, ◌++◌, spread}
+use Rattle.scope_core.specs.HashedRows.{pid_of}
+use Rattle.scope_core.specs.SmallMap.{entries_of}
+use Rattle.scope_core.proofs.group_members.push_pids.Given as goal
+
+-- with those of the entries to come, all are there
+abbrev pub invariant-loop-key : goal.invariant-loop-key
+invariant-loop-key l =
+    l.pids.items ++ spread (λ e. pid_of l.node e.0) (λ e. e.1) l.key-iterator
+    ≡ l.fn.pids.items ++ spread (λ e. pid_of l.node e.0) (λ e. e.1) (entries_of l.members)

@@ -1,0 +1,7 @@
+use Rattle.scope_core.proofs.Words.{◌≡◌, ◌++◌, replicate}
+use Rattle.scope_core.specs.HashedRows.{pid_of}
+use Rattle.scope_core.proofs.group_members.push_times.Given as goal
+
+-- the copies so far
+abbrev pub invariant-loop : goal.invariant-loop
+invariant-loop l = l.pids.items ≡ l.fn.pids.items ++ replicate l.counter (pid_of l.node l.key)

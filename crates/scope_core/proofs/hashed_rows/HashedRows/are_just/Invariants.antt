@@ -1,0 +1,14 @@
+use Rattle.scope_core.proofs.Words.{◌≡◌, ◌++◌, List, AllByRecursion, Row}
+use Rattle.scope_core.proofs.GroupRows.{SortedMembers}
+use Rattle.scope_core.proofs.GroupIndex.{repeated}
+use Rattle.scope_core.proofs.hashed_rows.HashedRows.are_just.Given as goal
+
+-- once those of the groups to come stand before the rest, all stand before it
+abbrev pub invariant-loop-group : goal.invariant-loop-group
+invariant-loop-group l =
+    let node = l.self.node in
+    let all = l.initial.group-iterator in
+    AllByRecursion (λ r. r.pid.node ≡ node) l.rest
+    × ((xs : List Row) → l.rest ≡ repeated node l.group-iterator ++ xs
+    → l.rows ≡ repeated node all ++ xs)
+    × (AllByRecursion SortedMembers l.group-iterator → AllByRecursion SortedMembers all)

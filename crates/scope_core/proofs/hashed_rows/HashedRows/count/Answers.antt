@@ -1,0 +1,16 @@
+use Rattle.scope_core.proofs.Words.{◌≡◌, ◌∙◌, ap, sym, arith, tally, is_row, same_row}
+use Rattle.std.specs.Option.{unwrap_or}
+use Rattle.std.specs.Map.{lookup}
+use Rattle.std.proofs.lemmas.Grind.{common_steps}
+use Rattle.scope_core.specs.HashedRows.{NodeTable}
+use Rattle.scope_core.proofs.HashedRows.{count_is}
+use Rattle.scope_core.proofs.hashed_rows.HashedRows.count.Goals as goal
+
+pub returns : goal.returns
+returns c =
+    let row = c.args.row.now in
+    let es = c.self.inside.counts.entries in
+    let value : c.unwrap_or.result ≡ unwrap_or (lookup (same_row row) es) 0 =
+    grind (arith, common_steps) in
+    value ∙ sym (count_is row es c.self.invariant.once)
+    ∙ ap (λ (t : NodeTable). tally (is_row row.group row.pid) t.rows) c.self.view_is

@@ -1,0 +1,10 @@
+use Rattle.std.specs.List.Sorted.{IsStrictlySortedBy}
+use Rattle.scope_core.proofs.hashed_rows.HashedRows.counted_all.Goals as goal
+
+pub returns-in-Empty-clause-ordered : goal.returns-in-Empty-clause-ordered
+unfolding IsStrictlySortedBy
+returns-in-Empty-clause-ordered c = rw c.in-Empty.is tt
+
+pub returns-in_ok-vec-in-One-clause-ordered : goal.returns-in_ok-vec-in-One-clause-ordered
+unfolding IsStrictlySortedBy
+returns-in_ok-vec-in-One-clause-ordered c = rw c.in-One.is (tt, tt)

@@ -1,0 +1,12 @@
+use Rattle.scope_core.proofs.Words.{◌≡◌, ◌++◌}
+use Rattle.std.specs.Map.{keys_of}
+use Rattle.scope_core.specs.SmallMap.{entries_of}
+use Rattle.scope_core.specs.HashedRows.{with_counts}
+use Rattle.scope_core.proofs.hashed_rows.HashedRows.counted_all.Given as goal
+
+-- with those of the entries to come, all are there
+abbrev pub invariant-loop-row : goal.invariant-loop-row
+invariant-loop-row l =
+    let rows = l.fn.self.rows in
+    l.rows.items ++ with_counts rows (keys_of l.row-iterator)
+    ≡ with_counts rows (keys_of (entries_of l.copies))

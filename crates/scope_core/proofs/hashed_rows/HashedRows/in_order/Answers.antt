@@ -1,0 +1,28 @@
+use Rattle.scope_core.proofs.Words.{◌∙◌, ◌++◌, ap, sym, subst, tally, is_row, AllByRecursion, Rises}
+use Rattle.scope_core.proofs.Words.{counted_cmp}
+use Rattle.std.proofs.lemmas.List.{append-nil}
+use Rattle.scope_core.proofs.GroupRows.{SortedMembers, flat, flat_rises}
+use Rattle.scope_core.proofs.GroupIndex.{index_tally}
+use Rattle.scope_core.proofs.hashed_rows.HashedRows.in_order.Goals as goal
+
+pub returns-clause-rises : goal.returns-clause-rises
+returns-clause-rises c =
+    let table = c.self.inside in
+    let rows = c.loop-group.rows.items in
+    let done = c.in-None.ensures.steps.0 in
+    let sorted = c.loop-group.invariant.1 (subst (AllByRecursion SortedMembers) (sym done) tt) in
+    let ended = sym (append-nil rows) ∙ ap (λ i. rows ++ flat table.node i) (sym done) in
+    let ordered = c.iter-group-items.ensures.ordered in
+    let all = flat_rises table.node table.groups.entries ordered sorted in
+    subst (Rises counted_cmp) (sym (ended ∙ c.loop-group.invariant.0)) all
+
+pub returns-clause-counts : goal.returns-clause-counts
+returns-clause-counts c = λ g p.
+    let table = c.self.inside in
+    let rows = c.loop-group.rows.items in
+    let done = c.in-None.ensures.steps.0 in
+    let sorted = c.loop-group.invariant.1 (subst (AllByRecursion SortedMembers) (sym done) tt) in
+    let ended = sym (append-nil rows) ∙ ap (λ i. rows ++ flat table.node i) (sym done) in
+    rw (← c.self.view_is) (ap (tally (is_row g p)) (ended ∙ c.loop-group.invariant.0)
+    ∙ index_tally table.node table.counts.entries table.groups table.processes
+    c.self.invariant c.iter-group-items.ensures.ordered sorted g p)

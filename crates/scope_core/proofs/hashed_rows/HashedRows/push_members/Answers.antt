@@ -1,0 +1,50 @@
+use Rattle.scope_core.proofs.Words.{◌≡◌, ◌∙◌, ◌++◌, ap, sym, subst, arith, true, same, same_decides}
+use Rattle.scope_core.proofs.Words.{same_pid}
+use Rattle.scope_core.proofs.Words.{how_many_append, mentions, Ascends, pid_cmp, spread}
+use Rattle.scope_core.specs.HashedRows.{key_of, key_cmp, pid_of}
+use Rattle.scope_core.specs.SmallMap.{entries_of, found}
+use Rattle.scope_core.proofs.Outcomes.{ok_both}
+use Rattle.scope_core.proofs.HashedWrites.{in_group_count}
+use Rattle.scope_core.proofs.GroupIndex.{left_ascends}
+use Rattle.scope_core.proofs.GroupRows.{member_mentions}
+use Rattle.scope_core.proofs.hashed_rows.HashedRows.push_members.Goals as goal
+
+pub returns-in_default-clause-counts : goal.returns-in_default-clause-counts
+returns-in_default-clause-counts c = λ p.
+    let g = c.args.group.now in
+    let es = c.self.inside.counts.entries in
+    let node = c.self.inside.node in
+    let none = ap (λ o. found key_cmp o (key_of p)) (sym c.in_default.ensures.value) in
+    let count = λ (h : same node p.node ≡ true).
+    in_group_count node g p es _ c.self.invariant.once ((same_decides node p.node).0 h)
+    (sym none ∙ c.self.invariant.by_group g (key_of p)) in
+    rw (← c.self.view_is) (grind (arith, count))
+
+pub returns-in_default-clause-ascends : goal.returns-in_default-clause-ascends
+returns-in_default-clause-ascends c = λ none. subst (Ascends pid_cmp) (sym none) tt
+
+pub returns-clause-counts : goal.returns-clause-counts
+returns-clause-counts c =
+    ok_both c.push_pids.result (λ pids sorted p.
+    let g = c.args.group.now in
+    let es = c.self.inside.counts.entries in
+    let node = c.self.inside.node in
+    let there = ap (λ o. found key_cmp o (key_of p)) c.in-Some.ensures.value
+    ∙ c.self.invariant.by_group g (key_of p) in
+    let count = λ (h : same node p.node ≡ true).
+    in_group_count node g p es _ c.self.invariant.once ((same_decides node p.node).0 h) there in
+    let more = member_mentions node g p _ sorted in
+    let all = ap (mentions p) pids
+    ∙ how_many_append (λ q. same_pid q p) c.args.pids.now.items _ in
+    rw (← c.self.view_is) (grind (arith, count, more, all)))
+    c.push_pids.ensures.pids c.push_pids.ensures.ordered
+
+pub returns-clause-ascends : goal.returns-clause-ascends
+returns-clause-ascends c =
+    ok_both c.push_pids.result (λ pids sorted none.
+    let node = c.self.inside.node in
+    let members = c.in-Some.members.now in
+    let left = spread (λ m. pid_of node m.0) (λ m. m.1) (entries_of members) in
+    let all = pids ∙ ap (λ ps. ps ++ left) none in
+    subst (Ascends pid_cmp) (sym all) (left_ascends node (c.args.group.now, members) sorted))
+    c.push_pids.ensures.pids c.push_pids.ensures.ordered

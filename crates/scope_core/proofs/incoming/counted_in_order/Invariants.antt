@@ -1,0 +1,12 @@
+use Rattle.scope_core.proofs.Words.{◌≡◌, ◌+◌, Bool, Row, drop, how_many, tally, Rises, counted_cmp}
+use Rattle.scope_core.proofs.Words.{AreCounted}
+use Rattle.scope_core.proofs.incoming.counted_in_order.Given as goal
+
+-- those so far rise, and are counted; with the rows to come they are all
+abbrev pub invariant-loop-row : goal.invariant-loop-row
+invariant-loop-row l = record {
+  rises : Rises counted_cmp l.counted.items;
+  counted : AreCounted l.counted.items;
+  added : (test : Row → Bool)
+      → tally test l.counted.items + how_many test (drop l.row-index l.rows) ≡ how_many test l.rows;
+}

@@ -1,0 +1,15 @@
+use Rattle.scope_core.proofs.Words.{◌≡◌, Less, length, Row, row_cmp, Rises, counted_cmp, tally}
+use Rattle.scope_core.proofs.Words.{is_row}
+use Rattle.std.specs.Prelude.{◌≢◌}
+use Rattle.scope_core.proofs.incoming.from.Given as goal
+
+-- those left rise, and rows that aren't lower are counted among them as among all
+abbrev pub invariant-loop-first : goal.invariant-loop-first
+invariant-loop-first l = record {
+  rises : Rises counted_cmp l.rest;
+  low : (r : Row) → row_cmp r l.row ≢ Less
+      → tally (is_row r.group r.pid) l.rest ≡ tally (is_row r.group r.pid) l.rows;
+}
+
+abbrev pub decreases-loop-first : goal.decreases-loop-first
+decreases-loop-first l = length l.rest

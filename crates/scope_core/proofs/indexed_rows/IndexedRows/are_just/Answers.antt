@@ -1,0 +1,28 @@
+use Rattle.scope_core.proofs.Words.{◌≡◌, ◌∙◌, ap, sym, arith, refl, tally, is_row, how_many, length}
+use Rattle.scope_core.proofs.Words.{Row, List, ℕ, Pid, [], ◌∷◌}
+use Rattle.scope_core.specs.HashedRows.{NodeTable}
+use Rattle.scope_core.proofs.NodeTables.{node_count}
+use Rattle.scope_core.proofs.indexed_rows.IndexedRows.are_just.Goals as goal
+
+pub are_just-requires : goal.are_just-requires
+are_just-requires c = λ k d l. c.requires k d l
+    ∙ sym (ap (λ (t : NodeTable). t.node) c.rows.ensures.rows ∙ c.in-Some.ensures.node)
+
+pub returns-then-total-rows : goal.returns-then-total-rows
+returns-then-total-rows c = λ yes g p.
+    let mine = node_count c.args.node.now g p c.self.inside.lists c.in-Some.list.now.rows
+    c.in-Some.ensures.rows in
+    rw (← c.self.view_is)
+    (c.are_just.ensures yes g p
+    ∙ ap (λ (t : NodeTable). tally (is_row g p) t.rows) c.rows.ensures.rows ∙ mine)
+
+none_listed : (rows : List Row) (g : List ℕ) (p : Pid) → length rows ≡ 0
+    → how_many (is_row g p) rows ≡ 0
+none_listed [] g p e = refl
+none_listed (r ∷ rows) g p e = grind arith
+
+pub returns-in-None : goal.returns-in-None
+returns-in-None c = λ yes g p.
+    let mine = node_count c.args.node.now g p c.self.inside.lists _ (sym c.in-None.ensures.none) in
+    let empty : length c.args.rows.now ≡ 0 = grind (arith, c.is_empty.ensures, yes) in
+    rw (← c.self.view_is) (grind (arith, mine, none_listed c.args.rows.now g p empty))

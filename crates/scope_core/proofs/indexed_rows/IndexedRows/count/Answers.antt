@@ -1,0 +1,21 @@
+use Rattle.scope_core.proofs.Words.{ap, sym, arith, tally, is_row, same_decides}
+use Rattle.scope_core.specs.HashedRows.{NodeTable}
+use Rattle.scope_core.proofs.NodeTables.{node_count}
+use Rattle.scope_core.proofs.indexed_rows.IndexedRows.count.Goals as goal
+
+pub returns-in-Some : goal.returns-in-Some
+returns-in-Some c =
+    let g = c.args.group.now in
+    let p = c.args.pid.now in
+    let mine = node_count p.node g p c.self.inside.lists c.in-Some.list.now.rows
+    c.in-Some.ensures.rows in
+    let same = ap (λ (t : NodeTable). tally (is_row g p) t.rows) c.rows.ensures.rows in
+    rw (← c.self.view_is)
+    (grind (arith, c.count_in.ensures, same, mine, same_decides p.node p.node))
+
+pub returns-in-None : goal.returns-in-None
+returns-in-None c =
+    let g = c.args.group.now in
+    let p = c.args.pid.now in
+    let mine = node_count p.node g p c.self.inside.lists _ (sym c.in-None.ensures.none) in
+    rw (← c.self.view_is) (grind (arith, mine, same_decides p.node p.node))

@@ -1,0 +1,6 @@
+use Rattle.scope_core.proofs.Words.{take, Joins}
+use Rattle.scope_core.proofs.indexed_rows.IndexedRows.take_rows.Given as goal
+
+-- those so far are taken
+abbrev pub invariant-loop-counted : goal.invariant-loop-counted
+invariant-loop-counted l = Joins (take l.counted-index l.gone) l.self l.fn.self

@@ -1,0 +1,12 @@
+use Rattle.scope_core.proofs.Words.{◌≤◌, take, length}
+use Rattle.scope_core.specs.LoweredRows.{IsLowered}
+use Rattle.scope_core.proofs.lowering.can_lower.Given as goal
+
+-- the first rows are lowered still
+abbrev pub invariant-loop-lowered : goal.invariant-loop-lowered
+invariant-loop-lowered l =
+    (l.lowered ≤ length l.gone)
+    × IsLowered (take l.lowered l.gone) l.counts.entries l.fn.counts.entries
+
+abbrev pub decreases-loop-lowered : goal.decreases-loop-lowered
+decreases-loop-lowered l = l.lowered

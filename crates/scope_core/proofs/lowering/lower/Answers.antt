@@ -1,0 +1,29 @@
+use Rattle.scope_core.proofs.Words.{◌≡◌, ◌∙◌, ◌-◌, ap, sym, arith, suc, Some}
+use Rattle.std.specs.Option.{is_some, unwrap_or}
+use Rattle.std.specs.Map.{lookup, set_value}
+use Rattle.dist_types.specs.Listing.{same_row}
+use Rattle.scope_core.proofs.HashedWrites.{set_back, set_twice, lookup_set}
+use Rattle.scope_core.proofs.lowering.lower.Goals as goal
+
+pub returns-then-count-eq0-clause-none : goal.returns-then-count-eq0-clause-none
+returns-then-count-eq0-clause-none c = λ _.
+    let row = c.args.row.now in
+    let es = c.args.counts.now.entries in
+    let n = c.in-Some.count.now in
+    let there : lookup (same_row row) es ≡ Some n = sym c.in-Some.ensures.value in (
+      (c.get_mut.follows.holds n).0 ∙ set_back row n es there,
+      grind (arith, there, c.if-count-eq0.true),
+    )
+
+pub returns-clause-lowered : goal.returns-clause-lowered
+returns-clause-lowered c = λ _.
+    let row = c.args.row.now in
+    let es = c.args.counts.now.entries in
+    let n = c.in-Some.count.now in
+    let there : lookup (same_row row) es ≡ Some n = sym c.in-Some.ensures.value in
+    let fewer = lookup_set row (n - 1) es (ap is_some there) in
+    let back : suc (unwrap_or (lookup (same_row row) (set_value (same_row row) es (n - 1))) 0) ≡ n =
+    grind (arith, fewer, c.if-count-eq0.false) in
+    rw (c.get_mut.follows.holds (n - 1)).0
+    (sym (ap (set_value (same_row row) (set_value (same_row row) es (n - 1))) back
+    ∙ set_twice row (n - 1) n es ∙ set_back row n es there))

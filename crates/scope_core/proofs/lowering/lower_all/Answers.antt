@@ -1,0 +1,21 @@
+use Rattle.scope_core.proofs.Words.{◌≡◌, ◌+◌, ap, sym, subst, refl, arith, get_or}
+use Rattle.scope_core.proofs.LoweredRows.{none_lowered, lowered_more}
+use Rattle.scope_core.proofs.lowering.lower_all.Goals as goal
+
+pub loop-row-init : goal.loop-row-init
+loop-row-init c = (refl, none_lowered c.args.counts.now.entries)
+
+pub loop-row-preserved : goal.loop-row-preserved
+loop-row-preserved c =
+    let gone = c.args.gone.now in
+    let k = c.loop-row.lowered in
+    let row = c.row-item.result in
+    let so_far = c.loop-row.invariant in
+    let here = subst (λ i. row ≡ get_or gone i row) (sym so_far.0) c.row-item.is in
+    let one = c.lower.ensures.lowered c.if-not-lower.false in
+    let there = c.lower.ensures.there c.if-not-lower.false in (
+      ap (λ i. i + 1) so_far.0,
+      lowered_more gone k row (omega (arith, c.loop-row-test.true, so_far.0)) here
+          c.lower.new.counts.entries c.loop-row.counts.entries c.args.counts.now.entries
+          so_far.1 one there,
+    )

@@ -1,0 +1,9 @@
+use Rattle.scope_core.proofs.Words.{◌≡◌, take}
+use Rattle.scope_core.specs.LoweredRows.{IsLowered}
+use Rattle.scope_core.proofs.lowering.lower_all.Given as goal
+
+-- all rows so far are lowered
+abbrev pub invariant-loop-row : goal.invariant-loop-row
+invariant-loop-row l =
+    (l.lowered ≡ l.row-index)
+    × IsLowered (take l.lowered l.gone) l.counts.entries l.fn.counts.entries

@@ -1,0 +1,39 @@
+use Rattle.scope_core.proofs.Words.{ap, sym, Some, None, ◌∙◌}
+use Rattle.std.specs.Option.{is_some}
+use Rattle.std.specs.Ordering.{eq_by_cmp}
+use Rattle.scope_core.proofs.NestedMaps.{set_at, same_at, after_two}
+use Rattle.scope_core.proofs.nested_map.pop.Goals as goal
+
+pub returns-in_default-pop_first-clause-same : goal.returns-in_default-pop_first-clause-same
+returns-in_default-pop_first-clause-same g c = λ a b.
+    let w = c.pop_first.new.self in
+    let up = ((c.get_mut.follows.holds w).3 (ap is_some (sym c.in-Some.ensures.value))).0 in
+    same_at g.met.A.Ord.total g.B.Ord.cmp c.args.map.now
+    (c.get_mut.follows.lender w) c.args.outer.now a b
+    c.in-Some.place.now (Some w) (up a) c.in-Some.ensures.value
+    (c.in_default-pop_first.ensures.same b ∙ sym (c.in_default-pop_first.ensures.none b))
+
+pub returns-then-not-is_empty-clause-taken : goal.returns-then-not-is_empty-clause-taken
+returns-then-not-is_empty-clause-taken g c = λ a b.
+    let w = c.pop_first.new.self in
+    let up = ((c.get_mut.follows.holds w).3 (ap is_some (sym c.in-Some.ensures.value))).0 in
+    set_at g.met.A.Ord.total g.B.Ord.cmp c.args.map.now
+    (c.get_mut.follows.lender w) c.args.outer.now a b
+    (eq_by_cmp g.B.Ord.cmp c.in-Some-pop_first.inner b) None c.in-Some.place.now (Some w)
+    (up a) c.in-Some.ensures.value
+    (c.in-Some-pop_first.ensures.taken b)
+
+pub returns-clause-taken : goal.returns-clause-taken
+returns-clause-taken g c = λ a b.
+    let w = c.pop_first.new.self in
+    let m = c.args.map.now in
+    let n = c.get_mut.follows.lender w in
+    let l = c.remove.new.self in
+    let up = ((c.get_mut.follows.holds w).3 (ap is_some (sym c.in-Some.ensures.value))).0 in
+    let twice =
+    after_two g.met.A.Ord.total g.B.Ord.cmp m n l c.args.outer.now a None (Some w) (up a)
+    (c.remove.ensures.updates.0 a) in
+    set_at g.met.A.Ord.total g.B.Ord.cmp m l c.args.outer.now a b
+    (eq_by_cmp g.B.Ord.cmp c.in-Some-pop_first.inner b) None
+    c.in-Some.place.now None twice c.in-Some.ensures.value
+    (sym (c.is_empty.ensures.none c.if-not-is_empty.false b) ∙ c.in-Some-pop_first.ensures.taken b)

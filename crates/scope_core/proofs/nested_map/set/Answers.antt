@@ -1,0 +1,14 @@
+use Rattle.scope_core.proofs.Words.{ap, sym, Some}
+use Rattle.std.specs.Option.{is_some}
+use Rattle.std.specs.Ordering.{eq_by_cmp}
+use Rattle.scope_core.proofs.NestedMaps.{set_at}
+use Rattle.scope_core.proofs.nested_map.set.Goals as goal
+
+pub returns : goal.returns
+returns g c = λ a b.
+    let w = c.set.new.self in
+    let up = ((c.get_mut.follows.holds w).3 (ap is_some (sym c.in-Some.ensures.value))).0 in
+    set_at g.met.A.Ord.total g.B.Ord.cmp c.args.map.now
+    (c.get_mut.follows.lender w) c.args.outer.now a b
+    (eq_by_cmp g.B.Ord.cmp c.args.inner.now b) (Some c.args.value) c.in-Some.place.now (Some w)
+    (up a) c.in-Some.ensures.value (c.set.ensures b)

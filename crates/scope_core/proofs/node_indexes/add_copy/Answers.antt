@@ -1,0 +1,105 @@
+use Rattle.scope_core.proofs.Words.{◌≡◌, ◌||◌, ◌&&◌, ◌-◌, ◌+◌, ◌<◌, ◌∷◌, [], ◌++◌, ◌∙◌, ap, sym}
+use Rattle.scope_core.proofs.Words.{subst, arith, refl, length, vec_len, Rises, AllByRecursion}
+use Rattle.scope_core.proofs.Words.{Less, set}
+use Rattle.std.proofs.lemmas.List.{set-get_or}
+use Rattle.std.specs.Map.{keys_of}
+use Rattle.std.specs.Ordering.{eq_by_cmp, is_eq}
+use Rattle.dist_types.specs.Order.{row_cmp}
+use Rattle.scope_core.specs.declared.process_key.ProcessKey.{ProcessKey}
+use Rattle.scope_core.specs.HashedRows.{key_cmp}
+use Rattle.scope_core.specs.Copies.{is_held, IsLastKey}
+use Rattle.scope_core.specs.declared.small_map.SmallMap.TheVariants.{One}
+use Rattle.scope_core.proofs.HashedRows.{keys_total}
+use Rattle.scope_core.proofs.Outcomes.{ok_then}
+use Rattle.scope_core.proofs.Pushed.{all_below, rises_push, last_pushed}
+use Rattle.scope_core.proofs.Copies.{held_set, keys_set, last_key, keys_push, held_push}
+use Rattle.scope_core.proofs.Copies.{behind_last, none_below, same_keys}
+use Rattle.scope_core.proofs.node_indexes.add_copy.Goals.{in-Some+else-eq, in_default}
+use Rattle.scope_core.proofs.node_indexes.add_copy.Goals as goal
+
+pub returns-then-eq-clause-held : goal.returns-then-eq-clause-held
+returns-then-eq-clause-held c =
+    let v = c.args.all.now in
+    let last = c.in-Some.last.now in
+    let m = c.insert.new.self in
+    let within : vec_len v - 1 < length v.items =
+    omega (arith, c.in-Some.ensures.variant.0 refl, v.ok) in
+    let same : last.0 ≡ c.args.key = same_keys last.0 c.args.key (sym c.if-eq.ensures) in
+    ok_then c.insert.result
+    (λ put k r.
+    held_set c.args.row m last put k r v.items (vec_len v - 1) within c.in-Some.ensures.value
+    ∙ ap (λ x. is_held k r v.items || (is_eq (key_cmp k x) && eq_by_cmp row_cmp c.args.row r)) same)
+    c.insert.ensures.ok
+
+pub returns-then-eq-clause-last : goal.returns-then-eq-clause-last
+returns-then-eq-clause-last c =
+    let v = c.args.all.now in
+    let last = c.in-Some.last.now in
+    let end : vec_len v - 1 + 1 ≡ length v.items =
+    omega (arith, c.in-Some.ensures.variant.0 refl, v.ok) in
+    let same : last.0 ≡ c.args.key = same_keys last.0 c.args.key (sym c.if-eq.ensures) in
+    let was = last_key v.items (vec_len v - 1) last end c.in-Some.ensures.value in
+    let m = c.insert.new.self in
+    ok_then c.insert.result
+    (λ put.
+    subst (IsLastKey c.args.key)
+    (sym (keys_set c.args.row m last put v.items (vec_len v - 1) c.in-Some.ensures.value))
+    (subst (λ k. IsLastKey k (keys_of v.items)) same was))
+    c.insert.ensures.ok
+
+pub returns-then-eq-clause-rises : goal.returns-then-eq-clause-rises
+returns-then-eq-clause-rises c =
+    let v = c.args.all.now in
+    ok_then c.insert.result
+    (λ put rises low.
+    subst (Rises key_cmp)
+    (sym
+    (keys_set c.args.row c.insert.new.self c.in-Some.last.now put v.items (vec_len v - 1)
+    c.in-Some.ensures.value))
+    rises)
+    c.insert.ensures.ok
+
+pushed : (c : goal.In_ok-push)
+    → c.push.new.self.items ≡ c.args.all.now.items ++ (c.args.key, One c.args.row (tt {0})) ∷ []
+pushed c = elim c.match-last_mut.branch [
+  | in-Some+else-eq w ↦
+      let v = c.args.all.now in
+      let i = vec_len v - 1 in
+      let last = w.in-Some.last.now in
+      let same : c.match-last_mut.all.items ≡ v.items =
+      ap (λ x. x.items) w.all-is ∙ ap (set v.items i) w.in-Some.ensures.value
+      ∙ set-get_or v.items i last in
+      c.in_ok-push.ensures.items ∙ ap (λ es. es ++ (c.args.key, One c.args.row (tt {0})) ∷ []) same
+  | in_default w ↦
+      c.in_ok-push.ensures.items
+      ∙ ap (λ v. v.items ++ (c.args.key, One c.args.row (tt {0})) ∷ []) w.all-is
+]
+
+pub returns-clause-held : goal.returns-clause-held
+returns-clause-held c = λ k r.
+    ap (is_held k r) (pushed c) ∙ held_push c.args.key c.args.row k r c.args.all.now.items
+
+pub returns-clause-last : goal.returns-clause-last
+returns-clause-last c =
+    let es = c.args.all.now.items in
+    let keys = ap keys_of (pushed c) ∙ keys_push es c.args.key (One c.args.row (tt {0})) in
+    subst (IsLastKey c.args.key) (sym keys) (last_pushed (keys_of es) c.args.key)
+
+pub returns-clause-rises : goal.returns-clause-rises
+returns-clause-rises c = λ rises low.
+    let es = c.args.all.now.items in
+    let v = c.args.all.now in
+    let key = c.args.key in
+    let below : AllByRecursion (λ q. key_cmp q key ≡ Less) (keys_of es) =
+    elim c.match-last_mut.branch [
+      | in-Some+else-eq w ↦
+          let last = w.in-Some.last.now in
+          let end : vec_len v - 1 + 1 ≡ length es =
+          omega (arith, w.in-Some.ensures.variant.0 refl, v.ok) in
+          let is = last_key es (vec_len v - 1) last end w.in-Some.ensures.value in
+          all_below keys_total (λ (k : ProcessKey). k) key (keys_of es) last.0 rises is
+          (behind_last last.0 key (low last.0 is) (sym w.if-eq.ensures))
+      | in_default w ↦ none_below key es (grind (arith, w.in_default.ensures.item))
+    ] in
+    let keys = ap keys_of (pushed c) ∙ keys_push es key (One c.args.row (tt {0})) in
+    subst (Rises key_cmp) (sym keys) (rises_push key_cmp (keys_of es) key rises below)

@@ -1,0 +1,20 @@
+use Rattle.scope_core.proofs.Words.{◌≡◌, ◌||◌, false, is_gt, AllByRecursion, Rises, Ascends, Row}
+use Rattle.std.specs.Map.{keys_of}
+use Rattle.std.specs.Vec.Iter.{into_iter_items}
+use Rattle.scope_core.specs.declared.process_key.ProcessKey.{ProcessKey}
+use Rattle.scope_core.specs.HashedRows.{key_cmp}
+use Rattle.scope_core.specs.Copies.{is_held, is_keyed, IsLastKey}
+use Rattle.scope_core.proofs.node_indexes.folded.Given as goal
+
+-- the keys so far rise, none to come is below the last; what is held and what is to come is all
+abbrev pub invariant-loop-key : goal.invariant-loop-key
+invariant-loop-key l = record {
+  rises : Rises key_cmp (keys_of l.all.items);
+  ascends : Ascends key_cmp (keys_of (into_iter_items l.key-iterator));
+  above : (k : ProcessKey) → IsLastKey k (keys_of l.all.items)
+      → AllByRecursion (λ q. is_gt (key_cmp k q) ≡ false)
+      (keys_of (into_iter_items l.key-iterator));
+  held : (k : ProcessKey) (r : Row)
+      → (is_held k r l.all.items || is_keyed k r (into_iter_items l.key-iterator))
+      ≡ is_keyed k r l.fn.copies.items;
+}

@@ -1,0 +1,20 @@
+use Rattle.scope_core.proofs.Words.{◌∙◌, refl, arith}
+use Rattle.std.specs.Ordering.{eq_by_cmp}
+use Rattle.std.specs.BTreeMap.{IsFromIterResult}
+use Rattle.std.proofs.lemmas.Map.Made.{update_all_none}
+use Rattle.std.proofs.lemmas.Cmp.{eq_by_cmp_equiv}
+use Rattle.std.proofs.lemmas.Iterator.Adapters.{YieldsList-from_vec, fact_from_collect}
+use Rattle.scope_core.proofs.node_indexes.map_of.Goals as goal
+
+pub returns : goal.returns
+returns g c = λ distinct k.
+    let es = c.args.entries.items in
+    let road =
+    YieldsList-from_vec es c.into_iter.ensures.rest
+    (c.into_iter.ensures.len ∙ omega (arith, c.args.entries.ok)) in
+    let made =
+    fact_from_collect (IsFromIterResult g.K.Ord.cmp) c.collect.result c.collect.ensures.ran road
+    in
+    let total = g.met.K.Ord.total in
+    (rw c.in_ok-collect.was at made).0 k
+    ∙ update_all_none (eq_by_cmp_equiv total) (eq_by_cmp g.K.Ord.cmp) (λ x y. refl) es k distinct

@@ -1,0 +1,32 @@
+use Rattle.scope_core.proofs.Words.{◌∷◌, [], ◌∙◌, ap, sym, subst, arith, cond, Some, None, same_row}
+use Rattle.scope_core.proofs.Words.{take_all}
+use Rattle.std.specs.Map.{lookup, keys_of}
+use Rattle.std.specs.List.{IsDistinct}
+use Rattle.std.specs.Ordering.{eq_by_cmp, is_eq}
+use Rattle.scope_core.specs.HashedRows.{pid_of, key_cmp, entries_in}
+use Rattle.scope_core.proofs.Making.{OfOne, pairs, pairs_lookup, pairs_apart, alone}
+use Rattle.scope_core.proofs.node_indexes.members_of.Goals as goal
+
+pub returns-in-len1 : goal.returns-in-len1
+returns-in-len1 c = λ node g own k.
+    let rows = c.args.rows.now in
+    let only = c.only-item.result in
+    let one =
+    alone rows only (omega (arith, c.in-len1.len_at_least, c.in-len1.len_below)) c.only-item.is
+    in
+    let found = pairs_lookup node g k (only ∷ []) (subst (OfOne node g) one own) in
+    ap (λ q. cond (is_eq (key_cmp k q)) (Some only.count) None) c.of.ensures ∙ found
+    ∙ ap (λ rs. lookup (same_row (record { group = g; pid = pid_of node k })) (entries_in rs))
+    (sym one)
+
+pub returns : goal.returns
+returns c = λ node g own k.
+    let rows = c.args.rows.now in
+    let all =
+    c.loop-counted.invariant
+    ∙ ap pairs (take_all c.loop-counted.counted-index rows c.loop-counted-test.false) in
+    let apart =
+    subst (λ es. IsDistinct (eq_by_cmp key_cmp) (keys_of es)) (sym all)
+    (pairs_apart node g rows own c.requires) in
+    c.in_ok-map_of.ensures apart k ∙ ap (λ es. lookup (λ q. is_eq (key_cmp k q)) es) all
+    ∙ pairs_lookup node g k rows own

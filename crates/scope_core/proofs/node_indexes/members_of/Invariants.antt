@@ -1,0 +1,7 @@
+use Rattle.scope_core.proofs.Words.{◌≡◌, take}
+use Rattle.scope_core.proofs.Making.{pairs}
+use Rattle.scope_core.proofs.node_indexes.members_of.Given as goal
+
+-- those of the rows so far
+abbrev pub invariant-loop-counted : goal.invariant-loop-counted
+invariant-loop-counted l = l.members.items ≡ pairs (take l.counted-index l.rows)

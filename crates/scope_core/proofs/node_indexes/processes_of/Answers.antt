@@ -1,0 +1,33 @@
+use Rattle.scope_core.proofs.Words.{◌∙◌, ap, sym, subst, refl, rules, Rises, always_returns_same}
+use Rattle.std.specs.Map.{keys_of}
+use Rattle.std.specs.BTreeMap.{get}
+use Rattle.scope_core.specs.HashedRows.{key_cmp}
+use Rattle.scope_core.specs.Copies.{is_held}
+use Rattle.scope_core.proofs.Copies.{copies_found, keyed_sorted, sorted_keys, maps_are}
+use Rattle.scope_core.proofs.Copies.{keys_of_maps}
+use Rattle.scope_core.proofs.node_indexes.processes_of.Goals as goal
+
+pub returns-then-processes_rise : goal.returns-then-processes_rise
+returns-then-processes_rise c =
+    let rows = c.args.rows.now in
+    let es = c.in_ok-maps_of.field-0.items in
+    let is = c.in_ok-maps_of.ensures in
+    let keys = ap keys_of is ∙ keys_of_maps rows in
+    copies_found rows es (get key_cmp c.in_ok-map.map) c.in_ok-map.ensures
+    (subst (Rises key_cmp) (sym keys) (c.if-processes_rise.ensures refl))
+    (λ k r. ap (is_held k r) is ∙ maps_are k r rows)
+
+pub folded-requires : goal.folded-requires
+folded-requires c =
+    sorted_keys c.sort_by_key.new.self.items
+    (c.in_ok-sort_by_key.ensures.sorted (λ p. p.0)
+    (always_returns_same _ _ _ (λ a r q k. search rules)))
+
+pub returns : goal.returns
+returns c =
+    let rows = c.args.rows.now in
+    copies_found rows c.in_ok-folded.field-0.items (get key_cmp c.in_ok-map-2.map)
+    c.in_ok-map-2.ensures c.in_ok-folded.ensures.rises
+    (λ k r. c.in_ok-folded.ensures.held k r
+    ∙ keyed_sorted k r rows c.in_ok-copies.copies.items c.sort_by_key.new.self.items
+    c.in_ok-copies.ensures c.in_ok-sort_by_key.ensures.permutation)

@@ -1,0 +1,11 @@
+use Rattle.scope_core.proofs.Words.{◌++◌, drop, Rises}
+use Rattle.std.specs.Option.{option_to_list}
+use Rattle.scope_core.specs.HashedRows.{key_cmp}
+use Rattle.scope_core.specs.Copies.{process_keys}
+use Rattle.scope_core.proofs.node_indexes.processes_rise.Given as goal
+
+-- where the last key and those to come rise, all do
+abbrev pub invariant-loop-counted : goal.invariant-loop-counted
+invariant-loop-counted l =
+    Rises key_cmp (option_to_list l.last ++ process_keys (drop l.counted-index l.rows)) → Rises
+    key_cmp (process_keys l.rows)

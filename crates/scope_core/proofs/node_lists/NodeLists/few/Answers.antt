@@ -1,0 +1,7 @@
+use Rattle.scope_core.proofs.Words.{subst, tally, is_of_node, max_rows, ◌≤◌}
+use Rattle.scope_core.proofs.NodeTables.{tables_few}
+use Rattle.scope_core.proofs.node_lists.NodeLists.few.Goals as goal
+
+pub returns : goal.returns
+returns c = λ n. subst (λ rows. tally (is_of_node n) rows ≤ max_rows) c.self.view_is
+    (tables_few n c.self.inside.lists.entries c.self.invariant)

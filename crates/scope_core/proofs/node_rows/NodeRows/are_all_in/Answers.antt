@@ -1,0 +1,14 @@
+use Rattle.scope_core.proofs.Words.{◌≡◌, arith, ap, ◌∙◌, length, tally, is_row}
+use Rattle.scope_core.specs.HashedRows.{NodeTable}
+use Rattle.scope_core.proofs.LoweredRows.{one_in}
+use Rattle.scope_core.proofs.node_rows.NodeRows.are_all_in.Goals as goal
+
+pub returns-in-len1-clause-value : goal.returns-in-len1-clause-value
+returns-in-len1-clause-value c =
+    let row = c.row-item.result in
+    let test = is_row row.group row.pid in
+    let count = c.count.ensures ∙ ap (λ (t : NodeTable). tally test t.rows) c.self.view_is in
+    let gone = c.args.gone.now in
+    let one = c.in-len1 in
+    let alone : length gone ≡ 1 = omega (arith, one.len_at_least, one.len_below) in
+    one_in row gone c.args.self.now.rows c.count.result alone c.row-item.is count

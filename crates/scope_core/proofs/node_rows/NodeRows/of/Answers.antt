@@ -1,0 +1,10 @@
+use Rattle.scope_core.proofs.Words.{arith}
+use Rattle.scope_core.proofs.NodeLists.{own_total}
+use Rattle.scope_core.proofs.node_rows.NodeRows.of.Goals as goal
+
+pub total_of-total-requires : goal.total_of-total-requires
+total_of-total-requires c =
+    let node = c.args.node in
+    let rows = c.args.counted.items in
+    let list = c.requires.list in
+    rw c.deref.ensures.value (omega (arith, own_total node rows list, list.few node))

@@ -1,0 +1,22 @@
+use Rattle.scope_core.proofs.Words.{arith, true}
+use Rattle.scope_core.proofs.NodeLists.{lessened_list}
+use Rattle.scope_core.proofs.node_rows.NodeRows.pop_of.Goals as goal
+
+pub overflow_sub-self : goal.overflow_sub-self
+overflow_sub-self c =
+    let gone = c.in_ok-counted.ensures.gone (λ _. true) in
+    omega (arith, c.self.invariant.total, gone)
+
+pub invariant_of-self-2 : goal.invariant_of-self-2
+invariant_of-self-2 c =
+    let gone = c.in_ok-counted.ensures.gone in
+    let was = c.self.inside.rows in
+    let all = gone (λ _. true) in
+    record {
+      total = omega (arith, c.self.invariant.total, all);
+      list =
+          rw c.pop_of.ensures.node
+          (lessened_list was.node was.rows c.pop_of.new.self.rows c.self.invariant.list
+          (λ test. let less = gone test in omega (arith, less))
+          (c.pop_of.ensures.counted c.self.invariant.list.counted));
+    }

@@ -1,0 +1,13 @@
+use Rattle.scope_core.proofs.Words.{arith}
+use Rattle.scope_core.proofs.NodeLists.{own_total}
+use Rattle.scope_core.proofs.node_rows.NodeRows.total.Goals as goal
+
+pub returns-clause-few : goal.returns-clause-few
+returns-clause-few c =
+    let t = c.self.inside.rows in
+    omega (
+      arith,
+      c.self.invariant.total,
+      own_total t.node t.rows c.self.invariant.list,
+      c.self.invariant.list.few t.node,
+    )

@@ -1,0 +1,13 @@
+use Rattle.scope_core.proofs.Words.{◌≡◌, ◌∙◌, ap, cond, Some}
+use Rattle.std.specs.Ordering.{eq_by_cmp}
+use Rattle.scope_core.specs.SmallMap.{find}
+use Rattle.scope_core.specs.declared.small_map.SmallMap.{SmallMap}
+use Rattle.scope_core.specs.declared.small_map.SmallMap.TheVariants.{Many}
+use Rattle.scope_core.proofs.small_map.SmallMap.insert.Goals as goal
+
+pub returns-in_ok-inserted-in-Many-clause-ok : goal.returns-in_ok-inserted-in-Many-clause-ok
+returns-in_ok-inserted-in-Many-clause-ok g c = λ k.
+    let was : Many c.in-Many.map ≡ c.args.self.now = cc in
+    c.in_ok-inserted-in-Many.ensures.updates.0 k
+    ∙ ap (λ (m : SmallMap g.row.K.Denot g.row.V.Denot).
+    cond (eq_by_cmp g.K.Ord.cmp c.args.key k) (Some c.args.value) (find g.K.Ord.cmp m k)) was

@@ -1,0 +1,14 @@
+use Rattle.scope_core.proofs.Words.{◌≡◌, ◌∙◌, ap, sym, cond, Some}
+use Rattle.std.specs.Option.{is_some}
+use Rattle.std.specs.Ordering.{eq_by_cmp}
+use Rattle.scope_core.specs.SmallMap.{find}
+use Rattle.scope_core.specs.declared.small_map.SmallMap.{SmallMap}
+use Rattle.scope_core.specs.declared.small_map.SmallMap.TheVariants.{Many}
+use Rattle.scope_core.proofs.small_map.SmallMap.set.Goals as goal
+
+pub returns-in-Some : goal.returns-in-Some
+returns-in-Some g c = λ k.
+    let was : Many c.in-Many.map ≡ c.args.self.now = cc in
+    ((c.get_mut.follows.holds c.args.value).3 (ap is_some (sym c.in-Some.ensures.value))).0 k
+    ∙ ap (λ (m : SmallMap g.row.K.Denot g.row.V.Denot).
+    cond (eq_by_cmp g.K.Ord.cmp c.args.key.now k) (Some c.args.value) (find g.K.Ord.cmp m k)) was

@@ -1,0 +1,37 @@
+-- The rows of a node's processes, in lists.
+use Rattle.std.specs.Prelude.{◌≡◌, ◌-◌, Bool, ◌&&◌, List, map, length, slice_get, Some}
+use Rattle.std.specs.List.{list_any}
+use Rattle.std.specs.Option.{is_some}
+use Rattle.std.specs.Ordering.{is_eq, eq_by_cmp}
+use Rattle.dist_types.specs.declared.row.Row.{Row}
+use Rattle.dist_types.specs.Order.{row_cmp}
+use Rattle.scope_core.specs.declared.counted.Counted.{Counted}
+use Rattle.scope_core.specs.declared.process_key.ProcessKey.{ProcessKey}
+use Rattle.scope_core.specs.declared.small_map.SmallMap.{SmallMap}
+use Rattle.scope_core.specs.declared.small_map.SmallMap.TheVariants.{One}
+use Rattle.scope_core.specs.SmallMap.{find}
+use Rattle.scope_core.specs.HashedRows.{key_of, key_cmp}
+
+-- the keys of the rows' processes
+abbrev pub process_keys : List Counted → List ProcessKey
+process_keys rows = map (λ c. key_of c.row.pid) rows
+
+-- the rows, each with the key of its process
+abbrev pub keyed : List Counted → List (ProcessKey × Row)
+keyed rows = map (λ c. (key_of c.row.pid, c.row)) rows
+
+-- the same, each in a map of its own
+abbrev pub keyed_maps : List Counted → List (ProcessKey × SmallMap Row (Unit {0}))
+keyed_maps rows = map (λ c. (key_of c.row.pid, One c.row tt)) rows
+
+-- whether the row stands under the key
+abbrev pub is_keyed : ProcessKey → Row → List (ProcessKey × Row) → Bool
+is_keyed k r ps = list_any (λ p. is_eq (key_cmp k p.0) && eq_by_cmp row_cmp p.1 r) ps
+
+-- whether the row stands in a map under the key
+abbrev pub is_held : ProcessKey → Row → List (ProcessKey × SmallMap Row (Unit {0})) → Bool
+is_held k r es = list_any (λ e. is_eq (key_cmp k e.0) && is_some (find row_cmp e.1 r)) es
+
+-- the key is the last of these
+abbrev pub IsLastKey : ProcessKey → List ProcessKey → Type 0
+IsLastKey k ks = slice_get ks (length ks - 1) ≡ Some k

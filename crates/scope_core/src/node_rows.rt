@@ -1,0 +1,118 @@
+//! The rows of one node, and how many they are.
+ghost use Rattle.std.specs.Prelude.{◌≡◌, ◌+◌, ◌≤◌, ◌<◌, ◌∷◌, [], IfSome, IfOk, OnOk, OnErr, length};
+ghost use Rattle.std.specs.Option.{IfNone};
+ghost use Rattle.dist_types.specs.Listing.{same_pid, total, Rises};
+ghost use Rattle.scope_core.specs.Table.{tally, is_row, counted_cmp, max_rows};
+ghost use Rattle.scope_core.specs.Added.{are_all_in, Joins};
+ghost use Rattle.scope_core.specs.HashedRows.{NodeTable};
+ghost use Rattle.scope_core.specs.NodeLists.{IsNodeList};
+
+use crate::counted::Counted;
+use crate::hashed_rows::HashedRows;
+use crate::reads::total_of;
+use dist_types::{NodeName, OutOfMemory, Pid, Row};
+use std::alloc::Global;
+use std::marker::Model;
+
+/// Rows of one node, each counted; with their total, which is asked for more often than the rows are gone over.
+#[derive(Debug, Drop)]
+pub struct NodeRows {
+    rows: HashedRows,
+    /// How many rows there are, each as often as it is counted.
+    total: usize,
+}
+
+impl Model for NodeRows {
+    ghost use Rattle.scope_core.specs.HashedRows.{NodeTable};
+    ghost use Rattle.scope_core.specs.NodeLists.{IsNodeRows};
+
+    ghost Value = { NodeTable };
+
+    ghost view = { λ node. node.rows };
+
+    ghost invariant = { λ node. IsNodeRows node.total node.rows };
+}
+
+impl NodeRows {
+    /// Just these rows of the node.
+    pub fn of(alloc: Global, node: NodeName, counted: Vec<Counted>) -> Result<NodeRows, OutOfMemory>
+        requires list { IsNodeList node counted.items }
+        requires rises { Rises counted_cmp counted.items }
+        ensures { IfOk result (λ made. made ≡ record { node = node; rows = counted.items }) }
+    {
+        let total = total_of(&counted);
+        let rows = HashedRows::of(alloc, node, counted)?;
+        Ok(NodeRows { rows, total })
+    }
+
+    /// The rows, to read.
+    pub fn rows(&self) -> &HashedRows
+        ensures rows { result.now ≡ self.now }
+        ensures list { IsNodeList self.now.node self.now.rows }
+    {
+        &self.rows
+    }
+
+    /// How many rows there are, each as often as it is counted.
+    pub fn total(&self) -> usize
+        ensures total { result ≡ total (λ c. c.count) self.now.rows }
+        ensures few { result ≤ max_rows }
+    {
+        self.total
+    }
+
+    /// Puts rows in: all of them, or none.
+    pub fn join(&mut self, more: &[Counted]) -> Result<(), OutOfMemory>
+        requires list { IsNodeList self.old.node more.now }
+        requires few { total (λ c. c.count) self.old.rows + total (λ c. c.count) more.now ≤ max_rows }
+        ensures ok { OnOk result (Joins more.now self.old.rows self.new.rows) }
+        ensures list { IsNodeList self.new.node self.new.rows }
+        ensures node { self.new.node ≡ self.old.node }
+        ensures same { OnErr result (self.new ≡ self.old) }
+    {
+        self.rows.grow(more)?;
+        for counted in more {
+            self.rows.raise(&counted.row, counted.count);
+        }
+        self.rows.each_once();
+        self.total += total_of(more);
+        Ok(())
+    }
+
+    /// Whether each row stands in the list at most as often as it is counted. It takes no memory.
+    pub fn are_all_in(&mut self, gone: &[Row]) -> bool
+        ensures value { result ≡ are_all_in self.old.rows gone.now }
+        ensures same { self.new ≡ self.old }
+    {
+        if let [row] = gone {
+            return self.rows.count(row) > 0;
+        }
+        self.rows.are_all_in(gone)
+    }
+
+    /// Takes a row away, as often as it is counted here.
+    pub fn take(&mut self, gone: &Counted)
+        requires some { 0 < gone.now.count }
+        requires counted { gone.now.count ≤ tally (is_row gone.now.row.group gone.now.row.pid) self.old.rows }
+        ensures taken { Joins (gone.now ∷ []) self.new.rows self.old.rows }
+        ensures node { self.new.node ≡ self.old.node }
+    {
+        self.rows.lessen(gone);
+        self.total -= gone.count as usize;
+    }
+
+    /// Takes one of the rows of a process out.
+    pub fn pop_of(&mut self, pid: &Pid) -> Option<Counted>
+        requires { pid.now.node ≡ self.old.node }
+        ensures gone { IfSome result (λ c. Joins (c ∷ []) self.new.rows self.old.rows) }
+        ensures process { IfSome result (λ c. c.row.pid ≡ pid.now) }
+        ensures fewer { IfSome result (λ c. length self.new.rows < length self.old.rows) }
+        ensures none { IfNone result (tally (λ r. same_pid r.pid pid.now) self.old.rows ≡ 0) }
+        ensures same { IfNone result (self.new ≡ self.old) }
+        ensures node { self.new.node ≡ self.old.node }
+    {
+        let counted = self.rows.pop_of(pid)?;
+        self.total -= counted.count as usize;
+        Some(counted)
+    }
+}
