@@ -32,13 +32,15 @@ enum Deed {
 }
 
 /// Rows come and go, own ones and those of two peers; refusals are among the answers.
-static DEEDS: [Deed; 18] = [
+static DEEDS: [Deed; 23] = [
     Deed::Join("g", &[2, 1, 1]),
     Deed::Join("h", &[1]),
     Deed::Leaving("g", &[1, 1, 1, 2]),
     Deed::Leave("g", &[1, 1, 2, 2]),
     Deed::Leave("g", &[3]),
     Deed::Join("g", &[3, 3, 3]),
+    Deed::Join("h", &[5, 3, 4, 1]),
+    Deed::Join("w", &[3]),
     Deed::Sync("a@h", "g", &[7, 7]),
     Deed::Sync("a@h", "g", &[7, 8]),
     Deed::Sync("a@h", "g", &[8, 7]),
@@ -46,7 +48,11 @@ static DEEDS: [Deed; 18] = [
     Deed::JoinRemote("c@h", "w", &[5, 4, 5]),
     Deed::LeaveRemote("c@h", "w", &[5, 5, 5]),
     Deed::LeaveRemote("c@h", "w", &[5]),
+    // Rows beside others, some of them there, in no order and repeated; and the same and others in place of them.
+    Deed::JoinRemote("c@h", "w", &[9, 1, 5, 8, 2, 2, 7, 3, 6]),
+    Deed::Sync("c@h", "w", &[6, 2, 10, 9, 4, 1]),
     Deed::JoinRemote("a@h", "h", &[7]),
+    Deed::JoinRemote("a@h", "g", &[1, 9, 8]),
     Deed::Exit(3),
     Deed::DropPeer("c@h"),
     Deed::DropPeer("z@h"),
