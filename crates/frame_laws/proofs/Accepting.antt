@@ -1,19 +1,20 @@
 -- Where a peer is heard, its scope runs, its link is up and visible; and what it may say is
 -- accepted.
 use Rattle.frame_laws.proofs
+use proofs.Words.{fresh, judgement, None, opened, verdict}
 use proofs.Words.{max_rows, Accepted, accepted, agrees, all_hold, and_parts, ap, AreStated, arith}
 use proofs.Words.{awaits, Bool, but, cond, Entry, eqb-true, Event, events, false, fewer_length}
 use proofs.Words.{filter, filter-append, first_broken, flat_map, frame_checks, group_named, groups}
 use proofs.Words.{groups_are, groups_named, has_sync, HasRoom, heard, heard_runs, heard_whole}
 use proofs.Words.{History, how_many_append, is_accepted, is_from, is_full, is_local, is_open}
-use proofs.Words.{is_peer, is_running, is_up, is_visible, is_whole, IsLegal, IsLegalIn, IsListing}
+use proofs.Words.{is_peer, is_running, is_up, is_visible, is_whole, IsPlayed, IsPlayedIn, IsListing}
 use proofs.Words.{IsRowListing, le-leb, length, length-append, lie, List, list_all, listed}
 use proofs.Words.{listed_named, map, MaySay, members, members_are, Message, message_checks}
 use proofs.Words.{message_taken, nat_le, None, occurrences, open_first, opened, Opening, Option}
 use proofs.Words.{past, peer_foreign, peer_of, peer_rows, Pid, pid_named, pids_named, present_link}
 use proofs.Words.{refl, Refused, Reply, Row, row, rows_are, rows_of, Rule, Said, same, same_decides}
 use proofs.Words.{same_pid, same_row, same_row_decides, scope_of, Some, stands_in, stated, subst}
-use proofs.Words.{sym, taken, talk, talk_of, true, unborn, Verdict, verdict, whole_awaits, ℕ, []}
+use proofs.Words.{sym, taken, talk, talk_of, true, Verdict, verdict, whole_awaits, ℕ, []}
 use proofs.Words.{◌&&◌, ◌++◌, ◌+◌, ◌<◌, ◌==◌, ◌∙◌, ◌∷◌, ◌≡◌, ◌≤◌}
 
 -- ---- a peer that is heard is visible
@@ -30,7 +31,8 @@ module _ (o : Opening) (s : List ℕ) where
   shown_by es k (Message.Leave t rows) met q = cc
   shown_by es k (Message.Down t) met q = grind arith
 
-  module _ (es : List Entry) (e : Entry) (legal : IsLegalIn o es) (here : e.number ≡ length es + 1)
+  module _ (es : List Entry) (e : Entry) (legal : IsPlayedIn o es) (fresh_is : opened e.number es
+      ≡ None)
       (l : ℕ) where
     abbrev Before : Type 0
     Before = has_sync s (talk l es) ≡ true → is_visible (past o es) l ≡ true
@@ -46,7 +48,7 @@ module _ (o : Opening) (s : List ℕ) where
     spoken (Some m) shows so_far q = so_far q
 
     framed : (k : ℕ) (body : List ℕ) (r : Reply)
-        → Accepted r ≡ verdict (past o es) e.seat (Event.Frame k body) → Before → (b : Bool)
+        → Accepted r ≡ judgement (past o es) e.seat (Event.Frame k body) → Before → (b : Bool)
         → (k == l) ≡ b
         → has_sync s (cond (b && is_whole l es) (talk_of (message_taken body)) [] ++ talk l
         es) ≡ true → is_whole l es ≡ true → is_visible (past o es) l ≡ true
@@ -67,7 +69,7 @@ module _ (o : Opening) (s : List ℕ) where
         → is_visible (past o (but e (Event.Frame k body) (Accepted r) ∷ es)) l ≡ true
     shown_after k body r b is w shown = grind arith
 
-    by_event : (ev : Event) (v : Verdict) → v ≡ verdict (past o es) e.seat ev → Before
+    by_event : (ev : Event) (v : Verdict) → v ≡ judgement (past o es) e.seat ev → Before
         → has_sync s (talk l (but e ev v ∷ es)) ≡ true
         → is_visible (past o (but e ev v ∷ es)) l ≡ true
     by_event (Event.Frame k body) (Accepted r) q so_far said = by (is_whole l es) refl
@@ -80,21 +82,19 @@ module _ (o : Opening) (s : List ℕ) where
     by_event (Event.Opened c) (Accepted r) q so_far said =
         grind (
           arith,
-          here,
+          fresh_is,
           so_far,
           said,
           heard_whole o es legal l s,
-          unborn o es legal l,
           eqb-true e.number l,
         )
     by_event (Event.Dial n c) (Accepted r) q so_far said =
         grind (
           arith,
-          here,
+          fresh_is,
           so_far,
           said,
           heard_whole o es legal l s,
-          unborn o es legal l,
           eqb-true e.number l,
         )
     by_event (Event.StopScope t) (Accepted r) q so_far said = grind arith
@@ -102,15 +102,16 @@ module _ (o : Opening) (s : List ℕ) where
     by_event ev (Accepted r) q so_far said = so_far said
     by_event ev (Refused r) q so_far said = so_far said
 
-  heard_visible : (es : List Entry) → IsLegalIn o es → (l : ℕ) → has_sync s (talk l es) ≡ true
+  heard_visible : (es : List Entry) → IsPlayedIn o es → (l : ℕ) → has_sync s (talk l es) ≡ true
       → is_visible (past o es) l ≡ true
   heard_visible [] legal l q = cc
-  heard_visible (e ∷ es) legal l q = by_event es e legal.1 legal.0.number l e.event e.verdict
-      legal.0.verdict (heard_visible es legal.1 l) q
+  heard_visible (e ∷ es) legal l q =
+      by_event es e legal.1 (fresh o es legal.1 e legal.0) l e.event e.verdict
+      legal.0.judged (heard_visible es legal.1 l) q
 
 -- ---- what is listed of a peer that is heard
 
-module _ (h : History) (legal : IsLegal h) (l : ℕ) (s : List ℕ)
+module _ (h : History) (legal : IsPlayed h) (l : ℕ) (s : List ℕ)
     (hears : heard l s h.entries ≡ true) where
   abbrev es : List Entry
   es = h.entries
@@ -261,13 +262,12 @@ module _ (h : History) (legal : IsLegal h) (l : ℕ) (s : List ℕ)
       (λ stated. grind (arith, shows, scope_runs, hears, may.0, are_listed rows stated rows may.0))
       may.1
 
-  pub accepts : (seat : ℕ) (body : List ℕ) (m : Message) → is_full h ≡ false
+  pub admits : (seat : ℕ) (body : List ℕ) (m : Message)
       → message_taken body ≡ Some m → scope_of m ≡ s → MaySay h l m
-      → is_accepted (verdict h seat (Event.Frame l body)) ≡ true
-  accepts seat body m room says is may =
+      → is_accepted (judgement h seat (Event.Frame l body)) ≡ true
+  admits seat body m says is may =
       grind (
         arith,
-        Refused Rule.EntriesFull,
         Event.Frame l body,
         (and_parts (is_open l es) (is_whole l es) is_up_there).0,
         (and_parts (is_open l es) (is_whole l es) is_up_there).1,
@@ -275,3 +275,10 @@ module _ (h : History) (legal : IsLegal h) (l : ℕ) (s : List ℕ)
         Rule.BadFrame,
         here_met m is may,
       )
+
+  pub accepts : (seat : ℕ) (body : List ℕ) (m : Message) → is_full h ≡ false
+      → message_taken body ≡ Some m → scope_of m ≡ s → MaySay h l m
+      → is_accepted (verdict h seat (Event.Frame l body)) ≡ true
+  accepts seat body m room says is may =
+      ap (λ b. is_accepted (cond b (Refused Rule.EntriesFull)
+      (judgement h seat (Event.Frame l body)))) room ∙ admits seat body m says is may

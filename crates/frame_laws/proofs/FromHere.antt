@@ -1,8 +1,9 @@
 -- The rows of each message are of the node's own name, and of its creation at the opening of the
 -- link.
 use Rattle.frame_laws.proofs
+use proofs.Words.{entered}
 use proofs.Words.{Accepted, ap, arith, Bool, but, cond, creation, Entry, Event, false, is_of}
-use proofs.Words.{is_open, is_opened_by, is_some, IsNode, leb-false, leb-true, length, lie, List}
+use proofs.Words.{is_open, is_opened_by, is_some, IsNode, leb-false, leb-true, lie, List}
 use proofs.Words.{Message, message_taken, moment, nat_le, None, Opening, out_in, OutFrame, owed}
 use proofs.Words.{owes, Owing, own_name_frame, past, refl, Refused, slice_get, Some, subst, suc}
 use proofs.Words.{sym, true, unowed, Verdict, zero, ℕ, [], ◌∙◌, ◌∷◌, ◌≡◌, ◌≤◌}
@@ -36,21 +37,21 @@ rows_own o [] node l n x q m says = grind arith
 rows_own o (e ∷ es) node l n x q m says = by (λ r. rows_own o es (node_before o e es node) l n x r m
     says) (part (out_in o l es) (owes (past o es) l e) n x q)
   where
-    earlier : l ≤ length es
+    earlier : l ≤ entered es
         → creation (moment l (past o es)) ≡ creation (moment l (past o (e ∷ es)))
     earlier low = grind (arith, earlier_moment o e es l low)
 
     -- a link to which something is owed was opened
-    low_of : slice_get (out_in o l es) n ≡ Some x → (b : Bool) → nat_le l (length es) ≡ b
-        → l ≤ length es
+    low_of : slice_get (out_in o l es) n ≡ Some x → (b : Bool) → nat_le l (entered es) ≡ b
+        → l ≤ entered es
     low_of r true le = grind (arith, leb-true)
-    low_of r false le = grind (arith, unborn_out o es node.legal.1 l (leb-false l (length es) le))
+    low_of r false le = grind (arith, unborn_out o es node.legal.1 l (leb-false l (entered es) le))
 
     by : (slice_get (out_in o l es) n ≡ Some x → is_of o.name (creation (moment l (past o es)))
         m ≡ true) → Parted (out_in o l es) (owes (past o es) l e) n x
         → is_of o.name (creation (moment l (past o (e ∷ es)))) m ≡ true
     by so_far (InFirst r less) = subst (λ c. is_of o.name c m ≡ true)
-        (earlier (low_of r (nat_le l (length es)) refl)) (so_far r)
+        (earlier (low_of r (nat_le l (entered es)) refl)) (so_far r)
     by so_far (InSecond j at r) = now (is_open l es) refl (is_opened_by l e) refl
       where
         it : slice_get (owed (past o es) l e.number e.event e.verdict) j ≡ Some x.frame
@@ -60,7 +61,7 @@ rows_own o (e ∷ es) node l n x q m says = by (λ r. rows_own o es (node_before
         said = IsSpoken.own
             (all_at (IsSpoken (past o es)) (owed (past o es) l e.number e.event e.verdict)
             (owed_say (past o es) (node_before o e es node) e.number e.seat l e.event e.verdict
-            node.legal.0.verdict node.written.0) j x.frame it) m says
+            node.legal.0.judged node.written.0) j x.frame it) m says
 
         now : (b : Bool) → is_open l es ≡ b → (c : Bool) → is_opened_by l e ≡ c
             → is_of o.name (creation (moment l (past o (e ∷ es)))) m ≡ true
@@ -72,4 +73,4 @@ rows_own o (e ∷ es) node l n x q m says = by (λ r. rows_own o es (node_before
             ∙ says)))
         now false shut false other =
             lie (ap is_some (sym it ∙ ap (λ fs. slice_get fs j)
-            (unowed o es l shut e e.event e.verdict node.legal.0.verdict other)))
+            (unowed o es l shut e e.event e.verdict node.legal.0.judged other)))

@@ -1,12 +1,13 @@
 -- What a peer has given came on the link: its Name first, or its Challenge.
 use Rattle.frame_laws.proofs
+use proofs.Words.{fresh, judgement}
 use proofs.Words.{Accepted, accepted, all_append, AllByRecursion, and_frame, and_parts, ap, arith}
 use proofs.Words.{Bool, but, ByDial, ByPeer, came, Challenge, cond, delivered, ends, Entry}
 use proofs.Words.{eqb-true, Event, false, Far, far, frame_fits, given_in, hello_in, is_open}
-use proofs.Words.{is_some, is_whole, IsAskedOnce, IsLegalIn, IsNamedFirst, length, lie, List, Name}
+use proofs.Words.{is_some, is_whole, IsAskedOnce, IsPlayedIn, IsNamedFirst, length, lie, List, Name}
 use proofs.Words.{nat_le, None, none_taken, not, Opened, opened, Opening, Option, option_and_then}
 use proofs.Words.{past, peer_in, refl, Refused, Reply, Rule, slice_get, Some, Start, subst, sym}
-use proofs.Words.{Taken, taken, true, Verdict, verdict, ℕ, [], ◌&&◌, ◌++◌, ◌+◌, ◌==◌, ◌||◌, ◌∙◌}
+use proofs.Words.{Taken, taken, true, Verdict, ℕ, [], ◌&&◌, ◌++◌, ◌==◌, ◌||◌, ◌∙◌}
 use proofs.Words.{◌∷◌, ◌≡◌}
 use proofs.Bodies.{stands_first, stands_last}
 
@@ -26,8 +27,8 @@ module _ (o : Opening) (l : ℕ) where
   keep es x same_taken opens none (First t rest is stands) = First t rest (same_taken ∙ is)
       (stands_first (delivered l es) (came l x.event) 0 t.body stands)
 
-  module _ (es : List Entry) (e : Entry) (legal : IsLegalIn o es) (number : e.number ≡ length
-      es + 1) (c : ℕ) (bo : List Entry) (none_early : delivered l bo ≡ []) where
+  module _ (es : List Entry) (e : Entry) (legal : IsPlayedIn o es) (fresh_is : opened e.number es
+      ≡ None) (c : ℕ) (bo : List Entry) (none_early : delivered l bo ≡ []) where
     abbrev at_opening : Option Opened
     at_opening = Some (record { start = ByPeer c; before = bo })
 
@@ -46,7 +47,7 @@ module _ (o : Opening) (l : ℕ) where
         (λ _. Option Opened) [ Some y ↦ Some y | None ↦ opened l es ] ≡ at_opening
         → Before → Began l (but e ev (Accepted r) ∷ es)
     begins ev r st same_taken none true here opens q so_far = Nothing
-        (same_taken ∙ none_taken o es legal [] e number l here) (λ now. (λ i. early i ++ none i))
+        (same_taken ∙ none_taken o es legal [] e fresh_is l here) (λ now. (λ i. early i ++ none i))
       where
         before_is : es ≡ bo
         before_is = ap (λ x. elim x as (λ _. List Entry) [ Some y ↦ y.before | None ↦ es ]) q
@@ -57,7 +58,7 @@ module _ (o : Opening) (l : ℕ) where
         same_taken (λ now. sym (opens ∙ ap (λ b. b || is_open l es) other) ∙ now) none (so_far q)
 
     accepted_frame : (k : ℕ) (body : List ℕ) (r : Reply)
-        → Accepted r ≡ verdict (past o es) e.seat (Event.Frame k body) → (b : Bool) → (k == l) ≡ b
+        → Accepted r ≡ judgement (past o es) e.seat (Event.Frame k body) → (b : Bool) → (k == l) ≡ b
         → Began l es → Began l (but e (Event.Frame k body) (Accepted r) ∷ es)
     accepted_frame k body r q false other began =
         keep es (but e (Event.Frame k body) (Accepted r))
@@ -93,7 +94,7 @@ module _ (o : Opening) (l : ℕ) where
     refused_frame k body r opening true is (First t rest first stands) = First t rest first
         (stands_first (delivered l es) (came l (Event.Frame k body)) 0 t.body stands)
 
-    by_event : (ev : Event) (v : Verdict) → v ≡ verdict (past o es) e.seat ev → Before
+    by_event : (ev : Event) (v : Verdict) → v ≡ judgement (past o es) e.seat ev → Before
         → opened l (but e ev v ∷ es) ≡ at_opening → Began l (but e ev v ∷ es)
     by_event (Event.Opened d) (Accepted r) q so_far opens = begins (Event.Opened d) r (ByPeer d)
         refl refl (e.number == l) refl refl opens so_far
@@ -109,13 +110,14 @@ module _ (o : Opening) (l : ℕ) where
     by_event ev (Refused r) q so_far opens = keep es (but e ev (Refused r)) refl
         (was_open (ends l es (Refused r) ev) (is_open l es)) refl (so_far opens)
 
-  began : (es : List Entry) → IsLegalIn o es → (c : ℕ) (bo : List Entry) → delivered l bo ≡ []
+  began : (es : List Entry) → IsPlayedIn o es → (c : ℕ) (bo : List Entry) → delivered l bo ≡ []
       → opened l es ≡ Some (record { start = ByPeer c; before = bo }) → Began l es
   began [] legal c bo none opens = lie (sym (ap is_some opens))
-  began (e ∷ es) legal c bo none opens = by_event es e legal.1 legal.0.number c bo none e.event
-      e.verdict legal.0.verdict (began es legal.1 c bo none) opens
+  began (e ∷ es) legal c bo none opens =
+      by_event es e legal.1 (fresh o es legal.1 e legal.0) c bo none e.event
+      e.verdict legal.0.judged (began es legal.1 c bo none) opens
 
-  pub named_first : (es : List Entry) → IsLegalIn o es → (c : ℕ) (bo : List Entry)
+  pub named_first : (es : List Entry) → IsPlayedIn o es → (c : ℕ) (bo : List Entry)
       → delivered l bo ≡ [] → opened l es ≡ Some (record { start = ByPeer c; before = bo })
       → is_whole l es ≡ true → IsNamedFirst l es
   named_first es legal c bo none opens whole = by (began es legal c bo none opens)
@@ -174,7 +176,7 @@ module _ (o : Opening) (l : ℕ) where
       by_event ev (Accepted r) all = more_came (delivered l es) [] (taken l es) all
       by_event ev (Refused r) all = more_came (delivered l es) [] (taken l es) all
 
-  pub asked_once : (es : List Entry) → IsLegalIn o es → (n : List ℕ) (c : ℕ) (bo : List Entry)
+  pub asked_once : (es : List Entry) → IsPlayedIn o es → (n : List ℕ) (c : ℕ) (bo : List Entry)
       → opened l es ≡ Some (record { start = ByDial n c; before = bo }) → is_whole l es ≡ true
       → IsAskedOnce l n es
   asked_once es legal n c bo opens whole = by (taken l es) refl

@@ -1,19 +1,22 @@
 -- What a node says of itself: in its Name on a link that it dialled, and in its Challenge on a link
 -- that it accepted.
 use Rattle.frame_laws.proofs
+use proofs.Numbers.{opens_next, owed_number}
+use proofs.Words.{entered, judgement}
 use proofs.Words.{Accepted, AllByRecursion, ap, arith, Bool, but, ByDial, ByPeer}
 use proofs.Words.{Challenge, challenge_bytes, challenge_frame, challenge_frame-spelled}
 use proofs.Words.{challenge_in, cond, creation, Entry, eqb-false, eqb-true, Event, false, hello_in}
-use proofs.Words.{History, is_open, is_opened_by, is_some, IsLegalIn, IsNode, IsWritten, length}
+use proofs.Words.{History, is_open, is_opened_by, is_some, IsPlayedIn, IsNode, IsWritten, length}
 use proofs.Words.{lie, List, map, Message, message_bytes, moment, name_bytes, name_frame}
 use proofs.Words.{name_frame-spelled, narrow, None, Opened, opened, Opening, opening_of, Option}
 use proofs.Words.{option_map_or, out_in, OutFrame, owed, owes, Owing, owing, own_challenge}
 use proofs.Words.{own_flags, own_hello, own_name_frame, past, refl, Refused, slice_get, Some}
 use proofs.Words.{SpellsChallenge-read, Start, start_of, status_frame, StatusWord, sym, true}
-use proofs.Words.{unowed, Verdict, verdict, version_bytes, version_read, wide, ℕ, [], ◌++◌, ◌+◌, ◌<◌, ◌==◌, ◌^◌, ◌∙◌, ◌∷◌, ◌≡◌}
+use proofs.Words.{unowed, Verdict, version_bytes, version_read, wide, ℕ, [], ◌++◌, ◌+◌, ◌<◌, ◌==◌}
+use proofs.Words.{◌^◌, ◌∙◌, ◌∷◌, ◌≡◌}
 use proofs.Words.{◌≤◌}
 use proofs.Handshakes.{first_byte, HoldsOfHellos}
-use proofs.Openings.{opened_number, opening_low, same_creation, unborn_out}
+use proofs.Openings.{opening_low, same_creation, unborn_out}
 use proofs.OwnLimits.{own_creation_fits}
 use proofs.Places.{all_at, first_of_both, Parted, InFirst, InSecond, part, owed_here}
 use proofs.Places.{earlier_moment, this_moment}
@@ -135,7 +138,7 @@ module _ (h : History) (node : IsNode h) where
 
     -- all that is owed to a link that was opened before
     owed_own : (number seat : ℕ) → (number == l) ≡ false → (ev : Event) (v : Verdict)
-        → v ≡ verdict h seat ev → IsWritten ev → AllByRecursion IsOwn (owed h l number ev v)
+        → v ≡ judgement h seat ev → IsWritten ev → AllByRecursion IsOwn (owed h l number ev v)
     owed_own number seat later ev v = owed_hold h node l IsOwn hellos (λ m is from. says_own m)
         number seat ev v (λ here. lie (sym here ∙ later))
 
@@ -143,11 +146,11 @@ module _ (h : History) (node : IsNode h) where
 
 -- of the moment at which a link was opened, where that is this entry or an earlier one
 module _ (o : Opening) (e : Entry) (es : List Entry) (l : ℕ) where
-  earlier_hello : l ≤ length es
+  earlier_hello : l ≤ entered es
       → own_hello (moment l (past o es)) ≡ own_hello (moment l (past o (e ∷ es)))
   earlier_hello low = grind (arith, earlier_moment o e es l low)
 
-  now_hello : IsLegalIn o es → is_open l es ≡ true
+  now_hello : IsPlayedIn o es → is_open l es ≡ true
       → own_hello (past o es) ≡ own_hello (moment l (past o es))
   now_hello legal opens = grind (arith, same_creation)
 
@@ -158,7 +161,7 @@ module _ (o : Opening) (e : Entry) (es : List Entry) (l : ℕ) where
   accepts_none ev number c v q = grind arith
 
   -- a link that was opened before has another number
-  apart : e.number ≡ length es + 1 → l ≤ length es → (e.number == l) ≡ false
+  apart : e.number ≡ entered es + 1 → l ≤ entered es → (e.number == l) ≡ false
   apart number low = grind (arith, eqb-true, low)
 
 pub asked_own : (o : Opening) (es : List Entry) → IsNode (past o es) → (l c : ℕ)
@@ -170,9 +173,6 @@ asked_own o (e ∷ es) node l c opens n x q g says = by (is_opened_by l e) refl 
     (λ before r. asked_own o es (node_before o e es node) l c before n x r g says)
     (part (out_in o l es) (owes (past o es) l e) n x q)
   where
-    number : e.number ≡ length es + 1
-    number = cc
-
     by : (b : Bool) → is_opened_by l e ≡ b
         → cond b (start_of e.event) (opening_of l es) ≡ Some (ByPeer c)
         → (opening_of l es ≡ Some (ByPeer c) → slice_get (out_in o l es) n ≡ Some x
@@ -180,8 +180,8 @@ asked_own o (e ∷ es) node l c opens n x q g says = by (is_opened_by l e) refl 
         → Parted (out_in o l es) (owes (past o es) l e) n x
         → hello_in g ≡ own_hello (moment l (past o (e ∷ es)))
     by true here q so_far (InFirst r less) =
-        let its = opened_number l e here in
-        let nothing = unborn_out o es node.legal.1 l (omega (arith, its, number)) in
+        let next = opens_next o es e l e.event e.verdict node.legal.0 here in
+        let nothing = unborn_out o es node.legal.1 l (omega (arith, next)) in
         lie (ap is_some (sym r ∙ ap (λ ys. slice_get ys n) nothing))
     by true here q so_far (InSecond m at r) =
         let it = owed_here e.number (owed (past o es) l e.number e.event e.verdict) m x r in
@@ -191,7 +191,7 @@ asked_own o (e ∷ es) node l c opens n x q g says = by (is_opened_by l e) refl 
         (opening_low o es node.legal.1 l (ByPeer c) q)
     by false other q so_far (InSecond m at r) = now (is_open l es) refl
       where
-        low : l ≤ length es
+        low : l ≤ entered es
         low = opening_low o es node.legal.1 l (ByPeer c) q
 
         it : slice_get (owed (past o es) l e.number e.event e.verdict) m ≡ Some x.frame
@@ -201,12 +201,13 @@ asked_own o (e ∷ es) node l c opens n x q g says = by (is_opened_by l e) refl 
         now true open_link =
             all_at (IsOwn (past o es) (node_before o e es node) l)
             (owed (past o es) l e.number e.event e.verdict)
-            (owed_own (past o es) (node_before o e es node) l e.number e.seat (apart o e es l number
-            low) e.event e.verdict node.legal.0.verdict node.written.0) m x.frame it g says
+            (owed_own (past o es) (node_before o e es node) l e.number e.seat (apart o e es l
+            (owed_number o es e node.legal.0 l m x.frame it) low) e.event e.verdict
+            node.legal.0.judged node.written.0) m x.frame it g says
             ∙ now_hello o e es l node.legal.1 open_link ∙ earlier_hello o e es l low
         now false shut =
             lie (ap is_some (sym it ∙ ap (λ fs. slice_get fs m)
-            (unowed o es l shut e e.event e.verdict node.legal.0.verdict other)))
+            (unowed o es l shut e e.event e.verdict node.legal.0.judged other)))
 
 -- the first frame on a link that was dialled
 pub record IsNamed (o : Opening) (es : List Entry) (l : ℕ) : Type 0 where
@@ -220,33 +221,31 @@ named_own o [] node l n c opens = lie (sym (ap is_some opens))
 named_own o (e ∷ es) node l n c opens = by (is_opened_by l e) refl opens
     (named_own o es (node_before o e es node) l n c)
   where
-    number : e.number ≡ length es + 1
-    number = cc
-
     -- the Dial itself
-    dials : (ev : Event) (v : Verdict) → is_opened_by l (but e ev v) ≡ true
+    dials : l ≡ entered es + 1 → (ev : Event) (v : Verdict) → is_opened_by l (but e ev v) ≡ true
         → start_of ev ≡ Some (ByDial n c) → out_in o l es ≡ [] → IsNamed o (but e ev v ∷ es) l
-    dials (Event.Dial m d) (Accepted r) here q nothing = record {
+    dials next (Event.Dial m d) (Accepted r) here q nothing = record {
       first = owing e.number (own_name_frame (past o es));
       stands = (λ i. slice_get (nothing i ++ map (owing e.number)
           (cond (here i) (own_name_frame (past o es) ∷ []) [])) 0);
       says = name_says (past o es) (node_before o e es node) ∙ ap (λ h. Some (own_hello h))
-          (sym (this_moment o (but e (Event.Dial m d) (Accepted r)) es l
-          (sym (opened_number l (but e (Event.Dial m d) (Accepted r)) here) ∙ number)));
+          (sym (this_moment o (but e (Event.Dial m d) (Accepted r)) es l next));
     }
-    dials (Event.Dial m d) (Refused r) here q nothing = lie (sym here)
-    dials (Event.Opened d) v here q nothing = lie (sym (ap is_dialled q))
+    dials next (Event.Dial m d) (Refused r) here q nothing = lie (sym here)
+    dials next (Event.Opened d) v here q nothing = lie (sym (ap is_dialled q))
       where
         is_dialled : Option Start → Bool
         is_dialled (Some (ByDial n c)) = true
         is_dialled x = false
-    dials ev v here q nothing = lie (sym (ap is_some q))
+    dials next ev v here q nothing = lie (sym (ap is_some q))
 
     by : (b : Bool) → is_opened_by l e ≡ b
         → cond b (start_of e.event) (opening_of l es) ≡ Some (ByDial n c)
         → (opening_of l es ≡ Some (ByDial n c) → IsNamed o es l) → IsNamed o (e ∷ es) l
-    by true here q so_far = (let its = opened_number l e here in dials e.event e.verdict here q
-        (unborn_out o es node.legal.1 l (omega (arith, its, number))))
+    by true here q so_far =
+        let next = opens_next o es e l e.event e.verdict node.legal.0 here in
+        dials next e.event e.verdict here q
+        (unborn_out o es node.legal.1 l (omega (arith, next)))
     by false other q so_far =
         let it = so_far q in
         record {

@@ -1,17 +1,19 @@
 -- What was handed out of a link, and what waits for it, is what was owed to it, in order.
 use Rattle.frame_laws.proofs
-use proofs.Words.{Accepted, and_parts, ap, append-nil, append_assoc, arith, Bool, but, drops, ends}
+use proofs.Numbers.{entered_more, unopened}
+use proofs.Words.{Accepted, accepted, entered, IsStep, Rule, and_parts, ap, append-nil}
+use proofs.Words.{append_assoc, arith, Bool, but, drops, ends}
 use proofs.Words.{Entry, eq-eqb, eqb-true, Event, false, frames_of, handed, is_open, is_opened_by}
-use proofs.Words.{IsLegalIn, leb-false, leb-true, length, List, map, map-append, nat_le}
+use proofs.Words.{IsPlayedIn, leb-false, leb-true, List, map, map-append, nat_le}
 use proofs.Words.{open_opened, Opening, out_in, OutFrame, owed, owing, past, refl, Refused, Reply}
-use proofs.Words.{sent, subst, sym, true, unborn, unborn_waiting, unowed, Verdict, verdict, waiting}
+use proofs.Words.{sent, subst, sym, true, unborn, unborn_waiting, unowed, Verdict, waiting}
 use proofs.Words.{waiting_in, ℕ, [], ◌&&◌, ◌++◌, ◌+◌, ◌<◌, ◌==◌, ◌∙◌, ◌∷◌, ◌≡◌, ◌≤◌}
 use proofs.Places.{frames_owing}
 
 -- what was owed and not handed out: it waits, or it was dropped with the link
 pub data Rest (o : Opening) (l : ℕ) (es : List Entry) (rest : List OutFrame) : Type 0 where
   Waits : rest ≡ waiting_in o l es → Rest o l es rest
-  Dropped : waiting_in o l es ≡ [] → is_open l es ≡ false → l ≤ length es → Rest o l es rest
+  Dropped : waiting_in o l es ≡ [] → is_open l es ≡ false → l ≤ entered es → Rest o l es rest
 
 pub record IsHanded (o : Opening) (l : ℕ) (es : List Entry) : Type 0 where
   pub rest : List OutFrame
@@ -19,149 +21,171 @@ pub record IsHanded (o : Opening) (l : ℕ) (es : List Entry) : Type 0 where
   is_rest : Rest o l es rest
 
 -- a link whose number no entry has yet isn't open
-pub unborn_open : (o : Opening) (es : List Entry) → IsLegalIn o es → (l : ℕ) → length es < l
+pub unborn_open : (o : Opening) (es : List Entry) → IsPlayedIn o es → (l : ℕ) → entered es < l
     → is_open l es ≡ false
 unborn_open o es legal l above = grind (arith, unborn o es legal l above, open_opened l es)
 
 apart : (a n l : ℕ) → a ≡ n + 1 → l ≤ n → (a == l) ≡ false
 apart a n l is le = grind (arith, eqb-true)
 
-module _ (o : Opening) (es : List Entry) (e : Entry) (l : ℕ) (legal : IsLegalIn o es)
-    (number : e.number ≡ length es + 1) where
-  abbrev now : Event → Verdict → List OutFrame
-  now ev v = owed (past o es) l e.number ev v
+module _ (o : Opening) (es : List Entry) (e : Entry) (l : ℕ) (legal : IsPlayedIn o es)
+  where
+    abbrev now : Event → Verdict → List OutFrame
+    now ev v = owed (past o es) l e.number ev v
 
-  out_now : (ev : Event) (v : Verdict)
-      → frames_of (out_in o l (but e ev v ∷ es)) ≡ frames_of (out_in o l es) ++ now ev v
-  out_now ev v =
-      grind (
-        arith,
-        map-append (λ x. x.frame) (out_in o l es) (map (owing e.number) (now ev v)),
-        frames_owing e.number (now ev v),
-      )
-
-  later : length es < length (e ∷ es)
-  later = omega (arith)
-
-  unopened : (ev : Event) (v : Verdict) → l ≤ length es → is_opened_by l (but e ev v) ≡ false
-  unopened ev v le = grind arith
-
-  -- an entry that hands nothing out of the link
-  module _ (ev : Event) (v : Verdict) (q : v ≡ verdict (past o es) e.seat ev)
-      (none : handed l ev v ≡ []) where
-    total_of : (rest : List OutFrame) → sent l es ++ rest ≡ frames_of (out_in o l es)
-        → sent l (but e ev v ∷ es) ++ (rest ++ now ev v) ≡ frames_of (out_in o l (but e ev v ∷ es))
-    total_of rest all =
+    out_now : (ev : Event) (v : Verdict)
+        → frames_of (out_in o l (but e ev v ∷ es)) ≡ frames_of (out_in o l es) ++ now ev v
+    out_now ev v =
         grind (
           arith,
-          none,
-          append-nil (sent l es),
-          append_assoc (sent l es) rest (now ev v),
-          all,
-          out_now ev v,
+          map-append (λ x. x.frame) (out_in o l es) (map (owing e.number) (now ev v)),
+          frames_owing e.number (now ev v),
         )
 
-    stays : drops l es v ev ≡ false → IsHanded o l es → IsHanded o l (but e ev v ∷ es)
-    stays d before =
-        record {
-          rest = before.rest ++ now ev v;
-          all = total_of before.rest before.all;
-          is_rest = by before.is_rest;
-        }
-      where
-        by : Rest o l es before.rest → Rest o l (but e ev v ∷ es) (before.rest ++ now ev v)
-        by (Waits w) = Waits (grind (arith, w, d))
-        by (Dropped w shut le) =
-            Dropped (grind (arith, w, d, unowed o es l shut e ev v q (unopened ev v le)))
-            (grind (arith, unopened ev v le, shut)) (omega (arith, le))
+    -- an entry that hands nothing out of the link
+    module _ (ev : Event) (v : Verdict) (made : IsStep (past o es) (but e ev v))
+        (none : handed l ev v ≡ []) where
+      total_of : (rest : List OutFrame) → sent l es ++ rest ≡ frames_of (out_in o l es)
+          → sent l (but e ev v ∷ es) ++ (rest ++ now ev v)
+          ≡ frames_of (out_in o l (but e ev v ∷ es))
+      total_of rest all =
+          grind (
+            arith,
+            none,
+            append-nil (sent l es),
+            append_assoc (sent l es) rest (now ev v),
+            all,
+            out_now ev v,
+          )
 
-    -- one that ends the link
-    drop_now : drops l es v ev ≡ true → ends l es v ev ≡ true → is_opened_by l (but e ev v) ≡ false
+      stays : drops l es v ev ≡ false → IsHanded o l es → IsHanded o l (but e ev v ∷ es)
+      stays d before =
+          record {
+            rest = before.rest ++ now ev v;
+            all = total_of before.rest before.all;
+            is_rest = by before.is_rest;
+          }
+        where
+          by : Rest o l es before.rest → Rest o l (but e ev v ∷ es) (before.rest ++ now ev v)
+          by (Waits w) = Waits (grind (arith, w, d))
+          by (Dropped w shut le) =
+              Dropped (grind (
+                arith,
+                w,
+                d,
+                unowed o es l shut e ev v made.judged
+                    (unopened o es e l ev v made le),
+              ))
+              (grind (arith, unopened o es e l ev v made le, shut))
+              (let more = entered_more (but e ev v) es in omega (arith, le, more))
+
+      -- one that ends the link
+      drop_now : drops l es v ev ≡ true → ends l es v ev ≡ true
+          → is_opened_by l (but e ev v) ≡ false
+          → IsHanded o l es → IsHanded o l (but e ev v ∷ es)
+      drop_now d ended other before =
+          record {
+            rest = before.rest ++ now ev v;
+            all = total_of before.rest before.all;
+            is_rest = by before.is_rest (nat_le l (entered es)) refl;
+          }
+        where
+          by : Rest o l es before.rest → (b : Bool) → nat_le l (entered es) ≡ b
+              → Rest o l (but e ev v ∷ es) (before.rest ++ now ev v)
+          by r true le = (let low = leb-true l (entered es) le in Dropped (grind (arith, d))
+              (grind (arith, other, ended))
+              (let more = entered_more (but e ev v) es in omega (arith, low, more)))
+          by (Waits w) false le =
+              let above = leb-false l (entered es) le in
+              Waits (grind (
+                arith,
+                d,
+                w,
+                unborn_waiting (past o es) legal l above,
+                unowed o es l (unborn_open o es legal l above) e ev v made.judged other,
+              ))
+          by (Dropped w shut low) false le = grind (arith, leb-false l (entered es) le, low)
+
+    -- ---- a Take of the link
+
+    -- all that waits is handed out
+    module _ (k : ℕ) (frames : List OutFrame) (same : k ≡ l)
+        (are : frames ≡ waiting_in o l es) where
+      taken : IsHanded o l es
+          → IsHanded o l (but e (Event.Take k) (Accepted (Reply.Out frames)) ∷ es)
+      taken before =
+          grind (
+            arith,
+            eq-eqb k l,
+            append-nil (sent l es ++ frames),
+            append-nil (out_in o l es),
+            append-nil (sent l es),
+          )
+
+    -- ---- each event
+
+    lost_drops : (k : ℕ) (r : Reply) (b : Bool) → (k == l) ≡ b
+        → drops l es (Accepted r) (Event.Lost k) ≡ b
+    lost_drops k r b m = grind (arith, m)
+
+    untaken : (k : ℕ) (r : Reply) → (k == l) ≡ false → handed l (Event.Take k) (Accepted r) ≡ []
+    untaken k r m = grind (arith, m)
+
+    take_drops : (k : ℕ) (r : Reply) → (k == l) ≡ false
+        → drops l es (Accepted r) (Event.Take k) ≡ false
+    take_drops k r m = grind (arith, m)
+
+    unhanded : (ev : Event) (r : Rule) → handed l ev (Refused r) ≡ []
+    unhanded ev r = grind arith
+
+    -- an event that ends the link where the test holds
+    by_test : (ev : Event) (v : Verdict) → IsStep (past o es) (but e ev v) → handed l ev v ≡ []
+        → drops l es v ev ≡ (ends l es v ev && is_open l es) → is_opened_by l (but e ev v) ≡ false
         → IsHanded o l es → IsHanded o l (but e ev v ∷ es)
-    drop_now d ended other before =
-        record {
-          rest = before.rest ++ now ev v;
-          all = total_of before.rest before.all;
-          is_rest = by before.is_rest (nat_le l (length es)) refl;
-        }
+    by_test ev v made none d other before = by (ends l es v ev && is_open l es) refl
       where
-        by : Rest o l es before.rest → (b : Bool) → nat_le l (length es) ≡ b
-            → Rest o l (but e ev v ∷ es) (before.rest ++ now ev v)
-        by r true le = (let low = leb-true l (length es) le in Dropped (grind (arith, d))
-            (grind (arith, other, ended)) (omega (arith, low)))
-        by (Waits w) false le =
-            let above = leb-false l (length es) le in
-            Waits (grind (
-              arith,
-              d,
-              w,
-              unborn_waiting (past o es) legal l above,
-              unowed o es l (unborn_open o es legal l above) e ev v q other,
-            ))
-        by (Dropped w shut low) false le = grind (arith, leb-false l (length es) le, low)
+        by : (b : Bool) → (ends l es v ev && is_open l es) ≡ b → IsHanded o l (but e ev v ∷ es)
+        by true m = drop_now ev v made none (d ∙ m)
+            ((and_parts (ends l es v ev) (is_open l es) m).0) other before
+        by false m = stays ev v made none (d ∙ m) before
 
-  -- ---- a Take of the link
+    lost_by : (k : ℕ) (r : Reply) → IsStep (past o es) (but e (Event.Lost k) (Accepted r))
+        → (b : Bool) → (k == l) ≡ b → IsHanded o l es
+        → IsHanded o l (but e (Event.Lost k) (Accepted r) ∷ es)
+    lost_by k r made true m before =
+        drop_now (Event.Lost k) (Accepted r) made refl (lost_drops k r true m) m refl before
+    lost_by k r made false m before =
+        stays (Event.Lost k) (Accepted r) made refl (lost_drops k r false m) before
 
-  -- all that waits is handed out
-  module _ (k : ℕ) (frames : List OutFrame) (same : k ≡ l) (are : frames ≡ waiting_in o l es) where
-    taken : IsHanded o l es → IsHanded o l (but e (Event.Take k) (Accepted (Reply.Out frames)) ∷ es)
-    taken before =
-        grind (
-          arith,
-          eq-eqb k l,
-          append-nil (sent l es ++ frames),
-          append-nil (out_in o l es),
-          append-nil (sent l es),
-        )
+    taken_by : (k : ℕ) (r : Reply) → IsStep (past o es) (but e (Event.Take k) (Accepted r))
+        → r ≡ Reply.Out (waiting (past o es) k) → (b : Bool) → (k == l) ≡ b → IsHanded o l es
+        → IsHanded o l (but e (Event.Take k) (Accepted r) ∷ es)
+    taken_by k r made is true m before =
+        subst (λ x. IsHanded o l (but e (Event.Take k) (Accepted x) ∷ es)) (sym is)
+        (taken k (waiting (past o es) k) (eqb-true k l m)
+        (ap (λ j. waiting_in o j es) (eqb-true k l m)) before)
+    taken_by k r made is false m before =
+        stays (Event.Take k) (Accepted r) made (untaken k r m) (take_drops k r m) before
 
-  -- ---- each event
+    step : (ev : Event) (v : Verdict) → IsStep (past o es) (but e ev v) → IsHanded o l es
+        → IsHanded o l (but e ev v ∷ es)
+    step ev (Refused r) made before = stays ev (Refused r) made (unhanded ev r) refl before
+    step Event.Restart (Accepted r) made before =
+        drop_now Event.Restart (Accepted r) made refl refl refl refl before
+    step (Event.Lost k) (Accepted r) made before = lost_by k r made (k == l) refl before
+    step (Event.Take k) (Accepted r) made before =
+        taken_by k r made (accepted (past o es) e.seat (Event.Take k) r made.judged).1 (k == l) refl
+        before
+    step (Event.Disconnect n) (Accepted r) made before =
+        by_test (Event.Disconnect n) (Accepted r) made refl refl refl before
+    step (Event.Frame k body) (Accepted r) made before =
+        by_test (Event.Frame k body) (Accepted r) made refl refl refl before
+    step ev (Accepted r) made before = stays ev (Accepted r) made refl refl before
 
-  -- an event that ends the link where the test holds
-  by_test : (ev : Event) (v : Verdict) → v ≡ verdict (past o es) e.seat ev → handed l ev v ≡ []
-      → drops l es v ev ≡ (ends l es v ev && is_open l es) → is_opened_by l (but e ev v) ≡ false
-      → IsHanded o l es → IsHanded o l (but e ev v ∷ es)
-  by_test ev v q none d other before = by (ends l es v ev && is_open l es) refl
-    where
-      by : (b : Bool) → (ends l es v ev && is_open l es) ≡ b → IsHanded o l (but e ev v ∷ es)
-      by true m = drop_now ev v q none (d ∙ m) ((and_parts (ends l es v ev) (is_open l es) m).0)
-          other
-          before
-      by false m = stays ev v q none (d ∙ m) before
-
-  lost_by : (k : ℕ) (r : Reply) → Accepted r ≡ verdict (past o es) e.seat (Event.Lost k)
-      → (b : Bool) → (k == l) ≡ b → IsHanded o l es
-      → IsHanded o l (but e (Event.Lost k) (Accepted r) ∷ es)
-  lost_by k r q true m before = grind (arith, drop_now)
-  lost_by k r q false m before = grind (arith, stays)
-
-  taken_by : (k : ℕ) (r : Reply) → Accepted r ≡ verdict (past o es) e.seat (Event.Take k)
-      → r ≡ Reply.Out (waiting (past o es) k) → (b : Bool) → (k == l) ≡ b → IsHanded o l es
-      → IsHanded o l (but e (Event.Take k) (Accepted r) ∷ es)
-  taken_by k r q is true m before =
-      subst (λ x. IsHanded o l (but e (Event.Take k) (Accepted x) ∷ es)) (sym is)
-      (taken k (waiting (past o es) k) (eqb-true k l m)
-      (ap (λ j. waiting_in o j es) (eqb-true k l m)) before)
-  taken_by k r q is false m before =
-      grind (
-        arith,
-        stays (Event.Take k) (Accepted (Reply.Out (waiting (past o es) k)))
-            (ap Accepted (sym is) ∙ q) (grind (arith, m)) (grind (arith, m)) before,
-      )
-
-  step : (ev : Event) (v : Verdict) → v ≡ verdict (past o es) e.seat ev → IsHanded o l es
-      → IsHanded o l (but e ev v ∷ es)
-  step ev (Refused r) q before = grind (arith, stays)
-  step Event.Restart (Accepted r) q before = grind (arith, drop_now)
-  step (Event.Lost k) (Accepted r) q before = grind (arith, lost_by)
-  step (Event.Take k) (Accepted r) q before = grind (arith, taken_by)
-  step (Event.Disconnect n) (Accepted r) q before = grind (arith, by_test)
-  step (Event.Frame k body) (Accepted r) q before = grind (arith, by_test)
-  step ev (Accepted r) q before = grind (arith, stays)
-
-pub all_handed : (o : Opening) (es : List Entry) → IsLegalIn o es → (l : ℕ) → IsHanded o l es
+pub all_handed : (o : Opening) (es : List Entry) → IsPlayedIn o es → (l : ℕ) → IsHanded o l es
 all_handed o [] legal l = grind (arith, Waits)
-all_handed o (e ∷ es) legal l = step o es e l legal.1 legal.0.number e.event e.verdict
-    legal.0.verdict (all_handed o es legal.1 l)
+all_handed o (e ∷ es) legal l =
+    step o es e l legal.1 e.event e.verdict legal.0 (all_handed o es legal.1 l)
 
 -- while the link is open, what waits is the rest
 pub open_rest : (o : Opening) (es : List Entry) (l : ℕ) → is_open l es ≡ true → IsHanded o l es

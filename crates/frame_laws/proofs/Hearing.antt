@@ -2,7 +2,8 @@
 use Rattle.frame_laws.proofs
 use proofs.Words.{Accepted, and_parts, ap, append-nil, arith, Bool, but, came, cond, delivered}
 use proofs.Words.{Entry, eqb-true, Event, false, has_rows, HasGiven, heard, HeardIsSaid, History}
-use proofs.Words.{is_open, is_whole, IsGiven, IsHonest, IsLegalIn, IsNext, known, length, lie, List}
+use proofs.Words.{is_open, is_whole, IsGiven, IsHonest, IsPlayedIn, IsStep, known, length, lie}
+use proofs.Words.{List}
 use proofs.Words.{Message, message_taken, None, Opening, Option, option_to_list, past, Pid, refl}
 use proofs.Words.{Refused, Reply, Rule, seen_by, slice_get, slice_get_within, Some, stated, subst}
 use proofs.Words.{sym, take, take-append-le, tells_rows, told_rows, true, Verdict, view_of, ℕ, []}
@@ -13,7 +14,7 @@ use proofs.Bodies.{anew, apart_so, honest_first, is_known, known_heard, left_so,
 use proofs.Bodies.{stands_last, take_last, view_more}
 use proofs.NotRefused.{not_about}
 
-module _ (o : Opening) (es : List Entry) (e : Entry) (legal : IsLegalIn o es) (l : ℕ)
+module _ (o : Opening) (es : List Entry) (e : Entry) (legal : IsPlayedIn o es) (l : ℕ)
     (s : List ℕ) where
   abbrev h : History
   h = past o es
@@ -122,7 +123,7 @@ module _ (o : Opening) (es : List Entry) (e : Entry) (legal : IsLegalIn o es) (l
     abbrev said_by : Option Message → List Message
     said_by x = option_to_list x
 
-    module _ (r : Reply) (next : IsNext h (but e ev (Accepted r)))
+    module _ (r : Reply) (next : IsStep h (but e ev (Accepted r)))
         (hears : heard l s (but e ev (Accepted r) ∷ es) ≡ true) (before : Before) where
       abbrev x : Entry
       x = but e ev (Accepted r)
@@ -197,7 +198,7 @@ module _ (o : Opening) (es : List Entry) (e : Entry) (legal : IsLegalIn o es) (l
       accepted_said true true is whole = whole_said is whole (has_rows s body) refl
 
     module _ (name : List ℕ) (creation : ℕ) (gives : is_whole l es ≡ true
-        → IsGiven l name creation es) (r : Rule) (next : IsNext h (but e ev (Refused r)))
+        → IsGiven l name creation es) (r : Rule) (next : IsStep h (but e ev (Refused r)))
         (hears : heard l s (but e ev (Refused r) ∷ es) ≡ true) (before : Before) where
       same_known : (g : List ℕ) (p : Pid)
           → known l s g p (but e ev (Refused r) ∷ es) ≡ known l s g p es
@@ -214,7 +215,7 @@ module _ (o : Opening) (es : List Entry) (e : Entry) (legal : IsLegalIn o es) (l
       refused_said true is honest =
           let given_so =
           gives ((and_parts (is_open l es) (is_whole l es) (is_up_there h legal l s was)).1) in
-          let next_here = subst (λ j. IsNext h (but e (Event.Frame j body) (Refused r)))
+          let next_here = subst (λ j. IsStep h (but e (Event.Frame j body) (Refused r)))
           (eqb-true k l is) next in
           calm_said ev (Refused r) body (ap (λ b. cond b (body ∷ []) []) is) refl hears
           (stated_before ev (Refused r) hears same_known)
@@ -222,7 +223,7 @@ module _ (o : Opening) (es : List Entry) (e : Entry) (legal : IsLegalIn o es) (l
           given_so body honest (before was) r next_here was)) (before was)
 
   entry_said : (name : List ℕ) (creation : ℕ) → (is_whole l es ≡ true → IsGiven l name creation es)
-      → Before → (ev : Event) (v : Verdict) → IsNext h (but e ev v)
+      → Before → (ev : Event) (v : Verdict) → IsStep h (but e ev v)
       → IsHonest name creation s (bodies ++ came l ev)
       → heard l s (but e ev v ∷ es) ≡ true → HeardIsSaid (past o (but e ev v ∷ es)) l s
   entry_said name creation gives before (Event.Frame k body) (Accepted r) next honest hears =
@@ -245,7 +246,7 @@ pub given_here : (l : ℕ) (name : List ℕ) (creation : ℕ) (es : List Entry)
 given_here l name creation [] gives whole = lie (sym whole)
 given_here l name creation (e ∷ es) gives whole = gives.0 whole
 
-pub heard_said : (o : Opening) (es : List Entry) → IsLegalIn o es
+pub heard_said : (o : Opening) (es : List Entry) → IsPlayedIn o es
     → (l : ℕ) (s name : List ℕ) (creation : ℕ) → IsHonest name creation s (delivered l es)
     → HasGiven l name creation es → heard l s es ≡ true → HeardIsSaid (past o es) l s
 heard_said o [] legal l s name creation honest gives hears = lie (sym hears)

@@ -4,8 +4,7 @@ use proofs.Words.{max_rows, ap, bodies_of, creation, has_rows, History, is_of, i
 use proofs.Words.{IsListing, IsNode, length, lie, List, local_rows, local_rows_are, Message}
 use proofs.Words.{message_taken, moment, out, Owing, PassesThrough, Pid, refl, Row, row, rows_of}
 use proofs.Words.{slice_get, Some, suc, sym, take, true, view_of, zero, ℕ, [], ◌+◌, ◌∙◌, ◌∷◌, ◌≡◌}
-use proofs.Words.{◌≤◌}
-use proofs.FewRows.{few_local}
+use proofs.Words.{few_local, ◌≤◌}
 use proofs.FromHere.{rows_own}
 use proofs.LinksTell.{all_tell}
 use proofs.Moments.{legal_then}

@@ -1,10 +1,13 @@
 -- What is known over a link after an entry: what its message makes of what was known before.
 use Rattle.frame_laws.proofs
+use proofs.Refusals.{refused_heard}
+use proofs.Words.{sym, ◌∙◌}
+use proofs.Words.{fresh}
 use proofs.Words.{Accepted, accepted, and_parts, ap, arith, Awaited, AwaitMessage, awaits, Bool}
-use proofs.Words.{but, ByDial, ByPeer, cond, done_now, ends, Entry, entry_leaves, entry_link}
+use proofs.Words.{but, ByDial, ByPeer, cond, done_now, ends, Entry, entry_link}
 use proofs.Words.{eq-eqb, eqb-true, Event, false, first_broken, first_of, frame_checks}
 use proofs.Words.{framed_heard, heard, hears, History, is_last, is_message, is_open, is_whole}
-use proofs.Words.{IsAnswered, IsLegalIn, IsNext, known, lie, List, Message, message_at}
+use proofs.Words.{IsPlayedIn, IsStep, known, lie, List, Message, message_at}
 use proofs.Words.{message_heard, message_taken, None, not, open_first, Opening, opening_heard}
 use proofs.Words.{option_to_list, past, Pid, proved_heard, refl, Refused, Reply, Rule, Said, seen}
 use proofs.Words.{seen_by, Some, stated_in, stopped_heard, subst, sym, Talk, talk, true, unwrap_or}
@@ -35,7 +38,8 @@ module _ (s g : List ℕ) (p : Pid) where
       → known l s g p (x ∷ es) ≡ known l s g p es
   still_known l x es now was same_talk = grind (arith, known_as l (x ∷ es) now, known_as l es was)
 
-module _ (o : Opening) (es : List Entry) (e : Entry) (legal : IsLegalIn o es) (l : ℕ) (s g : List ℕ)
+module _ (o : Opening) (es : List Entry) (e : Entry) (legal : IsPlayedIn o es) (l : ℕ)
+    (s g : List ℕ)
     (p : Pid) where
   abbrev h : History
   h = past o es
@@ -44,18 +48,11 @@ module _ (o : Opening) (es : List Entry) (e : Entry) (legal : IsLegalIn o es) (l
   KnownAfter ev v = heard l s (but e ev v ∷ es) ≡ true
       → known l s g p (but e ev v ∷ es) ≡ seen_by s g p (message_at l es v ev) (known l s g p es)
 
-  answered : (ev : Event) (v : Verdict) → IsNext h (but e ev v) → IsAnswered h (but e ev v)
-  answered ev v next = grind arith
-
-  refused_known : (ev : Event) (r : Rule) → IsNext h (but e ev (Refused r))
+  refused_known : (ev : Event) (r : Rule) → IsStep h (but e ev (Refused r))
       → KnownAfter ev (Refused r)
   refused_known ev r next now =
-      grind (
-        arith,
-        entry_leaves h (but e ev (Refused r)) next refl,
-        still_known,
-        but e ev (Refused r),
-      )
+      still_known s g p l (but e ev (Refused r)) es now (sym (refused_heard e es ev r l s)
+      ∙ now) refl
 
   stopped_known : (t : List ℕ) (r : Reply) → KnownAfter (Event.StopScope t) (Accepted r)
   stopped_known t r now =
@@ -64,11 +61,11 @@ module _ (o : Opening) (es : List Entry) (e : Entry) (legal : IsLegalIn o es) (l
   -- ---- frames
 
   module _ (k : ℕ) (body : List ℕ) (r : Reply)
-      (next : IsNext h (but e (Event.Frame k body) (Accepted r))) where
+      (next : IsStep h (but e (Event.Frame k body) (Accepted r))) where
     abbrev fr : Entry
     fr = but e (Event.Frame k body) (Accepted r)
 
-    made : IsAnswered h fr
+    made : IsStep h fr
     made = grind (arith, Event.Frame k body, Accepted r)
 
     other_known : (k == l) ≡ false → heard l s (fr ∷ es) ≡ true
@@ -87,7 +84,7 @@ module _ (o : Opening) (es : List Entry) (e : Entry) (legal : IsLegalIn o es) (l
       found = grind (
         arith,
         open_first (is_open k es) (frame_checks h k body (awaits k es))
-            (accepted h e.seat (Event.Frame k body) r next.verdict).0,
+            (accepted h e.seat (Event.Frame k body) r next.judged).0,
       )
 
       its : Event.Frame k body ≡ Event.Frame l body
@@ -98,7 +95,7 @@ module _ (o : Opening) (es : List Entry) (e : Entry) (legal : IsLegalIn o es) (l
       hello_heard unlike false inner t =
           grind (arith, framed_heard h legal fr made refl l body its unlike inner l s)
       hello_heard unlike true last t =
-          let done = done_now o es legal [] fr next.number l body found.0 last in
+          let done = done_now o es legal [] fr (fresh o es legal fr next) l body found.0 last in
           grind (
             arith,
             (proved_heard h legal fr made refl l body its done.peer last done.was_of l s).heard_is,
@@ -170,18 +167,18 @@ module _ (o : Opening) (es : List Entry) (e : Entry) (legal : IsLegalIn o es) (l
 
   -- ---- every entry
 
-  pub known_after : (ev : Event) (v : Verdict) → IsNext h (but e ev v) → KnownAfter ev v
+  pub known_after : (ev : Event) (v : Verdict) → IsStep h (but e ev v) → KnownAfter ev v
   known_after ev (Refused r) next now = refused_known ev r next now
   known_after (Event.StopScope t) (Accepted r) next now = stopped_known t r now
   known_after (Event.Frame k body) (Accepted r) next now = grind (arith, frame_known)
   known_after (Event.Dial n c) (Accepted r) next now =
       still_known s g p l (but e (Event.Dial n c) (Accepted r)) es now
       (sym (opening_heard h (but e (Event.Dial n c) (Accepted r)) refl legal
-      (answered (Event.Dial n c) (Accepted r) next) (ByDial n c) refl l s).heard_is ∙ now) refl
+      next (ByDial n c) refl l s).heard_is ∙ now) refl
   known_after (Event.Opened c) (Accepted r) next now =
       still_known s g p l (but e (Event.Opened c) (Accepted r)) es now
       (sym (opening_heard h (but e (Event.Opened c) (Accepted r)) refl legal
-      (answered (Event.Opened c) (Accepted r) next) (ByPeer c) refl l s).heard_is ∙ now) refl
+      next (ByPeer c) refl l s).heard_is ∙ now) refl
   known_after (Event.Lost k) (Accepted r) next now = grind (arith, still_known)
   known_after (Event.Disconnect n) (Accepted r) next now = grind (arith, still_known)
   known_after Event.Restart (Accepted r) next now = cc

@@ -1,9 +1,10 @@
 pub mod Words
+pub mod Numbers
+pub mod Refusals
 pub mod Places
 pub mod Handing
 pub mod Sources
 pub mod SaidUp
-pub mod FewRows
 pub mod OwnLimits
 pub mod Handshakes
 pub mod Spoken

@@ -1,11 +1,13 @@
 -- What each other event says of a scope to a link, and so what every entry says.
 use Rattle.frame_laws.proofs
+use proofs.Refusals.{refused_told}
+use proofs.Words.{fresh}
 use proofs.Words.{Accepted, accepted, all_hold, always, ap, arith, Awaited, AwaitMessage, awaits}
-use proofs.Words.{Bool, but, ByDial, ByPeer, cond, done_now, ends, Entry, entry_leaves, entry_link}
+use proofs.Words.{Bool, but, ByDial, ByPeer, cond, done_now, ends, Entry, entry_link}
 use proofs.Words.{eqb-true, Event, false, first_broken, first_of, frame_checks, frame_owes}
 use proofs.Words.{framed_heard, heard, History, if_visible, is_about_rows, is_last, is_message}
-use proofs.Words.{is_open, is_running, is_some, is_up, is_visible, is_whole, IsAnswered, IsListing}
-use proofs.Words.{IsMessage, IsNext, IsNode, IsText, IsWritten, lie, List, local_rows}
+use proofs.Words.{is_open, is_running, is_some, is_up, is_visible, is_whole, IsStep, IsListing}
+use proofs.Words.{IsMessage, IsStep, IsNode, IsText, IsWritten, lie, List, local_rows}
 use proofs.Words.{local_rows_are, Message, message_checks, message_heard, message_owes}
 use proofs.Words.{message_taken, None, not, not-false, open_first, Opening, opening_heard, Option}
 use proofs.Words.{option_map_or, owed, own, past, Pid, proved_heard, refl, refusal_owes, Refused}
@@ -31,9 +33,6 @@ module _ (o : Opening) (es : List Entry) (e : Entry) (node : IsNode (past o es))
   abbrev TellsOf : Event → Verdict → Type 0
   TellsOf ev v = EntryTells o l s (but e ev v) es
 
-  answered : (ev : Event) (v : Verdict) → IsNext h (but e ev v) → IsAnswered h (but e ev v)
-  answered ev v next = record { room = next.room; number = next.number; verdict = next.verdict }
-
   asks_calm : (t : List ℕ) → IsText t → IsCalm s (wide (Message.Discover t))
   asks_calm t text = calm_message s (Message.Discover t) text refl
 
@@ -48,10 +47,9 @@ module _ (o : Opening) (es : List Entry) (e : Entry) (node : IsNode (past o es))
       by false = tt
   refused_calm ev r = tt
 
-  refused_tells : (ev : Event) (r : Rule) → IsNext h (but e ev (Refused r)) → TellsOf ev (Refused r)
+  refused_tells : (ev : Event) (r : Rule) → IsStep h (but e ev (Refused r)) → TellsOf ev (Refused r)
   refused_tells ev r next =
-      let left = entry_leaves h (but e ev (Refused r)) next refl in
-      Silent (refused_calm ev r) (λ t. (sym (left.told l s) ∙ t, λ g p. left.own s g p))
+      Silent (refused_calm ev r) (λ t. (sym (refused_told e es ev r l s) ∙ t, λ g p. refl))
 
   -- ---- scopes
 
@@ -63,7 +61,7 @@ module _ (o : Opening) (es : List Entry) (e : Entry) (node : IsNode (past o es))
       by true = (calm_message s m is other, tt)
       by false = tt
 
-  start_tells : (t : List ℕ) (r : Reply) → IsNext h (but e (Event.StartScope t) (Accepted r))
+  start_tells : (t : List ℕ) (r : Reply) → IsStep h (but e (Event.StartScope t) (Accepted r))
       → IsText t → TellsOf (Event.StartScope t) (Accepted r)
   start_tells t r next text = Silent (visible_calm (Message.Discover t) text refl)
       (λ told. (told, λ g p. by (same t s) refl (told_runs h node.legal l s told) g p))
@@ -96,23 +94,23 @@ module _ (o : Opening) (es : List Entry) (e : Entry) (node : IsNode (past o es))
 
   -- ---- links
 
-  dial_tells : (n : List ℕ) (c : ℕ) (r : Reply) → IsNext h (but e (Event.Dial n c) (Accepted r))
+  dial_tells : (n : List ℕ) (c : ℕ) (r : Reply) → IsStep h (but e (Event.Dial n c) (Accepted r))
       → TellsOf (Event.Dial n c) (Accepted r)
   dial_tells n c r next =
       Silent (dial_all h node l (IsCalm s) (of_hellos h l (IsCalm s) (calm_hello s)) asks_calm
       (calm_hello s _ refl) (e.number == l))
       (λ told. (
         sym (opening_heard h (but e (Event.Dial n c) (Accepted r)) refl node.legal
-            (answered (Event.Dial n c) (Accepted r) next) (ByDial n c) refl l s).told_is ∙ told,
+            next (ByDial n c) refl l s).told_is ∙ told,
         λ g p. refl,
       ))
 
-  opened_tells : (c : ℕ) (r : Reply) → IsNext h (but e (Event.Opened c) (Accepted r))
+  opened_tells : (c : ℕ) (r : Reply) → IsStep h (but e (Event.Opened c) (Accepted r))
       → TellsOf (Event.Opened c) (Accepted r)
   opened_tells c r next = Silent tt
       (λ told. (
         sym (opening_heard h (but e (Event.Opened c) (Accepted r)) refl node.legal
-            (answered (Event.Opened c) (Accepted r) next) (ByPeer c) refl l s).told_is ∙ told,
+            next (ByPeer c) refl l s).told_is ∙ told,
         λ g p. refl,
       ))
 
@@ -123,12 +121,12 @@ module _ (o : Opening) (es : List Entry) (e : Entry) (node : IsNode (past o es))
   -- ---- frames
 
   module _ (k : ℕ) (body : List ℕ) (r : Reply)
-      (next : IsNext h (but e (Event.Frame k body) (Accepted r))) where
+      (next : IsStep h (but e (Event.Frame k body) (Accepted r))) where
     abbrev fr : Entry
     fr = but e (Event.Frame k body) (Accepted r)
 
-    made : IsAnswered h fr
-    made = answered (Event.Frame k body) (Accepted r) next
+    made : IsStep h fr
+    made = next
 
     -- of another link
     other_told : (k == l) ≡ false → told l s (fr ∷ es) ≡ true → told l s es ≡ true
@@ -145,7 +143,7 @@ module _ (o : Opening) (es : List Entry) (e : Entry) (node : IsNode (past o es))
       found = grind (
         arith,
         open_first (is_open k es) (frame_checks h k body (awaits k es))
-            (accepted h e.seat (Event.Frame k body) r next.verdict).0,
+            (accepted h e.seat (Event.Frame k body) r next.judged).0,
       )
 
       its : Event.Frame k body ≡ Event.Frame l body
@@ -156,7 +154,8 @@ module _ (o : Opening) (es : List Entry) (e : Entry) (node : IsNode (past o es))
       hello_told unlike false inner t =
           grind (arith, framed_heard h node.legal fr made refl l body its unlike inner l s)
       hello_told unlike true last t =
-          let done = done_now o es node.legal [] fr next.number l body found.0 last in
+          let done =
+          done_now o es node.legal [] fr (fresh o es node.legal fr next) l body found.0 last in
           grind (
             arith,
             (proved_heard h node.legal fr made refl l body its done.peer last done.was_of l
@@ -255,7 +254,7 @@ module _ (o : Opening) (es : List Entry) (e : Entry) (node : IsNode (past o es))
 
   -- ---- every entry
 
-  entry_tells : (ev : Event) (v : Verdict) → IsNext h (but e ev v) → IsWritten ev → TellsOf ev v
+  entry_tells : (ev : Event) (v : Verdict) → IsStep h (but e ev v) → IsWritten ev → TellsOf ev v
   entry_tells ev (Refused r) next text = refused_tells ev r next
   entry_tells (Event.StartScope t) (Accepted r) next text = start_tells t r next text
   entry_tells (Event.StopScope t) (Accepted r) next text = stop_tells t r text

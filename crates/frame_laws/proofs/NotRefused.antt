@@ -2,13 +2,13 @@
 use Rattle.frame_laws.proofs
 use proofs.Words.{max_rows, and_parts, ap, AreFrom, AreStated, arith, Bool, but, cond, delivered}
 use proofs.Words.{Entry, Event, false, has_rows, HasRoom, heard, HeardIsSaid, History}
-use proofs.Words.{is_about_rows, is_accepted, is_from, is_full, IsGiven, IsHonest, IsLegalIn}
-use proofs.Words.{IsNext, length, lie, List, list_all, lt-ltb, MaySay, Message, message_taken, None}
-use proofs.Words.{not, occurrences, Opening, Option, option_map, option_map_or, option_to_list}
+use proofs.Words.{is_about_rows, is_accepted, is_from, IsGiven, IsHonest, IsPlayedIn}
+use proofs.Words.{IsStep, length, lie, List, list_all, MaySay, Message, message_taken, None}
+use proofs.Words.{occurrences, Opening, Option, option_map, option_map_or, option_to_list}
 use proofs.Words.{past, Pid, refl, Refused, Row, rows_in, rows_of, Rule, same, same_decides}
 use proofs.Words.{same_row, same_sym, says_rows, scope_of, seen_by, slice_get, Some, stated, subst}
 use proofs.Words.{sym, take, true, view_of, ℕ, [], ◌&&◌, ◌++◌, ◌+◌, ◌==◌, ◌∙◌, ◌∷◌, ◌≡◌, ◌≤◌}
-use proofs.Accepting.{accepts}
+use proofs.Accepting.{admits}
 use proofs.Bodies.{stands_last, take_all, take_last, view_more}
 
 -- processes of the name and the creation that the peer has given are from it
@@ -33,7 +33,7 @@ module _ (o : Opening) (es : List Entry) (l : ℕ) (name : List ℕ) (creation :
       (list_all (λ x. same x.pid.node name && x.pid.creation == creation) rows) q in
       (λ i. one_from r.pid both.0 i && all_from rows both.1 i)
 
-module _ (o : Opening) (es : List Entry) (e : Entry) (legal : IsLegalIn o es) (l : ℕ)
+module _ (o : Opening) (es : List Entry) (e : Entry) (legal : IsPlayedIn o es) (l : ℕ)
     (s : List ℕ) where
   abbrev h : History
   h = past o es
@@ -111,20 +111,17 @@ module _ (o : Opening) (es : List Entry) (e : Entry) (legal : IsLegalIn o es) (l
       scope_is (Message.Down t) q = (same_decides t s).0 q
 
       -- so a refused body isn't about rows of s
-      pub not_about : (r : Rule) → IsNext h (but e (Event.Frame l body) (Refused r))
+      pub not_about : (r : Rule) → IsStep h (but e (Event.Frame l body) (Refused r))
           → heard l s es ≡ true → is_about_rows s (message_taken body) ≡ false
       not_about r next hears = by (message_taken body) refl
         where
-          room : is_full h ≡ false
-          room = (let some = next.room in ap not (lt-ltb (length es) o.entries some))
-
           about : (m : Message) → message_taken body ≡ Some m → (b : Bool)
               → is_about_rows s (Some m) ≡ b → is_about_rows s (Some m) ≡ false
           about m says false q = q
           about m says true q =
               let is = scope_is m q in
-              lie (sym (accepts h legal l s hears e.seat body m room says is (may_say m says is))
-              ∙ ap is_accepted (sym next.verdict))
+              lie (sym (admits h legal l s hears e.seat body m says is (may_say m says is))
+              ∙ ap is_accepted (sym next.judged))
 
           by : (x : Option Message) → message_taken body ≡ x
               → is_about_rows s (message_taken body) ≡ false

@@ -1,14 +1,16 @@
 -- What one node hears of another is its own rows at one moment.
 use Rattle.frame_laws.proofs
+use proofs.Numbers.{moment_low}
+use proofs.Words.{entered}
 use proofs.Words.{AllByRecursion, and_false, and_parts, ap, arith, bodies_of, Bool, cond, creation}
 use proofs.Words.{delivered, Falls, false, foreign_own, has_rows, HasGiven, heard, HeardIsSaid}
 use proofs.Words.{HearsMoment, Hello, History, is_from, is_local, is_open, is_peer, is_whole}
-use proofs.Words.{is_whole_in, IsGiven, IsHonest, IsLegal, IsNode, IsProvedLink, length}
-use proofs.Words.{length-drop, lie, List, listed, Means, moment, None, Opened, opened, Option}
+use proofs.Words.{is_whole_in, IsGiven, IsHonest, IsPlayed, IsNode, IsProvedLink, length}
+use proofs.Words.{lie, List, listed, Means, moment, None, Opened, opened, Option}
 use proofs.Words.{option_map, option_map_or, out, OutFrame, Owing, own, PassesThrough, Pid, refl}
 use proofs.Words.{same, same_sym, SaysOne, slice_get, slice_get_within, Some, source_at, stated}
 use proofs.Words.{subst, suc, sym, take, take-append-le, taken, told, told_rows, true, view_of}
-use proofs.Words.{zero, ℕ, [], ◌&&◌, ◌++◌, ◌+◌, ◌-◌, ◌<◌, ◌==◌, ◌∙◌, ◌∷◌, ◌≡◌, ◌≤◌}
+use proofs.Words.{zero, ℕ, [], ◌&&◌, ◌++◌, ◌+◌, ◌<◌, ◌==◌, ◌∙◌, ◌∷◌, ◌≡◌, ◌≤◌}
 use proofs.Bodies.{honest_first, stands_first}
 use proofs.Accepting.{is_up_there, listed_is}
 use proofs.Hearing.{given_here, heard_said}
@@ -49,11 +51,11 @@ record StatesMoment (A : History) (a : ℕ) (B : History) (b : ℕ) (s : List �
   proved : IsProvedLink (moment source A) a
   rows : (g : List ℕ) (p : Pid) → stated b s g p B.entries ≡ own (moment source A) s g p
 
-module _ (A : History) (node : IsNode A) (a : ℕ) (B : History) (legal : IsLegal B) (b : ℕ)
+module _ (A : History) (node : IsNode A) (a : ℕ) (B : History) (legal : IsPlayed B) (b : ℕ)
     (s : List ℕ) (hears : heard b s B.entries ≡ true)
     (gives : HasGiven b A.opening.name (creation (moment a A)) B.entries) where
   -- where the link has stated all own rows of a moment, as many are listed
-  module _ (K : History) (same_opening : K.opening ≡ A.opening) (legal_so : IsLegal K)
+  module _ (K : History) (same_opening : K.opening ≡ A.opening) (legal_so : IsPlayed K)
       (creation_is : creation K ≡ creation (moment a A)) (rows : (g : List ℕ) (p : Pid)
       → stated b s g p B.entries ≡ own K s g p)
       (g : List ℕ) (p : Pid) (its_node : same p.node A.opening.name ≡ true) where
@@ -175,7 +177,7 @@ module _ (A : History) (node : IsNode A) (a : ℕ) (B : History) (legal : IsLega
     same_then : creation (moment hears_moment.source A) ≡ creation (moment a A)
     same_then = by (opened a (moment hears_moment.source A).entries) refl
       where
-        within : hears_moment.source ≤ length A.entries
+        within : hears_moment.source ≤ entered A.entries
         within =
             let frame = frame_at (out A a) hears_moment.place hears_moment.source
             hears_moment.is_source in
@@ -192,7 +194,7 @@ module _ (A : History) (node : IsNode A) (a : ℕ) (B : History) (legal : IsLega
             let since = since_opening A.opening (moment hears_moment.source A).entries
             (legal_then A node.legal hears_moment.source) a x q in
             let low = since.low in
-            let long = length-drop (length A.entries - hears_moment.source) A.entries in
+            let long = moment_low hears_moment.source A.entries in
             since.same ∙ ap creation (moment_then A.opening A.entries a hears_moment.source
             (omega (arith, low, long, within)) within)
 

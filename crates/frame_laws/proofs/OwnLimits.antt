@@ -1,15 +1,16 @@
 -- Own rows and running scopes are within the limits of messages.
 use Rattle.frame_laws.proofs
+use proofs.Numbers.{entered_more, entered_next}
+use proofs.Words.{entered, few_local, IsNumbered, judgement}
 use proofs.Words.{max_rows, Accepted, accepted, All-from_recursion, all_hold, AllByRecursion}
 use proofs.Words.{and_parts, AreRows, arith, Bool, but, checks, cond, creation, Entry, eqb-false}
 use proofs.Words.{eqb-true, Event, events, false, foreign_own, History, is_among, is_local}
-use proofs.Words.{is_running, IsLegalIn, IsListing, IsNode, IsNodeName, IsRow, IsText, IsWritten}
+use proofs.Words.{is_running, IsPlayedIn, IsListing, IsNode, IsNodeName, IsRow, IsText, IsWritten}
 use proofs.Words.{join_checks, joined, leb-true, length, lie, List, list_all, lives, local_rows}
 use proofs.Words.{local_rows_are, mentions, occurrences, Opening, own, past, Pid, refl, Refused}
 use proofs.Words.{Reply, Row, row, running_among, running_scopes, same, same_decides, same_pid}
 use proofs.Words.{same_pid_decides, same_row, same_row_decides, spawned, subst, sym, true, unbroken}
-use proofs.Words.{uncounted, Verdict, verdict, ℕ, [], ◌&&◌, ◌+◌, ◌<◌, ◌==◌, ◌^◌, ◌∙◌, ◌∷◌, ◌≡◌, ◌≤◌}
-use proofs.FewRows.{few_local}
+use proofs.Words.{uncounted, Verdict, ℕ, [], ◌&&◌, ◌+◌, ◌<◌, ◌==◌, ◌^◌, ◌∙◌, ◌∷◌, ◌≡◌, ◌≤◌}
 
 -- ---- lists
 
@@ -101,7 +102,7 @@ module _ (o : Opening) where
     was_so ev v more was = (let number = was.number in
         record { text = was.text; number = omega (arith, number, more) })
 
-    by_event : (ev : Event) (v : Verdict) → v ≡ verdict (past o es) e.seat ev → IsWritten ev
+    by_event : (ev : Event) (v : Verdict) → v ≡ judgement (past o es) e.seat ev → IsWritten ev
         → Before → After ev v
     by_event ev (Refused r) q text so_far some = was_so ev (Refused r) (omega arith) (so_far some)
     by_event (Event.Join t f ps) (Accepted r) q text so_far some =
@@ -119,32 +120,37 @@ module _ (o : Opening) where
     by_event Event.Restart (Accepted r) q text so_far some = absurd (omega (arith, some))
     by_event ev (Accepted r) q text so_far some = was_so ev (Accepted r) (omega arith) (so_far some)
 
-  joined_text : (es : List Entry) → IsLegalIn o es → AllWritten es → (s g : List ℕ) (p : Pid)
+  joined_text : (es : List Entry) → IsPlayedIn o es → AllWritten es → (s g : List ℕ) (p : Pid)
       → 0 < joined s g p (events es) → IsJoined es g p
   joined_text [] legal written s g p some = absurd (omega (arith, some))
   joined_text (e ∷ es) legal written s g p some = by_event es e s g p e.event e.verdict
-      legal.0.verdict written.0 (joined_text es legal.1 written.1 s g p) some
+      legal.0.judged written.0 (joined_text es legal.1 written.1 s g p) some
 
   -- there are no more processes than entries
-  few_spawned : (es : List Entry) → spawned (past o es) ≤ length es
-  few_spawned [] = omega arith
-  few_spawned (e ∷ es) = by_event e.event e.verdict (few_spawned es)
+  few_spawned : (es : List Entry) → IsPlayedIn o es → spawned (past o es) ≤ entered es
+  few_spawned [] legal = omega arith
+  few_spawned (e ∷ es) legal = by_event e.event e.verdict legal.0.number (few_spawned es legal.1)
     where
-      by_event : (ev : Event) (v : Verdict) → spawned (past o es) ≤ length es
-          → spawned (past o (but e ev v ∷ es)) ≤ length (e ∷ es)
-      by_event Event.Spawn (Accepted r) so_far = omega arith
-      by_event Event.Restart (Accepted r) so_far = omega arith
-      by_event ev (Accepted r) so_far = omega arith
-      by_event ev (Refused r) so_far = omega arith
+      more : entered es ≤ entered (e ∷ es)
+      more = entered_more e es
+
+      by_event : (ev : Event) (v : Verdict) → IsNumbered (past o es) e.number ev
+          → spawned (past o es) ≤ entered es
+          → spawned (past o (but e ev v ∷ es)) ≤ entered (e ∷ es)
+      by_event Event.Spawn (Accepted r) here so_far =
+          (let next = entered_next e es here in omega (arith, next, so_far))
+      by_event Event.Restart (Accepted r) here so_far = omega arith
+      by_event ev (Accepted r) here so_far = omega (arith, so_far, more)
+      by_event ev (Refused r) here so_far = omega (arith, so_far, more)
 
   -- the creation fits its field
-  creation_fits : o.creation < 2 ^ 32 → (es : List Entry) → IsLegalIn o es
+  creation_fits : o.creation < 2 ^ 32 → (es : List Entry) → IsPlayedIn o es
       → creation (past o es) < 2 ^ 32
   creation_fits first [] legal = omega arith
-  creation_fits first (e ∷ es) legal = by_event e.event e.verdict legal.0.verdict
+  creation_fits first (e ∷ es) legal = by_event e.event e.verdict legal.0.judged
       (creation_fits first es legal.1)
     where
-      by_event : (ev : Event) (v : Verdict) → v ≡ verdict (past o es) e.seat ev
+      by_event : (ev : Event) (v : Verdict) → v ≡ judgement (past o es) e.seat ev
           → creation (past o es) < 2 ^ 32 → creation (past o (but e ev v ∷ es)) < 2 ^ 32
       by_event Event.Restart (Accepted r) q so_far =
           grind (
@@ -155,11 +161,6 @@ module _ (o : Opening) where
           )
       by_event ev (Accepted r) q so_far = so_far
       by_event ev (Refused r) q so_far = so_far
-
-  -- no more entries than the audit has room for
-  within_room : (es : List Entry) → IsLegalIn o es → length es ≤ o.entries
-  within_room [] legal = omega arith
-  within_room (e ∷ es) legal = grind arith
 
 -- ---- of a node
 
@@ -177,8 +178,8 @@ module _ (h : History) (node : IsNode h) where
 
   number_fits : (n : ℕ) → n ≤ spawned h → n < 2 ^ 64
   number_fits n within =
-      let few = few_spawned h.opening h.entries in
-      let room = within_room h.opening h.entries node.legal in
+      let few = few_spawned h.opening h.entries node.legal in
+      let room = node.room in
       let fits = node.entries in
       omega (arith, within, few, room, fits)
 

@@ -1,7 +1,8 @@
 -- Places in lists, and the frames that one entry owes.
 use Rattle.frame_laws.proofs
-use proofs.Words.{AllByRecursion, arith, Entry, frames_of, History, IsLegalIn, length, List, map}
-use proofs.Words.{moment, Opening, out_in, OutFrame, owed, owes, Owing, owing, past, refl}
+use proofs.Words.{AllByRecursion, arith, Entry, frames_of, History, IsPlayedIn, length, List, map}
+use proofs.Numbers.{entered_more, entered_next, owed_number}
+use proofs.Words.{entered, moment, Opening, out_in, OutFrame, owed, owes, Owing, owing, past, refl}
 use proofs.Words.{slice_get, Some, subst, suc, sym, zero, ℕ, [], ◌++◌, ◌+◌, ◌<◌, ◌∙◌, ◌∷◌, ◌≡◌, ◌≤◌}
 
 module _ {A : Type 0} where
@@ -51,11 +52,11 @@ owed_here n (f ∷ fs) (suc m) x q =
 
 -- ---- moments
 
-pub earlier_moment : (o : Opening) (e : Entry) (es : List Entry) (k : ℕ) → k ≤ length es
+pub earlier_moment : (o : Opening) (e : Entry) (es : List Entry) (k : ℕ) → k ≤ entered es
     → moment k (past o (e ∷ es)) ≡ moment k (past o es)
 earlier_moment o e es k le = grind arith
 
-pub this_moment : (o : Opening) (e : Entry) (es : List Entry) (k : ℕ) → k ≡ length es + 1
+pub this_moment : (o : Opening) (e : Entry) (es : List Entry) (k : ℕ) → k ≡ entered es + 1
     → moment k (past o (e ∷ es)) ≡ past o (e ∷ es)
 this_moment o e es k is = grind arith
 
@@ -73,35 +74,35 @@ module _ (o : Opening) (l : ℕ) (P : History → OutFrame → Type 0) where
   -- it holds, and the source is an entry
   pub record HoldsThen (es : List Entry) (x : Owing) : Type 0 where
     pub some : 1 ≤ x.source
-    pub within : x.source ≤ length es
+    pub within : x.source ≤ entered es
     pub holds : P (moment x.source (past o es)) x.frame
 
-  pub holds_then : (es : List Entry) → IsLegalIn o es → AllOwed es → (n : ℕ) (x : Owing)
+  pub holds_then : (es : List Entry) → IsPlayedIn o es → AllOwed es → (n : ℕ) (x : Owing)
       → slice_get (out_in o l es) n ≡ Some x → HoldsThen es x
   holds_then [] legal all n x q = grind arith
   holds_then (e ∷ es) legal all n x q = by (λ r. holds_then es legal.1 all.1 n x r)
       (part (out_in o l es) (owes (past o es) l e) n x q)
     where
-      number : e.number ≡ length es + 1
-      number = cc
-
       by : (slice_get (out_in o l es) n ≡ Some x → HoldsThen es x)
           → Parted (out_in o l es) (owes (past o es) l e) n x → HoldsThen (e ∷ es) x
       by so_far (InFirst r less) =
           let before = so_far r in
           let low = before.within in
+          let more = entered_more e es in
           record {
             some = before.some;
-            within = omega (arith, low);
+            within = omega (arith, low, more);
             holds = subst (λ h. P h x.frame) (sym (earlier_moment o e es x.source low))
                 before.holds;
           }
       by so_far (InSecond m is r) =
           let here = owed_here e.number (owed (past o es) l e.number e.event e.verdict) m x r in
-          let source : x.source ≡ length es + 1 = here.source ∙ number in
+          let number = owed_number o es e legal.0 l m x.frame here.frame in
+          let source : x.source ≡ entered es + 1 = here.source ∙ number in
+          let next = entered_next e es number in
           record {
             some = omega (arith, source);
-            within = omega (arith, source);
+            within = omega (arith, source, next);
             holds = subst (λ h. P h x.frame) (sym (this_moment o e es x.source source))
                 (all.0 m x.frame here.frame);
           }

@@ -3,7 +3,7 @@ use Rattle.frame_laws.proofs
 use proofs.Words.{max_rows, Accepted, accepted, all_append, all_hold, AllByRecursion, ap, apart}
 use proofs.Words.{append-nil, append_assoc, arith, Bool, but, cond, Entry, entry_exited}
 use proofs.Words.{entry_joined, entry_left, Event, false, filter, flat_map, History, if_told}
-use proofs.Words.{is_about_rows, is_among, is_empty, is_running, IsListing, IsMessage, IsNext}
+use proofs.Words.{is_about_rows, is_among, is_empty, is_running, IsListing, IsMessage, IsStep}
 use proofs.Words.{IsNode, IsText, IsWritten, join_checks, leb-true, length, Less, lie, List}
 use proofs.Words.{list_all, lives, local_rows, local_rows_are, Message, nat_le, not, occurrences}
 use proofs.Words.{Opening, OutFrame, own, past, Pid, refl, Reply, Rises, Row, row, rows_of}
@@ -112,11 +112,11 @@ module _ (o : Opening) (es : List Entry) (e : Entry) (node : IsNode (past o es))
           IsListing.counts (join_listing h node g ps) (row f p),
         )
 
-    join_here : IsNext h (but e (Event.Join s g ps) (Accepted r)) → IsWritten (Event.Join s g ps)
+    join_here : IsStep h (but e (Event.Join s g ps) (Accepted r)) → IsWritten (Event.Join s g ps)
         → TellsOf (Event.Join s g ps) (Accepted r)
     join_here next text =
         let held = all_hold (join_checks h s g ps)
-        (accepted h e.seat (Event.Join s g ps) r next.verdict).0 in
+        (accepted h e.seat (Event.Join s g ps) r next.judged).0 in
         let runs = unbroken (is_running h s) held.0 in
         let room = leb-true (length (local_rows h s) + length ps) max_rows
         (unbroken (nat_le (length (local_rows h s) + length ps) max_rows) held.1.1.1.0) in
@@ -132,17 +132,17 @@ module _ (o : Opening) (es : List Entry) (e : Entry) (node : IsNode (past o es))
         [] [] (if_told h l s (Message.Join s) (join_rows h node g ps))
         (sym (append-nil (if_told h l s (Message.Join s) (join_rows h node g ps)))) tt tt
 
-    pub join_tells : (t : List ℕ) → IsNext h (but e (Event.Join t g ps) (Accepted r))
+    pub join_tells : (t : List ℕ) → IsStep h (but e (Event.Join t g ps) (Accepted r))
         → IsWritten (Event.Join t g ps) → TellsOf (Event.Join t g ps) (Accepted r)
     join_tells t next text = by (same t s) refl
       where
         by : (b : Bool) → same t s ≡ b → TellsOf (Event.Join t g ps) (Accepted r)
-        by true is = subst (λ u. IsNext h (but e (Event.Join u g ps) (Accepted r))
+        by true is = subst (λ u. IsStep h (but e (Event.Join u g ps) (Accepted r))
             → IsWritten (Event.Join u g ps) → TellsOf (Event.Join u g ps) (Accepted r))
             (sym ((same_decides t s).0 is)) join_here next text
         by false other =
             let held = all_hold (join_checks h t g ps)
-            (accepted h e.seat (Event.Join t g ps) r next.verdict).0 in
+            (accepted h e.seat (Event.Join t g ps) r next.judged).0 in
             let room = leb-true (length (local_rows h t) + length ps) max_rows
             (unbroken (nat_le (length (local_rows h t) + length ps) max_rows) held.1.1.1.0) in
             Silent (part_calm h l s t (Message.Join t) (join_rows h node g ps)

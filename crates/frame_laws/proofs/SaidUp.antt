@@ -1,9 +1,11 @@
 -- A message is owed to a link after it was proved, and no restart comes between.
 use Rattle.frame_laws.proofs
+use proofs.Numbers.{entered_more, entered_next}
+use proofs.Words.{entered, IsNumbered}
 use proofs.Words.{Accepted, ack_taken, ap, arith, AwaitAck, Awaited, AwaitMessage, AwaitReply}
 use proofs.Words.{awaits, Bool, but, Entry, eqb-true, Event, false, filter, flat_map, frame_owes}
 use proofs.Words.{History, if_told, is_accepted, is_restart, is_restarted_after, is_whole}
-use proofs.Words.{IsAnswered, IsLegalIn, IsProvedLink, IsTrue, length, lie, List, list_all}
+use proofs.Words.{IsStep, IsPlayedIn, IsProvedLink, IsTrue, lie, List, list_all}
 use proofs.Words.{local_rows, ltb-true, Message, message_taken_on, not, Opening, OutFrame, owed}
 use proofs.Words.{past, refl, Refused, Reply, reply_taken, Row, running_scopes, same_pid, slice_get}
 use proofs.Words.{Some, suc, sym, true, Verdict, zero, ℕ, [], ◌&&◌, ◌+◌, ◌==◌, ◌∙◌, ◌∷◌, ◌≡◌, ◌≤◌}
@@ -13,11 +15,22 @@ use proofs.Places.{AllOwed}
 
 module _ (o : Opening) where
   -- no entry has a later number
-  unrestarted : (es : List Entry) → IsLegalIn o es → (k : ℕ) → length es ≤ k
+  unrestarted : (es : List Entry) → IsPlayedIn o es → (k : ℕ) → entered es ≤ k
       → is_restarted_after k es ≡ false
   unrestarted [] legal k le = refl
-  unrestarted (e ∷ es) legal k le =
-      grind (arith, legal.0.number, ltb-true, unrestarted es legal.1 k)
+  unrestarted (e ∷ es) legal k le = by e.event e.verdict legal.0.number
+      (unrestarted es legal.1 k (omega (arith, le, more)))
+    where
+      more : entered es ≤ entered (e ∷ es)
+      more = entered_more e es
+
+      by : (ev : Event) (v : Verdict) → IsNumbered (past o es) e.number ev
+          → is_restarted_after k es ≡ false → is_restarted_after k (but e ev v ∷ es) ≡ false
+      by Event.Restart (Accepted r) here was =
+          (let next = entered_next e es here
+          in grind (arith, was, le, here, next, ltb-true k e.number))
+      by ev (Accepted r) here was = grind (arith, was)
+      by ev (Refused r) here was = grind (arith, was)
 
   -- a restart leaves no link whole
   not_restart : (es : List Entry) (e : Entry) (l : ℕ) (ev : Event) (v : Verdict)
@@ -26,18 +39,55 @@ module _ (o : Opening) where
   not_restart es e l ev (Accepted r) w = refl
   not_restart es e l ev (Refused r) w = refl
 
-  was_proved : (es : List Entry) → IsLegalIn o es → (l : ℕ) → is_whole l es ≡ true
+  -- what makes a link whole is an entry
+  whole_number : (es : List Entry) (e : Entry) (l : ℕ) (ev : Event) (v : Verdict)
+      → IsNumbered (past o es) e.number ev → is_whole l es ≡ false
+      → is_whole l (but e ev v ∷ es) ≡ true → e.number ≡ entered es + 1
+  whole_number es e l (Event.Lost k) (Accepted r) here was now = lie (sym now ∙ was)
+  whole_number es e l (Event.Lost k) (Refused r) here was now = lie (sym now ∙ was)
+  whole_number es e l ev v here was now = here
+
+  still_proved : (es : List Entry) (e : Entry) (l : ℕ) → is_whole l (e ∷ es) ≡ true
+      → is_whole l es ≡ true → (is_accepted e.verdict && is_restart e.event) ≡ false
+      → IsProvedLink (past o es) l → IsProvedLink (past o (e ∷ es)) l
+  still_proved es e l now was other it =
+      let more = entered_more e es in
+      let low = it.within in
+      record {
+        whole = now;
+        proof = it.proof;
+        within = omega (arith, more, low);
+        proved = grind (arith, was, it.proved);
+        unbroken = grind (arith, other, it.unbroken);
+      }
+
+  now_proved : (es : List Entry) (e : Entry) (l : ℕ) → is_whole l (e ∷ es) ≡ true
+      → is_whole l es ≡ false → e.number ≡ entered es + 1
+      → (entered es ≤ e.number → is_restarted_after e.number es ≡ false)
+      → IsProvedLink (past o (e ∷ es)) l
+  now_proved es e l now was number none =
+      let next = entered_next e es number in
+      record {
+        whole = now;
+        proof = e.number;
+        within = omega (arith, next, number);
+        proved = grind (arith, now, was);
+        unbroken = grind (arith, none (omega (arith, number)), ltb-true e.number e.number);
+      }
+
+  was_proved : (es : List Entry) → IsPlayedIn o es → (l : ℕ) → is_whole l es ≡ true
       → IsProvedLink (past o es) l
   was_proved [] legal l w = cc
   was_proved (e ∷ es) legal l w = by (was_proved es legal.1 l) (is_whole l es) refl
     where
-      number : e.number ≡ length es + 1
-      number = cc
+      number : is_whole l es ≡ false → e.number ≡ entered es + 1
+      number was = whole_number es e l e.event e.verdict legal.0.number was w
 
       by : (is_whole l es ≡ true → IsProvedLink (past o es) l) → (b : Bool) → is_whole l es ≡ b
           → IsProvedLink (past o (e ∷ es)) l
-      by so_far true was = grind (arith, was, not_restart es e l e.event e.verdict w)
-      by so_far false was = grind (arith, was, unrestarted es legal.1 e.number, ltb-true)
+      by so_far true was =
+          still_proved es e l w was (not_restart es e l e.event e.verdict w) (so_far was)
+      by so_far false was = now_proved es e l w was (number was) (unrestarted es legal.1 e.number)
 
 -- ---- messages are owed to whole links alone
 
@@ -69,7 +119,7 @@ module _ (o : Opening) (es : List Entry) (e : Entry) (l : ℕ) where
   all_untold un say rows (s ∷ ss) = grind (arith, un, all_untold un say rows ss)
 
   framed : (k : ℕ) (body : List ℕ) (r : Reply)
-      → IsAnswered (past o es) (but e (Event.Frame k body) (Accepted r)) → (k == l) ≡ true
+      → IsStep (past o es) (but e (Event.Frame k body) (Accepted r)) → (k == l) ≡ true
       → is_whole l (but e (Event.Frame k body) (Accepted r) ∷ es) ≡ false
       → (a : Awaited) → awaits l es ≡ a → are_narrow (frame_owes (past o es) l body a) ≡ true
   framed k body r made is un AwaitReply a =
@@ -93,7 +143,7 @@ module _ (o : Opening) (es : List Entry) (e : Entry) (l : ℕ) where
   framed k body r made is un x a = grind (arith, early_narrow)
 
   -- while the link isn't whole no message is owed to it
-  unsaid : (ev : Event) (v : Verdict) → IsAnswered (past o es) (but e ev v)
+  unsaid : (ev : Event) (v : Verdict) → IsStep (past o es) (but e ev v)
       → is_whole l (but e ev v ∷ es) ≡ false → are_narrow (owed (past o es) l e.number ev v) ≡ true
   unsaid (Event.StartScope s) (Accepted r) made un = grind arith
   unsaid (Event.StopScope s) (Accepted r) made un = grind arith
@@ -110,7 +160,7 @@ module _ (o : Opening) (es : List Entry) (e : Entry) (l : ℕ) where
   unsaid (Event.Frame k body) (Refused r) made un = grind arith
   unsaid ev v made un = refl
 
-  whole_when_said : IsAnswered (past o es) e → (m : ℕ) (f : OutFrame)
+  whole_when_said : IsStep (past o es) e → (m : ℕ) (f : OutFrame)
       → slice_get (owed (past o es) l e.number e.event e.verdict) m ≡ Some f → f.wide ≡ true
       → is_whole l (e ∷ es) ≡ true
   whole_when_said made m f q wide = by (is_whole l (e ∷ es)) refl
@@ -125,7 +175,7 @@ module _ (o : Opening) (es : List Entry) (e : Entry) (l : ℕ) where
 abbrev pub IsSaidUp : ℕ → History → OutFrame → Type 0
 IsSaidUp l h f = IsTrue f.wide → IsProvedLink h l
 
-pub all_said_up : (o : Opening) (es : List Entry) → IsLegalIn o es → (l : ℕ)
+pub all_said_up : (o : Opening) (es : List Entry) → IsPlayedIn o es → (l : ℕ)
     → AllOwed o l (IsSaidUp l) es
 all_said_up o [] legal l = tt
 all_said_up o (e ∷ es) legal l =

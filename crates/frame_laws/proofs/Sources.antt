@@ -1,7 +1,8 @@
 -- Sources are numbers of entries, and they rise.
 use Rattle.frame_laws.proofs
-use proofs.Words.{arith, Entry, History, IsLegalIn, length, List, Opening, out_in, OutFrame, owed}
-use proofs.Words.{owes, Owing, past, slice_get, Some, source_at, ℕ, [], ◌+◌, ◌∷◌, ◌≡◌, ◌≤◌}
+use proofs.Numbers.{owed_number}
+use proofs.Words.{arith, Entry, History, IsPlayedIn, List, Opening, out_in, OutFrame, owed}
+use proofs.Words.{owes, Owing, past, slice_get, Some, source_at, ℕ, [], ◌∷◌, ◌≡◌, ◌≤◌}
 use proofs.Places.{Parted, InFirst, InSecond, part, owed_here, AllOwed, HoldsThen, holds_then}
 
 -- the frame that has this source
@@ -21,11 +22,11 @@ module _ (o : Opening) (l : ℕ) where
   any [] = tt
   any (e ∷ es) = (λ m f q. tt, any es)
 
-  pub is_entry : (es : List Entry) → IsLegalIn o es → (n : ℕ) (x : Owing)
+  pub is_entry : (es : List Entry) → IsPlayedIn o es → (n : ℕ) (x : Owing)
       → slice_get (out_in o l es) n ≡ Some x → HoldsThen o l IsAny es x
   is_entry es legal n x q = holds_then o l IsAny es legal (any es) n x q
 
-  pub rises : (es : List Entry) → IsLegalIn o es → (m n : ℕ) (x y : Owing) → m ≤ n
+  pub rises : (es : List Entry) → IsPlayedIn o es → (m n : ℕ) (x y : Owing) → m ≤ n
       → slice_get (out_in o l es) m ≡ Some x → slice_get (out_in o l es) n ≡ Some y
       → x.source ≤ y.source
   rises [] legal m n x y le p q = grind arith
@@ -33,17 +34,15 @@ module _ (o : Opening) (l : ℕ) where
       (part (out_in o l es) (owes (past o es) l e) m x p)
       (part (out_in o l es) (owes (past o es) l e) n y q)
     where
-      number : e.number ≡ length es + 1
-      number = cc
-
       by : (slice_get (out_in o l es) m ≡ Some x → slice_get (out_in o l es) n ≡ Some y
           → x.source ≤ y.source) → Parted (out_in o l es) (owes (past o es) l e) m x
           → Parted (out_in o l es) (owes (past o es) l e) n y → x.source ≤ y.source
       by so_far (InFirst a less) (InFirst b few) = so_far a b
       by so_far (InFirst a less) (InSecond j is b) =
           let low = (is_entry es legal.1 m x a).within in
-          let high = (owed_here e.number (owed (past o es) l e.number e.event e.verdict) j y
-          b).source in
+          let it = owed_here e.number (owed (past o es) l e.number e.event e.verdict) j y b in
+          let high = it.source in
+          let number = owed_number o es e legal.0 l j y.frame it.frame in
           omega (arith, low, high, number)
       by so_far (InSecond i is a) (InFirst b few) = grind arith
       by so_far (InSecond i is a) (InSecond j at b) =

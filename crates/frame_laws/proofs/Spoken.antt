@@ -1,5 +1,7 @@
 -- Each frame that is owed is one of the handshake, or a message within the grammar.
 use Rattle.frame_laws.proofs
+use proofs.Numbers.{entered_more}
+use proofs.Words.{few, few_local, judgement}
 use proofs.Words.{max_rows, Accepted, accepted, all_append, all_hold, AllByRecursion, ap, AreRows}
 use proofs.Words.{arith, Awaited, AwaitMessage, awaits, Bool, cond, count_in_group, creation, Entry}
 use proofs.Words.{eqb-true, Event, exact_pids, false, fewer_length, filter, filter_all}
@@ -13,9 +15,8 @@ use proofs.Words.{not, occurrences, occurs_stands, open_first, Opening, OutFrame
 use proofs.Words.{own_name_frame, past, Pid, pid_cmp, pids_total, refl, refusal_owes, Refused, Row}
 use proofs.Words.{row, rows_in_group, running_scopes, same, same_decides, same_pid}
 use proofs.Words.{same_pid_decides, same_row, same_row_decides, same_sym, SaysOne, Some, subst, sym}
-use proofs.Words.{told, true, unbroken, uncounted, Verdict, verdict, wide, ℕ, [], ◌&&◌, ◌+◌, ◌<◌}
+use proofs.Words.{told, true, unbroken, uncounted, Verdict, wide, ℕ, [], ◌&&◌, ◌+◌, ◌<◌}
 use proofs.Words.{◌==◌, ◌||◌, ◌∙◌, ◌∷◌, ◌≡◌, ◌≤◌}
-use proofs.FewRows.{few, few_local}
 use proofs.OwnLimits.{all_counted, are_rows, living_row, local_are, own_row, own_rows, scope_text}
 use proofs.OwnLimits.{scopes_text}
 use proofs.Handshakes.{HoldsOfHellos, begins_message, first_byte, frame_all, of_hellos, no_message}
@@ -266,7 +267,7 @@ module _ (h : History) (node : IsNode h) where
 
     -- each frame that an entry owes
     pub owed_hold : (number seat : ℕ) (ev : Event) (v : Verdict)
-        → ((number == l) ≡ true → P (own_name_frame h)) → v ≡ verdict h seat ev → IsWritten ev
+        → ((number == l) ≡ true → P (own_name_frame h)) → v ≡ judgement h seat ev → IsWritten ev
         → AllHold (owed h l number ev v)
     owed_hold number seat (Event.StartScope s) (Accepted r) name q text =
         visible_hold (Message.Discover s) text refl
@@ -307,7 +308,7 @@ module _ (h : History) (node : IsNode h) where
         by false = tt
     owed_hold number seat ev v name q text = tt
 
-  pub owed_say : (number seat l : ℕ) (ev : Event) (v : Verdict) → v ≡ verdict h seat ev
+  pub owed_say : (number seat l : ℕ) (ev : Event) (v : Verdict) → v ≡ judgement h seat ev
       → IsWritten ev → AllByRecursion (IsSpoken h) (owed h l number ev v)
   owed_say number seat l ev v = owed_hold l (IsSpoken h) (of_hellos h l (IsSpoken h) (hello h))
       (means h) number seat ev v (λ is. hello h _ refl)
@@ -320,6 +321,7 @@ pub node_before : (o : Opening) (e : Entry) (es : List Entry) → IsNode (past o
 node_before o e es node =
     record {
       legal = node.legal.1;
+      room = (let room = node.room in let more = entered_more e es in omega (arith, room, more));
       name = node.name;
       creation = node.creation;
       entries = node.entries;
@@ -336,6 +338,6 @@ all_said o [] node l = tt
 all_said o (e ∷ es) node l = (
   λ m f q. (all_at (IsSpoken (past o es)) (owed (past o es) l e.number e.event e.verdict)
       (owed_say (past o es) (node_before o e es node) e.number e.seat l e.event e.verdict
-      node.legal.0.verdict node.written.0) m f q).says,
+      node.legal.0.judged node.written.0) m f q).says,
   all_said o es (node_before o e es node) l,
 )

@@ -1,6 +1,8 @@
 -- Where each entry tells what it does, the frames pass through the sender's rows.
 use Rattle.frame_laws.proofs
-use proofs.Words.{ap, append-nil, arith, bodies_of, Entry, has_rows, IsLegalIn, length, lie, List}
+use proofs.Numbers.{owed_number}
+use proofs.Words.{IsStep}
+use proofs.Words.{ap, append-nil, arith, bodies_of, Entry, has_rows, IsPlayedIn, length, lie, List}
 use proofs.Words.{map, Message, message_taken, messages_said, moment, None, Opening, Option, out_in}
 use proofs.Words.{OutFrame, owed, owes, Owing, owing, own, PassesThrough, past, Pid, refl, Row}
 use proofs.Words.{rows_of, same_decides, slice_get, Some, suc, sym, take, take-append-add}
@@ -126,7 +128,7 @@ module _ (s : List ℕ) (x : OutFrame) (rows : List Row)
       by (InSecond k at r) = behind k r
 
 module _ (o : Opening) (l : ℕ) (s : List ℕ) where
-  module _ (e : Entry) (es : List Entry) (number : e.number ≡ length es + 1)
+  module _ (e : Entry) (es : List Entry) (made : IsStep (past o es) e)
       (before : PassesThrough (past o es) l s) where
     abbrev fs : List OutFrame
     fs = owed (past o es) l e.number e.event e.verdict
@@ -167,7 +169,7 @@ module _ (o : Opening) (l : ℕ) (s : List ℕ) where
         (view g p) (before.now was g p)
     there_seen (Ended none ends) m x q rows leaves g p = grind (arith, leave_rows_said, no_rows_at)
 
-    module _ (tells : EntryTells o l s e es) (legal : IsLegalIn o es) where
+    module _ (tells : EntryTells o l s e es) (legal : IsPlayedIn o es) where
       there : (n : ℕ) (x : Owing) → slice_get (out_in o l (e ∷ es)) n ≡ Some x → (rows : List Row)
           → message_taken x.frame.body ≡ Some (Message.Leave s rows) → (g : List ℕ) (p : Pid)
           → (k : ℕ) × (view_of s g p (bodies_of (take n (out_in o l (e ∷ es)))) ≡ Some k)
@@ -222,18 +224,20 @@ module _ (o : Opening) (l : ℕ) (s : List ℕ) where
               ∙ view_after s g p (out_in o l es) e.number (take (suc m) fs)
               ∙ then_seen tells m x.frame here.frame has g p
               ∙ ap (λ h. Some (own h s g p))
-              (sym (this_moment o e es x.source (here.source ∙ number)))
+              (sym (this_moment o e es x.source
+              (here.source ∙ owed_number o es e made l m x.frame here.frame)))
 
       now : told l s (e ∷ es) ≡ true → (g : List ℕ) (p : Pid)
           → view_of s g p (bodies_of (out_in o l (e ∷ es))) ≡ Some (own (past o (e ∷ es)) s g p)
       now t g p = view_after s g p (out_in o l es) e.number fs ∙ now_seen tells t g p
 
-  pub passes : (es : List Entry) → IsLegalIn o es → AllTell o l s es → PassesThrough (past o es) l s
+  pub passes : (es : List Entry) → IsPlayedIn o es → AllTell o l s es
+      → PassesThrough (past o es) l s
   passes [] legal tell = grind arith
   passes (e ∷ es) legal tell =
       let before = passes es legal.1 tell.1 in
       record {
-        moments = moments e es legal.0.number before tell.0 legal.1;
-        now = now e es legal.0.number before tell.0 legal.1;
-        there = there e es legal.0.number before tell.0 legal.1;
+        moments = moments e es legal.0 before tell.0 legal.1;
+        now = now e es legal.0 before tell.0 legal.1;
+        there = there e es legal.0 before tell.0 legal.1;
       }

@@ -10,6 +10,7 @@ pub use Rattle.std.specs.List.{AllByRecursion, filter, flat_map, list_all}
 pub use Rattle.std.specs.Option.{option_and_then, option_map, option_map_or, option_to_list}
 pub use Rattle.std.specs.Option.{unwrap_or}
 pub use Rattle.std.specs.Prelude.{Bool, cond, drop, false, get_or, is_some, IsTrue, length, List}
+pub use Rattle.std.specs.Prelude.{nat_lt}
 pub use Rattle.std.specs.Prelude.{map, min, nat_le, None, not, Option, slice_get, Some, suc, take}
 pub use Rattle.std.specs.Prelude.{true, zero, ℕ, [], ◌&&◌, ◌++◌, ◌+◌, ◌-◌, ◌<◌, ◌==◌, ◌^◌, ◌||◌}
 pub use Rattle.std.specs.Prelude.{◌∷◌, ◌≡◌, ◌≤◌}
@@ -39,7 +40,7 @@ pub use Rattle.policy_audit.specs.declared.entry.Verdict.{Verdict}
 pub use Rattle.policy_audit.specs.declared.entry.Verdict.TheVariants.{Accepted, Refused}
 pub use Rattle.policy_audit.specs.declared.entry.Entry.{Entry}
 pub use Rattle.policy_audit.specs.History.{creation, events, first_of, History, is_accepted}
-pub use Rattle.policy_audit.specs.History.{is_restart, past}
+pub use Rattle.policy_audit.specs.History.{entered, is_entered, is_restart, just, past}
 pub use Rattle.policy_audit.specs.Own.{is_local, is_running, joined, lives, own, running_scopes}
 pub use Rattle.policy_audit.specs.Own.{spawned}
 pub use Rattle.policy_audit.specs.Sides.{and_frame, AwaitAck, AwaitAnswer, AwaitChallenge, Awaited}
@@ -59,9 +60,11 @@ pub use Rattle.policy_audit.specs.Owed.{digest_for, discovers, drops, frame_owes
 pub use Rattle.policy_audit.specs.Owed.{if_visible, message_owes, narrow, owed, own_challenge}
 pub use Rattle.policy_audit.specs.Owed.{own_challenge_frame, own_name_frame, refusal_owes}
 pub use Rattle.policy_audit.specs.Owed.{status_frame, true_to, waiting, waiting_in, welcome, wide}
-pub use Rattle.policy_audit.specs.Policy.{is_full, IsAnswered, IsLegal, IsLegalIn, IsNext, verdict}
+pub use Rattle.policy_audit.specs.Policy.{is_full, IsNumbered, IsPlayed, IsPlayedIn, IsStep}
+pub use Rattle.policy_audit.specs.Policy.{judgement, next_number, verdict}
 pub use Rattle.policy_audit.proofs.Accepted.{accepted, all_hold, lie, open_first, unbroken}
-pub use Rattle.policy_audit.proofs.Walked.{but, Far, far, frame_fits, open_opened, unborn}
+pub use Rattle.policy_audit.proofs.Walked.{but, Far, far, frame_fits, fresh, open_opened}
+pub use Rattle.policy_audit.proofs.Walked.{opens_number, unborn}
 pub use Rattle.policy_audit.specs.Effects.{is_about_rows}
 pub use Rattle.dist_types.specs.Flags.{own_flags}
 pub use Rattle.handshake_frames.proofs.ReadingLemmas.{challenge_frame-spelled, name_frame-spelled}
@@ -75,6 +78,7 @@ pub use Rattle.handshake_frames.specs.declared.frame.ReplyFrame.{ReplyFrame}
 pub use Rattle.handshake_frames.specs.declared.frame.StatusWord.{StatusWord}
 pub use Rattle.link_frames.proofs.ReadingLemmas.{message-spelled, SpellsMessage-read}
 pub use Rattle.policy_audit.proofs.Effects.{entry_exited, entry_joined, entry_left, entry_link}
+pub use Rattle.policy_audit.proofs.FewRows.{few, few_local}
 pub use Rattle.policy_audit.proofs.Finished.{is_message, whole_awaits}
 pub use Rattle.policy_audit.proofs.Foreign.{peer_foreign}
 pub use Rattle.policy_audit.proofs.Heard.{has_sync, heard_runs, heard_whole}
@@ -97,7 +101,8 @@ pub use Rattle.policy_audit.proofs.Words.{codes, play}
 pub use Rattle.policy_audit.specs.Listed.{is_from, listed}
 pub use Rattle.frame_laws.specs.Sent.{bodies_of, came, delivered, frames_of, handed, out, out_in}
 pub use Rattle.frame_laws.specs.Sent.{owes, Owing, owing, sent, source_at}
-pub use Rattle.frame_laws.specs.Moments.{is_restarted_after, IsProvedLink, moment, proved_at}
+pub use Rattle.frame_laws.specs.Moments.{is_restarted_after, IsProvedLink, moment, moment_in}
+pub use Rattle.frame_laws.specs.Moments.{proved_at}
 pub use Rattle.frame_laws.specs.Says.{Hello, is_of, Means, rows_in, SaysOne}
 pub use Rattle.frame_laws.specs.Written.{IsNode, IsWritten}
 pub use Rattle.frame_laws.specs.ToldRows.{Falls, has_rows, says_rows, tells_rows, told_rows}

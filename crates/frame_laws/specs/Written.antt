@@ -1,12 +1,12 @@
 -- Histories of nodes whose texts and numbers are within their limits.
-use Rattle.std.specs.Prelude.{◌<◌, ◌^◌}
+use Rattle.std.specs.Prelude.{◌<◌, ◌≤◌, ◌^◌}
 use Rattle.std.specs.List.{AllByRecursion}
 use Rattle.dist_types.specs.Text.{IsText, IsNodeName}
 use Rattle.handshake_frames.specs.Spelling.{IsVersion}
 use Rattle.policy_audit.specs.declared.event.Event.{Event}
 use Rattle.policy_audit.specs.declared.event.Event.TheVariants as event
-use Rattle.policy_audit.specs.History.{History}
-use Rattle.policy_audit.specs.Policy.{IsLegal}
+use Rattle.policy_audit.specs.History.{History, entered}
+use Rattle.policy_audit.specs.Policy.{IsPlayed}
 
 -- the scopes, groups and challenges of an event are within their limits, as its type has them
 abbrev pub IsWritten : Event → Type 0
@@ -18,9 +18,11 @@ IsWritten (event.Dial n c) = c < 2 ^ 32
 IsWritten (event.Opened c) = c < 2 ^ 32
 IsWritten e = Unit {0}
 
--- what a node may have seen: its history is the policy's, and what stands in it is within the limits
+-- what a node may have seen: its history is played as the policy says,
+-- and what stands in it is within the limits
 pub record IsNode (h : History) : Type 0 where
-  pub legal : IsLegal h
+  pub legal : IsPlayed h
+  pub room : entered h.entries ≤ h.opening.entries
   pub name : IsNodeName h.opening.name
   pub creation : h.opening.creation < 2 ^ 32
   pub entries : h.opening.entries < 2 ^ 32

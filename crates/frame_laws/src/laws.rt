@@ -2,22 +2,21 @@
 ghost use Rattle.std.specs.Prelude.{◌≡◌, ℕ, ◌≤◌, ◌<◌, false, List, [], ◌++◌, ◌∷◌, Some, length, slice_get, IsTrue};
 ghost use Rattle.std.specs.List.{AllByRecursion};
 ghost use Rattle.dist_types.specs.declared.pid.Pid.{Pid};
-ghost use Rattle.dist_types.specs.Listing.{max_rows, same};
+ghost use Rattle.dist_types.specs.Listing.{same};
 ghost use Rattle.policy_audit.specs.declared.event.Event.TheVariants as events;
 ghost use Rattle.policy_audit.specs.declared.entry.Entry.{Entry};
 ghost use Rattle.policy_audit.specs.OutFrame.{OutFrame};
 ghost use Rattle.handshake_frames.specs.Frame.{Challenge};
 ghost use Rattle.link_frames.specs.declared.message.Message.{Message};
 ghost use Rattle.handshake_frames.specs.Reading.{name_frame, challenge_frame};
-ghost use Rattle.policy_audit.specs.History.{History, creation, is_accepted};
+ghost use Rattle.policy_audit.specs.History.{History, creation, entered, is_accepted, just};
 ghost use Rattle.policy_audit.specs.Sides.{ByPeer, ByDial, Opened, opened, is_visible, is_whole};
 ghost use Rattle.policy_audit.specs.Links.{is_open, is_up};
 ghost use Rattle.policy_audit.specs.Own.{is_running, own};
-ghost use Rattle.policy_audit.specs.Contents.{local_rows};
 ghost use Rattle.policy_audit.specs.Hearing.{heard, told, stated, message_taken, said_on};
 ghost use Rattle.policy_audit.specs.Listed.{listed};
 ghost use Rattle.policy_audit.specs.Owed.{waiting};
-ghost use Rattle.policy_audit.specs.Policy.{IsLegal, is_full, verdict, with_entry};
+ghost use Rattle.policy_audit.specs.Policy.{IsPlayed, is_full, verdict};
 ghost use Rattle.frame_laws.specs.Sent.{Owing, out, source_at, frames_of, bodies_of, sent, delivered};
 ghost use Rattle.frame_laws.specs.Honest.{IsHonest, HasGiven, HeardIsSaid};
 ghost use Rattle.frame_laws.specs.ToldRows.{told_rows, Falls};
@@ -33,24 +32,24 @@ ghost use Rattle.frame_laws.specs.Moments.{moment, IsProvedLink};
 
 /// What was handed out is the beginning of what was owed, and while the link is open, what waits is the rest.
 pub fn handed_in_order()
-    ensures order { (h : History) → IsLegal h → (l : ℕ) → (rest : List OutFrame) × (sent l h.entries ++ rest ≡ frames_of (out h l)) }
-    ensures waiting { (h : History) → IsLegal h → (l : ℕ) → IsTrue (is_open l h.entries) → sent l h.entries ++ waiting h l ≡ frames_of (out h l) }
+    ensures order { (h : History) → IsPlayed h → (l : ℕ)
+        → (rest : List OutFrame) × (sent l h.entries ++ rest ≡ frames_of (out h l)) }
+    ensures waiting { (h : History) → IsPlayed h → (l : ℕ) → IsTrue (is_open l h.entries)
+        → sent l h.entries ++ waiting h l ≡ frames_of (out h l) }
 {}
 
 /// The source of a frame is an entry, and a later frame has no earlier source.
 pub fn sources_rise()
-    ensures within { (h : History) → IsLegal h → (l n k : ℕ) → source_at n (out h l) ≡ Some k → (1 ≤ k) × (k ≤ length h.entries) }
-    ensures rise { (h : History) → IsLegal h → (l m n j k : ℕ) → m ≤ n → source_at m (out h l) ≡ Some j → source_at n (out h l) ≡ Some k → j ≤ k }
+    ensures within { (h : History) → IsPlayed h → (l n k : ℕ) → source_at n (out h l) ≡ Some k
+        → (1 ≤ k) × (k ≤ entered h.entries) }
+    ensures rise { (h : History) → IsPlayed h → (l m n j k : ℕ) → m ≤ n
+        → source_at m (out h l) ≡ Some j → source_at n (out h l) ≡ Some k → j ≤ k }
 {}
 
 /// A message is owed only after the link was proved, with no restart since.
 pub fn said_once_up()
-    ensures { (h : History) → IsLegal h → (l n : ℕ) (x : Owing) → slice_get (out h l) n ≡ Some x → IsTrue x.frame.wide → IsProvedLink (moment x.source h) l }
-{}
-
-/// A node has at most `MAX_ROWS` own rows in a scope.
-pub fn few_own()
-    ensures { (h : History) → IsLegal h → (s : List ℕ) → length (local_rows h s) ≤ max_rows }
+    ensures { (h : History) → IsPlayed h → (l n : ℕ) (x : Owing) → slice_get (out h l) n ≡ Some x
+        → IsTrue x.frame.wide → IsProvedLink (moment x.source h) l }
 {}
 
 /// Every frame that a node owes is one of the handshake, whose body spells no message, or a message that is read as it was meant. The
@@ -78,21 +77,26 @@ pub fn hellos()
 
 /// While a peer is heard, what is known of its rows over a link is what the messages accepted there make of it.
 pub fn stated_after()
-    ensures { (h : History) (e : Entry) → IsLegal (with_entry h e) → (l : ℕ) (s g : List ℕ) (p : Pid) → IsTrue (heard l s (e ∷ h.entries))
+    ensures { (h : History) (e : Entry) → IsPlayed (just h e) → (l : ℕ) (s g : List ℕ) (p : Pid)
+        → IsTrue (heard l s (e ∷ h.entries))
         → known l s g p (e ∷ h.entries) ≡ seen_by s g p (message_at l h.entries e.verdict e.event) (known l s g p h.entries) }
 {}
 
 /// Where a peer is heard in a scope, the scope runs, and the link is up and visible.
 pub fn who_is_heard()
-    ensures runs { (h : History) → IsLegal h → (l : ℕ) (s : List ℕ) → IsTrue (heard l s h.entries) → IsTrue (is_running h s) }
-    ensures up { (h : History) → IsLegal h → (l : ℕ) (s : List ℕ) → IsTrue (heard l s h.entries) → IsTrue (is_up l h.entries) }
-    ensures visible { (h : History) → IsLegal h → (l : ℕ) (s : List ℕ) → IsTrue (heard l s h.entries) → IsTrue (is_visible h l) }
+    ensures runs { (h : History) → IsPlayed h → (l : ℕ) (s : List ℕ) → IsTrue (heard l s h.entries)
+        → IsTrue (is_running h s) }
+    ensures up { (h : History) → IsPlayed h → (l : ℕ) (s : List ℕ) → IsTrue (heard l s h.entries)
+        → IsTrue (is_up l h.entries) }
+    ensures visible { (h : History) → IsPlayed h → (l : ℕ) (s : List ℕ)
+        → IsTrue (heard l s h.entries) → IsTrue (is_visible h l) }
 {}
 
 /// A message of a peer that is heard in its scope is accepted while the audit isn't full, if its rows are from the peer, a Leave names
 /// no row more often than the link has stated it, and with a Join no more than `MAX_ROWS` are stated.
 pub fn heard_accepts()
-    ensures { (h : History) → IsLegal h → is_full h ≡ false → (l seat : ℕ) (body : List ℕ) (m : Message) → said_on l h.entries body ≡ Some m
+    ensures { (h : History) → IsPlayed h → is_full h ≡ false
+        → (l seat : ℕ) (body : List ℕ) (m : Message) → said_on l h.entries body ≡ Some m
         → IsTrue (heard l (scope_of m) h.entries) → MaySay h l m → IsTrue (is_accepted (verdict h seat (events.Frame l body))) }
 {}
 
@@ -104,7 +108,7 @@ pub fn told_in_order()
 
 /// At each moment the history was legal, and a node's.
 pub fn moments_stand()
-    ensures legal { (h : History) → IsLegal h → (k : ℕ) → IsLegal (moment k h) }
+    ensures legal { (h : History) → IsPlayed h → (k : ℕ) → IsPlayed (moment k h) }
     ensures node { (h : History) → IsNode h → (k : ℕ) → IsNode (moment k h) }
 {}
 
@@ -117,15 +121,19 @@ pub fn honest()
 /// What is heard is what was said: where all that came on a link is honest, and its peer has given the name and the creation of the node
 /// that said it, the view of all that came is what the link has stated, while the peer is heard; and so it was behind the last told rows.
 pub fn heard_is_said()
-    ensures { (h : History) → IsLegal h → (l : ℕ) (s name : List ℕ) (creation : ℕ) → IsHonest name creation s (delivered l h.entries)
+    ensures { (h : History) → IsPlayed h → (l : ℕ) (s name : List ℕ) (creation : ℕ)
+        → IsHonest name creation s (delivered l h.entries)
         → HasGiven l name creation h.entries → IsTrue (heard l s h.entries) → HeardIsSaid h l s }
 {}
 
 /// What the peer of a whole link has given came there: in the first frame, if it opened the link, and in a Challenge, if it was dialled.
 pub fn given_came()
-    ensures opened { (h : History) → IsLegal h → (l c : ℕ) (before : List Entry) → opened l h.entries ≡ Some (record { start = ByPeer c; before = before })
+    ensures opened { (h : History) → IsPlayed h → (l c : ℕ) (before : List Entry)
+        → opened l h.entries ≡ Some (record { start = ByPeer c; before = before })
         → delivered l before ≡ [] → IsTrue (is_whole l h.entries) → IsNamedFirst l h.entries }
-    ensures dialled { (h : History) → IsLegal h → (l : ℕ) (n : List ℕ) (c : ℕ) (before : List Entry) → opened l h.entries ≡ Some (record { start = ByDial n c; before = before })
+    ensures dialled { (h : History) → IsPlayed h
+        → (l : ℕ) (n : List ℕ) (c : ℕ) (before : List Entry)
+        → opened l h.entries ≡ Some (record { start = ByDial n c; before = before })
         → IsTrue (is_whole l h.entries) → IsAskedOnce l n h.entries }
     ensures once { (l : ℕ) (es : List Entry) (x : Opened) → opened l es ≡ Some x → opening_of l es ≡ Some x.start }
 {}
@@ -134,13 +142,16 @@ pub fn given_came()
 /// to its link a, and the peer of b has given the sender's name and its creation at the opening of a. While the receiver hears a scope
 /// there, it has stated the sender's own rows at one moment, and lists them so; and where all that is owed came, and the sender tells, its own rows of now.
 pub fn one_view()
-    ensures moment { (sender receiver : History) → IsNode sender → IsLegal receiver → (a b : ℕ) (s : List ℕ) (later : List (List ℕ))
+    ensures moment { (sender receiver : History) → IsNode sender → IsPlayed receiver
+        → (a b : ℕ) (s : List ℕ) (later : List (List ℕ))
         → delivered b receiver.entries ++ later ≡ bodies_of (out sender a) → HasGiven b sender.opening.name (creation (moment a sender)) receiver.entries
         → IsTrue (heard b s receiver.entries) → HearsMoment sender a receiver b s }
-    ensures now { (sender receiver : History) → IsNode sender → IsLegal receiver → (a b : ℕ) (s : List ℕ)
+    ensures now { (sender receiver : History) → IsNode sender → IsPlayed receiver
+        → (a b : ℕ) (s : List ℕ)
         → delivered b receiver.entries ≡ bodies_of (out sender a) → HasGiven b sender.opening.name (creation (moment a sender)) receiver.entries
         → IsTrue (heard b s receiver.entries) → IsTrue (told a s sender.entries) → (g : List ℕ) (p : Pid) → stated b s g p receiver.entries ≡ own sender s g p }
-    ensures listed_now { (sender receiver : History) → IsNode sender → IsLegal receiver → (a b : ℕ) (s : List ℕ)
+    ensures listed_now { (sender receiver : History) → IsNode sender → IsPlayed receiver
+        → (a b : ℕ) (s : List ℕ)
         → delivered b receiver.entries ≡ bodies_of (out sender a) → HasGiven b sender.opening.name (creation (moment a sender)) receiver.entries
         → IsTrue (heard b s receiver.entries) → IsTrue (told a s sender.entries) → (g : List ℕ) (p : Pid) → IsTrue (same p.node sender.opening.name)
         → listed receiver s g p ≡ own sender s g p }

@@ -1,14 +1,14 @@
 -- What the changes of entries tell of a group is the difference of its listings, and what the
 -- contents of a scope count.
-use Rattle.group_monitors.proofs.Words.{◌≡◌, ◌∙◌, sym, ap, refl, subst, ℕ, ◌+◌, ◌-◌, ◌≤◌, inl, inr}
+use Rattle.group_monitors.proofs.Words.{◌≡◌, ◌∙◌, sym, ap, refl, ℕ, ◌+◌, ◌-◌, ◌≤◌, inl, inr}
 use Rattle.group_monitors.proofs.Words.{Bool, true, false, cond, ◌++◌, List, [], ◌∷◌, Option, Some}
 use Rattle.group_monitors.proofs.Words.{length, arith, reverse, drop, append-nil, flat_map}
 use Rattle.group_monitors.proofs.Words.{option_and_then, nat_tests, flat_map-append, reverse-append}
 use Rattle.group_monitors.proofs.Words.{length-reverse, drop-append_seam, Pid, GroupChange}
 use Rattle.group_monitors.proofs.Words.{mentions, times_left, times_joined, IsDifference, Update}
-use Rattle.group_monitors.proofs.Words.{Entry, Opening, History, past, listed, later_than}
-use Rattle.group_monitors.proofs.Words.{group_updates, is_watched, updates_of, IsLegal, IsLegalIn}
-use Rattle.group_monitors.proofs.Words.{Monitor, target, updates_behind, counted, Watches, Extends}
+use Rattle.group_monitors.proofs.Words.{Entry, Opening, History, listed, later_than}
+use Rattle.group_monitors.proofs.Words.{group_updates, is_watched, updates_of, history, IsLegalIn}
+use Rattle.group_monitors.proofs.Words.{Monitor, target, updates_behind, counted, Watches}
 use Rattle.group_monitors.proofs.Words.{◌<◌, map, true≢false, total, is_among, IsPidListing}
 use Rattle.group_monitors.proofs.Words.{IsGroupListing, texts_total, same_decides, one_of_many}
 use Rattle.group_monitors.proofs.Words.{members, groups, contents, times_in, same}
@@ -73,16 +73,16 @@ module _ (g : List ℕ) (p : Pid) where
 
     further_told : (o : Opening) (s : List ℕ) (es ks : List Entry) → IsLegalIn o (es ++ ks)
         → counted g p (flat_map (λ e. updates_of (record { scope = s; group = watched }) e.change)
-        (reverse es)) (listed (past o ks) s g p) ≡ Some (listed (past o (es ++ ks)) s g p)
+        (reverse es)) (listed (history o ks) s g p) ≡ Some (listed (history o (es ++ ks)) s g p)
     further_told o s [] ks legal = refl
     further_told o s (e ∷ es) ks legal =
         let f : Entry → List Update =
         λ e. updates_of (record { scope = s; group = watched }) e.change in
-        ap (λ us. counted g p us (listed (past o ks) s g p)) (told_last f e es)
-        ∙ then g p (flat_map f (reverse es)) (f e) (listed (past o ks) s g p)
-        (listed (past o (es ++ ks)) s g p) _
+        ap (λ us. counted g p us (listed (history o ks) s g p)) (told_last f e es)
+        ∙ then g p (flat_map f (reverse es)) (f e) (listed (history o ks) s g p)
+        (listed (history o (es ++ ks)) s g p) _
         (further_told o s es ks legal.1)
-        (difference_told (listed (past o (es ++ ks)) s) (listed (past o (e ∷ es ++ ks)) s)
+        (difference_told (listed (history o (es ++ ks)) s) (listed (history o (e ∷ es ++ ks)) s)
         _ (legal.0.change.groups s))
 
 -- the monitor's group is told of
@@ -91,25 +91,22 @@ watched_told : (g : List ℕ) (m : Monitor) → Watches g m → (c : GroupChange
 watched_told g m (inl one) c this = ap (λ w. is_watched w c) one ∙ this
 watched_told g m (inr every) c this = ap (λ w. is_watched w c) every
 
--- the entries behind the place of the earlier history are the further ones
+-- the entries behind a place are the further ones
 pub further : (es ks : List Entry) → later_than (length ks) (es ++ ks) ≡ reverse es
 further es ks =
     ap (drop (length ks)) (reverse-append es ks) ∙ ap (λ n. drop n (reverse ks ++ reverse es))
     (sym (length-reverse ks)) ∙ drop-append_seam (reverse ks) (reverse es)
 
-pub told : (h k : History) → IsLegal h → Extends h k → (m : Monitor) → m.place ≡ length k.entries
-    → (g : List ℕ) → Watches g m → (p : Pid)
-    → counted g p (updates_behind h.entries m) (listed k m.scope g p) ≡ Some (listed h m.scope g p)
-told h k legal more m at g watches p =
-    let es = more.entries.0 in
-    let is : h ≡ past k.opening (es ++ k.entries) = λ i. past (more.opening i) (more.entries.1 i) in
-    let behind : later_than m.place h.entries ≡ reverse es = ap (λ n. later_than n h.entries) at
-    ∙ ap (later_than (length k.entries)) more.entries.1 ∙ further es k.entries in
-    ap (λ l. counted g p (flat_map (λ e. updates_of (target m) e.change) l) (listed k m.scope g p))
-    behind
-    ∙ further_told g p m.group (watched_told g m watches) k.opening m.scope es k.entries
-    (subst IsLegal is legal)
-    ∙ ap (λ x. Some (listed x m.scope g p)) (sym is)
+pub told : (o : Opening) (es ks : List Entry) → IsLegalIn o (es ++ ks) → (m : Monitor)
+    → m.place ≡ length ks → (g : List ℕ) → Watches g m → (p : Pid)
+    → counted g p (updates_behind (es ++ ks) m) (listed (history o ks) m.scope g p)
+    ≡ Some (listed (history o (es ++ ks)) m.scope g p)
+told o es ks legal m at g watches p =
+    let behind : later_than m.place (es ++ ks) ≡ reverse es =
+    ap (λ n. later_than n (es ++ ks)) at ∙ further es ks in
+    ap (λ l. counted g p (flat_map (λ e. updates_of (target m) e.change) l)
+    (listed (history o ks) m.scope g p)) behind
+    ∙ further_told g p m.group (watched_told g m watches) o m.scope es ks legal
 
 -- in the groups' contents as in the groups
 of_groups : (g : List ℕ) (p : Pid) (pids : List ℕ → List Pid) (gs : List (List ℕ))

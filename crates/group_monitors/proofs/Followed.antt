@@ -5,7 +5,7 @@ use Rattle.group_monitors.proofs.Words.{Option, Some, None, length, arith, IsTru
 use Rattle.group_monitors.proofs.Words.{option_map, Decides-eqb, nat_tests, none-some, all_append}
 use Rattle.group_monitors.proofs.Words.{Opening, Event, Entry, History, Moment, past, is_accepted}
 use Rattle.group_monitors.proofs.Words.{is_restart, Target, monitor_after, monitor, is_fetch}
-use Rattle.group_monitors.proofs.Words.{next_number, with_entry, Monitor, target, monitor_of}
+use Rattle.group_monitors.proofs.Words.{just, Monitor, target, monitor_of}
 use Rattle.group_monitors.proofs.Words.{IsFree, IsNumbered, without, without_scope, with_place}
 use Rattle.group_monitors.proofs.Words.{IsLastFetch, FollowsPolicy, concerns_monitors}
 use Rattle.std.proofs.lemmas.Map.Made.{IsDistinct-keys_filter}
@@ -50,8 +50,8 @@ module _ (h : History) (ms : List (ℕ × Monitor)) (f : FollowsPolicy h ms) whe
   pub follows_free : IsFree (length h.entries + 1) ms
   follows_free = greater_free (length h.entries) (length h.entries + 1) ms (omega arith) f.past
 
-module _ (h : History) (e : Entry) (ms : List (ℕ × Monitor)) (number : e.number ≡ next_number h)
-    (f : FollowsPolicy h ms) where
+module _ (h : History) (e : Entry) (ms : List (ℕ × Monitor))
+    (number : e.number ≡ length h.entries + 1) (f : FollowsPolicy h ms) where
   -- the moment of the entry
   abbrev this : Moment
   this = record { number = e.number; seat = e.seat; event = e.event; before = h.entries }
@@ -83,10 +83,10 @@ module _ (h : History) (e : Entry) (ms : List (ℕ × Monitor)) (number : e.numb
 
   -- the monitors that are left, where the entry is a fetch of none
   left : (ks : List (ℕ × Monitor))
-      → ((seat k : ℕ) → option_map target (monitor_of ks seat k) ≡ monitor (with_entry h e) seat k)
+      → ((seat k : ℕ) → option_map target (monitor_of ks seat k) ≡ monitor (just h e) seat k)
       → ((seat k : ℕ) (m : Monitor) → monitor_of ks seat k ≡ Some m → monitor_of ms seat k ≡ Some m)
       → ((seat k : ℕ) → k ≤ length h.entries → is_fetch seat k e ≡ false) → IsNumbered ks
-      → AtMost (length h.entries) ks → FollowsPolicy (with_entry h e) ks
+      → AtMost (length h.entries) ks → FollowsPolicy (just h e) ks
   left ks found from other numbered behind = record {
     found = found;
     places = λ seat k m at. let was = from seat k m at in
@@ -97,19 +97,19 @@ module _ (h : History) (e : Entry) (ms : List (ℕ × Monitor)) (number : e.numb
   }
 
   -- an entry that is refused
-  refused : is_accepted e.verdict ≡ false → FollowsPolicy (with_entry h e) ms
+  refused : is_accepted e.verdict ≡ false → FollowsPolicy (just h e) ms
   refused denied = left ms (λ seat k. grind (arith, f.found seat k)) (λ seat k m at. at)
       (λ seat k le. grind arith) f.numbered f.past
 
   module _ (accepted : is_accepted e.verdict ≡ true) where
     -- what an accepted event other than Restart makes of a monitor
     made : (seat k : ℕ) → is_restart e.event ≡ false
-        → monitor (with_entry h e) seat k ≡ monitor_after seat k this (monitor h seat k)
+        → monitor (just h e) seat k ≡ monitor_after seat k this (monitor h seat k)
     made seat k goes_on = grind arith
 
     -- the same for an event of this kind
     made_by : (ev : Event) → e.event ≡ ev → is_restart ev ≡ false → (seat k : ℕ)
-        → monitor (with_entry h e) seat k ≡ monitor_after seat k
+        → monitor (just h e) seat k ≡ monitor_after seat k
         (record { number = e.number; seat = e.seat; event = ev; before = h.entries })
         (monitor h seat k)
     made_by ev is goes_on seat k = grind arith
@@ -120,7 +120,7 @@ module _ (h : History) (e : Entry) (ms : List (ℕ × Monitor)) (number : e.numb
     as_before seat k = grind (arith, none_before seat k)
 
     -- an accepted event of another kind
-    unconcerned : concerns_monitors e.event ≡ false → FollowsPolicy (with_entry h e) ms
+    unconcerned : concerns_monitors e.event ≡ false → FollowsPolicy (just h e) ms
     unconcerned other =
         let plain = lets_be e.event other in
         left ms
@@ -154,10 +154,10 @@ module _ (h : History) (e : Entry) (ms : List (ℕ × Monitor)) (number : e.numb
           )
 
       -- so the monitors with the new one are the policy's
-      added : ((seat k : ℕ) → monitor (with_entry h e) seat k ≡ cond (e.number == k && e.seat
+      added : ((seat k : ℕ) → monitor (just h e) seat k ≡ cond (e.number == k && e.seat
           == seat) (Some (record { scope = s; group = g })) (monitor h seat k))
           → ((seat k : ℕ) → is_update seat k e.seat e.event ≡ false)
-          → FollowsPolicy (with_entry h e) with_new
+          → FollowsPolicy (just h e) with_new
       added makes other =
           record {
             found = λ seat k. grind (arith, one_of seat k, makes seat k, f.found seat k);
@@ -171,19 +171,19 @@ module _ (h : History) (e : Entry) (ms : List (ℕ × Monitor)) (number : e.numb
           }
 
     pub follows_group : (s g : List ℕ) → e.event ≡ event.Monitor s g
-        → FollowsPolicy (with_entry h e) (with_new s (Some g))
+        → FollowsPolicy (just h e) (with_new s (Some g))
     follows_group s g is = added s (Some g) (made_by (event.Monitor s g) is refl)
         (λ seat k. ap (is_update seat k e.seat) is)
 
     pub follows_scope : (s : List ℕ) → e.event ≡ event.MonitorScope s
-        → FollowsPolicy (with_entry h e) (with_new s None)
+        → FollowsPolicy (just h e) (with_new s None)
     follows_scope s is = added s None (made_by (event.MonitorScope s) is refl)
         (λ seat k. ap (is_update seat k e.seat) is)
 
     -- ---- one monitor less
 
     pub follows_removed : (n : ℕ) → e.event ≡ event.Demonitor n
-        → FollowsPolicy (with_entry h e) (without e.seat n ms)
+        → FollowsPolicy (just h e) (without e.seat n ms)
     follows_removed n is = left (without e.seat n ms)
         (λ seat k. grind (
           arith,
@@ -198,7 +198,7 @@ module _ (h : History) (e : Entry) (ms : List (ℕ × Monitor)) (number : e.numb
     -- ---- all of a scope
 
     pub follows_dropped : (s : List ℕ) → e.event ≡ event.StopScope s
-        → FollowsPolicy (with_entry h e) (without_scope s ms)
+        → FollowsPolicy (just h e) (without_scope s ms)
     follows_dropped s is =
         left (without_scope s ms)
         (λ seat k. grind (
@@ -213,7 +213,7 @@ module _ (h : History) (e : Entry) (ms : List (ℕ × Monitor)) (number : e.numb
     -- ---- a fetch
 
     pub follows_moved : (n : ℕ) → e.event ≡ event.Updates n
-        → FollowsPolicy (with_entry h e) (with_place e.seat n (length (e ∷ h.entries)) ms)
+        → FollowsPolicy (just h e) (with_place e.seat n (length (e ∷ h.entries)) ms)
     follows_moved n is =
         record {
           found = λ seat k.
@@ -234,16 +234,16 @@ module _ (h : History) (e : Entry) (ms : List (ℕ × Monitor)) (number : e.numb
   -- ---- all other entries
 
   pub follows_other : (is_accepted e.verdict && concerns_monitors e.event) ≡ false
-      → FollowsPolicy (with_entry h e) ms
+      → FollowsPolicy (just h e) ms
   follows_other quiet = by (is_accepted e.verdict) refl
     where
-      by : (b : Bool) → is_accepted e.verdict ≡ b → FollowsPolicy (with_entry h e) ms
+      by : (b : Bool) → is_accepted e.verdict ≡ b → FollowsPolicy (just h e) ms
       by true is = unconcerned is (sym (ap (λ b. b && concerns_monitors e.event) is) ∙ quiet)
       by false is = refused is
 
 -- a restart leaves none
 pub follows_cleared : (h : History) (e : Entry) → is_accepted e.verdict ≡ true
-    → e.event ≡ event.Restart → FollowsPolicy (with_entry h e) []
+    → e.event ≡ event.Restart → FollowsPolicy (just h e) []
 follows_cleared h e accepted is =
     record {
       found = λ seat k. grind arith;

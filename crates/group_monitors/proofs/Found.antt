@@ -5,8 +5,8 @@ use Rattle.group_monitors.proofs.Words.{◌∷◌, Some, None, arith, keys_of, l
 use Rattle.group_monitors.proofs.Words.{remove_entry, IsDistinct, option_map, option_and_then}
 use Rattle.group_monitors.proofs.Words.{IsDistinct-tail, nat_tests, same, Monitor, monitor_of}
 use Rattle.group_monitors.proofs.Words.{IsFree, IsNumbered, without, without_scope, with_place}
-use Rattle.group_monitors.proofs.Words.{at_place, suc, ◌<◌, ◌≤◌, Bool, false, AllByRecursion}
-use Rattle.group_monitors.proofs.Words.{filter, IsDistinct-head, IsDistinct-cons, past}
+use Rattle.group_monitors.proofs.Words.{at_place, suc, ◌<◌, ◌≤◌, false, AllByRecursion}
+use Rattle.group_monitors.proofs.Words.{IsDistinct-head, IsDistinct-cons, past}
 use Rattle.std.specs.Cmp.{nat_eq_equiv}
 use Rattle.std.proofs.lemmas.Map.{NonePasses, none_passes_from_lookup}
 use Rattle.std.proofs.lemmas.Map.Entries.{none_past_head}

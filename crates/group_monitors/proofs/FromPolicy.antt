@@ -2,29 +2,31 @@
 use Rattle.group_monitors.proofs.Words.{◌≡◌, ◌∙◌, sym, ap, refl, ℕ, List, Some, None, length, ◌≤◌}
 use Rattle.group_monitors.proofs.Words.{arith, IsSome, option_map, Entry, Update, History, monitor}
 use Rattle.group_monitors.proofs.Words.{updates, Monitor, target, monitor_of, HasSeen}
-use Rattle.group_monitors.proofs.Words.{updates_behind, FollowsPolicy}
+use Rattle.group_monitors.proofs.Words.{updates_behind, FollowsPolicy, audit_of, audited}
 use Rattle.policy_audit.specs.declared.event.Event.TheVariants as event
 use Rattle.policy_audit.specs.declared.rule.Rule.TheVariants as rule
 use Rattle.policy_audit.specs.Checks.{first_broken, checks}
 use Rattle.group_monitors.proofs.Fetched.{answered, seen_all}
 
-module _ (h : History) (ms : List (ℕ × Monitor)) (f : FollowsPolicy h ms) (seat k : ℕ) where
+module _ (h : History) (ms : List (ℕ × Monitor)) (f : FollowsPolicy (audit_of h) ms)
+    (seat k : ℕ) where
   -- a monitor of the seat is one of the policy
-  is_one : (m : Monitor) → monitor_of ms seat k ≡ Some m → monitor h seat k ≡ Some (target m)
+  is_one : (m : Monitor) → monitor_of ms seat k ≡ Some m
+      → monitor (audit_of h) seat k ≡ Some (target m)
   is_one m at = sym (f.found seat k) ∙ ap (option_map target) at
 
   -- what it is told is the policy's answer
   pub follows_answer : (m : Monitor) → monitor_of ms seat k ≡ Some m
-      → updates h seat k ≡ updates_behind h.entries m
-  follows_answer m at = answered h seat k m (is_one m at) (f.places seat k m at)
+      → updates (audit_of h) seat k ≡ updates_behind (audited h.entries) m
+  follows_answer m at = answered (audit_of h) seat k m (is_one m at) (f.places seat k m at)
 
   -- it has seen no more entries than there are
-  pub follows_seen : HasSeen (monitor_of ms seat k) h.entries
+  pub follows_seen : HasSeen (monitor_of ms seat k) (audited h.entries)
   follows_seen = let seen = λ (m : Monitor) (at : monitor_of ms seat k ≡ Some m). seen_all seat k
-      m.place h.entries (f.places seat k m at) in grind arith
+      m.place (audited h.entries) (f.places seat k m at) in grind arith
 
   -- nor than there are later
-  pub follows_seen_later : (later : List Entry) → length h.entries ≤ length later
+  pub follows_seen_later : (later : List Entry) → length (audited h.entries) ≤ length later
       → HasSeen (monitor_of ms seat k) later
   follows_seen_later later more = grind (arith, follows_seen)
 
@@ -32,7 +34,7 @@ module _ (h : History) (ms : List (ℕ × Monitor)) (f : FollowsPolicy h ms) (se
   pub follows_refused : monitor_of ms seat k ≡ None
       → (first_broken (checks h seat (event.Updates k)) ≡ Some rule.NoMonitor)
       × (first_broken (checks h seat (event.Demonitor k)) ≡ Some rule.NoMonitor)
-  follows_refused none = let none_there : monitor h seat k ≡ None = sym (f.found seat k)
+  follows_refused none = let none_there : monitor (audit_of h) seat k ≡ None = sym (f.found seat k)
       ∙ ap (option_map target) none in rw none_there (refl, refl)
 
   pub follows_checked : IsSome (monitor_of ms seat k)
@@ -42,6 +44,6 @@ module _ (h : History) (ms : List (ℕ × Monitor)) (f : FollowsPolicy h ms) (se
 
   -- what is told where there is such a monitor
   pub follows_told : (us : List Update)
-      → option_map (updates_behind h.entries) (monitor_of ms seat k) ≡ Some us
-      → (first_broken (checks h seat (event.Updates k)) ≡ None) × (updates h seat k ≡ us)
+      → option_map (updates_behind (audited h.entries)) (monitor_of ms seat k) ≡ Some us
+      → (first_broken (checks h seat (event.Updates k)) ≡ None) × (updates (audit_of h) seat k ≡ us)
   follows_told us told = grind (arith, follows_checked, follows_answer)

@@ -24,7 +24,7 @@ pub use Rattle.dist_types.specs.Listing.{IsGroupListing, IsPidListing, is_among,
 pub use Rattle.dist_types.specs.Listing.{total}
 pub use Rattle.dist_types.specs.declared.change.GroupChange.{GroupChange}
 pub use Rattle.dist_types.specs.declared.pid.Pid.{Pid}
-pub use Rattle.group_monitors.specs.Counts.{Extends, Watches, counted, times_in}
+pub use Rattle.group_monitors.specs.Counts.{Watches, counted, times_in}
 pub use Rattle.group_monitors.specs.Fetches.{IsLastFetch, fetched, fetched_by, updates_in}
 pub use Rattle.group_monitors.specs.Follows.{FollowsPolicy, concerns_monitors}
 pub use Rattle.group_monitors.specs.Monitors.{HasSeen, IsFree, IsNumbered, at_place, monitor_of}
@@ -33,14 +33,16 @@ pub use Rattle.group_monitors.specs.Monitors.{without_scope}
 pub use Rattle.group_monitors.specs.declared.monitor.Monitor.{Monitor}
 pub use Rattle.indexmap.proofs.CallerLemmas.{filter-RetainsPairs, insert_entry-new}
 pub use Rattle.policy_audit.specs.Contents.{contents, groups, members}
-pub use Rattle.policy_audit.specs.History.{History, Moment, is_accepted, is_restart, past, present}
+pub use Rattle.policy_audit.specs.History.{History, Moment, audit_of, audited, entered, is_accepted}
+pub use Rattle.policy_audit.specs.History.{is_restart, just, past, present}
 pub use Rattle.policy_audit.specs.Listed.{listed}
 pub use Rattle.policy_audit.specs.Log.{changes_rows, entry_at, later_than}
 pub use Rattle.policy_audit.specs.Monitors.{Target, group_updates, is_fetch, is_watched, monitor}
 pub use Rattle.policy_audit.specs.Monitors.{monitor_after, monitor_in, updates, updates_of}
 pub use Rattle.policy_audit.specs.Monitors.{updates_since, watched}
-pub use Rattle.policy_audit.specs.Policy.{IsLegal, IsLegalIn, IsNext, answer, next_number}
-pub use Rattle.policy_audit.specs.Policy.{with_entry}
+pub use Rattle.policy_audit.specs.Owed.{may_tell, with_entry}
+pub use Rattle.policy_audit.specs.Policy.{IsLegal, IsLegalIn, IsNext, IsStep, answer, history}
+pub use Rattle.policy_audit.specs.Policy.{next_number}
 pub use Rattle.policy_audit.specs.declared.entry.Entry.{Entry}
 pub use Rattle.policy_audit.specs.declared.event.Event.{Event}
 pub use Rattle.policy_audit.specs.declared.opening.Opening.{Opening}

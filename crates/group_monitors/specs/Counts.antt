@@ -1,12 +1,11 @@
 -- What updates make of a group, as a multiset: how often each process is in it.
-use Rattle.std.specs.Prelude.{◌≡◌, ℕ, ◌+◌, ◌-◌, ◌⊎◌, nat_lt, cond, List, [], ◌∷◌, ◌++◌, Option, Some, None}
+use Rattle.std.specs.Prelude.{◌≡◌, ℕ, ◌+◌, ◌-◌, ◌⊎◌, nat_lt, cond, List, [], ◌∷◌, Option, Some}
+use Rattle.std.specs.Prelude.{None}
 use Rattle.std.specs.Option.{option_and_then}
 use Rattle.dist_types.specs.declared.pid.Pid.{Pid}
 use Rattle.dist_types.specs.Listing.{same, total, mentions}
 use Rattle.policy_audit.specs.declared.reply.GroupPids.{GroupPids}
 use Rattle.policy_audit.specs.declared.reply.Update.{Update}
-use Rattle.policy_audit.specs.declared.entry.Entry.{Entry}
-use Rattle.policy_audit.specs.History.{History}
 use Rattle.group_monitors.specs.declared.monitor.Monitor.{Monitor}
 
 -- n less m, where there are so many
@@ -29,8 +28,3 @@ times_in g p groups = total (λ c. cond (same c.group g) (mentions p c.pids) 0) 
 -- the monitor is one of the group g, or of its scope
 abbrev pub Watches : List ℕ → Monitor → Type 0
 Watches g m = (m.group ≡ Some g) ⊎ (m.group ≡ None)
-
--- h is k with further entries
-pub record Extends (h k : History) : Type 0 where
-  pub opening : h.opening ≡ k.opening
-  pub entries : (es : List Entry) × (h.entries ≡ es ++ k.entries)

@@ -10,8 +10,8 @@ use Rattle.group_monitors.specs.declared.monitor.Monitor.{Monitor}
 use Rattle.group_monitors.specs.Monitors.{target, monitor_of, IsNumbered}
 use Rattle.group_monitors.specs.Fetches.{IsLastFetch}
 
--- each seat has the monitors that the policy says, each at the place of its last fetch; their numbers are of entries so far, and
--- no two are the same
+-- each seat has the monitors that the policy says of this audit, each at the place of its last
+-- fetch; their numbers are of entries so far, and no two are the same
 pub record FollowsPolicy (h : History) (ms : List (ℕ × Monitor)) : Type 0 where
   pub found : (seat k : ℕ) → option_map target (monitor_of ms seat k) ≡ monitor h seat k
   pub places : (seat k : ℕ) (m : Monitor) → monitor_of ms seat k ≡ Some m → IsLastFetch seat k m.place h.entries

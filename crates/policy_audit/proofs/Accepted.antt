@@ -4,9 +4,10 @@ use Rattle.policy_audit.proofs.Words.{Option, Some, [], bytes_eq, cond, false, i
 use Rattle.policy_audit.proofs.Words.{ack_frame, challenge_frame, name_frame, reply_frame, status_of, AckFrame, ReplyFrame, StatusWord}
 use Rattle.policy_audit.proofs.Words.{digest_of, allowed, cookie, goes_on, Check, always, answer_checks, challenge_checks, checks}
 use Rattle.policy_audit.proofs.Words.{digest_checks, first_broken, frame_checks, is_peer_up, name_checks, status_checks, History}
-use Rattle.policy_audit.proofs.Words.{digest_for, own_challenge, answer, is_full, judged, verdict, AwaitAck, AwaitAnswer, AwaitChallenge}
+use Rattle.policy_audit.proofs.Words.{digest_for, own_challenge, answer, judged, judgement}
+use Rattle.policy_audit.proofs.Words.{AwaitAck, AwaitAnswer, AwaitChallenge}
 use Rattle.policy_audit.proofs.Words.{AwaitMessage, AwaitName, AwaitReply, AwaitStatus, Awaited, Opened, Taken, challenge_in, opened}
-use Rattle.policy_audit.proofs.Words.{peer_in, peer_of, taken, Accepted, Refused, Event, Reply, Rule}
+use Rattle.policy_audit.proofs.Words.{peer_in, peer_of, taken, Accepted, Event, Reply, Rule}
 
 -- what is not so gives anything
 pub lie : {P : Type 0} → true ≡ false → P
@@ -16,12 +17,13 @@ pub no_value : {P A : Type 0} {x : A} → Some x ≡ None → P
 no_value e = lie (ap is_some e)
 
 module _ (h : History) (seat : ℕ) (e : Event) (r : Reply) where
-  by_room : (b : Bool) (x : Option Rule) → Accepted r ≡ cond b (Refused Rule.EntriesFull) (judged h seat e x) → (x ≡ None) × (r ≡ answer h seat e)
-  by_room b x q = grind arith
+  by_rule : (x : Option Rule) → Accepted r ≡ judged h seat e x → (x ≡ None) × (r ≡ answer h seat e)
+  by_rule x q = grind arith
 
   -- no rule is broken, and the answer is the policy's
-  pub accepted : Accepted r ≡ verdict h seat e → (first_broken (checks h seat e) ≡ None) × (r ≡ answer h seat e)
-  accepted q = by_room (is_full h) (first_broken (checks h seat e)) q
+  pub accepted : Accepted r ≡ judgement h seat e → (first_broken (checks h seat e) ≡ None)
+      × (r ≡ answer h seat e)
+  accepted q = by_rule (first_broken (checks h seat e)) q
 
 -- each of the checks holds
 abbrev pub Hold : List Check → Type 0

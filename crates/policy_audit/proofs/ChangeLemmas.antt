@@ -1,15 +1,22 @@
 -- The computed change is the exact difference of what two histories list.
+use Rattle.policy_audit.proofs.Words.{entered}
+use Rattle.policy_audit.proofs.Words.{with_entry}
+use Rattle.policy_audit.proofs.Words.{verdict}
 use Rattle.policy_audit.proofs.Words.{ap, arith, refl, subst, sym, ◌∙◌, ltb-true, not-false, or_parts, flat_map-append, append-nil}
 use Rattle.policy_audit.proofs.Words.{list_any-append, exact_bytes, AllByRecursion, flat_map, option_map_or, unwrap_or, Bool, List, []}
-use Rattle.policy_audit.proofs.Words.{cond, false, length, map, nat_lt, true, ℕ, ◌&&◌, ◌++◌, ◌+◌, ◌-◌, ◌<◌, ◌∷◌, ◌≡◌, Less, ascending_rises}
+use Rattle.policy_audit.proofs.Words.{cond, false, map, nat_lt, true, ℕ, ◌&&◌, ◌++◌, ◌+◌, ◌-◌, ◌<◌}
+use Rattle.policy_audit.proofs.Words.{◌∷◌, ◌≡◌, Less, ascending_rises}
 use Rattle.policy_audit.proofs.Words.{ascending_stands, listing_counts, one_of_many, exact_pids, pids_total, same_decides, same_pid_decides}
 use Rattle.policy_audit.proofs.Words.{texts_total, IsDifference, IsProper, change_unless_empty, is_empty, IsListing, IsPidListing, Rises}
 use Rattle.policy_audit.proofs.Words.{ascending, is_among, listing, mentions, same, same_pid, same_row, total, pid_cmp, text_cmp}
 use Rattle.policy_audit.proofs.Words.{GroupChange, Pid, IsChange, change, events_of, groups_in, if_some, scope_change, groups_named}
 use Rattle.policy_audit.proofs.Words.{pids_named, row, rows_named, History, events, first_of, listed, listed_by, is_local, is_running}
-use Rattle.policy_audit.proofs.Words.{own, scopes_started, starts, IsNext, entry_of, is_full, with_entry, present_link}
+use Rattle.policy_audit.proofs.Words.{own, scopes_started, starts, IsNext, entry_of, is_full}
+use Rattle.policy_audit.proofs.Words.{present_link}
 use Rattle.policy_audit.proofs.Words.{Change, Entry, Event}
+use Rattle.policy_audit.proofs.Words.{bare_entry}
 use Rattle.policy_audit.proofs.Accepted.{lie}
+use Rattle.policy_audit.proofs.LostWords.{change_unread}
 use Rattle.policy_audit.proofs.OneDifference.{apart}
 use Rattle.policy_audit.proofs.Named.{any_before, any_behind, has, named_in, listed_named, group_named, pid_named}
 
@@ -174,11 +181,30 @@ change_is h k = record {
 pub no_change : (h k : History) → ((s g : List ℕ) (p : Pid) → listed h s g p ≡ listed k s g p) → IsChange h k []
 no_change h k e = record { scopes = tt; some = tt; groups = λ s. no_difference h k s (e s) }
 
+-- a change hangs on what is listed alone
+pub change_as : (h j k : History) → ((s g : List ℕ) (p : Pid) → listed j s g p ≡ listed k s g p)
+    → (cs : List Change) → IsChange h j cs → IsChange h k cs
+change_as h j k same_rows cs c = record {
+  scopes = c.scopes;
+  some = c.some;
+  groups =
+      λ s. subst (λ f. IsDifference (listed h s) f (groups_in s cs)) (λ i g p. same_rows s g p i)
+      (c.groups s);
+}
+
 -- the policy's entry is the next one
 pub next_is : (h : History) (seat : ℕ) (e : Event) → is_full h ≡ false → IsNext h (entry_of h seat e)
 next_is h seat e q = record {
-  room = ltb-true (length h.entries) h.opening.entries (not-false (nat_lt (length h.entries) h.opening.entries) q);
+  room =
+      ltb-true (entered h.entries) h.opening.entries
+      (not-false (nat_lt (entered h.entries) h.opening.entries) q);
   number = refl;
   verdict = refl;
-  change = change_is h (with_entry h (entry_of h seat e));
+  change =
+      change_as h (with_entry h bare) (with_entry h (entry_of h seat e))
+      (λ s g p. sym (change_unread h bare (change h (with_entry h bare)) s g p))
+      (change h (with_entry h bare)) (change_is h (with_entry h bare));
 }
+  where
+    bare : Entry
+    bare = bare_entry h seat e (verdict h seat e)

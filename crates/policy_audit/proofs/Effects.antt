@@ -1,7 +1,8 @@
 -- What an entry does to the words of the policy, and what it leaves alone.
 use Rattle.policy_audit.proofs.Words.{ap, arith, refl, subst, sym, ◌∙◌, List, None, cond, false, true, ℕ, ◌&&◌, ◌+◌, ◌-◌, ◌==◌, ◌∷◌, ◌≡◌}
 use Rattle.policy_audit.proofs.Words.{same_decides, mentions, same, same_pid, Pid, checks, first_broken, IsSameLink, leaves_rows, History}
-use Rattle.policy_audit.proofs.Words.{is_accepted, listed, is_running, own, IsAnswered, verdict, with_entry, Entry, Verdict, Accepted}
+use Rattle.policy_audit.proofs.Words.{is_accepted, listed, is_running, own, IsStep, judgement, just}
+use Rattle.policy_audit.proofs.Words.{Entry, Verdict, Accepted}
 use Rattle.policy_audit.proofs.Words.{Refused, Event, Reply}
 use Rattle.policy_audit.proofs.Accepted.{accepted, lie}
 use Rattle.policy_audit.proofs.Walked.{but}
@@ -9,7 +10,8 @@ use Rattle.policy_audit.proofs.Walked.{but}
 -- ---- entries that change no listing
 
 module _ (h : History) (e : Entry) where
-  pub rows_left : (ev : Event) (v : Verdict) → leaves_rows (but e ev v) ≡ true → (s g : List ℕ) (p : Pid) → listed (with_entry h (but e ev v)) s g p ≡ listed h s g p
+  pub rows_left : (ev : Event) (v : Verdict) → leaves_rows (but e ev v) ≡ true
+      → (s g : List ℕ) (p : Pid) → listed (just h (but e ev v)) s g p ≡ listed h s g p
   rows_left (Event.Frame k body) (Refused r) q s g p = grind arith
   rows_left ev (Refused r) q s g p = refl
   rows_left Event.Restart (Accepted r) q s g p = lie (sym q)
@@ -17,7 +19,8 @@ module _ (h : History) (e : Entry) where
 
 -- ---- the same, of an entry that is given by its event
 
-pub entry_rows : (h : History) (e : Entry) → leaves_rows e ≡ true → (s g : List ℕ) (p : Pid) → listed (with_entry h e) s g p ≡ listed h s g p
+pub entry_rows : (h : History) (e : Entry) → leaves_rows e ≡ true → (s g : List ℕ) (p : Pid)
+    → listed (just h e) s g p ≡ listed h s g p
 entry_rows h e q s g p = rows_left h e e.event e.verdict q s g p
 
 pub entry_link : (es : List Entry) (e : Entry) (k l : ℕ) (body : List ℕ) → e.event ≡ Event.Frame k body → (k == l) ≡ false → IsSameLink l es (e ∷ es)
@@ -32,24 +35,36 @@ by_accepted e ev P q a each = subst (λ x. P (but e x e.verdict)) (sym q) (by e.
     by (Refused r) a = lie (sym a)
 
 module _ (h : History) (e : Entry) (s g : List ℕ) (ps : List Pid) where
-  pub entry_joined : e.event ≡ Event.Join s g ps → is_accepted e.verdict ≡ true → is_running h s ≡ true → (t f : List ℕ) (p : Pid) → own (with_entry h e) t f p ≡ cond (same s t && same g f) (own h t f p + mentions p ps) (own h t f p)
+  pub entry_joined : e.event ≡ Event.Join s g ps → is_accepted e.verdict ≡ true
+      → is_running h s ≡ true → (t f : List ℕ) (p : Pid)
+      → own (just h e) t f p
+      ≡ cond (same s t && same g f) (own h t f p + mentions p ps) (own h t f p)
   entry_joined q a up t f p = grind (arith, same_decides s t)
 
-  pub entry_left : e.event ≡ Event.Leave s g ps → is_accepted e.verdict ≡ true → (t f : List ℕ) (p : Pid) → own (with_entry h e) t f p ≡ cond (same s t && same g f) (own h t f p - mentions p ps) (own h t f p)
+  pub entry_left : e.event ≡ Event.Leave s g ps → is_accepted e.verdict ≡ true
+      → (t f : List ℕ) (p : Pid)
+      → own (just h e) t f p
+      ≡ cond (same s t && same g f) (own h t f p - mentions p ps) (own h t f p)
   entry_left q a t f p = grind arith
 
-pub entry_exited : (h : History) (e : Entry) (q : Pid) → e.event ≡ Event.Exit q → is_accepted e.verdict ≡ true → (t f : List ℕ) (p : Pid) → own (with_entry h e) t f p ≡ cond (same_pid q p) 0 (own h t f p)
+pub entry_exited : (h : History) (e : Entry) (q : Pid) → e.event ≡ Event.Exit q
+    → is_accepted e.verdict ≡ true → (t f : List ℕ) (p : Pid)
+    → own (just h e) t f p ≡ cond (same_pid q p) 0 (own h t f p)
 entry_exited h e q same_event a t f p = grind arith
 
 -- where a fact holds of each entry that accepts an event as the policy does, it holds of this one
-pub by_made : (h : History) (e : Entry) (ev : Event) (P : Entry → Type 0) → IsAnswered h e → is_accepted e.verdict ≡ true → e.event ≡ ev
-    → ((r : Reply) → Accepted r ≡ verdict h e.seat ev → P (but e ev (Accepted r))) → P e
-by_made h e ev P made a q each = by e.event e.verdict made.verdict a q
+pub by_made : (h : History) (e : Entry) (ev : Event) (P : Entry → Type 0) → IsStep h e
+    → is_accepted e.verdict ≡ true → e.event ≡ ev
+    → ((r : Reply) → Accepted r ≡ judgement h e.seat ev → P (but e ev (Accepted r))) → P e
+by_made h e ev P made a q each = by e.event e.verdict made.judged a q
   where
-    by : (x : Event) (v : Verdict) → v ≡ verdict h e.seat x → is_accepted v ≡ true → x ≡ ev → P (but e x v)
-    by x (Accepted r) m a q = subst (λ y. P (but e y (Accepted r))) (sym q) (each r (m ∙ ap (verdict h e.seat) q))
+    by : (x : Event) (v : Verdict) → v ≡ judgement h e.seat x → is_accepted v ≡ true → x ≡ ev
+        → P (but e x v)
+    by x (Accepted r) m a q =
+        subst (λ y. P (but e y (Accepted r))) (sym q) (each r (m ∙ ap (judgement h e.seat) q))
     by x (Refused r) m a q = lie (sym a)
 
 -- an event that is accepted breaks no rule
-pub breaks_none : (h : History) (e : Entry) (ev : Event) → IsAnswered h e → is_accepted e.verdict ≡ true → e.event ≡ ev → first_broken (checks h e.seat ev) ≡ None
+pub breaks_none : (h : History) (e : Entry) (ev : Event) → IsStep h e → is_accepted e.verdict ≡ true
+    → e.event ≡ ev → first_broken (checks h e.seat ev) ≡ None
 breaks_none h e ev made a q = by_made h e ev (λ x. first_broken (checks h e.seat ev) ≡ None) made a q (λ r v. (accepted h e.seat ev r v).0)

@@ -1,11 +1,14 @@
 -- Who is heard in a scope: the scope runs, and the link has a whole side.
+use Rattle.policy_audit.proofs.Walked.{fresh}
 use Rattle.policy_audit.proofs.Words.{ap, arith, refl, subst, sym, ◌∙◌, eqb-true, option_map_or, unwrap_or, Bool, List, None, Option, Some}
-use Rattle.policy_audit.proofs.Words.{[], cond, false, length, true, ℕ, ◌&&◌, ◌++◌, ◌+◌, ◌==◌, ◌∷◌, ◌≡◌, same_decides, same, Message}
+use Rattle.policy_audit.proofs.Words.{[], cond, false, true, ℕ, ◌&&◌, ◌++◌, ◌==◌, ◌∷◌, ◌≡◌}
+use Rattle.policy_audit.proofs.Words.{same_decides, same, Message}
 use Rattle.policy_audit.proofs.Words.{always, checks, first_broken, frame_checks, message_checks, runs, Said, Stopped, Talk, hears}
-use Rattle.policy_audit.proofs.Words.{said_on, talk, talk_of, tells, History, first_of, past, is_open, is_running, IsLegalIn, verdict}
+use Rattle.policy_audit.proofs.Words.{said_on, talk, talk_of, tells, History, first_of, past}
+use Rattle.policy_audit.proofs.Words.{is_open, is_running, IsPlayedIn, judgement}
 use Rattle.policy_audit.proofs.Words.{awaits, is_whole, opened, taken, Entry, Verdict, Accepted, Refused, Event, Opening, Rule}
 use Rattle.policy_audit.proofs.Accepted.{lie, accepted, open_first}
-use Rattle.policy_audit.proofs.Walked.{but, unborn}
+use Rattle.policy_audit.proofs.Walked.{but}
 use Rattle.policy_audit.proofs.Finished.{whole_awaits, whole_kept}
 
 -- the last that was said of s on a link is a Sync
@@ -47,7 +50,8 @@ module _ (s : List ℕ) (asks : Talk → Option Bool) (stop : (t : List ℕ) →
     spoken None runs so_far h = so_far h
     spoken (Some m) runs so_far h = grind (arith, runs m refl, only m, same_decides (scope_of m) s)
 
-    by_event : (ev : Event) (v : Verdict) → v ≡ verdict (past o es) e.seat ev → (says_yes (talk l es) ≡ true → is_running (past o es) s ≡ true)
+    by_event : (ev : Event) (v : Verdict) → v ≡ judgement (past o es) e.seat ev
+        → (says_yes (talk l es) ≡ true → is_running (past o es) s ≡ true)
         → says_yes (talk l (but e ev v ∷ es)) ≡ true → is_running (past o (but e ev v ∷ es)) s ≡ true
     by_event (Event.Frame k body) (Accepted r) q so_far h = by (k == l) refl (is_whole l es) refl h
       where
@@ -60,9 +64,11 @@ module _ (s : List ℕ) (asks : Talk → Option Bool) (stop : (t : List ℕ) →
     by_event ev (Accepted r) _ so_far h = so_far h
     by_event ev (Refused r) _ so_far h = so_far h
 
-  yes_runs : (o : Opening) (es : List Entry) → IsLegalIn o es → (l : ℕ) → says_yes (talk l es) ≡ true → is_running (past o es) s ≡ true
+  yes_runs : (o : Opening) (es : List Entry) → IsPlayedIn o es → (l : ℕ)
+      → says_yes (talk l es) ≡ true → is_running (past o es) s ≡ true
   yes_runs o [] legal l h = lie (sym h)
-  yes_runs o (e ∷ es) legal l h = by_event o es e l e.event e.verdict legal.0.verdict (yes_runs o es legal.1 l) h
+  yes_runs o (e ∷ es) legal l h =
+      by_event o es e l e.event e.verdict legal.0.judged (yes_runs o es legal.1 l) h
 
 heard_only : (s : List ℕ) (m : Message) → hears s (Said m) ≡ Some true → same (scope_of m) s ≡ true
 heard_only s m q = grind arith
@@ -70,25 +76,28 @@ heard_only s m q = grind arith
 told_only : (s : List ℕ) (m : Message) → tells s (Said m) ≡ Some true → same (scope_of m) s ≡ true
 told_only s m q = grind arith
 
-pub heard_runs : (o : Opening) (es : List Entry) → IsLegalIn o es → (l : ℕ) (s : List ℕ) → has_sync s (talk l es) ≡ true → is_running (past o es) s ≡ true
+pub heard_runs : (o : Opening) (es : List Entry) → IsPlayedIn o es → (l : ℕ) (s : List ℕ)
+    → has_sync s (talk l es) ≡ true → is_running (past o es) s ≡ true
 heard_runs o es legal l s h = yes_runs s (hears s) (λ t. refl) (heard_only s) o es legal l h
 
-pub told_talk_runs : (o : Opening) (es : List Entry) → IsLegalIn o es → (l : ℕ) (s : List ℕ) → has_discover s (talk l es) ≡ true → is_running (past o es) s ≡ true
+pub told_talk_runs : (o : Opening) (es : List Entry) → IsPlayedIn o es → (l : ℕ) (s : List ℕ)
+    → has_discover s (talk l es) ≡ true → is_running (past o es) s ≡ true
 told_talk_runs o es legal l s h = yes_runs s (tells s) (λ t. refl) (told_only s) o es legal l h
 
 -- ---- the link is whole
 
-pub heard_whole : (o : Opening) (es : List Entry) → IsLegalIn o es → (l : ℕ) (s : List ℕ) → has_sync s (talk l es) ≡ true → is_whole l es ≡ true
+pub heard_whole : (o : Opening) (es : List Entry) → IsPlayedIn o es → (l : ℕ) (s : List ℕ)
+    → has_sync s (talk l es) ≡ true → is_whole l es ≡ true
 heard_whole o [] legal l s h = lie (sym h)
 heard_whole o (e ∷ es) legal l s h = by_event e.event e.verdict (heard_whole o es legal.1 l s) h
   where
-    here : e.number ≡ length es + 1
-    here = legal.0.number
+    new : (e.number == l) ≡ true → opened l es ≡ None
+    new q = subst (λ x. opened x es ≡ None) (eqb-true e.number l q) (fresh o es legal.1 e legal.0)
 
     by_event : (ev : Event) (v : Verdict) → (has_sync s (talk l es) ≡ true → is_whole l es ≡ true) → has_sync s (talk l (but e ev v ∷ es)) ≡ true → is_whole l (but e ev v ∷ es) ≡ true
     by_event (Event.Frame k body) (Accepted r) so_far h = grind (arith, whole_kept (record { body = body; before = es }) (opened l es) (taken l es))
-    by_event (Event.Opened c) (Accepted r) so_far h = grind (arith, here, unborn o es legal.1 l, eqb-true e.number l)
-    by_event (Event.Dial n c) (Accepted r) so_far h = grind (arith, here, unborn o es legal.1 l, eqb-true e.number l)
+    by_event (Event.Opened c) (Accepted r) so_far h = grind (arith, new)
+    by_event (Event.Dial n c) (Accepted r) so_far h = grind (arith, new)
     by_event (Event.StopScope t) (Accepted r) so_far h = grind arith
     by_event Event.Restart (Accepted r) so_far h = lie (sym h)
     by_event ev (Accepted r) so_far h = so_far h

@@ -1,48 +1,71 @@
 -- Which links have frames that wait, which are kept, and which numbers they have.
+use Rattle.policy_audit.proofs.Words.{and_parts, entered, is_whole, ◌&&◌}
+use Rattle.policy_audit.proofs.Words.{IsNumbered}
 use Rattle.policy_audit.proofs.Words.{ap, arith, refl, subst, sym, ◌∙◌, eqb-true, le-leb, leb-true, lt-ltb, ltb-true, filter, flat_map}
-use Rattle.policy_audit.proofs.Words.{list_all, list_any, Bool, List, None, [], cond, false, is_some, length, map, min, nat_le, nat_lt}
+use Rattle.policy_audit.proofs.Words.{list_all, list_any, Bool, List, None, [], cond, false}
+use Rattle.policy_audit.proofs.Words.{is_some, map, min, nat_le, nat_lt}
 use Rattle.policy_audit.proofs.Words.{true, ℕ, ◌++◌, ◌+◌, ◌<◌, ◌==◌, ◌∷◌, ◌≡◌, ◌≤◌, is_empty, how_many, listing, mentions, same_pid}
 use Rattle.policy_audit.proofs.Words.{pid_cmp, Row, Message, local_rows, row, heard, talk, told, History, Moment, first_of, past, present}
 use Rattle.policy_audit.proofs.Words.{is_open, is_opened_by, is_up, links, OutFrame, drops, frame_owes, if_told, if_visible, is_kept, owed}
-use Rattle.policy_audit.proofs.Words.{own_name_frame, refusal_owes, waiting, waiting_in, is_running, own, running_scopes, IsLegal}
-use Rattle.policy_audit.proofs.Words.{IsLegalIn, verdict, awaits, opened, start_of, started_where, Entry, Verdict, Accepted, Refused, Event}
-use Rattle.policy_audit.proofs.Words.{and_parts, Opening, Reply, Rule}
+use Rattle.policy_audit.proofs.Words.{own_name_frame, refusal_owes, waiting, waiting_in, is_running}
+use Rattle.policy_audit.proofs.Words.{own, running_scopes, IsPlayed}
+use Rattle.policy_audit.proofs.Words.{IsPlayedIn, judgement, awaits, opened, start_of}
+use Rattle.policy_audit.proofs.Words.{started_where, Entry, Verdict, Accepted, Refused, Event}
+use Rattle.policy_audit.proofs.Words.{Opening, Reply, Rule}
 use Rattle.policy_audit.proofs.Accepted.{accepted, lie}
 use Rattle.policy_audit.proofs.UpLinks.{other}
 use Rattle.policy_audit.proofs.Walked.{but, frame_fits, open_opened, unborn}
 use Rattle.policy_audit.proofs.Heard.{has_sync, has_discover, heard_runs, told_talk_runs}
 use Rattle.policy_audit.proofs.Finished.{kept}
 
--- ---- what is owed to a link that isn't open: nothing, but the own Name at its Dial
+-- ---- what is owed to a link that isn't up: no message
 
-module _ (o : Opening) (es : List Entry) (l : ℕ) (closed : is_open l es ≡ false) where
+module _ (o : Opening) (es : List Entry) (l : ℕ) (down : is_up l es ≡ false) where
   -- its peer isn't told
   not_told : (s : List ℕ) → told l s es ≡ false
   not_told s = grind arith
 
-  untold : (s : List ℕ) (m : List Row → Message) (rows : List Row) → if_told (past o es) l s m rows ≡ []
+  pub untold : (s : List ℕ) (m : List Row → Message) (rows : List Row)
+      → if_told (past o es) l s m rows ≡ []
   untold s m rows = grind (arith, not_told s)
 
-  all_untold : (m : List ℕ → List Row → Message) (rows : List ℕ → List Row) (ss : List (List ℕ)) → flat_map (λ s. if_told (past o es) l s (m s) (rows s)) ss ≡ []
+  pub all_untold : (m : List ℕ → List Row → Message) (rows : List ℕ → List Row) (ss : List (List ℕ))
+      → flat_map (λ s. if_told (past o es) l s (m s) (rows s)) ss ≡ []
   all_untold m rows [] = refl
   all_untold m rows (s ∷ ss) = λ i. untold s (m s) (rows s) i ++ all_untold m rows ss i
 
-  unseen : (m : Message) → if_visible (past o es) l m ≡ []
+  pub unseen : (m : Message) → if_visible (past o es) l m ≡ []
   unseen m = grind arith
 
-  accepted_frame : (seat k : ℕ) (body : List ℕ) (r : Reply) → Accepted r ≡ verdict (past o es) seat (Event.Frame k body) → (b : Bool) → (k == l) ≡ b → cond b (frame_owes (past o es) l body (awaits l es)) [] ≡ []
+-- ---- what is owed to a link that isn't open: nothing, but the own Name at its Dial
+
+module _ (o : Opening) (es : List Entry) (l : ℕ) (closed : is_open l es ≡ false) where
+  down : is_up l es ≡ false
+  down = ap (λ b. b && is_whole l es) closed
+
+  accepted_frame : (seat k : ℕ) (body : List ℕ) (r : Reply)
+      → Accepted r ≡ judgement (past o es) seat (Event.Frame k body) → (b : Bool) → (k == l) ≡ b
+      → cond b (frame_owes (past o es) l body (awaits l es)) [] ≡ []
   accepted_frame seat k body r q false m = refl
   accepted_frame seat k body r q true m = lie (sym (subst (λ j. is_open j es ≡ true) (eqb-true k l m) (frame_fits o es seat k body (accepted (past o es) seat (Event.Frame k body) r q).0).0) ∙ closed)
 
-  refused_frame : (seat k : ℕ) (body : List ℕ) (r : Rule) → Refused r ≡ verdict (past o es) seat (Event.Frame k body) → (b : Bool) → (k == l) ≡ b → cond b (refusal_owes r) [] ≡ []
+  refused_frame : (seat k : ℕ) (body : List ℕ) (r : Rule)
+      → Refused r ≡ judgement (past o es) seat (Event.Frame k body) → (b : Bool) → (k == l) ≡ b
+      → cond b (refusal_owes r) [] ≡ []
   refused_frame seat k body r q b m = grind (arith, eqb-true k l)
 
-  pub unowed : (e : Entry) (ev : Event) (v : Verdict) → v ≡ verdict (past o es) e.seat ev → is_opened_by l (but e ev v) ≡ false → owed (past o es) l e.number ev v ≡ []
-  unowed e (Event.StartScope s) (Accepted r) q other = unseen (Message.Discover s)
-  unowed e (Event.StopScope s) (Accepted r) q other = unseen (Message.Down s)
-  unowed e (Event.Exit p) (Accepted r) q other = all_untold (λ s. Message.Leave s) (λ s. filter (λ w. same_pid w.pid p) (local_rows (past o es) s)) (running_scopes (past o es))
-  unowed e (Event.Join s g ps) (Accepted r) q other = untold s (Message.Join s) (map (row g) (listing pid_cmp (λ p. mentions p ps) ps))
-  unowed e (Event.Leave s g ps) (Accepted r) q other = untold s (Message.Leave s) (map (row g) (listing pid_cmp (λ p. min (mentions p ps) (own (past o es) s g p)) ps))
+  pub unowed : (e : Entry) (ev : Event) (v : Verdict) → v ≡ judgement (past o es) e.seat ev
+      → is_opened_by l (but e ev v) ≡ false → owed (past o es) l e.number ev v ≡ []
+  unowed e (Event.StartScope s) (Accepted r) q other = unseen o es l down (Message.Discover s)
+  unowed e (Event.StopScope s) (Accepted r) q other = unseen o es l down (Message.Down s)
+  unowed e (Event.Exit p) (Accepted r) q other =
+      all_untold o es l down (λ s. Message.Leave s)
+      (λ s. filter (λ w. same_pid w.pid p) (local_rows (past o es) s)) (running_scopes (past o es))
+  unowed e (Event.Join s g ps) (Accepted r) q other =
+      untold o es l down s (Message.Join s) (map (row g) (listing pid_cmp (λ p. mentions p ps) ps))
+  unowed e (Event.Leave s g ps) (Accepted r) q other =
+      untold o es l down s (Message.Leave s)
+      (map (row g) (listing pid_cmp (λ p. min (mentions p ps) (own (past o es) s g p)) ps))
   unowed e (Event.Dial n c) (Accepted r) q other = ap (λ b. cond b (own_name_frame (past o es) ∷ []) []) other
   unowed e (Event.Frame k body) (Accepted r) q other = accepted_frame e.seat k body r q (k == l) refl
   unowed e (Event.Frame k body) (Refused r) q other = refused_frame e.seat k body r q (k == l) refl
@@ -57,14 +80,20 @@ closed_if : (l : ℕ) (es : List Entry) → opened l es ≡ None → is_open l e
 closed_if l es none = grind (arith, open_opened l es)
 
 -- for a link that was not opened none wait
-pub unopened_waiting : (o : Opening) (es : List Entry) → IsLegalIn o es → (l : ℕ) → opened l es ≡ None → waiting_in o l es ≡ []
+pub unopened_waiting : (o : Opening) (es : List Entry) → IsPlayedIn o es → (l : ℕ)
+    → opened l es ≡ None → waiting_in o l es ≡ []
 unopened_waiting o [] legal l none = refl
-unopened_waiting o (e ∷ es) legal l none = by_event e.event e.verdict legal.0.verdict (unopened_waiting o es legal.1 l) none
+unopened_waiting o (e ∷ es) legal l none =
+    by_event e.event e.verdict legal.0.judged (unopened_waiting o es legal.1 l) none
   where
-    quiet : (ev : Event) (v : Verdict) → v ≡ verdict (past o es) e.seat ev → (opened l es ≡ None → waiting_in o l es ≡ []) → is_opened_by l (but e ev v) ≡ false → opened l es ≡ None → waiting_in o l (but e ev v ∷ es) ≡ []
+    quiet : (ev : Event) (v : Verdict) → v ≡ judgement (past o es) e.seat ev
+        → (opened l es ≡ None → waiting_in o l es ≡ []) → is_opened_by l (but e ev v) ≡ false
+        → opened l es ≡ None → waiting_in o l (but e ev v ∷ es) ≡ []
     quiet ev v q so_far other was = dropped (drops l es v ev) (waiting_in o l es) (owed (past o es) l e.number ev v) (so_far was) (unowed o es l (closed_if l es was) e ev v q other)
 
-    by_event : (ev : Event) (v : Verdict) → v ≡ verdict (past o es) e.seat ev → (opened l es ≡ None → waiting_in o l es ≡ []) → opened l (but e ev v ∷ es) ≡ None → waiting_in o l (but e ev v ∷ es) ≡ []
+    by_event : (ev : Event) (v : Verdict) → v ≡ judgement (past o es) e.seat ev
+        → (opened l es ≡ None → waiting_in o l es ≡ []) → opened l (but e ev v ∷ es) ≡ None
+        → waiting_in o l (but e ev v ∷ es) ≡ []
     by_event Event.Restart (Accepted r) q so_far n = refl
     by_event ev v q so_far n = quiet ev v q so_far (grind arith) (grind arith)
 
@@ -78,7 +107,7 @@ linked l (m ∷ ms) = grind (arith, linked l ms)
 pub opened_linked : (l : ℕ) (es : List Entry) → is_some (opened l es) ≡ list_any (λ x. x == l) (links es)
 opened_linked l es = linked l (present es)
 
-module _ (h : History) (legal : IsLegal h) (l : ℕ) where
+module _ (h : History) (legal : IsPlayed h) (l : ℕ) where
   abbrev es : List Entry
   es = h.entries
 
@@ -93,7 +122,7 @@ module _ (h : History) (legal : IsLegal h) (l : ℕ) where
   kept_opened kept = sym (opened_linked l es) ∙ kept_is_opened kept
 
   -- ---- a number that no entry has yet
-  module _ (above : length es < l) where
+  module _ (above : entered es < l) where
     pub unborn_waiting : waiting h l ≡ []
     unborn_waiting = unopened_waiting h.opening es legal l (unborn h.opening es legal l above)
 
@@ -121,26 +150,46 @@ pub falls_once : (xs : List ℕ) → Falls xs → (l : ℕ) → how_many (λ x. 
 falls_once [] f l = refl
 falls_once (x ∷ xs) f l = grind (arith, falls_once xs f.1 l, absent l x)
 
-below : (o : Opening) (es : List Entry) → IsLegalIn o es → (list_all (λ x. nat_le x (length es)) (links es) ≡ true) × Falls (links es)
+-- the links have numbers of entries, and fall
+abbrev Below : List Entry → Type 0
+Below es = (list_all (λ x. nat_le x (entered es)) (links es) ≡ true) × Falls (links es)
+
+below : (o : Opening) (es : List Entry) → IsPlayedIn o es
+    → (list_all (λ x. nat_le x (entered es)) (links es) ≡ true) × Falls (links es)
 below o [] legal = (refl, tt)
 below o (e ∷ es) legal =
     let was = below o es legal.1 in
-    let number : e.number ≡ length es + 1 = legal.0.number in
-    let le : length es ≤ length (e ∷ es) = omega arith in
-    let older = all_below (length es) (length (e ∷ es)) le (links es) was.0 in
-    let newer = all_less (length es) e.number number (links es) was.0 in
-    grind (arith, was.1, older, newer, le-leb)
+    let le : entered es ≤ entered (e ∷ es) = grind arith in
+    let older = all_below (entered es) (entered (e ∷ es)) le (links es) was.0 in
+    let newer = λ (number : e.number ≡ entered es + 1). all_less (entered es) e.number number
+    (links es) was.0 in
+    by_event e.event e.verdict legal.0.number older was.1 newer
+  where
+    by_event : (ev : Event) (v : Verdict) → IsNumbered (past o es) e.number ev
+        → list_all (λ x. nat_le x (entered (but e ev v ∷ es))) (links es) ≡ true → Falls (links es)
+        → (e.number ≡ entered es + 1 → list_all (λ y. nat_lt y e.number) (links es) ≡ true)
+        → Below (but e ev v ∷ es)
+    by_event (Event.Opened c) (Accepted r) here older falls newer =
+        grind (arith, here, older, falls, newer here, le-leb)
+    by_event (Event.Dial n c) (Accepted r) here older falls newer =
+        grind (arith, here, older, falls, newer here, le-leb)
+    by_event Event.Restart (Accepted r) here older falls newer = (refl, tt)
+    by_event ev (Accepted r) here older falls newer = (older, falls)
+    by_event ev (Refused r) here older falls newer = (older, falls)
 
-pub links_below : (h : History) → IsLegal h → list_all (λ x. nat_le x (length h.entries)) (links h.entries) ≡ true
+pub links_below : (h : History) → IsPlayed h
+    → list_all (λ x. nat_le x (entered h.entries)) (links h.entries) ≡ true
 links_below h legal = (below h.opening h.entries legal).0
 
-pub links_fall : (h : History) → IsLegal h → Falls (links h.entries)
+pub links_fall : (h : History) → IsPlayed h → Falls (links h.entries)
 links_fall h legal = (below h.opening h.entries legal).1
 
 -- ---- who is told and heard
 
-pub told_runs : (h : History) → IsLegal h → (l : ℕ) (s : List ℕ) → told l s h.entries ≡ true → is_running h s ≡ true
+pub told_runs : (h : History) → IsPlayed h → (l : ℕ) (s : List ℕ) → told l s h.entries ≡ true
+    → is_running h s ≡ true
 told_runs h legal l s t = told_talk_runs h.opening h.entries legal l s (and_parts (is_up l h.entries) (has_discover s (talk l h.entries)) t).1
 
-pub heard_runs' : (h : History) → IsLegal h → (l : ℕ) (s : List ℕ) → heard l s h.entries ≡ true → is_running h s ≡ true
+pub heard_runs' : (h : History) → IsPlayed h → (l : ℕ) (s : List ℕ) → heard l s h.entries ≡ true
+    → is_running h s ≡ true
 heard_runs' h legal l s t = heard_runs h.opening h.entries legal l s (and_parts (is_up l h.entries) (has_sync s (talk l h.entries)) t).1

@@ -27,6 +27,7 @@ pub mod Different
 pub mod Foreign
 pub mod KeptNumbers
 pub mod OwnRows
+pub mod FewRows
 pub mod LivesNow
 pub mod LinkFrames
 pub mod LinksLeft
@@ -34,3 +35,8 @@ pub mod HeardNow
 pub mod HeardSaid
 pub mod ScopeFrames
 pub mod Untouched
+pub mod LostWords
+pub mod Losses
+pub mod Early
+pub mod WithinLosses
+pub mod Silent

@@ -1,9 +1,12 @@
 -- Which links are open and kept, and which frames wait for them, after each event that ends links or owes frames.
-use Rattle.policy_audit.proofs.Words.{ap, arith, refl, subst, eq-eqb, eqb-true, append-nil, Bool, List, None, Some, [], cond, false, not}
+use Rattle.policy_audit.proofs.Words.{and_parts, ap, arith, refl, subst, eq-eqb, eqb-true}
+use Rattle.policy_audit.proofs.Words.{append-nil, Bool, List, None, Some, [], cond, false, not}
 use Rattle.policy_audit.proofs.Words.{true, ℕ, ◌&&◌, ◌++◌, ◌==◌, ◌≡◌, same_decides, is_empty, Name, name_frame, History, is_accepted}
 use Rattle.policy_audit.proofs.Words.{frame_ends, is_open, is_unfinished_dial, is_up, named_by, OutFrame, frame_owes, is_kept, refusal_owes}
-use Rattle.policy_audit.proofs.Words.{waiting, welcome, IsAnswered, IsLegal, with_entry, AwaitMessage, AwaitName, awaits, is_last}
-use Rattle.policy_audit.proofs.Words.{and_parts, is_name_up, is_peer, is_whole, peer_of, present_link, Entry, Refused, Event, Rule}
+use Rattle.policy_audit.proofs.Words.{waiting, welcome, IsStep, IsPlayed, just, AwaitMessage}
+use Rattle.policy_audit.proofs.Words.{AwaitName, awaits, is_last}
+use Rattle.policy_audit.proofs.Words.{is_name_up, is_peer, is_whole, peer_of, present_link, Entry}
+use Rattle.policy_audit.proofs.Words.{Refused, Event, Rule}
 use Rattle.policy_audit.proofs.UpLinks.{agrees}
 use Rattle.policy_audit.proofs.Onward.{frame_open}
 
@@ -20,7 +23,7 @@ module _ (h : History) (e : Entry) (yes : is_accepted e.verdict ≡ true) where
   es = h.entries
 
   abbrev k : History
-  k = with_entry h e
+  k = just h e
 
   -- a link that is lost
   pub lost_links : (j : ℕ) → e.event ≡ Event.Lost j → (l : ℕ) → IsLinkNow k l (is_open l es && not (j == l)) (cond (j == l) [] (waiting h l)) (is_kept h l && not (j == l))
@@ -31,7 +34,8 @@ module _ (h : History) (e : Entry) (yes : is_accepted e.verdict ≡ true) where
   taken_links j is l = grind (arith, append-nil)
 
   -- the present link of a node that is disconnected
-  module _ (legal : IsLegal h) (n : List ℕ) (j : ℕ) (here : present_link n es ≡ Some j) (is : e.event ≡ Event.Disconnect n) where
+  module _ (legal : IsPlayed h) (n : List ℕ) (j : ℕ) (here : present_link n es ≡ Some j)
+      (is : e.event ≡ Event.Disconnect n) where
     its : (is_up j es ≡ true) × (peer_of j es ≡ Some n)
     its = (agrees h.opening es legal n j).0 here
 
@@ -50,7 +54,9 @@ module _ (h : History) (e : Entry) (yes : is_accepted e.verdict ≡ true) where
 
 -- it ends its own link, where that is unfinished
 pub refused_links : (h : History) (e : Entry) (j : ℕ) (body : List ℕ) (r : Rule) → e.event ≡ Event.Frame j body → e.verdict ≡ Refused r → is_whole j h.entries ≡ false → (l : ℕ)
-    → IsLinkNow (with_entry h e) l (is_open l h.entries && not (j == l)) (cond (j == l) (waiting h l ++ refusal_owes r) (waiting h l)) (cond (j == l) (not (is_empty (waiting h l ++ refusal_owes r))) (is_kept h l))
+    → IsLinkNow (just h e) l (is_open l h.entries && not (j == l))
+    (cond (j == l) (waiting h l ++ refusal_owes r) (waiting h l))
+    (cond (j == l) (not (is_empty (waiting h l ++ refusal_owes r))) (is_kept h l))
 refused_links h e j body r is no_more unwhole l = grind (arith, append-nil, eqb-true j l)
 
 -- ---- accepted frames
@@ -63,26 +69,50 @@ given_up_by j f es l = not (j == l) && not (is_name_up f.name es) && is_unfinish
 abbrev pub replaced_by : ℕ → List ℕ → List Entry → ℕ → Bool
 replaced_by j n es l = not (j == l) && is_whole l es && is_peer n l es
 
-module _ (h : History) (e : Entry) (made : IsAnswered h e) (yes : is_accepted e.verdict ≡ true) (j : ℕ) (body : List ℕ) (is : e.event ≡ Event.Frame j body) where
+framed_by : (h : History) (e : Entry) → is_accepted e.verdict ≡ true → (j : ℕ) (body : List ℕ)
+    → e.event ≡ Event.Frame j body → is_open j h.entries ≡ true
+    → (gone : Bool) (more : List OutFrame) (l : ℕ)
+    → (not (j == l) && frame_ends j body l h.entries) ≡ gone
+    → ((j == l) ≡ true → frame_owes h l body (awaits l h.entries) ≡ more)
+    → IsLinkNow (just h e) l (is_open l h.entries && not gone)
+    (cond (is_open l h.entries && gone) [] (cond (j == l) (waiting h l ++ more) (waiting h l)))
+    (is_kept h l && not (is_open l h.entries && gone))
+framed_by h e accepts j body is opens gone more l ending owes =
+    grind (arith, append-nil, owes, eqb-true j l)
+
+module _ (h : History) (e : Entry) (made : IsStep h e) (yes : is_accepted e.verdict ≡ true) (j : ℕ)
+    (body : List ℕ) (is : e.event ≡ Event.Frame j body) where
   -- the links that it ends lose their frames, and its own is owed more
   framed : (gone : Bool) (more : List OutFrame) (l : ℕ) → (not (j == l) && frame_ends j body l h.entries) ≡ gone → ((j == l) ≡ true → frame_owes h l body (awaits l h.entries) ≡ more)
-      → IsLinkNow (with_entry h e) l (is_open l h.entries && not gone) (cond (is_open l h.entries && gone) [] (cond (j == l) (waiting h l ++ more) (waiting h l))) (is_kept h l && not (is_open l h.entries && gone))
-  framed gone more l ending owes = grind (arith, append-nil, owes, eqb-true j l, frame_open h e made yes j body is)
+      → IsLinkNow (just h e) l (is_open l h.entries && not gone)
+      (cond (is_open l h.entries && gone) [] (cond (j == l) (waiting h l ++ more) (waiting h l)))
+      (is_kept h l && not (is_open l h.entries && gone))
+  framed = framed_by h e yes j body is (frame_open h e made yes j body is)
 
   -- a Name
   pub named_links : (f : Name) → awaits j h.entries ≡ AwaitName → name_frame body ≡ Some f → (l : ℕ)
-      → IsLinkNow (with_entry h e) l (is_open l h.entries && not (given_up_by j f h.entries l)) (cond (is_open l h.entries && given_up_by j f h.entries l) [] (cond (j == l) (waiting h l ++ welcome h l f.name) (waiting h l))) (is_kept h l && not (is_open l h.entries && given_up_by j f h.entries l))
+      → IsLinkNow (just h e) l (is_open l h.entries && not (given_up_by j f h.entries l))
+      (cond (is_open l h.entries && given_up_by j f h.entries l) []
+      (cond (j == l) (waiting h l ++ welcome h l f.name) (waiting h l)))
+      (is_kept h l && not (is_open l h.entries && given_up_by j f h.entries l))
   named_links f a named l = framed (given_up_by j f h.entries l) (welcome h l f.name) l (grind arith) (λ m. grind (arith, eqb-true j l))
 
   -- the last frame of a side
   pub proved_links : (n : List ℕ) → is_last (awaits j h.entries) ≡ true → peer_of j h.entries ≡ Some n → (l : ℕ)
-      → IsLinkNow (with_entry h e) l (is_open l h.entries && not (replaced_by j n h.entries l)) (cond (is_open l h.entries && replaced_by j n h.entries l) [] (cond (j == l) (waiting h l ++ frame_owes h l body (awaits l h.entries)) (waiting h l))) (is_kept h l && not (is_open l h.entries && replaced_by j n h.entries l))
+      → IsLinkNow (just h e) l (is_open l h.entries && not (replaced_by j n h.entries l))
+      (cond (is_open l h.entries && replaced_by j n h.entries l) []
+      (cond (j == l) (waiting h l ++ frame_owes h l body (awaits l h.entries)) (waiting h l)))
+      (is_kept h l && not (is_open l h.entries && replaced_by j n h.entries l))
   proved_links n last of l = framed (replaced_by j n h.entries l) (frame_owes h l body (awaits l h.entries)) l (grind arith) (λ m. refl)
 
   -- any other: it ends none
   pub handshake_links : is_last (awaits j h.entries) ≡ false → named_by (awaits j h.entries) body ≡ None → (l : ℕ)
-      → IsLinkNow (with_entry h e) l (is_open l h.entries) (cond (j == l) (waiting h l ++ frame_owes h l body (awaits l h.entries)) (waiting h l)) (is_kept h l)
+      → IsLinkNow (just h e) l (is_open l h.entries)
+      (cond (j == l) (waiting h l ++ frame_owes h l body (awaits l h.entries)) (waiting h l))
+      (is_kept h l)
   handshake_links inner unnamed l = (let it = framed false (frame_owes h l body (awaits l h.entries)) l (grind arith) (λ m. refl) in grind (arith, it.open_is, it.waiting_is, it.kept_is))
 
-  pub message_links : awaits j h.entries ≡ AwaitMessage → (l : ℕ) → IsLinkNow (with_entry h e) l (is_open l h.entries) (cond (j == l) (waiting h l ++ frame_owes h l body AwaitMessage) (waiting h l)) (is_kept h l)
+  pub message_links : awaits j h.entries ≡ AwaitMessage → (l : ℕ)
+      → IsLinkNow (just h e) l (is_open l h.entries)
+      (cond (j == l) (waiting h l ++ frame_owes h l body AwaitMessage) (waiting h l)) (is_kept h l)
   message_links a l = (let it = handshake_links (ap is_last a) (ap (λ x. named_by x body) a) l in grind (arith, it.open_is, it.waiting_is, it.kept_is, eqb-true j l))

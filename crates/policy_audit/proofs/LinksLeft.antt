@@ -1,7 +1,8 @@
 -- What is said of links after entries that open none, and the numbers of the links that are kept after them.
 use Rattle.policy_audit.proofs.Words.{arith, refl, eqb-true, filter, Bool, List, None, Some, false, is_some, not, reverse, true, ℕ, ◌&&◌}
 use Rattle.policy_audit.proofs.Words.{◌++◌, ◌==◌, ◌||◌, ◌∷◌, ◌≡◌, is_empty, same, Name, name_frame, IsSameLink, History, is_accepted}
-use Rattle.policy_audit.proofs.Words.{is_restart, is_open, links, named_by, is_kept, refusal_owes, waiting, IsAnswered, IsLegal, with_entry}
+use Rattle.policy_audit.proofs.Words.{is_restart, is_open, links, named_by, is_kept, refusal_owes}
+use Rattle.policy_audit.proofs.Words.{waiting, IsStep, IsPlayed, just}
 use Rattle.policy_audit.proofs.Words.{AwaitName, awaits, is_last, is_whole, peer_of, present_link, start_of, Entry, Refused, Event, Rule}
 use Rattle.policy_audit.proofs.KeptNumbers.{kept_after, kept_numbers}
 use Rattle.policy_audit.proofs.LinkFrames.{disconnected_links, given_up_by, handshake_links, lost_links, named_links, proved_links, refused_links, replaced_by, taken_links}
@@ -31,7 +32,7 @@ numbers_left h k same each = λ i. reverse (filter (λ l. each l i) (same i))
 
 module _ (h : History) (e : Entry) where
   abbrev k : History
-  k = with_entry h e
+  k = just h e
 
   same_links : (ev : Event) → e.event ≡ ev → renews_links ev ≡ false → links k.entries ≡ links h.entries
   same_links ev is q = links_left h.entries e (grind arith)
@@ -48,10 +49,12 @@ module _ (h : History) (e : Entry) where
     pub taken_numbers : (j : ℕ) → e.event ≡ Event.Take j → kept_numbers k ≡ filter (λ l. not (j == l && not (is_open l h.entries))) (kept_numbers h)
     taken_numbers j is = kept_after h k (λ l. not (j == l && not (is_open l h.entries))) (same_links (Event.Take j) is refl) (λ l. (taken_links h e yes j is l).kept_is)
 
-    pub disconnected_numbers : IsLegal h → (n : List ℕ) (j : ℕ) → present_link n h.entries ≡ Some j → e.event ≡ Event.Disconnect n → kept_numbers k ≡ filter (λ l. not (j == l)) (kept_numbers h)
+    pub disconnected_numbers : IsPlayed h → (n : List ℕ) (j : ℕ) → present_link n h.entries ≡ Some j
+        → e.event ≡ Event.Disconnect n
+        → kept_numbers k ≡ filter (λ l. not (j == l)) (kept_numbers h)
     disconnected_numbers legal n j here is = kept_after h k (λ l. not (j == l)) (same_links (Event.Disconnect n) is refl) (λ l. (disconnected_links h e yes legal n j here is l).kept_is)
 
-    module _ (made : IsAnswered h e) (j : ℕ) (body : List ℕ) (is : e.event ≡ Event.Frame j body) where
+    module _ (made : IsStep h e) (j : ℕ) (body : List ℕ) (is : e.event ≡ Event.Frame j body) where
       pub named_numbers : (f : Name) → awaits j h.entries ≡ AwaitName → name_frame body ≡ Some f → kept_numbers k ≡ filter (λ l. not (is_open l h.entries && given_up_by j f h.entries l)) (kept_numbers h)
       named_numbers f a named = kept_after h k (λ l. not (is_open l h.entries && given_up_by j f h.entries l)) (same_links (Event.Frame j body) is refl) (λ l. (named_links h e made yes j body is f a named l).kept_is)
 

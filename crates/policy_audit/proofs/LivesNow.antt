@@ -1,9 +1,11 @@
 -- Which own processes live, after each Spawn, Exit and Restart.
-use Rattle.policy_audit.proofs.Words.{ap, arith, refl, eq-eqb, eqb-false, eqb-true, le-leb, leb-true, list_any, Bool, List, [], cond, false}
+use Rattle.policy_audit.proofs.Words.{and_parts, ap, arith, refl, eq-eqb, eqb-false, eqb-true}
+use Rattle.policy_audit.proofs.Words.{le-leb, leb-true, list_any, Bool, List, [], cond, false}
 use Rattle.policy_audit.proofs.Words.{nat_eq, nat_le, not, suc, true, ℕ, ◌&&◌, ◌+◌, ◌<◌, ◌==◌, ◌∷◌, ◌≡◌, same_decides, same_pid_decides}
 use Rattle.policy_audit.proofs.Words.{how_many, same, Pid, checks, History, creation, events, is_accepted, past, is_exit, is_exit_of}
-use Rattle.policy_audit.proofs.Words.{is_local, lives, spawned, IsAnswered, IsLegal, IsLegalIn, verdict, with_entry, Entry, Verdict}
-use Rattle.policy_audit.proofs.Words.{and_parts, Accepted, Event, Opening}
+use Rattle.policy_audit.proofs.Words.{is_local, lives, spawned, IsStep, IsPlayed, IsPlayedIn}
+use Rattle.policy_audit.proofs.Words.{judgement, just, Entry, Verdict}
+use Rattle.policy_audit.proofs.Words.{Accepted, Event, Opening}
 use Rattle.policy_audit.proofs.Accepted.{accepted, all_hold, unbroken}
 use Rattle.policy_audit.proofs.Walked.{but}
 use Rattle.policy_audit.proofs.UpLinks.{and_both}
@@ -29,11 +31,14 @@ own_local : (h : History) (n : ℕ) → is_local h (own_pid h n) ≡ true
 own_local h n = and_both (same h.opening.name h.opening.name) (creation h == creation h) ((same_decides h.opening.name h.opening.name).1 refl) (eq-eqb (creation h) (creation h) refl)
 
 -- only a process that was spawned has ended
-unended : (o : Opening) (es : List Entry) → IsLegalIn o es → (p : Pid) → spawned (past o es) < p.number → list_any (is_exit_of p) (events es) ≡ false
+unended : (o : Opening) (es : List Entry) → IsPlayedIn o es → (p : Pid)
+    → spawned (past o es) < p.number → list_any (is_exit_of p) (events es) ≡ false
 unended o [] legal p above = refl
-unended o (e ∷ es) legal p above = by_event e.event e.verdict legal.0.verdict (unended o es legal.1 p) above
+unended o (e ∷ es) legal p above =
+    by_event e.event e.verdict legal.0.judged (unended o es legal.1 p) above
   where
-    by_event : (ev : Event) (v : Verdict) → v ≡ verdict (past o es) e.seat ev → (spawned (past o es) < p.number → list_any (is_exit_of p) (events es) ≡ false)
+    by_event : (ev : Event) (v : Verdict) → v ≡ judgement (past o es) e.seat ev
+        → (spawned (past o es) < p.number → list_any (is_exit_of p) (events es) ≡ false)
         → spawned (past o (but e ev v ∷ es)) < p.number → list_any (is_exit_of p) (events (but e ev v ∷ es)) ≡ false
     by_event (Event.Exit x) (Accepted r) q so_far b =
         let lived = unbroken (lives (past o es) x) (all_hold (checks (past o es) e.seat (Event.Exit x)) (accepted (past o es) e.seat (Event.Exit x) r q).0).1.0 in
@@ -48,14 +53,18 @@ alive local number born ended = local && nat_le 1 number && nat_le number born &
 born_more : (local ended : Bool) (n born : ℕ) → local ≡ true → (born < n → ended ≡ false) → alive local n (suc born) ended ≡ cond (nat_eq (born + 1) n) true (alive local n born ended)
 born_more local ended n born is never = grind (arith, is, never, eqb-true, eqb-false, le-leb, leb-true)
 
-module _ (h : History) (e : Entry) (made : IsAnswered h e) (yes : is_accepted e.verdict ≡ true) where
+module _ (h : History) (e : Entry) (made : IsStep h e) (yes : is_accepted e.verdict ≡ true) where
   abbrev k : History
-  k = with_entry h e
+  k = just h e
 
   -- ---- a Spawn
 
-  pub lives_spawned : IsLegal h → e.event ≡ Event.Spawn → (n : ℕ) → lives k (own_pid h n) ≡ cond (nat_eq (spawned h + 1) n) true (lives h (own_pid h n))
-  lives_spawned legal is n = by_accepted e Event.Spawn (λ x. lives (with_entry h x) (own_pid h n) ≡ cond (nat_eq (spawned h + 1) n) true (lives h (own_pid h n))) is yes (λ r.
+  pub lives_spawned : IsPlayed h → e.event ≡ Event.Spawn → (n : ℕ)
+      → lives k (own_pid h n) ≡ cond (nat_eq (spawned h + 1) n) true (lives h (own_pid h n))
+  lives_spawned legal is n =
+      by_accepted e Event.Spawn
+      (λ x. lives (just h x) (own_pid h n)
+      ≡ cond (nat_eq (spawned h + 1) n) true (lives h (own_pid h n))) is yes (λ r.
       born_more (is_local h (own_pid h n)) (list_any (is_exit_of (own_pid h n)) (events h.entries)) n (spawned h) (own_local h n) (unended h.opening h.entries legal (own_pid h n)))
 
   -- ---- an Exit

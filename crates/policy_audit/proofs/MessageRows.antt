@@ -1,10 +1,13 @@
 -- How often a process is listed after each message.
-use Rattle.policy_audit.proofs.Words.{ap, arith, refl, subst, sym, ◌∙◌, eq-eqb, list_all, option_map_or, Bool, List, None, Some, cond}
+use Rattle.policy_audit.proofs.Words.{and_parts, ap, arith, refl, subst, sym, ◌∙◌, eq-eqb, list_all}
+use Rattle.policy_audit.proofs.Words.{option_map_or, Bool, List, None, Some, cond}
 use Rattle.policy_audit.proofs.Words.{false, not, true, ℕ, ◌&&◌, ◌+◌, ◌-◌, ◌∷◌, ◌≡◌, same_decides, same_row_decides, same_sym, occurrences}
 use Rattle.policy_audit.proofs.Words.{same, same_row, Pid, Row, Message, always, first_broken, frame_checks, message_checks, runs, row}
 use Rattle.policy_audit.proofs.Words.{Said, Talk, heard, hears, said_on, rows_of, stated_in, talk, History, is_accepted, is_open}
-use Rattle.policy_audit.proofs.Words.{is_up, is_from, listed, is_running, IsAnswered, IsLegal, with_entry, AwaitMessage, Taken, awaits}
-use Rattle.policy_audit.proofs.Words.{and_parts, is_last, is_visible, is_whole, opened, peer_of, present_link, taken, Entry, Event, Rule}
+use Rattle.policy_audit.proofs.Words.{is_up, is_from, listed, is_running, IsStep, IsPlayed, just}
+use Rattle.policy_audit.proofs.Words.{AwaitMessage, Taken, awaits}
+use Rattle.policy_audit.proofs.Words.{is_last, is_visible, is_whole, opened, peer_of, present_link}
+use Rattle.policy_audit.proofs.Words.{taken, Entry, Event, Rule}
 use Rattle.policy_audit.proofs.Effects.{breaks_none}
 use Rattle.policy_audit.proofs.Accepted.{Hold, all_hold, open_first, unbroken}
 use Rattle.policy_audit.proofs.UpLinks.{agrees, and_both, other}
@@ -25,7 +28,8 @@ less r v f s c d x y w = grind arith
 
 -- ---- a message on a link
 
-module _ (h : History) (legal : IsLegal h) (e : Entry) (made : IsAnswered h e) (yes : is_accepted e.verdict ≡ true) (l : ℕ) (body : List ℕ) (is : e.event ≡ Event.Frame l body)
+module _ (h : History) (legal : IsPlayed h) (e : Entry) (made : IsStep h e)
+    (yes : is_accepted e.verdict ≡ true) (l : ℕ) (body : List ℕ) (is : e.event ≡ Event.Frame l body)
     (n : List ℕ) (awaited : awaits l h.entries ≡ AwaitMessage) (of : peer_of l h.entries ≡ Some n) (foreign : same n h.opening.name ≡ false) where
   abbrev es : List Entry
   es = h.entries
@@ -60,28 +64,34 @@ module _ (h : History) (legal : IsLegal h) (e : Entry) (made : IsAnswered h e) (
     was_said : (t f : List ℕ) (p : Pid) → same p.node n ≡ true → listed h t f p ≡ said_so t f p (talk l es)
     was_said t f p its = grind (arith, not_local h p n its foreign, present p its, up_link)
 
-    now_said : (t f : List ℕ) (p : Pid) → same p.node n ≡ true → listed (with_entry h e) t f p ≡ said_so t f p (Said m ∷ talk l es)
-    now_said t f p its = done_frame h legal e made yes l body is inner (λ x. listed (with_entry h x) t f p ≡ said_so t f p (Said m ∷ talk l es)) (λ q. (
+    now_said : (t f : List ℕ) (p : Pid) → same p.node n ≡ true
+        → listed (just h e) t f p ≡ said_so t f p (Said m ∷ talk l es)
+    now_said t f p its =
+        done_frame h legal e made yes l body is inner
+        (λ x. listed (just h x) t f p ≡ said_so t f p (Said m ∷ talk l es)) (λ q. (
         let moment : Taken = record { body = body; before = es } in
         grind (arith, not_local h p n its foreign, present p its, up_link, given_kept moment (opened l es) (taken l es) whole, kept moment (opened l es) (taken l es) whole, whole_kept moment (opened l es) (taken l es) whole, eq-eqb l l)))
 
     -- a process of another node
-    elsewhere : (t f : List ℕ) (p : Pid) → same p.node n ≡ false → listed (with_entry h e) t f p ≡ listed h t f p
+    elsewhere : (t f : List ℕ) (p : Pid) → same p.node n ≡ false
+        → listed (just h e) t f p ≡ listed h t f p
     elsewhere t f p other = inner_rows h legal e made yes l body is inner t f p (grind (arith, of, same_sym n p.node))
 
     -- so each process is listed as the message says, where these hold of it
     changed : (s t f : List ℕ) (p : Pid) (now : ℕ) → (same s t ≡ false → said_so t f p (Said m ∷ talk l es) ≡ said_so t f p (talk l es))
         → (same p.node n ≡ true → same s t ≡ true → said_so t f p (Said m ∷ talk l es) ≡ now) → (same p.node n ≡ false → same s t ≡ true → listed h t f p ≡ now)
-        → listed (with_entry h e) t f p ≡ cond (same t s) now (listed h t f p)
+        → listed (just h e) t f p ≡ cond (same t s) now (listed h t f p)
     changed s t f p now apart its others = by (same p.node n) refl (same s t) refl ∙ ap (λ b. cond b now (listed h t f p)) (same_sym s t)
       where
-        by : (a : Bool) → same p.node n ≡ a → (b : Bool) → same s t ≡ b → listed (with_entry h e) t f p ≡ cond b now (listed h t f p)
+        by : (a : Bool) → same p.node n ≡ a → (b : Bool) → same s t ≡ b
+            → listed (just h e) t f p ≡ cond b now (listed h t f p)
         by true i true q = now_said t f p i ∙ its i q
         by true i false q = now_said t f p i ∙ apart q ∙ sym (was_said t f p i)
         by false i true q = elsewhere t f p i ∙ others i q
         by false i false q = elsewhere t f p i
 
-  pub discovered_rows : (s : List ℕ) → said_on l h.entries body ≡ Some (Message.Discover s) → (t f : List ℕ) (p : Pid) → listed (with_entry h e) t f p ≡ listed h t f p
+  pub discovered_rows : (s : List ℕ) → said_on l h.entries body ≡ Some (Message.Discover s)
+      → (t f : List ℕ) (p : Pid) → listed (just h e) t f p ≡ listed h t f p
   discovered_rows s says t f p = inner_rows h legal e made yes l body is (ap is_last awaited) t f p (grind (arith, says))
 
   -- what the link says of itself in a scope that runs
@@ -99,7 +109,9 @@ module _ (h : History) (legal : IsLegal h) (e : Entry) (made : IsAnswered h e) (
   foreign_from p other = grind (arith, of, same_sym n p.node)
 
   pub synced_rows : (s : List ℕ) (rows : List Row) → said_on l h.entries body ≡ Some (Message.Sync s rows) → (t f : List ℕ) (p : Pid)
-      → listed (with_entry h e) t f p ≡ cond (same t s) (cond (same p.node n) (occurrences same_row (row f p) rows) (listed h t f p)) (listed h t f p)
+      → listed (just h e) t f p
+      ≡ cond (same t s)
+      (cond (same p.node n) (occurrences same_row (row f p) rows) (listed h t f p)) (listed h t f p)
   synced_rows s rows says t f p =
       let k = holds (Message.Sync s rows) says in
       changed (Message.Sync s rows) says s t f p (cond (same p.node n) (rows_of f p rows) (listed h t f p)) (λ q. grind arith)
@@ -111,7 +123,8 @@ module _ (h : History) (legal : IsLegal h) (e : Entry) (made : IsAnswered h e) (
       said q a b z = grind arith
 
   pub added_rows : (s : List ℕ) (rows : List Row) → said_on l h.entries body ≡ Some (Message.Join s rows) → (t f : List ℕ) (p : Pid)
-      → listed (with_entry h e) t f p ≡ cond (same t s) (listed h t f p + occurrences same_row (row f p) rows) (listed h t f p)
+      → listed (just h e) t f p
+      ≡ cond (same t s) (listed h t f p + occurrences same_row (row f p) rows) (listed h t f p)
   added_rows s rows says t f p =
       let k = holds (Message.Join s rows) says in
       changed (Message.Join s rows) says s t f p (listed h t f p + rows_of f p rows) (λ q. grind arith)
@@ -121,7 +134,8 @@ module _ (h : History) (legal : IsLegal h) (e : Entry) (made : IsAnswered h e) (
       (λ i q. omega (arith, none_from rows k.1.1.1.0 f p (foreign_from p i)))
 
   pub taken_rows : (s : List ℕ) (rows : List Row) → said_on l h.entries body ≡ Some (Message.Leave s rows) → (t f : List ℕ) (p : Pid)
-      → listed (with_entry h e) t f p ≡ cond (same t s) (listed h t f p - occurrences same_row (row f p) rows) (listed h t f p)
+      → listed (just h e) t f p
+      ≡ cond (same t s) (listed h t f p - occurrences same_row (row f p) rows) (listed h t f p)
   taken_rows s rows says t f p =
       let k = holds (Message.Leave s rows) says in
       changed (Message.Leave s rows) says s t f p (listed h t f p - rows_of f p rows) (λ q. grind arith)
@@ -130,7 +144,10 @@ module _ (h : History) (legal : IsLegal h) (e : Entry) (made : IsAnswered h e) (
       ∙ ap (λ c. c - rows_of f p rows) (sym (was_said (Message.Leave s rows) says t f p i)))
       (λ i q. omega (arith, none_from rows k.1.1.1.0 f p (foreign_from p i)))
 
-  pub downed_rows : (s : List ℕ) → said_on l h.entries body ≡ Some (Message.Down s) → (t f : List ℕ) (p : Pid) → listed (with_entry h e) t f p ≡ cond (same t s) (cond (same p.node n) 0 (listed h t f p)) (listed h t f p)
+  pub downed_rows : (s : List ℕ) → said_on l h.entries body ≡ Some (Message.Down s)
+      → (t f : List ℕ) (p : Pid)
+      → listed (just h e) t f p
+      ≡ cond (same t s) (cond (same p.node n) 0 (listed h t f p)) (listed h t f p)
   downed_rows s says t f p = changed (Message.Down s) says s t f p (cond (same p.node n) 0 (listed h t f p)) (λ q. grind arith)
       (λ i q. said q ∙ ap (λ b. cond b 0 (listed h t f p)) (sym i)) (λ i q. ap (λ b. cond b 0 (listed h t f p)) (sym i))
     where

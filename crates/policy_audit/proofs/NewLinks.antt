@@ -1,6 +1,8 @@
 -- What an accepted Opened or Dial makes of links.
-use Rattle.policy_audit.proofs.Words.{arith, List, None, Some, [], false, length, true, ℕ, ◌+◌, ◌==◌, ◌||◌, ◌∷◌, ◌≡◌, IsSameLink}
-use Rattle.policy_audit.proofs.Words.{is_accepted, is_open, IsLegalIn, Start, awaited_in, awaits, given, is_whole, opened, peer_in, peer_of}
+use Rattle.policy_audit.proofs.Words.{arith, List, None, Some, [], false, true, ℕ, ◌==◌, ◌||◌, ◌∷◌}
+use Rattle.policy_audit.proofs.Words.{◌≡◌, IsSameLink}
+use Rattle.policy_audit.proofs.Words.{is_accepted, is_open, IsPlayedIn, Start, awaited_in, awaits}
+use Rattle.policy_audit.proofs.Words.{given, is_whole, opened, peer_in, peer_of}
 use Rattle.policy_audit.proofs.Words.{start_of, taken, Entry, Opening}
 use Rattle.policy_audit.proofs.UpLinks.{none_taken}
 
@@ -24,5 +26,6 @@ module _ (es : List Entry) (e : Entry) (l : ℕ) (st : Start) where
     opened_apart other = grind arith
 
     -- and its own has no frames yet
-    pub opened_new : (o : Opening) → IsLegalIn o es → e.number ≡ length es + 1 → (e.number == l) ≡ true → IsNewLink l es (e ∷ es) st
-    opened_new o legal numbered here = grind (arith, none_taken o es legal [] e numbered l here)
+    pub opened_new : (o : Opening) → IsPlayedIn o es → opened e.number es ≡ None
+        → (e.number == l) ≡ true → IsNewLink l es (e ∷ es) st
+    opened_new o legal new here = grind (arith, none_taken o es legal [] e new l here)

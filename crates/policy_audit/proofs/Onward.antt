@@ -1,7 +1,8 @@
 -- What an accepted frame makes of its own link.
 use Rattle.policy_audit.proofs.Words.{ap, arith, refl, subst, sym, ◌∙◌, eq-eqb, Bool, List, None, Option, Some, [], cond, false, get_or}
 use Rattle.policy_audit.proofs.Words.{is_some, length, true, ℕ, ◌++◌, ◌↔◌, ◌∷◌, ◌≡◌, Challenge, Name, challenge_frame, name_frame, History}
-use Rattle.policy_audit.proofs.Words.{is_accepted, ends, is_open, IsAnswered, AwaitAck, AwaitAnswer, AwaitChallenge, AwaitMessage}
+use Rattle.policy_audit.proofs.Words.{is_accepted, ends, is_open, IsStep, AwaitAck, AwaitAnswer}
+use Rattle.policy_audit.proofs.Words.{AwaitChallenge, AwaitMessage}
 use Rattle.policy_audit.proofs.Words.{AwaitName, AwaitReply, AwaitStatus, Awaited, ByDial, ByPeer, Opened, Start, Taken, awaited_in, awaits}
 use Rattle.policy_audit.proofs.Words.{given, is_name_up, is_whole, opened, peer_of, taken, was_up, whole_side, Entry, Event}
 use Rattle.policy_audit.proofs.Accepted.{accepted, lie, peer_by}
@@ -65,7 +66,8 @@ pub record IsOnward (l : ℕ) (es : List Entry) (e : Entry) (gave : Option Name)
   pub awaits : awaits l (e ∷ es) ≡ next
   pub whole : is_whole l (e ∷ es) ≡ ends
 
-module _ (h : History) (e : Entry) (made : IsAnswered h e) (yes : is_accepted e.verdict ≡ true) (l : ℕ) (body : List ℕ) (is : e.event ≡ Event.Frame l body) where
+module _ (h : History) (e : Entry) (made : IsStep h e) (yes : is_accepted e.verdict ≡ true) (l : ℕ)
+    (body : List ℕ) (is : e.event ≡ Event.Frame l body) where
   abbrev es : List Entry
   es = h.entries
 
@@ -80,7 +82,7 @@ module _ (h : History) (e : Entry) (made : IsAnswered h e) (yes : is_accepted e.
   same_opening : opened l (e ∷ es) ≡ opened l es
   same_opening = grind arith
 
-  newest : taken l (e ∷ es) ≡ taken l es ++ moment ∷ []
+  pub newest : taken l (e ∷ es) ≡ taken l es ++ moment ∷ []
   newest = grind (arith, eq-eqb l l)
 
   onward : (gave : Option Name) (of : Option (List ℕ)) (next : Awaited) (ends : Bool) → Made moment (opened l es) (taken l es) gave of next ends → IsOnward l es e gave of next ends

@@ -4,7 +4,8 @@ use Rattle.policy_audit.proofs.Words.{map, true, ℕ, ◌<◌, ◌∷◌, ◌≡
 use Rattle.policy_audit.proofs.Words.{same_pid_decides, same_row_decides, same_sym, Ascends, IsListing, IsPidListing, IsRowListing}
 use Rattle.policy_audit.proofs.Words.{occurrences, same, same_pid, same_row, stands_in, row_cmp, Pid, Row, join_checks, groups_named}
 use Rattle.policy_audit.proofs.Words.{local_groups, local_members, local_rows, pids_named, row, History, events, past, listed, is_local}
-use Rattle.policy_audit.proofs.Words.{joined, own, IsLegal, IsLegalIn, verdict, present_link, Entry, Verdict, Accepted, Event, Opening}
+use Rattle.policy_audit.proofs.Words.{joined, own, IsPlayed, IsPlayedIn, judgement, present_link}
+use Rattle.policy_audit.proofs.Words.{Entry, Verdict, Accepted, Event, Opening}
 use Rattle.policy_audit.proofs.Accepted.{accepted, all_hold, lie, unbroken}
 use Rattle.policy_audit.proofs.Walked.{but}
 use Rattle.policy_audit.proofs.UpLinks.{agrees}
@@ -16,7 +17,7 @@ use Rattle.policy_audit.proofs.Foreign.{peer_foreign}
 -- ---- the own rows
 
 -- no link is to the node itself
-pub no_own_link : (h : History) → IsLegal h → present_link h.opening.name h.entries ≡ None
+pub no_own_link : (h : History) → IsPlayed h → present_link h.opening.name h.entries ≡ None
 no_own_link h legal = by (present_link h.opening.name h.entries) refl
   where
     by : (x : Option ℕ) → present_link h.opening.name h.entries ≡ x → x ≡ None
@@ -24,21 +25,26 @@ no_own_link h legal = by (present_link h.opening.name h.entries) refl
     by (Some l) q = lie (sym ((same_decides h.opening.name h.opening.name).1 refl) ∙ peer_foreign h legal l h.opening.name ((agrees h.opening h.entries legal h.opening.name l).0 q).1)
 
 -- nobody is joined but the processes of this node and its present creation
-unjoined : (o : Opening) (es : List Entry) → IsLegalIn o es → (s g : List ℕ) (p : Pid) → is_local (past o es) p ≡ false → joined s g p (events es) ≡ 0
+unjoined : (o : Opening) (es : List Entry) → IsPlayedIn o es → (s g : List ℕ) (p : Pid)
+    → is_local (past o es) p ≡ false → joined s g p (events es) ≡ 0
 unjoined o [] legal s g p foreign = refl
-unjoined o (e ∷ es) legal s g p foreign = by_event e.event e.verdict legal.0.verdict (unjoined o es legal.1 s g p) foreign
+unjoined o (e ∷ es) legal s g p foreign =
+    by_event e.event e.verdict legal.0.judged (unjoined o es legal.1 s g p) foreign
   where
-    by_event : (ev : Event) (v : Verdict) → v ≡ verdict (past o es) e.seat ev → (is_local (past o es) p ≡ false → joined s g p (events es) ≡ 0)
+    by_event : (ev : Event) (v : Verdict) → v ≡ judgement (past o es) e.seat ev
+        → (is_local (past o es) p ≡ false → joined s g p (events es) ≡ 0)
         → is_local (past o (but e ev v ∷ es)) p ≡ false → joined s g p (events (but e ev v ∷ es)) ≡ 0
     by_event (Event.Join t u ps) (Accepted r) q so_far f =
         let all = unbroken (list_all (is_local (past o es)) ps) (all_hold (join_checks (past o es) t u ps) (accepted (past o es) e.seat (Event.Join t u ps) r q).0).1.0 in
         grind (arith, uncounted same_pid (λ y x. (same_pid_decides y x).0) (is_local (past o es)) p ps all)
     by_event ev v _ so_far f = grind arith
 
-pub foreign_own : (h : History) → IsLegal h → (s g : List ℕ) (p : Pid) → is_local h p ≡ false → own h s g p ≡ 0
+pub foreign_own : (h : History) → IsPlayed h → (s g : List ℕ) (p : Pid) → is_local h p ≡ false
+    → own h s g p ≡ 0
 foreign_own h legal s g p foreign = grind (arith, unjoined h.opening h.entries legal s g p foreign)
 
-pub own_is_listed : (h : History) → IsLegal h → (s g : List ℕ) (p : Pid) → own h s g p ≡ cond (same p.node h.opening.name) (listed h s g p) 0
+pub own_is_listed : (h : History) → IsPlayed h → (s g : List ℕ) (p : Pid)
+    → own h s g p ≡ cond (same p.node h.opening.name) (listed h s g p) 0
 own_is_listed h legal s g p = grind (arith, foreign_own h legal s g p, same_decides p.node h.opening.name, no_own_link h legal)
 
 -- ---- lists of rows

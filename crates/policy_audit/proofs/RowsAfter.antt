@@ -1,9 +1,11 @@
 -- How often a process is listed after each accepted event.
+use Rattle.policy_audit.proofs.Walked.{fresh}
 use Rattle.policy_audit.proofs.Words.{ap, arith, refl, subst, sym, ◌∙◌, eq-eqb, eqb-true, list_all, option_map_or, Bool, List, None, Some}
 use Rattle.policy_audit.proofs.Words.{[], cond, false, true, ℕ, ◌&&◌, ◌+◌, ◌-◌, ◌==◌, ◌||◌, ◌∷◌, ◌≡◌, same_decides, same_pid_decides}
 use Rattle.policy_audit.proofs.Words.{same_sym, mentions, occurrences, same, same_pid, Pid, checks, join_checks, leave_checks}
 use Rattle.policy_audit.proofs.Words.{is_about_rows, is_replaced, may_change, said_on, History, is_accepted, is_open, is_up, listed}
-use Rattle.policy_audit.proofs.Words.{listed_by, is_local, is_running, own, IsAnswered, IsLegal, up_answer, verdict, with_entry, awaits}
+use Rattle.policy_audit.proofs.Words.{listed_by, is_local, is_running, own, IsStep, IsPlayed}
+use Rattle.policy_audit.proofs.Words.{up_answer, judgement, just, awaits}
 use Rattle.policy_audit.proofs.Words.{is_last, is_peer, is_visible, is_whole, opened, peer_of, present_link, taken, Entry, Accepted, Event}
 use Rattle.policy_audit.proofs.Words.{Reply}
 use Rattle.policy_audit.proofs.Finished.{Completed, is_message, whole_awaits}
@@ -36,7 +38,7 @@ or_none a b p q = grind arith
 
 -- ---- own processes
 
-module _ (h : History) (e : Entry) (made : IsAnswered h e) (yes : is_accepted e.verdict ≡ true) where
+module _ (h : History) (e : Entry) (made : IsStep h e) (yes : is_accepted e.verdict ≡ true) where
   -- an own process is listed as often as it is joined, and another as often as its node's link lists it
   abbrev remote : List ℕ → List ℕ → Pid → ℕ
   remote t f p = cond (is_running h t) (option_map_or (listed_by h t f p) (present_link p.node h.entries) 0) 0
@@ -45,28 +47,34 @@ module _ (h : History) (e : Entry) (made : IsAnswered h e) (yes : is_accepted e.
   unmentioned ps all p out = uncounted same_pid (λ q r. (same_pid_decides q r).0) (is_local h) p ps all out
 
   pub joined_rows : (s g : List ℕ) (ps : List Pid) → e.event ≡ Event.Join s g ps → (t f : List ℕ) (p : Pid)
-      → listed (with_entry h e) t f p ≡ cond (same t s) (listed h t f p + cond (same f g) (mentions p ps) 0) (listed h t f p)
+      → listed (just h e) t f p
+      ≡ cond (same t s) (listed h t f p + cond (same f g) (mentions p ps) 0) (listed h t f p)
   joined_rows s g ps is t f p =
       let holds = all_hold (join_checks h s g ps) (breaks_none h e (Event.Join s g ps) made yes is) in
       grind (arith, entry_joined h e s g ps is yes (unbroken (is_running h s) holds.0) t f p, unmentioned ps (unbroken (list_all (is_local h) ps) holds.1.0) p, same_sym s t, same_sym g f)
 
   pub left_rows : (s g : List ℕ) (ps : List Pid) → e.event ≡ Event.Leave s g ps → (t f : List ℕ) (p : Pid)
-      → listed (with_entry h e) t f p ≡ cond (same t s) (listed h t f p - cond (same f g) (mentions p ps) 0) (listed h t f p)
+      → listed (just h e) t f p
+      ≡ cond (same t s) (listed h t f p - cond (same f g) (mentions p ps) 0) (listed h t f p)
   left_rows s g ps is t f p =
       let holds = all_hold (leave_checks h s g ps) (breaks_none h e (Event.Leave s g ps) made yes is) in
-      let now : listed (with_entry h e) t f p ≡ cond (is_local h p) (own (with_entry h e) t f p) (remote t f p) = grind arith in
+      let now : listed (just h e) t f p
+      ≡ cond (is_local h p) (own (just h e) t f p) (remote t f p) = grind arith in
       now ∙ ap (λ c. cond (is_local h p) c (remote t f p)) (entry_left h e s g ps is yes t f p)
       ∙ minus_own (is_local h p) (same s t) (same g f) (own h t f p) (remote t f p) (mentions p ps) (unmentioned ps (unbroken (list_all (is_local h) ps) holds.1.0) p)
       ∙ (λ i. cond (same_sym s t i) (listed h t f p - cond (same_sym g f i) (mentions p ps) 0) (listed h t f p))
 
-  pub exited_rows : (q : Pid) → e.event ≡ Event.Exit q → (t f : List ℕ) (p : Pid) → listed (with_entry h e) t f p ≡ cond (same_pid p q) 0 (listed h t f p)
+  pub exited_rows : (q : Pid) → e.event ≡ Event.Exit q → (t f : List ℕ) (p : Pid)
+      → listed (just h e) t f p ≡ cond (same_pid p q) 0 (listed h t f p)
   exited_rows q is t f p =
       let own_one = unbroken (is_local h q) (all_hold (checks h e.seat (Event.Exit q)) (breaks_none h e (Event.Exit q) made yes is)).0 in
-      let now : listed (with_entry h e) t f p ≡ cond (is_local h p) (own (with_entry h e) t f p) (remote t f p) = grind arith in
+      let now : listed (just h e) t f p
+      ≡ cond (is_local h p) (own (just h e) t f p) (remote t f p) = grind arith in
       now ∙ ap (λ c. cond (is_local h p) c (remote t f p)) (entry_exited h e q is yes t f p)
       ∙ exit_own (is_local h p) (same_pid q p) (own h t f p) (remote t f p) (λ out. grind (arith, same_pid_decides q p)) ∙ ap (λ b. cond b 0 (listed h t f p)) (pid_sym q p)
 
-  pub restarted_rows : e.event ≡ Event.Restart → (t f : List ℕ) (p : Pid) → listed (with_entry h e) t f p ≡ 0
+  pub restarted_rows : e.event ≡ Event.Restart → (t f : List ℕ) (p : Pid)
+      → listed (just h e) t f p ≡ 0
   restarted_rows is t f p = grind arith
 
 -- ---- scopes and links
@@ -83,28 +91,40 @@ not_local k p n of foreign = grind (arith, same_decides p.node n)
 pub unlinked : (k : History) (t f : List ℕ) (p : Pid) → is_local k p ≡ false → present_link p.node k.entries ≡ None → listed k t f p ≡ 0
 unlinked k t f p out none = grind arith
 
-module _ (h : History) (legal : IsLegal h) (e : Entry) (made : IsAnswered h e) (yes : is_accepted e.verdict ≡ true) where
+module _ (h : History) (legal : IsPlayed h) (e : Entry) (made : IsStep h e)
+    (yes : is_accepted e.verdict ≡ true) where
   abbrev es : List Entry
   es = h.entries
 
   -- an event that doesn't concern a row leaves it
-  left_alone : (ev : Event) → e.event ≡ ev → (t f : List ℕ) (p : Pid) → ((r : Reply) → may_change es (but e ev (Accepted r)) t f p ≡ false) → listed (with_entry h e) t f p ≡ listed h t f p
-  left_alone ev is t f p within = by_made h e ev (λ x. listed (with_entry h x) t f p ≡ listed h t f p) made yes is (λ r q. rows_step h.opening es legal e made.number t f p ev (Accepted r) q (within r))
+  left_alone : (ev : Event) → e.event ≡ ev → (t f : List ℕ) (p : Pid)
+      → ((r : Reply) → may_change es (but e ev (Accepted r)) t f p ≡ false)
+      → listed (just h e) t f p ≡ listed h t f p
+  left_alone ev is t f p within =
+      by_made h e ev (λ x. listed (just h x) t f p ≡ listed h t f p) made yes is
+      (λ r q. rows_step h.opening es legal e (fresh h.opening es legal e made) t f p ev
+      (Accepted r) q (within r))
 
-  pub started_rows : (s : List ℕ) → e.event ≡ Event.StartScope s → (t f : List ℕ) (p : Pid) → listed (with_entry h e) t f p ≡ listed h t f p
+  pub started_rows : (s : List ℕ) → e.event ≡ Event.StartScope s → (t f : List ℕ) (p : Pid)
+      → listed (just h e) t f p ≡ listed h t f p
   started_rows s is t f p = left_alone (Event.StartScope s) is t f p (λ r. unreplaced p.node es (but e (Event.StartScope s) (Accepted r) ∷ es) refl)
 
-  pub stopped_rows : (s : List ℕ) → e.event ≡ Event.StopScope s → (t f : List ℕ) (p : Pid) → listed (with_entry h e) t f p ≡ cond (same t s) 0 (listed h t f p)
+  pub stopped_rows : (s : List ℕ) → e.event ≡ Event.StopScope s → (t f : List ℕ) (p : Pid)
+      → listed (just h e) t f p ≡ cond (same t s) 0 (listed h t f p)
   stopped_rows s is t f p = grind (arith, same_sym s t)
 
-  pub opened_rows : (c : ℕ) → e.event ≡ Event.Opened c → (t f : List ℕ) (p : Pid) → listed (with_entry h e) t f p ≡ listed h t f p
+  pub opened_rows : (c : ℕ) → e.event ≡ Event.Opened c → (t f : List ℕ) (p : Pid)
+      → listed (just h e) t f p ≡ listed h t f p
   opened_rows c is t f p = left_alone (Event.Opened c) is t f p (λ r. unreplaced p.node es (but e (Event.Opened c) (Accepted r) ∷ es) refl)
 
-  pub dialled_rows : (n : List ℕ) (c : ℕ) → e.event ≡ Event.Dial n c → (t f : List ℕ) (p : Pid) → listed (with_entry h e) t f p ≡ listed h t f p
+  pub dialled_rows : (n : List ℕ) (c : ℕ) → e.event ≡ Event.Dial n c → (t f : List ℕ) (p : Pid)
+      → listed (just h e) t f p ≡ listed h t f p
   dialled_rows n c is t f p = left_alone (Event.Dial n c) is t f p (λ r. unreplaced p.node es (but e (Event.Dial n c) (Accepted r) ∷ es) refl)
 
   -- a lost link that isn't the present one of p's node
-  lost_apart : (l : ℕ) → e.event ≡ Event.Lost l → (t f : List ℕ) (p : Pid) → ((j : ℕ) → present_link p.node es ≡ Some j → (j == l) ≡ false) → listed (with_entry h e) t f p ≡ listed h t f p
+  lost_apart : (l : ℕ) → e.event ≡ Event.Lost l → (t f : List ℕ) (p : Pid)
+      → ((j : ℕ) → present_link p.node es ≡ Some j → (j == l) ≡ false)
+      → listed (just h e) t f p ≡ listed h t f p
   lost_apart l is t f p apart = left_alone (Event.Lost l) is t f p (λ r. grind (arith, apart, eq-eqb))
 
   -- the present link of p's node is not l, where that is another link
@@ -112,27 +132,30 @@ module _ (h : History) (legal : IsLegal h) (e : Entry) (made : IsAnswered h e) (
   other_link l p not_so j q = grind (arith, agrees h.opening es legal p.node j, eqb-true j l, not_so)
 
   pub lost_rows : (l : ℕ) (n : List ℕ) → e.event ≡ Event.Lost l → is_up l es ≡ true → peer_of l es ≡ Some n → same n h.opening.name ≡ false
-      → (t f : List ℕ) (p : Pid) → listed (with_entry h e) t f p ≡ cond (same p.node n) 0 (listed h t f p)
+      → (t f : List ℕ) (p : Pid) → listed (just h e) t f p ≡ cond (same p.node n) 0 (listed h t f p)
   lost_rows l n is up of foreign t f p = by (same p.node n) refl
     where
       gone : same p.node n ≡ true → present_link p.node (e ∷ es) ≡ None
       gone m = grind (arith, same_decides p.node n, agrees h.opening es legal n l, eq-eqb l l)
 
-      by : (b : Bool) → same p.node n ≡ b → listed (with_entry h e) t f p ≡ cond b 0 (listed h t f p)
-      by true m = unlinked (with_entry h e) t f p (not_local (with_entry h e) p n m foreign) (gone m)
+      by : (b : Bool) → same p.node n ≡ b → listed (just h e) t f p ≡ cond b 0 (listed h t f p)
+      by true m = unlinked (just h e) t f p (not_local (just h e) p n m foreign) (gone m)
       by false m = lost_apart l is t f p (other_link l p (λ w. lie (sym ((same_decides p.node n).1 (value_of p.node n (sym w.1 ∙ of))) ∙ m)))
 
-  pub lost_other : (l : ℕ) → e.event ≡ Event.Lost l → is_up l es ≡ false → (t f : List ℕ) (p : Pid) → listed (with_entry h e) t f p ≡ listed h t f p
+  pub lost_other : (l : ℕ) → e.event ≡ Event.Lost l → is_up l es ≡ false → (t f : List ℕ) (p : Pid)
+      → listed (just h e) t f p ≡ listed h t f p
   lost_other l is down t f p = lost_apart l is t f p (other_link l p (λ w. lie (sym w.0 ∙ down)))
 
-  pub disconnected_rows : (n : List ℕ) → e.event ≡ Event.Disconnect n → same n h.opening.name ≡ false → (t f : List ℕ) (p : Pid) → listed (with_entry h e) t f p ≡ cond (same p.node n) 0 (listed h t f p)
+  pub disconnected_rows : (n : List ℕ) → e.event ≡ Event.Disconnect n
+      → same n h.opening.name ≡ false → (t f : List ℕ) (p : Pid)
+      → listed (just h e) t f p ≡ cond (same p.node n) 0 (listed h t f p)
   disconnected_rows n is foreign t f p = by (same p.node n) refl
     where
       gone : same p.node n ≡ true → present_link p.node (e ∷ es) ≡ None
       gone m = grind (arith, same_sym n p.node)
 
-      by : (b : Bool) → same p.node n ≡ b → listed (with_entry h e) t f p ≡ cond b 0 (listed h t f p)
-      by true m = unlinked (with_entry h e) t f p (not_local (with_entry h e) p n m foreign) (gone m)
+      by : (b : Bool) → same p.node n ≡ b → listed (just h e) t f p ≡ cond b 0 (listed h t f p)
+      by true m = unlinked (just h e) t f p (not_local (just h e) p n m foreign) (gone m)
       by false m = left_alone (Event.Disconnect n) is t f p (λ r. grind (arith, same_sym n p.node, eq-eqb))
 
   -- ---- frames
@@ -142,17 +165,23 @@ module _ (h : History) (legal : IsLegal h) (e : Entry) (made : IsAnswered h e) (
     fr r = but e (Event.Frame l body) (Accepted r)
 
     -- a frame that isn't the last of a side is answered Done
-    pub done_frame : is_last (awaits l es) ≡ false → (P : Entry → Type 0) → (Accepted Reply.Done ≡ verdict h e.seat (Event.Frame l body) → P (fr Reply.Done)) → P e
+    pub done_frame : is_last (awaits l es) ≡ false → (P : Entry → Type 0)
+        → (Accepted Reply.Done ≡ judgement h e.seat (Event.Frame l body) → P (fr Reply.Done)) → P e
     done_frame inner P each = by_made h e (Event.Frame l body) P made yes is (λ r q. (
         let done = (accepted h e.seat (Event.Frame l body) r q).1 ∙ ap (λ b. cond b (up_answer h l) Reply.Done) inner in
         subst (λ x. P (fr x)) (sym done) (each (ap Accepted (sym done) ∙ q))))
 
     -- and leaves the rows that it doesn't concern
-    pub inner_rows : is_last (awaits l es) ≡ false → (t f : List ℕ) (p : Pid) → (is_whole l es && is_peer p.node l es && is_about_rows t (said_on l es body)) ≡ false → listed (with_entry h e) t f p ≡ listed h t f p
-    inner_rows inner t f p within = done_frame inner (λ x. listed (with_entry h x) t f p ≡ listed h t f p)
-        (λ q. rows_step h.opening es legal e made.number t f p (Event.Frame l body) (Accepted Reply.Done) q (or_none _ _ within (unreplaced p.node es (fr Reply.Done ∷ es) refl)))
+    pub inner_rows : is_last (awaits l es) ≡ false → (t f : List ℕ) (p : Pid)
+        → (is_whole l es && is_peer p.node l es && is_about_rows t (said_on l es body)) ≡ false
+        → listed (just h e) t f p ≡ listed h t f p
+    inner_rows inner t f p within = done_frame inner (λ x. listed (just h x) t f p ≡ listed h t f p)
+        (λ q. rows_step h.opening es legal e (fresh h.opening es legal e made) t f p
+        (Event.Frame l body) (Accepted Reply.Done) q
+        (or_none _ _ within (unreplaced p.node es (fr Reply.Done ∷ es) refl)))
 
-    pub unfinished_rows : is_message (awaits l es) ≡ false → is_last (awaits l es) ≡ false → (t f : List ℕ) (p : Pid) → listed (with_entry h e) t f p ≡ listed h t f p
+    pub unfinished_rows : is_message (awaits l es) ≡ false → is_last (awaits l es) ≡ false
+        → (t f : List ℕ) (p : Pid) → listed (just h e) t f p ≡ listed h t f p
     unfinished_rows unlike inner t f p = inner_rows inner t f p (grind (arith, whole_awaits (opened l es) (taken l es)))
 
     -- the last frame of a side: what its peer listed on an older link is gone, and nobody is heard on this one yet
@@ -164,18 +193,35 @@ module _ (h : History) (legal : IsLegal h) (e : Entry) (made : IsAnswered h e) (
         now_linked : (b : Bool) → same p.node n ≡ b → present_link p.node (fr up ∷ es) ≡ cond b (Some l) (present_link p.node es)
         now_linked b m = grind (arith, same_sym c.peer p.node, c.was_of)
 
-        now_silent : same p.node n ≡ true → listed (with_entry h (fr up)) t f p ≡ 0
-        now_silent m = grind (arith, not_local (with_entry h (fr up)) p n m foreign, now_linked true m, new_lists h.opening es legal e made.number t f p l body opens last c)
+        now_silent : same p.node n ≡ true → listed (just h (fr up)) t f p ≡ 0
+        now_silent m =
+            grind (
+              arith,
+              not_local (just h (fr up)) p n m foreign,
+              now_linked true m,
+              new_lists h.opening es legal e (fresh h.opening es legal e made) t f p l body
+                  opens last c,
+            )
 
-        up_by : Accepted up ≡ verdict h e.seat (Event.Frame l body) → (b : Bool) → same p.node n ≡ b → listed (with_entry h (fr up)) t f p ≡ cond b 0 (listed h t f p)
+        up_by : Accepted up ≡ judgement h e.seat (Event.Frame l body) → (b : Bool)
+            → same p.node n ≡ b → listed (just h (fr up)) t f p ≡ cond b 0 (listed h t f p)
         up_by q true m = now_silent m
-        up_by q false m = rows_step h.opening es legal e made.number t f p (Event.Frame l body) (Accepted up) q
+        up_by q false m =
+            rows_step h.opening es legal e (fresh h.opening es legal e made) t f p
+            (Event.Frame l body) (Accepted up) q
             (or_none _ _ (ap (λ b. b && is_peer p.node l es && is_about_rows t (said_on l es body)) c.was_whole) (unreplaced p.node es (fr up ∷ es) (now_linked false m)))
 
-      pub up_rows : listed (with_entry h e) t f p ≡ cond (same p.node n) 0 (listed h t f p)
-      up_rows = by_made h e (Event.Frame l body) (λ x. listed (with_entry h x) t f p ≡ cond (same p.node n) 0 (listed h t f p)) made yes is (λ r q. (
+      pub up_rows : listed (just h e) t f p ≡ cond (same p.node n) 0 (listed h t f p)
+      up_rows =
+          by_made h e (Event.Frame l body)
+          (λ x. listed (just h x) t f p ≡ cond (same p.node n) 0 (listed h t f p)) made yes is
+          (λ r q. (
           let met = accepted h e.seat (Event.Frame l body) r q in
           let opens = (frame_fits h.opening es e.seat l body met.0).0 in
-          let c = done_now h.opening es legal p.node e made.number l body opens last in
-          let is_up = met.1 ∙ answered h.opening es legal p.node e made.number l body opens last c in
-          subst (λ x. listed (with_entry h (fr x)) t f p ≡ cond (same p.node n) 0 (listed h t f p)) (sym is_up) (up_by opens c (ap Accepted (sym is_up) ∙ q) (same p.node n) refl)))
+          let c = done_now h.opening es legal p.node e (fresh h.opening es legal e made) l body
+          opens last in
+          let is_up = met.1
+          ∙ answered h.opening es legal p.node e (fresh h.opening es legal e made) l body opens
+          last c in
+          subst (λ x. listed (just h (fr x)) t f p ≡ cond (same p.node n) 0 (listed h t f p))
+          (sym is_up) (up_by opens c (ap Accepted (sym is_up) ∙ q) (same p.node n) refl)))

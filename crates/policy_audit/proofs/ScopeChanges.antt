@@ -1,11 +1,17 @@
 -- The difference of two histories, from the differences in its scopes; and that there is one.
+use Rattle.policy_audit.proofs.Words.{entered}
+use Rattle.policy_audit.proofs.Words.{with_entry}
 use Rattle.policy_audit.proofs.Words.{ap, arith, refl, subst, sym, ◌∙◌, lt-ltb, append-nil, exact_bytes, AllByRecursion, filter, Bool, List}
-use Rattle.policy_audit.proofs.Words.{[], cond, false, length, map, not, true, ℕ, ◌++◌, ◌||◌, ◌∷◌, ◌≡◌, Ordering, Equal, Greater, Less}
+use Rattle.policy_audit.proofs.Words.{[], cond, false, map, not, true, ℕ, ◌++◌, ◌||◌, ◌∷◌, ◌≡◌}
+use Rattle.policy_audit.proofs.Words.{Ordering, Equal, Greater, Less}
 use Rattle.policy_audit.proofs.Words.{same_decides, IsDifference, is_empty, Rises, is_among, same, text_cmp, GroupChange, Pid, IsChange}
-use Rattle.policy_audit.proofs.Words.{change, groups_in, History, listed, IsNext, after, bare_entry, entry_of, verdict, with_entry, Change}
+use Rattle.policy_audit.proofs.Words.{change, groups_in, History, listed, IsNext, after, bare_entry}
+use Rattle.policy_audit.proofs.Words.{entry_of, verdict, Change}
 use Rattle.policy_audit.proofs.Words.{Entry, Verdict}
 use Rattle.policy_audit.proofs.OneDifference.{above_all, apart, one_group_difference, turned}
-use Rattle.policy_audit.proofs.ChangeLemmas.{change_is, no_difference}
+use Rattle.policy_audit.proofs.ChangeLemmas.{change_as, change_is, no_difference}
+use Rattle.policy_audit.proofs.LostWords.{change_unread}
+use Rattle.policy_audit.proofs.Words.{next_number}
 use Rattle.policy_audit.proofs.Accepted.{lie}
 
 -- ---- changes by scope
@@ -112,10 +118,21 @@ next_is_entry h e next = λ i. record { number = next.number i; seat = e.seat; e
     its : IsChange h (with_entry h (bare_entry h e.seat e.event (verdict h e.seat e.event))) e.change
     its =
         let moved = subst (λ (x : ℕ × Verdict). IsChange h (with_entry h (record { number = x.0; seat = e.seat; event = e.event; verdict = x.1; change = e.change })) e.change) (λ i. (next.number i, next.verdict i)) next.change in
-        record { scopes = moved.scopes; some = moved.some; groups = moved.groups }
+        change_as h _ _
+        (λ s g p. sym (change_unread h
+        (record {
+          number = next_number h;
+          seat = e.seat;
+          event = e.event;
+          verdict = verdict h e.seat e.event;
+          change = e.change;
+        }) [] s g p)) e.change moved
 
     same_change : e.change ≡ change h (with_entry h (bare_entry h e.seat e.event (verdict h e.seat e.event)))
     same_change = one_change h (with_entry h (bare_entry h e.seat e.event (verdict h e.seat e.event))) e.change _ its (change_is h (with_entry h (bare_entry h e.seat e.event (verdict h e.seat e.event))))
 
 pub next_is_after : (h : History) (e : Entry) → IsNext h e → with_entry h e ≡ after h e.seat e.event
-next_is_after h e next = ap (with_entry h) (next_is_entry h e next) ∙ sym (ap (λ b. cond (not b) h (with_entry h (entry_of h e.seat e.event))) (lt-ltb (length h.entries) h.opening.entries next.room))
+next_is_after h e next =
+    ap (with_entry h) (next_is_entry h e next)
+    ∙ sym (ap (λ b. cond (not b) h (with_entry h (entry_of h e.seat e.event)))
+    (lt-ltb (entered h.entries) h.opening.entries next.room))

@@ -1,11 +1,16 @@
 -- Which frames the events of scopes and processes owe to links; and the links after an opening and a Restart.
-use Rattle.policy_audit.proofs.Words.{arith, refl, sym, ◌∙◌, eq-eqb, append-nil, filter, flat_map, Bool, List, [], false, length, map, min}
-use Rattle.policy_audit.proofs.Words.{true, ℕ, ◌++◌, ◌+◌, ◌∷◌, ◌≡◌, listing, mentions, same_pid, pid_cmp, Pid, Message, local_rows, row}
+use Rattle.policy_audit.proofs.Walked.{fresh}
+use Rattle.policy_audit.proofs.KeptLinks.{unopened_waiting}
+use Rattle.policy_audit.proofs.Words.{arith, refl, sym, ◌∙◌, eq-eqb, append-nil, filter, flat_map}
+use Rattle.policy_audit.proofs.Words.{Bool, List, [], false, map, min}
+use Rattle.policy_audit.proofs.Words.{true, ℕ, ◌++◌, ◌∷◌, ◌≡◌, listing, mentions, same_pid, pid_cmp}
+use Rattle.policy_audit.proofs.Words.{Pid, Message, local_rows, row}
 use Rattle.policy_audit.proofs.Words.{tells, History, is_accepted, is_open, OutFrame, if_told, if_visible, is_kept, owed, own_name_frame}
-use Rattle.policy_audit.proofs.Words.{waiting, own, running_scopes, IsAnswered, IsLegal, verdict, with_entry, Entry, Accepted, Event, Reply}
+use Rattle.policy_audit.proofs.Words.{waiting, own, running_scopes, IsStep, IsPlayed, judgement}
+use Rattle.policy_audit.proofs.Words.{just, Entry, Accepted, Event, Reply}
 use Rattle.policy_audit.proofs.Walked.{but}
 use Rattle.policy_audit.proofs.Effects.{by_made}
-use Rattle.policy_audit.proofs.KeptLinks.{unborn_waiting, unowed}
+use Rattle.policy_audit.proofs.KeptLinks.{unowed}
 use Rattle.policy_audit.proofs.KeptNumbers.{kept_numbers}
 use Rattle.policy_audit.proofs.LinkFrames.{IsLinkNow}
 use Rattle.policy_audit.proofs.LinksLeft.{links_left, numbers_left}
@@ -23,16 +28,22 @@ is_told ev = false
 abbrev pub exit_frames : History → Pid → ℕ → List OutFrame
 exit_frames h p l = flat_map (λ s. if_told h l s (Message.Leave s) (filter (λ w. same_pid w.pid p) (local_rows h s))) (running_scopes h)
 
-module _ (h : History) (e : Entry) (made : IsAnswered h e) (yes : is_accepted e.verdict ≡ true) where
+module _ (h : History) (e : Entry) (made : IsStep h e) (yes : is_accepted e.verdict ≡ true) where
   abbrev k : History
-  k = with_entry h e
+  k = just h e
 
   -- it ends no link, and what it owes waits behind the rest; to a link that isn't open nothing is owed
   told_links : (ev : Event) → e.event ≡ ev → is_told ev ≡ true → (more : ℕ → List OutFrame) → ((r : Reply) (l : ℕ) → owed h l e.number ev (Accepted r) ≡ more l) → (l : ℕ)
       → IsLinkNow k l (is_open l h.entries) (waiting h l ++ more l) (is_kept h l)
-  told_links ev is tells more owes l = by_made h e ev (λ x. IsLinkNow (with_entry h x) l (is_open l h.entries) (waiting h l ++ more l) (is_kept h l)) made yes is (λ r q. by ev tells r q (owes r l))
+  told_links ev is tells more owes l =
+      by_made h e ev
+      (λ x. IsLinkNow (just h x) l (is_open l h.entries) (waiting h l ++ more l) (is_kept h l)) made
+      yes is (λ r q. by ev tells r q (owes r l))
     where
-      by : (ev : Event) → is_told ev ≡ true → (r : Reply) → Accepted r ≡ verdict h e.seat ev → owed h l e.number ev (Accepted r) ≡ more l → IsLinkNow (with_entry h (but e ev (Accepted r))) l (is_open l h.entries) (waiting h l ++ more l) (is_kept h l)
+      by : (ev : Event) → is_told ev ≡ true → (r : Reply) → Accepted r ≡ judgement h e.seat ev
+          → owed h l e.number ev (Accepted r) ≡ more l
+          → IsLinkNow (just h (but e ev (Accepted r))) l (is_open l h.entries)
+          (waiting h l ++ more l) (is_kept h l)
       by ev t r q m =
           let none : is_open l h.entries ≡ false → more l ≡ [] = λ o. sym m ∙ unowed h.opening h.entries l o e ev (Accepted r) q (grind arith) in
           grind (arith, append-nil, none, m)
@@ -60,9 +71,10 @@ module _ (h : History) (e : Entry) (made : IsAnswered h e) (yes : is_accepted e.
 
   -- ---- a new link
 
-  module _ (legal : IsLegal h) where
+  module _ (legal : IsPlayed h) where
     none_yet : waiting h e.number ≡ []
-    none_yet = (let here : e.number ≡ length h.entries + 1 = made.number in unborn_waiting h legal e.number (omega (arith, here)))
+    none_yet =
+        unopened_waiting h.opening h.entries legal e.number (fresh h.opening h.entries legal e made)
 
     pub opened_waiting : (c : ℕ) → e.event ≡ Event.Opened c → waiting k e.number ≡ []
     opened_waiting c is = grind (arith, none_yet)

@@ -2,7 +2,7 @@
 use Rattle.policy_audit.proofs.Words.{ap, arith, refl, sym, ◌∙◌, exact_bytes, filter, flat_map, Bool, List, [], not, true, ℕ, ◌&&◌, ◌||◌}
 use Rattle.policy_audit.proofs.Words.{◌∷◌, ◌≡◌, ascending_rises, ascending_stands, same_rising, same_decides, same_sym, texts_total, Rises}
 use Rattle.policy_audit.proofs.Words.{ascending, is_among, placed, same, text_cmp, History, events, is_accepted, is_running, running_scopes}
-use Rattle.policy_audit.proofs.Words.{scopes_started, with_entry, Entry, Event}
+use Rattle.policy_audit.proofs.Words.{scopes_started, just, Entry, Event}
 use Rattle.policy_audit.proofs.Lists.{filter_rises}
 use Rattle.policy_audit.proofs.ChangeLemmas.{was_started}
 
@@ -39,18 +39,30 @@ running_among h s =
 
 module _ (h : History) (e : Entry) (yes : is_accepted e.verdict ≡ true) (s : List ℕ) where
   -- whether a scope runs, after a start or a stop of s
-  pub runs_started : e.event ≡ Event.StartScope s → (t : List ℕ) → is_running (with_entry h e) t ≡ (same s t || is_running h t)
+  pub runs_started : e.event ≡ Event.StartScope s → (t : List ℕ)
+      → is_running (just h e) t ≡ (same s t || is_running h t)
   runs_started is t = grind arith
 
-  pub runs_stopped : e.event ≡ Event.StopScope s → (t : List ℕ) → is_running (with_entry h e) t ≡ (is_running h t && not (same t s))
+  pub runs_stopped : e.event ≡ Event.StopScope s → (t : List ℕ)
+      → is_running (just h e) t ≡ (is_running h t && not (same t s))
   runs_stopped is t = grind (arith, same_sym s t)
 
-  pub running_started : e.event ≡ Event.StartScope s → running_scopes (with_entry h e) ≡ placed text_cmp s (running_scopes h)
+  pub running_started : e.event ≡ Event.StartScope s
+      → running_scopes (just h e) ≡ placed text_cmp s (running_scopes h)
   running_started is =
-      one_rising (running_scopes (with_entry h e)) (ascending text_cmp (s ∷ running_scopes h)) (running_rises (with_entry h e)) (rising (s ∷ running_scopes h)) (λ t.
-      running_among (with_entry h e) t ∙ runs_started is t ∙ ap (λ b. same s t || b) (sym (running_among h t)) ∙ sym (rising_stands t (s ∷ running_scopes h)))
+      one_rising (running_scopes (just h e)) (ascending text_cmp (s ∷ running_scopes h))
+      (running_rises (just h e)) (rising (s ∷ running_scopes h)) (λ t.
+      running_among (just h e) t ∙ runs_started is t
+      ∙ ap (λ b. same s t || b) (sym (running_among h t))
+      ∙ sym (rising_stands t (s ∷ running_scopes h)))
       ∙ ap (placed text_cmp s) (rising_is (running_scopes h) (running_rises h))
 
-  pub running_stopped : e.event ≡ Event.StopScope s → running_scopes (with_entry h e) ≡ filter (λ t. not (same t s)) (running_scopes h)
-  running_stopped is = one_rising (running_scopes (with_entry h e)) (filter (λ t. not (same t s)) (running_scopes h)) (running_rises (with_entry h e)) (filter_rises text_cmp (λ t. not (same t s)) (running_scopes h) (running_rises h)) (λ t.
-      running_among (with_entry h e) t ∙ runs_stopped is t ∙ ap (λ b. b && not (same t s)) (sym (running_among h t)) ∙ sym (among_left (λ u. not (same u s)) t (running_scopes h)))
+  pub running_stopped : e.event ≡ Event.StopScope s
+      → running_scopes (just h e) ≡ filter (λ t. not (same t s)) (running_scopes h)
+  running_stopped is =
+      one_rising (running_scopes (just h e)) (filter (λ t. not (same t s)) (running_scopes h))
+      (running_rises (just h e))
+      (filter_rises text_cmp (λ t. not (same t s)) (running_scopes h) (running_rises h)) (λ t.
+      running_among (just h e) t ∙ runs_stopped is t
+      ∙ ap (λ b. b && not (same t s)) (sym (running_among h t))
+      ∙ sym (among_left (λ u. not (same u s)) t (running_scopes h)))

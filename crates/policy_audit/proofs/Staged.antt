@@ -2,7 +2,8 @@
 use Rattle.policy_audit.proofs.Words.{ap, arith, refl, sym, ◌∙◌, eqb-true, flat_map, list_any, option_map_or, Bool, List, None, Option}
 use Rattle.policy_audit.proofs.Words.{Some, [], cond, false, is_some, not, true, ℕ, ◌&&◌, ◌==◌, ◌||◌, ◌∷◌, ◌≡◌, same_decides, same}
 use Rattle.policy_audit.proofs.Words.{name_frame, Moment, first_of, present, ends, is_dial_to, is_open, is_opened_by, is_up, links}
-use Rattle.policy_audit.proofs.Words.{named_by, share_peer, IsLegalIn, Opened, Taken, and_frame, awaits, is_last, is_name_up, is_peer}
+use Rattle.policy_audit.proofs.Words.{named_by, share_peer, IsPlayedIn, Opened, Taken, and_frame}
+use Rattle.policy_audit.proofs.Words.{awaits, is_last, is_name_up, is_peer}
 use Rattle.policy_audit.proofs.Words.{is_whole, opened, peer_of, present_link, start_of, started_where, taken, was_up, Stage, ends_at}
 use Rattle.policy_audit.proofs.Words.{is_up_at, name_up, name_up_at, stages, was_up_after, Entry, Verdict, Accepted, Refused, Event}
 use Rattle.policy_audit.proofs.Words.{and_parts, Opening}
@@ -34,7 +35,8 @@ pub whole_opened : (l : ℕ) (es : List Entry) → is_whole l es ≡ true → is
 whole_opened l es q = grind arith
 
 -- a link of this name is up exactly where there is a present one
-names_now : (o : Opening) (es : List Entry) → IsLegalIn o es → (n : List ℕ) → name_up_at (now es) n es ≡ is_name_up n es
+names_now : (o : Opening) (es : List Entry) → IsPlayedIn o es → (n : List ℕ)
+    → name_up_at (now es) n es ≡ is_name_up n es
 names_now o es legal n = by (present_link n es) refl
   where
     up_of : (k : ℕ) → is_peer n k es ≡ true → (x : Option (List ℕ)) → peer_of k es ≡ x → peer_of k es ≡ Some n
@@ -50,7 +52,7 @@ names_now o es legal n = by (present_link n es) refl
 
 -- ---- all stages
 
-module _ (o : Opening) (es : List Entry) (legal : IsLegalIn o es) (e : Entry) (l : ℕ) where
+module _ (o : Opening) (es : List Entry) (legal : IsPlayedIn o es) (e : Entry) (l : ℕ) where
   agreed : ◌≡◌ {A = List ℕ → Bool} (λ n. name_up_at (now es) n es) (λ n. is_name_up n es)
   agreed = λ i n. names_now o es legal n i
 
@@ -80,7 +82,7 @@ module _ (o : Opening) (es : List Entry) (legal : IsLegalIn o es) (e : Entry) (l
   same_was_up ev (Accepted r) = stayed (now es) (taken l es) refl
 
 -- the stages are what the other words say
-pub stages-now : (o : Opening) (es : List Entry) → IsLegalIn o es → stages es ≡ now es
+pub stages-now : (o : Opening) (es : List Entry) → IsPlayedIn o es → stages es ≡ now es
 stages-now o [] legal = refl
 stages-now o (e ∷ es) legal =
     ap (λ (at : ℕ → Stage). λ l. record { is_open = is_opened_by l e || (not (ends_at at l es e.verdict e.event) && (at l).is_open); was_up = was_up_after at l es (taken l es) (taken l (e ∷ es)) }) (stages-now o es legal.1)
@@ -89,12 +91,15 @@ stages-now o (e ∷ es) legal =
       was_up = same_was_up o es legal.1 e l e.event e.verdict i;
     })
 
-pub names_up : (o : Opening) (es : List Entry) → IsLegalIn o es → (n : List ℕ) → name_up n es ≡ is_name_up n es
+pub names_up : (o : Opening) (es : List Entry) → IsPlayedIn o es → (n : List ℕ)
+    → name_up n es ≡ is_name_up n es
 names_up o es legal n = ap (λ at. name_up_at at n es) (stages-now o es legal) ∙ names_now o es legal n
 
 -- which links are up and open is read from the events alone
-pub ups-now : (o : Opening) (es : List Entry) → IsLegalIn o es → (l : ℕ) → is_up_at (stages es) l es ≡ is_up l es
+pub ups-now : (o : Opening) (es : List Entry) → IsPlayedIn o es → (l : ℕ)
+    → is_up_at (stages es) l es ≡ is_up l es
 ups-now o es legal l = ap (λ at. is_up_at at l es) (stages-now o es legal)
 
-pub opens-now : (o : Opening) (es : List Entry) → IsLegalIn o es → (l : ℕ) → (stages es l).is_open ≡ is_open l es
+pub opens-now : (o : Opening) (es : List Entry) → IsPlayedIn o es → (l : ℕ)
+    → (stages es l).is_open ≡ is_open l es
 opens-now o es legal l = ap (λ (at : ℕ → Stage). (at l).is_open) (stages-now o es legal)

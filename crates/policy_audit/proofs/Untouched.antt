@@ -1,7 +1,9 @@
 -- A refused entry leaves all as it was.
+use Rattle.policy_audit.proofs.Words.{with_entry}
 use Rattle.policy_audit.proofs.Words.{ap, arith, refl, sym, ◌∙◌, append-nil, flat_map, option_map_or, List, None, [], cond, false, ℕ, ◌++◌}
 use Rattle.policy_audit.proofs.Words.{◌≡◌, GroupChange, IsChange, groups_in, IsAsOpen, IsUntouched, History, is_accepted, listed, Target}
-use Rattle.policy_audit.proofs.Words.{group_updates, is_watched, monitor, updates_since, IsNext, with_entry, frame_of, Entry, Verdict}
+use Rattle.policy_audit.proofs.Words.{group_updates, is_watched, monitor, updates_since, IsNext}
+use Rattle.policy_audit.proofs.Words.{just, frame_of, Entry, Verdict}
 use Rattle.policy_audit.proofs.Words.{Accepted, Refused, Event, Rule}
 use Rattle.policy_audit.proofs.Accepted.{lie}
 use Rattle.policy_audit.proofs.Walked.{but}
@@ -14,7 +16,7 @@ module _ (h : History) (e : Entry) (r : Rule) where
   fr ev = but e ev (Refused r)
 
   abbrev kk : Event → History
-  kk ev = with_entry h (fr ev)
+  kk ev = just h (fr ev)
 
   none_moved : (ev : Event) → IsChange h (kk ev) e.change → (s : List ℕ) → groups_in s e.change ≡ []
   none_moved ev c s = one_group_difference (listed h s) (listed (kk ev) s) (groups_in s e.change) [] (c.groups s) ((no_change h (kk ev) (λ t g p. sym (rows_left h e ev (Refused r) refl t g p))).groups s)
@@ -52,5 +54,6 @@ entry_leaves h e next q = by e.verdict q next.change
     by (Refused r) q c = refused_leaves h e r e.event c
 
 -- no frame of link l: it is open as before, and nothing new waits for it
-pub others_left : (h : History) (e : Entry) (l : ℕ) → is_accepted e.verdict ≡ false → frame_of l h.entries e.event ≡ None → IsAsOpen l h (with_entry h e)
+pub others_left : (h : History) (e : Entry) (l : ℕ) → is_accepted e.verdict ≡ false
+    → frame_of l h.entries e.event ≡ None → IsAsOpen l h (just h e)
 others_left h e l q f = grind (arith, append-nil)

@@ -1,11 +1,14 @@
 -- The present link of a peer is the one link of it that is up.
 use Rattle.policy_audit.proofs.Words.{ap, arith, refl, subst, sym, ◌∙◌, eq-eqb, eqb-true, option_map_or, unwrap_or, Bool, List, None}
-use Rattle.policy_audit.proofs.Words.{Option, Some, [], cond, false, length, not, true, ℕ, ◌&&◌, ◌+◌, ◌==◌, ◌||◌, ◌↔◌, ◌∷◌, ◌≡◌}
-use Rattle.policy_audit.proofs.Words.{same_decides, same_sym, same, past, frame_ends, gives_up, is_open, is_up, IsLegalIn, up_answer}
-use Rattle.policy_audit.proofs.Words.{verdict, ByDial, ByPeer, Opened, Start, Taken, awaits, is_last, is_peer, is_visible, is_whole, opened}
+use Rattle.policy_audit.proofs.Words.{Option, Some, [], cond, false, not, true, ℕ, ◌&&◌, ◌==◌, ◌||◌}
+use Rattle.policy_audit.proofs.Words.{◌↔◌, ◌∷◌, ◌≡◌}
+use Rattle.policy_audit.proofs.Words.{same_decides, same_sym, same, past, frame_ends, gives_up}
+use Rattle.policy_audit.proofs.Words.{is_open, is_up, IsPlayedIn, up_answer}
+use Rattle.policy_audit.proofs.Words.{judgement, ByDial, ByPeer, Opened, Start, Taken, awaits}
+use Rattle.policy_audit.proofs.Words.{is_last, is_peer, is_visible, is_whole, opened}
 use Rattle.policy_audit.proofs.Words.{peer_of, present_link, taken, Entry, Verdict, Accepted, Refused, Event, Opening, Reply}
 use Rattle.policy_audit.proofs.Accepted.{lie, no_value, accepted, peer_by}
-use Rattle.policy_audit.proofs.Walked.{but, unborn, Far, far, frame_fits}
+use Rattle.policy_audit.proofs.Walked.{but, fresh, Far, far, frame_fits}
 use Rattle.policy_audit.proofs.Finished.{whole_by, stays, kept, Completed, completed}
 
 -- ---- Booleans
@@ -52,11 +55,12 @@ module _ (es : List Entry) (n : List ℕ) where
 pub refused_up : (es : List Entry) (k l : ℕ) → ((not (k == l && not (is_whole l es)) && is_open l es) && is_whole l es) ≡ is_up l es
 refused_up es k l = grind arith
 
-module _ (o : Opening) (es : List Entry) (legal : IsLegalIn o es) (n : List ℕ) (e : Entry) (numbered : e.number ≡ length es + 1) where
+module _ (o : Opening) (es : List Entry) (legal : IsPlayedIn o es) (n : List ℕ) (e : Entry)
+    (fresh_is : opened e.number es ≡ None) where
   -- ---- openings
 
   pub none_opened : (l : ℕ) → (e.number == l) ≡ true → opened l es ≡ None
-  none_opened l q = (let there : e.number ≡ l = eqb-true e.number l q in unborn o es legal l (omega (arith, numbered, there)))
+  none_opened l q = subst (λ x. opened x es ≡ None) (eqb-true e.number l q) fresh_is
 
   pub none_taken : (l : ℕ) → (e.number == l) ≡ true → taken l es ≡ []
   none_taken l q = subst (λ x. (elim x as (λ _. Type 0) [ None ↦ taken l es ≡ [] | Some y ↦ Unit {0} ])) (none_opened l q) (weaken (opened l es) (far o es legal l))
@@ -137,7 +141,8 @@ module _ (o : Opening) (es : List Entry) (legal : IsLegalIn o es) (n : List ℕ)
   disconnect_step m r p = fewer es n (but e (Event.Disconnect m) (Accepted r)) (λ l. is_whole l es && is_peer m l es) (same m n) refl (λ l. refl) (λ l. refl)
       (λ l q of whole. ap (λ b. b && is_peer m l es) whole ∙ ap (λ x. option_map_or (λ y. same y m) x false) of ∙ same_sym n m) p
 
-  pub step : (ev : Event) (v : Verdict) → v ≡ verdict (past o es) e.seat ev → Agrees es n → Agrees (but e ev v ∷ es) n
+  pub step : (ev : Event) (v : Verdict) → v ≡ judgement (past o es) e.seat ev → Agrees es n
+      → Agrees (but e ev v ∷ es) n
   step (Event.Frame k body) (Refused r) q p = unchanged es n (but e (Event.Frame k body) (Refused r)) refl (λ l. refused_up es k l) (λ l u. refl) p
   step ev (Refused r) q p = unchanged es n (but e ev (Refused r)) refl (λ l. refl) (λ l u. refl) p
   step (Event.Frame k body) (Accepted r) q p =
@@ -151,6 +156,8 @@ module _ (o : Opening) (es : List Entry) (legal : IsLegalIn o es) (n : List ℕ)
   step ev (Accepted r) q p = unchanged es n (but e ev (Accepted r)) refl (λ l. refl) (λ l u. refl) p
 
 -- in a history that the policy makes, the present link of a peer is the one link of it that is up
-pub agrees : (o : Opening) (es : List Entry) → IsLegalIn o es → (n : List ℕ) → Agrees es n
+pub agrees : (o : Opening) (es : List Entry) → IsPlayedIn o es → (n : List ℕ) → Agrees es n
 agrees o [] legal n = λ l. (λ w. no_value (sym w), λ w. lie (sym w.0))
-agrees o (e ∷ es) legal n = step o es legal.1 n e legal.0.number e.event e.verdict legal.0.verdict (agrees o es legal.1 n)
+agrees o (e ∷ es) legal n =
+    step o es legal.1 n e (fresh o es legal.1 e legal.0) e.event e.verdict legal.0.judged
+    (agrees o es legal.1 n)

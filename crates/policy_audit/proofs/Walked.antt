@@ -1,9 +1,15 @@
 -- How far the handshake of a link is, in a history that the policy makes.
+use Rattle.policy_audit.proofs.Words.{next_number}
+use Rattle.policy_audit.proofs.Words.{start_of}
+use Rattle.policy_audit.proofs.Words.{ap}
+use Rattle.policy_audit.proofs.Words.{History}
 use Rattle.policy_audit.proofs.Words.{arith, refl, subst, sym, and_parts, eqb-true, option_and_then, option_map_or, Bool, List, None}
 use Rattle.policy_audit.proofs.Words.{Option, Some, [], bytes_eq, cond, false, get_or, is_some, length, not, true, ℕ, ◌++◌, ◌+◌, ◌<◌, ◌==◌}
 use Rattle.policy_audit.proofs.Words.{◌∷◌, ◌≡◌, same, Challenge, Name, ack_frame, challenge_frame, name_frame, reply_frame, status_of}
 use Rattle.policy_audit.proofs.Words.{AckFrame, ReplyFrame, StatusWord, digest_of, allowed, cookie, goes_on, checks, dial_checks}
-use Rattle.policy_audit.proofs.Words.{first_broken, frame_checks, past, ends, is_open, IsLegalIn, verdict, AwaitMessage, ByDial, ByPeer}
+use Rattle.policy_audit.proofs.Words.{first_broken, frame_checks, past, ends, is_open, IsNumbered}
+use Rattle.policy_audit.proofs.Words.{IsPlayedIn, IsStep, entered, judgement, AwaitMessage, ByDial}
+use Rattle.policy_audit.proofs.Words.{ByPeer}
 use Rattle.policy_audit.proofs.Words.{Opened, Start, Taken, and_frame, awaited_in, awaits, opened, taken, was_up, whole_side, Entry}
 use Rattle.policy_audit.proofs.Words.{Verdict, Accepted, Refused, Event, Opening}
 use Rattle.policy_audit.proofs.Accepted.{lie, accepted, all_hold, unbroken, open_first, Fits, fits}
@@ -14,7 +20,8 @@ but e ev v = record { number = e.number; seat = e.seat; event = ev; verdict = v;
 
 -- a Name of an allowed peer
 abbrev pub IsNamed : Opening → Taken → Type 0
-IsNamed o a = (f : Name) × (name_frame a.body ≡ Some f) × (allowed (past o a.before) f.name ≡ true) × IsLegalIn o a.before
+IsNamed o a = (f : Name) × (name_frame a.body ≡ Some f) × (allowed (past o a.before) f.name ≡ true)
+    × IsPlayedIn o a.before
 
 -- a Reply to the challenge c, by the cookie for the peer that the Name a gave
 abbrev pub IsReplied : Opening → ℕ → Taken → Taken → Type 0
@@ -61,7 +68,7 @@ FarIn o l es = Far o (opened l es) (taken l es)
 
 -- ---- one more frame
 
-module _ (o : Opening) (es : List Entry) (legal : IsLegalIn o es) (body : List ℕ) where
+module _ (o : Opening) (es : List Entry) (legal : IsPlayedIn o es) (body : List ℕ) where
   abbrev moment : Taken
   moment = record { body = body; before = es }
 
@@ -91,19 +98,59 @@ module _ (o : Opening) (es : List Entry) (legal : IsLegalIn o es) (body : List �
 -- ---- along a history
 
 -- a link whose number no entry has yet
-pub unborn : (o : Opening) (es : List Entry) → IsLegalIn o es → (l : ℕ) → length es < l → opened l es ≡ None
+pub unborn : (o : Opening) (es : List Entry) → IsPlayedIn o es → (l : ℕ) → entered es < l
+    → opened l es ≡ None
 unborn o [] legal l below = refl
-unborn o (e ∷ es) legal l below = by_event e.event e.verdict (unborn o es legal.1 l (omega (arith, below)))
+unborn o (e ∷ es) legal l below =
+    by_event e.event e.verdict legal.0.number (unborn o es legal.1 l (grind (arith, below)))
   where
-    here : e.number ≡ length es + 1
-    here = legal.0.number
+    by_event : (ev : Event) (v : Verdict) → IsNumbered (past o es) e.number ev → opened l es ≡ None
+        → opened l (but e ev v ∷ es) ≡ None
+    by_event (Event.Opened c) (Accepted r) here q = grind (arith, here, below, eqb-true e.number l)
+    by_event (Event.Dial n c) (Accepted r) here q = grind (arith, here, below, eqb-true e.number l)
+    by_event Event.Restart (Accepted r) here q = refl
+    by_event ev (Accepted r) here q = q
+    by_event ev (Refused r) here q = q
 
-    by_event : (ev : Event) (v : Verdict) → opened l es ≡ None → opened l (but e ev v ∷ es) ≡ None
-    by_event (Event.Opened c) (Accepted r) q = grind (arith, here, eqb-true e.number l)
-    by_event (Event.Dial n c) (Accepted r) q = grind (arith, here, eqb-true e.number l)
-    by_event Event.Restart (Accepted r) q = refl
-    by_event ev (Accepted r) q = q
-    by_event ev (Refused r) q = q
+-- no link has the number that losses have
+pub no_zero : (o : Opening) (es : List Entry) → IsPlayedIn o es → opened 0 es ≡ None
+no_zero o [] legal = refl
+no_zero o (e ∷ es) legal = by_event e.event e.verdict legal.0.number (no_zero o es legal.1)
+  where
+    by_event : (ev : Event) (v : Verdict) → IsNumbered (past o es) e.number ev → opened 0 es ≡ None
+        → opened 0 (but e ev v ∷ es) ≡ None
+    by_event (Event.Opened c) (Accepted r) here q = grind (arith, here, eqb-true e.number 0)
+    by_event (Event.Dial n c) (Accepted r) here q = grind (arith, here, eqb-true e.number 0)
+    by_event Event.Restart (Accepted r) here q = refl
+    by_event ev (Accepted r) here q = q
+    by_event ev (Refused r) here q = q
+
+-- no link has the number of the next step
+pub fresh : (o : Opening) (es : List Entry) → IsPlayedIn o es → (e : Entry) → IsStep (past o es) e
+    → opened e.number es ≡ None
+fresh o es legal e made = by_event e.event made.number
+  where
+    next : e.number ≡ entered es + 1 → opened e.number es ≡ None
+    next here = unborn o es legal e.number (omega (arith, here))
+
+    by_number : (b : Bool) → (e.number == 0) ≡ b
+        → ((e.number == 0) ≡ false → e.number ≡ entered es + 1) → opened e.number es ≡ None
+    by_number true q here =
+        subst (λ x. opened x es ≡ None) (sym (eqb-true e.number 0 q)) (no_zero o es legal)
+    by_number false q here = next (here q)
+
+    by_event : (ev : Event) → IsNumbered (past o es) e.number ev → opened e.number es ≡ None
+    by_event (Event.Lost l) here = by_number (e.number == 0) refl here
+    by_event ev here = next here
+
+-- what opens a link has the next number
+pub opens_number : (h : History) (e : Entry) → IsStep h e → (st : Start)
+    → start_of e.event ≡ Some st → e.number ≡ next_number h
+opens_number h e made st begins = by e.event made.number begins
+  where
+    by : (ev : Event) → IsNumbered h e.number ev → start_of ev ≡ Some st → e.number ≡ next_number h
+    by (Event.Lost l) here q = lie (sym (ap is_some q))
+    by ev here q = here
 
 -- an open link was opened
 pub open_opened : (l : ℕ) (es : List Entry) → is_open l es ≡ true → is_some (opened l es) ≡ true
@@ -123,10 +170,13 @@ frame_fits o es seat k body q =
     let found = open_first (is_open k es) (frame_checks (past o es) k body (awaits k es)) q in
     (found.0, fits (past o es) k body (awaits k es) found.1)
 
-pub far : (o : Opening) (es : List Entry) → IsLegalIn o es → (l : ℕ) → FarIn o l es
+pub far : (o : Opening) (es : List Entry) → IsPlayedIn o es → (l : ℕ) → FarIn o l es
 far o [] legal l = refl
-far o (e ∷ es) legal l = by_event e.event e.verdict legal.0.verdict (far o es legal.1 l)
+far o (e ∷ es) legal l = by_event e.event e.verdict legal.0.judged (far o es legal.1 l)
   where
+    new : (e.number == l) ≡ true → opened l es ≡ None
+    new q = subst (λ x. opened x es ≡ None) (eqb-true e.number l q) (fresh o es legal.1 e legal.0)
+
     by_frame : (k : ℕ) (body : List ℕ) → first_broken (checks (past o es) e.seat (Event.Frame k body)) ≡ None → FarIn o l es
         → (b : Bool) → (k == l) ≡ b → Far o (opened l es) (and_frame (taken l es) (cond b (Some (record { body = body; before = es })) None))
     by_frame k body q p true same_link =
@@ -134,13 +184,13 @@ far o (e ∷ es) legal l = by_event e.event e.verdict legal.0.verdict (far o es 
         farther o es legal.1 body (opened l es) (taken l es) (open_opened l es met.0) p met.1
     by_frame k body q p false same_link = p
 
-    by_event : (ev : Event) (v : Verdict) → v ≡ verdict (past o es) e.seat ev → FarIn o l es → FarIn o l (but e ev v ∷ es)
+    by_event : (ev : Event) (v : Verdict) → v ≡ judgement (past o es) e.seat ev → FarIn o l es
+        → FarIn o l (but e ev v ∷ es)
     by_event (Event.Dial n c) (Accepted r) q p =
         let may = unbroken (allowed (past o es) n) (all_hold (dial_checks (past o es) n) (accepted (past o es) e.seat (Event.Dial n c) r q).0).1.0 in
-        let here : e.number ≡ length es + 1 = legal.0.number in
-        grind (arith, p, may, unborn o es legal.1 l, eqb-true e.number l)
+        grind (arith, p, may, new)
     by_event (Event.Frame k body) (Accepted r) q p = by_frame k body (accepted (past o es) e.seat (Event.Frame k body) r q).0 p (k == l) refl
-    by_event (Event.Opened c) (Accepted r) _ p = (let here : e.number ≡ length es + 1 = legal.0.number in grind (arith, p, unborn o es legal.1 l, eqb-true e.number l))
+    by_event (Event.Opened c) (Accepted r) _ p = grind (arith, p, new)
     by_event Event.Restart (Accepted r) q p = refl
     by_event ev (Accepted r) q p = p
     by_event ev (Refused r) q p = p

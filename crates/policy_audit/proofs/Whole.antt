@@ -2,7 +2,8 @@
 use Rattle.policy_audit.proofs.Words.{ap, refl, subst, sym, ◌∙◌, bytes_eq-Decides, option_and_then, option_map_or, Bool, IsTrue, List}
 use Rattle.policy_audit.proofs.Words.{MatchBool, None, Option, Some, [], bytes_eq, false, is_some, length, nat_le, not, true, ℕ, ◌&&◌, ◌++◌}
 use Rattle.policy_audit.proofs.Words.{◌↔◌, ◌∷◌, ◌≡◌, same_decides, has_bit, Challenge, Name, name_frame, digest_of, cookie, IsAdmitted}
-use Rattle.policy_audit.proofs.Words.{IsLetIn, IsReached, IsTrueStatus, LetIn, Reached, History, past, is_open, is_up, IsLegal, IsLegalIn}
+use Rattle.policy_audit.proofs.Words.{IsLetIn, IsReached, IsTrueStatus, LetIn, Reached, History}
+use Rattle.policy_audit.proofs.Words.{past, is_open, is_up, IsPlayed, IsPlayedIn}
 use Rattle.policy_audit.proofs.Words.{ByDial, ByPeer, Opened, Start, Taken, given, given_in, is_name_up, is_visible, is_whole, opened}
 use Rattle.policy_audit.proofs.Words.{and_parts, peer_in, peer_of, present_link, taken, was_up, name_up, Entry, Opening}
 use Rattle.policy_audit.proofs.Accepted.{lie, peer_by}
@@ -90,13 +91,15 @@ module _ (o : Opening) (l : ℕ) (es : List Entry) where
   whole (Some x) op p q = whole_from x.start x.before (taken l es) op refl p q
 
 -- a link that is up was admitted
-pub up-admitted : (h : History) → IsLegal h → (l : ℕ) → IsTrue (is_up l h.entries) → IsAdmitted h l
+pub up-admitted : (h : History) → IsPlayed h → (l : ℕ) → IsTrue (is_up l h.entries) → IsAdmitted h l
 up-admitted h legal l up = whole h.opening l h.entries (opened l h.entries) refl (far h.opening h.entries legal l) (and_parts (is_open l h.entries) (is_whole l h.entries) up).1
 
 -- ---- and back: an open link that was admitted is up
 
-module _ (o : Opening) (l : ℕ) (es : List Entry) (legal : IsLegalIn o es) where
-  let_whole : (c : ℕ) (w : IsLetIn (past o es) l c) → IsLegalIn o w.name.before → whole_by (Some (record { start = ByPeer c; before = w.before })) (w.name ∷ (w.between ++ w.reply ∷ w.later)) ≡ true
+module _ (o : Opening) (l : ℕ) (es : List Entry) (legal : IsPlayedIn o es) where
+  let_whole : (c : ℕ) (w : IsLetIn (past o es) l c) → IsPlayedIn o w.name.before
+      → whole_by (Some (record { start = ByPeer c; before = w.before }))
+      (w.name ∷ (w.between ++ w.reply ∷ w.later)) ≡ true
   let_whole c w past_legal = by (name_up w.peer.name w.name.before) refl w.is_confirmed
     where
       up_is : was_up (w.name ∷ []) ≡ name_up w.peer.name w.name.before
@@ -114,15 +117,19 @@ module _ (o : Opening) (l : ℕ) (es : List Entry) (legal : IsLegalIn o es) wher
   is_whole_link (Reached n c w) =
       ap (λ x. whole_by x (taken l es)) w.opened ∙ ap (λ x. whole_by (Some (record { start = ByDial n c; before = w.before })) x) w.frames ∙ three_of w.status w.asked w.ack w.later
 
-pub admitted-up : (h : History) → IsLegal h → (l : ℕ) → IsTrue (is_open l h.entries) → IsAdmitted h l → IsTrue (is_up l h.entries)
+pub admitted-up : (h : History) → IsPlayed h → (l : ℕ) → IsTrue (is_open l h.entries)
+    → IsAdmitted h l → IsTrue (is_up l h.entries)
 admitted-up h legal l opens w = and_both (is_open l h.entries) (is_whole l h.entries) opens (is_whole_link h.opening l h.entries legal w)
 
 -- a link is up exactly where it is open and was admitted
-pub up-is-admitted : (h : History) → IsLegal h → (l : ℕ) → IsTrue (is_up l h.entries) ↔ (IsTrue (is_open l h.entries) × IsAdmitted h l)
+pub up-is-admitted : (h : History) → IsPlayed h → (l : ℕ)
+    → IsTrue (is_up l h.entries) ↔ (IsTrue (is_open l h.entries) × IsAdmitted h l)
 up-is-admitted h legal l = (λ up. ((and_parts (is_open l h.entries) (is_whole l h.entries) up).0, up-admitted h legal l up), λ w. admitted-up h legal l w.0 w.1)
 
 -- a link of this name is up exactly where an open link of that peer was admitted
-pub name-up-is-admitted : (h : History) → IsLegal h → (n : List ℕ) → IsTrue (name_up n h.entries) ↔ ((l : ℕ) × IsTrue (is_open l h.entries) × (peer_of l h.entries ≡ Some n) × IsAdmitted h l)
+pub name-up-is-admitted : (h : History) → IsPlayed h → (n : List ℕ)
+    → IsTrue (name_up n h.entries)
+    ↔ ((l : ℕ) × IsTrue (is_open l h.entries) × (peer_of l h.entries ≡ Some n) × IsAdmitted h l)
 name-up-is-admitted h legal n = (λ up. by (present_link n h.entries) refl (sym (names_up h.opening h.entries legal n) ∙ up), λ w. back w.0 w.1 w.2 w.3)
   where
     by : (x : Option ℕ) → present_link n h.entries ≡ x → is_some x ≡ true → (l : ℕ) × IsTrue (is_open l h.entries) × (peer_of l h.entries ≡ Some n) × IsAdmitted h l
@@ -147,7 +154,9 @@ gave_by : (o : Opening) (oe : Option Opened) (ts : List Taken) → Far o oe ts �
 gave_by o None ts p q = lie (sym q)
 gave_by o (Some x) ts p q = gave_in o x.before x.start ts p q
 
-pub up-gave : (h : History) → IsLegal h → (l : ℕ) → IsTrue (is_up l h.entries) → (f : Name) × (given l h.entries ≡ Some f) × (peer_of l h.entries ≡ Some f.name) × (is_visible h l ≡ (not h.opening.hidden && has_bit 0 f.flags))
+pub up-gave : (h : History) → IsPlayed h → (l : ℕ) → IsTrue (is_up l h.entries)
+    → (f : Name) × (given l h.entries ≡ Some f) × (peer_of l h.entries ≡ Some f.name)
+    × (is_visible h l ≡ (not h.opening.hidden && has_bit 0 f.flags))
 up-gave h legal l up =
     let gave = gave_by h.opening (opened l h.entries) (taken l h.entries) (far h.opening h.entries legal l) (and_parts (is_open l h.entries) (is_whole l h.entries) up).1 in
     (gave.0, gave.1, gave.2, ap (λ x. not h.opening.hidden && option_map_or {T = Name} {U = Bool} (λ f. has_bit 0 f.flags) x false) gave.1)

@@ -1,13 +1,15 @@
 -- Which rows an entry may change: no others change.
 use Rattle.policy_audit.proofs.Words.{ap, arith, refl, subst, sym, ◌∙◌, eqb-true, not-false, not-true, or_parts, option_map_or, Bool, List}
-use Rattle.policy_audit.proofs.Words.{None, Option, Some, [], cond, false, length, not, true, ℕ, ◌&&◌, ◌++◌, ◌+◌, ◌==◌, ◌||◌, ◌∷◌, ◌≡◌}
+use Rattle.policy_audit.proofs.Words.{None, Option, Some, [], cond, false, not, true, ℕ, ◌&&◌, ◌++◌}
+use Rattle.policy_audit.proofs.Words.{◌==◌, ◌||◌, ◌∷◌, ◌≡◌}
 use Rattle.policy_audit.proofs.Words.{same_decides, same_sym, mentions, same, same_pid, stands_in, Pid, Message, checks, is_about_rows}
 use Rattle.policy_audit.proofs.Words.{is_replaced, may_change, Talk, said_on, stated_in, talk, talk_of, History, past, is_open, is_up}
-use Rattle.policy_audit.proofs.Words.{listed, listed_by, is_local, is_running, own, IsLegalIn, IsNext, up_answer, verdict, with_entry}
+use Rattle.policy_audit.proofs.Words.{listed, listed_by, is_local, is_running, own, IsPlayedIn}
+use Rattle.policy_audit.proofs.Words.{IsStep, up_answer, judgement, just}
 use Rattle.policy_audit.proofs.Words.{Taken, awaits, is_last, is_peer, is_visible, is_whole, opened, peer_of, present_link, taken, Entry}
 use Rattle.policy_audit.proofs.Words.{and_parts, Verdict, Accepted, Refused, Event, Opening, Reply}
 use Rattle.policy_audit.proofs.Accepted.{lie, accepted, all_hold}
-use Rattle.policy_audit.proofs.Walked.{but, frame_fits}
+use Rattle.policy_audit.proofs.Walked.{but, fresh, frame_fits}
 use Rattle.policy_audit.proofs.Finished.{stays, kept, given_kept, Completed}
 use Rattle.policy_audit.proofs.UpLinks.{flip, agrees, none_opened, given_up, done_now, answered, ends_by, other}
 use Rattle.policy_audit.proofs.ChangeLemmas.{stopped_lists}
@@ -37,7 +39,8 @@ module _ (o : Opening) (es : List Entry) (x : Entry) (s g : List ℕ) (p : Pid) 
       → remote (x ∷ es) (present_link p.node (x ∷ es)) ≡ remote es (present_link p.node es) → listed (past o (x ∷ es)) s g p ≡ listed (past o es) s g p
   all_same a b c d = λ i. cond (a i) (b i) (cond (c i) (d i) 0)
 
-module _ (o : Opening) (es : List Entry) (legal : IsLegalIn o es) (e : Entry) (numbered : e.number ≡ length es + 1) (s g : List ℕ) (p : Pid) where
+module _ (o : Opening) (es : List Entry) (legal : IsPlayedIn o es) (e : Entry)
+    (fresh_is : opened e.number es ≡ None) (s g : List ℕ) (p : Pid) where
   abbrev n : List ℕ
   n = p.node
 
@@ -70,7 +73,7 @@ module _ (o : Opening) (es : List Entry) (legal : IsLegalIn o es) (e : Entry) (n
   -- ---- links
 
   other_number : (l : ℕ) → present_link n es ≡ Some l → (e.number == l) ≡ false
-  other_number l q = grind (arith, whole_of l, none_opened o es legal n e numbered l)
+  other_number l q = grind (arith, whole_of l, none_opened o es legal n e fresh_is l)
 
   -- ---- frames
 
@@ -90,7 +93,7 @@ module _ (o : Opening) (es : List Entry) (legal : IsLegalIn o es) (e : Entry) (n
     not_last q within = all_same o es (fr Reply.Done) s g p refl refl refl (remote_same o es (fr Reply.Done) s g p refl (λ l here. each l here (k == l) refl))
       where
         each : (l : ℕ) → present_link n es ≡ Some l → (b : Bool) → (k == l) ≡ b → listed_by (past o (fr Reply.Done ∷ es)) s g p l ≡ listed_by (past o es) s g p l
-        each l here false a = grind (arith, given_up o es legal n e numbered k body l)
+        each l here false a = grind (arith, given_up o es legal n e fresh_is k body l)
         each l here true a =
             let moment : Taken = record { body = body; before = es } in
             let one : k ≡ l = eqb-true k l a in
@@ -113,15 +116,22 @@ module _ (o : Opening) (es : List Entry) (legal : IsLegalIn o es) (e : Entry) (n
           by : (y : Option ℕ) → present_link n es ≡ y → (b : Bool) → same c.peer n ≡ b → option_map_or (λ l. not (option_map_or (λ j. j == l) (cond b (Some k) y) false)) y false ≡ false
               → remote o es (fr up_reply) s g p (fr up_reply ∷ es) (cond b (Some k) y) ≡ remote o es (fr up_reply) s g p es y
           by None q b a m = grind (arith, new_lists)
-          by (Some l) q b a m = grind (arith, other o es legal n e numbered k body opens last c l, ends_by o es legal n e numbered k body opens last c l, up_of l q, same_sym n c.peer)
+          by (Some l) q b a m =
+              grind (
+                arith,
+                other o es legal n e fresh_is k body opens last c l,
+                ends_by o es legal n e fresh_is k body opens last c l,
+                up_of l q,
+                same_sym n c.peer,
+              )
 
     frame_rows : (r : Reply) → is_open k es ≡ true → r ≡ cond (is_last (awaits k es)) (up_answer (past o es) k) Reply.Done → may_change es (fr r) s g p ≡ false → same_rows (fr r)
     frame_rows r opens q within = by (is_last (awaits k es)) refl
       where
         by : (b : Bool) → is_last (awaits k es) ≡ b → same_rows (fr r)
         by true last =
-            let c = done_now o es legal n e numbered k body opens last in
-            let is = q ∙ answered o es legal n e numbered k body opens last c in
+            let c = done_now o es legal n e fresh_is k body opens last in
+            let is = q ∙ answered o es legal n e fresh_is k body opens last c in
             subst (λ x. same_rows (fr x)) (sym is) (last_rows opens last c (or_right _ _ (subst (λ x. may_change es (fr x) s g p ≡ false) is within)))
         by false m =
             let is = q ∙ ap (λ b. cond b (up_answer (past o es) k) Reply.Done) m in
@@ -129,7 +139,8 @@ module _ (o : Opening) (es : List Entry) (legal : IsLegalIn o es) (e : Entry) (n
 
   -- ---- each event
 
-  pub rows_step : (ev : Event) (v : Verdict) → v ≡ verdict (past o es) e.seat ev → may_change es (but e ev v) s g p ≡ false → same_rows (but e ev v)
+  pub rows_step : (ev : Event) (v : Verdict) → v ≡ judgement (past o es) e.seat ev
+      → may_change es (but e ev v) s g p ≡ false → same_rows (but e ev v)
   rows_step ev (Refused r) q within = rows_left (past o es) e ev (Refused r) refl s g p
   rows_step (Event.StartScope t) (Accepted r) q within = starts_scope t r (not-true (is_running (past o es) t) (not-false (not (is_running (past o es) t)) (all_hold (checks (past o es) e.seat (Event.StartScope t)) (accepted (past o es) e.seat (Event.StartScope t) r q).0).0))
   rows_step (Event.Frame k body) (Accepted r) q within =
@@ -151,5 +162,9 @@ module _ (o : Opening) (es : List Entry) (legal : IsLegalIn o es) (e : Entry) (n
   rows_step ev (Accepted r) q within = rows_left (past o es) e ev (Accepted r) refl s g p
 
 -- no row changes but those that the entry may change
-pub rows_within : (h : History) (e : Entry) → IsNext h e → IsLegalIn h.opening h.entries → (s g : List ℕ) (p : Pid) → may_change h.entries e s g p ≡ false → listed (with_entry h e) s g p ≡ listed h s g p
-rows_within h e next legal s g p within = rows_step h.opening h.entries legal e next.number s g p e.event e.verdict next.verdict within
+pub rows_within : (h : History) (e : Entry) → IsStep h e → IsPlayedIn h.opening h.entries
+    → (s g : List ℕ) (p : Pid) → may_change h.entries e s g p ≡ false
+    → listed (just h e) s g p ≡ listed h s g p
+rows_within h e made legal s g p within =
+    rows_step h.opening h.entries legal e (fresh h.opening h.entries legal e made) s g p e.event
+    e.verdict made.judged within

@@ -24,12 +24,13 @@ pub use Rattle.std.specs.declared.cmp.Ordering.{Ordering}
 pub use Rattle.std.specs.declared.cmp.Ordering.TheVariants.{Equal, Greater, Less}
 unfoldable pub use Rattle.md5.specs.Md5.{block_words, compress, digest_bytes, hash_after, md5, rounds}
 pub use Rattle.dist_types.proofs.Listings.{all_append, ascending_rises, ascending_stands, listing_counts, one_listing, one_of_many}
-pub use Rattle.dist_types.proofs.Listings.{same_ascending, same_length, same_rising}
+pub use Rattle.dist_types.proofs.Listings.{fewer_length, same_ascending, same_length, same_rising}
 pub use Rattle.dist_types.proofs.Orders.{exact_pids, exact_rows, in_one_group, pids_total, rows_total, same_decides, same_pid_decides}
 pub use Rattle.dist_types.proofs.Orders.{same_row_decides, same_sym, texts_total}
 pub use Rattle.dist_types.proofs.Totals.{how_many_append}
 pub use Rattle.dist_types.specs.Difference.{IsDifference, IsProper, change_unless_empty, is_empty}
 pub use Rattle.dist_types.specs.Flags.{has_bit}
+pub use Rattle.dist_types.specs.Listing.{max_rows}
 pub use Rattle.dist_types.specs.Listing.{Ascends, IsGroupListing, IsListing, IsPidListing, IsRowListing, Rises, ascending, how_many}
 pub use Rattle.dist_types.specs.Listing.{is_among, listing, mentions, occurrences, placed, same, same_pid, same_row, stands_in, total}
 pub use Rattle.dist_types.specs.Order.{pid_cmp, row_cmp, text_cmp}
@@ -53,8 +54,10 @@ pub use Rattle.policy_audit.specs.Checks.{runs, status_checks}
 pub use Rattle.policy_audit.specs.Contents.{contents, groups_named, local_groups, local_members, local_rows, pids_named, row, rows_brought}
 pub use Rattle.policy_audit.specs.Contents.{rows_named}
 pub use Rattle.policy_audit.specs.Effects.{IsAsOpen, IsSameLink, IsUntouched, is_about_rows, is_replaced, leaves_rows, may_change}
+pub use Rattle.policy_audit.specs.Effects.{concerns, may_change_with}
 pub use Rattle.policy_audit.specs.Hearing.{Said, Stopped, Talk, heard, hears, message_taken, rows_of, said_on, stated_in, talk, talk_at, talk_in}
 pub use Rattle.policy_audit.specs.Hearing.{talk_of, tells, told}
+pub use Rattle.policy_audit.specs.History.{audited, entered, is_entered, just, lose, loss}
 pub use Rattle.policy_audit.specs.History.{History, Moment, creation, events, first_of, is_accepted, is_restart, past, present}
 pub use Rattle.policy_audit.specs.Links.{ends, frame_ends, gives_up, is_dial_to, is_dialling, is_open, is_opened_by, is_unfinished_dial}
 pub use Rattle.policy_audit.specs.Links.{is_up, links, named_by, share_peer}
@@ -62,11 +65,15 @@ pub use Rattle.policy_audit.specs.Listed.{is_from, listed, listed_by}
 pub use Rattle.policy_audit.specs.Monitors.{Target, group_updates, is_watched, monitor, updates_since}
 pub use Rattle.policy_audit.specs.OutFrame.{OutFrame}
 pub use Rattle.policy_audit.specs.Owed.{digest_for, drops, frame_owes, if_told, if_visible, is_kept, owed, own_challenge, own_name_frame}
+pub use Rattle.policy_audit.specs.Owed.{asks, discovers, message_owes, is_slow, max_waiting}
+pub use Rattle.policy_audit.specs.Owed.{may_tell, slow_links, with_entry}
 pub use Rattle.policy_audit.specs.Owed.{refusal_owes, waiting, waiting_in, welcome, wide}
 pub use Rattle.policy_audit.specs.Own.{is_exit, is_exit_of, is_local, is_running, joined, lives, own, running_scopes, scopes_started}
 pub use Rattle.policy_audit.specs.Own.{spawned, starts}
-pub use Rattle.policy_audit.specs.Policy.{IsAnswered, IsLegal, IsLegalIn, IsNext, after, answer, bare_entry, entry_of, is_full, judged}
-pub use Rattle.policy_audit.specs.Policy.{up_answer, verdict, with_entry}
+pub use Rattle.policy_audit.specs.Policy.{IsLegal, IsLegalIn, IsNext, IsNumbered, IsPlayed}
+pub use Rattle.policy_audit.specs.Policy.{IsPlayedIn, IsStep, after, answer}
+pub use Rattle.policy_audit.specs.Policy.{bare_entry, entry_of, history, is_full, judged, judgement}
+pub use Rattle.policy_audit.specs.Policy.{next_number, up_answer, verdict}
 pub use Rattle.policy_audit.specs.Scripts.{Call, Shown, play, show, verdicts}
 pub use Rattle.policy_audit.specs.Sides.{AwaitAck, AwaitAnswer, AwaitChallenge, AwaitMessage, AwaitName, AwaitReply, AwaitStatus, Awaited}
 pub use Rattle.policy_audit.specs.Sides.{ByDial, ByPeer, Opened, Start, Taken, and_frame, awaited_in, awaits, challenge_in, frame_of, given}

@@ -19,7 +19,7 @@ use Rattle.policy_audit.specs.declared.event.Event.{Event}
 use Rattle.policy_audit.specs.declared.event.Event.TheVariants as event
 use Rattle.policy_audit.specs.declared.rule.Rule.{Rule}
 use Rattle.policy_audit.specs.declared.rule.Rule.TheVariants as rule
-use Rattle.policy_audit.specs.History.{History, creation}
+use Rattle.policy_audit.specs.History.{audit_of, History, creation}
 use Rattle.policy_audit.specs.Admission.{allowed, allow_list, cookie_peers, different}
 use Rattle.policy_audit.specs.Own.{is_running, running_scopes, living, is_local, lives, own}
 use Rattle.policy_audit.specs.Sides.{peer_of, is_peer, is_name_up, is_visible, Awaited, AwaitName, AwaitAnswer, AwaitReply, AwaitStatus, AwaitChallenge, AwaitAck, AwaitMessage, awaits}
@@ -193,8 +193,9 @@ checks h seat (event.Groups s) = runs h s ∷ []
 checks h seat (event.LocalGroups s) = runs h s ∷ []
 checks h seat (event.Monitor s g) = runs h s ∷ []
 checks h seat (event.MonitorScope s) = runs h s ∷ []
-checks h seat (event.Demonitor k) = unless (is_some (monitor h seat k)) rule.NoMonitor ∷ []
-checks h seat (event.Updates k) = unless (is_some (monitor h seat k)) rule.NoMonitor ∷ []
+checks h seat (event.Demonitor k) =
+    unless (is_some (monitor (audit_of h) seat k)) rule.NoMonitor ∷ []
+checks h seat (event.Updates k) = unless (is_some (monitor (audit_of h) seat k)) rule.NoMonitor ∷ []
 checks h seat (event.Dial n c) = dial_checks h n
 checks h seat (event.Opened c) = has_link_room h ∷ []
 checks h seat (event.Lost l) = unless (is_kept h l) rule.NoSuchLink ∷ []

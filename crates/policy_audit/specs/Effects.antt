@@ -15,9 +15,9 @@ use Rattle.policy_audit.specs.Sides.{present_link, opened, taken, given, peer_of
 use Rattle.policy_audit.specs.Links.{links, is_open, is_up}
 use Rattle.policy_audit.specs.Hearing.{said_on, talk, heard, told}
 use Rattle.policy_audit.specs.Listed.{listed}
-use Rattle.policy_audit.specs.Owed.{waiting}
+use Rattle.policy_audit.specs.Owed.{waiting, with_entry}
 use Rattle.policy_audit.specs.Monitors.{monitor, updates}
-use Rattle.policy_audit.specs.Policy.{IsAnswered, IsLegal}
+use Rattle.policy_audit.specs.Policy.{IsStep, IsPlayed}
 
 -- cookies, the allow list, new processes, queries, monitors and taken frames concern no row
 abbrev pub is_quiet : Event → Bool
@@ -68,6 +68,12 @@ concerns es s g p e = false
 abbrev pub may_change : List Entry → Entry → List ℕ → List ℕ → Pid → Bool
 may_change es e s g p = (is_accepted e.verdict && concerns es s g p e.event) || is_replaced p.node es (e ∷ es)
 
+-- the same of an entry with the losses that come with it
+abbrev pub may_change_with : History → Entry → List ℕ → List ℕ → Pid → Bool
+may_change_with h e s g p =
+    (is_accepted e.verdict && concerns h.entries s g p e.event) || is_replaced p.node h.entries
+    (with_entry h e).entries
+
 -- what is said of link l is the same after these entries as after those, but for whether it is open
 pub record IsSameLink (l : ℕ) (old new : List Entry) : Type 0 where
   pub opened : opened l new ≡ opened l old
@@ -78,10 +84,10 @@ pub record IsSameLink (l : ℕ) (old new : List Entry) : Type 0 where
   pub whole : is_whole l new ≡ is_whole l old
   pub talk : talk l new ≡ talk l old
 
--- the entry accepts this event, as the policy does after this legal history
+-- the step accepts this event, as the policy does after this history
 pub record IsAccepted (h : History) (e : Entry) (ev : Event) : Type 0 where
-  pub legal : IsLegal h
-  pub answered : IsAnswered h e
+  pub legal : IsPlayed h
+  pub answered : IsStep h e
   pub accepts : IsTrue (is_accepted e.verdict)
   pub is : e.event ≡ ev
 

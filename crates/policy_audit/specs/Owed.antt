@@ -1,5 +1,6 @@
 -- The frames that a node owes to its links, and those that wait.
-use Rattle.std.specs.Prelude.{ℕ, min, Bool, true, false, cond, ◌&&◌, ◌||◌, not, ◌==◌, List, [], ◌∷◌, ◌++◌, map}
+use Rattle.std.specs.Prelude.{ℕ, min, Bool, true, false, cond, ◌&&◌, ◌||◌, not, ◌==◌, nat_lt}
+use Rattle.std.specs.Prelude.{length, List, [], ◌∷◌, ◌++◌, Option, Some, map}
 use Rattle.std.specs.List.{flat_map, filter}
 use Rattle.std.specs.Option.{option_map_or}
 use Rattle.dist_types.specs.declared.row.Row.{Row}
@@ -24,11 +25,13 @@ use Rattle.policy_audit.specs.declared.entry.Verdict.{Verdict}
 use Rattle.policy_audit.specs.declared.entry.Verdict.TheVariants.{Accepted, Refused}
 use Rattle.policy_audit.specs.declared.entry.Entry.{Entry}
 use Rattle.policy_audit.specs.OutFrame.{OutFrame}
-use Rattle.policy_audit.specs.History.{History, past, is_accepted, creation}
+use Rattle.policy_audit.specs.History.{History, past, is_accepted, creation, just, lose}
 use Rattle.policy_audit.specs.Admission.{cookie}
 use Rattle.policy_audit.specs.Own.{running_scopes, own}
-use Rattle.policy_audit.specs.Sides.{challenge_in, opened, peer_of, is_name_up, is_visible, Awaited, AwaitName, AwaitAnswer, AwaitReply, AwaitStatus, AwaitChallenge, AwaitAck, AwaitMessage, awaits}
-use Rattle.policy_audit.specs.Links.{ends, is_open, is_up, is_dialling}
+use Rattle.policy_audit.specs.Sides.{challenge_in, opened, peer_of, is_name_up, is_visible, Awaited}
+use Rattle.policy_audit.specs.Sides.{AwaitName, AwaitAnswer, AwaitReply, AwaitStatus}
+use Rattle.policy_audit.specs.Sides.{AwaitChallenge, AwaitAck, AwaitMessage, awaits, is_whole}
+use Rattle.policy_audit.specs.Links.{ends, is_open, is_up, is_dialling, links}
 use Rattle.policy_audit.specs.Hearing.{said_on, heard, told}
 use Rattle.policy_audit.specs.Contents.{row, local_rows}
 
@@ -140,3 +143,39 @@ waiting h l = waiting_in h.opening l h.entries
 -- kept: open, or ended by its own refused frame with frames that still wait
 abbrev pub is_kept : History → ℕ → Bool
 is_kept h l = is_open l h.entries || not (is_empty (waiting h l))
+
+-- ---- a slow peer's link ends
+
+-- the most frames that wait for a link
+abbrev pub max_waiting : ℕ
+max_waiting = 1024
+
+-- too many frames wait for link l, which is open
+abbrev pub is_slow : Opening → List Entry → ℕ → Bool
+is_slow o es l = is_open l es && nat_lt max_waiting (length (waiting_in o l es))
+
+-- the message asks for the rows of a scope
+abbrev pub asks : Option Message → Bool
+asks (Some (said.Discover s)) = true
+asks m = false
+
+-- the events that may owe a message to a link that was up before them: of frames a Discover alone
+abbrev pub may_tell : List Entry → Event → Bool
+may_tell es (event.StartScope s) = true
+may_tell es (event.StopScope s) = true
+may_tell es (event.Exit p) = true
+may_tell es (event.Join s g ps) = true
+may_tell es (event.Leave s g ps) = true
+may_tell es (event.Frame l body) = is_whole l es && asks (said_on l es body)
+may_tell es e = false
+
+-- the links for which too many frames wait
+abbrev pub slow_links : History → List ℕ
+slow_links h = filter (is_slow h.opening h.entries) (links h.entries)
+
+-- the history after an entry. Where it is accepted,
+-- each link for which it leaves too many frames is lost with it.
+abbrev pub with_entry : History → Entry → History
+with_entry h e =
+    cond (is_accepted e.verdict) (past h.opening (lose (slow_links (just h e)) (e ∷ h.entries)))
+    (just h e)

@@ -1,5 +1,6 @@
 -- The written policy: what each event is answered after a history, and which histories it makes.
-use Rattle.std.specs.Prelude.{◌≡◌, ℕ, ◌+◌, ◌<◌, Bool, cond, not, nat_lt, List, [], ◌∷◌, Option, Some, None, length}
+use Rattle.std.specs.Prelude.{◌≡◌, ℕ, ◌+◌, ◌<◌, ◌==◌, Bool, false, cond, not, nat_lt, List, [], ◌∷◌}
+use Rattle.std.specs.Prelude.{Option, Some, None}
 use Rattle.std.specs.Option.{option_map_or, unwrap_or}
 use Rattle.policy_audit.specs.declared.opening.Opening.{Opening}
 use Rattle.policy_audit.specs.declared.event.Event.{Event}
@@ -11,18 +12,18 @@ use Rattle.policy_audit.specs.declared.rule.Rule.TheVariants as rule
 use Rattle.policy_audit.specs.declared.entry.Verdict.{Verdict}
 use Rattle.policy_audit.specs.declared.entry.Verdict.TheVariants.{Accepted, Refused}
 use Rattle.policy_audit.specs.declared.entry.Entry.{Entry}
-use Rattle.policy_audit.specs.History.{History, past, creation}
+use Rattle.policy_audit.specs.History.{History, past, creation, audited, audit_of, entered}
 use Rattle.policy_audit.specs.Own.{spawned}
 use Rattle.policy_audit.specs.Sides.{given, peer_of, is_visible, awaits, is_last}
 use Rattle.policy_audit.specs.Contents.{members, local_members, groups, local_groups, contents}
 use Rattle.policy_audit.specs.Changes.{IsChange, change}
-use Rattle.policy_audit.specs.Owed.{waiting}
+use Rattle.policy_audit.specs.Owed.{waiting, with_entry}
 use Rattle.policy_audit.specs.Monitors.{updates}
 use Rattle.policy_audit.specs.Checks.{first_broken, checks}
 
 -- the number of the next entry
 abbrev pub next_number : History → ℕ
-next_number h = length h.entries + 1
+next_number h = entered h.entries + 1
 
 -- the peer of link l, the creation that it gave, and whether the link is visible
 abbrev pub up_answer : History → ℕ → Reply
@@ -36,7 +37,7 @@ answer h seat (event.Groups s) = reply.Groups (groups h s)
 answer h seat (event.LocalGroups s) = reply.Groups (local_groups h s)
 answer h seat (event.Monitor s g) = reply.Ref (next_number h) (members h s g)
 answer h seat (event.MonitorScope s) = reply.ScopeRef (next_number h) (contents h s)
-answer h seat (event.Updates k) = reply.Updates (updates h seat k)
+answer h seat (event.Updates k) = reply.Updates (updates (audit_of h) seat k)
 answer h seat (event.Take l) = reply.Out (waiting h l)
 answer h seat event.Spawn = reply.Pid (record { node = h.opening.name; creation = creation h; number = spawned h + 1 })
 answer h seat (event.Opened c) = reply.Link (next_number h)
@@ -46,42 +47,62 @@ answer h seat e = reply.Done
 
 -- the audit has as many entries as it may have
 abbrev pub is_full : History → Bool
-is_full h = not (nat_lt (length h.entries) h.opening.entries)
+is_full h = not (nat_lt (entered h.entries) h.opening.entries)
 
 -- refused by this rule, or else accepted
 abbrev pub judged : History → ℕ → Event → Option Rule → Verdict
 judged h seat e (Some r) = Refused r
 judged h seat e None = Accepted (answer h seat e)
 
+-- the policy's verdict on a seat's event after this history, but for the limit of the audit
+abbrev pub judgement : History → ℕ → Event → Verdict
+judgement h seat e = judged h seat e (first_broken (checks h seat e))
+
 -- the policy's verdict on a seat's event after this history
 abbrev pub verdict : History → ℕ → Event → Verdict
-verdict h seat e = cond (is_full h) (Refused rule.EntriesFull) (judged h seat e (first_broken (checks h seat e)))
-
--- the history with one entry more
-abbrev pub with_entry : History → Entry → History
-with_entry h e = past h.opening (e ∷ h.entries)
-
--- the entry answers its event as the policy does after this history
-pub record IsAnswered (h : History) (e : Entry) : Type 0 where
-  pub room : length h.entries < h.opening.entries
-  pub number : e.number ≡ next_number h
-  pub verdict : e.verdict ≡ verdict h e.seat e.event
+verdict h seat e = cond (is_full h) (Refused rule.EntriesFull) (judgement h seat e)
 
 -- the entry is what the policy makes of its event after this history
 pub record IsNext (h : History) (e : Entry) : Type 0 where
-  pub room : length h.entries < h.opening.entries
+  pub room : entered h.entries < h.opening.entries
   pub number : e.number ≡ next_number h
   pub verdict : e.verdict ≡ verdict h e.seat e.event
   pub change : IsChange h (with_entry h e) e.change
 
--- each entry is what the policy makes of its event after those before it
+-- the history of an audit with these entries
+abbrev pub history : Opening → List Entry → History
+history o [] = past o []
+history o (e ∷ es) = with_entry (history o es) e
+
+-- each entry of an audit is what the policy makes of its event after those before it
 abbrev pub IsLegalIn : Opening → List Entry → Type 0
 IsLegalIn o [] = Unit {0}
-IsLegalIn o (e ∷ es) = IsNext (past o es) e × IsLegalIn o es
+IsLegalIn o (e ∷ es) = IsNext (history o es) e × IsLegalIn o es
 
--- the histories that the policy makes
-abbrev pub IsLegal : History → Type 0
-IsLegal h = IsLegalIn h.opening h.entries
+-- the histories that the policy makes: those of the audits that it makes
+pub record IsLegal (h : History) : Type 0 where
+  pub entries : IsLegalIn h.opening (audited h.entries)
+  pub whole : h ≡ history h.opening (audited h.entries)
+
+-- ---- each step of such a history, the losses among them
+
+-- an entry of the audit has the next number, and the loss of a link has none
+abbrev pub IsNumbered : History → ℕ → Event → Type 0
+IsNumbered h n (event.Lost l) = (n == 0) ≡ false → n ≡ next_number h
+IsNumbered h n e = n ≡ next_number h
+
+-- the step answers its event as the policy does after this history
+pub record IsStep (h : History) (e : Entry) : Type 0 where
+  pub number : IsNumbered h e.number e.event
+  pub judged : e.verdict ≡ judgement h e.seat e.event
+
+-- each step answers its event as the policy does after those before it
+abbrev pub IsPlayedIn : Opening → List Entry → Type 0
+IsPlayedIn o [] = Unit {0}
+IsPlayedIn o (e ∷ es) = IsStep (past o es) e × IsPlayedIn o es
+
+abbrev pub IsPlayed : History → Type 0
+IsPlayed h = IsPlayedIn h.opening h.entries
 
 -- ---- the same, computed
 

@@ -1,4 +1,5 @@
-use Rattle.group_monitors.proofs.Words.{◌∙◌, sym, ap, inl, inr, Some, updates_behind, counted}
+use Rattle.group_monitors.proofs.Words.{◌∙◌, ◌++◌, sym, ap, inl, inr, Some, history, updates_behind}
+use Rattle.group_monitors.proofs.Words.{counted}
 use Rattle.group_monitors.proofs.Differences.{told, counted_append, contents_count}
 use Rattle.group_monitors.proofs.laws.tells_the_listing.Goals as goal
 
@@ -6,17 +7,19 @@ pub returns-clause-listed : goal.returns-clause-listed
 returns-clause-listed c = told
 
 pub returns-clause-group : goal.returns-clause-group
-returns-clause-group c = λ h k legal more m at g watched p.
-    ap (counted g p (updates_behind h.entries m))
-    ((c.lists_ascend.ensures.members k m.scope g).counts p)
-    ∙ told h k legal more m at g (inl watched) p
-    ∙ ap Some (sym ((c.lists_ascend.ensures.members h m.scope g).counts p))
+returns-clause-group c = λ o es ks legal m at g watched p.
+    ap (counted g p (updates_behind (es ++ ks) m))
+    ((c.lists_ascend.ensures.members (history o ks) m.scope g).counts p)
+    ∙ told o es ks legal m at g (inl watched) p
+    ∙ ap Some (sym ((c.lists_ascend.ensures.members (history o (es ++ ks)) m.scope g).counts p))
 
 pub returns-clause-scope : goal.returns-clause-scope
-returns-clause-scope c = λ h k legal more m at watched g p.
-    ap (counted g p (updates_behind h.entries m)) (contents_count k m.scope g p
+returns-clause-scope c = λ o es ks legal m at watched g p.
+    let k = history o ks in
+    let h = history o (es ++ ks) in
+    ap (counted g p (updates_behind (es ++ ks) m)) (contents_count k m.scope g p
     (c.lists_ascend.ensures.members k m.scope g) (c.lists_ascend.ensures.groups k m.scope))
-    ∙ told h k legal more m at g (inr watched) p
+    ∙ told o es ks legal m at g (inr watched) p
     ∙ ap Some (sym (contents_count h m.scope g p (c.lists_ascend.ensures.members h m.scope g)
     (c.lists_ascend.ensures.groups h m.scope)))
 

@@ -1,8 +1,9 @@
 use Rattle.policy_audit.proofs.ChangeLemmas.{change_is, next_is}
+use Rattle.policy_audit.proofs.Losses.{legal_next}
 use Rattle.policy_audit.proofs.laws.goes_on.Goals as goal
 
 pub returns-clause-legal : goal.returns-clause-legal
-returns-clause-legal c = λ h e. (λ legal. legal, λ both. both)
+returns-clause-legal c = legal_next
 
 pub returns-clause-next : goal.returns-clause-next
 returns-clause-next c = next_is

@@ -1,4 +1,4 @@
-use Rattle.policy_audit.proofs.Words.{sym, with_entry}
+use Rattle.policy_audit.proofs.Words.{sym, just}
 use Rattle.policy_audit.proofs.ChangeLemmas.{no_change}
 use Rattle.policy_audit.proofs.Effects.{entry_rows, entry_link}
 use Rattle.policy_audit.proofs.Within.{rows_within}
@@ -8,7 +8,7 @@ pub returns-clause-listings : goal.returns-clause-listings
 returns-clause-listings c = entry_rows
 
 pub returns-clause-no_change : goal.returns-clause-no_change
-returns-clause-no_change c = λ h e q. no_change h (with_entry h e) (λ s g p. sym (entry_rows h e q s g p))
+returns-clause-no_change c = λ h e q. no_change h (just h e) (λ s g p. sym (entry_rows h e q s g p))
 
 pub returns-clause-within : goal.returns-clause-within
 returns-clause-within c = λ h e legal s g p. rows_within h e legal.0 legal.1 s g p

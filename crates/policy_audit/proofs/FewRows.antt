@@ -1,12 +1,16 @@
--- A node has few own rows in each scope, and so do the messages that it owes.
-use Rattle.frame_laws.proofs
-use proofs.Words.{max_rows, Accepted, accepted, all_hold, ap, arith, Bool, but, cond}
-use proofs.Words.{count_in_group, Entry, Event, false, fewer_length, History, how_many_append}
-use proofs.Words.{IsLegal, IsLegalIn, IsListing, join_checks, leb-true, length, length-append, List}
-use proofs.Words.{local_rows, local_rows_are, map, mentions, nat_le, occurrences, Opening, own}
-use proofs.Words.{past, Pid, refl, Refused, Reply, Row, row, same, same_decides, same_row}
-use proofs.Words.{same_row_decides, suc, true, unbroken, Verdict, verdict, ℕ, [], ◌++◌, ◌+◌, ◌∷◌}
-use proofs.Words.{◌≡◌, ◌≤◌}
+-- A node has few own rows in each scope.
+use Rattle.policy_audit.proofs.Words.{judgement, max_rows, Accepted, ap, arith, Bool, cond, Entry}
+use Rattle.policy_audit.proofs.Words.{Event, false, fewer_length, History, how_many_append}
+use Rattle.policy_audit.proofs.Words.{IsPlayed, IsPlayedIn, IsListing, join_checks, leb-true}
+use Rattle.policy_audit.proofs.Words.{length, length-append, List, local_rows, map, mentions}
+use Rattle.policy_audit.proofs.Words.{nat_le, occurrences, Opening, own, past, Pid, refl, Refused}
+use Rattle.policy_audit.proofs.Words.{Reply, Row, row, same, same_decides, same_row}
+use Rattle.policy_audit.proofs.Words.{same_row_decides, suc, true, Verdict, ℕ, [], ◌++◌, ◌+◌, ◌∷◌}
+use Rattle.policy_audit.proofs.Words.{◌≡◌, ◌≤◌}
+use Rattle.policy_audit.proofs.Accepted.{accepted, all_hold, unbroken}
+use Rattle.policy_audit.proofs.Walked.{but}
+use Rattle.policy_audit.proofs.Lists.{count_in_group}
+use Rattle.policy_audit.proofs.OwnRows.{local_rows_are}
 
 length_map : {A B : Type 0} (f : A → B) (xs : List A) → length (map f xs) ≡ length xs
 length_map f [] = refl
@@ -50,7 +54,7 @@ module _ (o : Opening) (es : List Entry) (e : Entry) (s : List ℕ) where
   adds_none ev v less few_yet = grind (arith, fewer (past o es) s (past o (but e ev v ∷ es)) less)
 
   joins : (t g : List ℕ) (ps : List Pid) (r : Reply)
-      → Accepted r ≡ verdict (past o es) e.seat (Event.Join t g ps)
+      → Accepted r ≡ judgement (past o es) e.seat (Event.Join t g ps)
       → length (local_rows (past o es) s) ≤ max_rows
       → (b : Bool) → same t s ≡ b
       → length (local_rows (past o (but e (Event.Join t g ps) (Accepted r) ∷ es)) s) ≤ max_rows
@@ -67,7 +71,7 @@ module _ (o : Opening) (es : List Entry) (e : Entry) (s : List ℕ) where
   joins t g ps r q few_yet false other = adds_none (Event.Join t g ps) (Accepted r)
       (λ f p. grind (arith, other)) few_yet
 
-  step : (ev : Event) (v : Verdict) → v ≡ verdict (past o es) e.seat ev
+  step : (ev : Event) (v : Verdict) → v ≡ judgement (past o es) e.seat ev
       → length (local_rows (past o es) s) ≤ max_rows
       → length (local_rows (past o (but e ev v ∷ es)) s) ≤ max_rows
   step ev (Refused r) q few_yet = few_yet
@@ -83,10 +87,10 @@ module _ (o : Opening) (es : List Entry) (e : Entry) (s : List ℕ) where
   step Event.Restart (Accepted r) q few_yet = grind (arith, adds_none)
   step ev (Accepted r) q few_yet = adds_none ev (Accepted r) (λ f p. omega arith) few_yet
 
-few_in : (o : Opening) (es : List Entry) → IsLegalIn o es → (s : List ℕ)
+few_in : (o : Opening) (es : List Entry) → IsPlayedIn o es → (s : List ℕ)
     → length (local_rows (past o es) s) ≤ max_rows
 few_in o [] legal s = grind arith
-few_in o (e ∷ es) legal s = step o es e s e.event e.verdict legal.0.verdict (few_in o es legal.1 s)
+few_in o (e ∷ es) legal s = step o es e s e.event e.verdict legal.0.judged (few_in o es legal.1 s)
 
-pub few_local : (h : History) → IsLegal h → (s : List ℕ) → length (local_rows h s) ≤ max_rows
+pub few_local : (h : History) → IsPlayed h → (s : List ℕ) → length (local_rows h s) ≤ max_rows
 few_local h legal s = few_in h.opening h.entries legal s
