@@ -22,8 +22,12 @@ build() {
   else
     tar -C "$root" --exclude=out -cf - crates/dist_types crates/scope_core HANDLES | tar -C "$place" -xf -
   fi
-  sed -i "s/MAX_ROWS: usize = 4096/MAX_ROWS: usize = 65536/" "$place"/crates/*/src/*.rt
   cp "$root/bench/rows/main.rt.txt" "$place/crates/rows/src/main.rt"
+  # Once the limit was a constant of the crates.
+  if ! grep -q 'limit: u32' "$place/crates/scope_core/src/table.rt"; then
+    sed -i "s/MAX_ROWS: usize = 4096/MAX_ROWS: usize = 65536/" "$place"/crates/*/src/*.rt
+    sed -i 's/, LIMIT)/)/' "$place/crates/rows/src/main.rt"
+  fi
   printf '%s\n' 'dist_types: thiserror' 'scope_core: dist_types indexmap thiserror' \
     'rows: scope_core dist_types anyhow' >"$place/crates.txt"
   ready_to_build "$place/crates/rows"

@@ -12,6 +12,9 @@ use std::sync::Wait;
 
 type Text = &'static str;
 
+/// The most rows of one node, as the calls are given it.
+const LIMIT: u32 = 4096;
+
 /// Processes by their numbers.
 type Numbers = &'static [u64];
 
@@ -193,7 +196,7 @@ impl Own {
 
     fn of_crowd(&mut self, deed: Deed, crowd: &Crowd) -> Result<Answer, OutOfMemory> {
         match deed {
-            Deed::Join(..) => changed(self.table.join_local(&crowd.group, &crowd.list)),
+            Deed::Join(..) => changed(self.table.join_local(&crowd.group, &crowd.list, LIMIT)),
             Deed::Leave(..) => changed(self.table.leave_local(&crowd.group, &crowd.list)),
             _ => Ok(Answer::Pids(self.table.leaving(&crowd.group, &crowd.list)?)),
         }
@@ -201,8 +204,10 @@ impl Own {
 
     fn of_peer(&mut self, deed: Deed, listed: &PeerRows) -> Result<Answer, OutOfMemory> {
         match deed {
-            Deed::Sync(..) => changed(self.table.sync(&listed.peer, &listed.rows)),
-            Deed::JoinRemote(..) => changed(self.table.join_remote(&listed.peer, &listed.rows)),
+            Deed::Sync(..) => changed(self.table.sync(&listed.peer, &listed.rows, LIMIT)),
+            Deed::JoinRemote(..) => {
+                changed(self.table.join_remote(&listed.peer, &listed.rows, LIMIT))
+            }
             _ => changed(self.table.leave_remote(&listed.peer, &listed.rows)),
         }
     }

@@ -49,12 +49,13 @@ module _ (n : List ℕ) where
   none_counted test h [] e = refl
   none_counted test h (c ∷ cs) e = grind (arith, none_counted test h cs, h c.row)
 
-  pub first_fault : (t : Table) (rows : List Row) (fault : TableFault)
-      → tally (is_of_node n) t.rows ≡ 0 → IsAddFault t n rows fault → IsSyncFault rows fault
-  first_fault t rows RowsFull none h = omega (arith, none, h)
-  first_fault t rows NotJoined none h = h
-  first_fault t rows NotListed none h = h
-  first_fault t rows OutOfMemory none h = omega (arith, h)
+  pub first_fault : (t : Table) (rows : List Row) (limit : ℕ) (fault : TableFault)
+      → tally (is_of_node n) t.rows ≡ 0 → IsAddFault t n rows limit fault
+      → IsSyncFault rows limit fault
+  first_fault t rows limit RowsFull none h = omega (arith, none, h)
+  first_fault t rows limit NotJoined none h = h
+  first_fault t rows limit NotListed none h = h
+  first_fault t rows limit OutOfMemory none h = omega (arith, h)
 
 module _ (n : List ℕ) (rows : List Row) (own : All (λ r. r.pid.node ≡ n) rows) where
   all_of_one : AllByRecursion (λ r. r.pid.node ≡ n) rows

@@ -1,6 +1,6 @@
 -- Rows in order that are counted one by one.
 use Rattle.scope_core.proofs.Words.{IsPermutation, how_many_is, sum_by-IsPermutation, ◌≡◌, ℕ, zero}
-use Rattle.scope_core.proofs.Words.{suc, ◌+◌, ◌<◌, ◌≤◌, Bool, cond, List, [], ◌∷◌, ◌++◌}
+use Rattle.scope_core.proofs.Words.{refl, suc, ◌+◌, ◌<◌, ◌≤◌, Bool, cond, List, [], ◌∷◌, ◌++◌}
 use Rattle.scope_core.proofs.Words.{length, ap, sym, ◌∙◌, arith, subst}
 use Rattle.scope_core.proofs.Words.{Less, AllByRecursion, HoldsAt, get_or, set, drop, same_decides}
 use Rattle.scope_core.proofs.Words.{Rises, row_cmp, Row, Counted, counted_cmp, tally, is_of_node}
@@ -25,10 +25,20 @@ count_le [] i c l e = absurd (omega (arith, l))
 count_le (x ∷ xs) zero c l e = grind (arith, e, same_decides c.row.pid.node c.row.pid.node)
 count_le (x ∷ xs) (suc i) c l e = grind (arith, count_le xs i c (omega (arith, l)) e)
 
--- its count has room
-pub count_few : (cs : List Counted) (i : ℕ) (c : Counted) → i < length cs → c ≡ get_or cs i c
-    → IsKept cs → c.count ≤ max_rows
-count_few cs i c l e kept = omega (arith, count_le cs i c l e, kept.few c.row.pid.node)
+-- where there is room for the row once more, its count has room for one more
+pub count_room : (cs : List Counted) (i : ℕ) (c : Counted) → i < length cs → c ≡ get_or cs i c
+    → HasRoomFor (c.row ∷ []) cs → c.count < max_rows
+count_room cs i c l e few =
+    let room = few c.row.pid.node in
+    let here = (same_decides c.row.pid.node c.row.pid.node).1 refl in
+    grind (arith, count_le cs i c l e, room, here)
+
+-- at its own place stands its row
+pub only_row : (cs : List Counted) (i : ℕ) (c : Counted) → i < length cs → c ≡ get_or cs i c
+    → HoldsAt (λ d. d.row ≡ c.row) cs i
+only_row [] i c l e = absurd (omega (arith, l))
+only_row (x ∷ xs) zero c l e = λ d. ap (λ (y : Counted). y.row) (sym e)
+only_row (x ∷ xs) (suc i) c l e = only_row xs i c (omega (arith, l)) e
 
 again_tally : (test : Row → Bool) (cs : List Counted) (i : ℕ) (c : Counted) → i < length cs
     → c ≡ get_or cs i c

@@ -10,7 +10,7 @@ use Rattle.scope_core.specs.declared.fault.TableFault.TheVariants.{RowsFull, Not
 use Rattle.scope_core.specs.declared.fault.TableFault.TheVariants.{OutOfMemory}
 use Rattle.dist_types.specs.Listing.{same, same_pid, same_row, occurrences, mentions}
 use Rattle.dist_types.specs.Difference.{IsDifference}
-use Rattle.scope_core.specs.Table.{Table, count_of, node_total, local_total, max_rows}
+use Rattle.scope_core.specs.Table.{Table, count_of, node_total, local_total}
 use Rattle.scope_core.specs.Added.{row_in}
 
 -- new is of the same node as old, and counts what count says
@@ -56,11 +56,11 @@ abbrev pub IsChange : Table → Table → List GroupChange → Type 0
 IsChange old new changes = IsDifference (count_of old) (count_of new) changes
 
 -- why nothing was joined
-abbrev pub IsJoinFault : Table → List Pid → TableFault → Type 0
-IsJoinFault t ps RowsFull = max_rows < local_total t + length ps
-IsJoinFault t ps NotJoined = ⊥
-IsJoinFault t ps NotListed = ⊥
-IsJoinFault t ps OutOfMemory = local_total t + length ps ≤ max_rows
+abbrev pub IsJoinFault : Table → List Pid → ℕ → TableFault → Type 0
+IsJoinFault t ps limit RowsFull = limit < local_total t + length ps
+IsJoinFault t ps limit NotJoined = ⊥
+IsJoinFault t ps limit NotListed = ⊥
+IsJoinFault t ps limit OutOfMemory = local_total t + length ps ≤ limit
 
 -- whether one of these processes is in the group
 abbrev pub is_any_joined : Table → List ℕ → List Pid → Bool
@@ -74,18 +74,18 @@ IsLeaveFault t g ps NotListed = ⊥
 IsLeaveFault t g ps OutOfMemory = is_any_joined t g ps ≡ true
 
 -- why the rows of a peer were not replaced
-abbrev pub IsSyncFault : List Row → TableFault → Type 0
-IsSyncFault rows RowsFull = max_rows < length rows
-IsSyncFault rows NotJoined = ⊥
-IsSyncFault rows NotListed = ⊥
-IsSyncFault rows OutOfMemory = length rows ≤ max_rows
+abbrev pub IsSyncFault : List Row → ℕ → TableFault → Type 0
+IsSyncFault rows limit RowsFull = limit < length rows
+IsSyncFault rows limit NotJoined = ⊥
+IsSyncFault rows limit NotListed = ⊥
+IsSyncFault rows limit OutOfMemory = length rows ≤ limit
 
 -- why rows of the node were not added
-abbrev pub IsAddFault : Table → List ℕ → List Row → TableFault → Type 0
-IsAddFault t n rows RowsFull = max_rows < node_total t n + length rows
-IsAddFault t n rows NotJoined = ⊥
-IsAddFault t n rows NotListed = ⊥
-IsAddFault t n rows OutOfMemory = node_total t n + length rows ≤ max_rows
+abbrev pub IsAddFault : Table → List ℕ → List Row → ℕ → TableFault → Type 0
+IsAddFault t n rows limit RowsFull = limit < node_total t n + length rows
+IsAddFault t n rows limit NotJoined = ⊥
+IsAddFault t n rows limit NotListed = ⊥
+IsAddFault t n rows limit OutOfMemory = node_total t n + length rows ≤ limit
 
 -- whether each of the rows stands among them at most as often as it is counted
 abbrev pub are_counted : Table → List Row → Bool

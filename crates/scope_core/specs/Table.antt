@@ -7,13 +7,17 @@ use Rattle.dist_types.specs.declared.row.Row.{Row}
 use Rattle.dist_types.specs.Order.{row_cmp}
 use Rattle.scope_core.specs.declared.counted.Counted.{Counted}
 use Rattle.dist_types.specs.Listing.{same, same_pid, total, Rises}
-pub use Rattle.dist_types.specs.Listing.{max_rows}
 use Rattle.scope_core.specs.Kept.{KeptLists, AreListings}
 
 -- the name of the own node, and the counted rows in some order
 pub record Table : Type 0 where
   pub own : List ℕ
   pub rows : List Counted
+
+-- the most rows that the processes of one node may have, repeats included, so that a count fits its
+-- field
+abbrev pub max_rows : ℕ
+max_rows = 4294967295
 
 -- whether this is the row of the group g and the process p
 abbrev pub is_row : List ℕ → Pid → Row → Bool

@@ -9,7 +9,7 @@ use thiserror::Error;
 /// Why a call changed nothing.
 #[derive(Clone, Copy, Debug, PartialEq, Eq, Error)]
 pub enum TableFault {
-    #[error("the node would have more than 4096 rows")]
+    #[error("the node would have more rows than it may")]
     RowsFull,
     #[error("no process of the list is in the group")]
     NotJoined,

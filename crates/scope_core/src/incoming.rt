@@ -69,7 +69,11 @@ fn order_behind(counted: &[Counted], row: &Row) -> Ordering
 /// One more of the last row.
 fn count_again(counted: &mut Vec<Counted>)
     requires kept { IsKept counted.old.items }
-    ensures { (row : Row) → HoldsAt (λ c. c.row ≡ row) counted.old.items (length counted.old.items - 1) → HasRoomFor (row ∷ []) counted.old.items
+    requires room { (row : Row)
+        → HoldsAt (λ c. c.row ≡ row) counted.old.items (length counted.old.items - 1)
+        → HasRoomFor (row ∷ []) counted.old.items }
+    ensures { (row : Row)
+        → HoldsAt (λ c. c.row ≡ row) counted.old.items (length counted.old.items - 1)
         → Adds (row ∷ []) counted.old.items counted.new.items × IsKept counted.new.items }
 {
     if let Some(last) = counted.last_mut() {

@@ -52,9 +52,6 @@ impl Model for ScopeTable {
 }
 
 impl ScopeTable {
-    /// The most rows that the processes of one node may have in a scope, repeats included.
-    pub const MAX_ROWS: usize = dist_types::MAX_ROWS;
-
     /// A table with no rows, of the node with this name.
     pub fn new(alloc: Global, own: NodeName) -> ScopeTable
         ensures own { result.own ≡ own }
@@ -69,20 +66,22 @@ impl ScopeTable {
         }
     }
 
-    /// One more for each mention of a process, all of them of the own node.
+    /// One more for each mention of a process, all of them of the own node, which has no more rows
+    /// than `limit` then.
     pub fn join_local(
         &mut self,
         group: &Group,
         pids: &[Pid],
+        limit: u32,
     ) -> Result<Vec<GroupChange>, TableFault>
         requires { All (λ p. p.node ≡ self.old.own) pids.now }
         ensures ok { OnOk result (Counts self.old self.new (count_after_join self.old group.now pids.now)) }
         ensures change { IfOk result (λ changes. IsChange self.old self.new changes.items) }
-        ensures refused { IfErr result (IsJoinFault self.old pids.now) }
-        ensures limits { OnOk result (local_total self.old + length pids.now ≤ max_rows) }
+        ensures refused { IfErr result (IsJoinFault self.old pids.now limit) }
+        ensures limits { OnOk result (local_total self.old + length pids.now ≤ limit) }
         ensures same { OnErr result (self.new ≡ self.old) }
     {
-        if pids.len() > ScopeTable::MAX_ROWS - self.own_rows {
+        if self.own_rows + pids.len() > limit as usize {
             return Err(TableFault::RowsFull);
         }
         let sorted = in_order(self.alloc, pids)?;
@@ -136,21 +135,27 @@ impl ScopeTable {
         }
     }
 
-    /// These are the rows of the peer's processes, in place of those that it had.
+    /// These are the rows of the peer's processes, no more than `limit`, in place of those that it
+    /// had.
     #[tactic(auto, using(crate::proofs::Calls::alone_fit, crate::proofs::Between::picked_rises))]
-    pub fn sync(&mut self, peer: &NodeName, rows: &[Row]) -> Result<Vec<GroupChange>, TableFault>
+    pub fn sync(
+        &mut self,
+        peer: &NodeName,
+        rows: &[Row],
+        limit: u32,
+    ) -> Result<Vec<GroupChange>, TableFault>
         requires { All (λ r. r.pid.node ≡ peer.now) rows.now }
         ensures ok { OnOk result (Counts self.old self.new (count_after_sync self.old peer.now rows.now)) }
         ensures change { IfOk result (λ changes. IsChange self.old self.new changes.items) }
-        ensures refused { IfErr result (IsSyncFault rows.now) }
-        ensures limits { OnOk result (length rows.now ≤ max_rows) }
+        ensures refused { IfErr result (IsSyncFault rows.now limit) }
+        ensures limits { OnOk result (length rows.now ≤ limit) }
         ensures same { OnErr result (self.new ≡ self.old) }
     {
         // Where there are none to replace, they only join.
         if self.rows.total_of(peer) == 0 {
-            return self.join_remote(peer, rows);
+            return self.join_remote(peer, rows, limit);
         }
-        if rows.len() > ScopeTable::MAX_ROWS {
+        if rows.len() > limit as usize {
             return Err(TableFault::RowsFull);
         }
         if self.rows.are_just(peer, rows) {
@@ -171,21 +176,23 @@ impl ScopeTable {
         Ok(changes)
     }
 
-    /// One more for each row, all of them of the peer's processes.
+    /// One more for each row, all of them of the peer's processes. The peer has no more rows than
+    /// `limit` then.
     #[tactic(auto, using(crate::proofs::Calls::alone_fit))]
     pub fn join_remote(
         &mut self,
         peer: &NodeName,
         rows: &[Row],
+        limit: u32,
     ) -> Result<Vec<GroupChange>, TableFault>
         requires { All (λ r. r.pid.node ≡ peer.now) rows.now }
         ensures ok { OnOk result (Counts self.old self.new (count_after_add self.old rows.now)) }
         ensures change { IfOk result (λ changes. IsChange self.old self.new changes.items) }
-        ensures refused { IfErr result (IsAddFault self.old peer.now rows.now) }
-        ensures limits { OnOk result (node_total self.old peer.now + length rows.now ≤ max_rows) }
+        ensures refused { IfErr result (IsAddFault self.old peer.now rows.now limit) }
+        ensures limits { OnOk result (node_total self.old peer.now + length rows.now ≤ limit) }
         ensures same { OnErr result (self.new ≡ self.old) }
     {
-        if rows.len() > ScopeTable::MAX_ROWS - self.rows.total_of(peer) {
+        if self.rows.total_of(peer) + rows.len() > limit as usize {
             return Err(TableFault::RowsFull);
         }
         let counted = counted_rows(self.alloc, rows)?;
@@ -319,7 +326,7 @@ impl ScopeTable {
     /// The own processes of a group.
     pub fn local_members(&self, group: &Group) -> Result<Vec<Pid>, OutOfMemory>
         ensures value { IfOk result (λ pids. IsPidListing (local_count self.now group.now) pids.items) }
-        ensures limits { IfOk result (λ pids. length pids.items ≤ max_rows) }
+        ensures limits { IfOk result (λ pids. length pids.items ≤ local_total self.now) }
     {
         let mut pids = Vec::new(self.alloc);
         self.rows.push_members(&mut pids, &self.own, group)?;
@@ -330,7 +337,7 @@ impl ScopeTable {
     pub fn leaving(&self, group: &Group, pids: &[Pid]) -> Result<Vec<Pid>, OutOfMemory>
         requires { All (λ p. p.node ≡ self.now.own) pids.now }
         ensures value { IfOk result (λ gone. IsPidListing (λ p. min (mentions p pids.now) (local_count self.now group.now p)) gone.items) }
-        ensures limits { IfOk result (λ gone. length gone.items ≤ max_rows) }
+        ensures limits { IfOk result (λ gone. length gone.items ≤ local_total self.now) }
     {
         let gone = gone_of(self.alloc, &self.rows, group, pids)?;
         Ok(gone)
@@ -369,7 +376,7 @@ impl ScopeTable {
     /// The rows of the own processes.
     pub fn local_rows(&self) -> Result<Vec<Row>, OutOfMemory>
         ensures value { IfOk result (λ rows. IsRowListing (local_count self.now) rows.items) }
-        ensures limits { IfOk result (λ rows. length rows.items ≤ max_rows) }
+        ensures limits { IfOk result (λ rows. length rows.items ≤ local_total self.now) }
     {
         let held = self.rows.in_order(self.alloc, &self.own)?;
         let rows = rows_of(self.alloc, &held)?;

@@ -1,10 +1,7 @@
 use Rattle.scope_core.proofs.Words.{◌≡◌, ◌∷◌, [], ◌++◌, ◌+◌, ◌-◌, ap, sym, subst, arith, drop}
 use Rattle.scope_core.proofs.Words.{drop_more, length, Rises, counted_cmp, AllByRecursion, row_cmp}
-use Rattle.scope_core.proofs.Words.{Less, HoldsAt, AreCounted, Adds, Counted}
+use Rattle.scope_core.proofs.Words.{◌∙◌, Less, HoldsAt, AreCounted, Adds, Counted, HasRoomFor}
 use Rattle.scope_core.proofs.Counting.{new_last, new_tally, added_next, has_room}
-use Rattle.scope_core.proofs.incoming.counted_in_order.Goals.{}
-use Rattle.scope_core.proofs.incoming.counted_in_order.Goals.{}
-use Rattle.scope_core.proofs.incoming.counted_in_order.Goals.{}
 use Rattle.scope_core.proofs.incoming.counted_in_order.Goals.{in-Less+in_ok-try_clone-in-Less+in_ok-push-in-Less}
 use Rattle.scope_core.proofs.incoming.counted_in_order.Goals.{in-Equal}
 use Rattle.scope_core.proofs.incoming.counted_in_order.Goals as goal
@@ -40,7 +37,7 @@ loop-row-preserved c =
           subst (λ cs. HoldsAt (λ (d : Counted). d.row ≡ row) cs (length cs - 1))
           c.deref.ensures.value (c.order_behind.ensures.again w.in-Equal.is) in
           let more =
-          w.count_again.ensures row last (has_room rows i row next old was.added c.requires) in
+          w.count_again.ensures row last in
           let is = ap (λ v. v.items) (sym w.counted-is) in (
             subst (Rises counted_cmp) is more.1.rises,
             subst AreCounted is more.1.counted,
@@ -50,3 +47,19 @@ loop-row-preserved c =
     ] in
     record
     { rises = all.0; counted = all.1; added = added_next rows i row next old was.added new all.2 }
+
+pub count_again-requires-clause-room : goal.count_again-requires-clause-room
+count_again-requires-clause-room c =
+    λ other at.
+    let rows = c.args.rows.now in
+    let row = c.row-item.result in
+    let i = c.loop-row.row-index in
+    let old = c.loop-row.counted.items in
+    let next : drop i rows ≡ row ∷ drop (i + 1) rows =
+    grind (arith, drop_more rows i row (omega (arith, c.loop-row-test.true)), c.row-item.is) in
+    let last =
+    subst (λ cs. HoldsAt (λ (d : Counted). d.row ≡ row) cs (length cs - 1)) c.deref.ensures.value
+    (c.order_behind.ensures.again c.in-Equal.is) in
+    let any : Counted = record { row = row; count = 0 } in
+    subst (λ r. HasRoomFor (r ∷ []) old) (sym (last any) ∙ at any)
+    (has_room rows i row next old c.loop-row.invariant.added c.requires)

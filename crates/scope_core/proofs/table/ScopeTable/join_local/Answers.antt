@@ -17,7 +17,7 @@ counted_rows-requires c =
     rw rows
     (fresh_fit c.self.inside.own g c.args.pids.now c.in_ok-sorted.sorted.items
     (rw (← c.self.view_is) at c.requires) c.in_ok-sorted.ensures
-    (omega (arith, c.if-pids-self.false, c.self.invariant.few)))
+    (omega (arith, c.if-self-pids.false, c.self.invariant.few)))
 
 -- ---- what joins
 
@@ -72,7 +72,7 @@ join-requires-clause-few c =
     grind (
       arith,
       more,
-      c.if-pids-self.false,
+      c.if-self-pids.false,
       c.self.invariant.few,
       c.self.invariant.total,
       same_decides own own,
@@ -113,7 +113,7 @@ invariant_of-self-2 c =
     let at = (goal.at.invariant_of-self-2 c).In_ok-counted in
     let counts = counts_are at in
     record {
-      few = omega (arith, c.if-pids-self.false, c.self.invariant.few);
+      few = omega (arith, c.if-self-pids.false, c.self.invariant.few);
       total = grind (
         arith,
         total_is at own,

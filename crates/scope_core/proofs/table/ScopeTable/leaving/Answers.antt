@@ -1,4 +1,4 @@
-use Rattle.scope_core.proofs.Words.{arith, Table}
+use Rattle.scope_core.proofs.Words.{Table}
 use Rattle.scope_core.proofs.Calls.{leaving_listing, leaving_few}
 use Rattle.scope_core.proofs.table.ScopeTable.leaving.Goals as goal
 
@@ -10,9 +10,5 @@ returns-clause-value c =
 pub returns-clause-limits : goal.returns-clause-limits
 returns-clause-limits c =
     let t : Table = record { own = c.self.inside.own; rows = c.self.inside.rows } in
-    omega (
-      arith,
-      leaving_few t _ _ _ (rw (← c.self.view_is) at c.requires) c.in_ok-gone.ensures,
-      c.self.invariant.few,
-      c.self.invariant.total,
-    )
+    rw (← c.self.view_is)
+    (leaving_few t _ _ _ (rw (← c.self.view_is) at c.requires) c.in_ok-gone.ensures)

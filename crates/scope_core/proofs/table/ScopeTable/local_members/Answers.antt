@@ -23,6 +23,6 @@ returns-clause-value c = rw (← c.self.view_is) (own_listing c)
 
 pub returns-clause-limits : goal.returns-clause-limits
 returns-clause-limits c =
-    let all = length-part (the_table c) c.args.group.now c.push_members.new.pids.items
-    (λ p. let is = (own_listing c).counts p in omega (arith, is)) in
-    omega (arith, all, c.self.invariant.few, c.self.invariant.total)
+    rw (← c.self.view_is)
+    (length-part (the_table c) c.args.group.now c.push_members.new.pids.items
+    (λ p. let is = (own_listing c).counts p in omega (arith, is)))

@@ -22,9 +22,5 @@ returns-clause-value c = rw (← c.self.view_is) (own_listing c)
 
 pub returns-clause-limits : goal.returns-clause-limits
 returns-clause-limits c =
-    omega (
-      arith,
-      length_local_rows (the_table c) c.in_ok-rows.rows.items (own_listing c),
-      c.self.invariant.few,
-      c.self.invariant.total,
-    )
+    let all = length_local_rows (the_table c) c.in_ok-rows.rows.items (own_listing c) in
+    rw (← c.self.view_is) (omega (arith, all))

@@ -25,7 +25,8 @@ pub returns-then-total_of-eq0-clause-refused : goal.returns-then-total_of-eq0-cl
 returns-then-total_of-eq0-clause-refused c =
     let none = none_held (goal.at.returns-then-total_of-eq0-clause-refused c).Then-total_of-eq0 in
     err_then c.join_remote.result
-    (λ fault. first_fault c.args.peer.now c.args.self.now c.args.rows.now fault none)
+    (λ fault.
+    first_fault c.args.peer.now c.args.self.now c.args.rows.now c.args.limit fault none)
     c.join_remote.ensures.refused
 
 -- ---- where others stand in the place of the peer's
@@ -130,7 +131,7 @@ invariant_of-self-2 c =
             c.share_of.ensures,
             c.share_of-2.ensures,
             c.self.invariant.few,
-            c.if-rows-gt-MAX_ROWS.false,
+            c.if-rows-limit.false,
           );
       total =
           grind (
