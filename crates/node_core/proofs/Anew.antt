@@ -1,15 +1,24 @@
 -- A node that has seen nothing, and one that begins anew.
 use Rattle.node_core.proofs.Words.{List, Some, ap, arith, false, refl, sym, ℕ, [], ◌+◌, ◌==◌, ◌∙◌, ◌≡◌, eq-eqb, eqb-true, Pid, no_count, stopped_lists, checks}
-use Rattle.node_core.proofs.Words.{first_broken, History, creation, listed, IsNext, is_full, with_entry, Change, Accepted, Follows, Parts, ArePartings, Opening}
-use Rattle.node_core.proofs.Words.{follows_cleared, own_pid, Event, Reply, Rule, ◌<◌, leb-true, same, past, ◌^◌, follows_start}
+use Rattle.node_core.proofs.Words.{first_broken, History, creation, listed, IsAlone, is_full, just}
+use Rattle.node_core.proofs.Words.{Change, Accepted, Follows, Parts, ArePartings, Opening}
+use Rattle.node_core.proofs.Words.{audit_of, subst, follows_cleared, own_pid, Event, Reply, Rule}
+use Rattle.node_core.proofs.Words.{◌<◌, leb-true, same, past, ◌^◌, follows_start}
+use Rattle.group_monitors.specs.Follows.{FollowsPolicy}
 use Rattle.policy_audit.proofs.LivesNow.{lives_restarted}
-use Rattle.node_core.proofs.Entered.{made, accepted_next, answered_by, sound_now}
+use Rattle.node_core.proofs.Entered.{audit_more, made, accepted_next, answered_by, sound_now}
 use Rattle.node_core.proofs.Partings.{partings_change}
 use Rattle.node_core.proofs.Found.{not_so}
 
 pub begun : (o : Opening) → o.entries < 2 ^ 32 → o.links ≡ 1 → Follows (past o []) (record { admission = record { own = o.name; cookie = o.cookie; hidden = o.hidden; creation = o.creation; links = o.links; peers = []; allowed = [] }; processes = record { spawned = 0; live = [] }; scopes = []; links = []; monitors = [] })
 begun o fits one = record {
-  sound = record { legal = tt; fits = fits; few = omega arith; few_spawned = omega arith; links = one };
+  sound = record {
+    played = tt;
+    fits = fits;
+    few = omega arith;
+    few_spawned = omega arith;
+    links = one;
+  };
   admission = record {
     own = refl;
     hidden = refl;
@@ -30,13 +39,13 @@ begun o fits one = record {
 
 module _ (h : History) (seat : ℕ) where
   abbrev anew : List Change → History
-  anew cs = with_entry h (made h seat Event.Restart (Accepted Reply.Done) cs)
+  anew cs = just h (made h seat Event.Restart (Accepted Reply.Done) cs)
 
   pub creation_spent : creation h ≡ 4294967295 → first_broken (checks h seat Event.Restart) ≡ Some Rule.CreationSpent
   creation_spent q = grind (arith, eq-eqb (creation h) 4294967295 q)
 
   pub anew_now : (parts : Parts) → Follows h parts → (cs : List Change) → ArePartings (λ t. no_count) parts.scopes cs → is_full h ≡ false → (n : ℕ) → n ≡ creation h → (n ≡ 4294967295 → ⊥) → (o : Opening) (number : ℕ) → o ≡ h.opening → number ≡ parts.admission.creation + 1
-      → IsNext h (made h seat Event.Restart (Accepted Reply.Done) cs)
+      → IsAlone h (made h seat Event.Restart (Accepted Reply.Done) cs)
       × Follows (anew cs) (record { admission = record { own = o.name; cookie = o.cookie; hidden = o.hidden; creation = number; links = o.links; peers = []; allowed = [] }; processes = record { spawned = 0; live = [] }; scopes = []; links = []; monitors = [] })
   anew_now parts t cs gone space n is left o number same more =
       let nobody : (s g : List ℕ) (p : Pid) → listed (anew cs) s g p ≡ 0 = λ s g p. stopped_lists (anew cs) s g p refl in
@@ -58,6 +67,8 @@ module _ (h : History) (seat : ℕ) where
           processes = record { spawned = refl; live = λ n. sym (lives_restarted h (made h seat Event.Restart (Accepted Reply.Done) cs) (answered_by next) refl refl (own_pid (anew cs) n)); count = refl };
           scopes = record { running = refl; each = tt };
           links = record { numbers = refl; each = tt };
-          monitors = follows_cleared h _ refl refl;
+          monitors =
+              subst (λ k. FollowsPolicy k []) (sym (audit_more h _ next))
+              (follows_cleared (audit_of h) _ refl refl);
         },
       )

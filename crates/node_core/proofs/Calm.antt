@@ -1,13 +1,17 @@
 -- Entries that leave alone all that a node keeps of links and scopes.
-use Rattle.node_core.proofs.Words.{arith, Bool, List, false, length, not, refl, subst, sym, true, ℕ, [], ◌&&◌, ◌++◌, ◌+◌, ◌||◌, ◌∷◌, ◌≡◌, filter, unwrap_or}
+use Rattle.node_core.proofs.Words.{arith, Bool, List, false, not, refl, subst, sym, true, ℕ, []}
+use Rattle.node_core.proofs.Words.{◌&&◌, ◌++◌, ◌||◌, ◌∷◌, ◌≡◌, filter, unwrap_or}
 use Rattle.node_core.proofs.Words.{eqb-true, append-nil, is_empty, lie, no_change, IsChange, History, first_of, is_open, links, refusal_owes, waiting}
-use Rattle.node_core.proofs.Words.{running_scopes, IsNext, with_entry, is_whole, Accepted, Refused, Event, Reply, Rule, AdmissionFollows, admission_words}
+use Rattle.node_core.proofs.Words.{running_scopes, IsAlone, just, is_whole, Accepted, Refused}
+use Rattle.node_core.proofs.Words.{Event, Reply, Rule, AdmissionFollows, admission_words}
 use Rattle.node_core.proofs.Words.{refuses_calmly, Follows, Parts, LinksFollow, facts, link_words, ProcessesFollow, process_words, ScopesFollow, scope_words}
 use Rattle.node_core.proofs.Words.{reverse, ends, hears, tells, talk, owed, is_quiet, entry_rows, None, AdmissionRules, checks, first_broken, answer, is_full}
-use Rattle.node_core.proofs.Words.{Spawned, IsAnswered, heard, told}
+use Rattle.node_core.proofs.Words.{Spawned, IsStep, heard, told}
 use Rattle.group_monitors.specs.Follows.{FollowsPolicy}
 use Rattle.group_monitors.specs.declared.monitor.Monitor.{Monitor}
-use Rattle.node_core.proofs.Entered.{step_follows, made, accepted_next, answered_by, sound_now}
+use Rattle.node_core.proofs.Words.{audit_of, next_number}
+use Rattle.node_core.proofs.Entered.{audit_more, step_follows, made, accepted_next, answered_by}
+use Rattle.node_core.proofs.Entered.{sound_now}
 
 -- the words of all links, link by link
 pub same_links : (h k : History) → links k.entries ≡ links h.entries → ((l : ℕ) → facts k l ≡ facts h l) → ((l : ℕ) → waiting k l ≡ waiting h l) → link_words k ≡ link_words h
@@ -27,13 +31,14 @@ opens_still : (h : History) (l : ℕ) (r : Rule) (ev : Event) → refuses_calmly
 opens_still h l r (Event.Frame j body) calm = grind (arith, eqb-true j l)
 opens_still h l r ev calm = refl
 
-waits_still : (h : History) (l : ℕ) (r : Rule) (ev : Event) → refuses_calmly h ev r ≡ true → (waiting h l ++ owed h l (length h.entries + 1) ev (Refused r)) ≡ waiting h l
+waits_still : (h : History) (l : ℕ) (r : Rule) (ev : Event) → refuses_calmly h ev r ≡ true
+    → (waiting h l ++ owed h l (next_number h) ev (Refused r)) ≡ waiting h l
 waits_still h l r (Event.Frame j body) calm = grind (arith, append-nil (waiting h l), empty_is (refusal_owes r))
 waits_still h l r ev calm = append-nil (waiting h l)
 
 module _ (h : History) (seat : ℕ) (ev : Event) (r : Rule) (calm : refuses_calmly h ev r ≡ true) where
   abbrev k : History
-  k = with_entry h (made h seat ev (Refused r) [])
+  k = just h (made h seat ev (Refused r) [])
 
   same_scopes : scope_words k ≡ scope_words h
   same_scopes = λ i. record {
@@ -48,7 +53,8 @@ module _ (h : History) (seat : ℕ) (ev : Event) (r : Rule) (calm : refuses_calm
   refused_change = no_change h k (λ s g p. sym (entry_rows h (made h seat ev (Refused r) []) refl s g p))
 
   -- what is kept follows the refusal
-  pub calm_follows : {parts : Parts} → Follows h parts → IsNext h (made h seat ev (Refused r) []) → Follows k parts
+  pub calm_follows : {parts : Parts} → Follows h parts → IsAlone h (made h seat ev (Refused r) [])
+      → Follows k parts
   calm_follows {parts} t next = step_follows t next refl t.admission t.processes (subst (λ w. ScopesFollow w parts.scopes) (sym same_scopes) t.scopes)
       (subst (λ w. LinksFollow w parts.links) (sym (same_links h k refl (λ l. λ i. record (facts h l) { open_now = opens_still h l r ev calm i }) (λ l. waits_still h l r ev calm))) t.links)
 
@@ -56,10 +62,12 @@ module _ (h : History) (seat : ℕ) (ev : Event) (r : Rule) (calm : refuses_calm
 
 -- the history with an accepted entry that changes no row
 abbrev pub answered : History → ℕ → Event → Reply → History
-answered h seat ev r = with_entry h (made h seat ev (Accepted r) [])
+answered h seat ev r = just h (made h seat ev (Accepted r) [])
 
 -- an accepted event that changes no row is the next entry
-pub quiet_next : (h : History) (seat : ℕ) (r : Reply) (ev : Event) → is_full h ≡ false → first_broken (checks h seat ev) ≡ None → answer h seat ev ≡ r → is_quiet ev ≡ true → IsNext h (made h seat ev (Accepted r) [])
+pub quiet_next : (h : History) (seat : ℕ) (r : Reply) (ev : Event) → is_full h ≡ false
+    → first_broken (checks h seat ev) ≡ None → answer h seat ev ≡ r → is_quiet ev ≡ true
+    → IsAlone h (made h seat ev (Accepted r) [])
 quiet_next h seat r ev space holds is quiet = accepted_next h seat ev space r [] holds is (λ its. no_change h (answered h seat ev r) (λ s g p. sym (entry_rows h (made h seat ev (Accepted r) []) quiet s g p)))
 
 -- the event changes no row, and takes no frames
@@ -87,9 +95,13 @@ module _ (h : History) (seat : ℕ) (r : Reply) (ev : Event) (still : is_still e
 -- such an event is the next entry, and what is kept of links and scopes follows
 pub entered : {h : History} {parts : Parts} (t : Follows h parts) (seat : ℕ) {r : Reply} (ev : Event) → is_still ev ≡ true → is_full h ≡ false → first_broken (checks h seat ev) ≡ None → answer h seat ev ≡ r
     → {a : AdmissionRules} {p : Spawned} {ms : List (ℕ × Monitor)}
-    → (IsAnswered h (made h seat ev (Accepted r) []) → AdmissionFollows (admission_words (answered h seat ev r)) a × ProcessesFollow (process_words (answered h seat ev r)) p × FollowsPolicy (answered h seat ev r) ms)
-    → IsNext h (made h seat ev (Accepted r) []) × Follows (answered h seat ev r) (record parts { admission = a; processes = p; monitors = ms })
-entered {h} {parts} t seat {r} ev still space holds is rest =
+    → (IsStep h (made h seat ev (Accepted r) [])
+    → AdmissionFollows (admission_words (answered h seat ev r)) a
+    × ProcessesFollow (process_words (answered h seat ev r)) p
+    × FollowsPolicy (just (audit_of h) (made h seat ev (Accepted r) [])) ms)
+    → IsAlone h (made h seat ev (Accepted r) [])
+    × Follows (answered h seat ev r) (record parts { admission = a; processes = p; monitors = ms })
+entered {h} {parts} t seat {r} ev still space holds is {a} {p} {ms} rest =
     let next = quiet_next h seat r ev space holds is (grind arith) in
     let others = rest (answered_by next) in (
       next,
@@ -99,6 +111,8 @@ entered {h} {parts} t seat {r} ev still space holds is rest =
         processes = others.1;
         scopes = subst (λ w. ScopesFollow w parts.scopes) (sym (still_scopes h seat r ev still)) t.scopes;
         links = subst (λ w. LinksFollow w parts.links) (sym (still_links h seat r ev still)) t.links;
-        monitors = others.2;
+        monitors =
+            subst (λ k. FollowsPolicy k ms)
+            (sym (audit_more h (made h seat ev (Accepted r) []) next)) others.2;
       },
     )

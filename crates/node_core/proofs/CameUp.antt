@@ -1,10 +1,12 @@
 -- What the last frame of a handshake leads to, by the policy's words.
 use Rattle.node_core.proofs.Words.{Bool, List, None, Option, Some, ap, false, not, refl, subst, sym, true, ℕ, ◌&&◌, ◌++◌, ◌∙◌, ◌≡◌, option_map}
 use Rattle.node_core.proofs.Words.{option_map_or, unwrap_or, reply_frame, AdmissionRules, Linked, Pending, lie, checks, first_broken, History}
-use Rattle.node_core.proofs.Words.{is_accepted, is_open, discovers, frame_owes, IsAnswered, answer, AwaitMessage, awaits, is_last, is_whole, peer_of}
+use Rattle.node_core.proofs.Words.{is_accepted, is_open, discovers, frame_owes, IsStep, answer}
+use Rattle.node_core.proofs.Words.{AwaitMessage, awaits, is_last, is_whole, peer_of}
 use Rattle.node_core.proofs.Words.{Entry, AdmissionFollows, admission_words, Hears, rule_of, IsIntroduced, IsState, facts, known_peer, narrow_frames}
 use Rattle.node_core.proofs.Words.{up_peer, ack_owed, linked, given, IsOnward, Heard, LinkState, Event, Reply, find, nat_eq, eq-eqb, eqb-true}
-use Rattle.node_core.proofs.Words.{same_decides, same, is_up, IsLegal, with_entry, is_peer, present_link, older_of, IsLinkOf, LinksFollow}
+use Rattle.node_core.proofs.Words.{same_decides, same, is_up, IsPlayed, just, is_peer, present_link}
+use Rattle.node_core.proofs.Words.{older_of, IsLinkOf, LinksFollow}
 use Rattle.node_core.proofs.Words.{kept_numbers, link_words, KeptLink, agrees, arith}
 use Rattle.policy_audit.specs.Sides.{is_visible}
 use Rattle.policy_audit.proofs.Onward.{reply_taken, ack_taken}
@@ -23,7 +25,8 @@ pub record ComesUp (h : History) (j : ℕ) (body : List ℕ) (up : Linked) (fram
   pub known : IsIntroduced (facts h j) up.peer up.creation up.visible up.version up.proof
   pub holds : (seat : ℕ) → first_broken (checks h seat (Event.Frame j body)) ≡ None
   pub owes : frame_owes h j body (awaits j h.entries) ≡ narrow_frames frames ++ discovers h j
-  pub on : (e : Entry) → IsAnswered h e → is_accepted e.verdict ≡ true → e.event ≡ Event.Frame j body → IsOnward j h.entries e (given j h.entries) (peer_of j h.entries) AwaitMessage true
+  pub on : (e : Entry) → IsStep h e → is_accepted e.verdict ≡ true → e.event ≡ Event.Frame j body
+      → IsOnward j h.entries e (given j h.entries) (peer_of j h.entries) AwaitMessage true
 
 module _ (h : History) (j : ℕ) (rules : AdmissionRules) (t : AdmissionFollows (admission_words h) rules) (body : List ℕ) (pending : Pending) where
   -- as it is heard in a state
@@ -67,7 +70,7 @@ module _ (h : History) (j : ℕ) (body : List ℕ) (up : Linked) (frames : List 
 
 -- ---- the kept links after one has come up: the older link of its peer is gone
 
-module _ (h : History) (legal : IsLegal h) (n : List ℕ) where
+module _ (h : History) (legal : IsPlayed h) (n : List ℕ) where
   -- a link of n that is up is the present one
   pub is_present : (l : ℕ) → is_up l h.entries ≡ true → is_peer n l h.entries ≡ true → present_link n h.entries ≡ Some l
   is_present l up of = (agrees h.opening h.entries legal n l).1 (up, peer_by_test n (peer_of l h.entries) of)
@@ -99,10 +102,12 @@ module _ (h : History) (legal : IsLegal h) (n : List ℕ) where
     pub but_replaced : (l : ℕ) (b : Bool) → (b ≡ true → is_up l h.entries ≡ true) → (b && not (replaced_by j n h.entries l)) ≡ (b && not (nat_eq l (unwrap_or (present_link n h.entries) j)))
     but_replaced l b up = grind (arith, up, replaced_is l, eqb-true l j, unwhole)
 
-module _ (h : History) (legal : IsLegal h) (j : ℕ) (body : List ℕ) (up : Linked) (frames : List (List ℕ)) (c : ComesUp h j body up frames)
-    (e : Entry) (answered : IsAnswered h e) (yes : is_accepted e.verdict ≡ true) (is : e.event ≡ Event.Frame j body) where
+module _ (h : History) (legal : IsPlayed h) (j : ℕ) (body : List ℕ) (up : Linked)
+    (frames : List (List ℕ)) (c : ComesUp h j body up frames)
+    (e : Entry) (answered : IsStep h e) (yes : is_accepted e.verdict ≡ true)
+    (is : e.event ≡ Event.Frame j body) where
   abbrev k : History
-  k = with_entry h e
+  k = just h e
 
   pub came_up_moves : AreMoves h k j (LinkState.Up up) (narrow_frames frames ++ discovers h j) (stays_but (present_link up.peer h.entries))
   came_up_moves = record {

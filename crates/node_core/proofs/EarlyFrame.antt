@@ -1,21 +1,22 @@
 -- The node after an accepted frame that isn't the last of a handshake.
 use Rattle.node_core.proofs.Words.{leb-true, arith, Bool, List, None, Option, Some, ap, cond, false, refl, subst, sym, true, ℕ, [], ◌∙◌, ◌≡◌}
 use Rattle.node_core.proofs.Words.{option_map, same_decides, Pid, challenge_frame, name_frame, status_of, AdmissionRules, found, is_dialled, Pending}
-use Rattle.node_core.proofs.Words.{lie, no_change, History, is_dialling, listed, running_scopes, IsAnswered, IsLegal, IsNext, is_full, with_entry}
+use Rattle.node_core.proofs.Words.{lie, no_change, History, is_dialling, listed, running_scopes}
+use Rattle.node_core.proofs.Words.{IsStep, IsPlayed, IsAlone, is_full, just}
 use Rattle.node_core.proofs.Words.{awaits, is_last, is_name_up, Entry, Accepted, Rule, AdmissionFollows, admission_words, heard_named, rule_of}
 use Rattle.node_core.proofs.Words.{IsState, LinksFollow, facts, link_words, KeptLink, dial_beside, dialled_peer, narrow_frames, scope_words}
 use Rattle.node_core.proofs.Words.{status_owed, reply_owed, Heard, LinkState, state_checks}
 use Rattle.node_core.proofs.Words.{accepted_as, Event, Reply, length, ◌≤◌}
 use Rattle.node_core.proofs.Words.{Linked, is_whole, Refused, Follows, Parts, HaveEnded, Hears}
 use Rattle.node_core.proofs.Words.{is_handshake, StatelessLink}
-use Rattle.node_core.proofs.Words.{ScopesFollow, HaveGoneOn, beside}
+use Rattle.node_core.proofs.Words.{ScopesFollow, HaveGoneOn, beside, verdict}
 use Rattle.link_states.specs.Named.{named_by}
 use Rattle.link_states.specs.Pending.{is_up}
 use Rattle.policy_audit.proofs.Finished.{is_message}
 use Rattle.policy_audit.proofs.HeardNow.{framed_heard}
 use Rattle.policy_audit.proofs.RowsAfter.{unfinished_rows}
 use Rattle.node_core.proofs.EarlyMoves.{answer_moves, status_moves, challenge_moves, Goes, name_goes}
-use Rattle.node_core.proofs.Entered.{made, accepted_now, answered_now, step_follows}
+use Rattle.node_core.proofs.Entered.{made, accepted_now, answered_now, next_now, step_follows}
 use Rattle.node_core.proofs.Found.{some_is}
 use Rattle.node_core.proofs.MovedOn.{moved_follow}
 use Rattle.node_core.proofs.HeardFrames.{is_early, early_state, is_there, heard_leads, by_all}
@@ -30,14 +31,19 @@ module _ (h : History) (seat j : ℕ) (body : List ℕ) where
   e = made h seat (Event.Frame j body) (Accepted Reply.Done) []
 
   abbrev pub k : History
-  k = with_entry h e
+  k = just h e
 
-  module _ (answered : IsAnswered h e) (legal : IsLegal h) (inner : is_last (awaits j h.entries) ≡ false) (unlike : is_message (awaits j h.entries) ≡ false) where
+  module _ (answered : IsStep h e) (legal : IsPlayed h)
+      (inner : is_last (awaits j h.entries) ≡ false)
+      (unlike : is_message (awaits j h.entries) ≡ false) where
     same_rows : (s g : List ℕ) (p : Pid) → listed k s g p ≡ listed h s g p
     same_rows s g p = unfinished_rows h legal e answered refl j body refl unlike inner s g p
 
-    early_next : IsNext h e
-    early_next = record { room = answered.room; number = answered.number; verdict = answered.verdict; change = no_change h k (λ s g p. sym (same_rows s g p)) }
+    early_next : is_full h ≡ false → Accepted Reply.Done ≡ verdict h seat (Event.Frame j body)
+        → IsAlone h e
+    early_next space holds =
+        next_now h seat (Event.Frame j body) space (Accepted Reply.Done) [] holds
+        (no_change h k (λ s g p. sym (same_rows s g p)))
 
     early_scopes : scope_words k ≡ scope_words h
     early_scopes = λ i. record {
@@ -55,20 +61,19 @@ module _ (h : History) (seat j : ℕ) (body : List ℕ) where
     abbrev Dials : LinkState → Type 0
     Dials s = dialled_peer s ≡ None → (n : List ℕ) → is_dialled pending n ≡ is_dialling n h.entries
 
-    early_answered : is_full h ≡ false → (s : LinkState) → Dials s → is_early s ≡ true
-        → IsState (facts h j) s → state_checked.first_broken (state_checks rules pending s body)
-        ≡ None
-        → IsAnswered h e
-    early_answered space s dials early a holds =
-        answered_now h seat (Event.Frame j body) space (Accepted Reply.Done) []
-        (accepted_now h seat (Event.Frame j body) space Reply.Done
+    early_accepted : is_full h ≡ false → (s : LinkState) → Dials s → is_early s ≡ true
+        → IsState (facts h j) s
+        → state_checked.first_broken (state_checks rules pending s body) ≡ None
+        → Accepted Reply.Done ≡ verdict h seat (Event.Frame j body)
+    early_accepted space s dials early a holds =
+        accepted_now h seat (Event.Frame j body) space Reply.Done
         (early_rules h rules t pending seat j body ups s dials early a ∙ ap (option_map rule_of)
         holds)
-        (grind (arith, a)))
+        (grind (arith, a))
 
-    module _ (answered : IsAnswered h e) (kept : List KeptLink) (follow : LinksFollow (link_words h)
+    module _ (answered : IsStep h e) (kept : List KeptLink) (follow : LinksFollow (link_words h)
         kept)
-        (legal : IsLegal h) (beside : LinkState → Option ℕ) where
+        (legal : IsPlayed h) (beside : LinkState → Option ℕ) where
       -- the state goes on as heard
       early_goes : (s : LinkState) → Dials s → is_early s ≡ true → IsState (facts h j) s
           → state_checked.first_broken (state_checks rules pending s body) ≡ None
@@ -122,27 +127,37 @@ module _ {h : History} {parts : Parts} (t : Follows h parts) (seat : ℕ) (body 
       early_few = grind (arith, leb-true (length frames) 2, heard_leads parts.admission pending body s (Heard.On now frames gives_up) hears.1)
 
       pub early_went_on : (new : List KeptLink) → HaveGoneOn p link now frames gives_up left new
-          → IsNext h (made h seat (Event.Frame j body) (Accepted Reply.Done) []) × Follows (with_entry h (made h seat (Event.Frame j body) (Accepted Reply.Done) [])) (record parts { links = new })
+          → IsAlone h (made h seat (Event.Frame j body) (Accepted Reply.Done) [])
+          × Follows (just h (made h seat (Event.Frame j body) (Accepted Reply.Done) []))
+          (record parts { links = new })
       early_went_on new on =
           let there = is_there h parts t j p held.at v in
           let unlike : is_message (awaits j h.entries) ≡ false = grind (arith, early, held_state t held) in
-          let answered = early_answered h seat j body parts.admission t.admission pending ups_so
+          let accepted = early_accepted h seat j body parts.admission t.admission pending ups_so
           held.space s dials_so early (held_state t held) hears.0 in
-          let entered = early_next h seat j body answered t.sound.legal inner unlike in
+          let answered =
+          answered_now h seat (Event.Frame j body) held.space (Accepted Reply.Done) [] accepted in
+          let entered =
+          early_next h seat j body answered t.sound.played inner unlike held.space accepted in
           let moves = early_goes h seat j body parts.admission t.admission pending ups_so answered
-          parts.links t.links t.sound.legal (λ state. dial_beside state left) s dials_so early
+          parts.links t.links t.sound.played (λ state. dial_beside state left) s dials_so early
           (held_state t held) hears.0
           (λ none state. sym (beside_same t held none state)) (Heard.On now frames gives_up) hears.1 in (
             entered,
             step_follows t entered refl t.admission t.processes
-                (subst (λ w. ScopesFollow w parts.scopes) (sym (early_scopes h seat j body answered t.sound.legal inner unlike)) t.scopes)
+                (subst (λ w. ScopesFollow w parts.scopes)
+                (sym (early_scopes h seat j body answered t.sound.played inner unlike)) t.scopes)
                 (subst (LinksFollow _) (sym (held_moved t held now (narrow_frames frames) (cond gives_up (dial_beside now left) None) new on))
-                (moved_follow h _ t.sound.legal j now (narrow_frames frames) (cond gives_up (dial_beside now left) None) moves parts.links t.links p v there.0 there.1 on.room)),
+                (moved_follow h _ t.sound.played j now (narrow_frames frames)
+                (cond gives_up (dial_beside now left) None) moves parts.links t.links p v there.0
+                there.1 on.room)),
           )
 
     module _ (r : Rule) (frames : List (List ℕ)) (hears : Hears parts.admission pending s body (Heard.Ended r frames)) where
       pub early_broke : (new : List KeptLink) → HaveEnded p link frames left new
-          → IsNext h (made h seat (Event.Frame j body) (Refused r) []) × Follows (with_entry h (made h seat (Event.Frame j body) (Refused r) [])) (record parts { links = new })
+          → IsAlone h (made h seat (Event.Frame j body) (Refused r) [])
+          × Follows (just h (made h seat (Event.Frame j body) (Refused r) []))
+          (record parts { links = new })
       early_broke new ends = held_broke t held seat body unwhole parts.admission pending
           (early_rules h parts.admission t.admission pending seat j body ups_so s dials_so early
           (held_state t held)) r frames hears new ends

@@ -1,10 +1,12 @@
 -- What an accepted Status, Challenge or answer to `alive` makes of its link.
 use Rattle.node_core.proofs.Words.{List, None, Some, ap, not, refl, sym, true, ℕ, [], ◌&&◌, ◌∙◌, ◌∷◌, ◌≡◌, option_map_or, has_bit, Challenge}
 use Rattle.node_core.proofs.Words.{challenge_frame, status_of, StatusWord, AdmissionRules, found, History, is_accepted, named_by, OutFrame, narrow}
-use Rattle.node_core.proofs.Words.{own_challenge, IsAnswered, with_entry, is_last, Entry, AdmissionFollows, admission_words, IsState, facts}
+use Rattle.node_core.proofs.Words.{own_challenge, IsStep, just, is_last, Entry, AdmissionFollows}
+use Rattle.node_core.proofs.Words.{admission_words, IsState, facts}
 use Rattle.node_core.proofs.Words.{narrow_frames, own_flags, is_visible, Dialled, Introduced, AwaitAnswer, own_challenge_frame, Event, LinkState}
 use Rattle.node_core.proofs.Words.{if◌then◌else◌, Bool, Option, cond, false, nat_eq, subst, option_map, eq-eqb, eqb-true, same, Name, name_frame, lie}
-use Rattle.node_core.proofs.Words.{is_dialling, is_open, IsLegal, is_name_up, heard_named, IsIntroduced, IsLinkOf, LinksFollow, kept_numbers}
+use Rattle.node_core.proofs.Words.{is_dialling, is_open, IsPlayed, is_name_up, heard_named}
+use Rattle.node_core.proofs.Words.{IsIntroduced, IsLinkOf, LinksFollow, kept_numbers}
 use Rattle.node_core.proofs.Words.{link_words, KeptLink, dial_beside, dialled_peer, Named, introduced, AwaitReply, welcome, Awaits, Heard, dial_to}
 use Rattle.node_core.proofs.Words.{arith, given}
 use Rattle.handshake_frames.specs.Spelling.{challenge_bytes}
@@ -36,9 +38,10 @@ module _ (h : History) (rules : AdmissionRules) (t : AdmissionFollows (admission
       → link_version rules f.version ≡ version_of_link h.opening j (e ∷ h.entries)
   version_is f j e gave = λ i. version_with (t.links i) (sym gave i)
 
-  module _ (e : Entry) (answered : IsAnswered h e) (yes : is_accepted e.verdict ≡ true) (j : ℕ) (body : List ℕ) (is : e.event ≡ Event.Frame j body) where
+  module _ (e : Entry) (answered : IsStep h e) (yes : is_accepted e.verdict ≡ true) (j : ℕ)
+      (body : List ℕ) (is : e.event ≡ Event.Frame j body) where
     abbrev k : History
-    k = with_entry h e
+    k = just h e
 
     pub answer_moves : (s : Introduced) → IsState (facts h j) (LinkState.Answer s) → AreMoves h k j (LinkState.Reply s) (narrow_frames (owes.own_challenge rules s.challenge ∷ [])) (stays_but None)
     answer_moves s a =
@@ -84,7 +87,8 @@ Goes h k j beside (Heard.On now frames gives_up) = AreMoves h k j now (narrow_fr
 Goes h k j beside r = Unit {0}
 
 -- the own dial among the kept links
-pub find_dial : (h : History) → IsLegal h → (kept : List KeptLink) → LinksFollow (link_words h) kept → (n : List ℕ) → is_dialling n h.entries ≡ true
+pub find_dial : (h : History) → IsPlayed h → (kept : List KeptLink)
+    → LinksFollow (link_words h) kept → (n : List ℕ) → is_dialling n h.entries ≡ true
     → (d : ℕ) × (option_map (λ x. x.number) (dial_to n kept) ≡ Some d) × (dials n h.entries d ≡ true)
 find_dial h legal kept t n q = by (dial_to n kept) refl
   where
@@ -94,12 +98,16 @@ find_dial h legal kept t n q = by (dial_to n kept) refl
         let here = found_in (λ x. option_map_or (λ m. same m n) (dialled_peer x.state) false) (IsLinkOf (link_words h)) kept t.each x e in
         (x.number, ap (option_map (λ (y : KeptLink). y.number)) e, sym (dialled_by h n x.number x.state here.1.state) ∙ here.0)
 
-module _ (h : History) (legal : IsLegal h) (rules : AdmissionRules) (t : AdmissionFollows (admission_words h) rules) (e : Entry) (answered : IsAnswered h e) (yes : is_accepted e.verdict ≡ true)
+module _ (h : History) (legal : IsPlayed h) (rules : AdmissionRules)
+    (t : AdmissionFollows (admission_words h) rules) (e : Entry) (answered : IsStep h e)
+    (yes : is_accepted e.verdict ≡ true)
     (j : ℕ) (body : List ℕ) (is : e.event ≡ Event.Frame j body) (c : ℕ) (a : IsState (facts h j) (LinkState.Name c)) (f : Name) (said : name_frame body ≡ Some f) (other : same f.name h.opening.name ≡ false) where
-  kept_open : (l : ℕ) → (is_open l h.entries && given_up_by j f h.entries l) ≡ false → is_open l (with_entry h e).entries ≡ is_open l h.entries
+  kept_open : (l : ℕ) → (is_open l h.entries && given_up_by j f h.entries l) ≡ false
+      → is_open l (just h e).entries ≡ is_open l h.entries
   kept_open l q = grind (arith, (named_links h e answered yes j body is f a.0.awaited said l).open_is)
 
-  introduced_now : IsIntroduced (facts (with_entry h e) j) f.name f.creation (is_visible rules f.flags) (link_version rules f.version) c
+  introduced_now : IsIntroduced (facts (just h e) j) f.name f.creation (is_visible rules f.flags)
+      (link_version rules f.version) c
   introduced_now =
       let on = name_taken h e answered yes j body is f a.0.awaited said in
       record {
@@ -117,8 +125,10 @@ module _ (h : History) (legal : IsLegal h) (rules : AdmissionRules) (t : Admissi
         challenge = a.1 ∙ sym (same_challenge h e answered yes j body is on);
       }
 
-  name_moves : (next : LinkState) (more : List OutFrame) (gone : Option ℕ) → IsState (facts (with_entry h e) j) next → welcome h j f.name ≡ more
-      → ((l : ℕ) → (is_open l h.entries && given_up_by j f h.entries l) ≡ not (stays_but gone l)) → AreMoves h (with_entry h e) j next more (stays_but gone)
+  name_moves : (next : LinkState) (more : List OutFrame) (gone : Option ℕ)
+      → IsState (facts (just h e) j) next → welcome h j f.name ≡ more
+      → ((l : ℕ) → (is_open l h.entries && given_up_by j f h.entries l) ≡ not (stays_but gone l))
+      → AreMoves h (just h e) j next more (stays_but gone)
   name_moves next more gone state frames ends = record {
     state = state;
     frames = grind (arith, (named_links h e answered yes j body is f a.0.awaited said j).waiting_is, eq-eqb j j refl, frames);
@@ -137,16 +147,25 @@ module _ (h : History) (legal : IsLegal h) (rules : AdmissionRules) (t : Admissi
       if up then Named.Alive (introduced rules c f) frames else Named.Reply (introduced rules c f) frames dialled
 
   module _ (kept : List KeptLink) (follow : LinksFollow (link_words h) kept) where
-    awaited : (up : Bool) → is_name_up f.name h.entries ≡ up → Awaits (facts (with_entry h e) j) (cond up AwaitAnswer AwaitReply) false
-    awaited up u = subst (λ b. Awaits (facts (with_entry h e) j) (cond b AwaitAnswer AwaitReply) false) u (own_awaits h e answered yes j body is (name_taken h e answered yes j body is f a.0.awaited said) (kept_open j (grind (arith, eq-eqb j j refl))))
+    awaited : (up : Bool) → is_name_up f.name h.entries ≡ up
+        → Awaits (facts (just h e) j) (cond up AwaitAnswer AwaitReply) false
+    awaited up u =
+        subst (λ b. Awaits (facts (just h e) j) (cond b AwaitAnswer AwaitReply) false) u
+        (own_awaits h e answered yes j body is
+        (name_taken h e answered yes j body is f a.0.awaited said)
+        (kept_open j (grind (arith, eq-eqb j j refl))))
 
-    pub name_goes : (up dialled : Bool) → is_name_up f.name h.entries ≡ up → is_dialling f.name h.entries ≡ dialled → Goes h (with_entry h e) j (λ now. dial_beside now kept) (heard_named (named_of up dialled))
+    pub name_goes : (up dialled : Bool) → is_name_up f.name h.entries ≡ up
+        → is_dialling f.name h.entries ≡ dialled
+        → Goes h (just h e) j (λ now. dial_beside now kept) (heard_named (named_of up dialled))
     name_goes true dialled u d = name_moves (LinkState.Answer (introduced rules c f)) (narrow_frames (owes.greeting_owed rules c StatusWord.Alive)) None
         (awaited true u, introduced_now) (grind (arith, u)) (λ l. grind (arith, u))
     name_goes false false u d = name_moves (LinkState.Reply (introduced rules c f)) (narrow_frames (owes.greeting_owed rules c (says.welcome false false))) None
         (awaited false u, introduced_now) (grind (arith, u, d, own_challenge_is h rules t j c a.1)) (λ l. grind (arith, d, is_known_dial f.name h.entries l))
     name_goes false true u d =
         let dial = find_dial h legal kept follow f.name d in
-        subst (λ gone. AreMoves h (with_entry h e) j (LinkState.Reply (introduced rules c f)) (narrow_frames (owes.greeting_owed rules c (says.welcome false true))) (stays_but gone)) (sym dial.1)
+        subst (λ gone. AreMoves h (just h e) j (LinkState.Reply (introduced rules c f))
+        (narrow_frames (owes.greeting_owed rules c (says.welcome false true))) (stays_but gone))
+        (sym dial.1)
         (name_moves (LinkState.Reply (introduced rules c f)) (narrow_frames (owes.greeting_owed rules c (says.welcome false true))) (Some dial.0)
         (awaited false u, introduced_now) (grind (arith, u, d, own_challenge_is h rules t j c a.1)) (λ l. grind (arith, where_dialled u dial.0 dial.2 l)))

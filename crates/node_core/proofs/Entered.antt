@@ -1,10 +1,13 @@
 -- A history with one entry more: what the policy says of it, and what is kept then.
 use Rattle.node_core.proofs.Words.{List, None, Option, Some, ap, arith, cond, false, length, refl, subst, suc, sym, ℕ, ◌<◌, ◌∙◌, ◌∷◌, ◌≡◌, ◌≤◌, ltb-true}
-use Rattle.node_core.proofs.Words.{IsChange, checks, first_broken, History, events, is_accepted, IsAnswered, IsNext, answer, is_full, verdict, with_entry}
+use Rattle.node_core.proofs.Words.{IsChange, checks, first_broken, History, events, is_accepted}
+use Rattle.node_core.proofs.Words.{IsStep, IsAlone, answer, is_full, verdict, just}
 use Rattle.node_core.proofs.Words.{Change, Entry, Verdict, Accepted, Refused, Event, Reply, Rule, how_many, is_restart, is_spawn, judged, IsSound, Follows}
 use Rattle.node_core.proofs.Words.{Parts, ◌&&◌, AdmissionFollows, AdmissionRules, KeptLink, LinksFollow, ProcessesFollow, Running, ScopesFollow, Spawned}
 use Rattle.node_core.proofs.Words.{admission_words, follows_other, link_words, process_words, scope_words}
-use Rattle.group_monitors.specs.Follows.{concerns_monitors}
+use Rattle.node_core.proofs.Words.{entered, is_entered, judgement, next_number, not, lt-ltb}
+use Rattle.node_core.proofs.Words.{eqb-true, true, IsNumbered, audited, audit_of, [], ◌+◌}
+use Rattle.group_monitors.specs.Follows.{FollowsPolicy, concerns_monitors}
 pub use Rattle.node_core.specs.Step.{made}
 
 module _ (h : History) (seat : ℕ) (ev : Event) (space : is_full h ≡ false) where
@@ -17,49 +20,100 @@ module _ (h : History) (seat : ℕ) (ev : Event) (space : is_full h ≡ false) w
   pub refused_now : (r : Rule) → first_broken (checks h seat ev) ≡ Some r → Refused r ≡ verdict h seat ev
   refused_now r found = sym (judge (Some r) found)
 
-  pub space_is : length h.entries < h.opening.entries
+  pub space_is : entered h.entries < h.opening.entries
   space_is = grind (arith, ltb-true)
 
-  pub answered_now : (v : Verdict) (cs : List Change) → v ≡ verdict h seat ev → IsAnswered h (made h seat ev v cs)
-  answered_now v cs is = record { room = space_is; number = refl; verdict = is }
+  pub answered_now : (v : Verdict) (cs : List Change) → v ≡ verdict h seat ev
+      → IsStep h (made h seat ev v cs)
+  answered_now v cs is = record {
+    number = by ev;
+    judged = is ∙ ap (λ b. cond b (Refused Rule.EntriesFull) (judgement h seat ev)) space;
+  }
+    where
+      by : (x : Event) → IsNumbered h (next_number h) x
+      by (Event.Lost l) = λ q. refl
+      by x = refl
 
-  pub next_now : (v : Verdict) (cs : List Change) → v ≡ verdict h seat ev → IsChange h (with_entry h (made h seat ev v cs)) cs → IsNext h (made h seat ev v cs)
+  pub next_now : (v : Verdict) (cs : List Change) → v ≡ verdict h seat ev
+      → IsChange h (just h (made h seat ev v cs)) cs → IsAlone h (made h seat ev v cs)
   next_now v cs is changes = record { room = space_is; number = refl; verdict = is; change = changes }
 
   -- an accepted event is the next entry, where its changes follow from its being made
   pub accepted_next : (r : Reply) (cs : List Change) → first_broken (checks h seat ev) ≡ None → answer h seat ev ≡ r
-      → (IsAnswered h (made h seat ev (Accepted r) cs) → IsChange h (with_entry h (made h seat ev (Accepted r) cs)) cs) → IsNext h (made h seat ev (Accepted r) cs)
+      → (IsStep h (made h seat ev (Accepted r) cs)
+      → IsChange h (just h (made h seat ev (Accepted r) cs)) cs)
+      → IsAlone h (made h seat ev (Accepted r) cs)
   accepted_next r cs holds is changes =
       let now = accepted_now r holds is in
       next_now (Accepted r) cs now (changes (answered_now (Accepted r) cs now))
 
-pub answered_by : {h : History} {e : Entry} → IsNext h e → IsAnswered h e
-answered_by next = record { room = next.room; number = next.number; verdict = next.verdict }
+pub answered_by : {h : History} {e : Entry} → IsAlone h e → IsStep h e
+answered_by {h} {e} next = record {
+  number = by e.event;
+  judged =
+      next.verdict ∙ ap (λ b. cond b (Refused Rule.EntriesFull) (judgement h e.seat e.event))
+      (ap not (lt-ltb (entered h.entries) h.opening.entries next.room));
+}
+  where
+    by : (ev : Event) → IsNumbered h e.number ev
+    by (Event.Lost l) = λ q. next.number
+    by ev = next.number
 
 -- at most one more was spawned
 spawned_more : (e : Entry) (es : List Entry) → how_many is_spawn (events (e ∷ es)) ≤ suc (how_many is_spawn (events es))
 spawned_more e es = grind (arith, is_restart e.event, is_spawn e.event)
 
-pub sound_now : (h : History) (e : Entry) → IsSound h → IsNext h e → IsSound (with_entry h e)
+-- an entry with the next number is one of the audit
+pub real : (h : History) (e : Entry) → IsAlone h e → is_entered e ≡ true
+real h e next = grind (arith, next.number, eqb-true e.number 0)
+
+pub one_entered : (h : History) (e : Entry) → IsAlone h e
+    → entered (e ∷ h.entries) ≡ suc (entered h.entries)
+one_entered h e next =
+    ap (λ b. cond b (suc (entered h.entries)) (entered h.entries)) (real h e next)
+
+pub sound_now : (h : History) (e : Entry) → IsSound h → IsAlone h e → IsSound (just h e)
 sound_now h e sound next = record {
-  legal = (next, sound.legal);
+  played = (answered_by next, sound.played);
   fits = sound.fits;
-  few = let space = next.room in omega (arith, space);
-  few_spawned = let more = spawned_more e h.entries in let so_far = sound.few_spawned in omega (arith, more, so_far);
+  few = let space = next.room in let one = one_entered h e next in omega (arith, space, one);
+  few_spawned = let more = spawned_more e h.entries in let so_far = sound.few_spawned in
+      let one = one_entered h e next in omega (arith, more, so_far, one);
   links = sound.links;
 }
 
+-- the audit has as many entries as are counted
+pub audit_size : (es : List Entry) → length (audited es) ≡ entered es
+audit_size [] = refl
+audit_size (e ∷ es) = grind (arith, audit_size es)
+
+pub audit_more : (h : History) (e : Entry) → IsAlone h e → audit_of (just h e) ≡ just (audit_of h) e
+audit_more h e next =
+    ap (λ b. record {
+      opening = h.opening;
+      entries = cond b (e ∷ audited h.entries) (audited h.entries);
+    }) (real h e next)
+
+-- so the next number is by the audit alone
+pub audit_next : (h : History) → next_number h ≡ length (audited h.entries) + 1
+audit_next h = ap (λ n. n + 1) (sym (audit_size h.entries))
+
 -- all that is kept follows the next entry, where no monitor is concerned
-pub step_follows : {h : History} {parts : Parts} {e : Entry} → Follows h parts → IsNext h e → (is_accepted e.verdict && concerns_monitors e.event) ≡ false → {a : AdmissionRules} {p : Spawned} {rs : List Running} {ks : List KeptLink}
-    → AdmissionFollows (admission_words (with_entry h e)) a → ProcessesFollow (process_words (with_entry h e)) p → ScopesFollow (scope_words (with_entry h e)) rs → LinksFollow (link_words (with_entry h e)) ks
-    → Follows (with_entry h e) (record parts { admission = a; processes = p; scopes = rs; links = ks })
+pub step_follows : {h : History} {parts : Parts} {e : Entry} → Follows h parts → IsAlone h e
+    → (is_accepted e.verdict && concerns_monitors e.event) ≡ false
+    → {a : AdmissionRules} {p : Spawned} {rs : List Running} {ks : List KeptLink}
+    → AdmissionFollows (admission_words (just h e)) a → ProcessesFollow (process_words (just h e)) p
+    → ScopesFollow (scope_words (just h e)) rs → LinksFollow (link_words (just h e)) ks
+    → Follows (just h e) (record parts { admission = a; processes = p; scopes = rs; links = ks })
 step_follows {h} {parts} {e} t next calm a p s l = record {
   sound = sound_now h e t.sound next;
   admission = a;
   processes = p;
   scopes = s;
   links = l;
-  monitors = follows_other h e parts.monitors next.number t.monitors calm;
+  monitors =
+      subst (λ k. FollowsPolicy k parts.monitors) (sym (audit_more h e next))
+      (follows_other (audit_of h) e parts.monitors (next.number ∙ audit_next h) t.monitors calm);
 }
 
 -- what follows the history that was opened follows the one that was given

@@ -2,20 +2,25 @@
 use Rattle.node_core.proofs.Words.{List, None, Some, ap, arith, cond, false, length, nat_eq, not, refl, sym, true, ℕ, [], ◌++◌, ◌+◌, ◌==◌, ◌∙◌, ◌∷◌, ◌≡◌}
 use Rattle.node_core.proofs.Words.{AllByRecursion, AllZip, filter, flat_map, same_decides, same, same_pid, Pid, count_after_exit, Table, stopped_lists}
 use Rattle.node_core.proofs.Words.{told_numbers, IsChange, local_rows, heard, told, History, creation, listed, OutFrame, waiting, wide, is_local}
-use Rattle.node_core.proofs.Words.{IsAnswered, IsNext, is_full, with_entry, Change, Entry, Accepted, Rule, Follows, Parts, all_frames, exit_frames, link_words}
+use Rattle.node_core.proofs.Words.{IsStep, is_full, just, Change, Entry, Accepted, Rule, Follows}
+use Rattle.node_core.proofs.Words.{Parts, all_frames, exit_frames, link_words}
 use Rattle.node_core.proofs.Words.{KeptLink, IsParting, rows_left, Spawned, IsRunningOf, is_number, scope_words, if_told, lives_of, exited_links, Running}
-use Rattle.node_core.proofs.Words.{AreExitsTold, count_but, HasParted, Message, Event, Reply, append-nil, append_assoc, ArePrepared, AreExits, IsDifference}
-use Rattle.node_core.proofs.Words.{and_parts, GroupChange, is_empty, count_of, subst}
+use Rattle.node_core.proofs.Words.{AreTold, AreIdle, committed, map, count_but, HasParted, Message}
+use Rattle.node_core.proofs.Words.{Event, Reply, append-nil, append_assoc, ArePrepared, AreExits}
+use Rattle.node_core.proofs.Words.{IsDifference}
+use Rattle.node_core.proofs.Words.{and_parts, GroupChange, is_empty, count_of, subst, IsOwnScope}
 use Rattle.scope_core.proofs.Rising.{all_map}
 use Rattle.policy_audit.proofs.LivesNow.{exits_more, lives_exited, spawned_exited}
 use Rattle.policy_audit.proofs.RowsAfter.{exited_rows}
 use Rattle.node_core.specs.declared.changes.Leaving.{Leaving}
 use Rattle.node_core.proofs.Entered.{step_follows, made, accepted_next, answered_by}
+use Rattle.node_core.proofs.Ended.{Turns}
+use Rattle.node_core.proofs.PeersKept.{exit_leaves, monitors_stay}
 use Rattle.node_core.proofs.Moved.{told_frames}
 use Rattle.node_core.proofs.Partings.{one_parting, partings_change}
-use Rattle.node_core.proofs.RowsGone.{left_are}
+use Rattle.node_core.proofs.RowsGone.{few_total, left_are}
 use Rattle.node_core.proofs.Starting.{names}
-use Rattle.node_core.proofs.Told.{told_follow, prepared_on}
+use Rattle.node_core.proofs.Told.{told_follow, prepared_on, prepared_waits}
 use Rattle.node_core.proofs.Zipped.{zipped_map, zipped_each}
 
 -- ---- the Leaves of a process, scope by scope
@@ -37,15 +42,34 @@ exits_on p rs r old mid new cs ds gs t d prepared more =
       links = subst (λ (f : ℕ → List OutFrame). ArePrepared f old new) (λ i l. sym (frames_end p rs t.all r (record { scope = r.scope; groups = gs }) l t.each) i) (prepared_on (all_frames rs t.all) (exit_frames r gs) old mid new t.links prepared);
     }
 
+-- the Leaves that were prepared wait
+pub record AreExitsTold (p : Pid) (rs : List Running) (old new : List KeptLink)
+    (cs : List Change) : Type 0 where
+  pub all : List Change
+  pub each : AllZip (IsParting (λ t. count_after_exit t p)) rs all
+  pub some : cs ≡ filter (λ c. not (is_empty c.groups)) all
+  pub links : AreTold (all_frames rs all) old new
+
+pub exits_wait : (p : Pid) (rs : List Running) (old mid : List KeptLink) (cs : List Change)
+    → AreIdle old → AreExits p rs old mid cs → AreExitsTold p rs old (map committed mid) cs
+exits_wait p rs old mid cs idle t = record {
+  all = t.all;
+  each = t.each;
+  some = t.some;
+  links = prepared_waits (all_frames rs t.all) old mid idle t.links;
+}
+
 -- ---- the rules
 
 module _ (h : History) (seat : ℕ) (parts : Parts) (t : Follows h parts) (p : Pid) (local : is_local h p ≡ true) where
   own_node : p.node ≡ h.opening.name
   own_node = (same_decides p.node h.opening.name).0 (and_parts (same p.node h.opening.name) (p.creation == creation h) local).0
 
-  -- the scopes are of the node of the process
-  pub exit_own : AllByRecursion (λ r. r.table.own ≡ p.node) parts.scopes
-  exit_own = all_map (IsRunningOf (scope_words h)) (λ r. r.table.own ≡ p.node) (λ r a. a.own ∙ sym own_node) parts.scopes t.scopes.each
+  -- the scopes are of the node of the process, with few own rows
+  pub exit_own : AllByRecursion (IsOwnScope p.node) parts.scopes
+  exit_own = all_map (IsRunningOf (scope_words h)) (IsOwnScope p.node)
+      (λ r a. record { own = a.own ∙ sym own_node; few = few_total h r a t.sound.played })
+      parts.scopes t.scopes.each
 
   -- ---- what is told
 
@@ -54,7 +78,8 @@ module _ (h : History) (seat : ℕ) (parts : Parts) (t : Follows h parts) (p : P
 
   its_frames : (l : ℕ) (r : Running) (c : Change) → IsRunningOf (scope_words h) r → IsParting (λ u. count_after_exit u p) r c → if_told h l r.scope (Message.Leave r.scope) (filter (λ w. same_pid w.pid p) (local_rows h r.scope)) ≡ exit_frames r c.groups l
   its_frames l r c a z =
-      ap (λ rows. if_told h l r.scope (Message.Leave r.scope) rows) (sym (left_are h r a t.sound.legal p (a.own ∙ sym own_node) c.groups z.groups))
+      ap (λ rows. if_told h l r.scope (Message.Leave r.scope) rows)
+      (sym (left_are h r a t.sound.played p (a.own ∙ sym own_node) c.groups z.groups))
       ∙ told_frames (rows_left c.groups) r.told.items (wide (Message.Leave r.scope (rows_left c.groups))) l (told l r.scope h.entries) (a.told l)
 
   frames_are : (l : ℕ) (rs : List Running) (cs : List Change) → AllByRecursion (IsRunningOf (scope_words h)) rs → AllZip (IsParting (λ u. count_after_exit u p)) rs cs → policy_frames l (names rs) ≡ all_frames rs cs l
@@ -67,9 +92,9 @@ module _ (h : History) (seat : ℕ) (parts : Parts) (t : Follows h parts) (p : P
     exit_entry = made h seat (Event.Exit p) (Accepted Reply.Done) cs
 
     abbrev pub exited : History
-    exited = with_entry h exit_entry
+    exited = just h exit_entry
 
-    module _ (its : IsAnswered h exit_entry) where
+    module _ (its : IsStep h exit_entry) where
       now_listed : (u f : List ℕ) (x : Pid) → listed exited u f x ≡ cond (same_pid x p) 0 (listed h u f x)
       now_listed u f x = exited_rows h exit_entry its refl p refl u f x
 
@@ -94,13 +119,14 @@ module _ (h : History) (seat : ℕ) (parts : Parts) (t : Follows h parts) (p : P
         ≡ count_after_exit x p f q)
         → (new : List Running) → AllZip (HasParted away) parts.scopes new → (q : Spawned) → q.spawned ≡ parts.processes.spawned
         → ((n : ℕ) → is_number n q.live ≡ cond (nat_eq p.number n) false (is_number n parts.processes.live)) → length q.live + 1 ≡ length parts.processes.live
-        → IsNext h exit_entry × Follows exited (record parts { scopes = new; links = links; processes = q })
+        → Turns h seat (Event.Exit p) cs
+        (record parts { scopes = new; links = links; processes = q }) (λ u. false) (λ x. x ≡ cs)
     exit_now space living away is new z q same live fewer =
         let alive = lives_of h p local ∙ sym (t.processes.live p.number) ∙ living in
         let next = accepted_next h seat (Event.Exit p) space Reply.Done cs (λ i. cond (not (local i)) (Some Rule.NotLocal) (cond (not (alive i)) (Some Rule.NoProcess) None)) refl exit_change in
-        let it = answered_by next in (
-          next,
-          step_follows t next refl t.admission
+        let it = answered_by next in record {
+          alone = next;
+          follows = step_follows t next refl t.admission
               (record {
                 spawned = same ∙ t.processes.spawned ∙ sym (spawned_exited h exit_entry it refl p refl);
                 live = λ n. live n ∙ ap (λ b. cond (nat_eq p.number n) false b) (t.processes.live n) ∙ sym (lives_exited h exit_entry it refl p refl n);
@@ -113,5 +139,8 @@ module _ (h : History) (seat : ℕ) (parts : Parts) (t : Follows h parts) (p : P
               (told_follow (link_words h) (link_words exited) (all_frames parts.scopes told_so.all) (λ l. refl)
               (told_numbers h exit_entry it refl refl (λ l. (exited_links h exit_entry it refl p refl l).kept_is)) parts.links links
               (λ l. ap (λ f. waiting h l ++ f) (ap (policy_frames l) (sym t.scopes.running) ∙ frames_are l parts.scopes told_so.all t.scopes.each told_so.each))
-              told_so.links t.links),
-        )
+              told_so.links t.links);
+          leaves = exit_leaves h seat cs p;
+          monitors = monitors_stay h seat parts.monitors t.monitors (Event.Exit p) refl;
+          owned = λ x is. rw is (exit_change it);
+        }

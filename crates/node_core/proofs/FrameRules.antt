@@ -4,9 +4,11 @@ use Rattle.node_core.proofs.Words.{refl, sym, true, ℕ, [], ◌&&◌, ◌∙◌
 use Rattle.node_core.proofs.Words.{AdmissionRules, is_dialled, Pending, StateRule, lie, always, first_broken, History, is_dialling, digest_for}
 use Rattle.node_core.proofs.Words.{own_challenge, is_name_up, peer_of, Rule, AdmissionFollows, admission_words, rule_of, is_gt, is_node_name}
 use Rattle.node_core.proofs.Words.{cookie_of, cookie, name_checks, ◌++◌, ◌==◌, filter, eq-eqb, is_accepted, is_open, named_by, OutFrame, frame_owes}
-use Rattle.node_core.proofs.Words.{waiting, IsAnswered, with_entry, awaits, challenge_in, is_last, Entry, IsIntroduced, IsState, facts, kept_numbers}
+use Rattle.node_core.proofs.Words.{waiting, IsStep, just, awaits, challenge_in, is_last, Entry}
+use Rattle.node_core.proofs.Words.{IsIntroduced, IsState, facts, kept_numbers}
 use Rattle.node_core.proofs.Words.{given, Awaited, entry_link, IsOnward, framed_numbers, Awaits, IsPeer, Event, get_or, length, set, subst, ◌<◌}
-use Rattle.node_core.proofs.Words.{eqb-true, is_empty, no_change, flip, checks, refusal_owes, running_scopes, IsNext, is_full, is_whole, Refused}
+use Rattle.node_core.proofs.Words.{eqb-true, is_empty, no_change, flip, checks, refusal_owes}
+use Rattle.node_core.proofs.Words.{running_scopes, IsAlone, is_full, is_whole, Refused}
 use Rattle.node_core.proofs.Words.{Follows, Parts, moved_on, without_link, LinksFollow, link_words, KeptLink, narrow_frames, ScopesFollow}
 use Rattle.node_core.proofs.Words.{scope_words, refusal_frames, entry_rows, and-true, dialled_peer}
 use Rattle.cookie_digest.specs.Digest.{digest_of}
@@ -69,9 +71,10 @@ module _ (h : History) (rules : AdmissionRules) (t : AdmissionFollows (admission
 pub same_stay : (test more : ℕ → Bool) (xs : List ℕ) → ((l : ℕ) → test l ≡ more l) → filter test xs ≡ filter more xs
 same_stay test more xs q = λ i. filter (λ l. q l i) xs
 
-module _ (h : History) (e : Entry) (answered : IsAnswered h e) (yes : is_accepted e.verdict ≡ true) (j : ℕ) (body : List ℕ) (is : e.event ≡ Event.Frame j body) where
+module _ (h : History) (e : Entry) (answered : IsStep h e) (yes : is_accepted e.verdict ≡ true)
+    (j : ℕ) (body : List ℕ) (is : e.event ≡ Event.Frame j body) where
   abbrev k : History
-  k = with_entry h e
+  k = just h e
 
   pub other_facts : (l : ℕ) → (j == l) ≡ false → is_open l k.entries ≡ is_open l h.entries → facts k l ≡ facts h l
   other_facts l apart opens = facts_same h k refl l (entry_link h.entries e j l body is apart) opens
@@ -126,8 +129,12 @@ module _ (h : History) (seat j : ℕ) (body : List ℕ) (r : Rule) where
   abbrev pub e : Entry
   e = made h seat (Event.Frame j body) (Refused r) []
 
-  pub refused_next : is_full h ≡ false → first_broken (checks h seat (Event.Frame j body)) ≡ Some r → IsNext h e
-  refused_next space found = next_now h seat (Event.Frame j body) space (Refused r) [] (refused_now h seat (Event.Frame j body) space r found) (no_change h (with_entry h e) (λ s g p. sym (entry_rows h e refl s g p)))
+  pub refused_next : is_full h ≡ false → first_broken (checks h seat (Event.Frame j body)) ≡ Some r
+      → IsAlone h e
+  refused_next space found =
+      next_now h seat (Event.Frame j body) space (Refused r) []
+      (refused_now h seat (Event.Frame j body) space r found)
+      (no_change h (just h e) (λ s g p. sym (entry_rows h e refl s g p)))
 
   module _ (opens : is_open j h.entries ≡ true) (unwhole : is_whole j h.entries ≡ false) (more : List OutFrame) (owed : refusal_owes r ≡ more) where
     -- the link goes where nothing waits for it
@@ -137,7 +144,7 @@ module _ (h : History) (seat j : ℕ) (body : List ℕ) (r : Rule) where
     stays_if : (l : ℕ) → not (j == l && is_empty (waiting h l ++ refusal_owes r)) ≡ stays_but gone l
     stays_if l = grind (arith, eqb-true j l, flip l j, owed)
 
-    refused_moves : AreMoves h (with_entry h e) j LinkState.Ended more (stays_but gone)
+    refused_moves : AreMoves h (just h e) j LinkState.Ended more (stays_but gone)
     refused_moves = record {
       state = grind (arith, (refused_links h e j body r refl refl unwhole j).open_is, eq-eqb j j refl);
       frames = grind (arith, (refused_links h e j body r refl refl unwhole j).waiting_is, eq-eqb j j refl, owed);
@@ -147,7 +154,7 @@ module _ (h : History) (seat j : ℕ) (body : List ℕ) (r : Rule) where
           ∙ same_stay (λ l. not (j == l && is_empty (waiting h l ++ refusal_owes r))) (stays_but gone) (kept_numbers h) stays_if;
     }
 
-    refused_scopes : scope_words (with_entry h e) ≡ scope_words h
+    refused_scopes : scope_words (just h e) ≡ scope_words h
     refused_scopes = λ i. record {
       own = h.opening.name;
       running = running_scopes h;
@@ -157,7 +164,12 @@ module _ (h : History) (seat j : ℕ) (body : List ℕ) (r : Rule) where
     }
 
     module _ (parts : Parts) (t : Follows h parts) (p : ℕ) (d : KeptLink) (less : p < length parts.links) (is : (get_or parts.links p d).number ≡ j) where
-      pub refused_follows : IsNext h e → (room : ℕ) (new : List KeptLink) → new ≡ without_link gone (set parts.links p (moved_on LinkState.Ended more room (get_or parts.links p d))) → Follows (with_entry h e) (record parts { links = new })
+      pub refused_follows : IsAlone h e → (room : ℕ) (new : List KeptLink)
+          → new ≡ without_link gone
+          (set parts.links p (moved_on LinkState.Ended more room (get_or parts.links p d)))
+          → Follows (just h e) (record parts { links = new })
       refused_follows next room new is_so = step_follows t next refl t.admission t.processes
           (subst (λ w. ScopesFollow w parts.scopes) (sym refused_scopes) t.scopes)
-          (subst (LinksFollow (link_words (with_entry h e))) (sym is_so) (moved_follow h _ t.sound.legal j LinkState.Ended more gone refused_moves parts.links t.links p d less is room))
+          (subst (LinksFollow (link_words (just h e))) (sym is_so)
+          (moved_follow h _ t.sound.played j LinkState.Ended more gone refused_moves parts.links
+          t.links p d less is room))

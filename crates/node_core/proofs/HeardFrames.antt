@@ -1,8 +1,9 @@
 -- A frame of the handshake, as the node hears it: the state of its link, and what is heard of it.
-use Rattle.node_core.proofs.Words.{nat_le, List, Some, false, get_or, nat_eq, position, refl, subst, sym, true, ℕ, ◌&&◌, ◌≡◌, History, is_last}
+use Rattle.node_core.proofs.Words.{nat_le, List, Some, false, get_or, refl, subst, sym, true, ℕ}
+use Rattle.node_core.proofs.Words.{◌&&◌, ◌≡◌, History, is_last}
 use Rattle.node_core.proofs.Words.{IsState, LinkFacts, facts, link_words, KeptLink, LinkState, Bool, None, Option, arith, length, ◌<◌, option_map}
 use Rattle.node_core.proofs.Words.{AdmissionRules, Pending, no_value, Follows, Parts, IsLinkOf, Heard, accepted_as}
-use Rattle.node_core.proofs.Words.{link_place}
+use Rattle.node_core.proofs.Words.{link_place, ap, asks, Event, is_whole, may_tell, said_on}
 use Rattle.node_core.proofs.KeptOn.{each_at, place_is}
 use Rattle.node_core.proofs.Found.{some_is}
 
@@ -35,6 +36,11 @@ module _ (f : LinkFacts) (s : LinkState) (a : IsState f s) where
 
   pub last_state : f.open_now ≡ true → is_last f.awaited ≡ true → is_last_state s ≡ true
   last_state opens last = grind (arith, a)
+
+-- a frame of an unfinished handshake owes no message
+pub unwhole_quiet : (h : History) (j : ℕ) (body : List ℕ) → is_whole j h.entries ≡ false
+    → may_tell h.entries (Event.Frame j body) ≡ false
+unwhole_quiet h j body unwhole = ap (λ b. b && asks (said_on j h.entries body)) unwhole
 
 -- the link at the place of a number
 module _ (h : History) (parts : Parts) (t : Follows h parts) (j p : ℕ)

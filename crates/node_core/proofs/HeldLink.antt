@@ -1,7 +1,9 @@
 -- A link that is taken out of the kept ones, and apart from its state, while it hears a frame.
 use Rattle.node_core.proofs.Words.{unroomed, is_whole, AdmissionRules, Pending, first_broken, checks, Event, rule_of, state_checks, Rule, Hears}
-use Rattle.node_core.proofs.Words.{Heard, IsNext, Refused, with_entry, refusal_owes, is_full, is_open, true, false, Bool, List, None, Option, Some}
-use Rattle.node_core.proofs.Words.{ap, arith, cond, find, get_or, length, nat_eq, position, refl, set, subst, suc, sym, zero, ℕ, [], ◌∷◌, ◌<◌, ◌∙◌}
+use Rattle.node_core.proofs.Words.{Heard, IsAlone, Refused, just, refusal_owes, is_full, is_open}
+use Rattle.node_core.proofs.Words.{true, false, Bool, List, None, Option, Some}
+use Rattle.node_core.proofs.Words.{ap, arith, cond, find, get_or, length, nat_eq, refl, set, subst}
+use Rattle.node_core.proofs.Words.{suc, sym, zero, ℕ, [], ◌∷◌, ◌<◌, ◌∙◌}
 use Rattle.node_core.proofs.Words.{◌≡◌, ◌≤◌, ◌++◌, get_or-set_same, option_map, option_map_or, kept_climbs, same, is_empty, History, Follows, Parts}
 use Rattle.node_core.proofs.Words.{IsState, facts, KeptLink, StatelessLink, in_state, with_room, LinkState, IsReady, HaveMoved, OutFrame, moved_on}
 use Rattle.node_core.proofs.Words.{without_link, waiting, Climbs, eq-eqb, eqb-true, filter, list_all, ltb-true, map, nat_lt, not, narrow_frames}
@@ -131,14 +133,17 @@ module _ {h : History} {parts : Parts} (t : Follows h parts) {j p : ℕ} {v w ou
           ≡ without_link (cond b (Some j) None) (set parts.links p (moved_on LinkState.Ended gs m.room (get_or parts.links p v)))
       by false q = ap (λ fs. set parts.links p (moved_on LinkState.Ended fs m.room (get_or parts.links p v))) q
       by true {gs = gs} q = changed_before parts.links p w
-          ∙ sym (others_stay parts.links p v (subst Climbs (sym t.links.numbers) (kept_climbs h t.sound.legal)) here)
+          ∙ sym (others_stay parts.links p v
+          (subst Climbs (sym t.links.numbers) (kept_climbs h t.sound.played)) here)
           ∙ ap (λ (n : ℕ). filter (λ (x : KeptLink). not (nat_eq x.number n)) parts.links) there
           ∙ sym (filter_set (λ x. not (nat_eq x.number j)) parts.links p v (moved_on LinkState.Ended gs m.room (get_or parts.links p v)) here (grind (arith, eq-eqb, there)) (grind (arith, eq-eqb, there)))
 
   -- where the frame breaks a rule, it ends
   pub held_broke : (seat : ℕ) (body : List ℕ) → is_whole j h.entries ≡ false → (rules : AdmissionRules) (pending : Pending) → first_broken (checks h seat (Event.Frame j body)) ≡ option_map rule_of (state.first_broken (state_checks rules pending s body))
       → (r : Rule) (frames : List (List ℕ)) → Hears rules pending s body (Heard.Ended r frames) → (new : List KeptLink) → HaveEnded p link frames left new
-      → IsNext h (made h seat (Event.Frame j body) (Refused r) []) × Follows (with_entry h (made h seat (Event.Frame j body) (Refused r) [])) (record parts { links = new })
+      → IsAlone h (made h seat (Event.Frame j body) (Refused r) [])
+      × Follows (just h (made h seat (Event.Frame j body) (Refused r) []))
+      (record parts { links = new })
   held_broke seat body unwhole rules pending same_rules r frames hears new ends =
       let there = is_there h parts t j p held.at v in
       let entered = refused_next h seat j body r held.space (same_rules ∙ ap (option_map rule_of) hears.2 ∙ ap Some (sym hears.1)) in
@@ -181,10 +186,10 @@ module _ {h : History} {parts : Parts} (t : Follows h parts) {j p : ℕ} {v w ou
 
   pub ups_beside : up_peer s ≡ None → (n : List ℕ)
       → is_up (beside left) n ≡ is_name_up n h.entries
-  ups_beside none n = ups_are h t.sound.legal parts.links t.links n left
+  ups_beside none n = ups_are h t.sound.played parts.links t.links n left
       (others_pass up_peer none n)
 
   pub dials_beside : dialled_peer s ≡ None → (n : List ℕ)
       → is_dialled (beside left) n ≡ is_dialling n h.entries
   dials_beside none n =
-      dials_are h t.sound.legal parts.links t.links n left (others_pass dialled_peer none n)
+      dials_are h t.sound.played parts.links t.links n left (others_pass dialled_peer none n)

@@ -1,9 +1,13 @@
 -- Own processes that join groups and leave them.
-use Rattle.node_core.proofs.Words.{lt-leb, All, Bool, List, None, Option, Some, ap, arith, cond, false, get_or, length, map, nat_le, not, position, refl, set}
+use Rattle.node_core.proofs.Words.{lt-leb, All, Bool, List, None, Option, Some, ap, arith, cond}
+use Rattle.node_core.proofs.Words.{false, get_or, length, map, nat_le, not, refl, set}
 use Rattle.node_core.proofs.Words.{sym, true, ℕ, [], ◌&&◌, ◌++◌, ◌+◌, ◌==◌, ◌∙◌, ◌∷◌, ◌≡◌, ◌≤◌, list_all, le-leb, leb-true, same_decides, listing, mentions}
 use Rattle.node_core.proofs.Words.{same, pid_cmp, Pid, Message, local_total, all_hold, unbroken, told_numbers, checks, first_broken, local_rows, row, History}
-use Rattle.node_core.proofs.Words.{listed, waiting, wide, is_local, is_running, lives, IsAnswered, IsNext, is_full, with_entry, Change, Entry, Accepted, Rule}
-use Rattle.node_core.proofs.Words.{IsCalmFault, Follows, Parts, link_words, KeptLink, IsMoved, ProcessesFollow, process_words, Spawned, IsRunningOf, is_number}
+use Rattle.node_core.proofs.Words.{listed, waiting, wide, is_local, is_running, lives, IsStep}
+use Rattle.node_core.proofs.Words.{is_full, just, Change, Entry, Accepted, Rule}
+use Rattle.node_core.proofs.Words.{IsChange, IsOwnChange, IsCalmFault, Follows, Parts, link_words}
+use Rattle.node_core.proofs.Words.{KeptLink, ProcessesFollow, process_words, Spawned, IsRunningOf}
+use Rattle.node_core.proofs.Words.{is_number}
 use Rattle.node_core.proofs.Words.{scope_words, if_among, said_to, max_rows, count_after_join, lives_of, joined_links, Running, CoreFault, IsJoinRefusal}
 use Rattle.node_core.proofs.Words.{own_checks, Event, Reply, Keeps, Kept, nat_lt, subst, ◌-◌, list_any, count_of, local_count, min, count_after_leave}
 use Rattle.node_core.proofs.Words.{is_any_joined, own, left_links, IsLeaveRefusal, AdmissionFollows, admission_words, running_scopes, heard, told, facts}
@@ -13,11 +17,14 @@ use Rattle.group_monitors.specs.Follows.{concerns_monitors}
 use Rattle.std.proofs.lemmas.List.Folds.{list_all_at}
 use Rattle.policy_audit.proofs.RowsAfter.{joined_rows, left_rows}
 use Rattle.node_core.proofs.Entered.{step_follows, made, accepted_next, answered_by}
+use Rattle.node_core.proofs.Ended.{Turns}
+use Rattle.node_core.proofs.LostChanges.{LeavesPeers}
+use Rattle.node_core.proofs.PeersKept.{join_leaves, leave_leaves, monitors_stay}
 use Rattle.node_core.proofs.RowsGone.{rows_total}
 use Rattle.node_core.proofs.Scopes.{own_counts}
 use Rattle.node_core.proofs.MessagePlaces.{scope_here, runs_here}
 use Rattle.node_core.proofs.Told.{told_follow}
-use Rattle.node_core.proofs.Moved.{moved_change, moved_frames, moved_scopes}
+use Rattle.node_core.proofs.Moved.{IsMoved, moved_change, moved_frames, moved_scopes}
 
 -- whether a process is an own one shows in what is kept
 pub local_by : {h : History} {kept : Kept} → Keeps h kept → (p : Pid) → (same p.node kept.opening.name && p.creation == kept.admission.creation) ≡ is_local h p
@@ -50,31 +57,60 @@ module _ {h : History} (seat : ℕ) {parts : Parts} (t : Follows h parts) (s : L
     entry = made h seat ev (Accepted Reply.Done) cs
 
     abbrev now : History
-    now = with_entry h entry
+    now = just h entry
 
-    module _ (rows : IsAnswered h entry → (u f : List ℕ) (q : Pid) → listed now u f q ≡ cond (same u s) (after (listed h u f q) f q) (listed h u f q)) where
-      rows_now : IsAnswered h entry → (f : List ℕ) (q : Pid) → listed now s f q ≡ after (count_of a.table f q) f q
+    module _ (rows : IsStep h entry → (u f : List ℕ) (q : Pid)
+        → listed now u f q ≡ cond (same u s) (after (listed h u f q) f q) (listed h u f q)) where
+      rows_now : IsStep h entry → (f : List ℕ) (q : Pid)
+          → listed now s f q ≡ after (count_of a.table f q) f q
       rows_now its f q = rows its s f q ∙ grind (arith, (same_decides s s).1 refl) ∙ ap (λ n. after n f q) (sym (there.rows f q ∙ ap (λ u. listed h u f q) its_scope))
 
-      others_now : IsAnswered h entry → (u f : List ℕ) (q : Pid) → same u s ≡ false → listed h u f q ≡ listed now u f q
+      others_now : IsStep h entry → (u f : List ℕ) (q : Pid) → same u s ≡ false
+          → listed h u f q ≡ listed now u f q
       others_now its u f q other = sym (rows its u f q ∙ grind (arith, other))
+
+      owned_now : IsStep h entry → (own : List Change)
+          → IsOwnChange a (λ f q. after (count_of a.table f q) f q) own → IsChange h now own
+      owned_now its own change =
+          let m = say a.scope brought in
+          moved_change h seat parts t s p here a b at m (λ f q. after (count_of a.table f q) f q)
+          links own
+          (record {
+            scope = moved.scope;
+            heard = moved.heard;
+            told = moved.told;
+            rows = moved.rows;
+            own = change;
+            links = moved.links;
+          })
+          now (rows_now its) (others_now its)
 
       moves_now : is_full h ≡ false → first_broken (checks h seat ev) ≡ None → answer h seat ev ≡ Reply.Done → concerns_monitors ev ≡ false → is_said (say a.scope brought) ≡ not (is_empty brought) → (admission_words now ≡ admission_words h) × (process_words now ≡ process_words h) × (running_scopes now ≡ running_scopes h)
           → ((l : ℕ) (u : List ℕ) → heard l u now.entries ≡ heard l u h.entries) → ((l : ℕ) (u : List ℕ) → told l u now.entries ≡ told l u h.entries) → ((l : ℕ) → facts now l ≡ facts h l)
-          → (IsAnswered h entry → kept_numbers now ≡ kept_numbers h) → ((l : ℕ) → waiting now l ≡ waiting h l ++ if_told h l s (say s) brought)
-          → IsNext h entry × Follows now (record parts { scopes = set parts.scopes p b; links = links })
-      moves_now space holds done calm brings same_words hears tells same_facts numbers waits =
+          → (IsStep h entry → kept_numbers now ≡ kept_numbers h)
+          → ((l : ℕ) → waiting now l ≡ waiting h l ++ if_told h l s (say s) brought)
+          → LeavesPeers h now (λ u. false)
+          → Turns h seat ev cs (record parts { scopes = set parts.scopes p b; links = links })
+          (λ u. false) (IsOwnChange a (λ f q. after (count_of a.table f q) f q))
+      moves_now space holds done calm brings same_words hears tells same_facts numbers waits
+          leaves =
           let m = say a.scope brought in
           let count : List ℕ → Pid → ℕ = λ f q. after (count_of a.table f q) f q in
           let next = accepted_next h seat ev space Reply.Done cs holds done (λ its. moved_change h seat parts t s p here a b at m count links cs moved now (rows_now its) (others_now its)) in
-          let its = answered_by next in (
-            next,
-            step_follows t next calm (subst (λ w. AdmissionFollows w parts.admission) (sym same_words.0) t.admission) (subst (λ w. ProcessesFollow w parts.processes) (sym same_words.1) t.processes)
+          let its = answered_by next in record {
+            alone = next;
+            follows =
+                step_follows t next calm
+                (subst (λ w. AdmissionFollows w parts.admission) (sym same_words.0) t.admission)
+                (subst (λ w. ProcessesFollow w parts.processes) (sym same_words.1) t.processes)
                 (moved_scopes h seat parts t s p here a b at m count links cs moved now (rows_now its) (others_now its) same_words.2 refl hears tells)
                 (told_follow (link_words h) (link_words now) (if_among (said_to a.told.items m) (wide m)) same_facts (numbers its) parts.links links
                 (λ l. waits l ∙ ap (λ f. waiting h l ++ f) (moved_frames h seat parts t s p here a b at m count links cs moved say brought l ∙ ap (λ c. if_among (cond c a.told.items []) (wide m) l) (sym brings)))
-                moved.links t.links),
-          )
+                moved.links t.links);
+            leaves = leaves;
+            owned = owned_now its;
+            monitors = monitors_stay h seat parts.monitors t.monitors ev calm;
+          }
 
 -- ---- the rules of a Join
 
@@ -100,7 +136,7 @@ module _ {h : History} (seat : ℕ) {parts : Parts} (t : Follows h parts) (s g :
     (ps : List Pid) {p : ℕ} (here : scope_place s parts.scopes ≡ Some p)
     {a : Running} (at : a ≡ get_or parts.scopes p a) where
   own_total : length (local_rows h s) ≡ local_total a.table
-  own_total = rows_total h s a (its_scope seat t s here at) (there seat t s here at) t.sound.legal
+  own_total = rows_total h s a (its_scope seat t s here at) (there seat t s here at) t.sound.played
 
   pub joins_own : first_broken (own_checks h ps) ≡ None → All (λ q. q.node ≡ a.table.own) ps
   joins_own q = own_nodes h a.table.own (there seat t s here at).own ps (unbroken (list_all (is_local h) ps) (all_hold (own_checks h ps) q).0)
@@ -112,12 +148,15 @@ module _ {h : History} (seat : ℕ) {parts : Parts} (t : Follows h parts) (s g :
 
   pub joined : (b : Running) (links : List KeptLink) (cs : List Change) → IsMoved (Message.Join a.scope (map (row g) (listing pid_cmp (λ q. mentions q ps) ps))) (count_after_join a.table g ps) a b parts.links links cs
       → is_full h ≡ false → first_broken (own_checks h ps) ≡ None → local_total a.table + length ps ≤ max_rows
-      → IsNext h (made h seat (Event.Join s g ps) (Accepted Reply.Done) cs) × Follows (with_entry h (made h seat (Event.Join s g ps) (Accepted Reply.Done) cs)) (record parts { scopes = set parts.scopes p b; links = links })
+      → Turns h seat (Event.Join s g ps) cs
+      (record parts { scopes = set parts.scopes p b; links = links }) (λ u. false)
+      (IsOwnChange a (count_after_join a.table g ps))
   joined b links cs moved space q few =
       let e = made h seat (Event.Join s g ps) (Accepted Reply.Done) cs in
       moves_now seat t s here at (Event.Join s g ps) Message.Join (map (row g) (listing pid_cmp (λ q. mentions q ps) ps)) (λ n f q. n + cond (same f g) (mentions q ps) 0) b links cs moved
       (λ its. joined_rows h e its refl s g ps refl) space (join_left h seat s g ps (runs_here t s p here) q ∙ rw (le-leb (length (local_rows h s) + length ps) max_rows (let is = own_total in omega (arith, is, few)))) refl refl refl (refl, refl, refl) (λ l u. refl) (λ l u. refl) (λ l. refl)
       (λ its. told_numbers h e its refl refl (λ l. (joined_links h e its refl s g ps refl l).kept_is)) (λ l. refl)
+      (join_leaves h seat cs s g ps)
 
 -- ---- a Leave
 
@@ -131,7 +170,7 @@ module _ {h : History} (seat : ℕ) {parts : Parts} (t : Follows h parts) (s g :
   module _ {p : ℕ} (here : scope_place s parts.scopes ≡ Some p) {a : Running} (at : a
       ≡ get_or parts.scopes p a) where
     abbrev counts : local_count a.table ≡ own h s
-    counts = own_counts h s a (its_scope seat t s here at) (there seat t s here at) t.sound.legal
+    counts = own_counts h s a (its_scope seat t s here at) (there seat t s here at) t.sound.played
 
     -- whether own processes are joined is what the table says
     any_joined : (qs : List Pid) → list_all (is_local h) qs ≡ true → list_any (λ x. nat_lt 0 (own h s g x)) qs ≡ is_any_joined a.table g qs
@@ -152,10 +191,13 @@ module _ {h : History} (seat : ℕ) {parts : Parts} (t : Follows h parts) (s g :
 
     pub left : (b : Running) (links : List KeptLink) (cs : List Change) → IsMoved (Message.Leave a.scope (map (row g) (listing pid_cmp (λ q. min (mentions q ps) (local_count a.table g q)) ps))) (count_after_leave a.table g ps) a b parts.links links cs
         → is_full h ≡ false → list_all (is_local h) ps ≡ true → is_any_joined a.table g ps ≡ true
-        → IsNext h (made h seat (Event.Leave s g ps) (Accepted Reply.Done) cs) × Follows (with_entry h (made h seat (Event.Leave s g ps) (Accepted Reply.Done) cs)) (record parts { scopes = set parts.scopes p b; links = links })
+        → Turns h seat (Event.Leave s g ps) cs
+        (record parts { scopes = set parts.scopes p b; links = links }) (λ u. false)
+        (IsOwnChange a (count_after_leave a.table g ps))
     left b links cs moved space local some =
         let e = made h seat (Event.Leave s g ps) (Accepted Reply.Done) cs in
         moves_now seat t s here at (Event.Leave s g ps) Message.Leave (map (row g) (listing pid_cmp (λ q. min (mentions q ps) (own h s g q)) ps)) (λ n f q. n - cond (same f g) (mentions q ps) 0) b links cs
         (subst (λ c. IsMoved (Message.Leave a.scope (map (row g) (listing pid_cmp (λ q. min (mentions q ps) (c g q)) ps))) (count_after_leave a.table g ps) a b parts.links links cs) counts moved)
         (λ its. left_rows h e its refl s g ps refl) space (leave_left local ∙ rw some) refl refl refl (refl, refl, refl) (λ l u. refl) (λ l u. refl) (λ l. refl)
         (λ its. told_numbers h e its refl refl (λ l. (left_links h e its refl s g ps refl l).kept_is)) (λ l. refl)
+        (leave_leaves h seat cs s g ps)

@@ -2,7 +2,8 @@
 use Rattle.node_core.proofs.Words.{IsState, Bool, List, Some, ap, arith, cond, false, get_or, length, map, nat_eq, nat_lt, position, refl, set, subst, suc, sym}
 use Rattle.node_core.proofs.Words.{true, zero, ℕ, [], ◌<◌, ◌∙◌, ◌∷◌, ◌≡◌, AllByRecursion, filter, list_all, option_map_or, eqb-true, ltb-true, position-Some}
 use Rattle.node_core.proofs.Words.{History, is_open, challenge_in, IsLinkOf, LinkWords, LinksFollow, facts, KeptLink, IsSameLink, Climbs, None, is_some}
-use Rattle.node_core.proofs.Words.{list_any, kept_among, is_kept, IsLegal, link_words, map-id, Name, Option, ◌&&◌, ◌==◌}
+use Rattle.node_core.proofs.Words.{list_any, kept_among, is_kept, IsPlayed, link_words, map-id}
+use Rattle.node_core.proofs.Words.{Name, Option, ◌&&◌, ◌==◌}
 use Rattle.std.proofs.Math.Seq.{map-set_same}
 use Rattle.std.proofs.lemmas.List.Folds.{list_all-map, list_all_at}
 use Rattle.std.proofs.lemmas.List.Elements.{All-from_recursion}
@@ -102,7 +103,8 @@ pub filter_all : {A : Type 0} (test : A → Bool) → ((x : A) → test x ≡ tr
 filter_all test all [] = refl
 filter_all test all (x ∷ xs) = ap (λ b. cond b (x ∷ filter test xs) (filter test xs)) (all x) ∙ ap (λ ys. x ∷ ys) (filter_all test all xs)
 
-module _ (h : History) (legal : IsLegal h) (kept : List KeptLink) (t : LinksFollow (link_words h) kept) (l : ℕ) where
+module _ (h : History) (legal : IsPlayed h) (kept : List KeptLink)
+    (t : LinksFollow (link_words h) kept) (l : ℕ) where
   -- a link is kept where it has a place
   pub kept_by_place : is_some (position (λ x. nat_eq x.number l) kept) ≡ is_kept h l
   kept_by_place =

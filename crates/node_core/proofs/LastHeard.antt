@@ -1,15 +1,19 @@
 -- What the last frame of a handshake makes of a node: its link comes up, or ends.
 use Rattle.node_core.proofs.Words.{leb-true, arith, get_or, Bool, List, Some, ap, is_some, length, map, refl, set, subst, sym, true, ℕ, [], ◌∙◌, ◌≡◌}
-use Rattle.node_core.proofs.Words.{◌≤◌, AllZip, unwrap_or, Linked, Pending, count_after_drop, lie, History, OutFrame, wide, IsNext, answer}
-use Rattle.node_core.proofs.Words.{with_entry, awaits, is_last, Change, Accepted, Refused, Reply, Rule, Follows, Parts, HaveEnded, older_of, Hears}
+use Rattle.node_core.proofs.Words.{◌≤◌, AllZip, unwrap_or, Linked, Pending, count_after_drop, lie}
+use Rattle.node_core.proofs.Words.{History, OutFrame, wide, IsAlone, answer}
+use Rattle.node_core.proofs.Words.{just, awaits, is_last, Change, Accepted, Refused, Reply, Rule}
+use Rattle.node_core.proofs.Words.{Follows, Parts, HaveEnded, older_of, Hears}
 use Rattle.node_core.proofs.Words.{is_handshake, KeptLink, StatelessLink, known_peer, narrow_frames, ArePartings, IsCutOff, LinkState, Running}
 use Rattle.node_core.proofs.Words.{HaveComeUp, Message, Event, Heard, cond, false, ◌++◌, ◌<◌, ◌∷◌, same, Pid, stopped_lists, heard, told, listed}
-use Rattle.node_core.proofs.Words.{discovers, IsAnswered, is_full, present_link, Entry, moved_on, without_link, LinksFollow, link_words, scope_words}
-use Rattle.node_core.proofs.Words.{IsState, facts, get_or-set_same, is_open, nat_eq, position, with_room}
-use Rattle.node_core.proofs.Words.{link_place}
+use Rattle.node_core.proofs.Words.{discovers, IsStep, is_full, present_link, Entry, moved_on}
+use Rattle.node_core.proofs.Words.{without_link, LinksFollow, link_words, scope_words}
+use Rattle.node_core.proofs.Words.{IsState, facts, get_or-set_same, is_open, with_room}
+use Rattle.node_core.proofs.Words.{link_place, is_whole, may_tell}
 use Rattle.node_core.proofs.Entered.{made, step_follows, accepted_now, answered_now, next_now}
 use Rattle.node_core.proofs.Found.{some_is}
-use Rattle.node_core.proofs.HeardFrames.{is_there, last_state, state_there, heard_leads, last_facts, is_last_state}
+use Rattle.node_core.proofs.HeardFrames.{is_there, unwhole_quiet, last_state, state_there}
+use Rattle.node_core.proofs.HeardFrames.{heard_leads, last_facts, is_last_state}
 use Rattle.node_core.proofs.HeldLink.{IsHeld, held_number, held_seen, held_state, held_moved, older_same, held_broke}
 use Rattle.node_core.proofs.CameUp.{ComesUp, answered_up, comes, visible_now, but_replaced, came_up_moves, older_present}
 use Rattle.policy_audit.proofs.HeardNow.{proved_heard}
@@ -29,17 +33,19 @@ module _ (h : History) (seat j : ℕ) (body : List ℕ) (up : Linked) (frames : 
   e = made h seat (Event.Frame j body) (Accepted r) cs
 
   abbrev pub k : History
-  k = with_entry h e
+  k = just h e
 
   module _ (space : is_full h ≡ false) (is : answer h seat (Event.Frame j body) ≡ r) where
-    up_answered : IsAnswered h e
+    up_answered : IsStep h e
     up_answered = answered_now h seat (Event.Frame j body) space (Accepted r) cs (accepted_now h seat (Event.Frame j body) space r (c.holds seat) is)
 
     module _ (parts : Parts) (t : Follows h parts) where
       rows : (s g : List ℕ) (p : Pid) → listed k s g p ≡ cond (same p.node up.peer) 0 (listed h s g p)
-      rows s g p = up_rows h t.sound.legal e up_answered refl j body refl up.peer c.last c.known.peer.peer c.known.peer.other s g p
+      rows s g p =
+          up_rows h t.sound.played e up_answered refl j body refl up.peer c.last c.known.peer.peer
+          c.known.peer.other s g p
 
-      pub up_next : ArePartings (λ x. count_after_drop x up.peer) parts.scopes cs → IsNext h e
+      pub up_next : ArePartings (λ x. count_after_drop x up.peer) parts.scopes cs → IsAlone h e
       up_next gone = next_now h seat (Event.Frame j body) space (Accepted r) cs (accepted_now h seat (Event.Frame j body) space r (c.holds seat) is)
           (partings_change h k (λ x. count_after_drop x up.peer)
           (λ x a g p. ap (cond (same p.node up.peer) 0) (a.rows g p) ∙ sym (rows x.scope g p))
@@ -55,25 +61,47 @@ module _ (h : History) (seat j : ℕ) (body : List ℕ) (up : Linked) (frames : 
         own = refl;
         running = refl;
         listed = rows;
-        heard = λ l s. grind (arith, (proved_heard h t.sound.legal e up_answered refl j body refl up.peer c.last c.known.peer.peer l s).heard_is, but_replaced h t.sound.legal up.peer j c.unwhole l (heard l s h.entries));
-        told = λ l s. grind (arith, (proved_heard h t.sound.legal e up_answered refl j body refl up.peer c.last c.known.peer.peer l s).told_is, but_replaced h t.sound.legal up.peer j c.unwhole l (told l s h.entries));
+        heard =
+            λ l s. grind (
+              arith,
+              (proved_heard h t.sound.played e up_answered refl j body refl up.peer c.last
+                  c.known.peer.peer l s).heard_is,
+              but_replaced h t.sound.played up.peer j c.unwhole l (heard l s h.entries),
+            );
+        told =
+            λ l s. grind (
+              arith,
+              (proved_heard h t.sound.played e up_answered refl j body refl up.peer c.last
+                  c.known.peer.peer l s).told_is,
+              but_replaced h t.sound.played up.peer j c.unwhole l (told l s h.entries),
+            );
       }
 
       module _ (p : ℕ) (d : KeptLink) (less : p < length parts.links) (there : (get_or parts.links p d).number ≡ j) where
         discovers_are : cond up.visible (map (λ x. wide (Message.Discover x.scope)) parts.scopes) [] ≡ discovers h j
         discovers_are = λ i. cond (sym (visible_now h j body up frames c) i) ((discovers_for parts.scopes ∙ ap (map (λ s. wide (Message.Discover s))) t.scopes.running) i) []
 
-        pub up_follows : IsNext h e → (room : ℕ) (asked : List OutFrame) → asked ≡ map (λ x. wide (Message.Discover x.scope)) parts.scopes → (left new : List KeptLink) → older_of up.peer left ≡ older_of up.peer parts.links
+        pub up_follows : IsAlone h e → (room : ℕ) (asked : List OutFrame)
+            → asked ≡ map (λ x. wide (Message.Discover x.scope)) parts.scopes
+            → (left new : List KeptLink) → older_of up.peer left ≡ older_of up.peer parts.links
             → new ≡ without_link (older_of up.peer left) (set parts.links p (moved_on (LinkState.Up up) (narrow_frames frames ++ cond up.visible asked []) room (get_or parts.links p d)))
             → (scopes : List Running) → AllZip (IsCutOff (unwrap_or (older_of up.peer left) j) up.peer) parts.scopes scopes → Follows k (record parts { links = new; scopes = scopes })
         up_follows next room asked these left new same_older is scopes cut = step_follows t next refl t.admission t.processes
             (cut_off_follow old_one up.peer (scope_words h) (scope_words k) scopes_cut_off parts.scopes scopes t.scopes
-            (subst (λ x. AllZip (IsCutOff (unwrap_or x j) up.peer) parts.scopes scopes) (same_older ∙ older_present h t.sound.legal up.peer parts.links t.links) cut))
+            (subst (λ x. AllZip (IsCutOff (unwrap_or x j) up.peer) parts.scopes scopes)
+            (same_older ∙ older_present h t.sound.played up.peer parts.links t.links) cut))
             (subst (LinksFollow (link_words k)) (sym (
             is
-            ∙ (λ i. without_link ((same_older ∙ older_present h t.sound.legal up.peer parts.links t.links) i) (set parts.links p (moved_on (LinkState.Up up) (narrow_frames frames ++ (ap (λ fs. cond up.visible fs []) these ∙ discovers_are) i) room (get_or parts.links p d))))))
-            (moved_follow h k t.sound.legal j (LinkState.Up up) (narrow_frames frames ++ discovers h j) (present_link up.peer h.entries)
-            (came_up_moves h t.sound.legal j body up frames c e up_answered refl refl) parts.links t.links p d less there room))
+            ∙ (λ i. without_link
+            ((same_older ∙ older_present h t.sound.played up.peer parts.links t.links) i)
+            (set parts.links p
+            (moved_on (LinkState.Up up)
+            (narrow_frames frames ++ (ap (λ fs. cond up.visible fs []) these ∙ discovers_are) i)
+            room (get_or parts.links p d))))))
+            (moved_follow h k t.sound.played j (LinkState.Up up)
+            (narrow_frames frames ++ discovers h j) (present_link up.peer h.entries)
+            (came_up_moves h t.sound.played j body up frames c e up_answered refl refl) parts.links
+            t.links p d less there room))
 
 -- the peer of a link that awaits the last frame is known, seen while it stands at its place with more room
 pub last_has_peer : {h : History} {parts : Parts} → Follows h parts
@@ -93,14 +121,23 @@ module _ {h : History} {parts : Parts} (t : Follows h parts) (seat : ℕ) (body 
   pub handshakes : is_handshake s ≡ true
   handshakes = grind (arith, late)
 
+  unwhole : is_whole j h.entries ≡ false
+  unwhole = (last_facts (facts h j) s (held_state t held) late).1
+
+  -- no message is owed
+  pub last_quiet : may_tell h.entries (Event.Frame j body) ≡ false
+  last_quiet = unwhole_quiet h j body unwhole
+
   module _ (pending : Pending) where
     pub last_never_on : (now : LinkState) (frames : List (List ℕ)) (gives_up : Bool) → Hears parts.admission pending s body (Heard.On now frames gives_up) → ⊥
     last_never_on now frames gives_up hears = lie (sym (heard_leads parts.admission pending body s (Heard.On now frames gives_up) hears.1) ∙ (grind (arith, late)))
 
     module _ (r : Rule) (frames : List (List ℕ)) (hears : Hears parts.admission pending s body (Heard.Ended r frames)) where
       pub last_broke : (new : List KeptLink) → HaveEnded p link frames left new
-          → IsNext h (made h seat (Event.Frame j body) (Refused r) []) × Follows (with_entry h (made h seat (Event.Frame j body) (Refused r) [])) (record parts { links = new })
-      last_broke new ends = held_broke t held seat body (last_facts (facts h j) s (held_state t held) late).1 parts.admission pending
+          → IsAlone h (made h seat (Event.Frame j body) (Refused r) [])
+          × Follows (just h (made h seat (Event.Frame j body) (Refused r) []))
+          (record parts { links = new })
+      last_broke new ends = held_broke t held seat body unwhole parts.admission pending
           (last_rules h parts.admission t.admission pending seat j body s late (held_state t held)) r frames hears new ends
 
     module _ (up : Linked) (frames : List (List ℕ)) (hears : Hears parts.admission pending s body (Heard.Up up frames)) where
@@ -119,13 +156,14 @@ module _ {h : History} {parts : Parts} (t : Follows h parts) (seat : ℕ) (body 
         reply_is : answer h seat (Event.Frame j body) ≡ r
         reply_is = answered_up h j body up frames it.0 seat ∙ sym (q ∙ ap (λ n. Reply.Up n up.creation up.visible) peer_is)
 
-        pub last_next : IsNext h (made h seat (Event.Frame j body) (Accepted r) cs)
+        pub last_next : IsAlone h (made h seat (Event.Frame j body) (Accepted r) cs)
         last_next = up_next h seat j body up frames it.0 r cs held.space reply_is parts t
             (subst (λ n. ArePartings (λ x. count_after_drop x n) parts.scopes cs) peer_is (subst (λ rs. ArePartings (λ x. count_after_drop x peer) rs cs) these gone))
 
         pub last_came_up : (new : List KeptLink) {asked : List OutFrame} → asked ≡ map (λ x. wide (Message.Discover x.scope)) running → HaveComeUp p link up frames asked left new
             → (scopes : List Running) → AllZip (IsCutOff (unwrap_or (older_of up.peer left) link.number) up.peer) parts.scopes scopes
-            → Follows (with_entry h (made h seat (Event.Frame j body) (Accepted r) cs)) (record parts { links = new; scopes = scopes })
+            → Follows (just h (made h seat (Event.Frame j body) (Accepted r) cs))
+            (record parts { links = new; scopes = scopes })
         last_came_up new {asked} discover ups scopes cut =
             let there = is_there h parts t j p held.at v in
             up_follows h seat j body up frames it.0 r cs held.space reply_is parts t p v there.0 there.1

@@ -17,6 +17,7 @@ pub mod MovedOn
 pub mod Told
 pub mod Openings
 pub mod Losing
+pub mod SlowLinks
 pub mod Taking
 -- the handshake
 pub mod FrameRules
@@ -33,13 +34,22 @@ pub mod MessageKept
 pub mod MessageRefused
 pub mod MessageScopes
 pub mod MessageRoom
+pub mod MessageSlow
 -- scopes
 pub mod Scopes
 pub mod OneScope
 pub mod ScopesCutOff
 pub mod Partings
+pub mod MergedGroups
+pub mod AllLost
 pub mod Starting
 pub mod Stopping
+-- links that end with an event
+pub mod Ends
+pub mod EndsLost
+pub mod LostChanges
+pub mod PeersKept
+pub mod Ending
 -- own rows
 pub mod Lives
 pub mod RowsGone
@@ -50,3 +60,5 @@ pub mod Exited
 -- admission
 pub mod Once
 pub mod Cookies
+pub mod Ended
+pub mod OwnChanges

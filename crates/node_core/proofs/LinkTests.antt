@@ -1,7 +1,8 @@
 -- Which peers are up and which are dialled, by the states of the kept links.
 use Rattle.node_core.proofs.Words.{Bool, List, None, Option, Some, ap, arith, cond, false, length, nat_lt, not, refl, sym, true, ℕ, [], ◌&&◌, ◌==◌, ◌||◌, ◌∙◌}
 use Rattle.node_core.proofs.Words.{◌∷◌, ◌≡◌, AllByRecursion, list_any, option_map_or, eqb-true, same_decides, is_empty, is_among, same, AdmissionRules, lie}
-use Rattle.node_core.proofs.Words.{allow_list, dial_checks, first_broken, History, is_dialling, is_open, is_unfinished_dial, is_up, IsLegal, awaits, is_name_up}
+use Rattle.node_core.proofs.Words.{allow_list, dial_checks, first_broken, History, is_dialling}
+use Rattle.node_core.proofs.Words.{is_open, is_unfinished_dial, is_up, IsPlayed, awaits, is_name_up}
 use Rattle.node_core.proofs.Words.{is_peer, is_whole, peer_of, AdmissionFollows, admission_words, IsLinkOf, IsState, LinksFollow, facts, link_words, KeptLink}
 use Rattle.node_core.proofs.Words.{dialled_peer, up_peer, allowed, is_dial_to, kept_links, name_up_kept, dialling_kept, LinkState, Awaits, Rule, flat_map}
 use Rattle.node_core.proofs.Words.{option_to_list, beside}
@@ -44,7 +45,7 @@ module _ (h : History) (n : List ℕ) where
   dialled_by l LinkState.Ended t = grind (arith, t)
   dialled_by l s t = undialled l (record { open_now = t.0.open_now; whole = t.0.whole; awaited = refl }) (ap is_acceptors t.0.awaited)
 
-  module _ (legal : IsLegal h) (kept : List KeptLink) (t : LinksFollow (link_words h) kept) where
+  module _ (legal : IsPlayed h) (kept : List KeptLink) (t : LinksFollow (link_words h) kept) where
     -- what a test of the states says, the words say of the numbers
     by_links : (f : LinkState → Option (List ℕ)) (g : ℕ → Bool) → ((l : ℕ) (s : LinkState) → IsState (facts h l) s → option_map_or (λ m. same m n) (f s) false ≡ g l)
         → list_any (λ x. option_map_or (λ m. same m n) (f x.state) false) kept ≡ list_any g (link_words h).numbers
@@ -95,7 +96,7 @@ any_some test f [] = refl
 any_some test f (x ∷ xs) = grind (arith, any_some test f xs)
 
 -- some links show what all the kept ones do, where as many of them pass the test
-module _ (h : History) (legal : IsLegal h) (kept : List KeptLink)
+module _ (h : History) (legal : IsPlayed h) (kept : List KeptLink)
     (t : LinksFollow (link_words h) kept) (n : List ℕ) (some : List KeptLink) where
   pub ups_are : list_any (λ x. option_map_or (λ m. same m n) (up_peer x.state) false) some
       ≡ list_any (λ x. option_map_or (λ m. same m n) (up_peer x.state) false) kept

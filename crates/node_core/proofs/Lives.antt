@@ -1,6 +1,7 @@
 -- The processes of a node after those that were spawned.
 use Rattle.node_core.proofs.Words.{List, arith, cond, false, length, nat_eq, nat_le, nat_lt, refl, sym, true, ℕ, [], ◌+◌, ◌∙◌, ◌≡◌, leb-true, lt-ltb}
-use Rattle.node_core.proofs.Words.{History, creation, lives, IsAnswered, IsLegal, answer, Accepted, Reply, ProcessesFollow, process_words, Spawned}
+use Rattle.node_core.proofs.Words.{History, creation, lives, IsStep, IsPlayed, answer, Accepted}
+use Rattle.node_core.proofs.Words.{Reply, ProcessesFollow, process_words, Spawned}
 use Rattle.node_core.proofs.Words.{and_parts, is_number, spawned, living, own_pid, Event, leb-false}
 use Rattle.policy_audit.proofs.LivesNow.{lives_spawned}
 use Rattle.node_core.proofs.Entered.{made}
@@ -23,7 +24,8 @@ module _ (h : History) (p : Spawned) (t : ProcessesFollow (process_words h) p) w
       let is = t.spawned in
       omega (arith, within, is))
 
-  pub spawned_follow : (seat : ℕ) (r : Reply) (q : Spawned) → IsLegal h → IsAnswered h (made h seat Event.Spawn (Accepted r) []) → q.spawned ≡ p.spawned + 1
+  pub spawned_follow : (seat : ℕ) (r : Reply) (q : Spawned) → IsPlayed h
+      → IsStep h (made h seat Event.Spawn (Accepted r) []) → q.spawned ≡ p.spawned + 1
       → ((n : ℕ) → is_number n q.live ≡ cond (nat_eq (p.spawned + 1) n) true (is_number n p.live)) → length q.live ≡ length p.live + 1
       → ProcessesFollow (process_words (answered h seat Event.Spawn r)) q
   spawned_follow seat r q legal its more live count = record {

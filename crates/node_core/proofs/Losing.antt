@@ -1,10 +1,13 @@
 -- Links that are lost or given up.
 use Rattle.node_core.proofs.Words.{List, None, Option, Some, ap, cond, false, get_or, length, nat_eq, not, position, refl, subst, sym, true, ℕ, ◌&&◌, ◌<◌, ◌∙◌}
-use Rattle.node_core.proofs.Words.{◌≡◌, filter, option_map_or, position-Some, same, no_value, and_both, History, is_open, is_up, IsAnswered, IsNext, is_full}
-use Rattle.node_core.proofs.Words.{with_entry, is_whole, peer_of, present_link, Change, Entry, Accepted, Follows, Parts, AreCut, AreLost, IsLinkOf, IsState}
+use Rattle.node_core.proofs.Words.{◌≡◌, filter, option_map_or, position-Some, same, no_value}
+use Rattle.node_core.proofs.Words.{and_both, History, is_open, is_up, IsStep, IsAlone, is_full}
+use Rattle.node_core.proofs.Words.{just, is_whole, peer_of, present_link, Change, Entry, Accepted}
+use Rattle.node_core.proofs.Words.{Follows, Parts, AreCut, AreLost, IsLinkOf, IsState}
 use Rattle.node_core.proofs.Words.{LinksFollow, facts, link_words, KeptLink, up_peer, agrees, LinkState, Running, Event, Reply, Bool, [], ◌==◌, and-true}
 use Rattle.node_core.proofs.Words.{eqb-true, Pid, count_after_drop, no_change, stopped_lists, flip, IsChange, heard, told, listed, waiting, running_scopes}
 use Rattle.node_core.proofs.Words.{ScopesFollow, scope_words, IsSameLink, IsHeardNow, arith}
+use Rattle.node_core.proofs.Words.{next_number}
 use Rattle.node_core.proofs.Words.{link_place, without_number}
 use Rattle.policy_audit.proofs.LinkFrames.{lost_links, disconnected_links}
 use Rattle.policy_audit.proofs.LinksLeft.{facts_left, lost_numbers, disconnected_numbers}
@@ -23,7 +26,7 @@ use Rattle.node_core.proofs.ScopesCutOff.{AreCutOff, cut_off_follow}
 -- link j is gone after k, and nothing else is said of other links
 pub record IsGone (h k : History) (j : ℕ) : Type 0 where
   pub name : k.opening ≡ h.opening
-  pub same : (l : ℕ) → IsSameLink l h.entries k.entries
+  pub same : (l : ℕ) → (j == l) ≡ false → IsSameLink l h.entries k.entries
   pub opens : (l : ℕ) → is_open l k.entries ≡ (is_open l h.entries && not (j == l))
   pub waits : (l : ℕ) → waiting k l ≡ cond (j == l) [] (waiting h l)
   pub numbers : kept_numbers k ≡ filter (λ l. not (j == l)) (kept_numbers h)
@@ -32,7 +35,9 @@ pub record IsGone (h k : History) (j : ℕ) : Type 0 where
 
 module _ (h k : History) (j : ℕ) (gone : IsGone h k j) where
   other_facts : (l : ℕ) → (j == l) ≡ false → facts k l ≡ facts h l
-  other_facts l other = facts_same h k gone.name l (gone.same l) (gone.opens l ∙ ap (λ b. is_open l h.entries && not b) other ∙ and-true (is_open l h.entries))
+  other_facts l other =
+      facts_same h k gone.name l (gone.same l other)
+      (gone.opens l ∙ ap (λ b. is_open l h.entries && not b) other ∙ and-true (is_open l h.entries))
 
   other_link : (x : KeptLink) → (j == x.number) ≡ false → IsLinkOf (link_words h) x → IsLinkOf (link_words k) x
   other_link x other it = same_link x (other_facts x.number other) (gone.waits x.number ∙ grind (arith, other)) it
@@ -106,6 +111,35 @@ up_with h l s n t q = no_value (sym q)
 
 -- ---- a link that is lost
 
+-- by an accepted Lost of link j
+pub gone_by : (h : History) (number seat j : ℕ) (cs : List Change)
+    → IsGone h (just h
+    (record {
+      number = number;
+      seat = seat;
+      event = Event.Lost j;
+      verdict = Accepted Reply.Done;
+      change = cs;
+    })) j
+gone_by h number seat j cs =
+    let e : Entry =
+    record {
+      number = number;
+      seat = seat;
+      event = Event.Lost j;
+      verdict = Accepted Reply.Done;
+      change = cs;
+    } in
+    record {
+      name = refl;
+      same = λ l apart. facts_left h.entries e refl l;
+      opens = λ l. (lost_links h e refl j refl l).open_is;
+      waits = λ l. (lost_links h e refl j refl l).waiting_is;
+      numbers = lost_numbers h e refl j refl;
+      running = refl;
+      heard = lost_heard h e refl j refl;
+    }
+
 module _ (h : History) (seat j : ℕ) (cs : List Change) (parts : Parts) (t : Follows h parts) (p : ℕ)
     (d : KeptLink) (found : link_place j parts.links ≡ Some p) where
   abbrev loss : Entry
@@ -115,36 +149,38 @@ module _ (h : History) (seat j : ℕ) (cs : List Change) (parts : Parts) (t : Fo
   link = get_or parts.links p d
 
   it : IsLinkOf (link_words h) link × (link.number ≡ j) × (p < length parts.links)
-  it = link_at h t.sound.legal parts.links t.links j p d found
+  it = link_at h t.sound.played parts.links t.links j p d found
 
   its_state : IsState (facts h j) link.state
   its_state = subst (λ l. IsState (facts h l) link.state) it.1 it.0.state
 
-  lost_gone : IsGone h (with_entry h loss) j
-  lost_gone = record {
-    name = refl;
-    same = λ l. facts_left h.entries loss refl l;
-    opens = λ l. (lost_links h loss refl j refl l).open_is;
-    waits = λ l. (lost_links h loss refl j refl l).waiting_is;
-    numbers = lost_numbers h loss refl j refl;
-    running = refl;
-    heard = lost_heard h loss refl j refl;
-  }
+  lost_gone : IsGone h (just h loss) j
+  lost_gone = gone_by h (next_number h) seat j cs
 
-  lost_listed : IsAnswered h loss → (o : Option (List ℕ)) → up_peer link.state ≡ o → RowsGone h (with_entry h loss) j lost_gone o
-  lost_listed answered None q = lost_other h t.sound.legal loss answered refl j refl (down_by h j link.state its_state q)
-  lost_listed answered (Some n) q = (let up = up_with h j link.state n its_state q in lost_rows h t.sound.legal loss answered refl j n refl up.up up.peer up.other)
+  lost_listed : IsStep h loss → (o : Option (List ℕ)) → up_peer link.state ≡ o
+      → RowsGone h (just h loss) j lost_gone o
+  lost_listed answered None q =
+      lost_other h t.sound.played loss answered refl j refl (down_by h j link.state its_state q)
+  lost_listed answered (Some n) q =
+      (let up = up_with h j link.state n its_state q in
+      lost_rows h t.sound.played loss answered refl j n refl up.up up.peer up.other)
 
   pub lost : is_full h ≡ false → AreLost (up_peer link.state) parts.scopes cs → (scopes : List Running) → AreCut link.number (up_peer link.state) parts.scopes scopes
-      → IsNext h loss × Follows (with_entry h loss) (record parts { scopes = scopes; links = filter (λ x. not (nat_eq x.number j)) parts.links })
+      → IsAlone h loss
+      × Follows (just h loss)
+      (record parts { scopes = scopes; links = filter (λ x. not (nat_eq x.number j)) parts.links })
   lost space gone scopes cuts =
-      let next = accepted_next h seat (Event.Lost j) space Reply.Done cs (rw (is_kept_at h t.sound.legal parts.links t.links j p found)) refl
-      (λ its. gone_change h (with_entry h loss) j lost_gone (up_peer link.state) (lost_listed its (up_peer link.state) refl) parts.scopes cs gone t.scopes) in (
+      let next = accepted_next h seat (Event.Lost j) space Reply.Done cs
+      (rw (is_kept_at h t.sound.played parts.links t.links j p found)) refl
+      (λ its. gone_change h (just h loss) j lost_gone (up_peer link.state)
+      (lost_listed its (up_peer link.state) refl) parts.scopes cs gone t.scopes) in (
         next,
         step_follows t next refl t.admission t.processes
-            (gone_scopes h (with_entry h loss) j lost_gone (up_peer link.state) (down_by h j link.state its_state) (lost_listed (answered_by next) (up_peer link.state) refl)
+            (gone_scopes h (just h loss) j lost_gone (up_peer link.state)
+            (down_by h j link.state its_state)
+            (lost_listed (answered_by next) (up_peer link.state) refl)
             parts.scopes scopes (subst (λ l. AreCut l (up_peer link.state) parts.scopes scopes) it.1 cuts) t.scopes)
-            (gone_links h (with_entry h loss) j lost_gone parts.links t.links),
+            (gone_links h (just h loss) j lost_gone parts.links t.links),
       )
 
 -- ---- a link that is given up
@@ -170,29 +206,44 @@ module _ (h : History) (seat : ℕ) (n : List ℕ) (cs : List Change) (parts : P
     its_up = up_with h last.number last.state n here.state peer_is
 
     present : present_link n h.entries ≡ Some last.number
-    present = (agrees h.opening h.entries t.sound.legal n last.number).1 (its_up.up, its_up.peer)
+    present = (agrees h.opening h.entries t.sound.played n last.number).1 (its_up.up, its_up.peer)
 
-    parting_gone : IsGone h (with_entry h parting) last.number
+    parting_gone : IsGone h (just h parting) last.number
     parting_gone = record {
       name = refl;
-      same = λ l. facts_left h.entries parting refl l;
-      opens = λ l. (disconnected_links h parting refl t.sound.legal n last.number present refl l).open_is;
-      waits = λ l. (disconnected_links h parting refl t.sound.legal n last.number present refl l).waiting_is;
-      numbers = disconnected_numbers h parting refl t.sound.legal n last.number present refl;
+      same = λ l apart. facts_left h.entries parting refl l;
+      opens =
+          λ l. (disconnected_links h parting refl t.sound.played n last.number present refl
+          l).open_is;
+      waits =
+          λ l. (disconnected_links h parting refl t.sound.played n last.number present refl
+          l).waiting_is;
+      numbers = disconnected_numbers h parting refl t.sound.played n last.number present refl;
       running = refl;
-      heard = disconnected_heard h parting refl t.sound.legal n last.number present refl;
+      heard = disconnected_heard h parting refl t.sound.played n last.number present refl;
     }
 
-    parting_listed : IsAnswered h parting → RowsGone h (with_entry h parting) last.number parting_gone (up_peer last.state)
-    parting_listed answered = subst (RowsGone h (with_entry h parting) last.number parting_gone) (sym peer_is) (disconnected_rows h t.sound.legal parting answered refl n refl its_up.other)
+    parting_listed : IsStep h parting
+        → RowsGone h (just h parting) last.number parting_gone (up_peer last.state)
+    parting_listed answered =
+        subst (RowsGone h (just h parting) last.number parting_gone) (sym peer_is)
+        (disconnected_rows h t.sound.played parting answered refl n refl its_up.other)
 
     pub parted : is_full h ≡ false → AreLost (up_peer last.state) parts.scopes cs → (scopes : List Running) (number : ℕ) → number ≡ last.number → AreCut last.number (up_peer last.state) parts.scopes scopes
-        → IsNext h parting × Follows (with_entry h parting) (record parts { scopes = scopes; links = filter (λ x. not (nat_eq x.number number)) parts.links })
+        → IsAlone h parting
+        × Follows (just h parting)
+        (record parts {
+          scopes = scopes;
+          links = filter (λ x. not (nat_eq x.number number)) parts.links;
+        })
     parted space lost scopes number is cuts =
         let next = accepted_next h seat (Event.Disconnect n) space Reply.Done cs (rw present) refl
-        (λ its. gone_change h (with_entry h parting) last.number parting_gone (up_peer last.state) (parting_listed its) parts.scopes cs lost t.scopes) in (
+        (λ its. gone_change h (just h parting) last.number parting_gone (up_peer last.state)
+        (parting_listed its) parts.scopes cs lost t.scopes) in (
           next,
           step_follows t next refl t.admission t.processes
-              (gone_scopes h (with_entry h parting) last.number parting_gone (up_peer last.state) (down_by h last.number last.state here.state) (parting_listed (answered_by next)) parts.scopes scopes cuts t.scopes)
-              (rw is (gone_links h (with_entry h parting) last.number parting_gone parts.links t.links)),
+              (gone_scopes h (just h parting) last.number parting_gone (up_peer last.state)
+              (down_by h last.number last.state here.state) (parting_listed (answered_by next))
+              parts.scopes scopes cuts t.scopes)
+              (rw is (gone_links h (just h parting) last.number parting_gone parts.links t.links)),
         )

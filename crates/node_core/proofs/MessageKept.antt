@@ -1,10 +1,12 @@
 -- What a node keeps after a message that is accepted.
 use Rattle.node_core.proofs.Words.{Bool, List, None, Some, ap, cond, false, nat_eq, position, refl, set, subst, sym, true, ℕ, [], ◌++◌, ◌==◌, ◌∙◌, ◌≡◌}
 use Rattle.node_core.proofs.Words.{option_map_or, eq-eqb, eqb-true, append-nil, Message, kept_climbs, flip, IsChange, always, checks}
-use Rattle.node_core.proofs.Words.{first_broken, frame_checks, message_checks, said_on, History, is_open, is_up, named_by, waiting, IsAnswered, IsLegal}
-use Rattle.node_core.proofs.Words.{IsNext, is_full, up_answer, verdict, with_entry, AwaitMessage, awaits, challenge_in, is_last, is_whole, Change, Entry}
+use Rattle.node_core.proofs.Words.{first_broken, frame_checks, message_checks, said_on, History}
+use Rattle.node_core.proofs.Words.{is_open, is_up, named_by, waiting, IsStep, IsPlayed}
+use Rattle.node_core.proofs.Words.{IsAlone, is_full, up_answer, verdict, just, AwaitMessage, awaits}
+use Rattle.node_core.proofs.Words.{challenge_in, is_last, is_whole, Change, Entry}
 use Rattle.node_core.proofs.Words.{Accepted, IsState, LinksFollow, facts, link_words, KeptLink, message_owes, entry_link, framed_numbers, Event, Reply, Rule}
-use Rattle.node_core.proofs.Words.{and_parts, arith}
+use Rattle.node_core.proofs.Words.{and_parts, arith, asks, may_tell}
 use Rattle.policy_audit.proofs.Onward.{message_taken_on}
 use Rattle.policy_audit.proofs.LinkFrames.{message_links}
 use Rattle.node_core.proofs.Entered.{made, accepted_now, answered_now, next_now}
@@ -19,23 +21,29 @@ message_rules h seat l body up awaited =
     ap (λ b. first_broken (cond b (frame_checks h l body (awaits l h.entries)) (always Rule.NoSuchLink))) (and_parts (is_open l h.entries) (is_whole l h.entries) up).0
     ∙ ap (λ a. first_broken (frame_checks h l body a)) awaited
 
+-- no message but a Discover is owed one
+pub unasked : (h : History) (l : ℕ) (body : List ℕ) (m : Message)
+    → said_on l h.entries body ≡ Some m → asks (Some m) ≡ false
+    → may_tell h.entries (Event.Frame l body) ≡ false
+unasked h l body m says quiet = grind (arith, says, quiet)
+
 module _ (h : History) (seat l : ℕ) (body : List ℕ) (m : Message) (space : is_full h ≡ false) (up : is_up l h.entries ≡ true) (awaited : awaits l h.entries ≡ AwaitMessage)
     (says : said_on l h.entries body ≡ Some m) (holds : first_broken (message_checks h l m) ≡ None) (cs : List Change) where
   abbrev pub entry : Entry
   entry = made h seat (Event.Frame l body) (Accepted Reply.Done) cs
 
   abbrev pub now : History
-  now = with_entry h entry
+  now = just h entry
 
-  its_verdict : Accepted Reply.Done ≡ verdict h seat (Event.Frame l body)
+  pub its_verdict : Accepted Reply.Done ≡ verdict h seat (Event.Frame l body)
   its_verdict = accepted_now h seat (Event.Frame l body) space Reply.Done
       (message_rules h seat l body up awaited ∙ ap (λ o. first_broken (option_map_or (message_checks h l) o (always Rule.BadFrame))) says ∙ holds)
       (ap (λ a. cond (is_last a) (up_answer h l) Reply.Done) awaited)
 
-  pub its_answered : IsAnswered h entry
+  pub its_answered : IsStep h entry
   its_answered = answered_now h seat (Event.Frame l body) space (Accepted Reply.Done) cs its_verdict
 
-  pub its_next : IsChange h now cs → IsNext h entry
+  pub its_next : IsChange h now cs → IsAlone h entry
   its_next change = next_now h seat (Event.Frame l body) space (Accepted Reply.Done) cs its_verdict change
 
   -- ---- links
@@ -71,7 +79,9 @@ module _ (h : History) (seat l : ℕ) (body : List ℕ) (m : Message) (space : i
   silent_links nothing kept t = subst (λ w. LinksFollow w kept) (sym (same_links h now refl same_facts (λ j. waits j ∙ grind (arith, nothing j, append-nil (waiting h j))))) t
 
   -- else what is owed waits for its link
-  pub owed_links : (kept : List KeptLink) → IsLegal h → LinksFollow (link_words h) kept → (p : ℕ) (x y : KeptLink) → position (λ z. nat_eq z.number l) kept ≡ Some p → IsUpHere h l x → y.number ≡ x.number → y.state ≡ x.state
+  pub owed_links : (kept : List KeptLink) → IsPlayed h → LinksFollow (link_words h) kept
+      → (p : ℕ) (x y : KeptLink) → position (λ z. nat_eq z.number l) kept ≡ Some p → IsUpHere h l x
+      → y.number ≡ x.number → y.state ≡ x.state
       → y.prepared ≡ [] → y.frames ≡ x.frames ++ message_owes h l m → LinksFollow (link_words now) (set kept p y)
   owed_links kept legal t p x y q here number state idle frames =
       let place = place_is kept l p x q in

@@ -1,5 +1,6 @@
 -- Where the link and the scope of a message are kept.
-use Rattle.node_core.proofs.Words.{arith, Follows, Parts, List, None, Some, ap, cond, false, get_or, is_some, length, nat_eq, position, refl, subst, sym, true}
+use Rattle.node_core.proofs.Words.{arith, Follows, Parts, List, None, Some, ap, cond, false, get_or}
+use Rattle.node_core.proofs.Words.{is_some, length, refl, subst, sym, true}
 use Rattle.node_core.proofs.Words.{ℕ, ◌<◌, ◌∙◌, ◌≡◌, get_or_default, position-Some, same_decides, same, Linked, lie, History, is_open}
 use Rattle.node_core.proofs.Words.{is_up, is_kept, waiting, is_running, AwaitMessage, awaits, is_whole, IsIntroduced, IsLinkOf, IsState, LinkFacts, facts}
 use Rattle.node_core.proofs.Words.{and_parts, link_words, KeptLink, IsRunningOf, scope_words, Running, LinkState}
@@ -29,7 +30,7 @@ module _ {h : History} {parts : Parts} (t : Follows h parts) (l : ℕ) (up : is_
   pub up_here : {p : ℕ} {x : KeptLink} → link_place l parts.links ≡ Some p → x
       ≡ get_or parts.links p x → IsUpHere h l x
   up_here {p} {x} q is =
-      let at = link_at h t.sound.legal parts.links t.links l p x q in
+      let at = link_at h t.sound.played parts.links t.links l p x q in
       let here : IsLinkOf (link_words h) x = subst (IsLinkOf (link_words h)) (sym is) at.0 in
       let number : x.number ≡ l = ap (λ y. y.number) is ∙ at.1 in
       let found = up_state (facts h l) x.state (subst (λ n. IsState (facts h n) x.state) number here.state) (and_parts (is_open l h.entries) (is_whole l h.entries) up).0 (and_parts (is_open l h.entries) (is_whole l h.entries) up).1 in
@@ -73,17 +74,20 @@ same_there h rs s p r q there is = is ∙ get_or_default rs p q r there.within �
 
 module _ {h : History} {parts : Parts} (t : Follows h parts) (l : ℕ) where
   pub closed_here : link_place l parts.links ≡ None → is_open l h.entries ≡ false
-  closed_here q = grind (arith, not_kept h t.sound.legal parts.links t.links l q)
+  closed_here q = grind (arith, not_kept h t.sound.played parts.links t.links l q)
 
   pub waits_none : link_place l parts.links ≡ None → None
       ≡ cond (is_kept h l) (Some (length (waiting h l))) None
-  waits_none q = sym (ap (λ b. cond b (Some (length (waiting h l))) None) (not_kept h t.sound.legal parts.links t.links l q))
+  waits_none q =
+      sym (ap (λ b. cond b (Some (length (waiting h l))) None)
+      (not_kept h t.sound.played parts.links t.links l q))
 
   pub waits_some : {p : ℕ} {x : KeptLink} → link_place l parts.links ≡ Some p → x
       ≡ get_or parts.links p x → Some (length x.frames)
       ≡ cond (is_kept h l) (Some (length (waiting h l))) None
   waits_some {p} {x} q is =
-      let at = link_at h t.sound.legal parts.links t.links l p x q in
+      let at = link_at h t.sound.played parts.links t.links l p x q in
       let here : IsLinkOf (link_words h) x = subst (IsLinkOf (link_words h)) (sym is) at.0 in
       ap (λ fs. Some (length fs)) (here.frames ∙ ap (waiting h) (ap (λ y. y.number) is ∙ at.1))
-      ∙ sym (ap (λ b. cond b (Some (length (waiting h l))) None) (is_kept_at h t.sound.legal parts.links t.links l p q))
+      ∙ sym (ap (λ b. cond b (Some (length (waiting h l))) None)
+      (is_kept_at h t.sound.played parts.links t.links l p q))

@@ -1,9 +1,11 @@
 -- What each accepted message makes of its scope and of its link.
-use Rattle.node_core.proofs.Words.{Bool, List, arith, message_owes, position, length, ◌≤◌, early_checks, up_peer, node_total, max_rows, are_counted, CoreFault}
+use Rattle.node_core.proofs.Words.{Bool, List, arith, message_owes, length, ◌≤◌, early_checks}
+use Rattle.node_core.proofs.Words.{up_peer, node_total, max_rows, are_counted, CoreFault}
 use Rattle.node_core.proofs.Words.{IsAddRefusal, IsTakeRefusal, IsCalmFault, None, Some, ap, cond, false, get_or, nat_eq, not, refl, set, subst, sym, true, ℕ}
 use Rattle.node_core.proofs.Words.{[], ◌&&◌, ◌+◌, ◌-◌, ◌==◌, ◌||◌, ◌∙◌, ◌∷◌, ◌≡◌, and-true, eqb-true, same_decides, same_sym, IsDifference, occurrences, same}
 use Rattle.node_core.proofs.Words.{same_row, GroupChange, Pid, Row, count_after_drop, count_of, no_change, flip, if_some, first_broken, message_checks, row}
-use Rattle.node_core.proofs.Words.{heard, said_on, told, History, is_up, listed, IsAnswered, IsNext, is_full, with_entry, peer_of, Entry, Accepted}
+use Rattle.node_core.proofs.Words.{heard, said_on, told, History, is_up, listed, IsStep, IsAlone}
+use Rattle.node_core.proofs.Words.{is_full, just, peer_of, Entry, Accepted}
 use Rattle.node_core.proofs.Words.{Follows, Parts, LinksFollow, link_words, KeptLink, IsCutOff, IsRunningOf, is_number, scope_words, count_after_sync}
 use Rattle.node_core.proofs.Words.{count_after_add, count_after_take, IsHeardNow, Running, with_number, without, running_rises, HasBecome, Message, Event}
 use Rattle.node_core.proofs.Words.{Reply}
@@ -66,20 +68,25 @@ module _ {h : History} {parts : Parts} (t : Follows h parts) (seat l : ℕ) (bod
   entry gs = made h seat (Event.Frame l body) (Accepted Reply.Done) (if_some s gs)
 
   abbrev after_it : List GroupChange → History
-  after_it gs = with_entry h (entry gs)
+  after_it gs = just h (entry gs)
 
   -- the message is the next entry, and what is kept then follows
   abbrev pub IsKept : List GroupChange → Type 0
-  IsKept gs = IsNext h (entry gs) × Follows (after_it gs) (record parts { scopes = set parts.scopes p y })
+  IsKept gs =
+      IsAlone h (entry gs) × Follows (after_it gs) (record parts { scopes = set parts.scopes p y })
 
   -- a message of which is known what it makes of a count, and of whether a link is heard and told, here and at other scopes
   module _ (m : Message) (says : said_on l h.entries body ≡ Some m) (holds : first_broken (message_checks h l m) ≡ None) (gs : List GroupChange)
       (counts : ℕ → List ℕ → Pid → ℕ) (hears tells : Bool → Bool → Bool) (plain : (b : Bool) → (hears b false ≡ b) × (tells b false ≡ b))
-      (rows : IsAnswered h (entry gs) → (u g : List ℕ) (q : Pid) → listed (after_it gs) u g q ≡ cond (same u s) (counts (listed h u g q) g q) (listed h u g q))
-      (talk : IsAnswered h (entry gs) → (j : ℕ) (u : List ℕ) → IsHeardNow (after_it gs) j u (hears (heard j u h.entries) (l == j && same s u)) (tells (told j u h.entries) (l == j && same s u)))
+      (rows : IsStep h (entry gs) → (u g : List ℕ) (q : Pid)
+      → listed (after_it gs) u g q
+      ≡ cond (same u s) (counts (listed h u g q) g q) (listed h u g q))
+      (talk : IsStep h (entry gs) → (j : ℕ) (u : List ℕ)
+      → IsHeardNow (after_it gs) j u (hears (heard j u h.entries) (l == j && same s u))
+      (tells (told j u h.entries) (l == j && same s u)))
       (hs ts : List ℕ) (b : HasBecome r y (λ g q. counts (count_of r.table g q) g q) hs ts)
       (heard_so : (j : ℕ) → is_number j hs ≡ hears (is_number j r.heard.items) (l == j)) (told_so : (j : ℕ) → is_number j ts ≡ tells (is_number j r.told.items) (l == j)) where
-    so : IsAnswered h (entry gs)
+    so : IsStep h (entry gs)
     so = its_answered h seat l body m space up here.awaited says holds (if_some s gs)
 
     itself : same s s ≡ true
@@ -105,7 +112,9 @@ module _ {h : History} {parts : Parts} (t : Follows h parts) (seat l : ℕ) (bod
       told = λ j. u.told j ∙ sym ((talk so j z.scope).told_is ∙ ap (tells (told j z.scope h.entries)) (elsewhere j z.scope apart) ∙ (plain (told j z.scope h.entries)).1);
     }
 
-    follows : IsNext h (entry gs) → (kept : List KeptLink) → LinksFollow (link_words (after_it gs)) kept → Follows (after_it gs) (record parts { scopes = set parts.scopes p y; links = kept })
+    follows : IsAlone h (entry gs) → (kept : List KeptLink)
+        → LinksFollow (link_words (after_it gs)) kept
+        → Follows (after_it gs) (record parts { scopes = set parts.scopes p y; links = kept })
     follows next kept links = step_follows t next refl t.admission t.processes
         (one_scope_follows (scope_words h) (scope_words (after_it gs)) s y
         (becomes_running h s r there.named there.running (after_it gs) refl y (λ g q. counts (count_of r.table g q) g q) hs ts b rows_here
@@ -122,17 +131,21 @@ module _ {h : History} {parts : Parts} (t : Follows h parts) (seat l : ℕ) (bod
         (next, follows next parts.links (silent_links h seat l body m space up here.awaited says holds (if_some s gs) nothing parts.links t.links))
 
   module _ (says : said_on l h.entries body ≡ Some (Message.Discover s)) (early : first_broken (early_checks h l (Message.Discover s)) ≡ None) where
-    listed_so : IsAnswered h (entry []) → (u g : List ℕ) (q : Pid) → listed (after_it []) u g q ≡ listed h u g q
-    listed_so so = discovered_rows h t.sound.legal (entry []) so refl l body refl here.far.peer here.awaited here.introduced.peer.peer here.introduced.peer.other s says
+    listed_so : IsStep h (entry []) → (u g : List ℕ) (q : Pid)
+        → listed (after_it []) u g q ≡ listed h u g q
+    listed_so so =
+        discovered_rows h t.sound.played (entry []) so refl l body refl here.far.peer here.awaited
+        here.introduced.peer.peer here.introduced.peer.other s says
 
-    pub discovered_next : IsNext h (entry [])
+    pub discovered_next : IsAlone h (entry [])
     discovered_next = its_next h seat l body (Message.Discover s) space up here.awaited says early []
         (no_change h (after_it []) (λ u g q. sym (listed_so (its_answered h seat l body (Message.Discover s) space up here.awaited says early []) u g q)))
 
     pub discovered_follows : HasBecome r y (count_of r.table) r.heard.items (with_number l r.told.items) → (kept : List KeptLink) → LinksFollow (link_words (after_it [])) kept
         → Follows (after_it []) (record parts { scopes = set parts.scopes p y; links = kept })
     discovered_follows b = follows (Message.Discover s) says early [] (λ n g q. n) (λ b c. b) (λ b c. c || b) (λ b. (refl, refl)) (λ so u g q. listed_so so u g q ∙ grind arith)
-        (λ so j u. discovered_heard h t.sound.legal (entry []) so refl l body refl here.awaited j u s says)
+        (λ so j u. discovered_heard h t.sound.played (entry []) so refl l body refl here.awaited j
+        u s says)
         r.heard.items (with_number l r.told.items) b (λ j. refl) (λ j. number_on j l r.told.items) discovered_next
 
   -- the peer of the link is n
@@ -146,16 +159,20 @@ module _ {h : History} {parts : Parts} (t : Follows h parts) (seat l : ℕ) (bod
     pub synced : (rows : List Row) → said_on l h.entries body ≡ Some (Message.Sync s rows) → first_broken (early_checks h l (Message.Sync s rows)) ≡ None → (gs : List GroupChange)
         → HasBecome r y (count_after_sync r.table n rows) (with_number l r.heard.items) r.told.items → IsDifference (count_of r.table) (count_of y.table) gs → IsKept gs
     synced rows says early gs b = silent (Message.Sync s rows) says early gs (λ k g q. cond (same q.node n) (occurrences same_row (row g q) rows) k) (λ b c. c || b) (λ b c. b) (λ b. (refl, refl))
-        (λ so. synced_rows h t.sound.legal (entry gs) so refl l body refl n here.awaited of other s rows says)
-        (λ so j u. synced_heard h t.sound.legal (entry gs) so refl l body refl here.awaited j u s rows says)
+        (λ so. synced_rows h t.sound.played (entry gs) so refl l body refl n here.awaited of other s
+        rows says)
+        (λ so j u. synced_heard h t.sound.played (entry gs) so refl l body refl here.awaited j u s
+        rows says)
         (with_number l r.heard.items) r.told.items b (λ j. number_on j l r.heard.items) (λ j. refl) (λ j. refl)
 
     pub added : (rows : List Row) → said_on l h.entries body ≡ Some (Message.Join s rows) → first_broken (early_checks h l (Message.Join s rows)) ≡ None → node_total r.table n + length rows ≤ max_rows → (gs : List GroupChange)
         → HasBecome r y (count_after_add r.table rows) r.heard.items r.told.items → IsDifference (count_of r.table) (count_of y.table) gs → IsKept gs
     added rows says early few gs b = silent (Message.Join s rows) says (join_fits h l s r there.named there.running rows n of few early) gs
         (λ k g q. k + occurrences same_row (row g q) rows) (λ b c. b) (λ b c. b) (λ b. (refl, refl))
-        (λ so. added_rows h t.sound.legal (entry gs) so refl l body refl n here.awaited of other s rows says)
-        (λ so j u. joined_heard h t.sound.legal (entry gs) so refl l body refl here.awaited j u s rows says)
+        (λ so. added_rows h t.sound.played (entry gs) so refl l body refl n here.awaited of other s
+        rows says)
+        (λ so j u. joined_heard h t.sound.played (entry gs) so refl l body refl here.awaited j u s
+        rows says)
         r.heard.items r.told.items b (λ j. refl) (λ j. refl) (λ j. refl)
 
     pub added_calm : (rows : List Row) → said_on l h.entries body ≡ Some (Message.Join s rows) → first_broken (early_checks h l (Message.Join s rows)) ≡ None → (f : CoreFault)
@@ -165,8 +182,10 @@ module _ {h : History} {parts : Parts} (t : Follows h parts) (seat l : ℕ) (bod
     pub downed : said_on l h.entries body ≡ Some (Message.Down s) → first_broken (early_checks h l (Message.Down s)) ≡ None → (gs : List GroupChange)
         → IsCutOff l n r y → {z : Running} → z ≡ get_or parts.scopes p z → IsDifference (count_of z.table) (count_after_drop z.table n) gs → IsKept gs
     downed says early gs cut {z} z_is differ = silent (Message.Down s) says early gs (λ k g q. cond (same q.node n) 0 k) (λ b c. b && not c) (λ b c. b && not c) (λ b. (and-true b, and-true b))
-        (λ so. downed_rows h t.sound.legal (entry gs) so refl l body refl n here.awaited of other s says)
-        (λ so j u. downed_heard h t.sound.legal (entry gs) so refl l body refl here.awaited j u s says)
+        (λ so. downed_rows h t.sound.played (entry gs) so refl l body refl n here.awaited of
+        other s says)
+        (λ so j u. downed_heard h t.sound.played (entry gs) so refl l body refl here.awaited j
+        u s says)
         (without l r.heard.items) (without l r.told.items) (record { scope = cut.scope; rows = cut.rows; heard = cut.heard; told = cut.told })
         (λ j. number_left j l r.heard.items) (λ j. number_left j l r.told.items) (λ j. refl)
         (subst (λ f. IsDifference (count_of r.table) f gs) (λ i g q. sym (cut.rows.counts g q) i)
@@ -176,8 +195,10 @@ module _ {h : History} {parts : Parts} (t : Follows h parts) (seat l : ℕ) (bod
         → HasBecome r y (count_after_take r.table rows) r.heard.items r.told.items → IsDifference (count_of r.table) (count_of y.table) gs → IsKept gs
     taken rows says early listed gs b = silent (Message.Leave s rows) says (leave_listed h l s r there.named there.running rows listed early) gs
         (λ k g q. k - occurrences same_row (row g q) rows) (λ b c. b) (λ b c. b) (λ b. (refl, refl))
-        (λ so. taken_rows h t.sound.legal (entry gs) so refl l body refl n here.awaited of other s rows says)
-        (λ so j u. left_heard h t.sound.legal (entry gs) so refl l body refl here.awaited j u s rows says)
+        (λ so. taken_rows h t.sound.played (entry gs) so refl l body refl n here.awaited of other s
+        rows says)
+        (λ so j u. left_heard h t.sound.played (entry gs) so refl l body refl here.awaited j u s
+        rows says)
         r.heard.items r.told.items b (λ j. refl) (λ j. refl) (λ j. refl)
 
   pub taken_calm : (rows : List Row) → said_on l h.entries body ≡ Some (Message.Leave s rows) → first_broken (early_checks h l (Message.Leave s rows)) ≡ None → (f : CoreFault)

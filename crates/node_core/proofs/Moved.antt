@@ -1,9 +1,13 @@
 -- One scope whose own rows have changed, and the links that are told of it.
-use Rattle.node_core.proofs.Words.{arith, Bool, List, Some, ap, cond, false, get_or, not, position, set, subst, sym, ℕ, [], ◌||◌, ◌∙◌, ◌∷◌, ◌≡◌}
+use Rattle.node_core.proofs.Words.{arith, Bool, List, Some, ap, cond, false, get_or, not, set}
+use Rattle.node_core.proofs.Words.{subst, sym, ℕ, [], ◌||◌, ◌∙◌, ◌∷◌, ◌≡◌}
 use Rattle.node_core.proofs.Words.{IsDifference, is_empty, same, Pid, Row, Message, count_of, IsChange, if_some, heard, told, History, listed}
-use Rattle.node_core.proofs.Words.{OutFrame, wide, running_scopes, Change, Follows, Parts, KeptLink, IsMoved, IsRunningOf, ScopesFollow, is_number}
+use Rattle.node_core.proofs.Words.{OutFrame, wide, running_scopes, Change, Follows, Parts, KeptLink}
+use Rattle.node_core.proofs.Words.{AreTold, IsMovedBy, IsOwnChange, said_to, IsRunningOf}
+use Rattle.node_core.proofs.Words.{ScopesFollow, is_number}
 use Rattle.node_core.proofs.Words.{scope_words, Alike, if_among, running_rises, set-get_or, if_told, Running}
 use Rattle.node_core.proofs.Words.{scope_place}
+use Rattle.scope_core.specs.Calls.{Counts}
 use Rattle.node_core.proofs.Scopes.{counts_listed}
 use Rattle.node_core.proofs.MessagePlaces.{scope_here}
 use Rattle.node_core.proofs.OneScope.{one_scope_follows, scope_change}
@@ -16,6 +20,30 @@ told_frames rows numbers frame l b q = grind (arith, q)
 
 -- ---- one scope after a change of its own rows
 
+-- one scope after its rows have changed: the links that are told there are told this message
+pub record IsMoved (m : Message) (count : List ℕ → Pid → ℕ) (old new : Running)
+    (links_old links_new : List KeptLink) (cs : List Change) : Type 0 where
+  pub scope : new.scope ≡ old.scope
+  pub heard : new.heard.items ≡ old.heard.items
+  pub told : new.told.items ≡ old.told.items
+  pub rows : Counts old.table new.table count
+  pub own : IsOwnChange old count cs
+  pub links : AreTold (if_among (said_to old.told.items m) (wide m)) links_old links_new
+
+-- the same, where a link ends with it: the changes of own rows were made beforehand
+pub moved_so : {m : Message} {count : List ℕ → Pid → ℕ} {old new : Running}
+    {links links_new : List KeptLink} {cs own : List Change} → IsMovedBy count old new cs
+    → AreTold (if_among (said_to old.told.items m) (wide m)) links links_new
+    → IsOwnChange old count own → IsMoved m count old new links links_new own
+moved_so by links own = record {
+  scope = by.scope;
+  heard = by.heard;
+  told = by.told;
+  rows = by.rows;
+  own = own;
+  links = links;
+}
+
 module _ (h : History) (seat : ℕ) (parts : Parts) (t : Follows h parts) (s : List ℕ) (p : ℕ)
     (here : scope_place s parts.scopes ≡ Some p) (a b : Running) (at : a ≡ get_or parts.scopes p a)
     (m : Message) (count : List ℕ → Pid → ℕ) (links : List KeptLink) (cs : List Change) (moved : IsMoved m count a b parts.links links cs) where
@@ -27,10 +55,14 @@ module _ (h : History) (seat : ℕ) (parts : Parts) (t : Follows h parts) (s : L
     now_counted f q = moved.rows.counts f q ∙ sym (rows f q) ∙ ap (λ u. listed k u f q) (sym (moved.scope ∙ its_scope))
 
     pub moved_change : IsChange h k cs
-    moved_change = subst (IsChange h k) (sym (moved.changes ∙ ap (λ u. if_some u moved.groups) its_scope))
-        (scope_change h k s moved.groups
-        (subst (λ f. IsDifference f (listed k s) moved.groups) (counts_listed h s a its_scope (scope_here t s here at).running)
-        (subst (λ f. IsDifference (count_of a.table) f moved.groups) (λ i f q. (now_counted f q ∙ ap (λ u. listed k u f q) (moved.scope ∙ its_scope)) i) moved.difference))
+    moved_change =
+        let own = moved.own in
+        subst (IsChange h k) (sym (own.changes ∙ ap (λ u. if_some u own.groups) its_scope))
+        (scope_change h k s own.groups
+        (subst (λ f. IsDifference f (listed k s) own.groups)
+        (counts_listed h s a its_scope (scope_here t s here at).running)
+        (subst (λ f. IsDifference (count_of a.table) f own.groups) (λ i f q. sym (rows f q) i)
+        own.difference))
         others)
 
   -- the scopes after it

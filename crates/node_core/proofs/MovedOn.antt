@@ -1,6 +1,7 @@
 -- The kept links after an entry by which one moves on, and perhaps another goes.
 use Rattle.node_core.proofs.Words.{Bool, List, None, Option, Some, ap, cond, false, get_or, length, nat_eq, not, refl, set, subst, sym, true, ℕ, ◌++◌}
-use Rattle.node_core.proofs.Words.{◌<◌, ◌==◌, ◌||◌, ◌∙◌, ◌≡◌, filter, eq-eqb, kept_climbs, flip, History, OutFrame, waiting, IsLegal, moved_on}
+use Rattle.node_core.proofs.Words.{◌<◌, ◌==◌, ◌||◌, ◌∙◌, ◌≡◌, filter, eq-eqb, kept_climbs, flip}
+use Rattle.node_core.proofs.Words.{History, OutFrame, waiting, IsPlayed, moved_on}
 use Rattle.node_core.proofs.Words.{without_link, IsLinkOf, IsState, LinkWords, LinksFollow, facts, kept_numbers, link_words, KeptLink, LinkState}
 use Rattle.node_core.proofs.Words.{arith, [], ◌∷◌, eqb-true, is_empty, StatelessLink, in_state, with_frames, with_room, HaveMoved, HaveEnded}
 use Rattle.node_core.proofs.Words.{narrow_frames}
@@ -27,7 +28,8 @@ pub record AreMoves (h k : History) (j : ℕ) (now : LinkState) (more : List Out
 with_words : (w v : LinkWords) (x : KeptLink) → v.facts x.number ≡ w.facts x.number → v.waiting x.number ≡ w.waiting x.number → IsLinkOf w x → IsLinkOf v x
 with_words w v x same_facts same_frames a = record { state = subst (λ f. IsState f x.state) (sym same_facts) a.state; frames = a.frames ∙ sym same_frames; idle = a.idle }
 
-module _ (h k : History) (legal : IsLegal h) (j : ℕ) (state : LinkState) (frames : List OutFrame) (gone : Option ℕ) (moves : AreMoves h k j state frames (stays_but gone))
+module _ (h k : History) (legal : IsPlayed h) (j : ℕ) (state : LinkState) (frames : List OutFrame)
+    (gone : Option ℕ) (moves : AreMoves h k j state frames (stays_but gone))
     (kept : List KeptLink) (t : LinksFollow (link_words h) kept) (p : ℕ) (d : KeptLink) (less : p < length kept) (is : (get_or kept p d).number ≡ j) (room : ℕ) where
   -- new words for those that stay, and the old ones for the others
   abbrev pick : {A : Type 0} → (ℕ → A) → (ℕ → A) → ℕ → A

@@ -1,7 +1,9 @@
 -- One own dial to a peer is unfinished at a time.
 use Rattle.node_core.proofs.Words.{arith, Bool, List, None, ap, false, not, refl, sym, true, ℕ, [], ◌&&◌, ◌==◌, ◌∙◌, ◌∷◌, ◌≡◌, eqb-true, same_decides, all_hold}
-use Rattle.node_core.proofs.Words.{lie, unbroken, dial_checks, first_broken, History, past, is_dialling, is_open, is_unfinished_dial, links, IsLegal}
-use Rattle.node_core.proofs.Words.{and_parts, verdict, Entry, Verdict, Accepted, Event, Reply, Opening, opened, taken, IsLegalIn, accepted, some_of}
+use Rattle.node_core.proofs.Words.{lie, unbroken, dial_checks, first_broken, History, past}
+use Rattle.node_core.proofs.Words.{is_dialling, is_open, is_unfinished_dial, links, IsPlayed}
+use Rattle.node_core.proofs.Words.{and_parts, judgement, Entry, Verdict, Accepted, Event, Reply}
+use Rattle.node_core.proofs.Words.{Opening, opened, taken, IsPlayedIn, accepted, some_of}
 use Rattle.node_core.proofs.Found.{not_so}
 use Rattle.policy_audit.proofs.Walked.{but, open_opened}
 use Rattle.policy_audit.proofs.Finished.{whole_kept}
@@ -35,15 +37,19 @@ module _ (o : Opening) (n : List ℕ) where
     no_second : (m : List ℕ) → first_broken (dial_checks (past o es) m) ≡ None → m ≡ n → (k : ℕ) → dials n es k ≡ false
     no_second m holds is k = not_so (dials n es k) (λ here. lie (sym (unbroken (not (is_dialling m es)) (all_hold (dial_checks (past o es) m) holds).1.1.1.0) ∙ ap (λ x. not (is_dialling x es)) is ∙ ap not (is_known_dial n es k here)))
 
-    by_event : (ev : Event) (v : Verdict) → v ≡ verdict (past o es) e.seat ev → dials n (but e ev v ∷ es) l ≡ true → dials n (but e ev v ∷ es) j ≡ true → l ≡ j
+    by_event : (ev : Event) (v : Verdict) → v ≡ judgement (past o es) e.seat ev
+        → dials n (but e ev v ∷ es) l ≡ true → dials n (but e ev v ∷ es) j ≡ true → l ≡ j
     by_event (Event.Dial m c) (Accepted r) is p q =
         let refused = no_second m (accepted (past o es) e.seat (Event.Dial m c) r is).0 in
         grind (arith, eqb-true e.number l, eqb-true e.number j, so_far, older_dial n es e l (Event.Dial m c) (Accepted r), older_dial n es e j (Event.Dial m c) (Accepted r), its_peer n es e l m c r, its_peer n es e j m c r, refused)
     by_event ev v is p q = so_far (older_dial n es e l ev v refl p) (older_dial n es e j ev v refl q)
 
-  one_in : (es : List Entry) → IsLegalIn o es → (l j : ℕ) → dials n es l ≡ true → dials n es j ≡ true → l ≡ j
+  one_in : (es : List Entry) → IsPlayedIn o es → (l j : ℕ) → dials n es l ≡ true
+      → dials n es j ≡ true → l ≡ j
   one_in [] legal l j p q = lie (sym p)
-  one_in (e ∷ es) legal l j p q = by_event es e l j (one_in es legal.1 l j) e.event e.verdict legal.0.verdict p q
+  one_in (e ∷ es) legal l j p q =
+      by_event es e l j (one_in es legal.1 l j) e.event e.verdict legal.0.judged p q
 
-pub one_dial : (h : History) → IsLegal h → (n : List ℕ) (l j : ℕ) → dials n h.entries l ≡ true → dials n h.entries j ≡ true → l ≡ j
+pub one_dial : (h : History) → IsPlayed h → (n : List ℕ) (l j : ℕ) → dials n h.entries l ≡ true
+    → dials n h.entries j ≡ true → l ≡ j
 one_dial h legal n l j p q = one_in h.opening n h.entries legal l j p q

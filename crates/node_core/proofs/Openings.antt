@@ -1,13 +1,16 @@
 -- Links that open: the new link follows its opening, and all others are as before.
 use Rattle.node_core.proofs.Words.{not-true, List, None, Some, ap, arith, false, length, map, nat_le, not, refl, subst, sym, true, ℕ, [], ◌++◌, ◌<◌, ◌==◌, ◌||◌}
 use Rattle.node_core.proofs.Words.{◌∙◌, ◌∷◌, ◌≡◌, AllByRecursion, list_all, option_map_or, eq-eqb, eqb-true, leb-true, lt-ltb, same, all_hold, unbroken}
-use Rattle.node_core.proofs.Words.{no_change, dial_checks, first_broken, History, is_accepted, is_open, is_kept, narrow, running_scopes, IsAnswered, IsLegal}
-use Rattle.node_core.proofs.Words.{IsNext, is_full, next_number, with_entry, challenge_in, Entry, Accepted, Follows, Parts, IsLinkOf, LinksFollow, facts}
+use Rattle.node_core.proofs.Words.{no_change, dial_checks, first_broken, History, is_accepted}
+use Rattle.node_core.proofs.Words.{is_open, is_kept, narrow, running_scopes, IsStep, IsPlayed}
+use Rattle.node_core.proofs.Words.{IsAlone, is_full, next_number, just, challenge_in, Entry}
+use Rattle.node_core.proofs.Words.{Accepted, Follows, Parts, IsLinkOf, LinksFollow, facts}
 use Rattle.node_core.proofs.Words.{link_words, KeptLink, ScopesFollow, scope_words, length-map, map-append, Awaits, listed, Pid, own_flags, Start, ByPeer}
 use Rattle.node_core.proofs.Words.{ByDial, start_of, kept_links, kept_count, kept_opening, opening_waiting, all_left, all_reverse, opened_waiting}
-use Rattle.node_core.proofs.Words.{dialled_waiting, dialled_link, Event, Reply, LinkState}
+use Rattle.node_core.proofs.Words.{entered, dialled_waiting, dialled_link, Event, Reply, LinkState}
 use Rattle.handshake_frames.specs.Spelling.{name_bytes}
 use Rattle.policy_audit.proofs.KeptLinks.{links_below}
+use Rattle.policy_audit.proofs.Walked.{fresh, opens_number}
 use Rattle.policy_audit.proofs.NewLinks.{IsNewLink, opened_apart, opened_new, opened_open}
 use Rattle.policy_audit.proofs.HeardNow.{opening_heard}
 use Rattle.policy_audit.proofs.RowsAfter.{opened_rows, dialled_rows}
@@ -22,9 +25,10 @@ kept_are h kept t = kept_count h ∙ ap length (sym t.numbers) ∙ length-map ke
 
 -- ---- the links after an opening
 
-module _ (h : History) (legal : IsLegal h) (e : Entry) (is_made : IsAnswered h e) (yes : is_accepted e.verdict ≡ true) (st : Start) (begins : start_of e.event ≡ Some st) where
+module _ (h : History) (legal : IsPlayed h) (e : Entry) (is_made : IsStep h e)
+    (yes : is_accepted e.verdict ≡ true) (st : Start) (begins : start_of e.event ≡ Some st) where
   abbrev k : History
-  k = with_entry h e
+  k = just h e
 
   -- of every other link the same is said
   other_facts : (l : ℕ) → (e.number == l) ≡ false → facts k l ≡ facts h l
@@ -33,21 +37,32 @@ module _ (h : History) (legal : IsLegal h) (e : Entry) (is_made : IsAnswered h e
   others_link : (x : KeptLink) → (e.number == x.number) ≡ false → IsLinkOf (link_words h) x → IsLinkOf (link_words k) x
   others_link x other it = same_link x (other_facts x.number other) (opening_waiting h legal e is_made yes st begins x.number other) it
 
-  each_more : (new : KeptLink) → IsLinkOf (link_words k) new → (xs : List KeptLink) → list_all (λ n. nat_le n (length h.entries)) (map (λ x. x.number) xs) ≡ true → AllByRecursion (IsLinkOf (link_words h)) xs
+  each_more : (new : KeptLink) → IsLinkOf (link_words k) new → (xs : List KeptLink)
+      → list_all (λ n. nat_le n (entered h.entries)) (map (λ x. x.number) xs) ≡ true
+      → AllByRecursion (IsLinkOf (link_words h)) xs
       → AllByRecursion (IsLinkOf (link_words k)) (xs ++ new ∷ [])
   each_more new it [] below all = (it, tt)
-  each_more new it (x ∷ xs) below all = (others_link x (grind (arith, is_made.number, eqb-true, leb-true)) all.0, each_more new it xs (grind arith) all.1)
+  each_more new it (x ∷ xs) below all = (
+    others_link x (grind (arith, opens_number h e is_made st begins, eqb-true, leb-true)) all.0,
+    each_more new it xs (grind arith) all.1,
+  )
 
   -- one link more
   pub new_follows : (kept : List KeptLink) (new : KeptLink) → LinksFollow (link_words h) kept → new.number ≡ e.number → IsLinkOf (link_words k) new → LinksFollow (link_words k) (kept ++ new ∷ [])
   new_follows kept new t named it = record {
     numbers = map-append (λ x. x.number) kept (new ∷ []) ∙ (λ i. t.numbers i ++ named i ∷ []) ∙ sym (kept_opening h legal e is_made yes st begins);
-    each = each_more new it kept (ap (list_all (λ n. nat_le n (length h.entries))) t.numbers ∙ all_reverse (λ n. nat_le n (length h.entries)) _ ∙ all_left (λ n. nat_le n (length h.entries)) (is_kept h) _ (links_below h legal)) t.each;
+    each =
+        each_more new it kept
+        (ap (list_all (λ n. nat_le n (entered h.entries))) t.numbers
+        ∙ all_reverse (λ n. nat_le n (entered h.entries)) _
+        ∙ all_left (λ n. nat_le n (entered h.entries)) (is_kept h) _ (links_below h legal)) t.each;
   }
 
   -- what is said of the new one
   its : IsNewLink e.number h.entries k.entries st
-  its = opened_new h.entries e e.number st yes begins h.opening legal is_made.number (eq-eqb e.number e.number refl)
+  its =
+      opened_new h.entries e e.number st yes begins h.opening legal
+      (fresh h.opening h.entries legal e is_made) (eq-eqb e.number e.number refl)
 
   awaits_first : Awaits (facts k e.number) (awaited_in st []) false
   awaits_first = record {
@@ -72,11 +87,22 @@ module _ {h : History} {parts : Parts} (t : Follows h parts) (seat c : ℕ) wher
   opening = made h seat (Event.Opened c) (Accepted (Reply.Link (next_number h))) []
 
   pub opened_now : is_full h ≡ false → length parts.links < 64 → (challenge room : ℕ) → challenge ≡ c
-      → IsNext h opening × Follows (with_entry h opening) (record parts { links = parts.links ++ record { number = next_number h; state = LinkState.Name challenge; frames = []; prepared = []; room = room } ∷ [] })
+      → IsAlone h opening
+      × Follows (just h opening)
+      (record parts {
+        links = parts.links ++ record {
+          number = next_number h;
+          state = LinkState.Name challenge;
+          frames = [];
+          prepared = [];
+          room = room;
+        } ∷ [];
+      })
   opened_now space few challenge room same =
-      let legal = t.sound.legal in
+      let legal = t.sound.played in
       let next = accepted_next h seat (Event.Opened c) space (Reply.Link (next_number h)) [] (rw (lt-ltb (kept_links h) 64 (let is = kept_are h parts.links t.links in omega (arith, is, few)))) refl
-      (λ its. no_change h (with_entry h opening) (λ s g p. sym (opened_rows h legal opening its refl c refl s g p))) in
+      (λ its. no_change h (just h opening)
+      (λ s g p. sym (opened_rows h legal opening its refl c refl s g p))) in
       let is = answered_by next in (
         next,
         step_follows t next refl t.admission t.processes
@@ -95,16 +121,20 @@ module _ {h : History} {parts : Parts} (t : Follows h parts) (seat : ℕ) (peer 
   dial = made h seat (Event.Dial peer c) (Accepted (Reply.Link (next_number h))) []
 
   pub dialled_now : is_full h ≡ false → first_broken (dial_checks h peer) ≡ None → (link : KeptLink) → link ≡ dialled_link parts.admission (next_number h) peer c link.room
-      → IsNext h dial × Follows (with_entry h dial) (record parts { links = parts.links ++ link ∷ [] })
+      → IsAlone h dial × Follows (just h dial) (record parts { links = parts.links ++ link ∷ [] })
   dialled_now space holds link made_so =
-      let legal = t.sound.legal in
-      let next = accepted_next h seat (Event.Dial peer c) space (Reply.Link (next_number h)) [] holds refl (λ its. no_change h (with_entry h dial) (λ s g p. sym (dialled_rows h legal dial its refl peer c refl s g p))) in
+      let legal = t.sound.played in
+      let next = accepted_next h seat (Event.Dial peer c) space (Reply.Link (next_number h)) []
+      holds refl (λ its.
+      no_change h (just h dial)
+      (λ s g p. sym (dialled_rows h legal dial its refl peer c refl s g p))) in
       let is = answered_by next in
       let new = its h legal dial is refl (ByDial peer c) refl in (
         next,
         step_follows t next refl t.admission t.processes
             (subst (λ w. ScopesFollow w parts.scopes) (sym (new_scopes h legal dial is refl (ByDial peer c) refl (dialled_rows h legal dial is refl peer c refl) refl)) t.scopes)
-            (subst (λ x. LinksFollow (link_words (with_entry h dial)) (parts.links ++ x ∷ [])) (sym made_so)
+            (subst (λ x. LinksFollow (link_words (just h dial)) (parts.links ++ x ∷ []))
+            (sym made_so)
             (new_follows h legal dial is refl (ByDial peer c) refl parts.links (dialled_link parts.admission (next_number h) peer c link.room) t.links refl (record {
               state = (
                 awaits_first h legal dial is refl (ByDial peer c) refl,

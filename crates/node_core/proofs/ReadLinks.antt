@@ -58,7 +58,7 @@ module _ {h : History} {parts : Parts} (t : Follows h parts) where
       ∙ sym (any_map (λ k. nat_eq k l && is_up k h.entries) (λ x. x.number) parts.links)
       ∙ ap (list_any (λ k. nat_eq k l && is_up k h.entries)) t.links.numbers
       ∙ any_here (λ k. is_up k h.entries) l (kept_numbers h)
-      ∙ ap (λ b. b && is_up l h.entries) (sym (kept_among h t.sound.legal l))
+      ∙ ap (λ b. b && is_up l h.entries) (sym (kept_among h t.sound.played l))
       ∙ grind arith
 
   pub names_are : flat_map (λ x. option_to_list (up_peer x.state)) parts.links ≡ up_names h
@@ -71,11 +71,15 @@ module _ {h : History} {parts : Parts} (t : Follows h parts) where
   pub names_once : (n : List ℕ) → occurrences same n (up_names h) ≡ cond (is_name_up n h.entries) 1 0
   names_once n =
       names_count h n (kept_numbers h)
-      ∙ counts_one (λ l. is_up l h.entries && is_peer n l h.entries) alone (kept_numbers h) (kept_once h t.sound.legal)
-      ∙ ap (λ b. cond b 1 0) (sym (name_up_kept h t.sound.legal n))
+      ∙ counts_one (λ l. is_up l h.entries && is_peer n l h.entries) alone (kept_numbers h)
+      (kept_once h t.sound.played)
+      ∙ ap (λ b. cond b 1 0) (sym (name_up_kept h t.sound.played n))
     where
       alone : (a b : ℕ) → (is_up a h.entries && is_peer n a h.entries) ≡ true → (is_up b h.entries && is_peer n b h.entries) ≡ true → a ≡ b
-      alone a b p q = one_up h t.sound.legal n a b (and_parts _ _ p).0 (and_parts _ _ q).0 (peer_by_test n (peer_of a h.entries) (and_parts (is_up a h.entries) _ p).1) (peer_by_test n (peer_of b h.entries) (and_parts (is_up b h.entries) _ q).1)
+      alone a b p q =
+          one_up h t.sound.played n a b (and_parts _ _ p).0 (and_parts _ _ q).0
+          (peer_by_test n (peer_of a h.entries) (and_parts (is_up a h.entries) _ p).1)
+          (peer_by_test n (peer_of b h.entries) (and_parts (is_up b h.entries) _ q).1)
 
   pub links_are : map (λ x. record { link = x.number; frame = frame_awaited x.state }) parts.links ≡ map (awaiting h) (kept_numbers h)
   links_are =

@@ -1,13 +1,15 @@
 -- The rows that leave with a process.
 use Rattle.node_core.proofs.Words.{List, ap, arith, cond, false, length, map, refl, ℕ, [], ◌++◌, ◌+◌, ◌∙◌, ◌∷◌, ◌≡◌, ◌≤◌, AllByRecursion, filter, Less}
 use Rattle.node_core.proofs.Words.{same_decides, same_pid_decides, IsDifference, Rises, occurrences, same_pid, same_row, pid_cmp, row_cmp, text_cmp}
-use Rattle.node_core.proofs.Words.{GroupChange, Pid, Row, count_after_exit, Table, count_of, local_count, local_total, local_rows, row, History, IsLegal}
+use Rattle.node_core.proofs.Words.{GroupChange, Pid, Row, count_after_exit, Table, count_of}
+use Rattle.node_core.proofs.Words.{local_count, local_total, local_rows, row, History, IsPlayed}
 use Rattle.node_core.proofs.Words.{rows_left, IsRunningOf, scope_words, Ordering, is_gt, IsProper, times_left, Ascends, count_in_group, Running, sym, IsListing}
 use Rattle.node_core.proofs.Words.{max_rows, spread, total, same_length, same_row_decides, is_of_node}
 use Rattle.std.specs.Ordering.{ordering_then}
 use Rattle.dist_types.proofs.Listings.{all_append, fewer_length, length-spread, spread_counts}
 use Rattle.dist_types.proofs.Totals.{how_many_append}
 use Rattle.policy_audit.proofs.Lists.{rows_of_group}
+use Rattle.policy_audit.proofs.FewRows.{few_local}
 use Rattle.policy_audit.proofs.OwnRows.{exit_listing, local_rows_are}
 use Rattle.node_core.proofs.Scopes.{own_counts}
 use Rattle.scope_core.specs.declared.counted.Counted.{Counted}
@@ -34,11 +36,20 @@ few_rows t rows few =
     omega (arith, within, is)
 
 -- the rows of the policy are as many as the table counts
-pub rows_total : (h : History) (s : List ℕ) (r : Running) → r.scope ≡ s → IsRunningOf (scope_words h) r → IsLegal h → length (local_rows h s) ≡ local_total r.table
+pub rows_total : (h : History) (s : List ℕ) (r : Running) → r.scope ≡ s
+    → IsRunningOf (scope_words h) r → IsPlayed h → length (local_rows h s) ≡ local_total r.table
 rows_total h s r named t legal =
     same_length same_row same_row_decides (local_rows h s) (own_rows r.table)
     (λ x. IsListing.counts (local_rows_are h s) x ∙ sym (ap (λ f. f x.group x.pid) (own_counts h s r named t legal)) ∙ sym (own_occurs r.table x))
     ∙ own_length r.table
+
+-- so they are no more than a message brings
+pub few_total : (h : History) (r : Running) → IsRunningOf (scope_words h) r → IsPlayed h
+    → local_total r.table ≤ max_rows
+few_total h r t legal =
+    let is = rows_total h r.scope r refl t legal in
+    let few = few_local h legal r.scope in
+    omega (arith, is, few)
 
 -- each row leaves as often as the changes say
 left_occurs : (r : Row) (gs : List GroupChange) → occurrences same_row r (rows_left gs) ≡ times_left r.group r.pid gs
@@ -74,7 +85,9 @@ module _ (t : Table) (p : Pid) (own_one : t.own ≡ p.node) (gs : List GroupChan
   few_left few = (let within = few_rows t (rows_left gs) (λ r. grind (arith, exit_counts r)) in omega (arith, within, few))
 
 -- they are the policy's rows of the process
-pub left_are : (h : History) (r : Running) → IsRunningOf (scope_words h) r → IsLegal h → (p : Pid) → r.table.own ≡ p.node → (gs : List GroupChange) → IsDifference (count_of r.table) (count_after_exit r.table p) gs
+pub left_are : (h : History) (r : Running) → IsRunningOf (scope_words h) r → IsPlayed h → (p : Pid)
+    → r.table.own ≡ p.node → (gs : List GroupChange)
+    → IsDifference (count_of r.table) (count_after_exit r.table p) gs
     → rows_left gs ≡ filter (λ w. same_pid w.pid p) (local_rows h r.scope)
 left_are h r t legal p own_one gs d = exit_listing h r.scope p (rows_left gs) (record {
   ascends = left_ascends gs d.groups d.proper;

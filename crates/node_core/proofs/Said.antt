@@ -3,7 +3,7 @@ use Rattle.node_core.proofs.Words.{List, OnErr, ap, arith, cond, length, map, no
 use Rattle.node_core.proofs.Words.{is_empty, IsListing, IsPidListing, IsRowListing, listing, mentions, same, same_pid, pid_cmp, Pid, Row, Message, Table, lie}
 use Rattle.node_core.proofs.Words.{row, KeptLink, Alike, min, stands_in, exact_pids, pids_total, IsJoinFault, IsLeaveFault, occurs_stands, Running, IsBrief}
 use Rattle.node_core.proofs.Words.{is_said, fault_of, IsJoinRefusal, IsLeaveRefusal, length-map, same_sym, occurrences, same_row, row_cmp, same_row_decides}
-use Rattle.node_core.proofs.Words.{same_length, count_in_group}
+use Rattle.node_core.proofs.Words.{same_length, count_in_group, max_rows}
 use Rattle.std.proofs.Common.{Result}
 use Rattle.dist_types.proofs.Listings.{listing_counts}
 use Rattle.link_frames.specs.Spelling.{HasSpelling}
@@ -53,7 +53,8 @@ module _ (g : List ℕ) (pids : List Pid) (rows sorted : List Row) (is : rows �
 
 -- ---- faults
 
-pub join_fault : (t : Table) (ps : List Pid) (f : TableFault) → IsJoinFault t ps f → IsJoinRefusal t ps (fault_of f)
+pub join_fault : (t : Table) (ps : List Pid) (f : TableFault) → IsJoinFault t ps max_rows f
+    → IsJoinRefusal t ps (fault_of f)
 join_fault t ps TableFault.RowsFull q = (refl, q)
 join_fault t ps TableFault.OutOfMemory q = tt
 join_fault t ps f q = absurd q

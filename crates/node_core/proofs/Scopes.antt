@@ -1,7 +1,8 @@
 -- The scopes that run, as a node keeps them.
 use Rattle.node_core.proofs.Words.{List, None, Option, Some, ap, cond, false, find, map, refl, subst, sym, true, ℕ, [], ◌∙◌, ◌∷◌, ◌≡◌, AllByRecursion, list_any}
 use Rattle.node_core.proofs.Words.{option_map, same_decides, same_pid_decides, IsPidListing, is_among, same, same_pid, pid_cmp, Pid, count_of, local_count}
-use Rattle.node_core.proofs.Words.{running_among, History, events, listed, is_running, IsLegal, IsRunningOf, ScopesFollow, scope_words, IfSome, IfNone, Running}
+use Rattle.node_core.proofs.Words.{running_among, History, events, listed, is_running, IsPlayed}
+use Rattle.node_core.proofs.Words.{IsRunningOf, ScopesFollow, scope_words, IfSome, IfNone, Running}
 use Rattle.node_core.proofs.Words.{IsGroupListing, pids_total, exact_pids, groups_named, pids_named, members, groups, contents, local_members, local_groups}
 use Rattle.node_core.proofs.Words.{own}
 use Rattle.policy_audit.specs.declared.reply.GroupPids.{GroupPids}
@@ -55,16 +56,18 @@ module _ (h : History) (s : List ℕ) (r : Running) (named : r.scope ≡ s) (t :
   groups_are gs q = one_group_listing (listed h s) gs (groups h s) (subst (λ c. IsGroupListing c gs) counts_listed q) (groups_listing h s)
 
   -- the own processes are counted as often as they are joined
-  pub own_counts : IsLegal h → local_count r.table ≡ own h s
+  pub own_counts : IsPlayed h → local_count r.table ≡ own h s
   own_counts legal = λ i g p. (
       ap (λ n. cond (same p.node n) (count_of r.table g p) 0) t.own
       ∙ ap (λ f. cond (same p.node h.opening.name) (f g p) 0) counts_listed
       ∙ sym (own_is_listed h legal s g p)) i
 
-  pub local_members_are : IsLegal h → (g : List ℕ) (ps : List Pid) → IsPidListing (local_count r.table g) ps → ps ≡ local_members h s g
+  pub local_members_are : IsPlayed h → (g : List ℕ) (ps : List Pid)
+      → IsPidListing (local_count r.table g) ps → ps ≡ local_members h s g
   local_members_are legal g ps q = one_listing pid_cmp same_pid pids_total exact_pids same_pid_decides (own h s g) ps (local_members h s g) (subst (λ c. IsPidListing (c g) ps) (own_counts legal) q) (local_members_listing h s g)
 
-  pub local_groups_are : IsLegal h → (gs : List (List ℕ)) → IsGroupListing (local_count r.table) gs → gs ≡ local_groups h s
+  pub local_groups_are : IsPlayed h → (gs : List (List ℕ)) → IsGroupListing (local_count r.table) gs
+      → gs ≡ local_groups h s
   local_groups_are legal gs q = one_group_listing (own h s) gs (local_groups h s) (subst (λ c. IsGroupListing c gs) (own_counts legal) q) (local_groups_listing h s)
 
   pub contents_are : (cs : List GroupPids) → IsGroupListing (count_of r.table) (map (λ c. c.group) cs) → AllByRecursion (λ c. IsPidListing (count_of r.table c.group) c.pids) cs → cs ≡ contents h s

@@ -88,7 +88,7 @@ climbs_rise (n ∷ ns) c = (each ns c.0, climbs_rise ns c.1)
 
 module _ {h : History} {parts : Parts} (t : Follows h parts) where
   pub links_in_order : AreInOrder parts.links
-  links_in_order = climbs_rise _ (subst Climbs (sym t.links.numbers) (kept_climbs h t.sound.legal))
+  links_in_order = climbs_rise _ (subst Climbs (sym t.links.numbers) (kept_climbs h t.sound.played))
 
   pub scopes_ascend : AreAscending parts.scopes
   scopes_ascend = subst (Rises text_cmp) (sym t.scopes.running) (running_rises h)

@@ -2,7 +2,8 @@
 use Rattle.node_core.proofs.Words.{Bool, List, None, Option, Some, ap, arith, cond, false, get_or, length, map, not, refl, suc, sym, true, zero, ℕ, [], ◌++◌}
 use Rattle.node_core.proofs.Words.{◌<◌, ◌∙◌, ◌∷◌, ◌≡◌, ◌≤◌, AllByRecursion, Less, le-ltb, lt-ltb, same_decides, Rises, is_among, text_cmp, Pid, count_of}
 use Rattle.node_core.proofs.Words.{no_change, stopped_lists, told_numbers, running_among, checks, first_broken, heard, told, History, listed, waiting, wide}
-use Rattle.node_core.proofs.Words.{is_running, running_scopes, IsAnswered, IsNext, is_full, with_entry, Entry, Accepted, Rule, Follows, Parts, link_words}
+use Rattle.node_core.proofs.Words.{is_running, running_scopes, IsStep, is_full, just, Entry}
+use Rattle.node_core.proofs.Words.{Accepted, Rule, Follows, Parts, link_words}
 use Rattle.node_core.proofs.Words.{KeptLink, IsRunningOf, ScopesFollow, is_number, scope_words, AreTold, if_among, shown_numbers, insert, placed, texts_total}
 use Rattle.node_core.proofs.Words.{started_links, running_started, Running, put_scope, Message, Event, Reply, length-map}
 use Rattle.std.proofs.lemmas.Map.Lookups.{exact_bytes}
@@ -12,6 +13,8 @@ use Rattle.policy_audit.proofs.KeptLinks.{told_runs, heard_runs'}
 use Rattle.policy_audit.proofs.RowsAfter.{started_rows}
 use Rattle.scope_core.proofs.Rising.{all_map, all_unmapped}
 use Rattle.node_core.proofs.Entered.{step_follows, made, accepted_next, answered_by}
+use Rattle.node_core.proofs.Ended.{Turns}
+use Rattle.node_core.proofs.PeersKept.{start_leaves, monitors_stay}
 use Rattle.node_core.proofs.KeptOn.{each_at}
 use Rattle.node_core.proofs.Told.{told_follow, shown_number}
 
@@ -64,7 +67,7 @@ module _ (h : History) (seat : ℕ) (s : List ℕ) where
   e = made h seat (Event.StartScope s) (Accepted Reply.Done) []
 
   abbrev pub started : History
-  started = with_entry h e
+  started = just h e
 
   -- the first rule that is broken, where the scope runs or not and there is room for one or not
   abbrev checked : Bool → Bool → Option Rule
@@ -74,11 +77,12 @@ module _ (h : History) (seat : ℕ) (s : List ℕ) where
     pub scopes_full : 64 ≤ length parts.scopes → first_broken (checks h seat (Event.StartScope s)) ≡ Some Rule.ScopesFull
     scopes_full many = λ i. checked (stopped i) (le-ltb (length (running_scopes h)) 64 (let is = running_length h parts.scopes t.scopes in omega (arith, is, many)) i)
 
-    module _ (its : IsAnswered h e) where
+    module _ (its : IsStep h e) where
       still : (r : Running) → IsRunningOf (scope_words h) r → IsRunningOf (scope_words started) r
       still r q = record {
         own = q.own;
-        rows = λ g p. q.rows g p ∙ sym (started_rows h t.sound.legal e its refl s refl r.scope g p);
+        rows =
+            λ g p. q.rows g p ∙ sym (started_rows h t.sound.played e its refl s refl r.scope g p);
         heard = q.heard;
         told = q.told;
       }
@@ -89,21 +93,37 @@ module _ (h : History) (seat : ℕ) (s : List ℕ) where
       new_one : (r : Running) → r.scope ≡ s → r.table.own ≡ h.opening.name → ((g : List ℕ) (p : Pid) → count_of r.table g p ≡ 0) → r.heard.items ≡ [] → r.told.items ≡ [] → IsRunningOf (scope_words started) r
       new_one r named own none unheard untold = record {
         own = own;
-        rows = λ g p. none g p ∙ sym (ap (λ x. listed started x g p) named ∙ started_rows h t.sound.legal e its refl s refl s g p ∙ stopped_lists h s g p stopped);
-        heard = λ l. ap (is_number l) unheard ∙ nobody (heard l s h.entries) (heard_runs' h t.sound.legal l s) ∙ ap (λ x. heard l x h.entries) (sym named);
-        told = λ l. ap (is_number l) untold ∙ nobody (told l s h.entries) (told_runs h t.sound.legal l s) ∙ ap (λ x. told l x h.entries) (sym named);
+        rows =
+            λ g p. none g p
+            ∙ sym (ap (λ x. listed started x g p) named
+            ∙ started_rows h t.sound.played e its refl s refl s g p
+            ∙ stopped_lists h s g p stopped);
+        heard =
+            λ l. ap (is_number l) unheard
+            ∙ nobody (heard l s h.entries) (heard_runs' h t.sound.played l s)
+            ∙ ap (λ x. heard l x h.entries) (sym named);
+        told =
+            λ l. ap (is_number l) untold
+            ∙ nobody (told l s h.entries) (told_runs h t.sound.played l s)
+            ∙ ap (λ x. told l x h.entries) (sym named);
       }
 
     pub start_now : is_full h ≡ false → length parts.scopes < 64 → (r : Running) → r.scope ≡ s → r.table.own ≡ h.opening.name → ((g : List ℕ) (p : Pid) → count_of r.table g p ≡ 0) → r.heard.items ≡ [] → r.told.items ≡ []
         → (links : List KeptLink) → AreTold (if_among (shown_numbers parts.links) (wide (Message.Discover s))) parts.links links
-        → IsNext h e × Follows started (record parts { scopes = put_scope r parts.scopes; links = links })
+        → Turns h seat (Event.StartScope s) []
+        (record parts { scopes = put_scope r parts.scopes; links = links }) (λ u. false)
+        (λ x. x ≡ [])
     start_now space few r named own none unheard untold links tells =
         let fits = lt-ltb (length (running_scopes h)) 64 (let is = running_length h parts.scopes t.scopes in omega (arith, is, few)) in
-        let next = accepted_next h seat (Event.StartScope s) space Reply.Done [] (λ i. checked (stopped i) (fits i)) refl (λ its. no_change h started (λ u g p. sym (started_rows h t.sound.legal e its refl s refl u g p))) in
+        let next = accepted_next h seat (Event.StartScope s) space Reply.Done []
+        (λ i. checked (stopped i) (fits i)) refl
+        (λ its. no_change h started
+        (λ u g p. sym (started_rows h t.sound.played e its refl s refl u g p))) in
         let its = answered_by next in
-        let others = all_map (IsRunningOf (scope_words h)) (IsRunningOf (scope_words started)) (still its) parts.scopes t.scopes.each in (
-          next,
-          step_follows t next refl t.admission t.processes
+        let others = all_map (IsRunningOf (scope_words h)) (IsRunningOf (scope_words started))
+        (still its) parts.scopes t.scopes.each in record {
+          alone = next;
+          follows = step_follows t next refl t.admission t.processes
               (record {
                 running =
                     put_names r parts.scopes (ap (λ x. is_among x (names parts.scopes)) named ∙ ap (is_among s) t.scopes.running ∙ running_among h s ∙ stopped)
@@ -112,6 +132,10 @@ module _ (h : History) (seat : ℕ) (s : List ℕ) where
               })
               (told_follow (link_words h) (link_words started) (if_among (shown_numbers parts.links) (wide (Message.Discover s))) (λ l. refl)
               (told_numbers h e its refl refl (λ l. (started_links h e its refl s refl l).kept_is)) parts.links links
-              (λ l. ap (λ b. waiting h l ++ cond b (wide (Message.Discover s) ∷ []) []) (sym (shown_number h parts.links t.sound.legal t.links l)))
-              tells t.links),
-        )
+              (λ l. ap (λ b. waiting h l ++ cond b (wide (Message.Discover s) ∷ []) [])
+              (sym (shown_number h parts.links t.sound.played t.links l)))
+              tells t.links);
+          leaves = start_leaves h seat [] t.sound.played s its;
+          monitors = monitors_stay h seat parts.monitors t.monitors (Event.StartScope s) refl;
+          owned = λ x is. rw is next.change;
+        }

@@ -1,51 +1,168 @@
 -- What a step answers, from what it enters.
-use Rattle.node_core.proofs.Words.{arith, Err, List, Ok, Result, ap, cond, false, length, refl, subst, sym, true, ℕ, [], ◌+◌, ◌∙◌, ◌∷◌, ◌≡◌, IsLegal, IsNext}
-use Rattle.node_core.proofs.Words.{checks, first_broken, History, is_full, past, verdict, with_entry, Verdict, Accepted, Refused, Event, Reply, judged, after}
-use Rattle.node_core.proofs.Words.{entry_of, CoreFault, Rule, next_is, Opening, Change, Entry, Follows, parts, Answered, Kept, Answers, Call}
-use Rattle.node_core.proofs.Words.{lt-ltb, ltb-true, ◌<◌}
+use Rattle.node_core.proofs.Words.{arith, Bool, Err, List, Ok, Result, ap, cond, false, length}
+use Rattle.node_core.proofs.Words.{refl, subst, sym, true, ℕ, [], ◌+◌, ◌∙◌, ◌∷◌, ◌≡◌, ◌<◌}
+use Rattle.node_core.proofs.Words.{checks, first_broken, History, is_full, verdict, with_entry}
+use Rattle.node_core.proofs.Words.{history, Verdict, Accepted, Refused, Event, Reply, judged, after}
+use Rattle.node_core.proofs.Words.{entry_of, CoreFault, Rule, next_is, Opening, Change, Entry}
+use Rattle.node_core.proofs.Words.{Follows, Keeps, parts, Answered, Kept, Answers, Call}
+use Rattle.node_core.proofs.Words.{lt-ltb, ltb-true, nat_le, suc, ◌^◌, ◌&&◌, ◌==◌, same, Pid}
+use Rattle.node_core.proofs.Words.{is_local, entered, IsLegal, IsLegalIn, IsNext}
+use Rattle.std.proofs.lemmas.Bool.Decides.{leb_tells}
 use Rattle.policy_audit.specs.Log.{Log, IsAuditFault}
 use Rattle.policy_audit.specs.declared.audit.AuditFault.{AuditFault}
 use Rattle.policy_audit.proofs.ScopeChanges.{next_is_after}
+use Rattle.policy_audit.proofs.Losses.{history_opening, legal_next, made_entered, made_legal}
+use Rattle.policy_audit.proofs.Losses.{next_entered, same_opening}
+use Rattle.node_core.proofs.Entered.{seen}
 use Rattle.node_core.specs.Unentered.{unentered}
 use Rattle.node_core.specs.Core.{IsCore}
-use Rattle.node_core.specs.Step.{IsStepped, entered, made, reply_of}
+use Rattle.node_core.specs.Step.{IsStepped, made, one_more, reply_of}
 
-module _ (call : Call) (space : is_full call.past ≡ false) (e : Event) where
+-- ---- a node with these entries
+
+-- its history has as many entries as its audit, and its opening
+pub core_keeps : {es : List Entry} {limit : ℕ} {kept : Kept} → IsCore kept.opening es limit kept
+    → Keeps (history kept.opening es) kept
+core_keeps {es} {limit} {kept} core = record {
+  opening = sym (history_opening kept.opening es);
+  legal = made_legal kept.opening es core.legal;
+  follows = core.follows;
+}
+
+module _ {o : Opening} {es : List Entry} {limit : ℕ} {kept : Kept} (core : IsCore o es limit kept)
+    {now : History} (is : history o es ≡ now) where
+  pub core_count : entered now.entries ≡ length es
+  core_count = ap (λ h. entered h.entries) (sym is) ∙ made_entered o es core.legal
+
+  pub core_opening : now.opening ≡ o
+  core_opening = ap (λ h. h.opening) (sym is) ∙ history_opening o es
+
+  pub core_limit : limit ≡ now.opening.entries
+  core_limit = core.within ∙ ap (λ x. x.entries) (sym core_opening)
+
+  pub core_full : nat_le o.entries (length es) ≡ is_full now
+  core_full = rw (core_count, ap (λ x. x.entries) core_opening)
+      (grind (arith, leb_tells o.entries (length es), leb_tells (suc (length es)) o.entries))
+
+  -- so the next number fits its type
+  pub core_space : is_full now ≡ false → length es + 1 < 2 ^ 32
+  core_space room =
+      let less : entered now.entries < now.opening.entries = grind (arith, ltb-true) in
+      let fits = (seen is core.follows).sound.fits in
+      let many = core_count in
+      omega (arith, less, fits, many)
+
+  pub core_local : (p : Pid)
+      → (same p.node o.name && p.creation == kept.admission.creation) ≡ is_local now p
+  core_local p =
+      λ i. same p.node (sym core_opening i).name
+      && p.creation == (seen is core.follows).admission.creation i
+
+-- ---- an event that is answered
+
+module _ (o : Opening) (es : List Entry) (legal : IsLegalIn o es) (seat : ℕ) (e : Event) where
   abbrev h : History
-  h = call.past
+  h = history o es
 
-  -- an entry of the event, with its verdict, that is the policy's next makes the policy's history
-  next_step : (v : Verdict) (cs : List Change) → IsNext h (made h call.seat e v cs) → (verdict h call.seat e ≡ v) × (with_entry h (made h call.seat e v cs) ≡ after h call.seat e)
-  next_step v cs next = (sym next.verdict, next_is_after h (made h call.seat e v cs) next)
+  abbrev call : Call
+  call = record { past = h; seat = seat }
 
-  -- the history with what was entered
-  abbrev then : Opening → Result Answered CoreFault → History
-  then opening answered = past opening (entered h.entries call.seat e answered)
+  -- the entries then, as the policy makes them
+  abbrev entries_then : Result Answered CoreFault → List Entry
+  entries_then (Ok a) = made h seat e (Accepted a.reply) a.changes.items ∷ es
+  entries_then (Err (CoreFault.Refused r)) = made h seat e (Refused r) [] ∷ es
+  entries_then (Err CoreFault.OutOfMemory) = es
 
-  pub answered_step : (kept : Kept) (answered : Result Answered CoreFault) → Answers call e kept answered → IsStepped h call.seat e (then kept.opening answered) (reply_of answered)
-  unfolding Answers IsStepped
-  answered_step kept (Ok a) t =
-      let next = next_step (Accepted a.reply) a.changes.items t.1.0 in
-      (next.0, (λ i. past (t.1.1.opening i) (record { number = length h.entries + 1; seat = call.seat; event = e; verdict = Accepted (t.0 i); change = a.changes.items } ∷ h.entries)) ∙ next.1)
-  answered_step kept (Err (CoreFault.Refused r)) t =
-      let next = next_step (Refused r) [] t.0 in
-      (next.0, ap (λ o. past o (entered h.entries call.seat e (Err (CoreFault.Refused r)))) t.1.opening ∙ next.1)
-  answered_step kept (Err CoreFault.OutOfMemory) t = (space, ap (λ o. past o h.entries) t.opening)
-
-  pub answered_follows : (kept : Kept) (answered : Result Answered CoreFault) → Answers call e kept answered → Follows (then kept.opening answered) (parts kept)
+  opening_is : (kept : Kept) (answered : Result Answered CoreFault) → Answers call e kept answered
+      → kept.opening ≡ o
   unfolding Answers
-  answered_follows kept (Ok a) t =
-      subst (λ k. Follows k (parts kept)) (λ i. past (sym t.1.1.opening i) (record { number = length h.entries + 1; seat = call.seat; event = e; verdict = Accepted (sym t.0 i); change = a.changes.items } ∷ h.entries)) t.1.1.follows
-  answered_follows kept (Err (CoreFault.Refused r)) t =
-      subst (λ o. Follows (past o (entered h.entries call.seat e (Err (CoreFault.Refused r)))) (parts kept)) (sym t.1.opening) t.1.follows
-  answered_follows kept (Err CoreFault.OutOfMemory) t = subst (λ o. Follows (past o h.entries) (parts kept)) (sym t.opening) t.follows
+  opening_is kept (Ok a) t =
+      t.1.1.opening ∙ same_opening h (made h seat e (Accepted a.reply) a.changes.items)
+      ∙ history_opening o es
+  opening_is kept (Err (CoreFault.Refused r)) t = t.1.opening ∙ history_opening o es
+  opening_is kept (Err CoreFault.OutOfMemory) t = t.opening ∙ history_opening o es
 
--- for want of memory nothing is entered
+  number_is : length es + 1 ≡ entered h.entries + 1
+  number_is = ap (λ n. n + 1) (sym (made_entered o es legal))
+
+  entries_are : (kept : Kept) (answered : Result Answered CoreFault) → Answers call e kept answered
+      → one_more es seat e answered ≡ entries_then answered
+  unfolding Answers
+  entries_are kept (Ok a) t = λ i. record {
+    number = number_is i;
+    seat = seat;
+    event = e;
+    verdict = Accepted (t.0 i);
+    change = a.changes.items;
+  } ∷ es
+  entries_are kept (Err (CoreFault.Refused r)) t = λ i. record {
+    number = number_is i;
+    seat = seat;
+    event = e;
+    verdict = Refused r;
+    change = [];
+  } ∷ es
+  entries_are kept (Err CoreFault.OutOfMemory) t = refl
+
+  legal_then : (kept : Kept) (answered : Result Answered CoreFault) → Answers call e kept answered
+      → IsLegalIn o (entries_then answered)
+  unfolding Answers
+  legal_then kept (Ok a) t = (t.1.0, legal)
+  legal_then kept (Err (CoreFault.Refused r)) t = (t.0, legal)
+  legal_then kept (Err CoreFault.OutOfMemory) t = legal
+
+  follows_then : (kept : Kept) (answered : Result Answered CoreFault) → Answers call e kept answered
+      → Follows (history o (entries_then answered)) (parts kept)
+  unfolding Answers
+  follows_then kept (Ok a) t = t.1.1.follows
+  follows_then kept (Err (CoreFault.Refused r)) t = t.1.follows
+  follows_then kept (Err CoreFault.OutOfMemory) t = t.follows
+
+  -- an entry of the event that is the policy's next makes the policy's history
+  next_step : (v : Verdict) (cs : List Change) → IsNext h (made h seat e v cs)
+      → (verdict h seat e ≡ v) × (with_entry h (made h seat e v cs) ≡ after h seat e)
+  next_step v cs next = (sym next.verdict, next_is_after h (made h seat e v cs) next)
+
+  step_then : is_full h ≡ false → (kept : Kept) (answered : Result Answered CoreFault)
+      → Answers call e kept answered
+      → IsStepped h seat e (history o (entries_then answered)) (reply_of answered)
+  unfolding Answers IsStepped
+  step_then space kept (Ok a) t = next_step (Accepted a.reply) a.changes.items t.1.0
+  step_then space kept (Err (CoreFault.Refused r)) t = next_step (Refused r) [] t.0
+  step_then space kept (Err CoreFault.OutOfMemory) t = (space, refl)
+
+  -- the same of what a step has in hand
+  module _ (kept : Kept) (answered : Result Answered CoreFault) (t : Answers call e kept answered)
+      {entries : List Entry} (pushed : entries ≡ one_more es seat e answered) where
+    in_hand : (P : Opening → List Entry → Type 0) → P o (entries_then answered)
+        → P kept.opening entries
+    in_hand P = subst (λ (x : Opening × List Entry). P x.0 x.1)
+        (λ i. (sym (opening_is kept answered t) i, sym (pushed ∙ entries_are kept answered t) i))
+
+    pub step_so : is_full h ≡ false → {now : History} → h ≡ now → {ev : Event} → e ≡ ev
+        → {result : Result Reply CoreFault} → result ≡ reply_of answered
+        → IsStepped now seat ev (history kept.opening entries) result
+    step_so space {now} before {ev} event {result} is =
+        rw (is, ← event, ← before)
+        (in_hand (λ x xs. IsStepped h seat e (history x xs) (reply_of answered))
+        (step_then space kept answered t))
+
+    pub core_so : {limit : ℕ} → limit ≡ o.entries → IsCore kept.opening entries limit kept
+    core_so within = record {
+      within = within ∙ ap (λ x. x.entries) (sym (opening_is kept answered t));
+      legal = in_hand IsLegalIn (legal_then kept answered t);
+      follows =
+          in_hand (λ x xs. Follows (history x xs) (parts kept)) (follows_then kept answered t);
+    }
+
+-- ---- nothing is entered
+
+-- for want of memory
 pub unstepped : (old new : History) (seat : ℕ) (e : Event) → is_full old ≡ false → new ≡ old → IsStepped old seat e new (Err CoreFault.OutOfMemory)
 unfolding IsStepped
 unstepped old new seat e space same = (space, same)
 
--- where the audit is full nothing is entered
+-- where the audit is full
 pub full_step : (old : History) (seat : ℕ) (e : Event) → is_full old ≡ true → IsStepped old seat e old (Err (CoreFault.Refused Rule.EntriesFull))
 unfolding IsStepped
 full_step old seat e full = (
@@ -54,37 +171,20 @@ full_step old seat e full = (
 )
 
 -- an audit that takes one entry more is that of a history that isn't full
-pub not_full : (log : Log) (h : History) → h.entries ≡ log.entries → log.limit ≡ h.opening.entries
+pub not_full : (log : Log) (h : History) → entered h.entries ≡ length log.entries
+    → log.limit ≡ h.opening.entries
     → length log.entries < log.limit → is_full h ≡ false
 not_full log h entries limit less = grind (arith, entries, limit, less, lt-ltb)
 
--- where the audit has no room nothing is entered
-pub unentered_step : (log : Log) {old new : History} → log.entries ≡ old.entries
+-- where the audit has no room
+pub unentered_step : (log : Log) {old new : History} → entered old.entries ≡ length log.entries
     → log.limit ≡ old.opening.entries → new ≡ old → (seat : ℕ) (e : Event) (fault : AuditFault)
     → IsAuditFault fault log → IsStepped old seat e new (Err (unentered fault))
 unentered_step log {old} {new} entries limit same seat e AuditFault.EntriesFull full =
     subst (λ h. IsStepped old seat e h (Err (CoreFault.Refused Rule.EntriesFull))) (sym same)
     (full_step old seat e (grind (arith, entries, limit, full, lt-ltb, ltb-true)))
 unentered_step log {old} {new} entries limit same seat e AuditFault.OutOfMemory wanting =
-    unstepped old new seat e (grind (arith, entries, limit, wanting.0, lt-ltb, ltb-true)) same
-
-opening_is : (call : Call) (e : Event) (kept : Kept) (answered : Result Answered CoreFault) → Answers call e kept answered → kept.opening ≡ call.past.opening
-unfolding Answers
-opening_is call e kept (Ok a) t = t.1.1.opening
-opening_is call e kept (Err (CoreFault.Refused r)) t = t.1.opening
-opening_is call e kept (Err CoreFault.OutOfMemory) t = t.opening
-
--- the same of what a step has in hand
-module _ (call : Call) (e : Event) (kept : Kept) (answered : Result Answered CoreFault) (t : Answers call e kept answered) (space : is_full call.past ≡ false)
-    {entries : List Entry} (pushed : entries ≡ entered call.past.entries call.seat e answered) where
-  pub step_so : {now : History} → call.past ≡ now → {ev : Event} → e ≡ ev → {result : Result Reply CoreFault} → result ≡ reply_of answered → IsStepped now call.seat ev (past kept.opening entries) result
-  step_so {now} before {ev} event {result} is = rw (is, pushed, ← event, ← before) (answered_step call space e kept answered t)
-
-  pub core_so : {limit : ℕ} → limit ≡ call.past.opening.entries → IsCore (past kept.opening entries) limit kept
-  core_so within = record {
-    within = within ∙ ap (λ o. o.entries) (sym (opening_is call e kept answered t));
-    follows = rw pushed (answered_follows call space e kept answered t);
-  }
+    unstepped old new seat e (not_full log old entries limit wanting.0) same
 
 -- ---- what a step leaves of a history
 
@@ -96,8 +196,24 @@ module _ (old new : History) (seat : ℕ) (e : Event) where
   leaves P was now (Err (CoreFault.Refused rule)) t = subst P (sym t.1) now
   leaves P was now (Err CoreFault.OutOfMemory) t = subst P (sym t.1) was
 
+  then : (P : History → Type 0) → P old
+      → (is_full old ≡ false → P (with_entry old (entry_of old seat e))) → P (after old seat e)
+  then P was now = by (is_full old) refl
+    where
+      by : (b : Bool) → is_full old ≡ b → P (cond b old (with_entry old (entry_of old seat e)))
+      by true q = was
+      by false q = now q
+
   pub stepped_legal : (result : Result Reply CoreFault) → IsLegal old → IsStepped old seat e new result → IsLegal new
-  stepped_legal result legal t = leaves IsLegal legal (elim (is_full old) as (λ b. is_full old ≡ b → IsLegal (cond b old (with_entry old (entry_of old seat e)))) [ true ↦ λ q. legal | false ↦ λ q. (next_is old seat e q, legal) ] refl) result t
+  stepped_legal result legal t = leaves IsLegal legal (then IsLegal legal one) result t
+    where
+      one : is_full old ≡ false → IsLegal (with_entry old (entry_of old seat e))
+      one q = let next = next_is old seat e q in
+          (legal_next old (entry_of old seat e) (next_entered old (entry_of old seat e) next)).1
+          (next, legal)
 
   pub stepped_opening : (result : Result Reply CoreFault) → IsStepped old seat e new result → new.opening ≡ old.opening
-  stepped_opening result t = leaves (λ h. h.opening ≡ old.opening) refl (grind arith) result t
+  stepped_opening result t =
+      leaves (λ h. h.opening ≡ old.opening) refl
+      (then (λ h. h.opening ≡ old.opening) refl (λ q. same_opening old (entry_of old seat e)))
+      result t

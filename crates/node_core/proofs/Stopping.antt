@@ -1,11 +1,15 @@
 -- A scope that stops.
 use Rattle.node_core.proofs.Words.{List, ap, cond, false, not, refl, subst, sym, true, ℕ, [], ◌++◌, ◌∙◌, ◌∷◌, ◌≡◌, AllByRecursion, filter, same_decides}
 use Rattle.node_core.proofs.Words.{same_sym, IsDifference, same, GroupChange, no_count, told_numbers, if_some, History, listed, waiting, wide, is_running}
-use Rattle.node_core.proofs.Words.{IsAnswered, IsNext, is_full, with_entry, Entry, Accepted, Follows, Parts, link_words, KeptLink, IsRunningOf, scope_words}
-use Rattle.node_core.proofs.Words.{AreTold, if_among, shown_numbers, follows_dropped, stopped_links, running_stopped, Running, Message, Event, Reply, arith}
+use Rattle.node_core.proofs.Words.{IsStep, is_full, just, Entry, Accepted, Follows, Parts}
+use Rattle.node_core.proofs.Words.{link_words, KeptLink, IsRunningOf, scope_words}
+use Rattle.node_core.proofs.Words.{AreTold, if_among, shown_numbers, stopped_links, running_stopped}
+use Rattle.node_core.proofs.Words.{Running, Message, Event, Reply, arith}
 use Rattle.group_monitors.specs.Monitors.{without_scope}
 use Rattle.policy_audit.proofs.HeardNow.{stopped_heard}
 use Rattle.policy_audit.proofs.RowsAfter.{stopped_rows}
+use Rattle.node_core.proofs.Ended.{Turns}
+use Rattle.node_core.proofs.PeersKept.{stop_leaves, monitors_drop}
 use Rattle.node_core.proofs.Entered.{made, accepted_next, answered_by, sound_now}
 use Rattle.node_core.proofs.OneScope.{scope_change}
 use Rattle.node_core.proofs.Starting.{names}
@@ -26,14 +30,17 @@ module _ (h : History) (seat : ℕ) (s : List ℕ) (gs : List GroupChange) where
   e = made h seat (Event.StopScope s) (Accepted Reply.Done) (if_some s gs)
 
   abbrev pub stopped : History
-  stopped = with_entry h e
+  stopped = just h e
 
   module _ (parts : Parts) (t : Follows h parts) (runs : is_running h s ≡ true) (groups : IsDifference (listed h s) no_count gs) where
-    module _ (its : IsAnswered h e) where
+    module _ (its : IsStep h e) where
       still : (r : Running) → same r.scope s ≡ false → IsRunningOf (scope_words h) r → IsRunningOf (scope_words stopped) r
       still r other q = record {
         own = q.own;
-        rows = λ g p. q.rows g p ∙ sym (stopped_rows h t.sound.legal e its refl s refl r.scope g p ∙ ap (λ b. cond b 0 (listed h r.scope g p)) other);
+        rows =
+            λ g p. q.rows g p
+            ∙ sym (stopped_rows h t.sound.played e its refl s refl r.scope g p
+            ∙ ap (λ b. cond b 0 (listed h r.scope g p)) other);
         heard = λ l. q.heard l ∙ sym ((stopped_heard h e refl s refl l r.scope).heard_is ∙ grind (arith, same_sym s r.scope, other));
         told = λ l. q.told l ∙ sym ((stopped_heard h e refl s refl l r.scope).told_is ∙ grind (arith, same_sym s r.scope, other));
       }
@@ -44,14 +51,23 @@ module _ (h : History) (seat : ℕ) (s : List ℕ) (gs : List GroupChange) where
           [ true ↦ λ q. all_still rs a.1 | false ↦ λ q. (still r q a.0, all_still rs a.1) ] refl
 
     pub stop_now : is_full h ≡ false → (links : List KeptLink) → AreTold (if_among (shown_numbers parts.links) (wide (Message.Down s))) parts.links links
-        → IsNext h e × Follows stopped (record parts { scopes = all_but s parts.scopes; links = links; monitors = without_scope s parts.monitors })
+        → Turns h seat (Event.StopScope s) (if_some s gs)
+        (record parts {
+          scopes = all_but s parts.scopes;
+          links = links;
+          monitors = without_scope s parts.monitors;
+        }) (λ u. same s u) (λ x. x ≡ if_some s gs)
     stop_now space links tells =
         let next = accepted_next h seat (Event.StopScope s) space Reply.Done (if_some s gs) (rw runs) refl (λ its. scope_change h stopped s gs
-        (subst (λ f. IsDifference (listed h s) f gs) (λ i g p. sym (stopped_rows h t.sound.legal e its refl s refl s g p ∙ ap (λ b. cond b 0 (listed h s g p)) ((same_decides s s).1 refl)) i) groups)
-        (λ u g p other. sym (stopped_rows h t.sound.legal e its refl s refl u g p ∙ ap (λ b. cond b 0 (listed h u g p)) other))) in
-        let its = answered_by next in (
-          next,
-          record {
+        (subst (λ f. IsDifference (listed h s) f gs)
+        (λ i g p. sym (stopped_rows h t.sound.played e its refl s refl s g p
+        ∙ ap (λ b. cond b 0 (listed h s g p)) ((same_decides s s).1 refl)) i) groups)
+        (λ u g p other.
+        sym (stopped_rows h t.sound.played e its refl s refl u g p
+        ∙ ap (λ b. cond b 0 (listed h u g p)) other))) in
+        let its = answered_by next in record {
+          alone = next;
+          follows = record {
             sound = sound_now h e t.sound next;
             admission = t.admission;
             processes = t.processes;
@@ -61,8 +77,12 @@ module _ (h : History) (seat : ℕ) (s : List ℕ) (gs : List GroupChange) where
             };
             links = told_follow (link_words h) (link_words stopped) (if_among (shown_numbers parts.links) (wide (Message.Down s))) (λ l. refl)
                 (told_numbers h e its refl refl (λ l. (stopped_links h e its refl s refl l).kept_is)) parts.links links
-                (λ l. ap (λ b. waiting h l ++ cond b (wide (Message.Down s) ∷ []) []) (sym (shown_number h parts.links t.sound.legal t.links l)))
+                (λ l. ap (λ b. waiting h l ++ cond b (wide (Message.Down s) ∷ []) [])
+                (sym (shown_number h parts.links t.sound.played t.links l)))
                 tells t.links;
-            monitors = follows_dropped h e parts.monitors next.number t.monitors refl s refl;
-          },
-        )
+            monitors = monitors_drop h seat parts.monitors t.monitors s (if_some s gs);
+          };
+          leaves = stop_leaves h seat (if_some s gs) t.sound.played s its;
+          monitors = monitors_drop h seat parts.monitors t.monitors s;
+          owned = λ x is. rw is next.change;
+        }

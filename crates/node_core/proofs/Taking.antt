@@ -1,7 +1,10 @@
 -- The frames that wait for a link are handed over.
-use Rattle.node_core.proofs.Words.{Bool, List, Some, ap, cond, false, get_or, length, nat_eq, not, position, refl, set, subst, sym, true, ℕ, [], ◌&&◌, ◌<◌}
-use Rattle.node_core.proofs.Words.{◌==◌, ◌∙◌, ◌≡◌, filter, eq-eqb, eqb-true, kept_climbs, flip, History, is_open, OutFrame, waiting, IsNext, is_full}
-use Rattle.node_core.proofs.Words.{with_entry, Entry, Accepted, Follows, Parts, IsLinkOf, IsState, LinksFollow, facts, link_words, KeptLink, LinkState}
+use Rattle.node_core.proofs.Words.{Bool, List, Some, ap, cond, false, get_or, length, nat_eq, not}
+use Rattle.node_core.proofs.Words.{refl, set, subst, sym, true, ℕ, [], ◌&&◌, ◌<◌}
+use Rattle.node_core.proofs.Words.{◌==◌, ◌∙◌, ◌≡◌, filter, eq-eqb, eqb-true, kept_climbs, flip}
+use Rattle.node_core.proofs.Words.{History, is_open, OutFrame, waiting, IsAlone, is_full}
+use Rattle.node_core.proofs.Words.{just, Entry, Accepted, Follows, Parts, IsLinkOf, IsState}
+use Rattle.node_core.proofs.Words.{LinksFollow, facts, link_words, KeptLink, LinkState}
 use Rattle.node_core.proofs.Words.{is_ended, without_ended, Event, Reply, arith, LinkWords}
 use Rattle.node_core.proofs.Words.{link_place, without_number}
 use Rattle.policy_audit.proofs.LinkFrames.{taken_links}
@@ -28,25 +31,26 @@ module _ (h : History) (seat j : ℕ) (frames : List OutFrame) (parts : Parts) (
   link = get_or parts.links p d
 
   it : IsLinkOf (link_words h) link × (link.number ≡ j) × (p < length parts.links)
-  it = link_at h t.sound.legal parts.links t.links j p d found
+  it = link_at h t.sound.played parts.links t.links j p d found
 
   opens : (ended : Bool) → is_ended link.state ≡ ended → is_open j h.entries ≡ not ended
   opens ended is = sym (ap (λ l. is_open l h.entries) it.1) ∙ open_by h link.number link.state it.0.state ∙ ap not is
 
   abbrev words : LinkWords
-  words = link_words (with_entry h take)
+  words = link_words (just h take)
 
   -- of each other link the same frames wait
   other_link : (x : KeptLink) → (j == x.number) ≡ false → IsLinkOf (link_words h) x → IsLinkOf words x
   other_link x other y = same_link x refl ((taken_links h take refl j refl x.number).waiting_is ∙ grind (arith, other)) y
 
-  its_frames : (l : ℕ) → l ≡ j → waiting (with_entry h take) l ≡ []
+  its_frames : (l : ℕ) → l ≡ j → waiting (just h take) l ≡ []
   its_frames l is = (taken_links h take refl j refl l).waiting_is ∙ ap (λ b. cond b [] (waiting h l)) (eq-eqb j l (sym is))
 
   -- an open link is kept
   open_taken : (room : ℕ) → is_ended link.state ≡ false → LinksFollow words (set parts.links p (emptied link room))
   open_taken room opened = one_follows (link_words h) words (emptied link room) (record { state = it.0.state; frames = sym (its_frames link.number it.1); idle = refl })
-      (λ x other y. other_link x (flip j x.number ∙ ap (λ l. nat_eq x.number l) (sym it.1) ∙ other) y) parts.links p d t.links (kept_climbs h t.sound.legal)
+      (λ x other y. other_link x (flip j x.number ∙ ap (λ l. nat_eq x.number l) (sym it.1) ∙ other)
+      y) parts.links p d t.links (kept_climbs h t.sound.played)
       (taken_numbers h take refl j refl ∙ filter_all (λ l. not (j == l && not (is_open l h.entries))) (λ l. grind (arith, eqb-true j l, opens false opened)) (link_words h).numbers) it.2 refl
 
   -- an ended one is gone
@@ -66,7 +70,10 @@ module _ (h : History) (seat j : ℕ) (frames : List OutFrame) (parts : Parts) (
 
   -- the link is changed, and gone if it has ended
   pub taken_now : is_full h ≡ false → frames ≡ link.frames → (new at : KeptLink) (room : ℕ) → new ≡ emptied link room → at ≡ new
-      → IsNext h take × Follows (with_entry h take) (record parts { links = without_ended at (set parts.links p new) })
+      → IsAlone h take
+      × Follows (just h take) (record parts { links = without_ended at (set parts.links p new) })
   taken_now space handed new at room is same =
-      let next = quiet_next h seat (Reply.Out frames) (Event.Take j) space (rw (is_kept_at h t.sound.legal parts.links t.links j p found)) (ap Reply.Out (sym (handed ∙ it.0.frames ∙ ap (waiting h) it.1))) refl in
+      let next = quiet_next h seat (Reply.Out frames) (Event.Take j) space
+      (rw (is_kept_at h t.sound.played parts.links t.links j p found))
+      (ap Reply.Out (sym (handed ∙ it.0.frames ∙ ap (waiting h) it.1))) refl in
       (next, step_follows t next refl t.admission t.processes t.scopes (rw (same, is) (one_taken room (is_ended link.state) refl)))

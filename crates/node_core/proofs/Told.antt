@@ -1,7 +1,8 @@
 -- Links for which further frames wait, or are prepared.
 use Rattle.node_core.proofs.Words.{Bool, List, ap, arith, false, map, nat_eq, not, refl, subst, suc, sym, true, zero, ℕ, [], ◌&&◌, ◌++◌, ◌∙◌, ◌∷◌, ◌≡◌}
 use Rattle.node_core.proofs.Words.{AllByRecursion, list_any, option_map_or, eqb-true, has_bit, and_false, append-nil, append_assoc, flip, kept_among, History}
-use Rattle.node_core.proofs.Words.{OutFrame, Follows, IsLegal, Parts, IsLinkOf, IsState, LinkFacts, LinkWords, LinksFollow, facts, link_words, KeptLink}
+use Rattle.node_core.proofs.Words.{OutFrame, Follows, IsPlayed, Parts, IsLinkOf, IsState, LinkFacts}
+use Rattle.node_core.proofs.Words.{LinkWords, LinksFollow, facts, link_words, KeptLink}
 use Rattle.node_core.proofs.Words.{committed, prepared_for, unroomed, with_frames, with_prepared, with_room, is_number, Alike, AreIdle, AreTold, if_among}
 use Rattle.node_core.proofs.Words.{shown_numbers, LinkState, is_shown, bare, ArePrepared}
 use Rattle.scope_core.proofs.Rising.{all_map, all_mapped, all_unmapped}
@@ -76,7 +77,8 @@ shown_among w [] t l = refl
 shown_among w (x ∷ xs) t l = grind (arith, shown_among w xs t.1 l, shown_is (w.facts x.number) x.state t.0.state, eqb-true l x.number, and_false)
 
 -- the number of a kept link is one of those shown where the words say so
-pub shown_number : (h : History) (xs : List KeptLink) → IsLegal h → LinksFollow (link_words h) xs → (l : ℕ) → is_number l (shown_numbers xs) ≡ shown_by (facts h l)
+pub shown_number : (h : History) (xs : List KeptLink) → IsPlayed h → LinksFollow (link_words h) xs
+    → (l : ℕ) → is_number l (shown_numbers xs) ≡ shown_by (facts h l)
 shown_number h xs legal t l = shown_among (link_words h) xs t.each l ∙ grind (arith, ap (is_number l) t.numbers, kept_among h legal l)
 
 -- ---- frames that are prepared and wait then

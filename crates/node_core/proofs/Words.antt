@@ -70,8 +70,15 @@ pub use Rattle.policy_audit.specs.OutFrame.{OutFrame}
 pub use Rattle.policy_audit.specs.Owed.{digest_for, discovers, frame_owes, is_kept, narrow, own_challenge, refusal_owes, waiting, wide, if_told}
 pub use Rattle.policy_audit.specs.Owed.{message_owes, owed, own_challenge_frame, status_frame, true_to, welcome}
 pub use Rattle.policy_audit.specs.Own.{is_local, is_running, lives, running_scopes, is_spawn, living, own, spawned}
-pub use Rattle.policy_audit.specs.Policy.{IsAnswered, IsLegal, IsNext, answer, is_full, next_number, up_answer, verdict, with_entry, IsLegalIn, after}
+pub use Rattle.policy_audit.specs.Policy.{IsStep, IsPlayed, IsNext, IsNumbered, IsLegal, IsLegalIn}
+pub use Rattle.policy_audit.specs.Policy.{answer, is_full, judgement, next_number, up_answer}
+pub use Rattle.policy_audit.specs.Policy.{verdict, history, after, IsPlayedIn}
+pub use Rattle.policy_audit.specs.Owed.{may_tell, with_entry, slow_links}
+pub use Rattle.policy_audit.specs.History.{just, audited, audit_of, entered, is_entered}
+pub use Rattle.node_core.specs.Alone.{IsAlone}
 pub use Rattle.policy_audit.specs.Policy.{entry_of, judged}
+pub use Rattle.policy_audit.specs.Owed.{asks, is_slow, max_waiting}
+pub use Rattle.policy_audit.specs.History.{lose, loss}
 pub use Rattle.policy_audit.specs.Sides.{AwaitMessage, awaits, challenge_in, is_last, is_name_up, is_peer, is_whole, peer_of, present_link}
 pub use Rattle.policy_audit.specs.Sides.{AwaitAnswer, AwaitChallenge, AwaitReply, AwaitStatus, Awaited, ByDial, ByPeer, Start}
 pub use Rattle.policy_audit.specs.Sides.{given, opened, start_of, taken}
@@ -103,7 +110,8 @@ unfoldable pub use Rattle.node_core.specs.Step.{Answers}
 pub use Rattle.node_core.specs.Step.{Call, IsCalled, Says}
 pub use Rattle.node_core.specs.declared.entering.Answered.{Answered}
 pub use Rattle.node_core.specs.declared.kept.Kept.{Kept}
-pub use Rattle.node_core.specs.Exiting.{all_frames, exit_frames, AreExits, AreExitsTold, ArePrepared, bare}
+pub use Rattle.node_core.specs.Exiting.{all_frames, exit_frames, AreExits, ArePrepared, bare}
+pub use Rattle.node_core.specs.Exiting.{IsOwnScope}
 pub use Rattle.node_core.specs.Gone.{AreCut, AreLost, without_ended}
 pub use Rattle.node_core.specs.Handshakes.{HaveEnded, moved_on, older_of, without_link, HaveComeUp, HaveGoneOn, HaveMoved, IsReady}
 pub use Rattle.node_core.specs.Hearing.{Hears, heard_named, is_handshake, rule_of, accepted_as}
@@ -113,7 +121,8 @@ pub use Rattle.node_core.specs.LinkFacts.{IsGiven, IsPeer}
 pub use Rattle.node_core.specs.Links.{KeptLink, StatelessLink, in_state, committed, dial_beside, dialled_peer, known_peer, narrow_frames, prepared_for, unroomed, up_peer}
 pub use Rattle.node_core.specs.Links.{with_frames, with_prepared, with_room, are_of_peer, dial_to}
 pub use Rattle.node_core.specs.Links.{dialled_link, is_ended, is_shown, link_place, without_number}
-pub use Rattle.node_core.specs.Moving.{IsMoved, IsJoinRefusal, IsLeaveRefusal, fault_of, join_of, leave_of, own_checks}
+pub use Rattle.node_core.specs.Moving.{IsMovedBy, IsOwnChange, IsJoinRefusal, IsLeaveRefusal}
+pub use Rattle.node_core.specs.Moving.{fault_of, join_of, leave_of, own_checks}
 pub use Rattle.node_core.specs.Parting.{ArePartings, IsCutOff, IsParting, rows_left, HasParted, count_but, without}
 pub use Rattle.node_core.specs.ProcessFacts.{ProcessesFollow, process_words}
 pub use Rattle.node_core.specs.Processes.{Spawned}

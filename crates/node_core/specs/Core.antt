@@ -1,11 +1,13 @@
 -- What a node keeps is what its history says.
-use Rattle.std.specs.Prelude.{◌≡◌, ℕ, ◌≤◌, ◌<◌, ◌^◌, List, length}
+use Rattle.std.specs.Prelude.{◌≡◌, ℕ, ◌≤◌, ◌<◌, ◌^◌, List}
 use Rattle.admission_rules.specs.Admission.{AdmissionRules}
 use Rattle.group_monitors.specs.declared.monitor.Monitor.{Monitor}
 use Rattle.group_monitors.specs.Follows.{FollowsPolicy}
-use Rattle.policy_audit.specs.History.{History}
+use Rattle.policy_audit.specs.declared.opening.Opening.{Opening}
+use Rattle.policy_audit.specs.declared.entry.Entry.{Entry}
+use Rattle.policy_audit.specs.History.{History, audit_of, entered}
 use Rattle.policy_audit.specs.Own.{spawned}
-use Rattle.policy_audit.specs.Policy.{IsLegal}
+use Rattle.policy_audit.specs.Policy.{IsPlayed, IsLegal, IsLegalIn, history}
 use Rattle.node_core.specs.declared.kept.Kept.{Kept}
 use Rattle.node_core.specs.declared.running.Running.{Running}
 use Rattle.node_core.specs.Links.{KeptLink}
@@ -15,12 +17,13 @@ use Rattle.node_core.specs.ScopeFacts.{scope_words, ScopesFollow}
 use Rattle.node_core.specs.ProcessFacts.{process_words, ProcessesFollow}
 use Rattle.node_core.specs.AdmissionFacts.{admission_words, AdmissionFollows}
 
--- the history is the policy's, within its limit, and the node knows version 1 of link messages alone
+-- each step of the history is the policy's, within its limit,
+-- and the node knows version 1 of link messages alone
 pub record IsSound (h : History) : Type 0 where
-  pub legal : IsLegal h
+  pub played : IsPlayed h
   pub fits : h.opening.entries < 2 ^ 32
-  pub few : length h.entries ≤ h.opening.entries
-  pub few_spawned : spawned h ≤ length h.entries
+  pub few : entered h.entries ≤ h.opening.entries
+  pub few_spawned : spawned h ≤ entered h.entries
   pub links : h.opening.links ≡ 1
 
 -- what a node keeps that changes
@@ -38,7 +41,7 @@ pub record Follows (h : History) (parts : Parts) : Type 0 where
   pub processes : ProcessesFollow (process_words h) parts.processes
   pub scopes : ScopesFollow (scope_words h) parts.scopes
   pub links : LinksFollow (link_words h) parts.links
-  pub monitors : FollowsPolicy h parts.monitors
+  pub monitors : FollowsPolicy (audit_of h) parts.monitors
 
 abbrev pub parts : Kept → Parts
 parts kept = record { admission = kept.admission; processes = kept.processes; scopes = kept.scopes.items; links = kept.links.items; monitors = kept.monitors }
@@ -46,9 +49,13 @@ parts kept = record { admission = kept.admission; processes = kept.processes; sc
 -- what is kept is that of a node with this history
 pub record Keeps (h : History) (kept : Kept) : Type 0 where
   pub opening : kept.opening ≡ h.opening
+  pub legal : IsLegal h
   pub follows : Follows h (parts kept)
 
--- a node with this history: the limit of its audit, and what it keeps
-pub record IsCore (h : History) (limit : ℕ) (kept : Kept) : Type 0 where
-  pub within : limit ≡ h.opening.entries
-  pub follows : Follows h (parts kept)
+-- a node whose audit has these entries: they are the policy's, as many as it may have,
+-- and what is kept follows
+pub record IsCore (opening : Opening) (entries : List Entry) (limit : ℕ)
+    (kept : Kept) : Type 0 where
+  pub within : limit ≡ opening.entries
+  pub legal : IsLegalIn opening entries
+  pub follows : Follows (history opening entries) (parts kept)

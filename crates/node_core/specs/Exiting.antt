@@ -1,18 +1,25 @@
 -- The end of a process, as the links are told of it.
-use Rattle.std.specs.Prelude.{◌≡◌, ℕ, not, List, [], ◌∷◌, ◌++◌, map}
+use Rattle.std.specs.Prelude.{◌≡◌, ◌≤◌, ℕ, not, List, [], ◌∷◌, ◌++◌, map}
 use Rattle.std.specs.List.{filter, AllZip}
 use Rattle.dist_types.specs.declared.pid.Pid.{Pid}
 use Rattle.dist_types.specs.declared.change.GroupChange.{GroupChange}
 use Rattle.dist_types.specs.Difference.{is_empty}
+use Rattle.dist_types.specs.Listing.{max_rows}
 use Rattle.link_frames.specs.declared.message.Message.TheVariants as said
 use Rattle.scope_core.specs.Calls.{count_after_exit}
+use Rattle.scope_core.specs.Table.{local_total}
 use Rattle.policy_audit.specs.declared.change.Change.{Change}
 use Rattle.policy_audit.specs.OutFrame.{OutFrame}
 use Rattle.policy_audit.specs.Owed.{wide}
 use Rattle.node_core.specs.declared.running.Running.{Running}
 use Rattle.node_core.specs.Links.{KeptLink, with_prepared, unroomed}
 use Rattle.node_core.specs.Parting.{IsParting, rows_left}
-use Rattle.node_core.specs.Telling.{AreTold, if_among, said_to}
+use Rattle.node_core.specs.Telling.{if_among, said_to}
+
+-- the scope is of the node, and has no more own rows than a message brings
+pub record IsOwnScope (node : List ℕ) (r : Running) : Type 0 where
+  pub own : r.table.own ≡ node
+  pub few : local_total r.table ≤ max_rows
 
 -- the link, whatever its room and what is prepared for it
 abbrev pub bare : KeptLink → KeptLink
@@ -38,10 +45,3 @@ pub record AreExits (p : Pid) (rs : List Running) (old new : List KeptLink) (cs 
   pub each : AllZip (IsParting (λ t. count_after_exit t p)) rs all
   pub some : cs ≡ filter (λ c. not (is_empty c.groups)) all
   pub links : ArePrepared (all_frames rs all) old new
-
--- the same, and the Leaves wait
-pub record AreExitsTold (p : Pid) (rs : List Running) (old new : List KeptLink) (cs : List Change) : Type 0 where
-  pub all : List Change
-  pub each : AllZip (IsParting (λ t. count_after_exit t p)) rs all
-  pub some : cs ≡ filter (λ c. not (is_empty c.groups)) all
-  pub links : AreTold (all_frames rs all) old new

@@ -19,3 +19,6 @@ pub mod Moving
 pub mod Exiting
 pub mod Reading
 pub mod FramesHere
+pub mod Alone
+pub mod Ending
+pub mod Gathering

@@ -24,7 +24,7 @@ use Rattle.node_core.specs.declared.fault.CoreFault.{CoreFault}
 use Rattle.node_core.specs.declared.fault.CoreFault.TheVariants as faults
 use Rattle.node_core.specs.declared.running.Running.{Running}
 use Rattle.node_core.specs.Links.{KeptLink, unroomed, prepared_for}
-use Rattle.node_core.specs.Telling.{AreTold, if_among, said_to}
+use Rattle.node_core.specs.Telling.{said_to}
 
 -- the rules for processes that join a group, but for those of the scope and of its other rows
 abbrev pub own_checks : History → List Pid → List Check
@@ -46,16 +46,20 @@ leave_of r g ps = said.Leave r.scope (map (row g) (listing pid_cmp (λ p. min (m
 abbrev pub IsPrepared : Message → Running → List KeptLink → List KeptLink → Type 0
 IsPrepared m r old new = map unroomed new ≡ map (λ x. unroomed (prepared_for (said_to r.told.items m) (wide m) x)) old
 
--- one scope after its rows have changed: the links that are told there are told this message
-pub record IsMoved (m : Message) (count : List ℕ → Pid → ℕ) (old new : Running) (links_old links_new : List KeptLink) (cs : List Change) : Type 0 where
+-- this is what changes in one scope where rows come to be counted so
+pub record IsOwnChange (r : Running) (count : List ℕ → Pid → ℕ) (cs : List Change) : Type 0 where
+  pub groups : List GroupChange
+  pub difference : IsDifference (count_of r.table) count groups
+  pub changes : cs ≡ if_some r.scope groups
+
+-- one scope after its rows have changed, and nothing else of it
+pub record IsMovedBy (count : List ℕ → Pid → ℕ) (old new : Running)
+    (cs : List Change) : Type 0 where
   pub scope : new.scope ≡ old.scope
   pub heard : new.heard.items ≡ old.heard.items
   pub told : new.told.items ≡ old.told.items
   pub rows : Counts old.table new.table count
-  pub groups : List GroupChange
-  pub difference : IsDifference (count_of old.table) (count_of new.table) groups
-  pub changes : cs ≡ if_some old.scope groups
-  pub links : AreTold (if_among (said_to old.told.items m) (wide m)) links_old links_new
+  pub change : IsOwnChange old count cs
 
 -- the rule that a fault of a table is
 abbrev pub fault_of : TableFault → CoreFault

@@ -9,7 +9,8 @@ use Rattle.policy_audit.specs.declared.entry.Verdict.{Verdict}
 use Rattle.policy_audit.specs.declared.entry.Verdict.TheVariants as verdicts
 use Rattle.policy_audit.specs.History.{History}
 use Rattle.policy_audit.specs.declared.change.Change.{Change}
-use Rattle.policy_audit.specs.Policy.{verdict, is_full, after, next_number, IsNext, with_entry}
+use Rattle.policy_audit.specs.Owed.{with_entry}
+use Rattle.policy_audit.specs.Policy.{verdict, is_full, after, next_number, IsNext}
 use Rattle.node_core.specs.declared.entering.Answered.{Answered}
 use Rattle.node_core.specs.declared.kept.Kept.{Kept}
 use Rattle.node_core.specs.declared.fault.CoreFault.{CoreFault}
@@ -66,11 +67,24 @@ Answers call e kept (Ok a) = (a.copy ≡ a.reply) × Enters call.past (made call
 Answers call e kept (Err (faults.Refused rule)) = Enters call.past (made call.past call.seat e (verdicts.Refused rule) []) kept
 Answers call e kept (Err faults.OutOfMemory) = Keeps call.past kept
 
--- the entries with one of an event that was answered so; after want of memory there is none
-abbrev pub entered : List Entry → ℕ → Event → Result Answered CoreFault → List Entry
-entered es seat e (Ok a) = record { number = length es + 1; seat = seat; event = e; verdict = verdicts.Accepted a.copy; change = a.changes.items } ∷ es
-entered es seat e (Err (faults.Refused rule)) = record { number = length es + 1; seat = seat; event = e; verdict = verdicts.Refused rule; change = [] } ∷ es
-entered es seat e (Err faults.OutOfMemory) = es
+-- the entries of an audit with one more, of an event that was answered so;
+-- after want of memory there is none
+abbrev pub one_more : List Entry → ℕ → Event → Result Answered CoreFault → List Entry
+one_more es seat e (Ok a) = record {
+  number = length es + 1;
+  seat = seat;
+  event = e;
+  verdict = verdicts.Accepted a.copy;
+  change = a.changes.items;
+} ∷ es
+one_more es seat e (Err (faults.Refused rule)) = record {
+  number = length es + 1;
+  seat = seat;
+  event = e;
+  verdict = verdicts.Refused rule;
+  change = [];
+} ∷ es
+one_more es seat e (Err faults.OutOfMemory) = es
 
 -- what the caller is told
 abbrev pub reply_of : Result Answered CoreFault → Result Reply CoreFault

@@ -9,7 +9,8 @@ use Rattle.link_frames.specs.declared.message.Message.{Message}
 use Rattle.link_frames.specs.declared.message.Message.TheVariants as said
 use Rattle.policy_audit.specs.OutFrame.{OutFrame}
 use Rattle.node_core.specs.declared.running.Running.{Running}
-use Rattle.node_core.specs.Links.{KeptLink, is_shown, with_frames, unroomed}
+use Rattle.policy_audit.specs.Owed.{wide}
+use Rattle.node_core.specs.Links.{KeptLink, is_shown, prepared_for, with_frames, unroomed}
 use Rattle.node_core.specs.ScopeFacts.{is_number}
 
 -- nothing is prepared for any of these links
@@ -31,6 +32,11 @@ Alike old new = map unroomed new ≡ map unroomed old
 -- the links with these frames more that wait, whatever their room
 abbrev pub AreTold : (ℕ → List OutFrame) → List KeptLink → List KeptLink → Type 0
 AreTold more old new = map unroomed new ≡ map (λ x. unroomed (with_frames x (more x.number))) old
+
+-- the message is prepared for the links that are up and visible
+abbrev pub IsForShown : Message → List KeptLink → List KeptLink → Type 0
+IsForShown m old new =
+    map unroomed new ≡ map (λ x. unroomed (prepared_for (shown_numbers old) (wide m) x)) old
 
 -- the scope before the first that doesn't come before it
 abbrev pub put_scope : Running → List Running → List Running

@@ -2,7 +2,7 @@
 ghost use Rattle.std.specs.Prelude.{◌≡◌, ◌<◌, ◌+◌, ◌∷◌, [], true, length, Ok, Err, IfOk};
 ghost use Rattle.policy_audit.specs.declared.entry.Entry.{Entry};
 ghost use Rattle.node_core.specs.declared.fault.CoreFault.TheVariants as faults;
-ghost use Rattle.node_core.specs.Step.{Says, entered, reply_of};
+ghost use Rattle.node_core.specs.Step.{Says, one_more, reply_of};
 
 use crate::fault::CoreFault;
 use dist_types::{OutOfMemory, TryClone};
@@ -74,7 +74,7 @@ impl Answered {
     fn enter(self, audit: &mut Audit, seat: u32, event: Event) -> Reply
         requires room { audit.old.has_room ≡ true }
         requires space { length audit.old.entries < audit.old.limit }
-        ensures entries { audit.new.entries ≡ entered audit.old.entries seat event (Ok self) }
+        ensures entries { audit.new.entries ≡ one_more audit.old.entries seat event (Ok self) }
         ensures limit { audit.new.limit ≡ audit.old.limit }
         ensures reply { result ≡ self.reply }
     {
@@ -101,7 +101,7 @@ pub fn enter(
 ) -> Result<Reply, CoreFault>
     requires room { audit.old.has_room ≡ true }
     requires space { length audit.old.entries < audit.old.limit }
-    ensures entries { audit.new.entries ≡ entered audit.old.entries seat event answered }
+    ensures entries { audit.new.entries ≡ one_more audit.old.entries seat event answered }
     ensures limit { audit.new.limit ≡ audit.old.limit }
     ensures reply { result ≡ reply_of answered }
 {
@@ -122,7 +122,8 @@ pub fn enter(
 fn reject(alloc: Global, audit: &mut Audit, seat: u32, event: Event, rule: Rule)
     requires room { audit.old.has_room ≡ true }
     requires space { length audit.old.entries < audit.old.limit }
-    ensures entries { audit.new.entries ≡ entered audit.old.entries seat event (Err (faults.Refused rule)) }
+    ensures entries { audit.new.entries ≡ one_more audit.old.entries seat event
+        (Err (faults.Refused rule)) }
     ensures limit { audit.new.limit ≡ audit.old.limit }
 {
     let nothing = Changes::of(Vec::new(alloc));

@@ -1,5 +1,6 @@
 //! What a node keeps beside its audit.
 ghost use Rattle.std.specs.Prelude.{◌≡◌};
+ghost use Rattle.policy_audit.specs.History.{audited};
 ghost use Rattle.node_core.specs.Step.{Call, IsTurn, Answers};
 
 use crate::entering::Answered;
@@ -51,7 +52,7 @@ impl Kept {
     ) -> Result<Answered, CoreFault>
         ghost call: { Call }
         requires turn { IsTurn call seat number self.old }
-        requires audit { audit.now.entries ≡ call.past.entries }
+        requires audit { audit.now.entries ≡ audited call.past.entries }
         ensures { Answers call event.now self.new result }
     {
         match event {

@@ -8,6 +8,7 @@ mod changes;
 mod entering;
 mod fault;
 mod frames;
+mod gathering;
 mod handshaking;
 mod hearing;
 mod kept;
@@ -26,6 +27,7 @@ mod readers;
 mod running;
 mod scoping;
 mod sharing;
+mod slow;
 mod telling;
 
 pub use awaiting::{Awaiting, FrameKind};

@@ -2,9 +2,11 @@
 ghost use Rattle.std.specs.Prelude.{◌≡◌, ◌++◌, vec_len, vec_capacity, ◌∷◌, [], ◌≤◌, ◌+◌, false, ℕ, List, length, OnOk, OnErr, IfOk};
 ghost use Rattle.std.specs.Option.{option_map, option_map_or};
 ghost use Rattle.dist_types.specs.Listing.{same};
+ghost use Rattle.node_core.specs.Ending.{is_overfull};
 ghost use Rattle.node_core.specs.Links.{KeptLink, with_frames, with_prepared, with_room, narrow_frames, up_peer, dialled_peer, known_peer, is_shown, is_ended, in_state};
 
 use crate::link_state::LinkState;
+use crate::slow::MAX_WAITING;
 use dist_types::{NodeName, OutOfMemory};
 use link_states::{Bodies, HandshakeBody};
 use policy_audit::{OutFrame, OutFrames};
@@ -225,6 +227,13 @@ impl Link {
             LinkState::Ack(state) => state.peer() == peer,
             _ => false,
         }
+    }
+
+    /// Whether too many frames wait for it, with those that are prepared.
+    pub fn is_overfull(&self) -> bool
+        ensures { result ≡ is_overfull self.now }
+    {
+        self.waiting.len() > MAX_WAITING
     }
 
     /// Whether the link is up and visible.

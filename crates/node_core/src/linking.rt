@@ -177,7 +177,7 @@ fn dialled(
 }
 
 /// What the scopes lose with a link: the rows of its peer, if it is up.
-fn changes_without(
+pub fn changes_without(
     alloc: Global,
     scopes: &[Running],
     link: &Link,
@@ -191,7 +191,7 @@ fn changes_without(
 }
 
 /// The scopes are cut off from a link, if it is up.
-fn cut_link(scopes: &mut Vec<Running>, link: &Link)
+pub fn cut_link(scopes: &mut Vec<Running>, link: &Link)
     ensures { AreCut link.now.number (up_peer link.now.state) scopes.old.items scopes.new.items }
 {
     if let Some(peer) = link.up_peer() {

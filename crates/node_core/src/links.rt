@@ -151,6 +151,19 @@ pub fn forget(links: &mut Vec<Link>)
     }
 }
 
+/// The prepared frames of all links are dropped where something failed.
+pub fn or_forget<T, F>(links: &mut Vec<Link>, done: Result<T, F>) -> Result<T, F>
+    ensures result { result ≡ done }
+    ensures same { OnOk result (links.new ≡ links.old) }
+    ensures forgot { OnErr result
+        (map unroomed links.new.items ≡ map (λ x. unroomed (with_prepared x [])) links.old.items) }
+{
+    if done.is_err() {
+        forget(links);
+    }
+    done
+}
+
 /// The link of this number is gone.
 pub fn remove(links: &mut Vec<Link>, number: u32)
     ensures { links.new.items ≡ without_number number links.old.items }

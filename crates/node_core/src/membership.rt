@@ -1,5 +1,6 @@
 //! The node's own processes in groups.
-ghost use Rattle.std.specs.Prelude.{◌≡◌, ◌≤◌, ◌+◌, ◌==◌, ◌&&◌, true, length, All, IfOk, IfErr, OnOk, OnErr};
+ghost use Rattle.std.specs.Prelude.{◌≡◌, ◌≤◌, ◌+◌, ◌==◌, ◌&&◌, false, true, length, All, IfOk};
+ghost use Rattle.std.specs.Prelude.{IfErr, OnOk, OnErr};
 ghost use Rattle.std.specs.List.{list_all};
 ghost use Rattle.dist_types.specs.Listing.{max_rows, same};
 ghost use Rattle.scope_core.specs.Table.{local_total};
@@ -11,15 +12,19 @@ ghost use Rattle.node_core.specs.Core.{Keeps};
 ghost use Rattle.policy_audit.specs.declared.event.Event.TheVariants as events;
 ghost use Rattle.node_core.specs.Step.{Call, IsCalled, Answers};
 ghost use Rattle.node_core.specs.Telling.{AreIdle, Alike};
-ghost use Rattle.node_core.specs.Moving.{own_checks, join_of, leave_of, IsPrepared, IsMoved, IsJoinRefusal, IsLeaveRefusal, fault_of};
+ghost use Rattle.node_core.specs.Ending.{ends_of, IsEnding};
+ghost use Rattle.node_core.specs.Moving.{own_checks, join_of, leave_of, IsPrepared, IsMovedBy};
+ghost use Rattle.node_core.specs.Moving.{IsOwnChange, IsJoinRefusal, IsLeaveRefusal, fault_of};
 
 use crate::changes::{ChangeRoom, Leaving, leave_all, rows_of};
 use crate::entering::Answered;
 use crate::fault::CoreFault;
+use crate::gathering::{ascending, change_in};
 use crate::kept::Kept;
 use crate::link::Link;
-use crate::links::{commit, forget};
-use crate::running::{Running, place_of};
+use crate::links::{commit, or_forget};
+use crate::running::{ROWS_OF_VERSION_1, Running, place_of};
+use crate::slow::{Ending, ending_with, is_any_overfull, settled};
 use crate::telling::{tell, tell_exit};
 use dist_types::{Group, MAX_ROWS, OutOfMemory, Pid, Pids, Scope, TryClone};
 use link_frames::{Message, Rows};
@@ -87,9 +92,26 @@ impl Kept {
         if let Some(rule) = self.join_refusal(pids) {
             return Err(CoreFault::Refused(rule));
         }
-        let (links, running) = (&mut self.links, &mut self.scopes[place]);
-        let changes = join_one(self.alloc, links, running, group, pids)?;
-        Ok(Answered::changed(changes))
+        tell_join(
+            self.alloc,
+            &mut self.links,
+            &self.scopes[place],
+            group,
+            pids,
+        )?;
+        let ending = join_ending(
+            self.alloc,
+            &self.links,
+            &self.scopes,
+            &self.scopes[place],
+            group,
+            pids,
+        );
+        let ending = or_forget(&mut self.links, ending)?;
+        let own = join_one(self.alloc, &mut self.scopes[place], group, pids);
+        let own = or_forget(&mut self.links, own)?;
+        commit(&mut self.links);
+        Ok(settled(&mut self.scopes, &mut self.links, own, ending))
     }
 
     /// Processes leave a group, each once per mention, as far as they are joined.
@@ -111,9 +133,26 @@ impl Kept {
         if !self.are_local(pids) {
             return Err(CoreFault::Refused(Rule::NotLocal));
         }
-        let (links, running) = (&mut self.links, &mut self.scopes[place]);
-        let changes = leave_one(self.alloc, links, running, group, pids)?;
-        Ok(Answered::changed(changes))
+        tell_leave(
+            self.alloc,
+            &mut self.links,
+            &self.scopes[place],
+            group,
+            pids,
+        )?;
+        let ending = leave_ending(
+            self.alloc,
+            &self.links,
+            &self.scopes,
+            &self.scopes[place],
+            group,
+            pids,
+        );
+        let ending = or_forget(&mut self.links, ending)?;
+        let own = leave_one(self.alloc, &mut self.scopes[place], group, pids);
+        let own = or_forget(&mut self.links, own)?;
+        commit(&mut self.links);
+        Ok(settled(&mut self.scopes, &mut self.links, own, ending))
     }
 
     /// A process ends, and leaves all groups.
@@ -129,42 +168,58 @@ impl Kept {
         if !self.processes.is_live(pid.number) {
             return Err(CoreFault::Refused(Rule::NoProcess));
         }
-        let changes = tell_exit(self.alloc, &mut self.links, &self.scopes, pid)?;
+        let own = tell_exit(self.alloc, &mut self.links, &self.scopes, pid)?;
+        let ending = ending_with(self.alloc, &self.links, &self.scopes, &own, None);
+        let ending = or_forget(&mut self.links, ending)?;
+        commit(&mut self.links);
         leave_all(&mut self.scopes, Leaving::Process(pid));
         self.processes.exit(pid.number);
-        Ok(Answered::changed(changes))
+        Ok(settled(&mut self.scopes, &mut self.links, own, ending))
     }
 }
 
-/// Own processes join a group of one scope, and the links that are told there are told so. Where they don't, nothing but room has
-/// changed.
+/// Own processes join a group of one scope. Where they don't, nothing has changed.
 fn join_one(
     alloc: Global,
-    links: &mut Vec<Link>,
     running: &mut Running,
     group: &Group,
     pids: &[Pid],
 ) -> Result<Vec<Change>, CoreFault>
-    requires own { All (λ p. p.node ≡ running.old.table.own) pids.now }
-    requires few { length pids.now ≤ max_rows }
-    requires idle { AreIdle links.old.items }
-    ensures joined { IfOk result (λ changes. IsMoved (join_of running.old.scope group.now pids.now) (count_after_join running.old.table group.now pids.now) running.old running.new links.old.items links.new.items changes.items) }
+    requires { All (λ p. p.node ≡ running.old.table.own) pids.now }
+    ensures joined { IfOk result
+        (λ changes. IsMovedBy (count_after_join running.old.table group.now pids.now) running.old
+        running.new changes.items) }
     ensures few { OnOk result (local_total running.old.table + length pids.now ≤ max_rows) }
     ensures refused { IfErr result (IsJoinRefusal running.old.table pids.now) }
-    ensures same { OnErr result ((running.new ≡ running.old) × Alike links.old.items links.new.items) }
+    ensures same { OnErr result (running.new ≡ running.old) }
 {
     let room = ChangeRoom::new(alloc, running.scope.try_clone(alloc)?)?;
-    tell_join(alloc, links, running, group, pids)?;
-    match running.table.join_local(group, pids) {
-        Ok(groups) => {
-            commit(links);
-            Ok(room.filled(groups))
-        }
-        Err(fault) => {
-            forget(links);
-            Err(fault_of(fault))
-        }
+    match running.table.join_local(group, pids, ROWS_OF_VERSION_1) {
+        Ok(groups) => Ok(room.filled(groups)),
+        Err(fault) => Err(fault_of(fault)),
     }
+}
+
+/// What changes where links end with a join that is prepared, if any does.
+fn join_ending(
+    alloc: Global,
+    links: &[Link],
+    scopes: &[Running],
+    running: &Running,
+    group: &Group,
+    pids: &[Pid],
+) -> Result<Option<Ending>, OutOfMemory>
+    ensures { IfOk result
+        (λ ending. IsEnding (ends_of links.now) (λ s. false)
+        (IsOwnChange running.now (count_after_join running.now.table group.now pids.now)) scopes.now
+        ending) }
+{
+    if !is_any_overfull(links) {
+        return Ok(None);
+    }
+    let joined = ascending(alloc, pids)?;
+    let own = change_in(alloc, &running.scope, group, Vec::new(alloc), joined)?;
+    ending_with(alloc, links, scopes, &own, None)
 }
 
 /// Prepares a Join of own processes for the links that are told. Where memory is wanting, what was prepared before is dropped,
@@ -190,34 +245,48 @@ fn tell_join(
     told
 }
 
-/// Own processes leave a group of one scope, and the links that are told there are told so. Where they don't, nothing but room has
-/// changed.
+/// Own processes leave a group of one scope. Where they don't, nothing has changed.
 fn leave_one(
     alloc: Global,
-    links: &mut Vec<Link>,
     running: &mut Running,
     group: &Group,
     pids: &[Pid],
 ) -> Result<Vec<Change>, CoreFault>
-    requires own { All (λ p. p.node ≡ running.old.table.own) pids.now }
-    requires idle { AreIdle links.old.items }
-    ensures left { IfOk result (λ changes. IsMoved (leave_of running.old group.now pids.now) (count_after_leave running.old.table group.now pids.now) running.old running.new links.old.items links.new.items changes.items) }
+    ensures left { IfOk result
+        (λ changes. IsMovedBy (count_after_leave running.old.table group.now pids.now) running.old
+        running.new changes.items) }
     ensures some { OnOk result (is_any_joined running.old.table group.now pids.now ≡ true) }
     ensures refused { IfErr result (IsLeaveRefusal running.old.table group.now pids.now) }
-    ensures same { OnErr result ((running.new ≡ running.old) × Alike links.old.items links.new.items) }
+    ensures same { OnErr result (running.new ≡ running.old) }
 {
     let room = ChangeRoom::new(alloc, running.scope.try_clone(alloc)?)?;
-    tell_leave(alloc, links, running, group, pids)?;
     match running.table.leave_local(group, pids) {
-        Ok(groups) => {
-            commit(links);
-            Ok(room.filled(groups))
-        }
-        Err(fault) => {
-            forget(links);
-            Err(fault_of(fault))
-        }
+        Ok(groups) => Ok(room.filled(groups)),
+        Err(fault) => Err(fault_of(fault)),
     }
+}
+
+/// What changes where links end with a leave that is prepared, if any does.
+fn leave_ending(
+    alloc: Global,
+    links: &[Link],
+    scopes: &[Running],
+    running: &Running,
+    group: &Group,
+    pids: &[Pid],
+) -> Result<Option<Ending>, OutOfMemory>
+    requires { All (λ p. p.node ≡ running.now.table.own) pids.now }
+    ensures { IfOk result
+        (λ ending. IsEnding (ends_of links.now) (λ s. false)
+        (IsOwnChange running.now (count_after_leave running.now.table group.now pids.now))
+        scopes.now ending) }
+{
+    if !is_any_overfull(links) {
+        return Ok(None);
+    }
+    let left = running.table.leaving(group, pids)?;
+    let own = change_in(alloc, &running.scope, group, left, Vec::new(alloc))?;
+    ending_with(alloc, links, scopes, &own, None)
 }
 
 /// Prepares a Leave of the own processes that a leave of these takes, for the links that are told. Where memory is wanting, what
@@ -230,6 +299,7 @@ fn tell_leave(
     pids: &[Pid],
 ) -> Result<(), OutOfMemory>
     requires own { All (λ p. p.node ≡ running.now.table.own) pids.now }
+    requires few { local_total running.now.table ≤ max_rows }
     requires idle { AreIdle links.old.items }
     ensures told { OnOk result (IsPrepared (leave_of running.now group.now pids.now) running.now links.old.items links.new.items) }
     ensures same { OnErr result (Alike links.old.items links.new.items) }

@@ -16,10 +16,11 @@
 ghost use Rattle.std.specs.Prelude.{◌≡◌, ◌<◌, ◌≤◌, ◌+◌, ◌==◌, ◌&&◌, [], List, ℕ, true, cond, Some, None, vec_len, vec_capacity, nat_eq, length, position, All, IsTrue, IfOk, IfErr, OnOk, OnErr};
 ghost use Rattle.std.specs.List.{list_all};
 ghost use Rattle.dist_types.specs.Listing.{max_rows, same};
-ghost use Rattle.scope_core.specs.Table.{count_of, node_total};
+ghost use Rattle.scope_core.specs.Table.{count_of, local_total, node_total};
 ghost use Rattle.scope_core.specs.Calls.{count_after_sync, count_after_add, count_after_take, count_after_drop, are_counted};
 ghost use Rattle.policy_audit.specs.Hearing.{said_on};
 ghost use Rattle.policy_audit.specs.declared.event.Event.TheVariants as events;
+ghost use Rattle.link_frames.specs.declared.message.Message.TheVariants as said;
 ghost use Rattle.node_core.specs.FramesHere.{IsUpLink, IsSoundMessage};
 ghost use Rattle.node_core.specs.Step.{Call, Answers};
 ghost use Rattle.node_core.specs.Links.{are_of_peer, with_room};
@@ -34,8 +35,11 @@ use crate::frames::{discover_frame, into_frame};
 use crate::kept::Kept;
 use crate::link::Link;
 use crate::link_state::LinkState;
+use crate::linking::{changes_without, cut_link};
+use crate::links::remove;
 use crate::membership::fault_of;
-use crate::running::{Running, place_of};
+use crate::running::{ROWS_OF_VERSION_1, Running, place_of};
+use crate::slow::MAX_WAITING;
 use dist_types::{Body, NodeName, OutOfMemory, Scope, TryClone};
 use link_frames::{Message, MessageFault, Rows, decode};
 use link_states::Up;
@@ -86,32 +90,70 @@ impl Kept {
         let Some(peer) = self.links[place].up_peer() else {
             unreachable!()
         };
-        let running = &mut self.scopes[at];
         match message {
-            Message::Discover(scope) => {
-                let link = &mut self.links[place];
-                let frames = ready_to_answer(self.alloc, link, running, number, &scope)?;
-                link.owe(frames);
-                Ok(Answered::done(self.alloc))
-            }
+            Message::Discover(scope) => self.discovered(place, at, number, &scope),
             Message::Sync(scope, rows) => {
+                let running = &mut self.scopes[at];
                 let changes = hear_rows(self.alloc, running, number, scope, peer, rows)?;
                 Ok(Answered::changed(changes))
             }
             Message::Join(scope, rows) => {
+                let running = &mut self.scopes[at];
                 let changes = add_rows(self.alloc, running, scope, peer, rows)?;
                 Ok(Answered::changed(changes))
             }
             Message::Leave(scope, rows) => {
+                let running = &mut self.scopes[at];
                 let changes = take_rows(self.alloc, running, scope, peer, rows)?;
                 Ok(Answered::changed(changes))
             }
             Message::Down(scope) => {
+                let running = &mut self.scopes[at];
                 let changes = drop_change(self.alloc, running, scope, peer)?;
                 cut_off(running, number, peer);
                 Ok(Answered::changed(changes))
             }
         }
+    }
+
+    /// A Discover for the scope at a place. The link ends where too many frames would wait for it.
+    #[tactic(auto, unfolding(crate::specs::Step::Answers))]
+    fn discovered(
+        &mut self,
+        place: usize,
+        at: usize,
+        number: u32,
+        scope: &Scope,
+    ) -> Result<Answered, CoreFault>
+        ghost call: { Call }
+        requires { IsSoundMessage call self.old place at number (said.Discover scope.now) }
+        ensures { (body : List ℕ)
+            → said_on number call.past.entries body ≡ Some (said.Discover scope.now)
+            → Answers call (events.Frame number body) self.new result }
+    {
+        let owed = discover_owes(&self.scopes[at], number);
+        if self.links[place].frames().len() + owed > MAX_WAITING {
+            let changes = changes_without(self.alloc, &self.scopes, &self.links[place])?;
+            cut_link(&mut self.scopes, &self.links[place]);
+            remove(&mut self.links, number);
+            return Ok(Answered::changed(changes));
+        }
+        let link = &mut self.links[place];
+        let running = &mut self.scopes[at];
+        let frames = ready_to_answer(self.alloc, link, running, number, scope)?;
+        link.owe(frames);
+        Ok(Answered::done(self.alloc))
+    }
+}
+
+/// How many frames a Discover owes: one where the link of this number is heard, else two.
+fn discover_owes(running: &Running, number: u32) -> usize
+    ensures { result ≡ cond (is_number number running.now.heard.items) 1 2 }
+{
+    if running.heard.contains(&number) {
+        1
+    } else {
+        2
     }
 }
 
@@ -123,7 +165,8 @@ fn ready_to_answer(
     number: u32,
     scope: &Scope,
 ) -> Result<Vec<OutFrame>, OutOfMemory>
-    requires { link.old.prepared ≡ [] }
+    requires idle { link.old.prepared ≡ [] }
+    requires few { local_total running.old.table ≤ max_rows }
     ensures frames { IfOk result (λ frames. AnswersDiscover running.old number scope.now frames.items) }
     ensures fits { IfOk result (λ frames. length frames.items ≤ link.new.room) }
     ensures roomy { link.new ≡ with_room link.old link.new.room }
@@ -143,6 +186,7 @@ fn answer_to_discover(
     number: u32,
     scope: &Scope,
 ) -> Result<Vec<OutFrame>, OutOfMemory>
+    requires { local_total running.now.table ≤ max_rows }
     ensures { IfOk result (λ frames. AnswersDiscover running.now number scope.now frames.items) }
 {
     let mut frames = Vec::new(alloc);
@@ -155,6 +199,7 @@ fn answer_to_discover(
 
 /// A Sync of all own rows.
 fn sync_frame(alloc: Global, running: &Running, scope: &Scope) -> Result<OutFrame, OutOfMemory>
+    requires { local_total running.now.table ≤ max_rows }
     ensures { IfOk result (IsSyncFrame running.now scope.now) }
 {
     let rows = Rows::of(running.table.local_rows()?);
@@ -189,7 +234,7 @@ fn hear_rows(
 {
     let room = ChangeRoom::new(alloc, scope)?;
     running.heard.reserve(1)?;
-    let Ok(groups) = running.table.sync(peer, rows.as_slice()) else {
+    let Ok(groups) = running.table.sync(peer, rows.as_slice(), ROWS_OF_VERSION_1) else {
         return Err(OutOfMemory);
     };
     note(&mut running.heard, number);
@@ -212,7 +257,10 @@ fn add_rows(
     ensures same { OnErr result (running.new ≡ running.old) }
 {
     let room = ChangeRoom::new(alloc, scope)?;
-    match running.table.join_remote(peer, rows.as_slice()) {
+    match running
+        .table
+        .join_remote(peer, rows.as_slice(), ROWS_OF_VERSION_1)
+    {
         Ok(groups) => Ok(room.filled(groups)),
         Err(fault) => Err(fault_of(fault)),
     }

@@ -3,10 +3,10 @@ ghost use Rattle.std.specs.Prelude.{◌≡◌, ◌<◌, ◌≤◌, ◌^◌, ℕ,
 ghost use Rattle.dist_types.specs.declared.pid.Pid.{Pid};
 ghost use Rattle.handshake_frames.specs.Spelling.{IsVersion};
 ghost use Rattle.scope_core.specs.Table.{count_of};
-ghost use Rattle.policy_audit.specs.History.{past, creation};
+ghost use Rattle.policy_audit.specs.History.{past, creation, audited, entered};
 ghost use Rattle.policy_audit.specs.Own.{is_running};
 ghost use Rattle.policy_audit.specs.Listed.{listed};
-ghost use Rattle.policy_audit.specs.Owed.{waiting, is_kept};
+ghost use Rattle.policy_audit.specs.Owed.{waiting, is_kept, max_waiting};
 ghost use Rattle.policy_audit.specs.Policy.{is_full, next_number, IsLegal};
 ghost use Rattle.node_core.specs.Step.{IsOpenFault, IsStepped};
 
@@ -48,14 +48,16 @@ impl fmt::Debug for NodeCore {
 }
 
 impl Model for NodeCore {
-    ghost use Rattle.policy_audit.specs.History.{History, past};
+    ghost use Rattle.policy_audit.specs.History.{History};
+    ghost use Rattle.policy_audit.specs.Policy.{history};
     ghost use Rattle.node_core.specs.Core.{IsCore};
 
     ghost Value = { History };
 
-    ghost view = { λ core. past core.kept.opening core.audit.entries };
+    ghost view = { λ core. history core.kept.opening core.audit.entries };
 
-    ghost invariant = { λ core. IsCore (past core.kept.opening core.audit.entries) core.audit.limit core.kept };
+    ghost invariant = { λ core. IsCore core.kept.opening core.audit.entries core.audit.limit
+        core.kept };
 }
 
 impl NodeCore {
@@ -89,10 +91,11 @@ impl NodeCore {
 
     /// All entries so far, refusals among them.
     pub fn audit(&self) -> &Audit
-        ensures entries { result.now.entries ≡ self.now.entries }
+        ensures entries { result.now.entries ≡ audited self.now.entries }
+        ensures count { length result.now.entries ≡ entered self.now.entries }
         ensures limit { result.now.limit ≡ self.now.opening.entries }
         ensures legal { IsLegal self.now }
-        ensures few { length self.now.entries ≤ self.now.opening.entries }
+        ensures few { entered self.now.entries ≤ self.now.opening.entries }
         ensures fits { self.now.opening.entries < 2 ^ 32 }
         ensures links { self.now.opening.links ≡ 1 }
     {
@@ -137,10 +140,12 @@ impl NodeCore {
         Some(&self.running(scope)?.table)
     }
 
-    /// How many frames wait for a link, if it is kept: while it is open, or has frames that waited when a refused frame of its
-    /// own ended it.
+    /// How many frames wait for a link, at most 1,024, if it is kept: while it is open, or has
+    /// frames that waited when a refused frame of its own ended it.
     pub fn waiting(&self, link: u32) -> Option<usize>
-        ensures { result ≡ cond (is_kept self.now link) (Some (length (waiting self.now link))) None }
+        ensures waiting { result
+            ≡ cond (is_kept self.now link) (Some (length (waiting self.now link))) None }
+        ensures few { IfSome result (λ n. n ≤ max_waiting) }
     {
         let place = place_of(&self.kept.links, link)?;
         Some(self.kept.links[place].frames().len())

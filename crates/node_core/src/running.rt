@@ -7,6 +7,10 @@ ghost use Rattle.node_core.specs.ScopeFacts.{AreAscending, scope_place};
 use dist_types::Scope;
 use scope_core::ScopeTable;
 
+/// The most rows that the processes of one node may have in a scope: as many as a message of
+/// version 1 has.
+pub const ROWS_OF_VERSION_1: u32 = 4096;
+
 /// A scope, with its rows and the links that it is shared over.
 #[derive(Drop)]
 pub struct Running {

@@ -10,18 +10,18 @@ ghost use Rattle.policy_audit.specs.Changes.{if_some};
 ghost use Rattle.policy_audit.specs.Owed.{wide};
 ghost use Rattle.policy_audit.specs.declared.event.Event.TheVariants as events;
 ghost use Rattle.node_core.specs.Step.{Call, IsCalled, Answers};
-ghost use Rattle.node_core.specs.Links.{prepared_for, unroomed};
-ghost use Rattle.node_core.specs.Telling.{AreIdle, AreTold, Alike, if_among, shown_numbers, put_scope};
+ghost use Rattle.node_core.specs.Telling.{AreIdle, Alike, IsForShown, put_scope};
 
 use crate::changes::{ChangeRoom, Leaving, changes_of};
 use crate::entering::Answered;
 use crate::fault::CoreFault;
 use crate::kept::Kept;
 use crate::link::Link;
-use crate::links::{commit, prepare, shown};
+use crate::links::{commit, or_forget, prepare, shown};
 use crate::node::admission_of;
 use crate::processes::Processes;
 use crate::running::{Running, place_of};
+use crate::slow::{ending_with, settled};
 use dist_types::{GroupChange, NodeName, OutOfMemory, Scope, TryClone};
 use link_frames::Message;
 use policy_audit::{Change, Rule};
@@ -67,8 +67,12 @@ impl Kept {
         }
         self.scopes.reserve(1)?;
         let running = asked_scope(self.alloc, &mut self.links, &self.opening.name, scope)?;
+        let own = Vec::new(self.alloc);
+        let ending = ending_with(self.alloc, &self.links, &self.scopes, &own, None);
+        let ending = or_forget(&mut self.links, ending)?;
+        commit(&mut self.links);
         put_in(&mut self.scopes, running);
-        Ok(Answered::done(self.alloc))
+        Ok(settled(&mut self.scopes, &mut self.links, own, ending))
     }
 
     /// A scope stops, and its peers are told so.
@@ -82,15 +86,18 @@ impl Kept {
             return Err(CoreFault::Refused(Rule::NoScope));
         };
         let groups = self.scopes[place].table.clear_change()?;
-        let changes = tell_stop(self.alloc, &mut self.links, scope, groups)?;
+        let own = tell_stop(self.alloc, &mut self.links, scope, groups)?;
+        let ending = ending_with(self.alloc, &self.links, &self.scopes, &own, Some(scope));
+        let ending = or_forget(&mut self.links, ending)?;
+        commit(&mut self.links);
         take_out(&mut self.scopes, scope);
         self.monitors.drop_scope(scope);
-        Ok(Answered::changed(changes))
+        Ok(settled(&mut self.scopes, &mut self.links, own, ending))
     }
 }
 
-/// A scope with no rows, of which the peers on the links that are up and visible are asked for theirs. Where memory is wanting,
-/// nothing but room has changed.
+/// A scope with no rows, for which a Discover is prepared for the links that are up and visible.
+/// Where memory is wanting, nothing but room has changed.
 fn asked_scope(
     alloc: Global,
     links: &mut Vec<Link>,
@@ -102,12 +109,13 @@ fn asked_scope(
     ensures own { IfOk result (λ r. r.table.own ≡ own.now) }
     ensures rows { IfOk result (λ r. (g : List ℕ) (p : Pid) → count_of r.table g p ≡ 0) }
     ensures links { IfOk result (λ r. (r.heard.items ≡ []) × (r.told.items ≡ [])) }
-    ensures told { OnOk result (AreTold (if_among (shown_numbers links.old.items) (wide (Message.Discover scope.now))) links.old.items links.new.items) }
+    ensures told { OnOk result
+        (IsForShown (Message.Discover scope.now) links.old.items links.new.items) }
     ensures same { OnErr result (Alike links.old.items links.new.items) }
 {
     let name = scope.try_clone(alloc)?;
     let running = new_scope(alloc, own, scope)?;
-    match tell_shown(alloc, links, &Message::Discover(name)) {
+    match prepare_shown(alloc, links, &Message::Discover(name)) {
         Ok(()) => Ok(running),
         Err(fault) => {
             drop(running);
@@ -151,7 +159,8 @@ fn take_out(scopes: &mut Vec<Running>, scope: &Scope)
     scopes.retain(|running| running.scope != *scope);
 }
 
-/// Tells the peers that a scope stops whose groups change in this way. Where memory is wanting, nobody is told.
+/// Prepares a Down of a scope that stops, whose groups change in this way, for the links that are
+/// up and visible. Where memory is wanting, nothing is prepared.
 fn tell_stop(
     alloc: Global,
     links: &mut Vec<Link>,
@@ -160,25 +169,25 @@ fn tell_stop(
 ) -> Result<Vec<Change>, OutOfMemory>
     requires { AreIdle links.old.items }
     ensures change { IfOk result (λ changes. changes.items ≡ if_some scope.now groups.items) }
-    ensures told { OnOk result (AreTold (if_among (shown_numbers links.old.items) (wide (Message.Down scope.now))) links.old.items links.new.items) }
+    ensures told { OnOk result
+        (IsForShown (Message.Down scope.now) links.old.items links.new.items) }
     ensures same { OnErr result (Alike links.old.items links.new.items) }
 {
     let room = ChangeRoom::new(alloc, scope.try_clone(alloc)?)?;
     let changes = room.filled(groups);
     let name = scope.try_clone(alloc)?;
-    tell_shown(alloc, links, &Message::Down(name))?;
+    prepare_shown(alloc, links, &Message::Down(name))?;
     Ok(changes)
 }
 
-/// A message waits for the links that are up and visible from now on. Where memory is wanting, nothing has changed.
-fn tell_shown(alloc: Global, links: &mut Vec<Link>, message: &Message) -> Result<(), OutOfMemory>
+/// Prepares a message for the links that are up and visible.
+/// Where memory is wanting, nothing has changed.
+fn prepare_shown(alloc: Global, links: &mut Vec<Link>, message: &Message) -> Result<(), OutOfMemory>
     requires spelled { HasSpelling message.now }
     requires idle { AreIdle links.old.items }
-    ensures told { OnOk result (AreTold (if_among (shown_numbers links.old.items) (wide message.now)) links.old.items links.new.items) }
+    ensures told { OnOk result (IsForShown message.now links.old.items links.new.items) }
     ensures same { OnErr result (Alike links.old.items links.new.items) }
 {
     let numbers = shown(alloc, links)?;
-    prepare(alloc, links, &numbers, message)?;
-    commit(links);
-    Ok(())
+    prepare(alloc, links, &numbers, message)
 }

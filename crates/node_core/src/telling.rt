@@ -7,11 +7,11 @@ ghost use Rattle.dist_types.specs.Difference.{IsDifference};
 ghost use Rattle.scope_core.specs.Table.{count_of};
 ghost use Rattle.scope_core.specs.Calls.{count_after_exit};
 ghost use Rattle.node_core.specs.Telling.{AreIdle, Alike, IsBrief, is_said, said_to};
-ghost use Rattle.node_core.specs.Exiting.{bare, exit_frames, ArePrepared, AreExits, AreExitsTold};
+ghost use Rattle.node_core.specs.Exiting.{bare, exit_frames, ArePrepared, AreExits, IsOwnScope};
 
 use crate::changes::rows_left;
 use crate::link::Link;
-use crate::links::{commit, forget, prepare};
+use crate::links::{or_forget, prepare};
 use crate::running::Running;
 use dist_types::{GroupChange, Items, OutOfMemory, Pid, TryClone};
 use link_frames::{Message, Rows};
@@ -47,29 +47,22 @@ fn is_said(message: &Message) -> bool
     }
 }
 
-/// A process leaves all scopes: a Leave of its rows waits for the links that are told there. Answers what will change. Where
-/// memory is wanting, nothing has changed.
+/// A process leaves all scopes: prepares a Leave of its rows for the links that are told there.
+/// Answers what will change. Where memory is wanting, what was prepared is dropped.
 pub fn tell_exit(
     alloc: Global,
     links: &mut Vec<Link>,
     scopes: &[Running],
     pid: &Pid,
 ) -> Result<Vec<Change>, OutOfMemory>
-    requires own { AllByRecursion (λ r. r.table.own ≡ pid.now.node) scopes.now }
+    requires own { AllByRecursion (IsOwnScope pid.now.node) scopes.now }
     requires idle { AreIdle links.old.items }
-    ensures told { IfOk result (λ changes. AreExitsTold pid.now scopes.now links.old.items links.new.items changes.items) }
+    ensures told { IfOk result
+        (λ changes. AreExits pid.now scopes.now links.old.items links.new.items changes.items) }
     ensures same { OnErr result (Alike links.old.items links.new.items) }
 {
-    match prepare_exit(alloc, links, scopes, pid) {
-        Ok(changes) => {
-            commit(links);
-            Ok(changes)
-        }
-        Err(fault) => {
-            forget(links);
-            Err(fault)
-        }
-    }
+    let own = prepare_exit(alloc, links, scopes, pid);
+    or_forget(links, own)
 }
 
 /// Prepares a Leave for each scope that the process leaves.
@@ -79,7 +72,7 @@ fn prepare_exit(
     scopes: &[Running],
     pid: &Pid,
 ) -> Result<Vec<Change>, OutOfMemory>
-    requires { AllByRecursion (λ r. r.table.own ≡ pid.now.node) scopes.now }
+    requires { AllByRecursion (IsOwnScope pid.now.node) scopes.now }
     ensures told { IfOk result (λ changes. AreExits pid.now scopes.now links.old.items links.new.items changes.items) }
     ensures same { OnErr result (map bare links.new.items ≡ map bare links.old.items) }
 {
@@ -103,7 +96,7 @@ fn exit_one(
     running: &Running,
     pid: &Pid,
 ) -> Result<Vec<GroupChange>, OutOfMemory>
-    requires { running.now.table.own ≡ pid.now.node }
+    requires { IsOwnScope pid.now.node running.now }
     ensures groups { IfOk result (λ groups. IsDifference (count_of running.now.table) (count_after_exit running.now.table pid.now) groups.items) }
     ensures told { IfOk result (λ groups. ArePrepared (exit_frames running.now groups.items) links.old.items links.new.items) }
     ensures same { OnErr result (map bare links.new.items ≡ map bare links.old.items) }

@@ -9,8 +9,8 @@ use Rattle.node_core.proofs.telling.exit_one.Goals as goal
 
 pub tell-told-requires : goal.tell-told-requires
 tell-told-requires c = rw (c.of-rows.ensures, c.in_ok-rows_left.ensures, c.deref.ensures.value)
-    (few_left c.args.running.now.table c.args.pid.now c.requires c.in_ok-groups.groups.items
-    c.in_ok-groups.ensures.change c.in_ok-groups.ensures.limits)
+    (few_left c.args.running.now.table c.args.pid.now c.requires.own c.in_ok-groups.groups.items
+    c.in_ok-groups.ensures.change c.requires.few)
 
 pub returns-in_err-told-clause-same : goal.returns-in_err-told-clause-same
 returns-in_err-told-clause-same c = on_err _ (forgot_bare c.args.links.now.items

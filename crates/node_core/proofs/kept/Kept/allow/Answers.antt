@@ -1,7 +1,9 @@
-use Rattle.node_core.proofs.Words.{arith, ◌++◌, allow_list, different, le-leb, lt-leb, follows_other, refl, Event, Reply, Rule}
+use Rattle.node_core.proofs.Words.{arith, ◌++◌, allow_list, different, le-leb, lt-leb, audit_of}
+use Rattle.node_core.proofs.Words.{follows_other, refl, Event, Reply, Rule}
 use Rattle.node_core.proofs.Answering.{accepts, refuses}
 use Rattle.node_core.proofs.Cookies.{names_follow, names_counted}
 use Rattle.node_core.proofs.Calm.{entered}
+use Rattle.node_core.proofs.Entered.{audit_next}
 use Rattle.node_core.proofs.kept.Kept.allow.Goals as goal
 
 pub returns-in-Ok : goal.returns-in-Ok
@@ -10,9 +12,15 @@ returns-in-Ok g c =
     let names = c.args.names.now in
     let is = names_counted g.call.past c.args.self.now.admission t.admission names in
     let few = rw (c.in-Ok.ensures.ok, c.as_slice.ensures) at c.in-Ok.ensures.limits in
-    accepts c.requires _ _ refl _ _ _ c.done.ensures (rw (c.in-Ok.ensures.ok, c.as_slice.ensures)
+    accepts c.requires _ _ refl _ _ _ c.done.ensures refl
+    (rw (c.in-Ok.ensures.ok, c.as_slice.ensures)
     (entered t g.call.seat (Event.Allow names) refl c.requires.space (rw (le-leb (different (names ++ allow_list g.call.past)) 1024 (omega (arith, is, few)))) refl
-    (λ its. (names_follow g.call.past c.args.self.now.admission t.admission g.call.seat Reply.Done names, t.processes, follows_other g.call.past _ _ refl t.monitors refl))))
+    (λ its. (
+      names_follow g.call.past c.args.self.now.admission t.admission g.call.seat Reply.Done
+          names,
+      t.processes,
+      follows_other (audit_of g.call.past) _ _ (audit_next g.call.past) t.monitors refl,
+    ))))
 
 pub returns-in-Err-AllowFull : goal.returns-in-Err-AllowFull
 returns-in-Err-AllowFull g c =

@@ -1,7 +1,8 @@
-use Rattle.node_core.proofs.Words.{follows_removed, refl, Event, Rule}
+use Rattle.node_core.proofs.Words.{audit_of, follows_removed, refl, Event, Rule}
 use Rattle.group_monitors.proofs.FromPolicy.{follows_checked, follows_refused}
 use Rattle.node_core.proofs.Answering.{accepts, refuses}
 use Rattle.node_core.proofs.Calm.{entered}
+use Rattle.node_core.proofs.Entered.{audit_next}
 use Rattle.node_core.proofs.kept.Kept.demonitor.Goals as goal
 
 pub returns-in-Ok : goal.returns-in-Ok
@@ -9,8 +10,13 @@ returns-in-Ok g c =
     let h = g.call.past in
     let t = c.requires.0.keeps.follows in
     let holds = (follows_checked h c.args.self.now.monitors t.monitors g.call.seat c.args.number (rw c.requires.1 at c.in-Ok.ensures.ok.0)).1 in
-    accepts c.requires.0 _ _ refl _ _ _ c.done.ensures (rw (c.in-Ok.ensures.ok.1, c.requires.1)
-    (entered t g.call.seat (Event.Demonitor c.args.number) refl c.requires.0.space holds refl (λ its. (t.admission, t.processes, follows_removed h _ _ refl t.monitors refl c.args.number refl))))
+    accepts c.requires.0 _ _ refl _ _ _ c.done.ensures refl (rw (c.in-Ok.ensures.ok.1, c.requires.1)
+    (entered t g.call.seat (Event.Demonitor c.args.number) refl c.requires.0.space holds refl
+    (λ its. (
+      t.admission,
+      t.processes,
+      follows_removed (audit_of h) _ _ (audit_next h) t.monitors refl c.args.number refl,
+    ))))
 
 pub returns-in-Err : goal.returns-in-Err
 returns-in-Err g c = rw c.in-Err.ensures.same (refuses c.requires.0 _ Rule.NoMonitor

@@ -16,9 +16,12 @@ left g c =
     let peer = c.args.peer.now in
     let links = c.args.self.now.links.items in
     let granted = sym (allowed_by g.past c.args.self.now.admission t.admission peer) ∙ sym (allowed_is c.is_allowed.result c.args.self.now.admission peer (rw c.as_bytes.ensures.value at c.is_allowed.ensures)) in
-    let up = sym (up_is g.past peer t.sound.legal links t.links) ∙ sym (place_found (λ x. option_map_or (λ n. same n peer) (up_peer x.state) false) links) ∙ sym (ap is_some (rw c.deref.ensures.value at c.place_of_up.ensures)) in
+    let up = sym (up_is g.past peer t.sound.played links t.links)
+    ∙ sym (place_found (λ x. option_map_or (λ n. same n peer) (up_peer x.state) false) links)
+    ∙ sym (ap is_some (rw c.deref.ensures.value at c.place_of_up.ensures)) in
     dial_by g.past peer false true _ _ _ (ap (λ o. same peer o.name) (sym c.requires.opening) ∙ sym c.if-eq.ensures) (granted ∙ c.if-not-is_allowed.false) up
-    (sym (dialling_is g.past peer t.sound.legal links t.links)) (ap (λ n. nat_lt n 64) (kept_are g.past links t.links))
+    (sym (dialling_is g.past peer t.sound.played links t.links))
+    (ap (λ n. nat_lt n 64) (kept_are g.past links t.links))
 
 pub returns-then-not-is_allowed : goal.returns-then-not-is_allowed
 returns-then-not-is_allowed g c = sym (dial_by g.past c.args.peer.now false false _ _ _ (ap (λ o. same c.args.peer.now o.name) (sym c.requires.opening) ∙ sym c.if-eq.ensures)

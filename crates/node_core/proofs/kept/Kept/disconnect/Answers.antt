@@ -10,7 +10,8 @@ pub returns-in_default : goal.returns-in_default
 returns-in_default g c =
     let t = c.requires.keeps.follows in
     let none = rw c.deref.ensures.value at (sym c.place_of_up.ensures ∙ c.in_default.is) in
-    refuses c.requires _ Rule.NoLinkTo (rw (sym (up_is g.call.past c.args.peer.now t.sound.legal c.args.self.now.links.items t.links)
+    refuses c.requires _ Rule.NoLinkTo
+    (rw (sym (up_is g.call.past c.args.peer.now t.sound.played c.args.self.now.links.items t.links)
     ∙ sym (place_found (λ x. option_map_or (λ m. same m c.args.peer.now) (up_peer x.state) false) c.args.self.now.links.items) ∙ ap is_some none)) refl
 
 pub returns : goal.returns
@@ -26,5 +27,5 @@ returns g c =
     let lost = subst (λ x. AreLost (up_peer x.state) scopes c.in_ok-changes.changes.items) (c.index-2.ensures ∙ get_or_default links c.in-Some.place c.index-2.result.now c.index.result.now within) (rw c.deref-2.ensures.value at c.in_ok-changes.ensures) in
     let cuts = subst (λ x. AreCut x.number (up_peer x.state) scopes c.cut_link.new.scopes.items) (c.index-3.ensures ∙ get_or_default links c.in-Some.place c.index-3.result.now c.index.result.now within) c.cut_link.ensures in
     let number = c.number-number.ensures ∙ ap (λ x. x.number) c.index.ensures in
-    accepts c.requires _ _ refl _ _ _ c.changed.ensures (rw c.remove.ensures
+    accepts c.requires _ _ refl _ _ _ c.changed.ensures refl (rw c.remove.ensures
     (parted h g.call.seat peer c.in_ok-changes.changes.items _ t c.in-Some.place c.index.result.now found c.requires.space lost c.cut_link.new.scopes.items c.number-number.result number cuts))

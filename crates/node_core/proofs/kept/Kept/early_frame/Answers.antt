@@ -2,6 +2,7 @@ use Rattle.node_core.proofs.Words.{ap, arith, rules, length, refl, ◌≤◌, �
 use Rattle.std.specs.List.{insert}
 use Rattle.node_core.proofs.Answering.{accepts, ends, wanted, wants}
 use Rattle.node_core.proofs.EarlyFrame.{handshakes, early_never_up, early_few, early_went_on, early_broke}
+use Rattle.node_core.proofs.HeardFrames.{unwhole_quiet}
 use Rattle.node_core.proofs.HeldLink.{IsHeld, held_ready, held_restored, room_follows}
 use Rattle.node_core.proofs.kept.Kept.early_frame.Given.{Over}
 use Rattle.node_core.proofs.kept.Kept.early_frame.Goals.{After-into_parts-state}
@@ -46,6 +47,7 @@ pub returns-in-On : goal.returns-in-On
 returns-in-On g c =
     let held = held g (goal.at.returns-in-On g c).After-into_parts-state in
     accepts c.requires.link.called _ _ refl _ _ _ c.done.ensures
+    (unwhole_quiet g.call.past c.args.number c.args.body.now c.requires.unwhole)
     (early_went_on c.requires.link.called.keeps.follows g.call.seat c.args.body.now held
     c.requires.unwhole c.requires.early c.deref.ensures.value c.in-On.state c.in-On.frames
     c.in-On.gives_up (rw (c.as_slice-bytes.ensures, c.of.ensures) at c.in-On.ensures)

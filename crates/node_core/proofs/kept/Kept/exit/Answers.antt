@@ -1,8 +1,11 @@
-use Rattle.node_core.proofs.Words.{None, Some, cond, not, refl, sym, ◌∙◌, link_words, lives_of, Rule}
-use Rattle.node_core.proofs.Answering.{accepts, refuses, wanted}
+use Rattle.node_core.proofs.Words.{None, Some, cond, not, refl, sym, ap, ◌∙◌, link_words, lives_of}
+use Rattle.node_core.proofs.Words.{Rule, Reply, committed, map}
+use Rattle.node_core.proofs.Answering.{accepts_ending, refuses, wanted}
+use Rattle.node_core.proofs.Ended.{turns_on}
 use Rattle.node_core.proofs.Joining.{local_by}
+use Rattle.node_core.proofs.OwnChanges.{dropped, partings_proper}
 use Rattle.node_core.proofs.Told.{alike_again, follow_idle}
-use Rattle.node_core.proofs.Exited.{exit_own, exit_now}
+use Rattle.node_core.proofs.Exited.{exit_own, exit_now, exits_wait}
 use Rattle.node_core.proofs.kept.Kept.exit.Goals as goal
 
 pub returns-then-not-is_local : goal.returns-then-not-is_local
@@ -22,9 +25,27 @@ tell_exit-requires-clause-own g c = rw c.deref.ensures.value (exit_own g.call.pa
 pub tell_exit-requires-clause-idle : goal.tell_exit-requires-clause-idle
 tell_exit-requires-clause-idle g c = follow_idle (link_words g.call.past) c.args.self.now.links.items c.requires.keeps.follows.links.each
 
-pub returns-in_err-changes : goal.returns-in_err-changes
-returns-in_err-changes g c = wanted c.requires _ _ refl
-    (alike_again g.call.past _ c.requires.keeps.follows c.tell_exit.new.links.items c.in_err-changes.ensures.same) _ c.from_residual.ensures.1
+pub returns-in_err-own : goal.returns-in_err-own
+returns-in_err-own g c = wanted c.requires _ _ refl
+    (alike_again g.call.past _ c.requires.keeps.follows c.tell_exit.new.links.items
+    c.in_err-own.ensures.same) _ c.from_residual.ensures.1
+
+pub returns-in_err-ending : goal.returns-in_err-ending
+returns-in_err-ending g c =
+    let t = c.requires.keeps.follows in
+    let old = c.args.self.now.links.items in
+    let idle = follow_idle (link_words g.call.past) old t.links.each in
+    wanted c.requires _ _ refl
+    (alike_again g.call.past _ t c.or_forget.new.links.items
+    (dropped _ old c.tell_exit.new.links.items c.or_forget.new.links.items idle
+    c.in_ok-own.ensures.told.links c.in_err-ending.ensures.forgot))
+    _ c.from_residual-in_err-ending.ensures.1
+
+pub ending_with-ending-requires : goal.ending_with-ending-requires
+ending_with-ending-requires g c =
+    let told = c.in_ok-own.ensures.told in
+    rw (c.deref-4.ensures.value, told.some)
+    (partings_proper _ c.deref.result.now told.all told.each)
 
 pub returns : goal.returns
 returns g c =
@@ -32,7 +53,24 @@ returns g c =
     let t = c.requires.keeps.follows in
     let pid = c.args.pid.now in
     let local = sym (local_by c.requires.keeps pid) ∙ sym c.is_local.ensures ∙ c.if-not-is_local.false in
-    let told = rw c.deref.ensures.value at c.in_ok-changes.ensures.told in
+    let own = c.in_ok-own.own.items in
+    let prepared = c.tell_exit.new.links.items in
+    let idle = follow_idle (link_words h) c.args.self.now.links.items t.links.each in
+    let told = exits_wait pid c.args.self.now.scopes.items c.args.self.now.links.items prepared
+    own idle
+    (rw c.deref.ensures.value at c.in_ok-own.ensures.told) in
     let living = sym c.is_live.ensures ∙ c.if-not-is_live.false in
-    accepts c.requires _ _ refl _ _ _ c.changed.ensures (exit_now h g.call.seat _ t pid local c.tell_exit.new.links.items c.in_ok-changes.changes.items told c.requires.space living
-    _ (λ x f q. refl) c.leave_all.new.scopes.items c.leave_all.ensures c.exit.new.self c.exit.ensures.spawned c.exit.ensures.live (c.exit.ensures.count living))
+    let turns = exit_now h g.call.seat _ t pid local (map committed prepared) own told
+    c.requires.space living
+    _ (λ x f q. refl) c.leave_all.new.scopes.items c.leave_all.ensures c.exit.new.self
+    c.exit.ensures.spawned c.exit.ensures.live (c.exit.ensures.count living) in
+    accepts_ending c.requires _ _ refl _ Reply.Done _ c.settled.ensures.done
+    (turns_on t g.call.seat _ turns prepared refl c.in_ok-ending.ending
+    (rw (
+      c.deref-2.ensures.value,
+      c.deref-3.ensures.value,
+      c.deref-4.ensures.value,
+      sym c.in_ok-ending.ensures.result,
+    ) at c.ending_with-ending.ensures)
+    (rw (c.commit.ensures, ap (λ x. x.items) c.in_ok-ending.ensures.same)
+    at c.settled.ensures.ended))

@@ -4,7 +4,8 @@ use Rattle.node_core.proofs.MessagePlaces.{IsUpHere, up_here}
 use Rattle.node_core.proofs.Moved.{unmoved}
 use Rattle.node_core.proofs.MessageRefused.{rows_from, joined_from, left_from, all_of_peer, peer_is, has_peer}
 use Rattle.node_core.proofs.MessageScopes.{synced, added, added_calm, taken, taken_calm, downed}
-use Rattle.node_core.proofs.MessageRoom.{roomed_links, same_scope, follows_with, answered_now}
+use Rattle.node_core.proofs.MessageKept.{unasked}
+use Rattle.node_core.proofs.MessageRoom.{same_scope, follows_with}
 use Rattle.node_core.proofs.kept.Kept.follow.Given.{Over}
 use Rattle.node_core.proofs.kept.Kept.follow.Goals as goal
 use Rattle.node_core.proofs.kept.Kept.follow.Goals.{After-index}
@@ -18,23 +19,11 @@ unreachable-requires g c = has_peer (up_at g (goal.at.unreachable-requires g c).
 
 -- ---- a Discover
 
-pub returns-in_err-frames-in-Discover : goal.returns-in_err-frames-in-Discover
-returns-in_err-frames-in-Discover g c = λ body says.
-    let t = c.requires.on.link.called.keeps.follows in
-    wanted c.requires.on.link.called _ _ refl
-    (follows_with t (same_scope t c.in-Discover.scope (rw c.in-Discover.is at c.requires.there) c.index_mut-running.ensures.value c.in_err-frames-in-Discover.ensures.same)
-    (roomed_links t c.args.number c.requires.on.up c.requires.on.link.here c.index_mut-link.ensures.value c.in_err-frames-in-Discover.ensures.roomy)) _ c.from_residual.ensures.1
+pub discovered-requires : goal.discovered-requires
+discovered-requires g c = rw c.in-Discover.is at c.requires
 
-pub returns-in_ok-frames-in-Discover : goal.returns-in_ok-frames-in-Discover
-returns-in_ok-frames-in-Discover g c = λ body says.
-    let t = c.requires.on.link.called.keeps.follows in
-    let said = rw c.in-Discover.is at says in
-    let there = rw c.in-Discover.is at c.requires.there in
-    let holds = rw c.in-Discover.is at c.requires.holds in
-    let made_ready = c.in_ok-frames-in-Discover.ensures in
-    accepts c.requires.on.link.called _ _ refl _ _ _ c.done.ensures
-    (answered_now t g.call.seat c.args.number body c.requires.on.link.called.space c.requires.on.up c.requires.on.link.here c.index_mut-link.ensures.value c.in-Discover.scope c.ready_to_answer.new.running there c.index_mut-running.ensures.value
-    said holds made_ready.told c.index_mut-running.ensures.value made_ready.frames made_ready.roomy c.owe.ensures.owed)
+pub returns-in-Discover : goal.returns-in-Discover
+returns-in-Discover g c = λ body says. c.discovered.ensures body (rw c.in-Discover.is at says)
 
 -- ---- a Sync
 
@@ -47,10 +36,14 @@ pub returns-in_err-changes-in-Sync : goal.returns-in_err-changes-in-Sync
 returns-in_err-changes-in-Sync g c = λ body says.
     let t = c.requires.on.link.called.keeps.follows in
     wanted c.requires.on.link.called _ _ refl
-    (follows_with t (same_scope t c.in-Sync.scope (rw c.in-Sync.is at c.requires.there) c.index_mut-running.ensures.value c.in_err-changes-in-Sync.ensures.same) t.links) _ c.from_residual-in_err-changes-in-Sync.ensures.1
+    (follows_with t
+    (same_scope t c.in-Sync.scope (rw c.in-Sync.is at c.requires.there)
+    c.index_mut-running.ensures.value c.in_err-changes-in-Sync.ensures.same) t.links) _
+    c.from_residual.ensures.1
 
 pub returns-in_ok-changes-in-Sync : goal.returns-in_ok-changes-in-Sync
 returns-in_ok-changes-in-Sync g c = λ body says. accepts c.requires.on.link.called _ _ refl _ _ _ (rw c.in_ok-changes-in-Sync.ensures.change.changes at c.changed.ensures)
+    (unasked g.call.past c.args.number body _ (rw c.in-Sync.is at says) refl)
     (synced c.requires.on.link.called.keeps.follows g.call.seat c.args.number body c.requires.on.link.called.space c.requires.on.up c.requires.on.link.here c.index.ensures c.in-Sync.scope c.hear_rows.new.running (rw c.in-Sync.is at c.requires.there) c.index_mut-running.ensures.value c.in-Some.ensures
     c.in-Sync.rows (rw c.in-Sync.is at says) (rw c.in-Sync.is at c.requires.holds) c.in_ok-changes-in-Sync.ensures.change.groups c.in_ok-changes-in-Sync.ensures.ok c.in_ok-changes-in-Sync.ensures.change.difference)
 
@@ -66,13 +59,21 @@ returns-in_err-changes-in-Join g c = λ body says.
     let t = c.requires.on.link.called.keeps.follows in
     let why = c.in_err-changes-in-Join.ensures in
     failed c.requires.on.link.called _ _ refl
-    (unmoved t c.args.at c.index_mut-running.ensures.value why.same refl) c.in_err-changes-in-Join.field-0.0
-    (added_calm t g.call.seat c.args.number body c.requires.on.link.called.space c.requires.on.up c.requires.on.link.here c.index.ensures c.in-Join.scope c.add_rows.new.running (rw c.in-Join.is at c.requires.there) c.index_mut-running.ensures.value c.in-Some.ensures
+    (unmoved t c.args.at c.index_mut-running-in-Join.ensures.value why.same refl)
+    c.in_err-changes-in-Join.field-0.0
+    (added_calm t g.call.seat c.args.number body c.requires.on.link.called.space c.requires.on.up
+    c.requires.on.link.here c.index.ensures c.in-Join.scope c.add_rows.new.running
+    (rw c.in-Join.is at c.requires.there) c.index_mut-running-in-Join.ensures.value
+    c.in-Some.ensures
     c.in-Join.rows (rw c.in-Join.is at says) (rw c.in-Join.is at c.requires.holds) c.in_err-changes-in-Join.field-0.0 why.refused) _ c.from_residual-in_err-changes-in-Join.ensures.1
 
 pub returns-in_ok-changes-in-Join : goal.returns-in_ok-changes-in-Join
 returns-in_ok-changes-in-Join g c = λ body says. accepts c.requires.on.link.called _ _ refl _ _ _ (rw c.in_ok-changes-in-Join.ensures.change.changes at c.changed-in-Join.ensures)
-    (added c.requires.on.link.called.keeps.follows g.call.seat c.args.number body c.requires.on.link.called.space c.requires.on.up c.requires.on.link.here c.index.ensures c.in-Join.scope c.add_rows.new.running (rw c.in-Join.is at c.requires.there) c.index_mut-running.ensures.value c.in-Some.ensures
+    (unasked g.call.past c.args.number body _ (rw c.in-Join.is at says) refl)
+    (added c.requires.on.link.called.keeps.follows g.call.seat c.args.number body
+    c.requires.on.link.called.space c.requires.on.up c.requires.on.link.here c.index.ensures
+    c.in-Join.scope c.add_rows.new.running (rw c.in-Join.is at c.requires.there)
+    c.index_mut-running-in-Join.ensures.value c.in-Some.ensures
     c.in-Join.rows (rw c.in-Join.is at says) (rw c.in-Join.is at c.requires.holds) c.in_ok-changes-in-Join.ensures.limits c.in_ok-changes-in-Join.ensures.change.groups c.in_ok-changes-in-Join.ensures.ok c.in_ok-changes-in-Join.ensures.change.difference)
 
 -- ---- a Leave
@@ -87,18 +88,31 @@ returns-in_err-changes-in-Leave g c = λ body says.
     let t = c.requires.on.link.called.keeps.follows in
     let why = c.in_err-changes-in-Leave.ensures in
     failed c.requires.on.link.called _ _ refl
-    (unmoved t c.args.at c.index_mut-running.ensures.value why.same refl) c.in_err-changes-in-Leave.field-0.0
-    (taken_calm t g.call.seat c.args.number body c.requires.on.link.called.space c.requires.on.up c.requires.on.link.here c.index.ensures c.in-Leave.scope c.take_rows.new.running (rw c.in-Leave.is at c.requires.there) c.index_mut-running.ensures.value
+    (unmoved t c.args.at c.index_mut-running-in-Leave.ensures.value why.same refl)
+    c.in_err-changes-in-Leave.field-0.0
+    (taken_calm t g.call.seat c.args.number body c.requires.on.link.called.space c.requires.on.up
+    c.requires.on.link.here c.index.ensures c.in-Leave.scope c.take_rows.new.running
+    (rw c.in-Leave.is at c.requires.there) c.index_mut-running-in-Leave.ensures.value
     c.in-Leave.rows (rw c.in-Leave.is at says) (rw c.in-Leave.is at c.requires.holds) c.in_err-changes-in-Leave.field-0.0 why.refused) _ c.from_residual-in_err-changes-in-Leave.ensures.1
 
 pub returns-in_ok-changes-in-Leave : goal.returns-in_ok-changes-in-Leave
 returns-in_ok-changes-in-Leave g c = λ body says. accepts c.requires.on.link.called _ _ refl _ _ _ (rw c.in_ok-changes-in-Leave.ensures.change.changes at c.changed-in-Leave.ensures)
-    (taken c.requires.on.link.called.keeps.follows g.call.seat c.args.number body c.requires.on.link.called.space c.requires.on.up c.requires.on.link.here c.index.ensures c.in-Leave.scope c.take_rows.new.running (rw c.in-Leave.is at c.requires.there) c.index_mut-running.ensures.value c.in-Some.ensures
+    (unasked g.call.past c.args.number body _ (rw c.in-Leave.is at says) refl)
+    (taken c.requires.on.link.called.keeps.follows g.call.seat c.args.number body
+    c.requires.on.link.called.space c.requires.on.up c.requires.on.link.here c.index.ensures
+    c.in-Leave.scope c.take_rows.new.running (rw c.in-Leave.is at c.requires.there)
+    c.index_mut-running-in-Leave.ensures.value c.in-Some.ensures
     c.in-Leave.rows (rw c.in-Leave.is at says) (rw c.in-Leave.is at c.requires.holds) c.in_ok-changes-in-Leave.ensures.only c.in_ok-changes-in-Leave.ensures.change.groups c.in_ok-changes-in-Leave.ensures.ok c.in_ok-changes-in-Leave.ensures.change.difference)
 
 -- ---- a Down
 
 pub returns-in_ok-changes-in-Down : goal.returns-in_ok-changes-in-Down
 returns-in_ok-changes-in-Down g c = λ body says. accepts c.requires.on.link.called _ _ refl _ _ _ (rw c.in_ok-changes-in-Down.ensures.changes at c.changed-in-Down.ensures)
-    (downed c.requires.on.link.called.keeps.follows g.call.seat c.args.number body c.requires.on.link.called.space c.requires.on.up c.requires.on.link.here c.index.ensures c.in-Down.scope c.cut_off.new.running (rw c.in-Down.is at c.requires.there) c.index_mut-running.ensures.value c.in-Some.ensures
-    (rw c.in-Down.is at says) (rw c.in-Down.is at c.requires.holds) c.in_ok-changes-in-Down.ensures.groups c.cut_off.ensures c.index_mut-running.ensures.value c.in_ok-changes-in-Down.ensures.difference)
+    (unasked g.call.past c.args.number body _ (rw c.in-Down.is at says) refl)
+    (downed c.requires.on.link.called.keeps.follows g.call.seat c.args.number body
+    c.requires.on.link.called.space c.requires.on.up c.requires.on.link.here c.index.ensures
+    c.in-Down.scope c.cut_off.new.running (rw c.in-Down.is at c.requires.there)
+    c.index_mut-running-in-Down.ensures.value c.in-Some.ensures
+    (rw c.in-Down.is at says) (rw c.in-Down.is at c.requires.holds)
+    c.in_ok-changes-in-Down.ensures.groups c.cut_off.ensures
+    c.index_mut-running-in-Down.ensures.value c.in_ok-changes-in-Down.ensures.difference)

@@ -1,6 +1,7 @@
-use Rattle.node_core.proofs.Words.{refl, sym, ap, follows_other, Event, Reply, Rule}
+use Rattle.node_core.proofs.Words.{refl, sym, ap, audit_of, follows_other, Event, Reply, Rule}
 use Rattle.node_core.proofs.Answering.{accepts, refuses}
 use Rattle.node_core.proofs.Calm.{entered}
+use Rattle.node_core.proofs.Entered.{audit_next}
 use Rattle.node_core.proofs.MessagePlaces.{runs_here, scope_here, stopped_here}
 use Rattle.node_core.proofs.Moved.{unmoved}
 use Rattle.node_core.proofs.Scopes.{groups_are}
@@ -20,8 +21,14 @@ returns g c =
     let r = c.index_mut.result.now in
     let list = groups_are h scope r there.named there.running _ c.in_ok-groups.ensures.value in
     let still = unmoved t c.in-Some.place c.index_mut.ensures.value (λ i. record { scope = r.scope; table = c.in_ok-groups.ensures.same i; heard = r.heard; told = r.told }) refl in
-    accepts c.requires _ _ refl _ _ _ c.in_ok-with.ensures (entered still g.call.seat (Event.Groups scope) refl c.requires.space (rw (runs_here t scope c.in-Some.place placed)) (ap Reply.Groups (sym list))
-    (λ its. (t.admission, t.processes, follows_other h _ _ refl t.monitors refl)))
+    accepts c.requires _ _ refl _ _ _ c.in_ok-with.ensures refl
+    (entered still g.call.seat (Event.Groups scope) refl c.requires.space
+    (rw (runs_here t scope c.in-Some.place placed)) (ap Reply.Groups (sym list))
+    (λ its. (
+      t.admission,
+      t.processes,
+      follows_other (audit_of h) _ _ (audit_next h) t.monitors refl,
+    )))
 
 pub place_of-requires : goal.place_of-requires
 place_of-requires g c = rw c.deref.ensures.value (scopes_ascend c.requires.keeps.follows)

@@ -3,7 +3,8 @@ use Rattle.node_core.proofs.Words.{Reply, beside}
 use Rattle.std.specs.List.{insert}
 use Rattle.node_core.proofs.Answering.{accepts, ends, wanted, wants}
 use Rattle.node_core.proofs.HeldLink.{IsHeld, held_ready, held_restored, room_follows}
-use Rattle.node_core.proofs.LastHeard.{handshakes, last_has_peer, last_never_on, last_few, last_broke, last_next, last_came_up}
+use Rattle.node_core.proofs.LastHeard.{handshakes, last_has_peer, last_quiet, last_never_on}
+use Rattle.node_core.proofs.LastHeard.{last_few, last_broke, last_next, last_came_up}
 use Rattle.node_core.proofs.kept.Kept.last_frame.Given.{Over}
 use Rattle.node_core.proofs.kept.Kept.last_frame.Goals.{After-into_parts-state}
 use Rattle.node_core.proofs.kept.Kept.last_frame.Goals as goal
@@ -79,7 +80,8 @@ returns-in-Up g c =
     ) at c.end_link.ensures in
     let answer = c.up_reply-reply.ensures
     ∙ ap (λ n. Reply.Up n c.in-Up.up.creation c.in-Up.up.visible) c.in_ok-arrival.ensures.copy in
-    accepts c.requires.link.called _ _ refl _ _ _ c.both.ensures (
+    accepts c.requires.link.called _ _ refl _ _ _ c.both.ensures
+    (last_quiet t g.call.seat c.args.body.now held c.requires.last) (
       last_next t g.call.seat c.args.body.now held c.requires.last others c.in-Up.up c.in-Up.frames
           hears c.index.ensures known answer changes c.deref.ensures.value lost,
       last_came_up t g.call.seat c.args.body.now held c.requires.last others c.in-Up.up

@@ -1,8 +1,12 @@
-use Rattle.node_core.proofs.Words.{sym, refl, ◌∙◌, link_words, Rule}
-use Rattle.node_core.proofs.Answering.{accepts, refuses, failed}
-use Rattle.node_core.proofs.Moved.{unmoved}
-use Rattle.node_core.proofs.MessagePlaces.{runs_here, stopped_here}
-use Rattle.node_core.proofs.Told.{follow_idle}
+use Rattle.node_core.proofs.Words.{ap, sym, refl, ◌∙◌, link_words, Rule, Reply, committed, map}
+use Rattle.node_core.proofs.Words.{said_to, wide, leave_of}
+use Rattle.node_core.proofs.Answering.{accepts_ending, refuses, failed, wanted}
+use Rattle.node_core.proofs.Ended.{turns_on}
+use Rattle.node_core.proofs.Moved.{moved_so, unmoved}
+use Rattle.node_core.proofs.MessagePlaces.{runs_here, scope_here, stopped_here}
+use Rattle.node_core.proofs.OwnChanges.{one_place}
+use Rattle.node_core.proofs.RowsGone.{few_total}
+use Rattle.node_core.proofs.Told.{alike_again, dropped_again, follow_idle, prepared_told}
 use Rattle.node_core.proofs.Joining.{leave_foreign, leaves_own, leave_calm, left}
 use Rattle.node_core.proofs.Searched.{scopes_ascend}
 use Rattle.node_core.proofs.kept.Kept.leave.Goals as goal
@@ -14,24 +18,123 @@ pub returns-then-not-are_local : goal.returns-then-not-are_local
 returns-then-not-are_local g c = refuses c.requires _ Rule.NotLocal (leave_foreign g.call.seat c.requires.keeps.follows c.args.scope.now c.args.group.now c.args.pids.now
     (runs_here c.requires.keeps.follows c.args.scope.now c.in-Some.place (sym (rw c.deref.ensures.value at c.in-Some.ensures))) (sym (rw c.as_slice-pids.ensures at c.are_local.ensures) ∙ c.if-not-are_local.true)) refl
 
-pub leave_one-requires-clause-own : goal.leave_one-requires-clause-own
-leave_one-requires-clause-own g c = rw c.as_slice-pids.ensures (leaves_own g.call.seat c.requires.keeps.follows c.args.scope.now c.args.group.now c.args.pids.now (sym (rw c.deref.ensures.value at c.in-Some.ensures)) c.index_mut.ensures.value
+pub tell_leave-requires-clause-idle : goal.tell_leave-requires-clause-idle
+tell_leave-requires-clause-idle g c =
+    follow_idle (link_words g.call.past) c.args.self.now.links.items
+    c.requires.keeps.follows.links.each
+
+pub tell_leave-requires-clause-own : goal.tell_leave-requires-clause-own
+tell_leave-requires-clause-own g c =
+    rw c.as_slice-pids.ensures
+    (leaves_own g.call.seat c.requires.keeps.follows c.args.scope.now c.args.group.now
+    c.args.pids.now
+    (sym (rw c.deref.ensures.value at c.in-Some.ensures)) c.index.ensures
     (sym (rw c.as_slice-pids.ensures at c.are_local.ensures) ∙ c.if-not-are_local.false))
 
-pub leave_one-requires-clause-idle : goal.leave_one-requires-clause-idle
-leave_one-requires-clause-idle g c = follow_idle (link_words g.call.past) c.args.self.now.links.items c.requires.keeps.follows.links.each
+pub tell_leave-requires-clause-few : goal.tell_leave-requires-clause-few
+tell_leave-requires-clause-few g c =
+    let t = c.requires.keeps.follows in
+    let here = scope_here t c.args.scope.now (sym (rw c.deref.ensures.value at c.in-Some.ensures))
+    c.index.ensures in
+    few_total g.call.past c.index.result.now here.running t.sound.played
 
-pub returns-in_err-changes : goal.returns-in_err-changes
-returns-in_err-changes g c = failed c.requires _ _ refl
-    (unmoved c.requires.keeps.follows c.in-Some.place c.index_mut.ensures.value c.in_err-changes.ensures.same.0 c.in_err-changes.ensures.same.1) c.in_err-changes.field-0.0
-    (leave_calm g.call.seat c.requires.keeps.follows c.args.scope.now c.args.group.now c.args.pids.now (sym (rw c.deref.ensures.value at c.in-Some.ensures)) c.index_mut.ensures.value
-    (sym (rw c.as_slice-pids.ensures at c.are_local.ensures) ∙ c.if-not-are_local.false) c.in_err-changes.field-0.0 (rw c.as_slice-pids.ensures at c.in_err-changes.ensures.refused)) _ c.from_residual.ensures.1
+pub leave_ending-ending-requires : goal.leave_ending-ending-requires
+leave_ending-ending-requires g c =
+    rw c.as_slice-pids.ensures
+    (leaves_own g.call.seat c.requires.keeps.follows c.args.scope.now c.args.group.now
+    c.args.pids.now
+    (sym (rw c.deref.ensures.value at c.in-Some.ensures)) c.index-2.ensures
+    (sym (rw c.as_slice-pids.ensures at c.are_local.ensures) ∙ c.if-not-are_local.false))
+
+pub returns-in_err-tell_leave : goal.returns-in_err-tell_leave
+returns-in_err-tell_leave g c = wanted c.requires _ _ refl
+    (alike_again g.call.past _ c.requires.keeps.follows c.tell_leave.new.links.items
+    c.in_err-tell_leave.ensures.same) _ c.from_residual.ensures.1
+
+pub returns-in_err-ending : goal.returns-in_err-ending
+returns-in_err-ending g c =
+    let t = c.requires.keeps.follows in
+    let old = c.args.self.now.links.items in
+    let said = leave_of c.index.result.now c.args.group.now c.args.pids.now in
+    wanted c.requires _ _ refl
+    (alike_again g.call.past _ t c.or_forget.new.links.items
+    (dropped_again (said_to c.index.result.now.told.items said)
+    (wide said) old c.tell_leave.new.links.items c.or_forget.new.links.items
+    (follow_idle (link_words g.call.past) old t.links.each)
+    (rw c.as_slice-pids.ensures at c.in_ok-tell_leave.ensures.told) c.in_err-ending.ensures.forgot))
+    _ c.from_residual-in_err-ending.ensures.1
+
+pub returns-in_err-own : goal.returns-in_err-own
+returns-in_err-own g c =
+    let t = c.requires.keeps.follows in
+    let old = c.args.self.now.links.items in
+    let said = leave_of c.index.result.now c.args.group.now c.args.pids.now in
+    let placed = sym (rw c.deref.ensures.value at c.in-Some.ensures) in
+    failed c.requires _ _ refl
+    (unmoved t c.in-Some.place c.index_mut.ensures.value
+    (rw (sym c.in_err-own.ensures.result) at c.leave_one-own.ensures.same)
+    (dropped_again (said_to c.index.result.now.told.items said)
+    (wide said) old c.tell_leave.new.links.items c.or_forget-2.new.links.items
+    (follow_idle (link_words g.call.past) old t.links.each)
+    (rw c.as_slice-pids.ensures at c.in_ok-tell_leave.ensures.told)
+    (rw (ap (λ x. x.items) c.in_ok-ending.ensures.same) at c.in_err-own.ensures.forgot)))
+    c.in_err-own.field-0.0
+    (leave_calm g.call.seat t c.args.scope.now c.args.group.now c.args.pids.now placed
+    c.index_mut.ensures.value
+    ((sym (rw c.as_slice-pids.ensures at c.are_local.ensures) ∙ c.if-not-are_local.false))
+    c.in_err-own.field-0.0
+    (rw (
+      c.as_slice-pids.ensures,
+      sym c.in_err-own.ensures.result,
+    ) at c.leave_one-own.ensures.refused))
+    _ c.from_residual-in_err-own.ensures.1
 
 pub returns : goal.returns
-returns g c = accepts c.requires _ _ refl _ _ _ c.changed.ensures
-    (left g.call.seat c.requires.keeps.follows c.args.scope.now c.args.group.now c.args.pids.now (sym (rw c.deref.ensures.value at c.in-Some.ensures)) c.index_mut.ensures.value
-    c.leave_one.new.running c.leave_one.new.links.items c.in_ok-changes.changes.items (rw c.as_slice-pids.ensures at c.in_ok-changes.ensures.left) c.requires.space
-    (sym (rw c.as_slice-pids.ensures at c.are_local.ensures) ∙ c.if-not-are_local.false) (rw c.as_slice-pids.ensures at c.in_ok-changes.ensures.some))
+returns g c =
+    let h = g.call.past in
+    let t = c.requires.keeps.follows in
+    let scopes = c.args.self.now.scopes.items in
+    let old = c.args.self.now.links.items in
+    let prepared = c.tell_leave.new.links.items in
+    let placed = sym (rw c.deref.ensures.value at c.in-Some.ensures) in
+    let fine = (sym (rw c.as_slice-pids.ensures at c.are_local.ensures)
+    ∙ c.if-not-are_local.false) in
+    let at = c.index_mut.ensures.value in
+    let one = one_place scopes c.in-Some.place (scope_here t c.args.scope.now placed at).within
+    c.index.ensures at in
+    let again = one_place scopes c.in-Some.place (scope_here t c.args.scope.now placed at).within
+    c.index-2.ensures at in
+    let said = leave_of c.index_mut.result.now c.args.group.now c.args.pids.now in
+    let told = prepared_told (said_to c.index_mut.result.now.told.items said)
+    (wide said) old prepared
+    (follow_idle (link_words h) old t.links.each)
+    (rw (c.as_slice-pids.ensures, one) at c.in_ok-tell_leave.ensures.told) in
+    let by = rw (
+      c.as_slice-pids.ensures,
+      sym c.in_ok-own.ensures.result,
+    ) at c.leave_one-own.ensures.left in
+    let turns = left g.call.seat t c.args.scope.now c.args.group.now c.args.pids.now placed at
+    c.leave_one-own.new.running (map committed prepared) c.in_ok-own.own.items
+    (moved_so by told by.change) c.requires.space
+    fine (rw (
+      c.as_slice-pids.ensures,
+      sym c.in_ok-own.ensures.result,
+    ) at c.leave_one-own.ensures.some) in
+    accepts_ending c.requires _ _ refl _ Reply.Done _ c.settled.ensures.done
+    (turns_on t g.call.seat _ turns prepared refl c.in_ok-ending.ending
+    (rw (
+      c.as_slice-pids.ensures,
+      c.deref-2.ensures.value,
+      c.deref-3.ensures.value,
+      again,
+      sym c.in_ok-ending.ensures.result,
+    )
+    at c.leave_ending-ending.ensures)
+    (rw (
+      c.commit.ensures,
+      ap (λ x. x.items) c.in_ok-own.ensures.same,
+      ap (λ x. x.items) c.in_ok-ending.ensures.same,
+    ) at c.settled.ensures.ended))
 
 pub place_of-requires : goal.place_of-requires
 place_of-requires g c = rw c.deref.ensures.value (scopes_ascend c.requires.keeps.follows)

@@ -1,6 +1,7 @@
-use Rattle.node_core.proofs.Words.{refl, sym, ap, follows_other, Event, Reply, Rule, ◌∙◌}
+use Rattle.node_core.proofs.Words.{refl, sym, ap, audit_of, follows_other, Event, Reply, Rule, ◌∙◌}
 use Rattle.node_core.proofs.Answering.{accepts, refuses}
 use Rattle.node_core.proofs.Calm.{entered}
+use Rattle.node_core.proofs.Entered.{audit_next}
 use Rattle.node_core.proofs.MessagePlaces.{runs_here, scope_here, stopped_here}
 use Rattle.node_core.proofs.Scopes.{local_groups_are}
 use Rattle.node_core.proofs.Searched.{scopes_ascend}
@@ -16,9 +17,17 @@ returns g c =
     let scope = c.args.scope.now in
     let placed = sym (rw c.deref.ensures.value at c.in-Some.ensures) in
     let there = scope_here t scope placed c.index.ensures in
-    let list = c.in_ok-groups.ensures ∙ local_groups_are h scope c.index.result.now there.named there.running t.sound.legal _ c.in_ok-local_groups.ensures in
-    accepts c.requires _ _ refl _ _ _ c.in_ok-with.ensures (entered t g.call.seat (Event.LocalGroups scope) refl c.requires.space (rw (runs_here t scope c.in-Some.place placed)) (ap Reply.Groups (sym list))
-    (λ its. (t.admission, t.processes, follows_other h _ _ refl t.monitors refl)))
+    let list = c.in_ok-groups.ensures
+    ∙ local_groups_are h scope c.index.result.now there.named there.running t.sound.played _
+    c.in_ok-local_groups.ensures in
+    accepts c.requires _ _ refl _ _ _ c.in_ok-with.ensures refl
+    (entered t g.call.seat (Event.LocalGroups scope) refl c.requires.space
+    (rw (runs_here t scope c.in-Some.place placed)) (ap Reply.Groups (sym list))
+    (λ its. (
+      t.admission,
+      t.processes,
+      follows_other (audit_of h) _ _ (audit_next h) t.monitors refl,
+    )))
 
 pub place_of-requires : goal.place_of-requires
 place_of-requires g c = rw c.deref.ensures.value (scopes_ascend c.requires.keeps.follows)

@@ -7,7 +7,9 @@ use Rattle.node_core.proofs.kept.Kept.lost.Goals as goal
 
 pub returns-in_default : goal.returns-in_default
 returns-in_default g c = refuses c.requires _ Rule.NoSuchLink
-    (rw (not_kept g.call.past c.requires.keeps.follows.sound.legal c.args.self.now.links.items c.requires.keeps.follows.links c.args.number (rw c.deref.ensures.value at (sym c.place_of.ensures ∙ c.in_default.is)))) refl
+    (rw (not_kept g.call.past c.requires.keeps.follows.sound.played c.args.self.now.links.items
+    c.requires.keeps.follows.links c.args.number
+    (rw c.deref.ensures.value at (sym c.place_of.ensures ∙ c.in_default.is)))) refl
 
 pub returns : goal.returns
 returns g c =
@@ -16,11 +18,15 @@ returns g c =
     let links = c.args.self.now.links.items in
     let scopes = c.args.self.now.scopes.items in
     let found = rw c.deref.ensures.value at (sym c.place_of.ensures ∙ c.in-Some.is) in
-    let at = link_at h t.sound.legal links t.links c.args.number c.in-Some.place c.index.result.now found in
+    let at = link_at h t.sound.played links t.links c.args.number c.in-Some.place c.index.result.now
+    found in
     let within : c.in-Some.place < length links = at.2 in
     let gone = subst (λ x. AreLost (up_peer x.state) scopes c.in_ok-changes.changes.items) c.index.ensures (rw c.deref-2.ensures.value at c.in_ok-changes.ensures) in
     let cuts = subst (λ x. AreCut x.number (up_peer x.state) scopes c.cut_link.new.scopes.items) (c.index-2.ensures ∙ get_or_default links c.in-Some.place c.index-2.result.now c.index.result.now within) c.cut_link.ensures in
-    accepts c.requires _ _ refl _ _ _ c.changed.ensures (rw c.remove.ensures (lost h g.call.seat c.args.number c.in_ok-changes.changes.items _ t c.in-Some.place c.index.result.now found c.requires.space gone c.cut_link.new.scopes.items cuts))
+    accepts c.requires _ _ refl _ _ _ c.changed.ensures refl
+    (rw c.remove.ensures
+    (lost h g.call.seat c.args.number c.in_ok-changes.changes.items _ t c.in-Some.place
+    c.index.result.now found c.requires.space gone c.cut_link.new.scopes.items cuts))
 
 pub place_of-requires : goal.place_of-requires
 place_of-requires g c = rw c.deref.ensures.value (links_in_order c.requires.keeps.follows)

@@ -1,6 +1,10 @@
-use Rattle.node_core.proofs.Words.{ap, refl, subst, sym, ◌∙◌, IsFree, follows_free, follows_group, next_number, Event, Reply, Rule}
+use Rattle.node_core.proofs.Words.{just, Accepted, [], ◌++◌, ◌∷◌, Some, ap, refl, subst, sym, ◌∙◌}
+use Rattle.node_core.proofs.Words.{audit_of, IsFree, follows_free, follows_group, next_number}
+use Rattle.node_core.proofs.Words.{Event, Reply, Rule}
+use Rattle.group_monitors.specs.Follows.{FollowsPolicy}
 use Rattle.node_core.proofs.Answering.{accepts, refuses}
 use Rattle.node_core.proofs.Calm.{entered}
+use Rattle.node_core.proofs.Entered.{audit_next, made}
 use Rattle.node_core.proofs.MessagePlaces.{runs_here, scope_here, stopped_here}
 use Rattle.node_core.proofs.Scopes.{members_are}
 use Rattle.node_core.proofs.Searched.{scopes_ascend}
@@ -10,7 +14,11 @@ pub returns-in_default : goal.returns-in_default
 returns-in_default g c = refuses c.requires.called _ Rule.NoScope (rw (stopped_here c.requires.called.keeps.follows c.args.scope.now (sym (rw c.deref.ensures.value at c.in_default.ensures)))) refl
 
 pub add_group-requires : goal.add_group-requires
-add_group-requires g c = subst (λ n. IsFree n c.args.self.now.monitors) (sym c.requires.number_is) (follows_free g.call.past c.args.self.now.monitors c.requires.called.keeps.follows.monitors)
+add_group-requires g c =
+    subst (λ n. IsFree n c.args.self.now.monitors)
+    (sym (c.requires.number_is ∙ audit_next g.call.past))
+    (follows_free (audit_of g.call.past) c.args.self.now.monitors
+    c.requires.called.keeps.follows.monitors)
 
 pub returns : goal.returns
 returns g c =
@@ -21,10 +29,20 @@ returns g c =
     let placed = sym (rw c.deref.ensures.value at c.in-Some.ensures) in
     let there = scope_here t scope placed c.index.ensures in
     let all = c.in_ok-pids.ensures ∙ members_are h scope c.index.result.now there.named there.running group _ c.in_ok-members.ensures in
-    accepts c.requires.called _ _ refl _ _ _ c.in_ok-answered.ensures
+    let entry = made h g.call.seat (Event.Monitor scope group)
+    (Accepted (Reply.Ref (next_number h) c.in_ok-pids.pids)) [] in
+    accepts c.requires.called _ _ refl _ _ _ c.in_ok-answered.ensures refl
     (rw (c.in_ok-add_group.ensures.ok, c.in_ok-scope.ensures, c.in_ok-group.ensures, c.requires.seat_is, c.requires.number_is)
     (entered t g.call.seat (Event.Monitor scope group) refl c.requires.called.space (rw (runs_here t scope c.in-Some.place placed)) (ap (Reply.Ref (next_number h)) (sym all))
-    (λ its. (t.admission, t.processes, follows_group h _ _ refl t.monitors refl scope group refl))))
+    (λ its. (
+      t.admission,
+      t.processes,
+      subst (λ n. FollowsPolicy (just (audit_of h) entry)
+          (c.args.self.now.monitors
+          ++ (n, record { seat = g.call.seat; scope = scope; group = Some group; place = n }) ∷ []))
+          (sym (audit_next h))
+          (follows_group (audit_of h) entry _ (audit_next h) t.monitors refl scope group refl),
+    ))))
 
 pub place_of-requires : goal.place_of-requires
 place_of-requires g c = rw c.deref.ensures.value (scopes_ascend c.requires.called.keeps.follows)

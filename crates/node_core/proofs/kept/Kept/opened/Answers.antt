@@ -11,5 +11,12 @@ returns-then-len-ge-MAX_LINKS g c =
 pub returns : goal.returns
 returns g c =
     let few : length c.args.self.now.links.items < 64 = omega arith in
-    accepts c.requires.0 _ _ refl _ _ _ c.linked.ensures (rw (c.push_reserved.ensures.items, c.in_ok-reserve.ensures.items, c.new-2.ensures, c.new-waiting.ensures.items, c.requires.1)
+    accepts c.requires.0 _ _ refl _ _ _ c.linked.ensures refl
+    (rw (
+      c.push_reserved.ensures.items,
+      c.in_ok-reserve.ensures.items,
+      c.new-2.ensures,
+      c.new-waiting.ensures.items,
+      c.requires.1,
+    )
     (opened_now c.requires.0.keeps.follows g.call.seat c.args.challenge c.requires.0.space few _ _ (c.new-state.ensures ∙ c.new.ensures)))

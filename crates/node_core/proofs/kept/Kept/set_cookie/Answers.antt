@@ -1,12 +1,20 @@
-use Rattle.node_core.proofs.Words.{follows_other, refl, Event, Reply}
+use Rattle.node_core.proofs.Words.{audit_of, follows_other, refl, Event, Reply}
 use Rattle.node_core.proofs.Answering.{accepts}
 use Rattle.node_core.proofs.Cookies.{cookie_follows}
 use Rattle.node_core.proofs.Calm.{entered}
+use Rattle.node_core.proofs.Entered.{audit_next}
 use Rattle.node_core.proofs.kept.Kept.set_cookie.Goals as goal
 
 pub returns : goal.returns
 returns g c =
     let t = c.requires.keeps.follows in
     let cookie = c.args.cookie.now in
-    accepts c.requires _ _ refl _ _ _ c.done.ensures (rw (c.set_cookie.ensures, c.in_ok-kept.ensures) (entered t g.call.seat (Event.SetCookie cookie) refl c.requires.space refl refl
-    (λ its. (cookie_follows g.call.past c.args.self.now.admission t.admission g.call.seat Reply.Done cookie, t.processes, follows_other g.call.past _ _ refl t.monitors refl))))
+    accepts c.requires _ _ refl _ _ _ c.done.ensures refl
+    (rw (c.set_cookie.ensures, c.in_ok-kept.ensures)
+    (entered t g.call.seat (Event.SetCookie cookie) refl c.requires.space refl refl
+    (λ its. (
+      cookie_follows g.call.past c.args.self.now.admission t.admission g.call.seat Reply.Done
+          cookie,
+      t.processes,
+      follows_other (audit_of g.call.past) _ _ (audit_next g.call.past) t.monitors refl,
+    ))))

@@ -1,7 +1,8 @@
-use Rattle.node_core.proofs.Words.{follows_other, refl, Event, Reply}
+use Rattle.node_core.proofs.Words.{audit_of, follows_other, refl, Event, Reply}
 use Rattle.node_core.proofs.Answering.{accepts, failed}
 use Rattle.node_core.proofs.Cookies.{cookie_for_follows, cookie_calm, peers_fit}
 use Rattle.node_core.proofs.Calm.{entered}
+use Rattle.node_core.proofs.Entered.{audit_next}
 use Rattle.node_core.proofs.kept.Kept.set_cookie_for.Goals as goal
 
 pub returns-in_err-give_cookie : goal.returns-in_err-give_cookie
@@ -14,5 +15,12 @@ returns g c =
     let peer = c.args.peer.now in
     let cookie = c.args.cookie.now in
     let fits = peers_fit g.call.past c.args.self.now.admission t.admission peer cookie (rw c.in_ok-give_cookie.ensures.ok at c.in_ok-give_cookie.ensures.limits) in
-    accepts c.requires _ _ refl _ _ _ c.done.ensures (rw c.in_ok-give_cookie.ensures.ok (entered t g.call.seat (Event.SetCookieFor peer cookie) refl c.requires.space (rw fits) refl
-    (λ its. (cookie_for_follows g.call.past c.args.self.now.admission t.admission g.call.seat Reply.Done peer cookie, t.processes, follows_other g.call.past _ _ refl t.monitors refl))))
+    accepts c.requires _ _ refl _ _ _ c.done.ensures refl
+    (rw c.in_ok-give_cookie.ensures.ok
+    (entered t g.call.seat (Event.SetCookieFor peer cookie) refl c.requires.space (rw fits) refl
+    (λ its. (
+      cookie_for_follows g.call.past c.args.self.now.admission t.admission g.call.seat
+          Reply.Done peer cookie,
+      t.processes,
+      follows_other (audit_of g.call.past) _ _ (audit_next g.call.past) t.monitors refl,
+    ))))

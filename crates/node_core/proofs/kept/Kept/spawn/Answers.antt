@@ -1,7 +1,8 @@
-use Rattle.node_core.proofs.Words.{ap, follows_other, refl, sym, ◌∙◌, Event, Rule}
+use Rattle.node_core.proofs.Words.{ap, audit_of, follows_other, refl, sym, ◌∙◌, Event, Rule}
 use Rattle.node_core.proofs.Answering.{accepts, refuses}
 use Rattle.node_core.proofs.Lives.{pids_fit, pids_full, next_is_new, spawned_follow, spawn_answer}
 use Rattle.node_core.proofs.Calm.{entered}
+use Rattle.node_core.proofs.Entered.{audit_next}
 use Rattle.node_core.proofs.kept.Kept.spawn.Goals as goal
 
 pub returns-then-is_full : goal.returns-then-is_full
@@ -14,8 +15,11 @@ returns g c =
     let processes = c.args.self.now.processes in
     let fits = pids_fit h processes t.processes (sym c.is_full.ensures ∙ c.if-is_full.false) in
     let is = spawn_answer h g.call.seat c.in_ok-try_clone.field-0 c.creation.result c.spawned.result (c.in_ok-try_clone.ensures ∙ ap (λ o. o.name) c.requires.keeps.opening) (c.creation.ensures ∙ t.admission.creation) (c.spawned.ensures ∙ t.processes.spawned) in
-    accepts c.requires _ _ refl _ _ _ c.in_ok-answered.ensures (entered t g.call.seat Event.Spawn refl c.requires.space (rw fits) is (λ its. (
+    accepts c.requires _ _ refl _ _ _ c.in_ok-answered.ensures refl
+    (entered t g.call.seat Event.Spawn refl c.requires.space (rw fits) is (λ its. (
       t.admission,
-      spawned_follow h processes t.processes g.call.seat _ c.spawn.new.self t.sound.legal its c.in_ok-spawn.ensures.spawned c.in_ok-spawn.ensures.live (c.in_ok-spawn.ensures.count (next_is_new h processes t.processes)),
-      follows_other h _ _ refl t.monitors refl,
+      spawned_follow h processes t.processes g.call.seat _ c.spawn.new.self t.sound.played its
+          c.in_ok-spawn.ensures.spawned c.in_ok-spawn.ensures.live
+          (c.in_ok-spawn.ensures.count (next_is_new h processes t.processes)),
+      follows_other (audit_of h) _ _ (audit_next h) t.monitors refl,
     )))

@@ -1,8 +1,11 @@
-use Rattle.node_core.proofs.Words.{refl, subst, sym, IsDifference, no_count, link_words, Rule}
-use Rattle.node_core.proofs.Answering.{accepts, refuses, wanted}
+use Rattle.node_core.proofs.Words.{ap, refl, subst, sym, IsDifference, no_count, link_words, Rule}
+use Rattle.node_core.proofs.Words.{Reply, committed, map, shown_numbers, wide, Message}
+use Rattle.node_core.proofs.Answering.{accepts_ending, refuses, wanted}
+use Rattle.node_core.proofs.Ended.{turns_on}
 use Rattle.node_core.proofs.MessagePlaces.{runs_here, scope_here, stopped_here}
+use Rattle.node_core.proofs.OwnChanges.{one_proper}
 use Rattle.node_core.proofs.Scopes.{counts_listed}
-use Rattle.node_core.proofs.Told.{alike_again, follow_idle}
+use Rattle.node_core.proofs.Told.{alike_again, dropped_again, follow_idle, prepared_told}
 use Rattle.node_core.proofs.Stopping.{stop_now}
 use Rattle.node_core.proofs.Searched.{scopes_ascend}
 use Rattle.node_core.proofs.kept.Kept.stop_scope.Goals as goal
@@ -13,9 +16,26 @@ returns-in_default g c = refuses c.requires _ Rule.NoScope (rw (stopped_here c.r
 pub tell_stop-requires : goal.tell_stop-requires
 tell_stop-requires g c = follow_idle (link_words g.call.past) c.args.self.now.links.items c.requires.keeps.follows.links.each
 
-pub returns-in_err-changes : goal.returns-in_err-changes
-returns-in_err-changes g c = wanted c.requires _ _ refl
-    (alike_again g.call.past _ c.requires.keeps.follows c.tell_stop.new.links.items c.in_err-changes.ensures.same) _ c.from_residual-in_err-changes.ensures.1
+pub returns-in_err-own : goal.returns-in_err-own
+returns-in_err-own g c = wanted c.requires _ _ refl
+    (alike_again g.call.past _ c.requires.keeps.follows c.tell_stop.new.links.items
+    c.in_err-own.ensures.same) _ c.from_residual-in_err-own.ensures.1
+
+pub ending_with-ending-requires : goal.ending_with-ending-requires
+ending_with-ending-requires g c = rw (c.deref-4.ensures.value, c.in_ok-own.ensures.change)
+    (one_proper c.args.scope.now c.in_ok-groups.groups.items c.in_ok-groups.ensures.proper)
+
+pub returns-in_err-ending : goal.returns-in_err-ending
+returns-in_err-ending g c =
+    let t = c.requires.keeps.follows in
+    let old = c.args.self.now.links.items in
+    wanted c.requires _ _ refl
+    (alike_again g.call.past _ t c.or_forget.new.links.items
+    (dropped_again (shown_numbers old) (wide (Message.Down c.args.scope.now)) old
+    c.tell_stop.new.links.items c.or_forget.new.links.items
+    (follow_idle (link_words g.call.past) old t.links.each) c.in_ok-own.ensures.told
+    c.in_err-ending.ensures.forgot))
+    _ c.from_residual-in_err-ending.ensures.1
 
 pub returns : goal.returns
 returns g c =
@@ -26,8 +46,28 @@ returns g c =
     let there = scope_here t scope placed c.index.ensures in
     let runs = runs_here t scope c.in-Some.place placed in
     let groups = subst (λ f. IsDifference f no_count c.in_ok-groups.groups.items) (counts_listed h scope c.index.result.now there.named there.running) c.in_ok-groups.ensures in
-    accepts c.requires _ _ refl _ _ _ (rw c.in_ok-changes.ensures.change at c.changed.ensures) (rw (c.take_out.ensures, c.drop_scope.ensures.dropped)
-    (stop_now h g.call.seat scope c.in_ok-groups.groups.items _ t runs groups c.requires.space c.tell_stop.new.links.items c.in_ok-changes.ensures.told))
+    let old = c.args.self.now.links.items in
+    let prepared = c.tell_stop.new.links.items in
+    let told = prepared_told (shown_numbers old) (wide (Message.Down scope)) old prepared
+    (follow_idle (link_words h) old t.links.each) c.in_ok-own.ensures.told in
+    let turns = stop_now h g.call.seat scope c.in_ok-groups.groups.items _ t runs groups
+    c.requires.space (map committed prepared) told in
+    accepts_ending c.requires _ _ refl _ Reply.Done _ c.settled.ensures.done
+    (rw c.drop_scope.ensures.dropped
+    (turns_on t g.call.seat _ turns prepared refl c.in_ok-ending.ending
+    (rw (
+      c.deref-2.ensures.value,
+      c.deref-3.ensures.value,
+      c.deref-4.ensures.value,
+      c.in_ok-own.ensures.change,
+      sym c.in_ok-ending.ensures.result,
+    ) at c.ending_with-ending.ensures)
+    (rw (
+      c.in_ok-own.ensures.change,
+      c.commit.ensures,
+      ap (λ x. x.items) c.in_ok-ending.ensures.same,
+      c.take_out.ensures,
+    ) at c.settled.ensures.ended)))
 
 pub place_of-requires : goal.place_of-requires
 place_of-requires g c = rw c.deref.ensures.value (scopes_ascend c.requires.keeps.follows)

@@ -1,10 +1,12 @@
 use Rattle.node_core.proofs.Words.{ap, arith, length, refl, subst, sym, ℕ, List, None, Ok, Err, OnErr, OnOk, Option, Result, Some, suc, ◌≡◌, IsSome, lie}
-use Rattle.node_core.proofs.Words.{no_value, option_map, follows_moved, Event, Reply, Rule, with_place}
+use Rattle.node_core.proofs.Words.{no_value, ◌∙◌, audit_of, audited, option_map, follows_moved}
+use Rattle.node_core.proofs.Words.{Event, Reply, Rule, with_place}
 use Rattle.group_monitors.specs.declared.monitor.Monitor.{Monitor}
 use Rattle.group_monitors.specs.Monitors.{monitor_of, updates_behind}
 use Rattle.group_monitors.proofs.FromPolicy.{follows_refused, follows_seen, follows_told}
 use Rattle.node_core.proofs.Answering.{accepts, refuses}
 use Rattle.node_core.proofs.Calm.{entered}
+use Rattle.node_core.proofs.Entered.{audit_next}
 use Rattle.node_core.proofs.kept.Kept.updates.Goals as goal
 
 -- the place of a monitor that is there is moved
@@ -31,8 +33,17 @@ returns g c =
     let monitors = c.args.self.now.monitors in
     let behind = rw (c.requires.1, c.requires.0.seat_is) at c.in-Ok.ensures.ok in
     let told = follows_told h monitors t.monitors g.call.seat c.args.number c.in-Ok.updates behind in
-    let some = told_one (updates_behind h.entries) (monitor_of monitors g.call.seat c.args.number) c.in-Ok.updates behind in
-    let place : c.args.place ≡ suc (length h.entries) = (let is = c.requires.0.number_is in omega (arith, is)) in
+    let some = told_one (updates_behind (audited h.entries))
+    (monitor_of monitors g.call.seat c.args.number) c.in-Ok.updates behind in
+    let place : c.args.place
+    ≡ suc (length (audited h.entries)) = (let is = c.requires.0.number_is ∙ audit_next h in
+    omega (arith, is)) in
     let moved = advanced c.advance_to.result (monitor_of monitors g.call.seat c.args.number) (with_place g.call.seat c.args.number c.args.place monitors) c.advance_to.new.self some (rw c.requires.0.seat_is at c.advance_to.ensures.ok) (rw c.requires.0.seat_is at c.advance_to.ensures.refused) in
-    accepts c.requires.0.called _ _ refl _ _ _ c.in_ok-answered.ensures (rw (moved, place)
-    (entered t g.call.seat (Event.Updates c.args.number) refl c.requires.0.called.space told.0 (ap Reply.Updates told.1) (λ its. (t.admission, t.processes, follows_moved h _ _ refl t.monitors refl c.args.number refl))))
+    accepts c.requires.0.called _ _ refl _ _ _ c.in_ok-answered.ensures refl (rw (moved, place)
+    (entered t g.call.seat (Event.Updates c.args.number) refl c.requires.0.called.space told.0
+    (ap Reply.Updates told.1)
+    (λ its. (
+      t.admission,
+      t.processes,
+      follows_moved (audit_of h) _ _ (audit_next h) t.monitors refl c.args.number refl,
+    ))))

@@ -8,4 +8,6 @@ returns c =
     let t = c.self.invariant.follows in
     rw (← c.self.view_is) (
     c.is_some.ensures ∙ ap is_some (rw c.deref.ensures.value at c.place_of_up.ensures)
-    ∙ place_found (λ x. option_map_or (λ n. same n c.args.peer.now) (up_peer x.state) false) c.self.inside.kept.links.items ∙ up_is _ c.args.peer.now t.sound.legal c.self.inside.kept.links.items t.links)
+    ∙ place_found (λ x. option_map_or (λ n. same n c.args.peer.now) (up_peer x.state) false)
+    c.self.inside.kept.links.items
+    ∙ up_is _ c.args.peer.now t.sound.played c.self.inside.kept.links.items t.links)

@@ -1,4 +1,5 @@
 use Rattle.node_core.proofs.Words.{None, Some, ap, cond, not, sym, ◌∙◌, Reply, Rule}
+use Rattle.policy_audit.proofs.Losses.{legal_played}
 use Rattle.node_core.proofs.Scopes.{members_are, local_members_are, groups_are, local_groups_are}
 use Rattle.node_core.proofs.node.NodeCore.look.Goals as goal
 
@@ -11,7 +12,12 @@ returns-in_ok-of-in-Members c = rw c.in-Members.is (λ seat. (
 pub returns-in_ok-of-in-LocalMembers : goal.returns-in_ok-of-in-LocalMembers
 returns-in_ok-of-in-LocalMembers c = rw c.in-LocalMembers.is (λ seat. (
   ap (λ b. cond (not b) (Some Rule.NoScope) None) c.in-Some.ensures.found.2,
-  ap Reply.Pids (sym (c.in_ok-of-in-LocalMembers.ensures ∙ local_members_are c.args.self.now c.args.scope.now c.in-Some.running.now c.in-Some.ensures.found.0 c.in-Some.ensures.found.1 c.in-Some.ensures.legal c.in-LocalMembers.group.now _ c.in_ok-local_members-in-LocalMembers.ensures.value)),
+  ap Reply.Pids (sym
+      (c.in_ok-of-in-LocalMembers.ensures
+      ∙ local_members_are c.args.self.now c.args.scope.now c.in-Some.running.now
+      c.in-Some.ensures.found.0 c.in-Some.ensures.found.1
+      (legal_played c.args.self.now c.in-Some.ensures.legal) c.in-LocalMembers.group.now _
+      c.in_ok-local_members-in-LocalMembers.ensures.value)),
 ))
 
 pub returns-in_ok-of-in-Groups : goal.returns-in_ok-of-in-Groups
@@ -23,5 +29,10 @@ returns-in_ok-of-in-Groups c = rw c.in-Groups.is (λ seat. (
 pub returns-in_ok-of-in-LocalGroups : goal.returns-in_ok-of-in-LocalGroups
 returns-in_ok-of-in-LocalGroups c = rw c.in-LocalGroups.is (λ seat. (
   ap (λ b. cond (not b) (Some Rule.NoScope) None) c.in-Some.ensures.found.2,
-  ap Reply.Groups (sym (c.in_ok-of-in-LocalGroups.ensures ∙ local_groups_are c.args.self.now c.args.scope.now c.in-Some.running.now c.in-Some.ensures.found.0 c.in-Some.ensures.found.1 c.in-Some.ensures.legal _ c.in_ok-local_groups-in-LocalGroups.ensures)),
+  ap Reply.Groups
+      (sym (c.in_ok-of-in-LocalGroups.ensures
+      ∙ local_groups_are c.args.self.now c.args.scope.now c.in-Some.running.now
+      c.in-Some.ensures.found.0 c.in-Some.ensures.found.1
+      (legal_played c.args.self.now c.in-Some.ensures.legal) _
+      c.in_ok-local_groups-in-LocalGroups.ensures)),
 ))

@@ -1,37 +1,73 @@
-use Rattle.node_core.proofs.Words.{ap, ◌∙◌, ◌≡◌, is_full, past, false}
-use Rattle.node_core.proofs.StepAnswers.{not_full, unentered_step, step_so, core_so}
+use Rattle.node_core.proofs.Words.{ap, refl, subst, sym, ◌∙◌, ◌≡◌, is_full, history, false}
+use Rattle.policy_audit.proofs.Losses.{made_audited}
+use Rattle.node_core.specs.Core.{IsCore}
+use Rattle.node_core.proofs.StepAnswers.{core_count, core_keeps, core_limit, not_full}
+use Rattle.node_core.proofs.StepAnswers.{unentered_step, step_so, core_so}
 use Rattle.node_core.proofs.Searched.{scopes_ascend}
 use Rattle.node_core.proofs.node.NodeCore.step.Goals as goal
 use Rattle.node_core.proofs.node.NodeCore.step.Goals.{In_default}
 
--- room leaves the history as it is, which isn't full
-before : (c : In_default) → past c.self.inside.kept.opening c.make_room.new.self.entries ≡ c.args.self.now
-before c = ap (λ a. past c.self.inside.kept.opening a.entries) c.in_default.ensures.ok.1 ∙ c.self.view_is
+-- room leaves the entries as they are
+core : (c : In_default)
+    → IsCore c.self.inside.kept.opening c.make_room.new.self.entries c.self.inside.audit.limit
+    c.self.inside.kept
+core c =
+    subst (λ a. IsCore c.self.inside.kept.opening a.entries c.self.inside.audit.limit
+    c.self.inside.kept)
+    (sym c.in_default.ensures.ok.1) c.self.invariant
 
-space : (c : In_default) → is_full (past c.self.inside.kept.opening c.make_room.new.self.entries) ≡ false
-space c = not_full c.self.inside.audit
-    (past c.self.inside.kept.opening c.make_room.new.self.entries)
-    (ap (λ a. a.entries) c.in_default.ensures.ok.1) c.self.invariant.within
+-- so the history stays, which isn't full
+same : (c : In_default)
+    → history c.self.inside.kept.opening c.self.inside.audit.entries
+    ≡ history c.self.inside.kept.opening c.make_room.new.self.entries
+same c = ap (λ a. history c.self.inside.kept.opening a.entries) (sym c.in_default.ensures.ok.1)
+
+space : (c : In_default)
+    → is_full (history c.self.inside.kept.opening c.make_room.new.self.entries) ≡ false
+space c =
+    not_full c.self.inside.audit (history c.self.inside.kept.opening c.make_room.new.self.entries)
+    (core_count c.self.invariant (same c)) (core_limit c.self.invariant (same c))
     c.in_default.ensures.ok.0
 
 pub returns-in-Err : goal.returns-in-Err
 returns-in-Err c =
     let now = c.self.view_is in
-    rw c.from.ensures (unentered_step _ (ap (λ h. h.entries) now)
-    (c.self.invariant.within ∙ ap (λ h. h.opening.entries) now)
-    (ap (λ a. past c.self.inside.kept.opening a.entries) c.in-Err.ensures.same ∙ now)
+    rw c.from.ensures
+    (unentered_step _ (core_count c.self.invariant now) (core_limit c.self.invariant now)
+    (ap (λ a. history c.self.inside.kept.opening a.entries) c.in-Err.ensures.same ∙ now)
     c.args.seat c.args.event c.in-Err.fault c.in-Err.ensures.refused)
+
+pub next_number-number-requires : goal.next_number-number-requires
+next_number-number-requires c = space c
+
+pub shared-event-requires : goal.shared-event-requires
+shared-event-requires c = scopes_ascend c.self.invariant.follows
+
+pub answer-answered-requires : goal.answer-answered-requires
+answer-answered-requires c =
+    let entered = (goal.at.answer-answered-requires c).In_default in (
+      record {
+        called = record { keeps = core_keeps (core entered); space = space entered };
+        seat_is = refl;
+        number_is = c.next_number-number.ensures;
+      },
+      sym (made_audited c.self.inside.kept.opening c.make_room.new.self.entries
+          (core entered).legal),
+    )
 
 pub invariant_of-self-3 : goal.invariant_of-self-3
 invariant_of-self-3 c =
     let entered = (goal.at.invariant_of-self-3 c).In_default in
-    core_so _ c.shared-event.result c.answer-answered.new.self c.answer-answered.result c.answer-answered.ensures (space entered) c.enter.ensures.entries
+    core_so c.self.inside.kept.opening _ (core entered).legal c.args.seat c.shared-event.result
+    c.answer-answered.new.self
+    c.answer-answered.result c.answer-answered.ensures c.enter.ensures.entries
     (c.enter.ensures.limit ∙ ap (λ a. a.limit) c.in_default.ensures.ok.1 ∙ c.self.invariant.within)
 
 pub returns : goal.returns
 returns c =
     let entered = (goal.at.returns c).In_default in
-    step_so _ c.shared-event.result c.answer-answered.new.self c.answer-answered.result c.answer-answered.ensures (space entered) c.enter.ensures.entries (before entered) c.shared-event.ensures c.enter.ensures.reply
-
-pub shared-event-requires : goal.shared-event-requires
-shared-event-requires c = scopes_ascend c.self.invariant.follows
+    step_so c.self.inside.kept.opening _ (core entered).legal c.args.seat c.shared-event.result
+    c.answer-answered.new.self
+    c.answer-answered.result c.answer-answered.ensures c.enter.ensures.entries
+    (space entered) (sym (same entered) ∙ c.self.view_is) c.shared-event.ensures
+    c.enter.ensures.reply

@@ -1,0 +1,148 @@
+-- The links that end because too many frames wait for them: which they are, and their peers.
+use Rattle.node_core.proofs.Words.{arith, ap, refl, subst, sym, true, false, cond, ltb-true, List}
+use Rattle.node_core.proofs.Words.{Option, Some, None, Bool, ℕ, [], ◌∷◌, ◌++◌, ◌∙◌, ◌≡◌, ◌&&◌}
+use Rattle.node_core.proofs.Words.{◌||◌, map, filter, reverse, is_some, option_to_list, nat_lt}
+use Rattle.node_core.proofs.Words.{length, AllByRecursion, list_all, list_any, flat_map, append-nil}
+use Rattle.node_core.proofs.Words.{lie, same, same_decides, History, Pid, is_slow, links}
+use Rattle.node_core.proofs.Words.{present_link, slow_links, max_waiting, IsPlayed, Climbs, agrees}
+use Rattle.node_core.proofs.Words.{KeptLink, up_peer, committed, IsLinkOf, LinksFollow, link_words}
+use Rattle.std.proofs.lemmas.List.{reverse-reverse}
+use Rattle.policy_audit.proofs.KeptLinks.{links_fall}
+use Rattle.policy_audit.proofs.KeptNumbers.{falls_climbs, falls_left}
+use Rattle.node_core.specs.declared.slow.End.{End}
+use Rattle.node_core.specs.Ending.{ends_of, end_of, is_overfull}
+use Rattle.node_core.proofs.Found.{some_is}
+use Rattle.node_core.proofs.Losing.{IsUpWith, up_with}
+use Rattle.node_core.proofs.SlowLinks.{is_slow_link, slow_are}
+
+-- ---- which links end
+
+abbrev pub numbers : List End → List ℕ
+numbers ends = map (λ x. x.number) ends
+
+-- the ends of a link, if it is overfull, and of others
+abbrev ends_with_one : Bool → KeptLink → List KeptLink → List End
+ends_with_one b x xs = flat_map end_of (cond b (x ∷ filter is_overfull xs) (filter is_overfull xs))
+
+-- the end of a link, by the peer with which it is up
+abbrev end_by : KeptLink → Option (List ℕ) → List End
+end_by x o = map (λ n. record { number = x.number; peer = n }) (option_to_list o)
+
+-- frames that are prepared count as those that wait
+pub committed_ends : (xs : List KeptLink) → ends_of (map committed xs) ≡ ends_of xs
+committed_ends [] = refl
+committed_ends (x ∷ xs) =
+    ap (λ fs. ends_with_one (nat_lt max_waiting (length fs)) (committed x) (map committed xs))
+    (append-nil (x.frames ++ x.prepared)) ∙ by (is_overfull x) (committed_ends xs)
+  where
+    by : (b : Bool) → ends_of (map committed xs) ≡ ends_of xs
+        → ends_with_one b (committed x) (map committed xs) ≡ ends_with_one b x xs
+    by true q = ap (λ ys. end_of x ++ ys) q
+    by false q = q
+
+-- these are the ends of these links
+abbrev AreOf : List End → List KeptLink → Type 0
+AreOf ends slow = numbers ends ≡ map (λ y. y.number) slow
+
+module _ (k : History) (played : IsPlayed k) where
+  -- they are the slow ones
+  ends_slow : (xs : List KeptLink) → AllByRecursion (IsLinkOf (link_words k)) xs
+      → AreOf (ends_of xs) (filter is_slow_link xs)
+  ends_slow [] a = refl
+  ends_slow (x ∷ xs) a =
+      ap (λ fs. numbers (ends_with_one (nat_lt max_waiting (length fs)) x xs))
+      (ap (λ fs. x.frames ++ fs) a.0.idle ∙ append-nil x.frames)
+      ∙ by (nat_lt max_waiting (length x.frames)) (ends_slow xs a.1)
+    where
+      by_peer : (o : Option (List ℕ)) → AreOf (ends_of xs) (filter is_slow_link xs)
+          → AreOf (end_by x o ++ ends_of xs)
+          (cond (is_some o) (x ∷ filter is_slow_link xs) (filter is_slow_link xs))
+      by_peer None q = q
+      by_peer (Some n) q = ap (λ ns. x.number ∷ ns) q
+
+      by : (b : Bool) → AreOf (ends_of xs) (filter is_slow_link xs)
+          → AreOf (ends_with_one b x xs) (cond (b && is_some (up_peer x.state))
+          (x ∷ filter is_slow_link xs) (filter is_slow_link xs))
+      by false q = q
+      by true q = by_peer (up_peer x.state) q
+
+  module _ (kept : List KeptLink) (t : LinksFollow (link_words k) kept) where
+    pub slow_ends : slow_links k ≡ reverse (numbers (ends_of kept))
+    slow_ends = slow_are k played kept t ∙ ap reverse (sym (ends_slow kept t.each))
+
+    pub ends_climb : Climbs (numbers (ends_of kept))
+    ends_climb =
+        subst Climbs (ap reverse slow_ends ∙ reverse-reverse (numbers (ends_of kept)))
+        (falls_climbs (slow_links k)
+        (falls_left (is_slow k.opening k.entries) (links k.entries) (links_fall k played)))
+
+-- each is the end of a link that is up with that peer
+abbrev pub AreUp : History → List End → Type 0
+AreUp k ends = AllByRecursion (λ x. IsUpWith k x.number x.peer) ends
+
+pub ends_up : (k : History) (xs : List KeptLink) → AllByRecursion (IsLinkOf (link_words k)) xs
+    → AreUp k (ends_of xs)
+ends_up k [] a = tt
+ends_up k (x ∷ xs) a = by (is_overfull x) (ends_up k xs a.1)
+  where
+    by_peer : (o : Option (List ℕ)) → up_peer x.state ≡ o → AreUp k (ends_of xs)
+        → AreUp k (end_by x o ++ ends_of xs)
+    by_peer None q rest = rest
+    by_peer (Some n) q rest = (up_with k x.number x.state n a.0.state q, rest)
+
+    by : (b : Bool) → AreUp k (ends_of xs) → AreUp k (ends_with_one b x xs)
+    by false rest = rest
+    by true rest = by_peer (up_peer x.state) refl rest
+
+-- ---- their peers
+
+-- the process is of a peer whose link ends
+abbrev pub goes : Pid → List End → Bool
+goes p ends = list_any (λ x. same p.node x.peer) ends
+
+-- of no two of these ends
+abbrev pub GoesOnce : Pid → List End → Type 0
+GoesOnce p [] = Unit {0}
+GoesOnce p (x ∷ xs) = (same p.node x.peer ≡ true → goes p xs ≡ false) × GoesOnce p xs
+
+module _ (k : History) (played : IsPlayed k) (p : Pid) where
+  -- one peer has one link that is up
+  one_link : (j l : ℕ) (n m : List ℕ) → IsUpWith k j n → IsUpWith k l m
+      → same p.node n ≡ true → same p.node m ≡ true → j ≡ l
+  one_link j l n m a b q r =
+      let is_n = (same_decides p.node n).0 q in
+      let is_m = (same_decides p.node m).0 r in
+      let first = (agrees k.opening k.entries played n j).1 (a.up, a.peer) in
+      let second = (agrees k.opening k.entries played m l).1 (b.up, b.peer) in
+      some_is (sym first ∙ ap (λ x. present_link x k.entries) (sym is_n ∙ is_m) ∙ second)
+
+  no_other : (j : ℕ) (n : List ℕ) → IsUpWith k j n → same p.node n ≡ true
+      → (xs : List End) → list_all (λ l. nat_lt j l) (numbers xs) ≡ true → AreUp k xs
+      → goes p xs ≡ false
+  no_other j n up q [] less a = refl
+  no_other j n up q (x ∷ xs) less a =
+      grind (
+        arith,
+        one_link j x.number n x.peer up a.0 q,
+        no_other j n up q xs,
+        ltb-true j x.number,
+        a.1,
+      )
+
+  pub goes_once : (ends : List End) → Climbs (numbers ends) → AreUp k ends → GoesOnce p ends
+  goes_once [] c a = tt
+  goes_once (x ∷ xs) c a =
+      ((λ q. no_other x.number x.peer a.0 q xs c.0 a.1), goes_once xs c.1 a.1)
+
+  -- which is another node
+  pub goes_far : (ends : List End) → AreUp k ends → goes p ends ≡ true
+      → same p.node k.opening.name ≡ false
+  goes_far [] a q = lie (sym q)
+  goes_far (x ∷ xs) a q = by (same p.node x.peer) refl q (goes_far xs a.1)
+    where
+      by : (b : Bool) → same p.node x.peer ≡ b → (b || goes p xs) ≡ true
+          → (goes p xs ≡ true → same p.node k.opening.name ≡ false)
+          → same p.node k.opening.name ≡ false
+      by true m q others =
+          ap (λ n. same n k.opening.name) ((same_decides p.node x.peer).0 m) ∙ a.0.other
+      by false m q others = others q

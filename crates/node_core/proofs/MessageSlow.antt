@@ -1,0 +1,244 @@
+-- A Discover that ends its link: too many frames would wait for it.
+use Rattle.node_core.proofs.Words.{arith, ap, refl, subst, sym, ◌∙◌, Bool, List, None, Some, []}
+use Rattle.node_core.proofs.Words.{◌∷◌, ◌≡◌, ◌&&◌, ◌++◌, ◌+◌, ◌==◌, cond, false, true, not, ℕ}
+use Rattle.node_core.proofs.Words.{length}
+use Rattle.node_core.proofs.Words.{map, nat_lt, reverse, filter, set, get_or, and_both, and_parts}
+use Rattle.node_core.proofs.Words.{History, past, is_open, is_up, is_whole, named_by, is_last}
+use Rattle.node_core.proofs.Words.{said_on, heard, is_full}
+use Rattle.node_core.proofs.Words.{IsLegal, IsStep, IsNext, with_entry, just, lose, loss, audit_of}
+use Rattle.node_core.proofs.Words.{max_waiting}
+use Rattle.node_core.proofs.Words.{Entry, Accepted, Event, Reply, Message, Change, same, IsChange}
+use Rattle.node_core.proofs.Words.{entry_link, framed_numbers, Follows, Parts, IsAlone, IsSound}
+use Rattle.node_core.proofs.Words.{LinksFollow, link_words, KeptLink, Running, up_peer}
+use Rattle.node_core.proofs.Words.{without_number}
+use Rattle.node_core.proofs.Words.{AreCut, AreLost, OutFrame, and-true, is_some, get_or_default}
+use Rattle.node_core.proofs.Words.{with_frames, message_owes, first_broken, early_checks, is_number}
+use Rattle.node_core.proofs.Words.{link_place, scope_place, waiting, frame_owes, AwaitMessage}
+use Rattle.node_core.proofs.Words.{is_kept}
+use Rattle.node_core.proofs.Words.{no_value, le-ltb, lt-ltb, local_rows, wide, ◌≤◌, ◌<◌}
+use Rattle.std.proofs.lemmas.List.{length-append}
+use Rattle.group_monitors.specs.Follows.{FollowsPolicy}
+use Rattle.policy_audit.proofs.Onward.{message_taken_on}
+use Rattle.policy_audit.proofs.LinkFrames.{IsLinkNow, lost_links, message_links}
+use Rattle.policy_audit.proofs.LinksLeft.{lost_numbers}
+use Rattle.policy_audit.proofs.HeardNow.{lost_heard}
+use Rattle.policy_audit.proofs.HeardSaid.{discovered_heard}
+use Rattle.policy_audit.proofs.MessageRows.{discovered_rows}
+use Rattle.policy_audit.proofs.RowsAfter.{lost_rows}
+use Rattle.node_core.proofs.Entered.{made, sound_now}
+use Rattle.node_core.proofs.KeptOn.{place_is}
+use Rattle.node_core.proofs.Losing.{IsGone, RowsGone, IsUpWith, gone_change, gone_links}
+use Rattle.node_core.proofs.Losing.{gone_scopes}
+use Rattle.node_core.proofs.SlowLinks.{is_slow_link, slow_are, none_kept_slow, none_lost, one_slow}
+use Rattle.node_core.proofs.SlowLinks.{lost_opens, monitors_still}
+use Rattle.node_core.proofs.MessagePlaces.{IsUpHere, IsScopeHere, up_here, scope_here}
+use Rattle.node_core.proofs.MessageKept.{its_answered, its_verdict, owed_links}
+use Rattle.node_core.proofs.MessageScopes.{heard_there, discovered_next}
+
+module _ {h : History} {parts : Parts} (t : Follows h parts) (legal : IsLegal h) (seat l : ℕ)
+    (body : List ℕ) (space : is_full h ≡ false) (up : is_up l h.entries ≡ true)
+    {pl : ℕ} {x : KeptLink} (placed : link_place l parts.links ≡ Some pl)
+    (x_is : x ≡ get_or parts.links pl x)
+    (s : List ℕ) {p : ℕ} {r : Running} (at : scope_place s parts.scopes ≡ Some p)
+    (r_is : r ≡ get_or parts.scopes p r)
+    (says : said_on l h.entries body ≡ Some (Message.Discover s))
+    (early : first_broken (early_checks h l (Message.Discover s)) ≡ None) where
+  here : IsUpHere h l x
+  here = up_here t l up placed x_is
+
+  there : IsScopeHere h parts.scopes s p r
+  there = scope_here t s at r_is
+
+  abbrev e : List Change → Entry
+  e cs = made h seat (Event.Frame l body) (Accepted Reply.Done) cs
+
+  so : (cs : List Change) → IsStep h (e cs)
+  so = its_answered h seat l body (Message.Discover s) space up here.awaited says early
+
+  -- the link with all that would wait for it
+  abbrev full : KeptLink
+  full = with_frames x (message_owes h l (Message.Discover s))
+
+  full_links : (cs : List Change)
+      → LinksFollow (link_words (just h (e cs))) (set parts.links pl full)
+  full_links cs =
+      owed_links h seat l body (Message.Discover s) space up here.awaited says early cs parts.links
+      t.sound.played t.links pl x full placed here refl refl here.link.idle refl
+
+  full_alone : filter is_slow_link (set parts.links pl full)
+      ≡ cond (is_slow_link full) (full ∷ []) []
+  full_alone =
+      one_slow parts.links pl full (place_is parts.links l pl x placed).0
+      (none_kept_slow h legal t.sound.played parts.links t.links)
+
+  -- how many frames would wait
+  abbrev many_now : ℕ
+  many_now = length x.frames + cond (is_number l r.heard.items) 1 2
+
+  full_is : is_slow_link full ≡ nat_lt max_waiting many_now
+  full_is =
+      (λ i. nat_lt max_waiting (long i) && is_some (up_peer (here.is i)))
+      ∙ and-true (nat_lt max_waiting many_now)
+    where
+      two : (b : Bool) (f g : OutFrame) → length (f ∷ cond b [] (g ∷ [])) ≡ cond b 1 2
+      two true f g = refl
+      two false f g = refl
+
+      long : length (x.frames ++ message_owes h l (Message.Discover s)) ≡ many_now
+      long =
+          length-append x.frames (message_owes h l (Message.Discover s))
+          ∙ ap (λ n. length x.frames + n)
+          (two (heard l s h.entries) (wide (Message.Sync s (local_rows h s)))
+          (wide (Message.Discover s))
+          ∙ ap (λ b. cond b 1 2) (sym (heard_there h s r there.named there.running l)))
+
+  -- where they are few enough, the entry has no losses
+  pub few_enough : many_now ≤ max_waiting → with_entry h (e []) ≡ just h (e [])
+  few_enough few =
+      none_lost h (e []) (so [], t.sound.played) (set parts.links pl full) (full_links [])
+      (full_alone ∙ ap (λ b. cond b (full ∷ []) []) (full_is ∙ le-ltb max_waiting many_now few))
+
+  -- else the link is lost with it
+  module _ (many : max_waiting < many_now) (cs : List Change) where
+    abbrev k : History
+    k = just h (e cs)
+
+    abbrev after : History
+    after = past h.opening (loss l ∷ k.entries)
+
+    with_loss : with_entry h (e cs) ≡ after
+    with_loss =
+        ap (λ ls. past h.opening (lose ls k.entries))
+        (slow_are k (so cs, t.sound.played) (set parts.links pl full) (full_links cs)
+        ∙ ap (λ xs. reverse (map (λ x. x.number) xs))
+        (full_alone ∙ ap (λ b. cond b (full ∷ []) []) (full_is ∙ lt-ltb max_waiting many_now many))
+        ∙ ap (λ n. n ∷ []) here.number)
+
+    now_links : (j : ℕ)
+        → IsLinkNow k j (is_open j h.entries)
+        (cond (l == j) (waiting h j ++ frame_owes h j body AwaitMessage) (waiting h j))
+        (is_kept h j)
+    now_links j = message_links h (e cs) (so cs) refl l body refl here.awaited j
+
+    gone : IsGone h after l
+    gone = record {
+      name = refl;
+      same = λ j apart.
+          let it = entry_link h.entries (e cs) l j body refl apart in
+          record {
+            opened = it.opened;
+            taken = it.taken;
+            given = it.given;
+            peer = it.peer;
+            awaits = it.awaits;
+            whole = it.whole;
+            talk = it.talk;
+          };
+      opens = λ j.
+          (lost_links k (loss l) refl l refl j).open_is
+          ∙ ap (λ b. b && not (l == j)) (now_links j).open_is;
+      waits = λ j.
+          let it = lost_links k (loss l) refl l refl j in
+          grind (arith, it.waiting_is, (now_links j).waiting_is);
+      numbers =
+          lost_numbers k (loss l) refl l refl
+          ∙ ap (filter (λ j. not (l == j)))
+          (framed_numbers h (e cs) refl (so cs) l body refl (ap is_last here.awaited)
+          (ap (λ a. named_by a body) here.awaited));
+      running = refl;
+      heard = λ j u.
+          let was =
+          discovered_heard h t.sound.played (e cs) (so cs) refl l body refl here.awaited
+          j u s says in
+          let now = lost_heard k (loss l) refl l refl j u in
+          grind (arith, was.heard_is, was.told_is, now.heard_is, now.told_is);
+    }
+
+    still_open : is_open l k.entries ≡ true
+    still_open =
+        (now_links l).open_is ∙ (and_parts (is_open l h.entries) (is_whole l h.entries) up).0
+
+    still_up : IsUpWith k l here.far.peer
+    still_up =
+        let it = message_taken_on h (e cs) (so cs) refl l body refl here.awaited in
+        record {
+          up = and_both (is_open l k.entries) (is_whole l k.entries) still_open it.whole;
+          peer = it.peer ∙ here.introduced.peer.peer;
+          other = here.introduced.peer.other;
+        }
+
+    rows : RowsGone h after l gone (up_peer x.state)
+    rows =
+        let n = here.far.peer in
+        let of = here.introduced.peer in
+        subst (RowsGone h after l gone) (sym (ap up_peer here.is)) (λ u g q.
+        lost_rows k (so cs, t.sound.played) (loss l) (lost_opens k l still_open) refl l n refl
+        still_up.up still_up.peer still_up.other u g q
+        ∙ ap (cond (same q.node n) 0)
+        (discovered_rows h t.sound.played (e cs) (so cs) refl l body refl n here.awaited
+        of.peer of.other s says u g q))
+
+    alone : IsAlone h (e [])
+    alone = discovered_next t seat l body space up placed x_is s r at r_is says early
+
+    monitors : FollowsPolicy (audit_of after) parts.monitors
+    monitors =
+        monitors_still h seat (Event.Frame l body) (Accepted Reply.Done) cs parts.monitors
+        t.monitors refl
+
+    sound : IsSound after
+    sound =
+        let it = sound_now h (e []) t.sound alone in
+        record {
+          played = (lost_opens k l still_open, (so cs, t.sound.played));
+          fits = t.sound.fits;
+          few = it.few;
+          few_spawned = it.few_spawned;
+          links = t.sound.links;
+        }
+
+    lost_next : AreLost (up_peer x.state) parts.scopes cs → IsNext h (e cs)
+    lost_next lost = record {
+      room = alone.room;
+      number = refl;
+      verdict = its_verdict h seat l body (Message.Discover s) space up here.awaited says early cs;
+      change =
+          subst (λ k. IsChange h k cs) (sym with_loss)
+          (gone_change h after l gone (up_peer x.state) rows parts.scopes cs lost t.scopes);
+    }
+
+    lost_follows : (scopes : List Running) → AreCut l (up_peer x.state) parts.scopes scopes
+        → Follows after (record parts { scopes = scopes; links = without_number l parts.links })
+    lost_follows scopes cuts = record {
+      sound = sound;
+      admission = t.admission;
+      processes = t.processes;
+      scopes =
+          gone_scopes h after l gone (up_peer x.state)
+          (λ none. no_value (sym (ap up_peer here.is) ∙ none)) rows
+          parts.scopes scopes cuts t.scopes;
+      links = gone_links h after l gone parts.links t.links;
+      monitors = monitors;
+    }
+
+    -- seen again at its place
+    again : {y : KeptLink} → y ≡ get_or parts.links pl y → y ≡ x
+    again {y} is =
+        is ∙ get_or_default parts.links pl y x (place_is parts.links l pl x placed).0 ∙ sym x_is
+
+    pub fell_behind : {y z : KeptLink} → y ≡ get_or parts.links pl y → z ≡ get_or parts.links pl z
+        → AreLost (up_peer y.state) parts.scopes cs → {scopes : List Running}
+        → AreCut z.number (up_peer z.state) parts.scopes scopes
+        → IsNext h (e cs) × Follows (with_entry h (e cs))
+        (record parts { scopes = scopes; links = without_number l parts.links })
+    fell_behind y_is z_is lost {scopes} cuts = (
+      lost_next
+          (subst (λ (w : KeptLink). AreLost (up_peer w.state) parts.scopes cs) (again y_is) lost),
+      subst
+          (λ k. Follows k (record parts { scopes = scopes; links = without_number l parts.links }))
+          (sym with_loss)
+          (lost_follows scopes
+          (subst (λ n. AreCut n (up_peer x.state) parts.scopes scopes) here.number
+          (subst (λ (w : KeptLink). AreCut w.number (up_peer w.state) parts.scopes scopes)
+          (again z_is) cuts))),
+    )

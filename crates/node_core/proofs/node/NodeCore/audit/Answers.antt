@@ -1,0 +1,31 @@
+use Rattle.node_core.proofs.Words.{sym}
+use Rattle.policy_audit.proofs.Losses.{made_audited, made_legal}
+use Rattle.node_core.proofs.Entered.{seen}
+use Rattle.node_core.proofs.StepAnswers.{core_count, core_limit}
+use Rattle.node_core.proofs.node.NodeCore.audit.Goals as goal
+
+pub returns-clause-entries : goal.returns-clause-entries
+returns-clause-entries c =
+    rw (← c.self.view_is)
+    (sym (made_audited c.self.inside.kept.opening c.self.inside.audit.entries
+    c.self.invariant.legal))
+
+pub returns-clause-count : goal.returns-clause-count
+returns-clause-count c = sym (core_count c.self.invariant c.self.view_is)
+
+pub returns-clause-limit : goal.returns-clause-limit
+returns-clause-limit c = core_limit c.self.invariant c.self.view_is
+
+pub returns-clause-legal : goal.returns-clause-legal
+returns-clause-legal c =
+    rw (← c.self.view_is)
+    (made_legal c.self.inside.kept.opening c.self.inside.audit.entries c.self.invariant.legal)
+
+pub returns-clause-few : goal.returns-clause-few
+returns-clause-few c = (seen c.self.view_is c.self.invariant.follows).sound.few
+
+pub returns-clause-fits : goal.returns-clause-fits
+returns-clause-fits c = (seen c.self.view_is c.self.invariant.follows).sound.fits
+
+pub returns-clause-links : goal.returns-clause-links
+returns-clause-links c = (seen c.self.view_is c.self.invariant.follows).sound.links
