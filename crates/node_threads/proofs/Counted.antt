@@ -1,24 +1,64 @@
 -- Counts beside an audit that gains an entry.
 use Rattle.std.proofs.Common.{◌≡◌, ◌==◌, ℕ, zero, suc, ◌+◌, ◌<◌, ◌≤◌, Bool, true, false, cond, List}
 use Rattle.std.proofs.Common.{[], ◌∷◌, length, replicate, slice_index, refl, sym, ap, subst, ◌∙◌}
-use Rattle.std.proofs.Common.{inl, inr, arith}
+use Rattle.std.proofs.Common.{get_or, slice_set, inl, inr, arith}
 use Rattle.std.specs.List.{filter, AllByRecursion}
 use Rattle.std.proofs.lemmas.Grind.{get_or-set_at}
-use Rattle.std.proofs.lemmas.List.{get_or-set_other, length-set}
+use Rattle.std.proofs.lemmas.List.{get_or_default, get_or-set_other, length-set}
 use Rattle.std.proofs.lemmas.List.Sums.{length-filter, count_by-le-length}
 use Rattle.std.proofs.lemmas.Bool.Decides.{eqb_tells}
 use Rattle.policy_audit.specs.declared.entry.Entry.{Entry}
 use Rattle.policy_audit.specs.declared.event.Event.{Event}
-use Rattle.policy_audit.specs.History.{History}
-use Rattle.policy_audit.specs.Policy.{is_full, after, with_entry, entry_of}
+use Rattle.policy_audit.specs.History.{History, past, just, lose, audited, entered}
+use Rattle.policy_audit.specs.History.{is_accepted, is_entered}
+use Rattle.policy_audit.specs.Owed.{slow_links, with_entry}
+use Rattle.policy_audit.specs.Policy.{is_full, next_number, after, entry_of, IsLegal}
 use Rattle.node_threads.specs.Calls.{of, entries_of}
-use Rattle.node_threads.specs.Room.{AreCounted, one_more}
+use Rattle.node_threads.specs.Room.{Room, AreCounted, IsSound, one_more}
+use Rattle.node_threads.specs.Applied.{room_after}
 
--- the history after an event has its entry, unless the audit was full
-pub after_entries : (h new : History) (seat : ℕ) (e : Event) → is_full h ≡ false
-    → new ≡ after h seat e → new.entries ≡ entry_of h seat e ∷ h.entries
-after_entries h new seat e free is = ap (λ (x : History). x.entries) is
-    ∙ ap (λ (b : Bool). (cond b h (with_entry h (entry_of h seat e))).entries) free
+-- what comes with an entry is none of the audit
+audited_lose : (ls : List ℕ) (es : List Entry) → audited (lose ls es) ≡ audited es
+audited_lose [] es = refl
+audited_lose (l ∷ ls) es = audited_lose ls es
+
+-- so the audit has the entry alone more
+audited_with : (h : History) (e : Entry) → is_entered e ≡ true
+    → audited (with_entry h e).entries ≡ e ∷ audited h.entries
+audited_with h e numbered = by (is_accepted e.verdict)
+  where
+    own : audited (e ∷ h.entries) ≡ e ∷ audited h.entries
+    own = ap (λ (b : Bool). cond b (e ∷ audited h.entries) (audited h.entries)) numbered
+
+    by : (b : Bool)
+        → audited (cond b (past h.opening (lose (slow_links (just h e)) (e ∷ h.entries)))
+        (just h e)).entries ≡ e ∷ audited h.entries
+    by true = audited_lose (slow_links (just h e)) (e ∷ h.entries) ∙ own
+    by false = own
+
+-- the audit after an event has its entry, unless it was full
+pub audited_after : (h new : History) (seat : ℕ) (e : Event) → is_full h ≡ false
+    → new ≡ after h seat e → audited new.entries ≡ entry_of h seat e ∷ audited h.entries
+audited_after h new seat e free is = ap (λ (x : History). audited x.entries) is
+    ∙ ap (λ (b : Bool). audited (cond b h (with_entry h (entry_of h seat e))).entries) free
+    ∙ audited_with h (entry_of h seat e) (grind arith)
+
+longer : (b : Bool) (e : Entry) (es : List Entry) (n : ℕ) → length es ≡ n
+    → length (cond b (e ∷ es) es) ≡ cond b (suc n) n
+longer true e es n is = omega (arith, is)
+longer false e es n is = is
+
+-- the length of the audit
+pub audited_length : (es : List Entry) → length (audited es) ≡ entered es
+audited_length [] = refl
+audited_length (e ∷ es) = longer (is_entered e) e (audited es) (entered es) (audited_length es)
+
+-- and the number of the entry that came last
+pub number_after : (h new : History) (seat : ℕ) (e : Event) → is_full h ≡ false
+    → new ≡ after h seat e → entered new.entries ≡ next_number h
+number_after h new seat e free is =
+    let more = ap (λ (es : List Entry). length es) (audited_after h new seat e free is) in
+    omega (arith, more, audited_length new.entries, audited_length h.entries)
 
 -- a seat has no more entries than there are
 pub entries_of_le : (seat : ℕ) (es : List Entry) → entries_of seat es ≤ length es
@@ -69,3 +109,32 @@ zero_at (suc n) (suc seat) = zero_at n seat
 -- no entries are counted by zeros
 pub AreCounted_none : (n : ℕ) → AreCounted (replicate n 0) []
 AreCounted_none n = record { seated = tt; each = λ seat below. zero_at n seat }
+
+-- ---- a room after an event
+
+abbrev pub room : History → List ℕ → Room
+room h counts = record { history = h; counts = counts }
+
+module _ (h new : History) (counts : List ℕ) (seat v : ℕ) (e : Event) (free : is_full h ≡ false)
+    (is : new ≡ after h seat e) (within : seat < length counts)
+    (value : v ≡ get_or counts seat v) where
+  moved : slice_set counts seat (v + 1) ≡ one_more seat counts
+  moved = ap (λ (n : ℕ). slice_set counts seat (n + 1))
+      (value ∙ sym (get_or_default counts seat 0 v within))
+
+  pub room_moved : room new (slice_set counts seat (v + 1)) ≡ room_after (room h counts) seat e
+  room_moved = rw (moved, is, free) refl
+
+  pub sound_moved : IsLegal new → IsSound (room h counts)
+      → IsSound (room new (slice_set counts seat (v + 1)))
+  sound_moved legal sound =
+      let same = length-set counts seat (slice_index counts seat + 1) in
+      subst (λ (ns : List ℕ). IsSound (room new ns)) (sym moved) (record {
+        legal = legal;
+        counted = subst (AreCounted (one_more seat counts))
+            (sym (audited_after h new seat e free is))
+            (AreCounted_entered counts (audited h.entries) (entry_of h seat e) within
+            sound.counted);
+        some = omega (arith, same, sound.some);
+        few = omega (arith, same, sound.few);
+      })

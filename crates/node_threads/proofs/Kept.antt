@@ -1,9 +1,17 @@
 -- A call that is kept in a pass, and what is told of it.
-use Rattle.std.proofs.Common.{◌≡◌, ◌-◌, List, [], ◌∷◌, ◌++◌, length, Some, refl, ap, ◌∙◌, arith}
-use Rattle.std.proofs.Common.{length-append}
+use Rattle.std.proofs.Common.{◌≡◌, ◌-◌, List, [], ◌∷◌, ◌++◌, length, Some, refl, ap, ◌∙◌, arith, ℕ}
+use Rattle.std.proofs.Common.{length-append, false, Option, Result, Ok, Err, OnOk, IfErr, IfSome}
 use Rattle.std.specs.Prelude.{slice_get}
 use Rattle.node_threads.specs.declared.pass.Call.{Call}
-use Rattle.node_threads.specs.Calls.{reply_in, reply_of, last_reply}
+use Rattle.policy_audit.specs.declared.event.Event.{Event}
+use Rattle.policy_audit.specs.declared.reply.Reply.{Reply}
+use Rattle.policy_audit.specs.declared.entry.Verdict.{Verdict}
+use Rattle.policy_audit.specs.declared.entry.Verdict.TheVariants.{Accepted, Refused}
+use Rattle.policy_audit.specs.Policy.{verdict, is_full, next_number}
+use Rattle.node_threads.specs.declared.fault.CallFault.{CallFault}
+use Rattle.node_threads.specs.Room.{Room}
+use Rattle.node_threads.specs.Applied.{Fits, IsAnswered, Applied, IsKept, room_after}
+use Rattle.node_threads.specs.Calls.{Record, reply_in, reply_of, last_reply}
 
 slice_get_push : (xs : List Call) (x : Call) → slice_get (xs ++ x ∷ []) (length xs) ≡ Some x
 slice_get_push [] x = refl
@@ -17,3 +25,35 @@ last_reply_push calls call =
     omega (arith, length-append calls (call ∷ [])) in
     ap (λ k. reply_of (slice_get (calls ++ call ∷ []) k)) last
     ∙ ap reply_of (slice_get_push calls call)
+
+-- the call of an event that a seat was answered is kept
+pub answered : (room room' : Room) (p : Record) (e : Event) (n : ℕ) (v : Verdict)
+    (calls : List Call) → Fits room p → is_full room.history ≡ false
+    → n ≡ next_number room.history → v ≡ verdict room.history p.seat e
+    → room' ≡ room_after room p.seat e
+    → calls ≡ p.calls ++ record { number = n; event = e; verdict = v } ∷ []
+    → IsAnswered room p e v room' (record { seat = p.seat; calls = calls })
+answered room room' p e n v calls fits free number policy room_is kept = record {
+  fits = fits;
+  policy = policy;
+  room_is = room_is;
+  pass_is = rw (free, kept, number) refl;
+}
+
+-- what is told of it
+module _ (room room' : Room) (p p' : Record) (e : Event) (told : Result (Unit {0}) CallFault) where
+  ok_by : (v : Verdict) (last : Option Reply) → last ≡ reply_in v → IsKept v told
+      → IsAnswered room p e v room' p'
+      → OnOk told (IfSome last (λ reply. Applied room p e (Ok reply) room' p'))
+  ok_by (Accepted reply) last q t is = rw (t, q) is
+  ok_by (Refused rule) last q t is = rw t tt
+
+  pub told_ok : (v : Verdict) → last_reply p'.calls ≡ reply_in v → IsKept v told
+      → IsAnswered room p e v room' p'
+      → OnOk told (IfSome (last_reply p'.calls) (λ reply. Applied room p e (Ok reply) room' p'))
+  told_ok v q t is = ok_by v (last_reply p'.calls) q t is
+
+  pub told_refusal : (v : Verdict) → IsKept v told → IsAnswered room p e v room' p'
+      → IfErr told (λ fault. Applied room p e (Err fault) room' p')
+  told_refusal (Accepted reply) t is = rw t tt
+  told_refusal (Refused rule) t is = rw t is

@@ -5,7 +5,7 @@ use Rattle.policy_audit.specs.declared.event.Event.{Event}
 use Rattle.policy_audit.specs.declared.reply.Reply.{Reply}
 use Rattle.policy_audit.specs.declared.entry.Verdict.{Verdict}
 use Rattle.policy_audit.specs.declared.entry.Verdict.TheVariants as verdicts
-use Rattle.policy_audit.specs.History.{History}
+use Rattle.policy_audit.specs.History.{History, audited}
 use Rattle.policy_audit.specs.Policy.{verdict, is_full, next_number, after}
 use Rattle.node_core.specs.declared.fault.CoreFault.TheVariants.{Refused, OutOfMemory}
 use Rattle.node_threads.specs.declared.fault.CallFault.{CallFault}
@@ -13,10 +13,11 @@ use Rattle.node_threads.specs.declared.fault.CallFault.TheVariants.{StrangePass,
 use Rattle.node_threads.specs.Calls.{Record, entries_of}
 use Rattle.node_threads.specs.Room.{Room, IsSound, one_more}
 
--- the seat of the pass is one of the room's, and has as many entries as the pass has calls
+-- the seat of the pass is one of the room's, and has as many entries in the audit as the pass has
+-- calls
 pub record Fits (room : Room) (pass : Record) : Type 0 where
   pub seat : pass.seat < length room.counts
-  pub calls : length pass.calls ≡ entries_of pass.seat room.history.entries
+  pub calls : length pass.calls ≡ entries_of pass.seat (audited room.history.entries)
 
 -- the pass with one more call
 abbrev pub with_call : Record → ℕ → Event → Verdict → Record

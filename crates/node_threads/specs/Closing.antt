@@ -3,7 +3,7 @@ use Rattle.std.specs.Prelude.{◌≡◌, ◌==◌, ℕ, ◌<◌, ◌≤◌, List
 use Rattle.std.specs.Borrow.{Bor}
 use Rattle.std.specs.List.{filter, All}
 use Rattle.policy_audit.specs.declared.entry.Entry.{Entry}
-use Rattle.policy_audit.specs.History.{History}
+use Rattle.policy_audit.specs.History.{History, audited}
 use Rattle.node_threads.specs.declared.pass.Call.{Call}
 use Rattle.node_threads.specs.declared.close.CloseRule.{CloseRule}
 use Rattle.node_threads.specs.declared.close.CloseRule.TheVariants.{MissingPass, DoublePass, Mismatch}
@@ -35,9 +35,9 @@ pub record IsOwn (seats : ℕ) (es : List Entry) (p : Record) : Type 0 where
   pub seat : p.seat < seats
   pub calls : p.calls ≡ calls_of p.seat es
 
--- each pass is such a one
+-- each pass is such a one, of the entries of the audit
 abbrev pub AreOwn : Room → List Record → Type 0
-AreOwn room ps = All (IsOwn (length room.counts) room.history.entries) ps
+AreOwn room ps = All (IsOwn (length room.counts) (audited room.history.entries)) ps
 
 -- one pass for each seat, and each pass is its seat's entries
 pub record IsSettled (room : Room) (ps : List Record) : Type 0 where

@@ -2,7 +2,7 @@
 use Rattle.std.specs.Prelude.{◌≡◌, ℕ, ◌+◌, ◌<◌, ◌≤◌, List, length, slice_index, slice_set}
 use Rattle.std.specs.List.{AllByRecursion}
 use Rattle.policy_audit.specs.declared.entry.Entry.{Entry}
-use Rattle.policy_audit.specs.History.{History}
+use Rattle.policy_audit.specs.History.{History, audited}
 use Rattle.policy_audit.specs.Policy.{IsLegal}
 use Rattle.node_threads.specs.Calls.{entries_of}
 
@@ -16,10 +16,11 @@ pub record AreCounted (counts : List ℕ) (es : List Entry) : Type 0 where
   pub seated : AllByRecursion (λ e. e.seat < length counts) es
   pub each : (seat : ℕ) → seat < length counts → slice_index counts seat ≡ entries_of seat es
 
--- the history is one that the policy makes, and its entries are counted, of 1 to 256 seats
+-- the history is one that the policy makes, and the entries of its audit are counted,
+-- of 1 to 256 seats
 pub record IsSound (room : Room) : Type 0 where
   pub legal : IsLegal room.history
-  pub counted : AreCounted room.counts room.history.entries
+  pub counted : AreCounted room.counts (audited room.history.entries)
   pub some : 0 < length room.counts
   pub few : length room.counts ≤ 256
 

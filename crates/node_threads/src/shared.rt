@@ -186,7 +186,7 @@ impl Shared {
         ensures { self.new ≡ self.old }
     {
         if let Some(entry) = self.core.audit().get(number)
-            && is_news(entry)
+            && is_news(&self.core, entry)
         {
             self.last_news = number;
         }
@@ -282,8 +282,9 @@ impl Shared {
     }
 }
 
-/// Whether the entry is news to who watches the node: it changed rows, or a peer may have come or gone with it.
-fn is_news(entry: &Entry) -> bool {
+/// Whether the last entry is news to who watches the node:
+/// it changed rows, or a peer may have come or gone with it.
+fn is_news(core: &NodeCore, entry: &Entry) -> bool {
     if entry.has_changes() {
         return true;
     }
@@ -291,8 +292,10 @@ fn is_news(entry: &Entry) -> bool {
         return false;
     };
     match &entry.event {
-        Event::Frame(..) => matches!(reply, Reply::Up { .. }),
+        Event::Frame(link, _) => matches!(reply, Reply::Up { .. }) || core.waiting(*link).is_none(),
         Event::Lost(_) | Event::Disconnect(_) | Event::Restart => true,
+        // Too many frames may wait for a link then.
+        Event::StartScope(_) | Event::StopScope(_) => true,
         _ => false,
     }
 }

@@ -1,7 +1,8 @@
 -- The text that a script is answered.
-use Rattle.std.specs.Prelude.{ℕ, ◌+◌, Bool, false, cond, List, [], ◌∷◌, ◌++◌, length, Option, Some, None, is_none, not, ◌&&◌}
+use Rattle.std.specs.Prelude.{ℕ, ◌+◌, Bool, false, cond, List, [], ◌∷◌, ◌++◌, Option, Some, None}
+use Rattle.std.specs.Prelude.{is_none, not, ◌&&◌}
 use Rattle.policy_audit.specs.declared.opening.Opening.{Opening}
-use Rattle.policy_audit.specs.History.{History}
+use Rattle.policy_audit.specs.History.{History, audited, entered}
 use Rattle.policy_audit.specs.Policy.{verdict, after, is_full}
 use Rattle.policy_audit.specs.Log.{entry_at}
 use Rattle.pg_text.specs.declared.command.Command.{Command}
@@ -19,8 +20,8 @@ finds_none lacks h = lacks && not (is_full h)
 abbrev pub answer_to : Bool → Playing → Command → List ℕ
 answer_to lacks p (command.Step event) = cond (finds_none lacks p.history) memory_line (verdict_line (verdict p.history p.seat event))
 answer_to lacks p (command.Seat seat) = seat_line
-answer_to lacks p command.Size = size_line (length p.history.entries)
-answer_to lacks p (command.Audit number) = entry_line (entry_at number p.history.entries)
+answer_to lacks p command.Size = size_line (entered p.history.entries)
+answer_to lacks p (command.Audit number) = entry_line (entry_at number (audited p.history.entries))
 
 -- what a command leaves. A step where memory lacks leaves all as it was.
 abbrev pub left_by : Bool → Playing → Command → Playing

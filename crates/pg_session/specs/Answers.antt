@@ -1,7 +1,8 @@
 -- What the lines of a connection are answered.
-use Rattle.std.specs.Prelude.{◌≡◌, ◌⊎◌, ℕ, true, false, List, ◌++◌, codes, length, Option, Some, None, Result}
+use Rattle.std.specs.Prelude.{◌≡◌, ◌⊎◌, ℕ, true, false, List, ◌++◌, codes, Option, Some, None}
+use Rattle.std.specs.Prelude.{Result}
 use Rattle.policy_audit.specs.declared.reply.Reply.{Reply}
-use Rattle.policy_audit.specs.History.{History}
+use Rattle.policy_audit.specs.History.{History, audited, entered}
 use Rattle.policy_audit.specs.Log.{entry_at}
 use Rattle.node_core.specs.declared.fault.CoreFault.{CoreFault}
 use Rattle.node_core.specs.Reading.{IsAnswer, up_names}
@@ -25,12 +26,13 @@ nodes_line names = codes "nodes" ++ spaced (λ n. n) names ++ codes "\n"
 -- a request for which the node is only read: its line, as this history has it
 abbrev pub Reads : Request → History → List ℕ → Type 0
 Reads (request.Query e) h line = (answer : Result Reply CoreFault) × IsAnswer h e answer × (line ≡ step_line answer)
-Reads request.Size h line = line ≡ size_line (length h.entries)
-Reads (request.Audit k) h line = line ≡ entry_line (entry_at k h.entries)
+Reads request.Size h line = line ≡ size_line (entered h.entries)
+Reads (request.Audit k) h line = line ≡ entry_line (entry_at k (audited h.entries))
 Reads request.Nodes h line = line ≡ nodes_line (up_names h)
 Reads r h line = Unit {0}
 
--- the line as a node has it whose history has as many entries of the seat as this pass has calls; where the node doesn't know the pass, as for a call with it
+-- the line as a node has it whose audit has as many entries of the seat as this pass has calls;
+-- where the node doesn't know the pass, as for a call with it
 abbrev pub IsRead : Request → Record → List ℕ → Type 0
 IsRead r pass line = ((room : Room) × IsSound room × Fits room pass × Reads r room.history line) ⊎ ((room : Room) × (Fits room pass → ⊥) × (line ≡ stranger_line))
 

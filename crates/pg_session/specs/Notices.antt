@@ -1,5 +1,5 @@
 -- What a connection is told unasked.
-use Rattle.std.specs.Prelude.{◌≡◌, ℕ, Bool, true, false, List, [], ◌∷◌, ◌++◌, Option, Some, None, map, codes, decimal, if◌then◌else◌, Result, Ok, Err}
+use Rattle.std.specs.Prelude.{◌≡◌, ℕ, Bool, true, false, List, [], ◌∷◌, ◌++◌, Option, Some, None, map, not, codes, decimal, if◌then◌else◌, Result, Ok, Err}
 use Rattle.std.specs.List.{All, filter, flat_map, list_any}
 use Rattle.dist_types.specs.Listing.{same}
 use Rattle.policy_audit.specs.declared.event.Event.{Event}
@@ -9,6 +9,8 @@ use Rattle.policy_audit.specs.declared.reply.Reply.TheVariants as reply
 use Rattle.policy_audit.specs.declared.reply.Update.{Update}
 use Rattle.policy_audit.specs.declared.entry.Verdict.{Verdict}
 use Rattle.policy_audit.specs.declared.entry.Verdict.TheVariants.{Accepted}
+use Rattle.policy_audit.specs.History.{History}
+use Rattle.policy_audit.specs.Links.{is_up}
 use Rattle.node_threads.specs.declared.fault.CallFault.{CallFault}
 use Rattle.node_threads.specs.declared.pass.Call.{Call}
 use Rattle.node_threads.specs.Calls.{Record, Gains}
@@ -76,6 +78,10 @@ pub record Known : Type 0 where
 
 abbrev pub is_named : List ℕ → Peer → Bool
 is_named n p = same p.name n
+
+-- its link isn't up any more
+abbrev pub has_gone : History → Peer → Bool
+has_gone h p = not (is_up p.link h.entries)
 
 -- what a notice makes of that: a peer comes up that wasn't, one goes that was, and a new life is told once nobody is up
 abbrev pub Becomes : Known → Notice → Known → Type 0

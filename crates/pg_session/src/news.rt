@@ -2,7 +2,7 @@
 ghost use Rattle.std.specs.Prelude.{◌≡◌, ◌<◌, [], None, Some, false, length, position, OnOk, OnErr};
 ghost use Rattle.std.specs.List.{list_any};
 ghost use Rattle.policy_audit.specs.History.{creation};
-ghost use Rattle.pg_session.specs.Notices.{Known, TellsNews, is_named};
+ghost use Rattle.pg_session.specs.Notices.{Known, TellsNews, is_named, has_gone};
 
 use crate::notice::{DownReason, Peer, put_all_down, put_down, put_life, put_up};
 use dist_types::{NodeName, OutOfMemory, TryClone};
@@ -127,7 +127,8 @@ impl News {
         core.audit().after(self.seen.entries)
     }
 
-    /// Adds which peers came and went in the unseen entries, which are seen then.
+    /// Adds which peers came and went with the unseen entries, which are seen then. Whoever it
+    /// takes for up then is up.
     pub fn put_peers<E: LostLinks>(
         &mut self,
         alloc: Global,
@@ -135,11 +136,45 @@ impl News {
         lost: &E,
         out: &mut Vec<u8>,
     ) -> Result<(), OutOfMemory>
-        ensures { OnOk result (TellsNews self.old out.old.items self.new out.new.items) }
+        ensures told { OnOk result (TellsNews self.old out.old.items self.new out.new.items) }
+        ensures up { OnOk result (list_any (has_gone core.now) self.new.peers ≡ false) }
     {
-        self.put_entries(alloc, core, lost, out)?;
+        self.put_unseen(alloc, core, lost, out)?;
         self.seen = Seen::of(core);
         Ok(())
+    }
+
+    fn put_unseen<E: LostLinks>(
+        &mut self,
+        alloc: Global,
+        core: &NodeCore,
+        lost: &E,
+        out: &mut Vec<u8>,
+    ) -> Result<(), OutOfMemory>
+        ensures told { OnOk result (TellsNews self.old out.old.items self.new out.new.items) }
+        ensures up { OnOk result (list_any (has_gone core.now) self.new.peers ≡ false) }
+    {
+        self.put_entries(alloc, core, lost, out)?;
+        self.put_ended(core, out)
+    }
+
+    /// Adds which peers are gone with an entry that isn't about them: too many frames waited for
+    /// their links.
+    fn put_ended(&mut self, core: &NodeCore, out: &mut Vec<u8>) -> Result<(), OutOfMemory>
+        ensures told { OnOk result (TellsNews self.old out.old.items self.new out.new.items) }
+        ensures up { OnOk result (list_any (has_gone core.now) self.new.peers ≡ false) }
+    {
+        while let Some(place) = self.place_of_ended(core) {
+            self.put_gone(place, DownReason::Slow, out)?;
+        }
+        Ok(())
+    }
+
+    /// A peer whose link isn't up any more.
+    fn place_of_ended(&self, core: &NodeCore) -> Option<usize>
+        ensures { result ≡ position (has_gone core.now) self.now.peers }
+    {
+        self.peers.iter().position(|peer| !core.is_up(peer.link))
     }
 
     fn put_entries<E: LostLinks>(
@@ -157,7 +192,7 @@ impl News {
         Ok(())
     }
 
-    /// Adds which peer came or went with an entry. The link of a peer that is up ends with no others than these.
+    /// Adds which peer came or went with an entry that is about it.
     fn put_entry<E: LostLinks>(
         &mut self,
         alloc: Global,

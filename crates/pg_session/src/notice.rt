@@ -14,7 +14,7 @@ pub enum DownReason {
     Closed,
     /// Nothing came for the tick time.
     Silent,
-    /// A write stood still for so long.
+    /// A write stood still for so long, or too many frames waited.
     Slow,
     /// A newer link of that name took its place.
     Replaced,

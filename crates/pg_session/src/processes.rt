@@ -38,6 +38,10 @@ impl Processes {
         }
     }
 
+    pub fn is_empty(&self) -> bool {
+        self.live.is_empty()
+    }
+
     /// Whether all of these are among them.
     pub fn has_all(&self, pids: &[Pid]) -> bool
         ensures { result ≡ list_all (has self.now) pids.now }

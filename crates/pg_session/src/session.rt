@@ -94,6 +94,11 @@ impl Session {
         self.is_open
     }
 
+    /// Whether the connection has processes that live.
+    pub fn has_processes(&self) -> bool {
+        !self.processes.is_empty()
+    }
+
     /// How many calls the seat has made that are entries.
     pub fn calls(&self) -> usize
         ensures { result ≡ length self.now.pass.calls }

@@ -2,11 +2,11 @@
 -- refused.
 use Rattle.pg_world.proofs
 use proofs.Words.{Accepted, ap, asks_opened, bodies, ByPeer, came_of, Carries, changed, Entry, Err}
-use proofs.Words.{gets_of, handed_of, HasEnd, History, is_accepted, IsEnd, IsLegal, IsNext, IsWired}
-use proofs.Words.{IsWorld, IsWritten, link_opened, List, no_value, Nodes, None, Ok, opener}
-use proofs.Words.{opening_of, Option, refl, Refused, Result, Side, slice_get, Some, start_of, subst}
-use proofs.Words.{sym, true, turn_of, Verdict, Wire, wire_opener, with_entry, with_link, world}
-use proofs.Words.{WorldFault, ℕ, ◌++◌, ◌∙◌, ◌∷◌, ◌≡◌}
+use proofs.Words.{gets_of, handed_of, HasEnd, History, is_accepted, IsEnd, IsNext, IsPlayed}
+use proofs.Words.{IsStep, IsWired, IsWorld, IsWritten, just, link_opened, List, next_step}
+use proofs.Words.{no_value, Nodes, None, Ok, opener, opening_of, Option, refl, Refused, Result}
+use proofs.Words.{Side, slice_get, Some, start_of, subst, sym, true, turn_of, Verdict, Wire}
+use proofs.Words.{wire_opener, with_link, world, WorldFault, ℕ, ◌++◌, ◌∙◌, ◌∷◌, ◌≡◌}
 use proofs.Calling.{IsApart, apart_kept, refused_none}
 use proofs.Entering.{stays_wired}
 use proofs.Next.{says, Keeps}
@@ -33,7 +33,10 @@ module _ (w : Nodes) (sound : IsWorld w) (n seat c : ℕ) (written : IsWritten (
     its_written : IsWritten e.event
     its_written = subst IsWritten (sym is) written
 
-    legal : IsLegal h
+    its_step : IsStep h e
+    its_step = next_step h e next
+
+    legal : IsPlayed h
     legal = (sound.nodes x.to h here).legal
 
     abbrev now : List History
@@ -46,9 +49,9 @@ module _ (w : Nodes) (sound : IsWorld w) (n seat c : ℕ) (written : IsWritten (
 
     joined_wired : is_accepted e.verdict ≡ true → IsWired now (joins x)
     joined_wired accepts =
-        let a = stays_wired w.nodes x.to h e here next.number legal x x (same_ends x)
+        let a = stays_wired w.nodes x.to h e here its_step legal x x (same_ends x)
         (sound.wired n x stands) in
-        let its : a.acceptor ≡ with_entry h e =
+        let its : a.acceptor ≡ just h e =
         value_of (sym a.to_stands ∙ now_here w sound x.to h e here next its_written apart) in
         record {
           dialler = a.dialler;
@@ -143,7 +146,7 @@ module _ (w : Nodes) (sound : IsWorld w) (n seat c : ℕ) (written : IsWritten (
             by : IsFound w.wires n joins m y → IsWired now y
             by (Changed v number its made) = subst (IsWired now) (it_is v y its made)
                 (joined_wired accepts)
-            by (Kept other its) = stays_wired w.nodes x.to h e here next.number legal y y
+            by (Kept other its) = stays_wired w.nodes x.to h e here its_step legal y y
                 (same_ends y) (sound.wired m y its)
 
         carried : (m : ℕ) (y : Wire) → slice_get wires m ≡ Some y → (to : Side) → Carries now y to

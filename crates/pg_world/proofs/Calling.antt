@@ -2,11 +2,11 @@
 use Rattle.pg_world.proofs
 use proofs.Words.{ap, Asks, asks, Bool, came, cond, Entry, Event, false, handed, History}
 use proofs.Words.{is_accepted, is_opened_by, is_some, is_wrong, IsLate, IsNext, IsWorld, IsWritten}
-use proofs.Words.{lie, List, Nodes, None, Option, refl, Refuses, slice_get, slice_set, Some}
-use proofs.Words.{start_of, subst, sym, true, Turn, turn_of, Verdict, with_entry, world, WorldStep}
-use proofs.Words.{ℕ, [], ◌&&◌, ◌==◌, ◌∙◌, ◌≡◌}
+use proofs.Words.{just, lie, List, Nodes, None, Option, refl, Refuses, slice_get, slice_set, Some}
+use proofs.Words.{start_of, subst, sym, true, Turn, turn_of, Verdict, world, WorldStep, ℕ, []}
+use proofs.Words.{◌&&◌, ◌==◌, ◌∙◌, ◌≡◌}
 use proofs.Next.{KeptBy, Keeps}
-use proofs.Steady.{quiet}
+use proofs.Steady.{made_of, quiet}
 use Rattle.policy_audit.specs.declared.event.Event.TheVariants as event
 use Rattle.pg_world.specs.declared.world_step.WorldStep.TheVariants as step
 use Rattle.pg_world.specs.declared.fault.WorldFault.TheVariants as fault
@@ -46,9 +46,10 @@ no_start e right = refl
 pub apart_kept : (w : Nodes) → IsWorld w → (i : ℕ) (h : History) (x : Entry)
     → slice_get w.nodes i ≡ Some h → IsNext h x → IsWritten x.event → IsApart x.event
     → ((l : ℕ) → is_opened_by l x ≡ false)
-    → IsWorld (world (slice_set w.nodes i (with_entry h x)) w.wires)
-apart_kept w sound i h x here next written apart opens = quiet w sound i h x here next written
-    (apart.late h.entries) opens apart.none_in (λ l. apart.none_out l x.verdict)
+    → IsWorld (world (slice_set w.nodes i (just h x)) w.wires)
+apart_kept w sound i h x here next written apart opens =
+    quiet w sound i h x here (made_of h x next) written (apart.late h.entries) opens apart.none_in
+    (λ l. apart.none_out l x.verdict)
 
 module _ (w : Nodes) (sound : IsWorld w) (i seat : ℕ) where
   -- the node answers, if it is there

@@ -2,10 +2,10 @@
 use Rattle.pg_world.proofs
 use proofs.Words.{Accepted, ap, Asks, bodies, Bool, cond, cut_by, ends, Entry, eq-eqb, false}
 use proofs.Words.{gets_of, History, is_accepted, is_empty, is_full, is_gone, is_kept, is_open}
-use proofs.Words.{is_opened_by, is_some, IsLegal, IsNext, IsWorld, IsWritten, judged, lie, link_at}
-use proofs.Words.{node_at, Nodes, None, not, Option, other, refl, Refused, Rule, Side, slice_get}
-use proofs.Words.{Some, start_of, subst, sym, true, turn_of, under_way, Verdict, verdict, waiting}
-use proofs.Words.{Wire, wires_after, with_entry, ℕ, [], ◌&&◌, ◌++◌, ◌||◌, ◌∙◌, ◌∷◌, ◌≡◌}
+use proofs.Words.{is_opened_by, is_some, IsNext, IsPlayed, IsWorld, IsWritten, judged, just, lie}
+use proofs.Words.{link_at, node_at, Nodes, None, not, Option, other, refl, Refused, Rule, Side}
+use proofs.Words.{slice_get, Some, start_of, subst, sym, true, turn_of, under_way, Verdict}
+use proofs.Words.{verdict, waiting, Wire, wires_after, ℕ, [], ◌&&◌, ◌++◌, ◌||◌, ◌∙◌, ◌∷◌, ◌≡◌}
 use proofs.Calling.{IsApart, starts_none}
 use proofs.Entering.{new_came, new_handed, none_came, none_handed}
 use proofs.Next.{says, Keeps, at_wire}
@@ -52,7 +52,7 @@ module _ (w : Nodes) (sound : IsWorld w) (n : ℕ) (at : Side) (seat : ℕ) wher
     abbrev i : ℕ
     i = node_at at x
 
-    legal : IsLegal h
+    legal : IsPlayed h
     legal = (sound.nodes i h here).legal
 
     apart : IsApart e.event
@@ -73,7 +73,7 @@ module _ (w : Nodes) (sound : IsWorld w) (n : ℕ) (at : Side) (seat : ℕ) wher
 
     open_now : gets_of (slice_get (after w i h e) i) (link_at at x) ≡ true
         → is_open l (e ∷ h.entries) ≡ true
-    open_now gets = ap (λ o. gets_of o (Some l)) (sym (get_same w.nodes i (with_entry h e) h here))
+    open_now gets = ap (λ o. gets_of o (Some l)) (sym (get_same w.nodes i (just h e) h here))
         ∙ ap (gets_of (slice_get (after w i h e) i)) (sym link) ∙ gets
 
     -- what is under way to a link that is open afterwards is still so

@@ -1,10 +1,10 @@
 -- A world stays one where the oldest frame of a queue comes.
 use Rattle.pg_world.proofs
 use proofs.Words.{ap, append-nil, asks_frame, bodies, came, cond, drop, Entry, eq-eqb, handed}
-use proofs.Words.{History, is_some, IsLate, IsLegal, IsNext, IsWorld, IsWritten, leaves, left_by}
-use proofs.Words.{link_at, List, node_at, Nodes, Option, other, OutFrame, queue_at, refl, Side}
-use proofs.Words.{slice_get, Some, start_of, subst, sym, true, turn_of, under_way, Wire}
-use proofs.Words.{wires_after, ℕ, [], ◌++◌, ◌∙◌, ◌∷◌, ◌≡◌}
+use proofs.Words.{History, is_some, IsLate, IsNext, IsPlayed, IsWorld, IsWritten, leaves, left_by}
+use proofs.Words.{link_at, List, next_step, node_at, Nodes, Option, other, OutFrame, queue_at}
+use proofs.Words.{refl, Side, slice_get, Some, start_of, subst, sym, true, turn_of, under_way}
+use proofs.Words.{Wire, wires_after, ℕ, [], ◌++◌, ◌∙◌, ◌∷◌, ◌≡◌}
 use proofs.Calling.{starts_none}
 use proofs.Entering.{ends_low, new_came, new_handed, none_handed, came_once}
 use proofs.Handing.{apart_sides, this_wire, this_side}
@@ -23,7 +23,7 @@ module _ (w : Nodes) (sound : IsWorld w) (n : ℕ) (at : Side) (seat : ℕ) wher
     abbrev i : ℕ
     i = node_at at x
 
-    legal : IsLegal h
+    legal : IsPlayed h
     legal = (sound.nodes i h here).legal
 
     written : IsWritten e.event
@@ -31,8 +31,9 @@ module _ (w : Nodes) (sound : IsWorld w) (n : ℕ) (at : Side) (seat : ℕ) wher
 
     -- the link was opened before
     late : IsLate h.entries e.event
-    late = subst (IsLate h.entries) (sym is) (ends_low w.nodes i h e here next.number legal x
-        (sound.wired n x stands) at l link refl)
+    late = subst (IsLate h.entries) (sym is)
+        (ends_low w.nodes i h e here (next_step h e next) legal x (sound.wired n x stands) at l link
+        refl)
 
     abbrev came_at : ℕ → Option ℕ → List (List ℕ)
     came_at k o = new_came e i k o

@@ -1,10 +1,11 @@
 -- A dial keeps the invariant: it makes a wire of its link, or is refused.
 use Rattle.pg_world.proofs
-use proofs.Words.{Accepted, ap, append-nil, asks, ByDial, came_of, Carries, dialled, Entry, History}
-use proofs.Words.{is_accepted, IsEnd, IsLegal, IsNext, IsWired, IsWorld, IsWritten, length}
-use proofs.Words.{link_opened, List, new_wire, no_value, Nodes, None, Ok, Option, refl, Refused}
-use proofs.Words.{Refuses, Side, slice_get, Some, stands_first, stands_last, start_of, subst, sym}
-use proofs.Words.{true, Turn, turn_of, Verdict, Wire, with_entry, world, ℕ, [], ◌++◌, ◌∙◌, ◌∷◌, ◌≡◌}
+use proofs.Words.{Accepted, ap, append-nil, asks, ByDial, came_of, Carries, dialled, Entry}
+use proofs.Words.{History, is_accepted, IsEnd, IsNext, IsPlayed, IsStep, IsWired, IsWorld}
+use proofs.Words.{IsWritten, just, length, link_opened, List, new_wire, next_step, no_value, Nodes}
+use proofs.Words.{None, Ok, Option, refl, Refused, Refuses, Side, slice_get, Some, stands_first}
+use proofs.Words.{stands_last, start_of, subst, sym, true, Turn, turn_of, Verdict, Wire, world, ℕ}
+use proofs.Words.{[], ◌++◌, ◌∙◌, ◌∷◌, ◌≡◌}
 use proofs.Calling.{IsApart, apart_kept, asks_kept, refused_none}
 use proofs.Entering.{onward, stays_wired}
 use proofs.Next.{says, Keeps}
@@ -30,7 +31,10 @@ module _ (w : Nodes) (sound : IsWorld w) (i j seat c : ℕ)
     its_written : IsWritten x.event
     its_written = subst IsWritten (sym is) written
 
-    legal : IsLegal h
+    its_step : IsStep h x
+    its_step = next_step h x next
+
+    legal : IsPlayed h
     legal = (sound.nodes i h here).legal
 
     abbrev now : List History
@@ -42,8 +46,8 @@ module _ (w : Nodes) (sound : IsWorld w) (i j seat c : ℕ)
     -- ---- it is accepted
 
     made_wired : is_accepted x.verdict ≡ true → IsWired now made
-    made_wired accepts = (let b = onward w.nodes i h x here next.number legal j k there in record {
-      dialler = with_entry h x;
+    made_wired accepts = (let b = onward w.nodes i h x here its_step legal j k there in record {
+      dialler = just h x;
       acceptor = b.later;
       challenge = c;
       from_stands = now_here w sound i h x here next its_written apart;
@@ -100,7 +104,7 @@ module _ (w : Nodes) (sound : IsWorld w) (i j seat c : ℕ)
         wired m y q = by (one_of w.wires made m y q)
           where
             by : IsOneOf w.wires made m y → IsWired now y
-            by (Old stands) = stays_wired w.nodes i h x here next.number legal y y (same_ends y)
+            by (Old stands) = stays_wired w.nodes i h x here its_step legal y y (same_ends y)
                 (sound.wired m y stands)
             by (New number is) = subst (IsWired now) (sym is) (made_wired accepts)
 

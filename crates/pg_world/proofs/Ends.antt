@@ -1,54 +1,60 @@
 -- What is known at both ends of a wire: what came was owed at the other end, and who is there.
 use Rattle.pg_world.proofs
-use proofs.Words.{Refused, Accepted, all_handed, ap, append_assoc, arith, asked_once, asked_own}
-use proofs.Words.{bodies, bodies_of, Bool, but, ByDial, ByPeer, came, challenge_frame, cond}
-use proofs.Words.{creation, delivered, Entry, eqb-true, Event, false, frame_of, frames_of}
-use proofs.Words.{FramesAreLate, given, HasGiven, hello_in, History, is_some, is_whole, is_whole_in}
-use proofs.Words.{IsGiven, IsLate, IsLegalIn, IsNode, length, lie, List, map-append, moment, Name}
-use proofs.Words.{name_frame, named_first, named_own, no_value, None, Opened, opened, opened_number}
-use proofs.Words.{Opening, opening_is, opening_low, opening_of, Option, option_map, option_map_or}
-use proofs.Words.{out, OutFrame, Owing, own_hello, peer_of, refl, sent, slice_get, Some}
-use proofs.Words.{stands_first, Start, sym, taken, true, Verdict, ℕ, [], ◌++◌, ◌<◌, ◌==◌, ◌∙◌, ◌∷◌}
-use proofs.Words.{◌≡◌}
+use proofs.Words.{Accepted, all_handed, ap, append_assoc, arith, asked_once, asked_own, bodies}
+use proofs.Words.{bodies_of, Bool, but, ByDial, ByPeer, came, challenge_frame, cond, creation}
+use proofs.Words.{delivered, entered, entered_more, Entry, eqb-true, Event, false, frame_of}
+use proofs.Words.{frames_of, FramesAreLate, given, HasGiven, hello_in, History, is_some, is_whole}
+use proofs.Words.{is_whole_in, IsGiven, IsLate, IsNode, IsNumbered, IsPlayedIn, lie, List}
+use proofs.Words.{map-append, moment, Name, name_frame, named_first, named_own, no_value, None}
+use proofs.Words.{Opened, opened, Opening, opening_is, opening_low, opening_of, Option, option_map}
+use proofs.Words.{option_map_or, out, OutFrame, Owing, own_hello, past, peer_of, refl, Refused}
+use proofs.Words.{sent, slice_get, Some, stands_first, Start, sym, taken, true, unopened}
+use proofs.Words.{Verdict, ℕ, [], ◌++◌, ◌+◌, ◌<◌, ◌==◌, ◌∙◌, ◌∷◌, ◌≡◌}
 use proofs.Puts.{value_of}
 use Rattle.policy_audit.specs.declared.event.Event.TheVariants as event
 
 -- ---- nothing came before a link was opened
 
-pub none_early : (es : List Entry) → FramesAreLate es → (l : ℕ) → length es < l
+pub none_early : (es : List Entry) → FramesAreLate es → (l : ℕ) → entered es < l
     → delivered l es ≡ []
 none_early [] late l above = refl
-none_early (e ∷ es) late l above = by e.event late.0 (none_early es late.1 l)
+none_early (e ∷ es) late l above =
+    let more = entered_more e es in
+    let below : entered es < l = omega (arith, above, more) in
+    by e.event late.0 below (none_early es late.1 l below)
   where
-    by : (ev : Event) → IsLate es ev → (length es < l → delivered l es ≡ [])
+    by : (ev : Event) → IsLate es ev → entered es < l → delivered l es ≡ []
         → delivered l es ++ came l ev ≡ []
-    by (event.Frame k body) low so_far = grind (arith, eqb-true k l)
-    by ev low so_far = grind arith
+    by (event.Frame k body) low below so_far = grind (arith, eqb-true k l)
+    by ev low below so_far = grind arith
 
-opened_early : (o : Opening) (es : List Entry) → IsLegalIn o es → FramesAreLate es
+opened_early : (o : Opening) (es : List Entry) → IsPlayedIn o es → FramesAreLate es
     → (l : ℕ) (x : Opened) → opened l es ≡ Some x → delivered l x.before ≡ []
 opened_early o [] legal late l x q = lie (sym (ap is_some q))
-opened_early o (e ∷ es) legal late l x q = by_event e.event e.verdict
+opened_early o (e ∷ es) legal late l x q = by_event e.event e.verdict legal.0.number
     (opened_early o es legal.1 late.1 l x) q
   where
-    begun : (st : Start) (b : Bool) → (e.number == l) ≡ b
+    begun : (st : Start) → e.number ≡ entered es + 1 → (b : Bool) → (e.number == l) ≡ b
         → (opened l es ≡ Some x → delivered l x.before ≡ [])
         → elim (cond {A = Option Opened} b (Some (record { start = st; before = es })) None) as (λ
         _. Option Opened) [ Some y ↦ Some y | None ↦ opened l es ] ≡ Some x
         → delivered l x.before ≡ []
-    begun st true here so_far q = let number = legal.0.number in let same =
-        eqb-true e.number l here in ap (λ y. delivered l y.before) (sym (value_of q))
-        ∙ none_early es late.1 l (omega arith)
-    begun st false here so_far q = so_far q
+    begun st number true here so_far q =
+        let same = eqb-true e.number l here in
+        ap (λ y. delivered l y.before) (sym (value_of q))
+        ∙ none_early es late.1 l (omega (arith, number, same))
+    begun st number false here so_far q = so_far q
 
-    by_event : (ev : Event) (v : Verdict) → (opened l es ≡ Some x → delivered l x.before ≡ [])
+    by_event : (ev : Event) (v : Verdict) → IsNumbered (past o es) e.number ev
+        → (opened l es ≡ Some x → delivered l x.before ≡ [])
         → opened l (but e ev v ∷ es) ≡ Some x → delivered l x.before ≡ []
-    by_event (event.Opened c) (Accepted r) so_far q = begun (ByPeer c) (e.number == l) refl so_far q
-    by_event (event.Dial n c) (Accepted r) so_far q = begun (ByDial n c) (e.number == l) refl so_far
-        q
-    by_event event.Restart (Accepted r) so_far q = lie (sym (ap is_some q))
-    by_event ev (Accepted r) so_far q = so_far q
-    by_event ev (Refused r) so_far q = so_far q
+    by_event (event.Opened c) (Accepted r) number so_far q =
+        begun (ByPeer c) number (e.number == l) refl so_far q
+    by_event (event.Dial n c) (Accepted r) number so_far q =
+        begun (ByDial n c) number (e.number == l) refl so_far q
+    by_event event.Restart (Accepted r) number so_far q = lie (sym (ap is_some q))
+    by_event ev (Accepted r) number so_far q = so_far q
+    by_event ev (Refused r) number so_far q = so_far q
 
 -- a whole link was opened
 whole_opened : (l : ℕ) (es : List Entry) → is_whole l es ≡ true
@@ -91,11 +97,14 @@ module _ (S : History) (node : IsNode S) (a : ℕ) (o : Opening) (b : ℕ) (star
         creation_is = ap (option_map (λ g. g.creation)) gives ∙ ap (λ g. Some (Name.creation g)) is;
       }
 
-  kept_opening : (e : Entry) (es : List Entry) → IsLegalIn o (e ∷ es) → (st : Start)
+  kept_opening : (e : Entry) (es : List Entry) → IsPlayedIn o (e ∷ es) → (st : Start)
       → opening_of b es ≡ Some st → opening_of b (e ∷ es) ≡ Some st
-  kept_opening e es legal st q = grind (arith, opened_number b e, opening_low o es legal.1 b st q)
+  kept_opening e es legal st q = grind (
+    arith,
+    unopened o es e b e.event e.verdict legal.0 (opening_low o es legal.1 b st q),
+  )
 
-  earlier : (e : Entry) (es : List Entry) → IsLegalIn o (e ∷ es) → Since (e ∷ es) → Since es
+  earlier : (e : Entry) (es : List Entry) → IsPlayedIn o (e ∷ es) → Since (e ∷ es) → Since es
   earlier e es legal since = record {
     later = came b e.event ++ since.later;
     carried = sym (append_assoc (delivered b es) (came b e.event) since.later) ∙ since.carried;
@@ -103,11 +112,11 @@ module _ (S : History) (node : IsNode S) (a : ℕ) (o : Opening) (b : ℕ) (star
   }
 
   abbrev Gives : List Entry → Type 0
-  Gives es = IsLegalIn o es → FramesAreLate es → Since es → is_whole b es ≡ true
+  Gives es = IsPlayedIn o es → FramesAreLate es → Since es → is_whole b es ≡ true
       → IsGiven b S.opening.name (creation (moment a S)) es
 
-  gives_all : ((es : List Entry) → Gives es) → (es : List Entry) → IsLegalIn o es → FramesAreLate es
-      → Since es → HasGiven b S.opening.name (creation (moment a S)) es
+  gives_all : ((es : List Entry) → Gives es) → (es : List Entry) → IsPlayedIn o es
+      → FramesAreLate es → Since es → HasGiven b S.opening.name (creation (moment a S)) es
   gives_all one [] legal late since = tt
   gives_all one (e ∷ es) legal late since = (
     λ whole. one (e ∷ es) legal late since whole,

@@ -1,12 +1,11 @@
 -- What one entry of one node makes of the ends of the wires.
 use Rattle.pg_world.proofs
-use proofs.Words.{ap, append-nil, append_assoc, arith, bodies, Bool, ByDial, ByPeer, came, came_of}
-use proofs.Words.{Carries, cond, ends, Entry, eqb-false, eqb-true, false, gets_of, handed}
-use proofs.Words.{handed_of, History, is_open, is_opened_by, IsLegal, IsWired, length, link_at}
-use proofs.Words.{List, node_at, None, not, opened_number, opening_low, opening_of, Option, other}
+use proofs.Words.{ap, append-nil, append_assoc, arith, bodies, ByDial, ByPeer, came, came_of}
+use proofs.Words.{Carries, cond, ends, entered, Entry, eqb-false, eqb-true, false, gets_of, handed}
+use proofs.Words.{handed_of, History, is_open, is_opened_by, IsPlayed, IsStep, IsWired, just}
+use proofs.Words.{link_at, List, node_at, None, not, opening_low, opening_of, Option, other}
 use proofs.Words.{OutFrame, refl, sent, Side, slice_get, slice_set, Some, Start, start_of, subst}
-use proofs.Words.{sym, true, under_way, Wire, with_entry, ℕ, [], ◌++◌, ◌+◌, ◌==◌, ◌∙◌, ◌∷◌, ◌≡◌}
-use proofs.Words.{◌≤◌}
+use proofs.Words.{sym, true, under_way, unopened, Wire, ℕ, [], ◌++◌, ◌==◌, ◌∙◌, ◌∷◌, ◌≡◌, ◌≤◌}
 use proofs.Puts.{get_same, get_other, value_of, Compared, Same, Apart, compare}
 use Rattle.policy_audit.specs.declared.event.Event.TheVariants as event
 use Rattle.pg_world.specs.declared.side.Side.TheVariants as side
@@ -58,49 +57,45 @@ abbrev pub new_handed : Entry → ℕ → ℕ → Option ℕ → List (List ℕ)
 new_handed e i k o = cond (k == i) (added_handed e o) []
 
 module _ (hs : List History) (i : ℕ) (h : History) (e : Entry) (here : slice_get hs i ≡ Some h)
-    (number : e.number ≡ length h.entries + 1) (legal : IsLegal h) where
-  abbrev pub entered : List History
-  entered = slice_set hs i (with_entry h e)
+    (made : IsStep h e) (legal : IsPlayed h) where
+  abbrev pub stepped : List History
+  stepped = slice_set hs i (just h e)
 
-  now_here : slice_get entered i ≡ Some (with_entry h e)
-  now_here = get_same hs i (with_entry h e) h here
+  now_here : slice_get stepped i ≡ Some (just h e)
+  now_here = get_same hs i (just h e) h here
 
   -- ---- how links were opened
 
-  no_opening : (l : ℕ) → l ≤ length h.entries → is_opened_by l e ≡ false
-  no_opening l low = by (is_opened_by l e) refl
-    where
-      by : (b : Bool) → is_opened_by l e ≡ b → b ≡ false
-      by false q = refl
-      by true q = (let its = opened_number l e q in absurd (omega arith))
+  no_opening : (l : ℕ) → l ≤ entered h.entries → is_opened_by l e ≡ false
+  no_opening l low = unopened h.opening h.entries e l e.event e.verdict made low
 
   opens_later : (l : ℕ) (st : Start) → opening_of l h.entries ≡ Some st
       → opening_of l (e ∷ h.entries) ≡ Some st
   opens_later l st q = ap (λ b. cond b (start_of e.event) (opening_of l h.entries))
       (no_opening l (opening_low h.opening h.entries legal l st q)) ∙ q
 
-  pub onward : (k : ℕ) (g : History) → slice_get hs k ≡ Some g → Onward entered k g
+  pub onward : (k : ℕ) (g : History) → slice_get hs k ≡ Some g → Onward stepped k g
   onward k g q = by (compare k i)
     where
-      by : Compared k i → Onward entered k g
+      by : Compared k i → Onward stepped k g
       by (Apart not) =
           record {
             later = g;
-            stands = get_other hs i (with_entry h e) k not ∙ q;
+            stands = get_other hs i (just h e) k not ∙ q;
             opening = refl;
             opens = λ l st p. p;
           }
       by (Same is) =
           let same : g ≡ h = value_of (sym q ∙ ap (slice_get hs) is ∙ here) in
           record {
-            later = with_entry h e;
-            stands = ap (slice_get entered) is ∙ now_here;
+            later = just h e;
+            stands = ap (slice_get stepped) is ∙ now_here;
             opening = ap (λ v. v.opening) (sym same);
             opens = λ l st p. opens_later l st (subst (λ v. opening_of l v.entries ≡ Some st) same
                 p);
           }
 
-  pub stays_wired : (x y : Wire) → SameEnds x y → IsWired hs x → IsWired entered y
+  pub stays_wired : (x y : Wire) → SameEnds x y → IsWired hs x → IsWired stepped y
   stays_wired x y ends it =
       let a = onward x.from it.dialler it.from_stands in
       let b = onward x.to it.acceptor it.to_stands in
@@ -108,8 +103,8 @@ module _ (hs : List History) (i : ℕ) (h : History) (e : Entry) (here : slice_g
         dialler = a.later;
         acceptor = b.later;
         challenge = it.challenge;
-        from_stands = ap (slice_get entered) ends.from ∙ a.stands;
-        to_stands = ap (slice_get entered) ends.to ∙ b.stands;
+        from_stands = ap (slice_get stepped) ends.from ∙ a.stands;
+        to_stands = ap (slice_get stepped) ends.to ∙ b.stands;
         dial = ap (λ l. opening_of l a.later.entries) ends.dialled
             ∙ a.opens x.dialled (ByDial it.acceptor.opening.name it.challenge) it.dial
             ∙ ap (λ o. Some (ByDial o.name it.challenge)) (sym b.opening);
@@ -119,17 +114,17 @@ module _ (hs : List History) (i : ℕ) (h : History) (e : Entry) (here : slice_g
 
   -- ---- what came and was handed out
 
-  elsewhere : (k : ℕ) → (k == i) ≡ false → slice_get entered k ≡ slice_get hs k
-  elsewhere k q = get_other hs i (with_entry h e) k (eqb-false k i q)
+  elsewhere : (k : ℕ) → (k == i) ≡ false → slice_get stepped k ≡ slice_get hs k
+  elsewhere k q = get_other hs i (just h e) k (eqb-false k i q)
 
-  at_here : (k : ℕ) → (k == i) ≡ true → slice_get entered k ≡ Some (with_entry h e)
-  at_here k q = ap (slice_get entered) (eqb-true k i q) ∙ now_here
+  at_here : (k : ℕ) → (k == i) ≡ true → slice_get stepped k ≡ Some (just h e)
+  at_here k q = ap (slice_get stepped) (eqb-true k i q) ∙ now_here
 
   was_here : (k : ℕ) → (k == i) ≡ true → slice_get hs k ≡ Some h
   was_here k q = ap (slice_get hs) (eqb-true k i q) ∙ here
 
   pub came_now : (k : ℕ) (o : Option ℕ)
-      → came_of (slice_get entered k) o ≡ came_of (slice_get hs k) o ++ new_came e i k o
+      → came_of (slice_get stepped k) o ≡ came_of (slice_get hs k) o ++ new_came e i k o
   came_now k None =
       grind (arith, elsewhere k, at_here k, was_here k, append-nil (came_of (slice_get hs k) None))
   came_now k (Some l) =
@@ -142,7 +137,7 @@ module _ (hs : List History) (i : ℕ) (h : History) (e : Entry) (here : slice_g
       )
 
   handed_now : (k : ℕ) (o : Option ℕ)
-      → handed_of (slice_get entered k) o ≡ handed_of (slice_get hs k) o ++ new_handed e i k o
+      → handed_of (slice_get stepped k) o ≡ handed_of (slice_get hs k) o ++ new_handed e i k o
   handed_now k None =
       grind
       (arith, elsewhere k, at_here k, was_here k, append-nil (handed_of (slice_get hs k) None))
@@ -157,19 +152,19 @@ module _ (hs : List History) (i : ℕ) (h : History) (e : Entry) (here : slice_g
       )
 
   -- a link that was opened before, and is open now, was open
-  still_open : (l : ℕ) → l ≤ length h.entries → is_open l (e ∷ h.entries) ≡ true
+  still_open : (l : ℕ) → l ≤ entered h.entries → is_open l (e ∷ h.entries) ≡ true
       → is_open l h.entries ≡ true
   still_open l low q = grind (arith, no_opening l low)
 
-  pub got : (k : ℕ) (o : Option ℕ) → ((l : ℕ) → o ≡ Some l → k ≡ i → l ≤ length h.entries)
-      → gets_of (slice_get entered k) o ≡ true → gets_of (slice_get hs k) o ≡ true
+  pub got : (k : ℕ) (o : Option ℕ) → ((l : ℕ) → o ≡ Some l → k ≡ i → l ≤ entered h.entries)
+      → gets_of (slice_get stepped k) o ≡ true → gets_of (slice_get hs k) o ≡ true
   got k None low q = grind (arith, elsewhere k, at_here k, was_here k)
   got k (Some l) low q =
       grind (arith, elsewhere k, at_here k, was_here k, eqb-true k i, low l refl, still_open l)
 
   -- the links of a wire were opened before
   pub ends_low : (x : Wire) → IsWired hs x → (at : Side) (l : ℕ) → link_at at x ≡ Some l
-      → node_at at x ≡ i → l ≤ length h.entries
+      → node_at at x ≡ i → l ≤ entered h.entries
   ends_low x it side.Dialler l q is =
       let its : it.dialler ≡ h = value_of (sym it.from_stands ∙ ap (slice_get hs) is ∙ here) in
       let same : x.dialled ≡ l = value_of q in
@@ -185,14 +180,14 @@ module _ (hs : List History) (i : ℕ) (h : History) (e : Entry) (here : slice_g
   -- a wire carries what it did, where what came and is under way now is what was under way and was
   -- handed out now
   pub carries_on : (x y : Wire) → SameEnds x y → IsWired hs x → (to : Side) → Carries hs x to
-      → (gets_of (slice_get entered (node_at to x)) (link_at to x) ≡ true
+      → (gets_of (slice_get stepped (node_at to x)) (link_at to x) ≡ true
       → new_came e i (node_at to x) (link_at to x) ++ bodies (under_way to y) ≡ bodies
       (under_way to x) ++ new_handed e i (node_at (other to) x) (link_at (other to) x))
-      → Carries entered y to
+      → Carries stepped y to
   carries_on x y ends wired to carries fits opens =
-      ap (λ k. came_of (slice_get entered k) (link_at to y) ++ bodies (under_way to y))
+      ap (λ k. came_of (slice_get stepped k) (link_at to y) ++ bodies (under_way to y))
       (same_node x y ends to)
-      ∙ ap (λ o. came_of (slice_get entered (node_at to x)) o ++ bodies (under_way to y))
+      ∙ ap (λ o. came_of (slice_get stepped (node_at to x)) o ++ bodies (under_way to y))
       (same_link x y ends to)
       ∙ ap (λ v. v ++ bodies (under_way to y)) (came_now (node_at to x) (link_at to x))
       ∙ append_assoc (came_of (slice_get hs (node_at to x)) (link_at to x))
@@ -202,14 +197,14 @@ module _ (hs : List History) (i : ℕ) (h : History) (e : Entry) (here : slice_g
       (bodies (under_way to x)) (new_handed e i (node_at (other to) x) (link_at (other to) x)))
       ∙ ap (λ v. v ++ new_handed e i (node_at (other to) x) (link_at (other to) x)) (carries was)
       ∙ sym (handed_now (node_at (other to) x) (link_at (other to) x))
-      ∙ ap (λ o. handed_of (slice_get entered (node_at (other to) x)) o)
+      ∙ ap (λ o. handed_of (slice_get stepped (node_at (other to) x)) o)
       (sym (same_link x y ends (other to)))
-      ∙ ap (λ k. handed_of (slice_get entered k) (link_at (other to) y))
+      ∙ ap (λ k. handed_of (slice_get stepped k) (link_at (other to) y))
       (sym (same_node x y ends (other to)))
     where
-      still : gets_of (slice_get entered (node_at to x)) (link_at to x) ≡ true
-      still = ap (λ k. gets_of (slice_get entered k) (link_at to x)) (sym (same_node x y ends to))
-          ∙ ap (λ o. gets_of (slice_get entered (node_at to y)) o) (sym (same_link x y ends to))
+      still : gets_of (slice_get stepped (node_at to x)) (link_at to x) ≡ true
+      still = ap (λ k. gets_of (slice_get stepped k) (link_at to x)) (sym (same_node x y ends to))
+          ∙ ap (λ o. gets_of (slice_get stepped (node_at to y)) o) (sym (same_link x y ends to))
           ∙ opens
 
       was : gets_of (slice_get hs (node_at to x)) (link_at to x) ≡ true

@@ -3,7 +3,8 @@ use Rattle.pg_world.proofs
 use proofs.Words.{AllByRecursion, ap, arith, Bool, bytes_eq, codes, Comes, DifferInName, drop}
 use proofs.Words.{exchange, false, fresh, get_or, History, IsBehind, IsExchanged, IsNode}
 use proofs.Words.{IsNodeName, IsText, IsWorld, IsWrittenStep, join_again, lie, List, names_compute}
-use proofs.Words.{no_value, Nodes, refl, slice_get, Some, subst, suc, sym, texts_compute, true}
+use proofs.Words.{no_value, Nodes, refl, slice_get, slice_get-get_or, Some, subst, suc, sym}
+use proofs.Words.{texts_compute, true}
 use proofs.Words.{two_nodes, WorldStep, zero, ℕ, [], ◌++◌, ◌∙◌, ◌∷◌, ◌≡◌}
 use proofs.Playing.{play, plays, play_sound}
 use proofs.Puts.{value_of}
@@ -21,6 +22,7 @@ fresh_node : (name : List ℕ) → IsNodeName name → IsNode (fresh name)
 fresh_node name is =
     record {
       legal = tt;
+      room = omega arith;
       name = is;
       creation = omega arith;
       entries = omega arith;
@@ -106,6 +108,8 @@ written_again = then_written join_again ((scope, group), tt)
 
 -- ---- the worlds that they make
 
+-- nodes are read by a lemma: `refl` would compare whole histories, and compute each change in them
+
 abbrev last : Nodes
 last = play two_nodes exchange
 
@@ -118,8 +122,8 @@ exchanged = record {
   wire = record
       { from = 0; to = 1; dialled = 4; accepted = Some 4; to_dialler = []; to_acceptor = [] };
   accepted = 4;
-  a_stands = refl;
-  b_stands = refl;
+  a_stands = slice_get-get_or last.nodes 0 (fresh []) (omega arith);
+  b_stands = slice_get-get_or last.nodes 1 (fresh []) (omega arith);
   wire_stands = refl;
   from_a = refl;
   to_b = refl;
@@ -146,8 +150,8 @@ is_behind = record {
   a = get_or again.nodes 0 (fresh []);
   b = get_or again.nodes 1 (fresh []);
   link = 4;
-  a_stands = refl;
-  b_stands = refl;
+  a_stands = slice_get-get_or again.nodes 0 (fresh []) (omega arith);
+  b_stands = slice_get-get_or again.nodes 1 (fresh []) (omega arith);
   present = refl;
   hears = refl;
   a_has = refl;

@@ -1,10 +1,10 @@
 -- A world stays one where a node hands out what waits for a link.
 use Rattle.pg_world.proofs
 use proofs.Words.{Accepted, ap, append-nil, Asks, bodies, came, cond, Entry, eq-eqb, handed}
-use proofs.Words.{History, is_some, IsLate, IsLegal, IsNext, IsWorld, IsWritten, joined_by, link_at}
-use proofs.Words.{List, node_at, Nodes, Option, other, OutFrame, refl, Refused, Side, slice_get}
-use proofs.Words.{Some, start_of, subst, sym, turn_of, under_way, Verdict, Wire, wires_after, ℕ, []}
-use proofs.Words.{◌++◌, ◌∙◌, ◌≡◌}
+use proofs.Words.{History, is_some, IsLate, IsNext, IsPlayed, IsWorld, IsWritten, joined_by}
+use proofs.Words.{link_at, List, node_at, Nodes, Option, other, OutFrame, refl, Refused, Side}
+use proofs.Words.{slice_get, Some, start_of, subst, sym, turn_of, under_way, Verdict, Wire}
+use proofs.Words.{wires_after, ℕ, [], ◌++◌, ◌∙◌, ◌≡◌}
 use proofs.Calling.{starts_none}
 use proofs.Entering.{bodies_apart, new_came, new_handed, none_came, handed_once}
 use proofs.Next.{says, Keeps, at_wire}
@@ -55,7 +55,7 @@ module _ (w : Nodes) (sound : IsWorld w) (n : ℕ) (at : Side) (seat : ℕ) wher
     abbrev i : ℕ
     i = node_at at x
 
-    legal : IsLegal h
+    legal : IsPlayed h
     legal = (sound.nodes i h here).legal
 
     written : IsWritten e.event

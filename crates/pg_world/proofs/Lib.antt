@@ -11,6 +11,7 @@ mod Ends
 mod Moments
 mod Starting
 mod Steady
+mod Losing
 mod Next
 mod Queued
 mod Calling

@@ -1,12 +1,13 @@
 -- What a node's step makes of its history: nothing, or one entry; and so of a world.
 use Rattle.pg_world.proofs
-use proofs.Words.{Accepted, after, ap, arith, Asks, at_end, Awaited, AwaitName, awaits, Bool, Check}
-use proofs.Words.{checks, CoreFault, End, end_at, Entry, entry_of, Err, Event, false, first_broken}
-use proofs.Words.{frame_checks, History, is_full, IsNext, IsWorld, judged, leaves, link_at}
-use proofs.Words.{link_end, List, next_is, node_at, Nodes, None, Ok, Option, refl, Refused, Refuses}
-use proofs.Words.{Reply, Result, Side, slice_get, slice_set, Some, subst, sym, true, Turn, turn_of}
-use proofs.Words.{Turns, Verdict, verdict, Wire, wire_end, wires_after, with_entry, world}
-use proofs.Words.{WorldFault, WorldReply, WorldStep, ℕ, [], ◌&&◌, ◌∙◌, ◌∷◌, ◌≡◌}
+use proofs.Words.{Accepted, after, ap, arith, Asks, at_end, Awaited, AwaitName, awaits, Bool}
+use proofs.Words.{Check, checks, CoreFault, End, end_at, Entry, entry_of, Err, Event, false}
+use proofs.Words.{first_broken, frame_checks, History, is_full, IsNext, IsWorld, judged, just}
+use proofs.Words.{leaves, link_at, link_end, List, next_is, node_at, Nodes, None, Ok, Option, refl}
+use proofs.Words.{Refused, Refuses, Reply, Result, Side, slice_get, slice_set, Some, subst, sym}
+use proofs.Words.{true, Turn, turn_of, Turns, Verdict, verdict, Wire, wire_end, wires_after}
+use proofs.Words.{with_entry, world, WorldFault, WorldReply, WorldStep, ℕ, [], ◌&&◌, ◌∙◌, ◌∷◌, ◌≡◌}
+use proofs.Losing.{losses_kept}
 use proofs.Refusals.{same_element, wires_stay}
 use Rattle.node_core.specs.Step.{IsStepped}
 use Rattle.pg_world.specs.Steps.{IsWorldStep}
@@ -70,11 +71,12 @@ module _ (h : History) (seat : ℕ) where
 
 -- ---- a world
 
--- a world is one after each entry with which node i may answer e, and the wires after that answer
+-- a world is one after each entry with which node i may answer e, before any loss that comes with
+-- it, and the wires after that answer
 abbrev pub KeptBy : Nodes → WorldStep → ℕ → Event → Type 0
 KeptBy w t i e = (h : History) (x : Entry) → slice_get w.nodes i ≡ Some h → x.event ≡ e → IsNext h x
     → leaves (says x.verdict) ≡ true
-    → IsWorld (world (slice_set w.nodes i (with_entry h x))
+    → IsWorld (world (slice_set w.nodes i (just h x))
     (wires_after t (says x.verdict) w.wires))
 
 -- an answer that leaves a frame in its queue leaves all wires
@@ -113,7 +115,8 @@ stays_by w v t r sound keeps s = by (turn_of w t) keeps s
             let wires : v.wires ≡ wires_after t (says x.verdict) w.wires = s.wires
             ∙ ap (λ a. wires_after t a w.wires) answers in
             subst IsWorld (λ k. record { nodes = sym nodes k; wires = sym wires k })
-            (keeps s.before x s.stands is next goes)
+            (losses_kept w.nodes (wires_after t (says x.verdict) w.wires) i s.before x s.stands
+            (keeps s.before x s.stands is next goes) next (sound.nodes i s.before s.stands).legal)
 
 -- a step at the end of a wire, which is there
 pub at_wire : (w : Nodes) (t : WorldStep) (n : ℕ) (at : Side) (f : End → Turn)

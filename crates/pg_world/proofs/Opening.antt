@@ -1,19 +1,19 @@
 -- A world stays one with an entry that opens a link, which becomes the end of one wire.
 use Rattle.pg_world.proofs
-use proofs.Words.{Accepted, accepted, all_handed, answer, ap, arith, bodies, came_of, Carries, cond}
-use proofs.Words.{Entry, eq-eqb, Event, frames_of, gets_of, handed_of, HasEnd, History, is_accepted}
-use proofs.Words.{is_opened_by, is_some, IsEnd, IsLegal, IsNext, IsWired, IsWorld, IsWritten}
-use proofs.Words.{length, link_at, List, next_number, no_value, node_at, Nodes, None, opened_number}
-use proofs.Words.{opening_of, Option, other, refl, Reply, sent, Side, slice_get, Some, Start}
-use proofs.Words.{start_of, subst, sym, true, unborn_out, under_way, Wire, with_entry, world, ℕ, []}
-use proofs.Words.{◌&&◌, ◌++◌, ◌<◌, ◌∙◌, ◌∷◌, ◌≡◌, ◌≤◌}
+use proofs.Words.{Accepted, accepted, all_handed, answer, ap, arith, bodies, came_of, Carries}
+use proofs.Words.{cond, entered, Entry, eq-eqb, Event, frames_of, gets_of, handed_of, HasEnd}
+use proofs.Words.{History, is_accepted, is_opened_by, is_some, IsEnd, IsNext, IsPlayed, IsWired}
+use proofs.Words.{IsWorld, IsWritten, just, link_at, List, next_number, next_step, no_value}
+use proofs.Words.{node_at, Nodes, None, opened_number, opening_of, Option, other, refl, Reply}
+use proofs.Words.{sent, Side, slice_get, Some, Start, start_of, subst, sym, true, unborn_out}
+use proofs.Words.{under_way, Wire, world, ℕ, [], ◌&&◌, ◌++◌, ◌<◌, ◌∙◌, ◌∷◌, ◌≡◌, ◌≤◌}
 use proofs.Calling.{IsApart}
 use proofs.Ends.{none_early}
 use proofs.Entering.{none_came, none_handed, ends_low, carries_on}
 use proofs.Puts.{get_same}
 use proofs.Queued.{still_fits}
-use proofs.Steady.{after, same_ends, nodes_after, late_after, names_after, open_from, IsOpenFrom}
-use proofs.Steady.{WasOpen, OpenedNow}
+use proofs.Steady.{after, made_of, same_ends, nodes_after, late_after, names_after, open_from}
+use proofs.Steady.{IsMade, IsOpenFrom, WasOpen, OpenedNow}
 use Rattle.policy_audit.specs.declared.reply.Reply.TheVariants as reply
 
 -- ---- nothing came or was handed out on a link before that was opened
@@ -22,7 +22,7 @@ left_nil : {A : Type 0} (xs ys : List A) → xs ++ ys ≡ [] → xs ≡ []
 left_nil [] ys q = refl
 left_nil (x ∷ xs) ys q = no_value (ap (λ v. slice_get v 0) q)
 
-none_sent : (h : History) → IsLegal h → (l : ℕ) → length h.entries < l → sent l h.entries ≡ []
+none_sent : (h : History) → IsPlayed h → (l : ℕ) → entered h.entries < l → sent l h.entries ≡ []
 none_sent h legal l above = (let it = all_handed h.opening h.entries legal l in
     left_nil (sent l h.entries) it.rest
     (it.all ∙ ap frames_of (unborn_out h.opening h.entries legal l above)))
@@ -51,16 +51,19 @@ pub data IsEndFrom (w : Nodes) (place : ℕ) (at : Side) (i l m : ℕ) (k : Side
 
 module _ (w : Nodes) (sound : IsWorld w) (i : ℕ) (h : History) (e : Entry) (here : slice_get w.nodes
     i ≡ Some h) (next : IsNext h e) (written : IsWritten e.event) (apart : IsApart e.event) where
-  legal : IsLegal h
+  legal : IsPlayed h
   legal = (sound.nodes i h here).legal
+
+  abbrev is_made : IsMade h e
+  is_made = made_of h e next
 
   abbrev pub nodes_now : List History
   nodes_now = after w i h e
 
-  pub now_here : slice_get nodes_now i ≡ Some (with_entry h e)
-  now_here = get_same w.nodes i (with_entry h e) h here
+  pub now_here : slice_get nodes_now i ≡ Some (just h e)
+  now_here = get_same w.nodes i (just h e) h here
 
-  above : length h.entries < e.number
+  above : entered h.entries < e.number
   above = (let number = next.number in omega arith)
 
   pub came_none : came_of (slice_get nodes_now i) (Some e.number) ≡ []
@@ -83,7 +86,7 @@ module _ (w : Nodes) (sound : IsWorld w) (i : ℕ) (h : History) (e : Entry) (he
   -- the wires that stay carry what they did
   pub still_carries : (m : ℕ) (y : Wire) → slice_get w.wires m ≡ Some y → (to : Side)
       → Carries nodes_now y to
-  still_carries m y its to = carries_on w.nodes i h e here next.number legal y y (same_ends y)
+  still_carries m y its to = carries_on w.nodes i h e here is_made.step legal y y (same_ends y)
       (sound.wired m y its) to (sound.carried m y its to)
       (λ gets. still_fits (bodies (under_way to y))
       (none_came e i apart.none_in (node_at to y) (link_at to y))
@@ -93,8 +96,8 @@ module _ (w : Nodes) (sound : IsWorld w) (i : ℕ) (h : History) (e : Entry) (he
   -- the new link was no end
   too_new : (m : ℕ) (u : Wire) → slice_get w.wires m ≡ Some u → (k : Side) (a b : ℕ) → IsEnd u k a b
       → a ≡ i → b ≡ e.number → ⊥
-  too_new m u stands k a b it node link = let low : b ≤ length h.entries =
-      ends_low w.nodes i h e here next.number legal u (sound.wired m u stands) k b it.link
+  too_new m u stands k a b it node link = let low : b ≤ entered h.entries =
+      ends_low w.nodes i h e here is_made.step legal u (sound.wired m u stands) k b it.link
       (it.node ∙ node) in let high = above in omega arith
 
   module _ (ys : List Wire) (place : ℕ) (at : Side)
@@ -117,7 +120,7 @@ module _ (w : Nodes) (sound : IsWorld w) (i : ℕ) (h : History) (e : Entry) (he
         by (NewEnd number side node link) (NewEnd number2 side2 node2 link2) =
             (number ∙ sym number2, side ∙ sym side2)
 
-    has_end : (k l : ℕ) → IsOpenFrom w sound i h e here next written (apart.late h.entries) k l
+    has_end : (k l : ℕ) → IsOpenFrom w sound i h e here is_made written (apart.late h.entries) k l
         → HasEnd ys k l
     has_end k l (WasOpen g q o) = forth k l (sound.ends k g q l o)
     has_end k l (OpenedNow is q) = subst (λ m. HasEnd ys m l) (sym is)
@@ -125,19 +128,20 @@ module _ (w : Nodes) (sound : IsWorld w) (i : ℕ) (h : History) (e : Entry) (he
 
     pub opens_world : IsWorld (world nodes_now ys)
     opens_world = record {
-      nodes = nodes_after w sound i h e here next written (apart.late h.entries);
-      late = late_after w sound i h e here next written (apart.late h.entries);
-      names = names_after w sound i h e here next written (apart.late h.entries);
+      nodes = nodes_after w sound i h e here is_made written (apart.late h.entries);
+      late = late_after w sound i h e here is_made written (apart.late h.entries);
+      names = names_after w sound i h e here is_made written (apart.late h.entries);
       wired = wired;
       carried = carried;
       once = once;
       ends = λ k g q l o. has_end k l
-          (open_from w sound i h e here next written (apart.late h.entries) k g q l o);
+          (open_from w sound i h e here is_made written (apart.late h.entries) k g q l o);
     }
 
 -- an accepted event that starts a link is answered its number
 pub number_answered : (h : History) (x : Entry) (e : Event) (r : Reply) → x.event ≡ e → IsNext h x
     → x.verdict ≡ Accepted r → answer h x.seat e ≡ reply.Link (next_number h)
     → r ≡ reply.Link x.number
-number_answered h x e r is next v link = (accepted h x.seat x.event r (sym v ∙ next.verdict)).1
+number_answered h x e r is next v link = (accepted h x.seat x.event r (sym v
+    ∙ (next_step h x next).judged)).1
     ∙ ap (answer h x.seat) is ∙ link ∙ ap reply.Link (sym next.number)

@@ -1,13 +1,13 @@
 -- A world stays one with an entry of one node and one queue that changed.
 use Rattle.pg_world.proofs
 use proofs.Words.{ap, append-nil, bodies, Carries, changed, changed_queue, Entry, false, gets_of}
-use proofs.Words.{History, is_opened_by, IsLate, IsLegal, IsNext, IsWorld, IsWritten, link_at, List}
-use proofs.Words.{node_at, Nodes, other, OutFrame, refl, Side, slice_get, Some, subst, sym, true}
-use proofs.Words.{under_way, Wire, world, ℕ, [], ◌++◌, ◌∙◌, ◌≡◌}
+use proofs.Words.{History, is_opened_by, IsLate, IsNext, IsPlayed, IsWorld, IsWritten, link_at}
+use proofs.Words.{List, node_at, Nodes, other, OutFrame, refl, Side, slice_get, Some, subst, sym}
+use proofs.Words.{true, under_way, Wire, world, ℕ, [], ◌++◌, ◌∙◌, ◌≡◌}
 use proofs.Entering.{SameEnds, new_came, new_handed, carries_on}
 use proofs.Puts.{value_of, Compared, Same, Apart, compare, IsFound, Changed, Kept, found}
 use proofs.Puts.{changed_here, changed_there}
-use proofs.Steady.{after, same_ends, steady}
+use proofs.Steady.{after, IsMade, made_of, same_ends, steady}
 use Rattle.pg_world.specs.declared.side.Side.TheVariants as side
 
 -- where nothing comes and nothing is handed out
@@ -20,8 +20,11 @@ module _ (w : Nodes) (sound : IsWorld w) (i : ℕ) (h : History) (e : Entry) (he
     i ≡ Some h) (next : IsNext h e) (written : IsWritten e.event) (late : IsLate h.entries e.event)
     (n : ℕ) (at : Side) (f : List OutFrame → List OutFrame) (x : Wire) (stands : slice_get w.wires
     n ≡ Some x) (opens_none : (l : ℕ) → is_opened_by l e ≡ false) where
-  abbrev legal : IsLegal h
+  abbrev legal : IsPlayed h
   legal = (sound.nodes i h here).legal
+
+  abbrev is_made : IsMade h e
+  is_made = made_of h e next
 
   abbrev wires : List Wire
   wires = changed n (changed_queue at f) w.wires
@@ -84,7 +87,7 @@ module _ (w : Nodes) (sound : IsWorld w) (i : ℕ) (h : History) (e : Entry) (he
       → (new_came e i (node_at to y) (link_at to y) ≡ [])
       × (new_handed e i (node_at to y) (link_at to y) ≡ []))
       → IsWorld (world (after w i h e) wires)
-  queued fitting none_in none_out others = steady w sound i h e here next written late wires
+  queued fitting none_in none_out others = steady w sound i h e here is_made written late wires
       opens_none
       back forth carried
     where
@@ -97,10 +100,10 @@ module _ (w : Nodes) (sound : IsWorld w) (i : ℕ) (h : History) (e : Entry) (he
               let same : v ≡ x = value_of (sym its ∙ stands) in
               subst (λ u. Carries (after w i h e) u to) (ap (changed_queue at f) (sym same)
               ∙ sym made)
-              (carries_on w.nodes i h e here next.number legal x (changed_queue at f x)
+              (carries_on w.nodes i h e here is_made.step legal x (changed_queue at f x)
               (ends_same x) (sound.wired n x stands) to (sound.carried n x stands to)
               (fits at to fitting none_in none_out))
-          by (Kept apart its) = carries_on w.nodes i h e here next.number legal y y (same_ends y)
+          by (Kept apart its) = carries_on w.nodes i h e here is_made.step legal y y (same_ends y)
               (sound.wired m y its) to (sound.carried m y its to)
               (λ gets. still_fits (bodies (under_way to y)) (others m y apart its to).0
               (others m y apart its (other to)).1)

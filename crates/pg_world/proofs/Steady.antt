@@ -1,10 +1,11 @@
 -- A world stays one with an entry of one node.
 use Rattle.pg_world.proofs
-use proofs.Words.{ap, append-nil, bodies, Bool, came, Carries, ends, Entry, false, FramesAreLate}
-use proofs.Words.{handed, HasEnd, History, is_open, is_opened_by, IsEnd, IsLate, IsLegal, IsNext}
-use proofs.Words.{IsNode, IsWorld, IsWritten, lie, link_at, List, node_at, Nodes, not, other, refl}
-use proofs.Words.{Side, slice_get, slice_set, Some, subst, sym, true, under_way, Wire, with_entry}
-use proofs.Words.{world, ℕ, [], ◌&&◌, ◌++◌, ◌||◌, ◌∙◌, ◌≡◌}
+use proofs.Words.{ap, append-nil, arith, bodies, Bool, came, Carries, ends, entered, entered_next}
+use proofs.Words.{Entry, false, FramesAreLate, handed, HasEnd, History, is_open, is_opened_by}
+use proofs.Words.{IsEnd, IsLate, IsNext, IsNode, IsPlayed, IsStep, IsWorld, IsWritten, just, lie}
+use proofs.Words.{link_at, List, next_step, node_at, Nodes, not, other, refl, Side, slice_get}
+use proofs.Words.{slice_set, Some, subst, sym, true, under_way, Wire, world, ℕ, [], ◌&&◌, ◌++◌}
+use proofs.Words.{◌||◌, ◌∙◌, ◌∷◌, ◌≡◌, ◌≤◌}
 use proofs.Entering.{SameEnds, same_node, same_link, stays_wired, carries_on, none_came}
 use proofs.Entering.{none_handed}
 use proofs.Puts.{get_same, get_other, value_of, Compared, Same, Apart, compare}
@@ -12,34 +13,46 @@ use proofs.Puts.{get_same, get_other, value_of, Compared, Same, Apart, compare}
 pub same_ends : (x : Wire) → SameEnds x x
 same_ends x = record { from = refl; to = refl; dialled = refl; accepted = refl }
 
--- the histories after an entry of node i
+-- a step of a node, an entry or the loss of a link, for which its audit has room
+pub record IsMade (h : History) (e : Entry) : Type 0 where
+  pub step : IsStep h e
+  pub room : entered (e ∷ h.entries) ≤ h.opening.entries
+
+pub made_of : (h : History) (e : Entry) → IsNext h e → IsMade h e
+made_of h e next =
+    let more = entered_next e h.entries next.number in
+    let room = next.room in
+    record { step = next_step h e next; room = omega (arith, more, room) }
+
+-- the histories after a step of node i
 abbrev pub after : Nodes → ℕ → History → Entry → List History
-after w i h e = slice_set w.nodes i (with_entry h e)
+after w i h e = slice_set w.nodes i (just h e)
 
 module _ (w : Nodes) (sound : IsWorld w) (i : ℕ) (h : History) (e : Entry)
-    (here : slice_get w.nodes i ≡ Some h) (next : IsNext h e) (written : IsWritten e.event)
+    (here : slice_get w.nodes i ≡ Some h) (made : IsMade h e) (written : IsWritten e.event)
     (late : IsLate h.entries e.event) where
-  legal : IsLegal h
+  legal : IsPlayed h
   legal = (sound.nodes i h here).legal
 
   abbrev later : List History
   later = after w i h e
 
-  now_here : slice_get later i ≡ Some (with_entry h e)
-  now_here = get_same w.nodes i (with_entry h e) h here
+  now_here : slice_get later i ≡ Some (just h e)
+  now_here = get_same w.nodes i (just h e) h here
 
   -- what holds of each history holds so
   each : (P : History → Type 0) → ((k : ℕ) (g : History) → slice_get w.nodes k ≡ Some g → P g)
-      → P (with_entry h e) → (k : ℕ) (g : History) → slice_get later k ≡ Some g → P g
+      → P (just h e) → (k : ℕ) (g : History) → slice_get later k ≡ Some g → P g
   each P all this k g q = by (compare k i)
     where
       by : Compared k i → P g
       by (Same is) = subst P (value_of (sym now_here ∙ ap (slice_get later) (sym is) ∙ q)) this
-      by (Apart apart) = all k g (sym (get_other w.nodes i (with_entry h e) k apart) ∙ q)
+      by (Apart apart) = all k g (sym (get_other w.nodes i (just h e) k apart) ∙ q)
 
   pub nodes_after : (k : ℕ) (g : History) → slice_get later k ≡ Some g → IsNode g
   nodes_after = each IsNode sound.nodes (let node = sound.nodes i h here in record {
-    legal = (next, node.legal);
+    legal = (made.step, node.legal);
+    room = made.room;
     name = node.name;
     creation = node.creation;
     entries = node.entries;
@@ -70,7 +83,7 @@ module _ (w : Nodes) (sound : IsWorld w) (i : ℕ) (h : History) (e : Entry)
       by (Apart apart) =
           record {
             before = g;
-            stands = sym (get_other w.nodes i (with_entry h e) k apart) ∙ q;
+            stands = sym (get_other w.nodes i (just h e) k apart) ∙ q;
             opening = refl;
           }
 
@@ -104,7 +117,7 @@ module _ (w : Nodes) (sound : IsWorld w) (i : ℕ) (h : History) (e : Entry)
           (is_open l h.entries) refl
           (subst (λ v. is_open l v.entries ≡ true)
           (sym (value_of (sym now_here ∙ ap (slice_get later) (sym is) ∙ q))) opens)
-      by (Apart apart) = WasOpen g (sym (get_other w.nodes i (with_entry h e) k apart) ∙ q) opens
+      by (Apart apart) = WasOpen g (sym (get_other w.nodes i (just h e) k apart) ∙ q) opens
 
   -- ---- the wires have the ends that they had
 
@@ -144,7 +157,7 @@ module _ (w : Nodes) (sound : IsWorld w) (i : ℕ) (h : History) (e : Entry)
       nodes = nodes_after;
       late = late_after;
       names = names_after;
-      wired = λ n y q. (let x = back n y q in stays_wired w.nodes i h e here next.number legal x.0 y
+      wired = λ n y q. (let x = back n y q in stays_wired w.nodes i h e here made.step legal x.0 y
           x.2 (sound.wired n x.0 x.1));
       carried = carried;
       once = λ m n x y j k a l p q r s. (
@@ -160,7 +173,7 @@ module _ (w : Nodes) (sound : IsWorld w) (i : ℕ) (h : History) (e : Entry)
       → ((l : ℕ) → handed l e.event e.verdict ≡ []) → IsWorld (world later w.wires)
   quiet opens none_in none_out = steady w.wires opens (λ n y q. (y, q, same_ends y))
       (λ n x q. (x, q, same_ends x)) (λ n y q to.
-      carries_on w.nodes i h e here next.number legal y y (same_ends y) (sound.wired n y q) to
+      carries_on w.nodes i h e here made.step legal y y (same_ends y) (sound.wired n y q) to
       (sound.carried n y q to)
       (λ gets. ap (λ v. v ++ bodies (under_way to y)) (none_came e i none_in (node_at to y)
       (link_at to y)) ∙ sym (append-nil (bodies (under_way to y)))

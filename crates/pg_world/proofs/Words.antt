@@ -1,12 +1,12 @@
 -- The words that the proofs of this crate speak in, passed on from one place.
 pub use Rattle.std.proofs.Common.{ap, arith, Bool, codes, cond, drop, Err, false, get_or, IsTrue}
 pub use Rattle.std.proofs.Common.{length, List, nat_eq, None, not, Ok, Option, refl, Some, subst}
-pub use Rattle.std.proofs.Common.{suc, sym, take, true, zero, ℕ, [], ◌&&◌, ◌++◌, ◌+◌, ◌<◌, ◌||◌}
-pub use Rattle.std.proofs.Common.{◌∙◌, ◌∷◌, ◌≡◌, ◌≢◌, ◌≤◌}
+pub use Rattle.std.proofs.Common.{suc, sym, take, true, zero, ℕ, [], ◌&&◌, ◌++◌, ◌+◌, ◌<◌}
+pub use Rattle.std.proofs.Common.{◌||◌, ◌∙◌, ◌∷◌, ◌≡◌, ◌≢◌, ◌≤◌}
 pub use Rattle.std.proofs.lemmas.Bool.{and_parts, eq-eqb, eqb-false, eqb-true, ltb-true}
 pub use Rattle.std.proofs.lemmas.Bool.Decides.{Decides-eqb}
 pub use Rattle.std.proofs.lemmas.List.{append-nil, append_assoc, length-set, map-append, set-get_or}
-pub use Rattle.std.proofs.lemmas.List.{take_at}
+pub use Rattle.std.proofs.lemmas.List.{set-set, take_at}
 pub use Rattle.std.proofs.lemmas.Option.{get_or_from_slice_get, slice_get-get_or, slice_get_past}
 pub use Rattle.std.proofs.lemmas.Option.{slice_get_read, slice_get_within}
 pub use Rattle.std.proofs.lemmas.Result.{err_from_is_err_and}
@@ -30,6 +30,7 @@ pub use Rattle.frame_laws.proofs.Greetings.{asked_own, named_own}
 pub use Rattle.frame_laws.proofs.Handing.{all_handed, open_rest}
 pub use Rattle.frame_laws.proofs.Hearing.{given_here}
 pub use Rattle.frame_laws.proofs.HonestNode.{frame_of}
+pub use Rattle.frame_laws.proofs.Numbers.{entered_more, entered_next, unopened}
 pub use Rattle.frame_laws.proofs.OneView.{heard_moment, listed_now}
 pub use Rattle.frame_laws.proofs.Openings.{opened_number, opening_is, opening_low, unborn_out}
 pub use Rattle.frame_laws.specs.HeardMoment.{HearsMoment}
@@ -43,18 +44,21 @@ pub use Rattle.handshake_frames.specs.Frame.{Name}
 pub use Rattle.node_core.specs.declared.fault.CoreFault.{CoreFault}
 pub use Rattle.policy_audit.proofs.Accepted.{accepted, lie, no_value}
 pub use Rattle.policy_audit.proofs.ChangeLemmas.{next_is}
+pub use Rattle.policy_audit.proofs.Losses.{entry_played, next_step}
 pub use Rattle.policy_audit.proofs.UpLinks.{agrees}
 pub use Rattle.policy_audit.proofs.Walked.{but}
 pub use Rattle.policy_audit.specs.Checks.{Check, checks, first_broken, frame_checks}
 pub use Rattle.policy_audit.specs.Hearing.{heard}
-pub use Rattle.policy_audit.specs.History.{creation, History, is_accepted}
+pub use Rattle.policy_audit.specs.History.{creation, entered, History, is_accepted, just}
+pub use Rattle.policy_audit.specs.History.{lose, loss, past}
 pub use Rattle.policy_audit.specs.Links.{ends, is_open, is_opened_by, is_up}
 pub use Rattle.policy_audit.specs.Listed.{listed}
 pub use Rattle.policy_audit.specs.OutFrame.{OutFrame}
-pub use Rattle.policy_audit.specs.Owed.{is_kept, waiting}
+pub use Rattle.policy_audit.specs.Owed.{is_kept, slow_links, waiting, with_entry}
 pub use Rattle.policy_audit.specs.Own.{is_local}
-pub use Rattle.policy_audit.specs.Policy.{after, answer, entry_of, is_full, IsLegal, IsLegalIn}
-pub use Rattle.policy_audit.specs.Policy.{IsNext, judged, next_number, verdict, with_entry}
+pub use Rattle.policy_audit.specs.Policy.{after, answer, entry_of, is_full}
+pub use Rattle.policy_audit.specs.Policy.{IsNext, IsNumbered, IsPlayed, IsPlayedIn, IsStep}
+pub use Rattle.policy_audit.specs.Policy.{judged, next_number, verdict}
 pub use Rattle.policy_audit.specs.Sides.{Awaited, AwaitName, awaits, ByDial, ByPeer, given}
 pub use Rattle.policy_audit.specs.Sides.{is_whole, is_whole_in, Opened, opened, peer_of}
 pub use Rattle.policy_audit.specs.Sides.{present_link, Start, start_of, taken}

@@ -1,10 +1,11 @@
 -- The invariant of a world.
-use Rattle.std.specs.Prelude.{◌≡◌, ℕ, ◌≤◌, Bool, true, List, [], ◌∷◌, ◌++◌, Option, Some, length, slice_get, map, IsTrue}
+use Rattle.std.specs.Prelude.{◌≡◌, ℕ, ◌≤◌, Bool, true, List, [], ◌∷◌, ◌++◌, Option, Some, slice_get}
+use Rattle.std.specs.Prelude.{map, IsTrue}
 use Rattle.policy_audit.specs.declared.event.Event.{Event}
 use Rattle.policy_audit.specs.declared.event.Event.TheVariants as event
 use Rattle.policy_audit.specs.declared.entry.Entry.{Entry}
 use Rattle.policy_audit.specs.OutFrame.{OutFrame}
-use Rattle.policy_audit.specs.History.{History}
+use Rattle.policy_audit.specs.History.{History, entered}
 use Rattle.policy_audit.specs.Sides.{ByPeer, ByDial}
 use Rattle.policy_audit.specs.Links.{is_open}
 use Rattle.frame_laws.specs.Sent.{sent, delivered}
@@ -26,7 +27,7 @@ IsWrittenStep t = Unit {0}
 
 -- a frame comes on a link that an earlier entry may have opened
 abbrev pub IsLate : List Entry → Event → Type 0
-IsLate es (event.Frame l body) = l ≤ length es
+IsLate es (event.Frame l body) = l ≤ entered es
 IsLate es e = Unit {0}
 
 -- no frame came on a link before that was opened

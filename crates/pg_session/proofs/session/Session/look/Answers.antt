@@ -9,4 +9,4 @@ returns-clause-told g c =
     (λ news. news_more c.self.inside.news c.self.inside.news c.put_peers.new.self
     c.args.out.now.items c.put_stops.new.out.items c.put_peers.new.out.items
     (c.in_ok-put_stops.ensures c.self.inside.news) news)
-    c.put_peers.ensures)
+    c.put_peers.ensures.told)

@@ -1,0 +1,22 @@
+use Rattle.std.proofs.Common.{sym, ◌∙◌}
+use Rattle.pg_session.specs.Notices.{has_gone}
+use Rattle.pg_session.proofs.Places.{place_within, no_place}
+use Rattle.pg_session.proofs.Telling.{news_none, news_more}
+use Rattle.pg_session.proofs.news.News.put_ended.Goals as goal
+
+pub loop-place-init : goal.loop-place-init
+loop-place-init c = news_none c.args.self.now c.args.out.now.items
+
+pub put_gone-requires : goal.put_gone-requires
+put_gone-requires c = place_within (has_gone c.args.core.now) c.loop-place.self.peers
+    c.in-Some.place (sym c.in-Some.ensures)
+
+pub loop-place-preserved : goal.loop-place-preserved
+loop-place-preserved c =
+    news_more c.args.self.now c.loop-place.self c.put_gone.new.self c.args.out.now.items
+    c.loop-place.out.items c.put_gone.new.out.items c.loop-place.invariant
+    c.in_ok-put_gone.ensures.told
+
+pub returns-clause-up : goal.returns-clause-up
+returns-clause-up c = no_place (has_gone c.args.core.now) c.loop-place.self.peers
+    (sym c.place_of_ended.ensures ∙ c.in_default.is)
