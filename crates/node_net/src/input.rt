@@ -4,6 +4,7 @@ use crate::guard::ReflectionGuard;
 use crate::lanes::Lanes;
 use crate::limits::PULSES;
 use crate::output::{Outlet, has_stood_still};
+use crate::patience::HostedLink;
 use crate::progress::Progress;
 use std::io::{self, ErrorKind, Read};
 use std::net::TcpStream;
@@ -26,9 +27,7 @@ pub(crate) enum Stage {
 /// for a pulse, and the link is lost after eight of them without a byte.
 #[derive(Drop)]
 pub(crate) struct LinkInput<'a, R: Wait + Clock> {
-    pub(crate) rt: &'a R,
-    pub(crate) lanes: &'a Lanes<'a>,
-    pub(crate) link: u32,
+    pub(crate) at: &'a HostedLink<'a, R>,
     pub(crate) stream: &'a TcpStream,
     pub(crate) outlet: &'a Outlet<'a>,
     pub(crate) progress: &'a Progress,
@@ -43,21 +42,18 @@ impl<R: Wait + Clock> LinkInput<'_, R> {
         };
         if self.progress.is_up() {
             if guard.is_some() {
-                self.outlet.has_come_up(self.rt)?;
+                self.outlet.has_come_up(self.at.rt)?;
             }
             self.stage = Stage::Up(0);
             return self
                 .stream
-                .set_read_timeout(Some(self.lanes.limits().pulse()));
+                .set_read_timeout(Some(self.at.lanes.limits().pulse()));
         }
         if *heard > LONGEST_HANDSHAKE {
             return Err(io::Error::from(ErrorKind::InvalidData));
         }
-        let left = self
-            .lanes
-            .limits()
-            .setup
-            .saturating_sub(start.elapsed(self.rt)?);
+        let HostedLink { rt, lanes, .. } = *self.at;
+        let left = lanes.limits().setup.saturating_sub(start.elapsed(rt)?);
         if left.is_zero() {
             return Err(io::Error::from(ErrorKind::TimedOut));
         }
@@ -69,7 +65,7 @@ impl<R: Wait + Clock> LinkInput<'_, R> {
         match &mut self.stage {
             Stage::Handshake(_, heard, guard) => {
                 *heard = heard.saturating_add(piece.len());
-                look_for_reflection(self.rt, self.lanes, guard, piece)
+                look_for_reflection(self.at.rt, self.at.lanes, guard, piece)
             }
             Stage::Up(silent) => {
                 *silent = 0;
@@ -86,7 +82,7 @@ impl<R: Wait + Clock> LinkInput<'_, R> {
                 ErrorKind::Interrupted
             }
             Stage::Up(_) => {
-                self.lanes.note(self.rt, self.link, Ending::Silent);
+                self.at.note(Ending::Silent);
                 ErrorKind::TimedOut
             }
             Stage::Handshake(..) => ErrorKind::TimedOut,
@@ -95,9 +91,9 @@ impl<R: Wait + Clock> LinkInput<'_, R> {
 
     /// Writes a tick, where one is due.
     fn tick(&self) -> io::Result<()> {
-        let ticked = self.outlet.tick(self.rt);
+        let ticked = self.outlet.tick(self.at);
         if has_stood_still(&ticked) {
-            self.lanes.note(self.rt, self.link, Ending::Slow);
+            self.at.note(Ending::Slow);
         }
         ticked
     }

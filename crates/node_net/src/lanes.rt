@@ -4,6 +4,7 @@ ghost use Rattle.std.specs.Prelude.{◌≡◌, IfOk};
 use crate::endings::{Ending, Endings};
 use crate::lane::Lane;
 use crate::limits::Limits;
+use crate::writers::Writers;
 use std::alloc::Global;
 use std::io::{self, ErrorKind};
 use std::net::{Shutdown, TcpStream};
@@ -76,6 +77,7 @@ pub struct Lanes<'a> {
     stopped: Condvar,
     limits: Limits,
     endings: &'a Endings,
+    writers: &'a Writers,
     reflections: AtomicU64,
     fillings: AtomicU64,
     early_ends: AtomicU64,
@@ -89,6 +91,7 @@ impl Drop for Lanes<'_> {
             stopped: _,
             limits: _,
             endings: _,
+            writers: _,
             reflections: _,
             fillings: _,
             early_ends: _,
@@ -98,13 +101,15 @@ impl Drop for Lanes<'_> {
 
 impl<'a> Lanes<'a> {
     /// For so many dials, each of one thread that keeps dialling. While no link to its peer is up, one free lane is kept for it
-    /// that no connection takes which a peer has opened; for all together at most 32 are. Why links end is noted in `endings`.
+    /// that no connection takes which a peer has opened; for all together at most 32 are. Why links
+    /// end is noted in `endings`, and how their writers get on in `writers`.
     pub fn new(
         alloc: Global,
         lanes: Vec<Lane>,
         dials: usize,
         limits: Limits,
         endings: &'a Endings,
+        writers: &'a Writers,
     ) -> Lanes<'a> {
         let state = State {
             free: lanes,
@@ -120,6 +125,7 @@ impl<'a> Lanes<'a> {
             stopped: Condvar::new(),
             limits,
             endings,
+            writers,
             reflections: AtomicU64::new(0),
             fillings: AtomicU64::new(0),
             early_ends: AtomicU64::new(0),
@@ -134,6 +140,7 @@ impl<'a> Lanes<'a> {
             stopped: _,
             limits: _,
             endings: _,
+            writers: _,
             reflections: _,
             fillings: _,
             early_ends: _,
@@ -149,6 +156,19 @@ impl<'a> Lanes<'a> {
     /// Notes why a link ends, before its worker says that it is lost.
     pub(crate) fn note<R: Wait>(&self, rt: &R, link: u32, ending: Ending) {
         self.endings.note(rt, link, ending);
+    }
+
+    pub(crate) fn enter_writer<R: Wait>(&self, rt: &R, link: u32) {
+        self.writers.enter(rt, link);
+    }
+
+    pub(crate) fn leave_writer<R: Wait>(&self, rt: &R, link: u32) {
+        self.writers.leave(rt, link);
+    }
+
+    /// Notes whether the writer of a link stands still.
+    pub(crate) fn note_writer<R: Wait>(&self, rt: &R, link: u32, stands_still: bool) {
+        self.writers.note(rt, link, stands_still);
     }
 
     /// What was met up to now.

@@ -14,9 +14,11 @@ mod lane;
 mod lanes;
 mod limits;
 mod output;
+mod patience;
 mod progress;
 mod serving;
 mod tries;
+mod writers;
 
 pub use accepting::{start_accepting, take_connections};
 pub use arrivals::{Arrivals, start_taking};
@@ -26,3 +28,4 @@ pub use endings::{Ending, Endings};
 pub use lane::{Lane, UsedPass};
 pub use lanes::{Lanes, Met};
 pub use limits::Limits;
+pub use writers::Writers;

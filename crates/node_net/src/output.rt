@@ -1,7 +1,7 @@
 //! What goes out on a link: frames by its writer, and ticks by its reader.
 use crate::endings::Ending;
-use crate::lanes::Lanes;
 use crate::limits::Limits;
+use crate::patience::{HostedLink, look};
 use node_threads::LinkOut;
 use std::io::{self, ErrorKind, Write};
 use std::net::{Shutdown, TcpStream};
@@ -18,6 +18,9 @@ const ACK: [u8; 3] = [0, 17, b'a'];
 
 /// For how many milliseconds a writer rests, so that messages gather.
 const GATHERING: u64 = 3;
+
+/// Where more frames than this wait, a writer doesn't rest.
+const MANY: usize = 64;
 
 /// How many messages may go out singly, one right behind the other, before a writer rests all the same.
 const SINGLES: u64 = 20;
@@ -63,14 +66,14 @@ pub(crate) struct Outlet<'a> {
 }
 
 impl<'a> Outlet<'a> {
-    /// Of a connection without a link. Its writes may stand still for the time of the limits.
+    /// Of a connection without a link. Its writes come back soon where they stand still.
     pub(crate) fn new<R: Clock>(
         rt: &R,
         stream: &'a TcpStream,
         limits: Limits,
     ) -> io::Result<Outlet<'a>> {
         stream.set_nodelay(true)?;
-        stream.set_write_timeout(Some(limits.tick))?;
+        stream.set_write_timeout(Some(look(limits.tick)))?;
         let written = Written {
             is_up: false,
             last: Instant::now(rt)?,
@@ -97,11 +100,10 @@ impl<'a> Outlet<'a> {
     }
 
     /// Writes a batch of frames. Whether the writer is to rest: several messages had gathered, or too many have gone out singly.
-    fn send<R: Wait + Clock>(&self, rt: &R, batch: &[u8]) -> io::Result<bool> {
-        let mut written = self.written.lock(rt);
-        let mut stream = self.stream;
-        stream.write_all(batch)?;
-        written.has_gone_out(Instant::now(rt)?);
+    fn send<R: Wait + Clock>(&self, at: &HostedLink<'_, R>, batch: &[u8]) -> io::Result<bool> {
+        let mut written = self.written.lock(at.rt);
+        at.write_all(self.stream, batch)?;
+        written.has_gone_out(Instant::now(at.rt)?);
         if !written.is_up {
             written.is_up = batch.starts_with(&ACK);
             return Ok(false);
@@ -110,14 +112,13 @@ impl<'a> Outlet<'a> {
     }
 
     /// Writes a tick, where nothing has gone out for a pulse. During a write none is needed.
-    pub(crate) fn tick<R: Wait + Clock>(&self, rt: &R) -> io::Result<()> {
+    pub(crate) fn tick<R: Wait + Clock>(&self, at: &HostedLink<'_, R>) -> io::Result<()> {
         let Some(mut written) = self.written.try_lock() else {
             return Ok(());
         };
-        if written.is_up && written.last.elapsed(rt)? >= self.pulse {
-            let mut stream = self.stream;
-            stream.write_all(&TICK)?;
-            written.has_gone_out(Instant::now(rt)?);
+        if written.is_up && written.last.elapsed(at.rt)? >= self.pulse {
+            at.write_all(self.stream, &TICK)?;
+            written.has_gone_out(Instant::now(at.rt)?);
         }
         Ok(())
     }
@@ -142,21 +143,33 @@ fn are_several(batch: &[u8]) -> bool {
 /// What the writer of a link writes to.
 #[derive(Drop)]
 pub(crate) struct LinkOutput<'a, R: Wait + Clock> {
-    pub(crate) rt: &'a R,
-    pub(crate) lanes: &'a Lanes<'a>,
-    pub(crate) link: u32,
-    pub(crate) outlet: &'a Outlet<'a>,
+    at: &'a HostedLink<'a, R>,
+    outlet: &'a Outlet<'a>,
+}
+
+impl<'a, R: Wait + Clock> LinkOutput<'a, R> {
+    pub(crate) fn begin(at: &'a HostedLink<'a, R>, outlet: &'a Outlet<'a>) -> LinkOutput<'a, R> {
+        at.lanes.enter_writer(at.rt, at.link);
+        LinkOutput { at, outlet }
+    }
+
+    /// Rests, so that messages gather, unless many wait already.
+    fn rest(&self) {
+        if self.at.waiting().unwrap_or(0) <= MANY {
+            thread::sleep(self.at.rt, Duration::from_millis(GATHERING));
+        }
+    }
 }
 
 impl<R: Wait + Clock> Write for LinkOutput<'_, R> {
     /// Writes all, and rests then where messages come so often that they are better taken together: each Take is an entry.
     fn write(&mut self, buf: &[u8]) -> io::Result<usize> {
-        let sent = self.outlet.send(self.rt, buf);
+        let sent = self.outlet.send(self.at, buf);
         if has_stood_still(&sent) {
-            self.lanes.note(self.rt, self.link, Ending::Slow);
+            self.at.note(Ending::Slow);
         }
         if sent? {
-            thread::sleep(self.rt, Duration::from_millis(GATHERING));
+            self.rest();
         }
         Ok(buf.len())
     }
@@ -168,6 +181,7 @@ impl<R: Wait + Clock> Write for LinkOutput<'_, R> {
 
 impl<R: Wait + Clock> LinkOut for LinkOutput<'_, R> {
     fn hang_up(&mut self) {
+        self.at.lanes.leave_writer(self.at.rt, self.at.link);
         // A socket that can't be shut down has ended already.
         self.outlet.stream.shutdown(Shutdown::Both).ok();
     }

@@ -8,6 +8,7 @@ use crate::input::{LinkInput, Stage};
 use crate::lane::Lane;
 use crate::lanes::Ticket;
 use crate::output::{LinkOutput, Outlet};
+use crate::patience::HostedLink;
 use crate::progress::Progress;
 use dist_types::{NodeName, OutOfMemory, TryClone};
 use node_threads::Connection;
@@ -90,24 +91,23 @@ fn serve_entered<R: Threads + Wait + Clock + Sync>(
     let Some(link) = lane.open(rt, node, event) else {
         return (lane, false);
     };
+    let at = HostedLink {
+        rt,
+        node,
+        lanes,
+        link,
+    };
     let progress = Progress::new();
     let connection = Connection {
         link,
         input: LinkInput {
-            rt,
-            lanes,
-            link,
+            at: &at,
             stream,
             outlet: &outlet,
             progress: &progress,
             stage: Stage::Handshake(start, 0, opener.guard(alloc)),
         },
-        output: LinkOutput {
-            rt,
-            lanes,
-            link,
-            outlet: &outlet,
-        },
+        output: LinkOutput::begin(&at, &outlet),
     };
     let lane = lane.serve(rt, alloc, node, connection, &progress);
     let came_up = outlet.was_up(rt);

@@ -1,11 +1,12 @@
 //! One connection: a thread answers its lines, and another tells its news.
-use pg_hub::Hub;
+use pg_hub::{Hub, Promise};
 use pg_session::{Next, Seen};
 use pg_streams::{self, Lines, is_too_long};
 use pg_text::put_word;
 use std::io::{self, ErrorKind, Write};
 use std::sync::atomic::{AtomicBool, Ordering};
 use std::sync::{Mutex, Wait};
+use std::time::Clock;
 
 /// Behind how many lines in a row a connection lets others go first.
 const IN_A_ROW: u32 = 16;
@@ -40,7 +41,7 @@ impl<'a> Desk<'a> {
     }
 
     /// Answers lines until there are no more, or one ends the program.
-    pub fn answer_all<R: Wait, L: Lines, W: Write>(
+    pub fn answer_all<R: Wait + Clock, L: Lines, W: Write>(
         &self,
         rt: &R,
         lines: &mut L,
@@ -68,7 +69,7 @@ impl<'a> Desk<'a> {
     }
 
     /// Answers a line, which may end the program, or one that was lost.
-    fn answer_one<R: Wait, W: Write>(
+    fn answer_one<R: Wait + Clock, W: Write>(
         &self,
         rt: &R,
         line: Option<&[u8]>,
@@ -79,10 +80,13 @@ impl<'a> Desk<'a> {
         hub.wait_for_room(rt);
         let printing = self.printing.lock(rt);
         out.clear();
+        let promise = Promise::of_line(line.unwrap_or(&[]));
+        hub.let_through(rt, &promise);
         // From here to its answer a line waits for no client.
         hub.crowd.enter();
         let next = self.answer(rt, line, out);
         hub.crowd.leave(rt);
+        hub.has_called(rt, promise);
         let next = next?;
         send(writer, out.as_slice())?;
         drop(printing);

@@ -118,7 +118,7 @@ fn start_serving<'s, E: 's, R: Threads + Wait + Clock + Sync + 's>(
 }
 
 /// The connection of a seat has ended.
-fn give_up<R: Wait>(rt: &R, hub: &Hub, seat: usize) {
+fn give_up<R: Wait + Clock>(rt: &R, hub: &Hub, seat: usize) {
     hub.clients.remove(rt, seat);
     hub.leave(rt, seat);
 }
@@ -164,7 +164,12 @@ fn tell<R: Wait>(rt: &R, desk: &Desk<'_>, seen: Seen, stream: &UnixStream) {
 }
 
 /// Answers lines until there are no more, and ends the connection.
-fn answer<R: Wait>(rt: &R, desk: &Desk<'_>, reader: BufReader<&UnixStream>, stream: &UnixStream) {
+fn answer<R: Wait + Clock>(
+    rt: &R,
+    desk: &Desk<'_>,
+    reader: BufReader<&UnixStream>,
+    stream: &UnixStream,
+) {
     let mut writer = stream;
     desk.answer_all(rt, &mut ReadLines { reader }, &mut writer)
         .ok();

@@ -5,6 +5,7 @@ use pg_session::Seen;
 use pg_streams::{QueuedLines, QueuedOutput, Streams};
 use std::sync::Wait;
 use std::thread::{Scope, Threads};
+use std::time::Clock;
 
 /// The operator of the node.
 #[derive(Drop)]
@@ -25,7 +26,7 @@ impl<'a> Operator<'a> {
     }
 
     /// Answers the lines of standard input.
-    fn answer<R: Wait>(&self, rt: &R) {
+    fn answer<R: Wait + Clock>(&self, rt: &R) {
         let Streams { lines, output } = self.streams;
         let hub = self.desk.hub;
         let mut lines = QueuedLines { rt, lines };
@@ -79,7 +80,7 @@ impl<'a> Operator<'a> {
 }
 
 /// Starts the threads of the operator, who has been told so much: whether all could be made.
-pub fn start_operator<'s, E: 's, R: Threads + Wait + Sync + 's>(
+pub fn start_operator<'s, E: 's, R: Threads + Wait + Clock + Sync + 's>(
     scope: &'s Scope<'s, E>,
     rt: &'s R,
     operator: &'s Operator<'_>,

@@ -1,17 +1,19 @@
 //! What all threads of the program share: the node, and the seats of its connections.
 
+use crate::brake::{Brake, Promise};
 use crate::clients::Clients;
 use crate::crowd::Crowd;
 use crate::twins::Twins;
 use dist_types::{NodeName, OutOfMemory};
 use node_core::NodeCore;
-use node_net::{Ending, Endings};
+use node_net::{Ending, Endings, Writers};
 use node_threads::{Node, Pass, Shared};
 use pg_session::{DownReason, Lack, LostLinks, Next, Roster, Seen, Session};
 use pg_streams::Warnings;
 use std::alloc::Global;
 use std::sync::atomic::{AtomicBool, AtomicU32, Ordering};
 use std::sync::{Arc, Mutex, RwLock, Wait};
+use std::time::Clock;
 
 /// The passes that no lane has.
 #[derive(Drop)]
@@ -40,6 +42,9 @@ pub struct Hub {
     pub warnings: Arc<Warnings>,
     /// Why links of this life have ended.
     pub endings: Endings,
+    /// How the writers of its links get on.
+    pub writers: Writers,
+    pub(crate) brake: Brake,
     /// The most entries of an audit.
     entries: u32,
     is_quitting: AtomicBool,
@@ -71,6 +76,8 @@ impl Hub {
             twins: Mutex::new(Twins::new(alloc)),
             warnings,
             endings: Endings::new(),
+            writers: Writers::new(),
+            brake: Brake::new(),
             entries,
             is_quitting: AtomicBool::new(false),
             is_wanting: AtomicBool::new(false),
@@ -175,14 +182,26 @@ impl Hub {
     }
 
     /// Gives a seat back, once what its connection had has ended. At the end of the program all ends with the node.
-    pub fn leave<R: Wait>(&self, rt: &R, seat: usize) {
+    pub fn leave<R: Wait + Clock>(&self, rt: &R, seat: usize) {
         for _ in rt.forever() {
             self.wait_for_room(rt);
-            if self.is_quitting() || !self.leave_one(rt, seat) {
+            let Some(promise) = self.promise_of_an_end(rt, seat) else {
+                return;
+            };
+            self.let_through(rt, &promise);
+            let had_one = !self.is_quitting() && self.leave_one(rt, seat);
+            self.has_called(rt, promise);
+            if !had_one {
                 return;
             }
         }
         unreachable!()
+    }
+
+    fn promise_of_an_end<R: Wait>(&self, rt: &R, seat: usize) -> Option<Promise> {
+        let house = self.house.read(rt);
+        let session = house.sessions.get(seat)?.lock(rt);
+        Some(Promise::of_an_end(&session))
     }
 
     /// Ends one thing that a connection had. The lock is free behind each, so that others are answered meanwhile.

@@ -31,8 +31,16 @@ pub fn live<R: Host>(rt: &R, site: Site<'_>, lanes: Vec<Lane>) -> Vec<Lane> {
         arrivals,
     } = site;
     hub.endings.clear(rt);
+    hub.writers.begin_life(rt, links.limits);
     let dials = links.targets.len();
-    let lanes = Lanes::new(hub.alloc, lanes, dials, links.limits, &hub.endings);
+    let lanes = Lanes::new(
+        hub.alloc,
+        lanes,
+        dials,
+        links.limits,
+        &hub.endings,
+        &hub.writers,
+    );
     thread::scope(thread::scope_env(), rt, |scope| {
         if !start_all(scope, rt, site, &lanes) {
             hub.warn(rt, "warning: no thread can be made for a link");

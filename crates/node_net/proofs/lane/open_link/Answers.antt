@@ -18,3 +18,7 @@ returns-in-Ok-Link g c =
 pub returns-2 : goal.returns-2
 returns-2 g c = opens_untold c.args.pass.now c.call.follows.lender-at-none c.args.event
     c.requires.opening.0 c.requires.opening.1 _ c.call.follows.holds-at-none
+
+pub returns : goal.returns
+returns g c = opens_untold c.args.pass.now c.call.follows.lender-at-none c.args.event
+    c.requires.opening.0 c.requires.opening.1 _ c.call.follows.holds-at-none
