@@ -1,7 +1,7 @@
 """Wrong models, each named for its wrong deed: a run must notice every one of them."""
 
 from frames import RowsJoin, RowsLeave, read_message
-from history import Allow, Begin, Frame, Join, Leave, Lost, Restart, Updates, looks_back
+from history import Allow, Begin, Frame, Join, Leave, Lost, Restart, Take, Updates, looks_back
 from links import Awaited
 from listed import groups_of, members_of
 from model import Model
@@ -168,6 +168,47 @@ class refused_updates_move_the_place(Model):
 class gives_up_no_dial(Model):
     def gives_up(self, h, other, link):
         return False
+
+
+class drops_the_oldest_frame(Model):
+    def is_slow(self, h, link):
+        return False
+
+    @looks_back
+    def waiting(self, h, link):
+        return super().waiting(h, link)[-self.most_waiting:]
+
+
+class ends_a_slow_link_one_event_late(Model):
+    def is_slow(self, h, link):
+        return h.said is not None and self.owed_since(h.past, link) > self.most_waiting
+
+
+class counts_from_the_last_take_of_any_link(Model):
+    @looks_back
+    def owed_since(self, h, link):
+        return 0 if isinstance(h.said, Take) else super().owed_since(h, link)
+
+
+class keeps_the_rows_of_a_slow_peer(Model):
+    @looks_back
+    def present_links(self, h):
+        return self.links_by_event(h)
+
+    def is_name_up(self, h, name):
+        link = self.present_link(h, name)
+        return link is not None and self.is_open(h, link)
+
+    def hears(self, h, link, scope):
+        return self.heard(h, link, scope)
+
+
+class ends_a_link_at_its_last_frame(Model):
+    most_waiting = 1023
+
+
+class lets_one_frame_more_wait(Model):
+    most_waiting = 1025
 
 
 EDITS = {name: edit for name, edit in list(globals().items()) if isinstance(edit, type) and issubclass(edit, Model) and edit is not Model}

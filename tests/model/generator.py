@@ -3,7 +3,7 @@
 from random import Random
 
 from faults import FAULTS
-from frames import Discover, message_body
+from frames import Discover, Sync, message_body
 from history import Monitor, MonitorScope, Opening
 from limits import LIMITS
 from peers import COOKIES, GROUPS, PEERS, SCOPES, Peers
@@ -31,6 +31,12 @@ MONITORS = {
 }
 EVERYTHING = {action: 3 for theme in (LINKS, ROWS, OWN, MONITORS) for action in theme} | {'restart': 1, 'advance': 12, 'message': 12}
 THEMES = (LINKS, ROWS, OWN, MONITORS, EVERYTHING)
+BEHIND_A_BURST = (
+    'join', 'leave', 'exit', 'start', 'stop', 'exchange', 'exchange', 'message', 'take', 'lost',
+    'disconnect', 'members', 'groups', 'updates', 'updates', 'handshake', 'dial',
+)
+# Every so many scripts one has a burst, and another one meets a limit.
+PERIOD = 40
 
 
 class Generator(Peers):
@@ -186,6 +192,7 @@ class Generator(Peers):
                 break
             if self.chance(15):
                 self.say('take', link)
+        return link
 
     def wrong(self):
         if (link := self.link()) is not None:
@@ -237,6 +244,29 @@ class Generator(Peers):
         if not self.model.tells(self.h, link, scope):
             self.frame(link, message_body(Discover(scope)))
 
+    def told_link(self, scope):
+        """A link that comes up, is told of a scope and states rows there, mostly."""
+        link = self.handshake()
+        if self.model.is_up(self.h, link):
+            self.tell_of(link, scope)
+            self.frame(link, message_body(Sync(scope, self.peer_rows(link, 0, 3))))
+        if self.chance(60):
+            self.say('take', link)
+
+    def burst(self):
+        """Tells some links of about as many joins as end them, and then whatever may end those that are left."""
+        scope, group, pid = self.scope(100), self.one_of(GROUPS), self.say('spawn').split()[-1]
+        for _ in range(self.one_of((1, 2, 2, 3))):
+            self.told_link(scope)
+        if self.chance(70):
+            self.monitor()
+        for _ in range(self.rng.randint(1020, 1030)):
+            self.say('join', scope, group, pid)
+            if self.chance(0.05):
+                self.take()
+        for action in self.rng.choices(BEHIND_A_BURST, k=20):
+            getattr(self, action)()
+
     def some_link(self):
         """A link, mostly one that is kept."""
         kept = [link for link in self.model.links(self.h) if self.model.is_kept(self.h, link)]
@@ -258,13 +288,18 @@ def opening_of(rng):
     return Opening(rng.choice(('b@h', 'm@h', 'b@h')), rng.choice(('password', 'secret')), rng.random() < 0.06, creation, entries)
 
 
+def write(writer, rng, length):
+    """Writes lines of a theme, at least so many."""
+    theme = rng.choice(THEMES)
+    actions, weights = list(theme), list(theme.values())
+    while len(writer.lines) < length:
+        getattr(writer, rng.choices(actions, weights)[0])()
+
+
 def of_theme(rng, title):
     """A script of 30 to 150 lines, and at times one that ends with a fault."""
     writer = Generator(rng, opening_of(rng))
-    theme = rng.choice(THEMES)
-    actions, weights, length = list(theme), list(theme.values()), rng.randint(30, 130)
-    while len(writer.lines) < length:
-        getattr(writer, rng.choices(actions, weights)[0])()
+    write(writer, rng, rng.randint(30, 130))
     if writer.chance(5):
         for number in range(writer.h.number + 1):
             writer.say('audit', number)
@@ -274,9 +309,19 @@ def of_theme(rng, title):
     return writer.script(title, writer.chance(10))
 
 
+def with_burst(rng, title):
+    """A script of a theme that ends with a burst."""
+    writer = Generator(rng, opening_of(rng)._replace(most_entries=MOST_ENTRIES))
+    write(writer, rng, rng.randint(0, 60))
+    writer.burst()
+    return writer.script(title)
+
+
 def script_of(seed, number):
-    """The script of a seed with a number; now and then one that meets a limit."""
+    """The script of a seed with a number; now and then one with a burst, or one that meets a limit."""
     rng, title = Random(f'{seed}/{number}'), f'seed {seed}, script {number}'
-    if number % 40 == 7 and number // 40 < len(LIMITS):
-        return LIMITS[number // 40](rng, title)
+    if number % PERIOD == 27:
+        return with_burst(rng, title)
+    if number % PERIOD == 7 and number // PERIOD < len(LIMITS):
+        return LIMITS[number // PERIOD](rng, title)
     return of_theme(rng, title)

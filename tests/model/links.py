@@ -20,6 +20,10 @@ class Sides:
     @looks_back
     def present_links(self, h):
         """The present link of each name that is up."""
+        return {name: link for name, link in self.links_by_event(h).items() if not self.is_slow(h, link)}
+
+    def links_by_event(self, h):
+        """What the event of the newest entry makes of the present links, whatever it owes."""
         links = {} if h.past is None else self.present_links(h.past)
         match h.said:
             case Begin() | Restart(): return {}
@@ -103,6 +107,9 @@ class Links:
 
     def ends(self, h, link):
         """Whether the newest entry ends a link that was open before it."""
+        return self.is_ended_by_event(h, link) or self.is_slow(h, link)
+
+    def is_ended_by_event(self, h, link):
         match h.entry.event, h.said:
             case Frame(of, _), None: return of == link and not self.is_whole(h.past, link)
             case _, Frame(of, _): return of != link and self.frame_ends(h, of, link)

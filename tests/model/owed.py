@@ -7,8 +7,14 @@ from links import Awaited
 from own import in_group, spelled, taken_away
 from texts import digest_of
 
+MOST_WAITING = 1024
+
 
 class Owed:
+    """Who is up, told and heard is read before the newest entry: whether a link is up behind it hangs on what it is owed."""
+
+    most_waiting = MOST_WAITING
+
     def own_flags(self, h):
         return HANDSHAKE_23 | (0 if h.opening.hidden else PUBLISHED)
 
@@ -43,7 +49,7 @@ class Owed:
             return []
         scope = message.scope
         rows = [message_body(Sync(scope, spelled(self.own(h, scope))))]
-        return rows if self.hears(h, link, scope) else rows + [message_body(message)]
+        return rows if self.hears(h.past, link, scope) else rows + [message_body(message)]
 
     def frame_owes(self, h, link):
         """What an accepted frame is owed."""
@@ -68,10 +74,10 @@ class Owed:
             case _: return []
 
     def if_visible(self, h, link, message):
-        return [message_body(message)] if self.is_up(h, link) and self.is_visible(h, link) else []
+        return [message_body(message)] if self.is_up(h.past, link) and self.is_visible(h, link) else []
 
     def if_told(self, h, link, kind, scope, rows):
-        return [message_body(kind(scope, rows))] if rows and self.tells(h, link, scope) else []
+        return [message_body(kind(scope, rows))] if rows and self.tells(h.past, link, scope) else []
 
     def rows_that_left(self, h, scope):
         return spelled(taken_away(self.own(h.past, scope), self.own(h, scope)))
@@ -92,6 +98,17 @@ class Owed:
             case Leave(scope, _, _): return self.if_told(h, link, RowsLeave, scope, self.rows_that_left(h, scope))
             case Exit(): return self.exit_owes(h, link)
             case _: return []
+
+    @looks_back
+    def owed_since(self, h, link):
+        """How many frames were owed to a link since its last Take, whatever became of them."""
+        if link not in self.links(h) or h.said == Take(link):
+            return 0
+        return self.owed_since(h.past, link) + len(self.owed(h, link))
+
+    def is_slow(self, h, link):
+        """Whether the newest entry, an accepted one, leaves too many frames for a link."""
+        return h.said is not None and self.owed_since(h, link) > self.most_waiting
 
     def drops(self, h, link):
         """Whether the newest entry, an accepted one, drops the frames that wait: a loss, or another end of an open link."""
