@@ -1,0 +1,4 @@
+pub mod Tags
+pub mod Terms
+pub mod Fault
+pub mod Values

@@ -1,0 +1,5 @@
+//! Worked cases of terms.
+#![tactic(auto)]
+
+#[cfg(test)]
+mod terms;
