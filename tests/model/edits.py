@@ -190,17 +190,10 @@ class counts_from_the_last_take_of_any_link(Model):
         return 0 if isinstance(h.said, Take) else super().owed_since(h, link)
 
 
-class keeps_the_rows_of_a_slow_peer(Model):
+class keeps_the_rows_of_a_slow_peer(keeps_rows_after_lost):
     @looks_back
     def present_links(self, h):
         return self.links_by_event(h)
-
-    def is_name_up(self, h, name):
-        link = self.present_link(h, name)
-        return link is not None and self.is_open(h, link)
-
-    def hears(self, h, link, scope):
-        return self.heard(h, link, scope)
 
 
 class ends_a_link_at_its_last_frame(Model):

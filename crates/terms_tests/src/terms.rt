@@ -323,6 +323,16 @@ fn refuses_unknown_tags(rt: HostRuntime) -> Result<(), Fail> {
     Ok(())
 }
 
+/// A process of the serial 0.
+fn first_pid(node: &[u8], id: u32, creation: u32) -> PidTerm<'_> {
+    PidTerm {
+        node,
+        id,
+        serial: 0,
+        creation,
+    }
+}
+
 #[test]
 fn reads_and_writes_a_monitor(rt: HostRuntime) -> Result<(), Fail> {
     let term = bytes(rt.alloc(), MONITOR)?;
@@ -331,25 +341,9 @@ fn reads_and_writes_a_monitor(rt: HostRuntime) -> Result<(), Fail> {
     let (operation, rest) = small_integer_at(rest).ok_or(TermFault::Truncated)?;
     assert_eq!(rt; operation, 19);
     let (from, rest) = pid_at(rest).ok_or(TermFault::Truncated)?;
-    assert_eq!(rt;
-        from,
-        PidTerm {
-            node: b"a@127.0.0.1",
-            id: 0x57,
-            serial: 0,
-            creation: 0x6b08_41b0
-        }
-    );
+    assert_eq!(rt; from, first_pid(b"a@127.0.0.1", 0x57, 0x6b08_41b0));
     let (to, rest) = pid_at(rest).ok_or(TermFault::Truncated)?;
-    assert_eq!(rt;
-        to,
-        PidTerm {
-            node: b"w@127.0.0.1",
-            id: 1,
-            serial: 0,
-            creation: 0x4d
-        }
-    );
+    assert_eq!(rt; to, first_pid(b"w@127.0.0.1", 1, 0x4d));
     let (reference, rest) = reference_at(rest).ok_or(TermFault::Truncated)?;
     assert_eq!(rt; reference.node, b"a@127.0.0.1".as_slice());
     assert_eq!(rt; (reference.count, reference.creation), (3, 0x6b08_41b0));
