@@ -2,4 +2,6 @@
 #![tactic(auto)]
 
 #[cfg(test)]
+mod said;
+#[cfg(test)]
 mod terms;

@@ -1,0 +1,9 @@
+pub mod Words
+pub mod ListLemmas
+pub mod GroupLemmas
+pub mod SaidLemmas
+pub mod PutLemmas
+pub mod FirstLemmas
+pub mod ProcessLemmas
+pub mod LackLemmas
+pub mod RowLemmas

@@ -1,0 +1,7 @@
+use Rattle.otp_edge.proofs.Words.{[], sym, ◌∙◌, append-nil}
+use Rattle.external_terms.specs.Values.{atom_bytes}
+use Rattle.otp_edge.proofs.group.only_atom.Goals as goal
+
+pub returns-in_err-text-clause-only : goal.returns-in_err-text-clause-only
+returns-in_err-text-clause-only c = λ text whole.
+    absurd (c.in_err-text.ensures.only text [] (whole ∙ sym (append-nil (atom_bytes text))))

@@ -1,0 +1,79 @@
+use Rattle.otp_edge.proofs.Words.{◌≡◌, ℕ, [], ◌==◌, ◌++◌, List, length, sym, ap, ◌∙◌, append-nil, true}
+use Rattle.otp_edge.proofs.Words.{false, pid_bytes, Decides-eqb, nil_from_length}
+use Rattle.otp_edge.proofs.ListLemmas.{alone, alone_only}
+use Rattle.otp_edge.specs.PgMessages.{members_bytes, members_of, AreMembers, rows_in}
+use Rattle.otp_edge.specs.declared.meaning.Said.TheVariants as saids
+use Rattle.otp_edge.proofs.LackLemmas.{lack_match}
+use Rattle.otp_edge.proofs.hearing.join_in.Goals as goal
+
+pub returns-in_err-pid-clause-only : goal.returns-in_err-pid-clause-only
+returns-in_err-pid-clause-only c = λ p g ms is term members whole.
+    lack_match _ c.from_residual.result _ c.from_residual.ensures.1
+    (c.in_err-pid.ensures.only p (g ++ members_bytes ms) is whole)
+
+pub returns-in_err-group-clause-only : goal.returns-in_err-group-clause-only
+returns-in_err-group-clause-only c = λ p g ms is term members whole.
+    let first = c.in_ok-pid.ensures.found.only p (g ++ members_bytes ms) is whole in
+    lack_match _ c.from_residual-in_err-group.result _ c.from_residual-in_err-group.ensures.1
+    (c.in_err-group.ensures.only g (members_bytes ms) term (sym first.1))
+
+pub returns-in_err-pids-clause-only : goal.returns-in_err-pids-clause-only
+returns-in_err-pids-clause-only c = λ p g ms is term members whole.
+    let first = c.in_ok-pid.ensures.found.only p (g ++ members_bytes ms) is whole in
+    let group = c.in_ok-group.ensures.found.only g (members_bytes ms) term (sym first.1) in
+    lack_match _ c.from_residual-in_err-pids.result _ c.from_residual-in_err-pids.ensures.1
+    (c.in_err-pids.ensures.only ms [] members (sym group.1 ∙ sym (append-nil (members_bytes ms))))
+
+pub returns-then-not-is_empty-clause-only : goal.returns-then-not-is_empty-clause-only
+returns-then-not-is_empty-clause-only c = λ p g ms is term members whole.
+    let first = c.in_ok-pid.ensures.found.only p (g ++ members_bytes ms) is whole in
+    let group = c.in_ok-group.ensures.found.only g (members_bytes ms) term (sym first.1) in
+    let found = c.in_ok-pids.ensures.found in
+    let same = alone_only members_bytes AreMembers c.in_ok-group.rest.now found.0
+    c.in_ok-pids.rest.now found.2 ms members (sym group.1) in
+    let bad : false ≡ true = c.if-not-is_empty.ensures
+    ∙ ap (λ (xs : List ℕ). length xs == 0) same.1 in absurd (cc bad)
+
+pub returns-clause-found : goal.returns-clause-found
+returns-clause-found c =
+    let none = nil_from_length c.in_ok-pids.rest.now
+    ((Decides-eqb _ 0).0 (sym c.if-not-is_empty.ensures)) in
+    let members = c.in_ok-pids.ensures.found in
+    let last = alone members_bytes AreMembers c.in_ok-group.rest.now members.0
+    c.in_ok-pids.rest.now members.2 none in (
+      c.in_ok-pid.pid,
+      c.in_ok-pid.ensures.found.within,
+      (
+        c.in_ok-group.group.now,
+        c.in_ok-group.ensures.found.within,
+        (
+          members.0,
+          members.2.within,
+          c.in_ok-pid.ensures.found.bytes ∙ ap (λ l. pid_bytes c.in_ok-pid.pid ++ l)
+              (c.in_ok-group.ensures.found.bytes ∙ ap (λ l. c.in_ok-group.group.now ++ l) last),
+          ap (saids.Join c.in_ok-pid.pid) (c.of.ensures ∙ c.in_ok-push_rows.ensures.ok
+              ∙ ap (λ l. l ++ rows_in c.in_ok-group.group.now c.deref.result.now)
+              c.new-rows.ensures.items
+              ∙ ap (rows_in c.in_ok-group.group.now) (c.deref.ensures.value ∙ members.1)),
+        ),
+      ),
+    )
+
+pub returns-clause-only : goal.returns-clause-only
+returns-clause-only c = λ p g ms is term members whole.
+    let first = c.in_ok-pid.ensures.found.only p (g ++ members_bytes ms) is whole in
+    let group = c.in_ok-group.ensures.found.only g (members_bytes ms) term (sym first.1) in
+    let found = c.in_ok-pids.ensures.found in
+    let same = alone_only members_bytes AreMembers c.in_ok-group.rest.now found.0
+    c.in_ok-pids.rest.now found.2 ms members (sym group.1) in
+    let rows = c.of.ensures ∙ c.in_ok-push_rows.ensures.ok
+    ∙ ap (λ l. l ++ rows_in c.in_ok-group.group.now c.deref.result.now)
+    c.new-rows.ensures.items
+    ∙ ap (rows_in c.in_ok-group.group.now) (c.deref.ensures.value ∙ found.1) in
+    ap (saids.Join c.in_ok-pid.pid) rows
+    ∙ sym (λ i. saids.Join (first.0 i) (rows_in (group.0 i) (members_of (same.0 i))))
+
+pub returns-in_err-push_rows-clause-only : goal.returns-in_err-push_rows-clause-only
+returns-in_err-push_rows-clause-only c = λ p g ms is term members whole.
+    let passed = c.from_residual-in_err-push_rows in
+    lack_match _ passed.result _ passed.ensures.1 c.in_err-push_rows.ensures.refused

@@ -1,0 +1,67 @@
+use Rattle.otp_edge.proofs.Words.{◌≡◌, ℕ, [], ◌==◌, ◌++◌, List, length, sym, ap, ◌∙◌, append-nil, true}
+use Rattle.otp_edge.proofs.Words.{false, pid_bytes, Decides-eqb, nil_from_length}
+use Rattle.otp_edge.proofs.ListLemmas.{alone, alone_only}
+use Rattle.otp_edge.specs.PgMessages.{members_bytes, groups_bytes, AreGroups}
+use Rattle.otp_edge.proofs.LackLemmas.{lack_match}
+use Rattle.otp_edge.proofs.hearing.leave_in.Goals as goal
+
+pub returns-in_err-pid-clause-only : goal.returns-in_err-pid-clause-only
+returns-in_err-pid-clause-only c = λ p ms gs is members groups whole.
+    lack_match _ c.from_residual.result _ c.from_residual.ensures.1
+    (c.in_err-pid.ensures.only p (members_bytes ms ++ groups_bytes gs) is whole)
+
+pub returns-in_err-pids-clause-only : goal.returns-in_err-pids-clause-only
+returns-in_err-pids-clause-only c = λ p ms gs is members groups whole.
+    let first = c.in_ok-pid.ensures.found.only p (members_bytes ms ++ groups_bytes gs) is whole in
+    lack_match _ c.from_residual-in_err-pids.result _ c.from_residual-in_err-pids.ensures.1
+    (c.in_err-pids.ensures.only ms (groups_bytes gs) members (sym first.1))
+
+pub returns-in_err-rows-clause-only : goal.returns-in_err-rows-clause-only
+returns-in_err-rows-clause-only c = λ p ms gs is members groups whole.
+    let first = c.in_ok-pid.ensures.found.only p (members_bytes ms ++ groups_bytes gs) is whole in
+    let second = c.in_ok-pids.ensures.found.2.only ms (groups_bytes gs) members (sym first.1) in
+    lack_match _ c.from_residual-in_err-rows.result _ c.from_residual-in_err-rows.ensures.1
+    (c.in_err-rows.ensures.only gs [] groups (sym second.1 ∙ sym (append-nil (groups_bytes gs))))
+
+pub returns-then-not-is_empty-clause-only : goal.returns-then-not-is_empty-clause-only
+returns-then-not-is_empty-clause-only c = λ p ms gs is members groups whole.
+    let first = c.in_ok-pid.ensures.found.only p (members_bytes ms ++ groups_bytes gs) is whole in
+    let second = c.in_ok-pids.ensures.found.2.only ms (groups_bytes gs) members (sym first.1) in
+    let found = c.in_ok-rows.ensures.found in
+    let same = alone_only groups_bytes AreGroups c.in_ok-pids.rest.now found.0
+    c.in_ok-rows.rest.now found.2 gs groups (sym second.1) in
+    let bad : false ≡ true = c.if-not-is_empty.ensures
+    ∙ ap (λ (xs : List ℕ). length xs == 0) same.1 in absurd (cc bad)
+
+pub returns-clause-found : goal.returns-clause-found
+returns-clause-found c =
+    let none = nil_from_length c.in_ok-rows.rest.now
+    ((Decides-eqb _ 0).0 (sym c.if-not-is_empty.ensures)) in
+    let members = c.in_ok-pids.ensures.found in
+    let groups = c.in_ok-rows.ensures.found in
+    let last = alone groups_bytes AreGroups c.in_ok-pids.rest.now groups.0 c.in_ok-rows.rest.now
+    groups.2 none in (
+      c.in_ok-pid.pid,
+      c.in_ok-pid.ensures.found.within,
+      (
+        members.0,
+        members.2.within,
+        (
+          groups.0,
+          groups.2.within,
+          c.in_ok-pid.ensures.found.bytes ∙ ap (λ l. pid_bytes c.in_ok-pid.pid ++ l)
+              (members.2.bytes ∙ ap (λ l. members_bytes members.0 ++ l) last),
+          cc (c.of.ensures, members.1, groups.1),
+        ),
+      ),
+    )
+
+pub returns-clause-only : goal.returns-clause-only
+returns-clause-only c = λ p ms gs is members groups whole.
+    let first = c.in_ok-pid.ensures.found.only p (members_bytes ms ++ groups_bytes gs) is whole in
+    let found = c.in_ok-pids.ensures.found in
+    let second = found.2.only ms (groups_bytes gs) members (sym first.1) in
+    let last = c.in_ok-rows.ensures.found in
+    let same = alone_only groups_bytes AreGroups c.in_ok-pids.rest.now last.0
+    c.in_ok-rows.rest.now last.2 gs groups (sym second.1) in
+    cc (c.of.ensures, found.1, last.1, first.0, second.0, same.0)

@@ -1,0 +1,17 @@
+use Rattle.otp_edge.proofs.Words.{◌++◌, ap, ◌∙◌, pid_bytes, listed}
+use Rattle.std.specs.Prelude.{codes}
+use Rattle.external_terms.specs.Values.{atom_bytes, tuple_head, list_head, nil_bytes}
+use Rattle.otp_edge.specs.Telling.{pids_of}
+use Rattle.otp_edge.proofs.PutLemmas.{leave_put}
+use Rattle.otp_edge.proofs.spelling.put_leave.Goals as goal
+
+pub returns : goal.returns
+returns c =
+    let told = c.args.told.now in
+    leave_put c.args.out.now.items _ _ _ c.put_list.new.out.items _ _ (tuple_head 4)
+    (atom_bytes (codes "leave")) (pid_bytes c.args.own.now)
+    (listed pid_bytes (pids_of told.rows.now)) (list_head 1) told.group.items nil_bytes
+    c.in_ok-put_head.ensures c.in_ok-put_member.ensures c.in_ok-put_pids.ensures
+    c.in_ok-put_list.ensures.ok (c.in_ok-extend_from_slice.ensures.items
+    ∙ ap (λ g. c.put_list.new.out.items ++ g) c.as_slice.ensures.value)
+    c.in_ok-put_nil.ensures.ok

@@ -1,0 +1,30 @@
+use Rattle.otp_edge.proofs.Words.{◌+◌, [], ◌∷◌, ◌++◌, length_push, ap, arith, ◌∙◌, refl}
+use Rattle.otp_edge.proofs.Words.{append-nil}
+use Rattle.std.proofs.lemmas.Grind.{flat_map-append}
+use Rattle.otp_edge.specs.PgMessages.{IsStated, stated_bytes, rows_in}
+use Rattle.otp_edge.proofs.ListLemmas.{none_read, one_more, left_bytes}
+use Rattle.otp_edge.proofs.LackLemmas.{lack}
+use Rattle.otp_edge.proofs.stated.entries_at.Goals as goal
+
+pub loop-init : goal.loop-init
+loop-init c = ([], c.new-rows.ensures.items, refl, none_read stated_bytes IsStated c.args.bytes.now)
+
+pub returns-in_err-rest-clause-only : goal.returns-in_err-rest-clause-only
+returns-in_err-rest-clause-only c = λ ss later long each whole.
+    let kept = c.loop.invariant in
+    let next = left_bytes stated_bytes IsStated c.args.bytes.now kept.0 c.loop.rest.now kept.3 ss
+    later (omega (arith, kept.2)) each whole in
+    lack c.from_residual.result _ c.from_residual.ensures.1
+    (c.in_err-rest.ensures.only next.0 next.2.0 next.1 next.2.1)
+
+pub loop-preserved : goal.loop-preserved
+loop-preserved c =
+    let kept = c.loop.invariant in
+    let found = c.in_ok-rest.ensures.found in (
+      kept.0 ++ found.0 ∷ [],
+      found.1 ∙ ap (λ l. l ++ rows_in (found.0).group (found.0).pids) kept.1
+          ∙ simp (flat_map-append, append-nil),
+      length_push kept.0 found.0 ∙ ap (λ n. n + 1) kept.2,
+      one_more stated_bytes IsStated c.args.bytes.now kept.0 c.loop.rest.now kept.3 found.0 _
+          found.2 _ refl,
+    )

@@ -1,0 +1,39 @@
+use Rattle.otp_edge.proofs.Words.{◌++◌, sym, ◌∙◌, pid_bytes, listed}
+use Rattle.otp_edge.proofs.FirstLemmas.{stated_parts, stated_first}
+use Rattle.otp_edge.proofs.LackLemmas.{lack}
+use Rattle.otp_edge.proofs.stated.entry_at.Goals as goal
+
+pub returns-in_default-clause-only : goal.returns-in_default-clause-only
+returns-in_default-clause-only c = λ s later is whole.
+    absurd (c.in_default.ensures.only (s.group ++ (listed pid_bytes s.pids ++ later))
+    (whole ∙ stated_parts s later))
+
+pub returns-in_err-group-clause-only : goal.returns-in_err-group-clause-only
+returns-in_err-group-clause-only c = λ s later is whole.
+    let rest = c.in-Some.ensures.only (s.group ++ (listed pid_bytes s.pids ++ later))
+    (whole ∙ stated_parts s later) in
+    lack c.from_residual.result _ c.from_residual.ensures.1
+    (c.in_err-group.ensures.only s.group (listed pid_bytes s.pids ++ later) is.group rest)
+
+pub returns-in_err-pids-clause-only : goal.returns-in_err-pids-clause-only
+returns-in_err-pids-clause-only c = λ s later is whole.
+    let rest = c.in-Some.ensures.only (s.group ++ (listed pid_bytes s.pids ++ later))
+    (whole ∙ stated_parts s later) in
+    let group = c.in_ok-group.ensures.found.only s.group (listed pid_bytes s.pids ++ later)
+    is.group rest in
+    lack c.from_residual-in_err-pids.result _ c.from_residual-in_err-pids.ensures.1
+    (c.in_err-pids.ensures.only s.pids later is.pids (sym group.1))
+
+pub returns-clause-found : goal.returns-clause-found
+returns-clause-found c = (
+  record { group = c.in_ok-group.group.now; pids = c.in_ok-pids.pids.items },
+  cc (c.in_ok-push_rows.ensures.ok),
+  stated_first c.args.bytes.now c.in-Some.rest.now c.in_ok-group.group.now c.in_ok-group.rest.now
+      c.in_ok-pids.pids.items c.in_ok-pids.rest.now c.in-Some.ensures.found
+      c.in_ok-group.ensures.found c.in_ok-pids.ensures.found,
+)
+
+pub returns-in_err-push_rows-clause-only : goal.returns-in_err-push_rows-clause-only
+returns-in_err-push_rows-clause-only c = λ s later is whole.
+    let passed = c.from_residual-in_err-push_rows in
+    lack passed.result _ passed.ensures.1 c.in_err-push_rows.ensures.refused

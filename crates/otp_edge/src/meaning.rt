@@ -1,0 +1,16 @@
+//! What is heard of a process of a scope.
+use dist_types::{Items, Pid, Row};
+
+/// What the process of a scope says. It names itself first. Groups that aren't carried are left
+/// out.
+#[derive(Debug, Drop, PartialEq, Eq)]
+pub enum Said {
+    /// It runs, and asks for the receiver's members.
+    Discover(Pid),
+    /// All its members, each as often as it joined.
+    Sync(Pid, Items<Row>),
+    /// Processes that joined; none where their group isn't carried, or where it names none.
+    Join(Pid, Items<Row>),
+    /// Processes that were asked to leave: not all of them were members.
+    Leave(Pid, Items<Row>),
+}
