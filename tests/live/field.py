@@ -28,8 +28,9 @@ def case(function):
 class Field:
     """All that a case begins, and ends."""
 
-    def __init__(self, program):
+    def __init__(self, program, ask_program):
         self.program = program
+        self.ask_program = ask_program
         # (the path of a Unix socket has 107 bytes at most, which a folder of TMPDIR may take up)
         self.folder = tempfile.mkdtemp(prefix="pg_node.", dir="/tmp" if os.access("/tmp", os.W_OK) else None)
         self.nodes = []

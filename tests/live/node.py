@@ -7,8 +7,8 @@ import subprocess
 from talk import Control, Talk
 from waiting import LIMIT, expect, expect_that, until
 
-# What bin/pg_node itself says on standard error, where the program isn't proved yet.
-WRAPPER = re.compile(r"pg_node: (this build isn't proved|building without proofs)")
+# What bin/pg_node and bin/pg_ask themselves say on standard error, where the program isn't proved yet.
+WRAPPER = re.compile(r"pg_(node|ask): (this build isn't proved|building without proofs)")
 
 
 class Node(Talk):

@@ -81,12 +81,12 @@ impl<'a> Desk<'a> {
         let printing = self.printing.lock(rt);
         out.clear();
         let promise = Promise::of_line(line.unwrap_or(&[]));
-        hub.let_through(rt, &promise);
+        let call = hub.let_through(rt, promise);
         // From here to its answer a line waits for no client.
         hub.crowd.enter();
         let next = self.answer(rt, line, out);
         hub.crowd.leave(rt);
-        hub.has_called(rt, promise);
+        hub.has_called(rt, call);
         let next = next?;
         send(writer, out.as_slice())?;
         drop(printing);

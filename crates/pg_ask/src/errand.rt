@@ -1,0 +1,151 @@
+//! What the command line asks for.
+use crate::fault::Fault;
+use anyhow::anyhow;
+use clap::{Arg, ArgAction, ArgMatches, Command, Error as ClapError, value_parser};
+use std::alloc::Global;
+use std::time::Duration;
+
+/// What stands behind the help of the parser.
+const COMMANDS: &str = "\
+COMMAND is a line that the node takes, as `nodes` or `members SCOPE GROUP` (docs/FORMATS.md), or
+  hold SCOPE GROUP   a process in the group until standard input ends; starts the scope, if need be
+
+Example:
+  pg_ask node.sock groups jobs
+
+Status: 0 where it is done; 1 where a rule refuses it; 2 at a fault; 3 where no node answers.";
+
+/// The milliseconds to wait for an answer, where none are given.
+const PATIENCE: u32 = 10_000;
+
+const USUAL: &str = "10000";
+
+/// What the program is to do.
+#[derive(Drop)]
+pub struct Errand {
+    /// The path of the control socket.
+    pub control: String,
+    pub deed: Deed,
+    /// How long to wait for an answer.
+    pub patience: Duration,
+    pub show: Show,
+}
+
+#[derive(Drop)]
+pub enum Deed {
+    /// A line, with its line feed.
+    Ask(String),
+    /// A process in a group of a scope.
+    Hold { scope: String, group: String },
+}
+
+/// How lines are shown.
+#[derive(Clone, Copy, Drop)]
+pub struct Show {
+    /// With those that come unasked.
+    pub follows: bool,
+    pub is_json: bool,
+}
+
+/// The arguments of the program.
+pub fn command<'a>(alloc: Global) -> Result<Command<'a>, ClapError> {
+    let control = Arg::new(alloc, "CONTROL")
+        .help("The control socket of the node")
+        .required(true);
+    let command = Command::new(alloc, "pg_ask")
+        .version("0.1.0")
+        .about("Asks a node of process groups, and prints what it answers")
+        .after_help(COMMANDS)
+        .arg(control)?;
+    let command = with(command, words(alloc))?;
+    let follow = "Prints what comes unasked, too, until the node is gone";
+    let command = with(command, flag(alloc, "follow", follow))?;
+    let json = "Prints each line as a JSON object";
+    let command = with(command, flag(alloc, "json", json))?;
+    with(command, timeout(alloc))
+}
+
+/// The command with one more argument. A function of its own, so that a check meets the clauses of
+/// `arg` once.
+fn with<'a>(command: Command<'a>, arg: Arg<'a>) -> Result<Command<'a>, ClapError> {
+    Ok(command.arg(arg)?)
+}
+
+fn words<'a>(alloc: Global) -> Arg<'a> {
+    Arg::new(alloc, "COMMAND")
+        .help("What the node is asked")
+        .required(true)
+        .action(ArgAction::Append)
+        .num_args(1..)
+}
+
+fn flag<'a>(alloc: Global, name: &'a str, help: &'a str) -> Arg<'a> {
+    Arg::new(alloc, name)
+        .long(name)
+        .help(help)
+        .action(ArgAction::SetTrue)
+}
+
+fn timeout<'a>(alloc: Global) -> Arg<'a> {
+    Arg::new(alloc, "timeout")
+        .long("timeout")
+        .value_name("MS")
+        .help("How long to wait for an answer")
+        .value_parser(value_parser!(u32).range(1..))
+        .default_value(USUAL)
+}
+
+/// What the program is to do.
+pub fn read_errand(alloc: Global, matches: &ArgMatches<'_>) -> Result<Errand, Fault> {
+    let words = matches.get_strs("COMMAND").unwrap_or(&[]);
+    let patience = matches.get_one::<u32>("timeout").unwrap_or(PATIENCE);
+    Ok(Errand {
+        control: copy(alloc, matches.get_str("CONTROL").unwrap_or(""))?,
+        deed: read_deed(alloc, words)?,
+        patience: Duration::from_millis(u64::from(patience)),
+        show: Show {
+            follows: matches.get_flag("follow"),
+            is_json: matches.get_flag("json"),
+        },
+    })
+}
+
+fn read_deed(alloc: Global, words: &[&str]) -> Result<Deed, Fault> {
+    if words.first() != Some(&"hold") {
+        return Ok(Deed::Ask(line_of(alloc, words)?));
+    }
+    match words {
+        [_, scope, group] if is_word(scope) && is_word(group) => Ok(Deed::Hold {
+            scope: copy(alloc, scope)?,
+            group: copy(alloc, group)?,
+        }),
+        _ => Err(Fault::of(anyhow!("COMMAND: no SCOPE GROUP behind hold"))),
+    }
+}
+
+/// Whether a word is one of a line.
+fn is_word(word: &str) -> bool {
+    !word.is_empty() && !word.bytes().any(|byte| byte <= b' ')
+}
+
+/// The words as one line, which has an answer.
+fn line_of(alloc: Global, words: &[&str]) -> Result<String, Fault> {
+    let mut line = String::new(alloc);
+    for word in words {
+        if !line.is_empty() {
+            line.push(' ')?;
+        }
+        line.push_str(word)?;
+    }
+    if line.is_empty() || line.starts_with('#') || line.contains('\n') {
+        return Err(Fault::of(anyhow!("COMMAND: it isn't one line that a node answers")));
+    }
+    line.push('\n')?;
+    Ok(line)
+}
+
+fn copy(alloc: Global, text: &str) -> Result<String, Fault> {
+    let mut copied = String::new(alloc);
+    copied.push_str(text)?;
+    Ok(copied)
+}

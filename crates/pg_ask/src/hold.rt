@@ -1,0 +1,97 @@
+//! A process that stays in a group.
+use crate::bell::{Bell, Outcome};
+use crate::fault::Fault;
+use crate::talk::Talk;
+use anyhow::anyhow;
+use pg_answers::Said;
+use std::alloc::Global;
+use std::sync::Wait;
+
+/// How often a process is spawned again for one that the node doesn't know any more.
+const TRIES: u32 = 8;
+
+/// The group that is held.
+#[derive(Drop)]
+pub struct Hold {
+    alloc: Global,
+    start: String,
+    join: String,
+    stopped: String,
+}
+
+impl Hold {
+    pub fn new(alloc: Global, scope: &str, group: &str) -> Result<Hold, Fault> {
+        Ok(Hold {
+            alloc,
+            start: format!(in alloc; "start {scope}\n")?,
+            join: format!(in alloc; "join {scope} {group} ")?,
+            stopped: format!(in alloc; "! stopped {scope}")?,
+        })
+    }
+
+    /// Joins, and joins again where the process is gone or out of the group, until the node is gone
+    /// or refuses it.
+    pub fn keep<R: Print + Wait>(&self, rt: &R, talk: &mut Talk<'_, R>, bell: &Bell) -> Outcome {
+        let said = self.join(talk)?;
+        if said != Said::Done {
+            return Ok(said.status());
+        }
+        bell.answer(rt);
+        for _ in rt.forever() {
+            if talk.next()? == Said::News && self.is_out(talk.line.as_slice()) {
+                let said = self.join(talk)?;
+                if said != Said::Done {
+                    return Ok(said.status());
+                }
+            }
+        }
+        unreachable!()
+    }
+
+    /// Whether the process is out of the group behind this line.
+    fn is_out(&self, line: &[u8]) -> bool {
+        line.starts_with(b"! restarted ") || line == self.stopped.as_bytes()
+    }
+
+    /// Spawns a process that joins, and shows it; or shows why it can't.
+    fn join<R: Print>(&self, talk: &mut Talk<'_, R>) -> Result<Said, Fault> {
+        let mut said = self.try_join(talk)?;
+        for _ in 0..TRIES {
+            // The node may begin anew in between: then the process is none of its own.
+            if said != Said::Fault {
+                break;
+            }
+            said = self.try_join(talk)?;
+        }
+        talk.print()?;
+        Ok(said)
+    }
+
+    /// The same once: what was said last, in whose place stands the process that has joined.
+    fn try_join<R: Print>(&self, talk: &mut Talk<'_, R>) -> Result<Said, Fault> {
+        // It is refused where the scope runs, which is as good.
+        talk.ask(self.start.as_str())?;
+        let spawned = talk.ask("spawn\n")?;
+        if spawned != Said::Done {
+            return Ok(spawned);
+        }
+        let process = talk.take_line();
+        let line = self.join_of(process.as_slice())?;
+        let said = talk.ask(line.as_str())?;
+        if said == Said::Done {
+            talk.line = process;
+        }
+        Ok(said)
+    }
+
+    /// The line for a process to join, by the answer that named it.
+    fn join_of(&self, answer: &[u8]) -> Result<String, Fault> {
+        match str::from_utf8(answer) {
+            Ok(text) => {
+                let pid = text.strip_prefix("pid ").unwrap_or(text);
+                Ok(format!(in self.alloc; "{}{pid}\n", self.join)?)
+            }
+            Err(_) => Err(Fault::of(anyhow!("the process has no name"))),
+        }
+    }
+}
