@@ -42,19 +42,20 @@ pub record Laws : Type 0 where
       → entered (history o es).entries ≡ length es
 
 -- one that concerns no row may owe no message
-quiet_tells : (es : List Entry) (ev : Event) → is_quiet ev ≡ true → may_tell es ev ≡ false
-quiet_tells es ev q = grind arith
+quiet_tells : (o : Opening) (es : List Entry) (ev : Event) → is_quiet ev ≡ true
+    → may_tell o es ev ≡ false
+quiet_tells o es ev q = grind arith
 
 -- it has no losses, as it is refused or may owe none
 pub no_losses : ((h : History) → IsLegal h → (e : Entry) → IsStep h e
-    → may_tell h.entries e.event ≡ false
+    → may_tell h.opening h.entries e.event ≡ false
     → with_entry h e ≡ just h e) → (h : History) → IsLegal h → (e : Entry) → IsStep h e
     → IsTrue (leaves_rows e) → with_entry h e ≡ just h e
 no_losses silent h legal e made quiet = by e.verdict refl
   where
     by : (v : Verdict) → e.verdict ≡ v → with_entry h e ≡ just h e
     by (Refused r) is = refused_alone h e r is
-    by (Accepted r) is = silent h legal e made (quiet_tells h.entries e.event
+    by (Accepted r) is = silent h legal e made (quiet_tells h.opening h.entries e.event
         (sym (ap (λ v. not (is_accepted v) || is_quiet e.event) is) ∙ quiet))
 
 nobody : (ps : List Pid) → ((p : Pid) → mentions p ps ≡ 0) → is_empty ps ≡ true

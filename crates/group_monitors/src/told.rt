@@ -10,7 +10,9 @@ use dist_types::{Group, GroupChange, OutOfMemory, Pids, TryClone};
 use policy_audit::{Change, Later, Update};
 use std::alloc::Global;
 
-/// What the entries tell the monitor, in their order.
+/// What the entries tell the monitor, in their order. Most entries change nothing, so the way from
+/// one to the next is what it takes: alone, it has its registers for itself.
+#[inline(never)]
 pub fn told_by(
     alloc: Global,
     monitor: &Monitor,
@@ -93,6 +95,10 @@ fn tell_unless_none(
     ensures { OnOk result (updates.new.items ≡ updates.old.items ++ cond (is_empty pids.now) [] (record { group = group.now; leave = leave; pids = pids.now } ∷ [])) }
 {
     if !pids.as_slice().is_empty() {
+        // Most fetches have one update, whose block is then as large as it stays.
+        if updates.is_empty() {
+            updates.reserve_exact(1)?;
+        }
         updates.push(Update {
             group: group.try_clone(alloc)?,
             leave,

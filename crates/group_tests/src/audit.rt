@@ -9,7 +9,7 @@ use std::test::Fail;
 /// A rule, as it is printed.
 struct Printed(Rule, &'static str);
 
-static RULES: [Printed; 32] = [
+static RULES: [Printed; 33] = [
     Printed(Rule::EntriesFull, "1 EntriesFull"),
     Printed(Rule::NoSuchLink, "2 NoSuchLink"),
     Printed(Rule::BadFrame, "3 BadFrame"),
@@ -42,6 +42,7 @@ static RULES: [Printed; 32] = [
     Printed(Rule::AllowFull, "30 AllowFull"),
     Printed(Rule::CookiesFull, "31 CookiesFull"),
     Printed(Rule::CreationSpent, "32 CreationSpent"),
+    Printed(Rule::PartOrder, "33 PartOrder"),
 ];
 
 #[test]

@@ -1,6 +1,7 @@
 //! The five messages between linked nodes, as values and as bytes, and the reader that cuts a stream into them.
 #![tactic(auto)]
 
+mod begun;
 mod cutting;
 mod decoding;
 mod encoding;
@@ -15,8 +16,10 @@ mod part;
 mod part_decoding;
 mod part_encoding;
 mod part_laws;
+mod parts;
 mod reader;
 
+pub use begun::Begun;
 pub use cutting::encode_parts;
 pub use decoding::decode;
 pub use encoding::encode;
@@ -29,4 +32,5 @@ pub use part_encoding::{encode_part, encode_v2};
 pub use part_laws::{
     fits_a_reader_in_parts, one_message2, parts_make_the_message, readers2, whole_is_one_part,
 };
+pub use parts::{Parts, Undo};
 pub use reader::LinkReader;

@@ -3,6 +3,7 @@ ghost use Rattle.std.specs.Prelude.{◌≡◌, ◌++◌, ◌∷◌, ◌≤◌, �
 ghost use Rattle.dist_types.specs.Listing.{max_rows};
 ghost use Rattle.dist_types.specs.Text.{IsText};
 ghost use Rattle.link_frames.specs.Spelling.{text_bytes, AreRows};
+ghost use Rattle.link_frames.specs.Stream.{max_body};
 ghost use Rattle.link_frames.specs.Parts.{kind_byte, part_bytes, message2_bytes, HasSome, IsPart, IsMessage2, HasSpelling2};
 
 use crate::encoding::{put_rows, put_scope};
@@ -81,7 +82,8 @@ fn byte_of(kind: PartKind) -> u8
 
 /// The body of a Discover.
 pub fn encode_discover(alloc: Global, scope: &Scope) -> Result<Body, OutOfMemory>
-    ensures { IfOk result (λ body. body ≡ 0x44 ∷ text_bytes scope.now) }
+    ensures value { IfOk result (λ body. body ≡ 0x44 ∷ text_bytes scope.now) }
+    ensures short { IfOk result (λ body. length body ≤ max_body) }
 {
     let mut body = Vec::new(alloc);
     put_scope(b'D', scope, &mut body)?;
@@ -90,7 +92,8 @@ pub fn encode_discover(alloc: Global, scope: &Scope) -> Result<Body, OutOfMemory
 
 /// The body of a Down.
 pub fn encode_down(alloc: Global, scope: &Scope) -> Result<Body, OutOfMemory>
-    ensures { IfOk result (λ body. body ≡ 0x58 ∷ text_bytes scope.now) }
+    ensures value { IfOk result (λ body. body ≡ 0x58 ∷ text_bytes scope.now) }
+    ensures short { IfOk result (λ body. length body ≤ max_body) }
 {
     let mut body = Vec::new(alloc);
     put_scope(b'X', scope, &mut body)?;

@@ -159,6 +159,46 @@ fn refuses_the_beginnings_of_parts(rt: HostRuntime) {
     }
 }
 
+/// How many bodies that differ from each of these parts in one byte, to 00, ff or a neighbour, are
+/// parts: counted by the reader of tests/model (`changed_parts`).
+const CHANGED: [u32; 5] = [13, 14, 46, 80, 46];
+
+fn is_tried(old: u8, new: u8) -> bool {
+    new != old && [0, 255, old.wrapping_add(1), old.wrapping_sub(1)].contains(&new)
+}
+
+/// Whether the body is a part with this byte at that place.
+fn is_part_with(alloc: Global, body: &[u8], place: usize, new: u8) -> Result<bool, Fail> {
+    let mut changed = Vec::from_slice(alloc, body)?;
+    if let Some(byte) = changed.get_mut(place) {
+        *byte = new;
+    }
+    Ok(decode_v2(alloc, changed.as_slice()).is_ok())
+}
+
+/// How many of the bodies with another byte at that place are parts.
+fn parts_at(alloc: Global, body: &[u8], place: usize, old: u8) -> Result<u32, Fail> {
+    let mut count = 0_u32;
+    for new in 0..=255_u8 {
+        if is_tried(old, new) && is_part_with(alloc, body, place, new)? {
+            count = count.wrapping_add(1);
+        }
+    }
+    Ok(count)
+}
+
+#[test]
+fn reads_no_more_with_a_changed_byte(rt: HostRuntime) -> Result<(), Fail> {
+    for ((body, ..), wanted) in PARTS.iter().zip(CHANGED) {
+        let mut count = 0_u32;
+        for (place, old) in body.iter().enumerate() {
+            count = count.wrapping_add(parts_at(rt.alloc(), body, place, *old)?);
+        }
+        assert_eq!(rt; count, wanted, "{body:?}");
+    }
+    Ok(())
+}
+
 #[test]
 fn refuses_what_is_no_part(rt: HostRuntime) {
     for body in NO_PARTS {
@@ -190,6 +230,49 @@ fn cuts_behind_each_4096_rows(rt: HostRuntime) -> Result<(), Fail> {
         let parts = encode_parts(rt.alloc(), &message)?;
         assert!(rt; parts == bodies(rt.alloc(), cuts)?, "{count} rows");
     }
+    Ok(())
+}
+
+/// A part, whether it may come, and how many rows are kept behind it; one that may not is taken back.
+type Come = (PartKind, u32, u32, bool, usize);
+
+const COME: [Come; 7] = [
+    (PartKind::Sync, 2, 1, false, 0),
+    (PartKind::Sync, 1, 2, true, 2),
+    (PartKind::Join, 2, 1, false, 2),
+    (PartKind::Sync, 3, 1, false, 2),
+    (PartKind::Sync, 2, 3, true, 5),
+    (PartKind::Sync, 2, 1, false, 5),
+    (PartKind::Leave, 1, 1, true, 1),
+];
+
+#[test]
+fn keeps_the_rows_of_parts(rt: HostRuntime) -> Result<(), Fail> {
+    let mut parts = Parts::new();
+    for (kind, number, count, may_come, kept) in COME {
+        let scope = pg(rt.alloc())?;
+        assert_eq!(rt;
+            parts.is_next(kind, &scope, number),
+            may_come,
+            "{kind:?} {number}"
+        );
+        let undo = parts.gather(kind, scope, number, rows(rt.alloc(), count)?)?;
+        if !may_come {
+            parts.undo(undo);
+        }
+        assert_eq!(rt; parts.rows().len(), kept, "{kind:?} {number}");
+    }
+    Ok(())
+}
+
+#[test]
+fn a_stop_breaks_off_its_scope_alone(rt: HostRuntime) -> Result<(), Fail> {
+    let mut parts = Parts::new();
+    parts.gather(PartKind::Sync, pg(rt.alloc())?, 1, rows(rt.alloc(), 2)?)?;
+    parts.break_off(&Scope::parse(rt.alloc(), b"q")?);
+    assert_eq!(rt; parts.begun().map(|begun| begun.number()), Some(1));
+    parts.break_off(&pg(rt.alloc())?);
+    assert!(rt; parts.begun().is_none());
     Ok(())
 }
 

@@ -1,12 +1,15 @@
 -- A node has few own rows in each scope.
-use Rattle.policy_audit.proofs.Words.{judgement, max_rows, Accepted, ap, arith, Bool, cond, Entry}
+use Rattle.policy_audit.proofs.Words.{judgement, own_limit, subst, Accepted, ap, arith, Bool, cond}
+use Rattle.policy_audit.proofs.Words.{Entry}
 use Rattle.policy_audit.proofs.Words.{Event, false, fewer_length, History, how_many_append}
-use Rattle.policy_audit.proofs.Words.{IsPlayed, IsPlayedIn, IsListing, join_checks, leb-true}
+use Rattle.policy_audit.proofs.Words.{IsListing, join_checks, leb-true}
 use Rattle.policy_audit.proofs.Words.{length, length-append, List, local_rows, map, mentions}
 use Rattle.policy_audit.proofs.Words.{nat_le, occurrences, Opening, own, past, Pid, refl, Refused}
 use Rattle.policy_audit.proofs.Words.{Reply, Row, row, same, same_decides, same_row}
 use Rattle.policy_audit.proofs.Words.{same_row_decides, suc, true, Verdict, ℕ, [], ◌++◌, ◌+◌, ◌∷◌}
 use Rattle.policy_audit.proofs.Words.{◌≡◌, ◌≤◌}
+use Rattle.std.specs.Prelude.{◌⊎◌}
+use Rattle.std.proofs.Common.{inl, inr}
 use Rattle.policy_audit.proofs.Accepted.{accepted, all_hold, unbroken}
 use Rattle.policy_audit.proofs.Walked.{but}
 use Rattle.policy_audit.proofs.Lists.{count_in_group}
@@ -47,50 +50,42 @@ module _ (h : History) (s : List ℕ) where
       )
 
 module _ (o : Opening) (es : List Entry) (e : Entry) (s : List ℕ) where
+  -- the own rows are no more than they were, or are within the limit that the entry met
+  abbrev pub Grows : Entry → Type 0
+  Grows x =
+      (length (local_rows (past o (x ∷ es)) s) ≤ length (local_rows (past o es) s))
+      ⊎ (length (local_rows (past o (x ∷ es)) s) ≤ own_limit (past o es) s)
+
   -- an event that adds no row
-  adds_none : (ev : Event) (v : Verdict) → ((g : List ℕ) (p : Pid) → own (past o (but e ev v ∷ es))
-      s g p ≤ own (past o es) s g p) → length (local_rows (past o es) s) ≤ max_rows
-      → length (local_rows (past o (but e ev v ∷ es)) s) ≤ max_rows
-  adds_none ev v less few_yet = grind (arith, fewer (past o es) s (past o (but e ev v ∷ es)) less)
+  adds_none : (ev : Event) (v : Verdict) → ((g : List ℕ) (p : Pid)
+      → own (past o (but e ev v ∷ es)) s g p ≤ own (past o es) s g p) → Grows (but e ev v)
+  adds_none ev v less = inl (fewer (past o es) s (past o (but e ev v ∷ es)) less)
 
   joins : (t g : List ℕ) (ps : List Pid) (r : Reply)
       → Accepted r ≡ judgement (past o es) e.seat (Event.Join t g ps)
-      → length (local_rows (past o es) s) ≤ max_rows
-      → (b : Bool) → same t s ≡ b
-      → length (local_rows (past o (but e (Event.Join t g ps) (Accepted r) ∷ es)) s) ≤ max_rows
-  joins t g ps r q few_yet true here =
-      let room = leb-true (length (local_rows (past o es) t) + length ps) max_rows
-      (unbroken (nat_le (length (local_rows (past o es) t) + length ps) max_rows)
+      → (b : Bool) → same t s ≡ b → Grows (but e (Event.Join t g ps) (Accepted r))
+  joins t g ps r q true here =
+      let room = leb-true (length (local_rows (past o es) t) + length ps) (own_limit (past o es) t)
+      (unbroken (nat_le (length (local_rows (past o es) t) + length ps) (own_limit (past o es) t))
       (all_hold (join_checks (past o es) t g ps) (accepted (past o es) e.seat (Event.Join t g ps)
       r q).0).1.1.1.0) in
-      let its : length (local_rows (past o es) t) ≡ length (local_rows (past o es) s) =
-      ap (λ u. length (local_rows (past o es) u)) ((same_decides t s).0 here) in
+      let its = subst (λ u. length (local_rows (past o es) u) + length ps ≤ own_limit (past o es) u)
+      ((same_decides t s).0 here) room in
       let no_more = more (past o es) s (past o (but e (Event.Join t g ps) (Accepted r) ∷ es)) g ps
       (λ f p. grind (arith, here)) in
-      omega (arith, room, its, no_more)
-  joins t g ps r q few_yet false other = adds_none (Event.Join t g ps) (Accepted r)
-      (λ f p. grind (arith, other)) few_yet
+      inr (omega (arith, its, no_more))
+  joins t g ps r q false other =
+      adds_none (Event.Join t g ps) (Accepted r) (λ f p. grind (arith, other))
 
-  step : (ev : Event) (v : Verdict) → v ≡ judgement (past o es) e.seat ev
-      → length (local_rows (past o es) s) ≤ max_rows
-      → length (local_rows (past o (but e ev v ∷ es)) s) ≤ max_rows
-  step ev (Refused r) q few_yet = few_yet
-  step (Event.Join t g ps) (Accepted r) q few_yet = grind (arith, joins)
-  step (Event.Leave t g ps) (Accepted r) q few_yet = adds_none (Event.Leave t g ps) (Accepted r)
-      (λ f p. grind arith) few_yet
-  step (Event.Exit x) (Accepted r) q few_yet = adds_none (Event.Exit x) (Accepted r)
-      (λ f p. grind arith) few_yet
-  step (Event.StartScope t) (Accepted r) q few_yet = adds_none (Event.StartScope t) (Accepted r)
-      (λ f p. grind arith) few_yet
-  step (Event.StopScope t) (Accepted r) q few_yet = adds_none (Event.StopScope t) (Accepted r)
-      (λ f p. grind arith) few_yet
-  step Event.Restart (Accepted r) q few_yet = grind (arith, adds_none)
-  step ev (Accepted r) q few_yet = adds_none ev (Accepted r) (λ f p. omega arith) few_yet
-
-few_in : (o : Opening) (es : List Entry) → IsPlayedIn o es → (s : List ℕ)
-    → length (local_rows (past o es) s) ≤ max_rows
-few_in o [] legal s = grind arith
-few_in o (e ∷ es) legal s = step o es e s e.event e.verdict legal.0.judged (few_in o es legal.1 s)
-
-pub few_local : (h : History) → IsPlayed h → (s : List ℕ) → length (local_rows h s) ≤ max_rows
-few_local h legal s = few_in h.opening h.entries legal s
+  pub step : (ev : Event) (v : Verdict) → v ≡ judgement (past o es) e.seat ev → Grows (but e ev v)
+  step ev (Refused r) q = adds_none ev (Refused r) (λ f p. omega arith)
+  step (Event.Join t g ps) (Accepted r) q = joins t g ps r q (same t s) refl
+  step (Event.Leave t g ps) (Accepted r) q =
+      adds_none (Event.Leave t g ps) (Accepted r) (λ f p. grind arith)
+  step (Event.Exit x) (Accepted r) q = adds_none (Event.Exit x) (Accepted r) (λ f p. grind arith)
+  step (Event.StartScope t) (Accepted r) q =
+      adds_none (Event.StartScope t) (Accepted r) (λ f p. grind arith)
+  step (Event.StopScope t) (Accepted r) q =
+      adds_none (Event.StopScope t) (Accepted r) (λ f p. grind arith)
+  step Event.Restart (Accepted r) q = adds_none Event.Restart (Accepted r) (λ f p. grind arith)
+  step ev (Accepted r) q = adds_none ev (Accepted r) (λ f p. omega arith)

@@ -1,10 +1,12 @@
 -- Who is heard in a scope: the scope runs, and the link has a whole side.
 use Rattle.policy_audit.proofs.Walked.{fresh}
-use Rattle.policy_audit.proofs.Words.{ap, arith, refl, subst, sym, ◌∙◌, eqb-true, option_map_or, unwrap_or, Bool, List, None, Option, Some}
+use Rattle.policy_audit.proofs.Words.{arith, refl, subst, sym, eqb-true, option_map_or, unwrap_or, Bool, List, None, Option, Some}
 use Rattle.policy_audit.proofs.Words.{[], cond, false, true, ℕ, ◌&&◌, ◌++◌, ◌==◌, ◌∷◌, ◌≡◌}
 use Rattle.policy_audit.proofs.Words.{same_decides, same, Message}
 use Rattle.policy_audit.proofs.Words.{always, checks, first_broken, frame_checks, message_checks, runs, Said, Stopped, Talk, hears}
-use Rattle.policy_audit.proofs.Words.{said_on, talk, talk_of, tells, History, first_of, past}
+use Rattle.policy_audit.proofs.Words.{said_at, talk, talk_of, tells, begun, frame_taken}
+use Rattle.policy_audit.proofs.Words.{option_and_then, Begun, Message2, PartKind, completed}
+use Rattle.policy_audit.proofs.Words.{History, first_of, past}
 use Rattle.policy_audit.proofs.Words.{is_open, is_running, IsPlayedIn, judgement}
 use Rattle.policy_audit.proofs.Words.{awaits, is_whole, opened, taken, Entry, Verdict, Accepted, Refused, Event, Opening, Rule}
 use Rattle.policy_audit.proofs.Accepted.{lie, accepted, open_first}
@@ -30,8 +32,21 @@ scope_of (Message.Leave t rows) = t
 scope_of (Message.Down t) = t
 
 -- a message that is accepted is of a scope that runs
-scope_runs : (h : History) (k : ℕ) (m : Message) → first_broken (message_checks h k m) ≡ None → is_running h (scope_of m) ≡ true
-scope_runs h k m q = grind arith
+scope_runs : (h : History) (k : ℕ) (b : Option Begun) (f : Message2) (m : Message)
+    → first_broken (message_checks h k f) ≡ None → completed b f ≡ Some m
+    → is_running h (scope_of m) ≡ true
+scope_runs h k b (Message2.Discover t) m q is = grind arith
+scope_runs h k b (Message2.Part PartKind.Sync t number true rows) m q is = grind arith
+scope_runs h k b (Message2.Part PartKind.Join t number true rows) m q is = grind arith
+scope_runs h k b (Message2.Part PartKind.Leave t number true rows) m q is = grind arith
+scope_runs h k b (Message2.Part kind t number false rows) m q is = cc
+scope_runs h k b (Message2.Down t) m q is = grind arith
+
+taken_runs : (h : History) (k : ℕ) (b : Option Begun) (x : Option Message2) (m : Message)
+    → first_broken (option_map_or (message_checks h k) x (always Rule.BadFrame)) ≡ None
+    → option_and_then (completed b) x ≡ Some m → is_running h (scope_of m) ≡ true
+taken_runs h k b None m q is = cc
+taken_runs h k b (Some f) m q is = scope_runs h k b f m q is
 
 -- of a question about s, to which only messages of s give yes, and to which its stop gives no
 module _ (s : List ℕ) (asks : Talk → Option Bool) (stop : (t : List ℕ) → asks (Stopped t) ≡ cond (same t s) (Some false) None) (only : (m : Message) → asks (Said m) ≡ Some true → same (scope_of m) s ≡ true) where
@@ -39,24 +54,36 @@ module _ (s : List ℕ) (asks : Talk → Option Bool) (stop : (t : List ℕ) →
   says_yes ts = unwrap_or (first_of asks ts) false
 
   module _ (o : Opening) (es : List Entry) (e : Entry) (l : ℕ) where
-    framed : (k : ℕ) (body : List ℕ) → first_broken (checks (past o es) e.seat (Event.Frame k body)) ≡ None → is_whole k es ≡ true → (m : Message) → said_on k es body ≡ Some m → is_running (past o es) (scope_of m) ≡ true
+    framed : (k : ℕ) (body : List ℕ)
+        → first_broken (checks (past o es) e.seat (Event.Frame k body)) ≡ None
+        → is_whole k es ≡ true → (m : Message) → said_at o k es body ≡ Some m
+        → is_running (past o es) (scope_of m) ≡ true
     framed k body q w m says =
         let met = (open_first (is_open k es) (frame_checks (past o es) k body (awaits k es)) q).1 in
         let kind = subst (λ a. first_broken (frame_checks (past o es) k body a) ≡ None) (whole_awaits (opened k es) (taken k es) w) met in
-        scope_runs (past o es) k m (subst (λ x. first_broken (option_map_or (message_checks (past o es) k) x (always Rule.BadFrame)) ≡ None) says kind)
+        taken_runs (past o es) k (begun o k es) (frame_taken o k es body) m kind says
 
     spoken : (x : Option Message) → ((m : Message) → x ≡ Some m → is_running (past o es) (scope_of m) ≡ true)
-        → (says_yes (talk l es) ≡ true → is_running (past o es) s ≡ true) → says_yes (talk_of x ++ talk l es) ≡ true → is_running (past o es) s ≡ true
+        → (says_yes (talk o l es) ≡ true → is_running (past o es) s ≡ true)
+        → says_yes (talk_of x ++ talk o l es) ≡ true → is_running (past o es) s ≡ true
     spoken None runs so_far h = so_far h
     spoken (Some m) runs so_far h = grind (arith, runs m refl, only m, same_decides (scope_of m) s)
 
     by_event : (ev : Event) (v : Verdict) → v ≡ judgement (past o es) e.seat ev
-        → (says_yes (talk l es) ≡ true → is_running (past o es) s ≡ true)
-        → says_yes (talk l (but e ev v ∷ es)) ≡ true → is_running (past o (but e ev v ∷ es)) s ≡ true
+        → (says_yes (talk o l es) ≡ true → is_running (past o es) s ≡ true)
+        → says_yes (talk o l (but e ev v ∷ es)) ≡ true
+        → is_running (past o (but e ev v ∷ es)) s ≡ true
     by_event (Event.Frame k body) (Accepted r) q so_far h = by (k == l) refl (is_whole l es) refl h
       where
-        by : (a : Bool) → (k == l) ≡ a → (b : Bool) → is_whole l es ≡ b → says_yes (cond (a && b) (talk_of (said_on l es body)) [] ++ talk l es) ≡ true → is_running (past o es) s ≡ true
-        by true n true w h = spoken (said_on l es body) (framed k body (accepted (past o es) e.seat (Event.Frame k body) r q).0 (ap (λ j. is_whole j es) (eqb-true k l n) ∙ w)) so_far h
+        by : (a : Bool) → (k == l) ≡ a → (b : Bool) → is_whole l es ≡ b
+            → says_yes (cond (a && b) (talk_of (said_at o l es body)) [] ++ talk o l es) ≡ true
+            → is_running (past o es) s ≡ true
+        by true n true w h =
+            spoken (said_at o l es body)
+            (framed l body
+            (subst (λ j. first_broken (checks (past o es) e.seat (Event.Frame j body)) ≡ None)
+            (eqb-true k l n) (accepted (past o es) e.seat (Event.Frame k body) r q).0) w) so_far
+            h
         by a n b w h = so_far h
     by_event (Event.StartScope t) (Accepted r) _ so_far h = grind arith
     by_event (Event.StopScope t) (Accepted r) _ so_far h = grind (arith, stop)
@@ -65,7 +92,7 @@ module _ (s : List ℕ) (asks : Talk → Option Bool) (stop : (t : List ℕ) →
     by_event ev (Refused r) _ so_far h = so_far h
 
   yes_runs : (o : Opening) (es : List Entry) → IsPlayedIn o es → (l : ℕ)
-      → says_yes (talk l es) ≡ true → is_running (past o es) s ≡ true
+      → says_yes (talk o l es) ≡ true → is_running (past o es) s ≡ true
   yes_runs o [] legal l h = lie (sym h)
   yes_runs o (e ∷ es) legal l h =
       by_event o es e l e.event e.verdict legal.0.judged (yes_runs o es legal.1 l) h
@@ -77,24 +104,25 @@ told_only : (s : List ℕ) (m : Message) → tells s (Said m) ≡ Some true → 
 told_only s m q = grind arith
 
 pub heard_runs : (o : Opening) (es : List Entry) → IsPlayedIn o es → (l : ℕ) (s : List ℕ)
-    → has_sync s (talk l es) ≡ true → is_running (past o es) s ≡ true
+    → has_sync s (talk o l es) ≡ true → is_running (past o es) s ≡ true
 heard_runs o es legal l s h = yes_runs s (hears s) (λ t. refl) (heard_only s) o es legal l h
 
 pub told_talk_runs : (o : Opening) (es : List Entry) → IsPlayedIn o es → (l : ℕ) (s : List ℕ)
-    → has_discover s (talk l es) ≡ true → is_running (past o es) s ≡ true
+    → has_discover s (talk o l es) ≡ true → is_running (past o es) s ≡ true
 told_talk_runs o es legal l s h = yes_runs s (tells s) (λ t. refl) (told_only s) o es legal l h
 
 -- ---- the link is whole
 
 pub heard_whole : (o : Opening) (es : List Entry) → IsPlayedIn o es → (l : ℕ) (s : List ℕ)
-    → has_sync s (talk l es) ≡ true → is_whole l es ≡ true
+    → has_sync s (talk o l es) ≡ true → is_whole l es ≡ true
 heard_whole o [] legal l s h = lie (sym h)
 heard_whole o (e ∷ es) legal l s h = by_event e.event e.verdict (heard_whole o es legal.1 l s) h
   where
     new : (e.number == l) ≡ true → opened l es ≡ None
     new q = subst (λ x. opened x es ≡ None) (eqb-true e.number l q) (fresh o es legal.1 e legal.0)
 
-    by_event : (ev : Event) (v : Verdict) → (has_sync s (talk l es) ≡ true → is_whole l es ≡ true) → has_sync s (talk l (but e ev v ∷ es)) ≡ true → is_whole l (but e ev v ∷ es) ≡ true
+    by_event : (ev : Event) (v : Verdict) → (has_sync s (talk o l es) ≡ true → is_whole l es ≡ true)
+        → has_sync s (talk o l (but e ev v ∷ es)) ≡ true → is_whole l (but e ev v ∷ es) ≡ true
     by_event (Event.Frame k body) (Accepted r) so_far h = grind (arith, whole_kept (record { body = body; before = es }) (opened l es) (taken l es))
     by_event (Event.Opened c) (Accepted r) so_far h = grind (arith, new)
     by_event (Event.Dial n c) (Accepted r) so_far h = grind (arith, new)

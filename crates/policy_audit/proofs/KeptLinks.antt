@@ -22,7 +22,7 @@ use Rattle.policy_audit.proofs.Finished.{kept}
 
 module _ (o : Opening) (es : List Entry) (l : ℕ) (down : is_up l es ≡ false) where
   -- its peer isn't told
-  not_told : (s : List ℕ) → told l s es ≡ false
+  not_told : (s : List ℕ) → told o l s es ≡ false
   not_told s = grind arith
 
   pub untold : (s : List ℕ) (m : List Row → Message) (rows : List Row)
@@ -186,10 +186,16 @@ links_fall h legal = (below h.opening h.entries legal).1
 
 -- ---- who is told and heard
 
-pub told_runs : (h : History) → IsPlayed h → (l : ℕ) (s : List ℕ) → told l s h.entries ≡ true
+pub told_runs : (h : History) → IsPlayed h → (l : ℕ) (s : List ℕ)
+    → told h.opening l s h.entries ≡ true
     → is_running h s ≡ true
-told_runs h legal l s t = told_talk_runs h.opening h.entries legal l s (and_parts (is_up l h.entries) (has_discover s (talk l h.entries)) t).1
+told_runs h legal l s t =
+    told_talk_runs h.opening h.entries legal l s
+    (and_parts (is_up l h.entries) (has_discover s (talk h.opening l h.entries)) t).1
 
-pub heard_runs' : (h : History) → IsPlayed h → (l : ℕ) (s : List ℕ) → heard l s h.entries ≡ true
+pub heard_runs' : (h : History) → IsPlayed h → (l : ℕ) (s : List ℕ)
+    → heard h.opening l s h.entries ≡ true
     → is_running h s ≡ true
-heard_runs' h legal l s t = heard_runs h.opening h.entries legal l s (and_parts (is_up l h.entries) (has_sync s (talk l h.entries)) t).1
+heard_runs' h legal l s t =
+    heard_runs h.opening h.entries legal l s
+    (and_parts (is_up l h.entries) (has_sync s (talk h.opening l h.entries)) t).1

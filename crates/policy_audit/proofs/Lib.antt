@@ -15,6 +15,8 @@ pub mod ChangeLemmas
 pub mod Effects
 pub mod Equal
 pub mod Heard
+pub mod Begun
+pub mod Parted
 pub mod Within
 pub mod RowsAfter
 pub mod MessageRows
@@ -33,6 +35,8 @@ pub mod LinkFrames
 pub mod LinksLeft
 pub mod HeardNow
 pub mod HeardSaid
+pub mod OldTold
+pub mod OldLinks
 pub mod ScopeFrames
 pub mod Untouched
 pub mod LostWords

@@ -36,6 +36,10 @@ begun name cookie hidden creation entries = past (record { name = name; cookie =
 abbrev pub node : History
 node = begun (codes "b@h") (codes "password") false 4 1000000
 
+-- the same node where it knows version 2
+abbrev pub new_node : History
+new_node = past (record { name = codes "b@h"; cookie = codes "password"; hidden = false; creation = 4; entries = 1000000; links = 2 }) []
+
 -- the value of a digit of hex
 abbrev digit : ℕ → ℕ
 digit code = cond (nat_le code 57) (code - 48) (code - 87)

@@ -1,6 +1,6 @@
 -- The losses of slow links, which come with an entry.
 use Rattle.policy_audit.proofs.Words.{ap, arith, refl, subst, sym, ◌∙◌, append-nil, filter}
-use Rattle.policy_audit.proofs.Words.{list_all, option_map_or}
+use Rattle.policy_audit.proofs.Words.{and_parts, is_empty, list_all, option_map_or, Check}
 use Rattle.policy_audit.proofs.Words.{Bool, List, None, Option, Some, [], cond, false, length}
 use Rattle.policy_audit.proofs.Words.{nat_lt, not, true, ℕ}
 use Rattle.policy_audit.proofs.Words.{◌&&◌, ◌==◌, ◌∷◌, ◌≡◌, ◌≤◌, ◌↔◌, eqb-true, lt-ltb, ltb-true}
@@ -12,7 +12,8 @@ use Rattle.policy_audit.proofs.Words.{max_waiting, slow_links, with_entry}
 use Rattle.policy_audit.proofs.Words.{IsLegal, IsLegalIn, IsNext, IsNumbered, IsPlayed, IsPlayedIn}
 use Rattle.policy_audit.proofs.Words.{IsStep, history, is_full, judgement}
 use Rattle.policy_audit.proofs.Words.{checks, first_broken, frame_checks, message_checks, always}
-use Rattle.policy_audit.proofs.Words.{refusal_owes, message_taken, awaits, judged, waiting, Message}
+use Rattle.policy_audit.proofs.Words.{refusal_owes, frame_taken, awaits, judged, waiting, Message2}
+use Rattle.policy_audit.proofs.Words.{PartKind}
 use Rattle.policy_audit.proofs.Finished.{whole_awaits}
 use Rattle.policy_audit.proofs.Walked.{but}
 use Rattle.policy_audit.proofs.Words.{Rule, ◌<◌, Entry, Verdict, Accepted, Refused, Event, Opening}
@@ -237,22 +238,40 @@ slow_is_one k l =
 -- ---- no link of such a history is slow
 
 module _ (h : History) (l : ℕ) where
+  -- where the rules of a list are owed nothing, so is the first that is broken
+  first_silent : (cs : List Check) → list_all (λ c. is_empty (refusal_owes c.rule)) cs ≡ true
+      → (r : Rule) → first_broken cs ≡ Some r → refusal_owes r ≡ []
+  first_silent [] all r q = cc
+  first_silent (c ∷ cs) all r q =
+      let both = and_parts (is_empty (refusal_owes c.rule))
+      (list_all (λ x. is_empty (refusal_owes x.rule)) cs) all in
+      by c.broken q both.0 (first_silent cs both.1 r)
+    where
+      by : (b : Bool) → cond b (Some c.rule) (first_broken cs) ≡ Some r
+          → is_empty (refusal_owes c.rule) ≡ true
+          → (first_broken cs ≡ Some r → refusal_owes r ≡ []) → refusal_owes r ≡ []
+      by true q none later = grind (arith, q, none)
+      by false q none later = later q
+
   -- a message that is refused owes nothing
-  refused_message : (x : Option Message) (r : Rule)
+  refused_message : (x : Option Message2) (r : Rule)
       → first_broken (option_map_or (message_checks h l) x (always Rule.BadFrame)) ≡ Some r
       → refusal_owes r ≡ []
   refused_message None r q = grind arith
-  refused_message (Some (Message.Discover s)) r q = grind arith
-  refused_message (Some (Message.Sync s rows)) r q = grind arith
-  refused_message (Some (Message.Join s rows)) r q = grind arith
-  refused_message (Some (Message.Leave s rows)) r q = grind arith
-  refused_message (Some (Message.Down s)) r q = grind arith
+  refused_message (Some (Message2.Discover s)) r q = grind arith
+  refused_message (Some (Message2.Part PartKind.Sync s number last rows)) r q =
+      first_silent (message_checks h l (Message2.Part PartKind.Sync s number last rows)) refl r q
+  refused_message (Some (Message2.Part PartKind.Join s number last rows)) r q =
+      first_silent (message_checks h l (Message2.Part PartKind.Join s number last rows)) refl r q
+  refused_message (Some (Message2.Part PartKind.Leave s number last rows)) r q =
+      first_silent (message_checks h l (Message2.Part PartKind.Leave s number last rows)) refl r q
+  refused_message (Some (Message2.Down s)) r q = grind arith
 
   refused_up : (seat : ℕ) (body : List ℕ) (r : Rule) → is_open l h.entries ≡ true
       → is_whole l h.entries ≡ true → Refused r ≡ judgement h seat (Event.Frame l body)
       → refusal_owes r ≡ []
   refused_up seat body r opens whole q =
-      refused_message (message_taken body) r
+      refused_message (frame_taken h.opening l h.entries body) r
       (trade (rule_of (first_broken (checks h seat (Event.Frame l body))) q)
       (ap (λ b. first_broken
       (cond b (frame_checks h l body (awaits l h.entries)) (always Rule.NoSuchLink))) opens

@@ -41,7 +41,8 @@ module _ (es : List Entry) where
         peer = refl;
         awaits = refl;
         whole = refl;
-        talk = refl;
+        talk = λ o. refl;
+        begun = λ o. refl;
       }
   lost_same (l ∷ ls) k =
       (let it = lost_same ls k
@@ -53,6 +54,7 @@ module _ (es : List Entry) where
         awaits = it.awaits;
         whole = it.whole;
         talk = it.talk;
+        begun = it.begun;
       })
 
   pub lost_up : (ls : List ℕ) (k : ℕ) → is_up k (lose ls es) ≡ (not (is_one k ls) && is_up k es)
@@ -63,13 +65,13 @@ module _ (es : List Entry) where
   lost_waiting o [] k = refl
   lost_waiting o (l ∷ ls) k = grind (arith, lost_waiting o ls k, append-nil)
 
-  pub lost_heard : (ls : List ℕ) (k : ℕ) (s : List ℕ)
-      → heard k s (lose ls es) ≡ (not (is_one k ls) && heard k s es)
-  lost_heard ls k s = grind (arith, lost_up ls k, (lost_same ls k).talk)
+  pub lost_heard : (o : Opening) (ls : List ℕ) (k : ℕ) (s : List ℕ)
+      → heard o k s (lose ls es) ≡ (not (is_one k ls) && heard o k s es)
+  lost_heard o ls k s = grind (arith, lost_up ls k, (lost_same ls k).talk o)
 
-  pub lost_told : (ls : List ℕ) (k : ℕ) (s : List ℕ)
-      → told k s (lose ls es) ≡ (not (is_one k ls) && told k s es)
-  lost_told ls k s = grind (arith, lost_up ls k, (lost_same ls k).talk)
+  pub lost_told : (o : Opening) (ls : List ℕ) (k : ℕ) (s : List ℕ)
+      → told o k s (lose ls es) ≡ (not (is_one k ls) && told o k s es)
+  lost_told o ls k s = grind (arith, lost_up ls k, (lost_same ls k).talk o)
 
   -- a node's present link, unless it is one of these
   abbrev pub left_link : List ℕ → Option ℕ → Option ℕ
@@ -116,7 +118,7 @@ module _ (es : List Entry) where
       → listed_by (past o (lose ls es)) s g p l ≡ listed_by (past o es) s g p l
   lost_lists o ls s g p l q =
       (let it = lost_same ls l in let up = lost_up ls l
-      in grind (arith, it.given, it.peer, it.talk, up, q))
+      in grind (arith, it.given, it.peer, it.talk o, up, q))
 
   pub lost_listed : (o : Opening) (ls s g : List ℕ) (p : Pid)
       → listed (past o (lose ls es)) s g p ≡ listed_left o ls s g p

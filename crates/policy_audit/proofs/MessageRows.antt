@@ -1,13 +1,15 @@
 -- How often a process is listed after each message.
 use Rattle.policy_audit.proofs.Words.{and_parts, ap, arith, refl, subst, sym, ◌∙◌, eq-eqb, list_all}
-use Rattle.policy_audit.proofs.Words.{option_map_or, Bool, List, None, Some, cond}
+use Rattle.policy_audit.proofs.Words.{Bool, List, None, Some, cond}
 use Rattle.policy_audit.proofs.Words.{false, not, true, ℕ, ◌&&◌, ◌+◌, ◌-◌, ◌∷◌, ◌≡◌, same_decides, same_row_decides, same_sym, occurrences}
-use Rattle.policy_audit.proofs.Words.{same, same_row, Pid, Row, Message, always, first_broken, frame_checks, message_checks, runs, row}
-use Rattle.policy_audit.proofs.Words.{Said, Talk, heard, hears, said_on, rows_of, stated_in, talk, History, is_accepted, is_open}
+use Rattle.policy_audit.proofs.Words.{same, same_row, Pid, Row, Message, first_broken}
+use Rattle.policy_audit.proofs.Words.{frame_checks, frame_taken, whole_checks, runs, row}
+use Rattle.policy_audit.proofs.Words.{Said, Talk, heard, hears, said_at, rows_of, stated_in, talk}
+use Rattle.policy_audit.proofs.Words.{History, is_accepted, is_open}
 use Rattle.policy_audit.proofs.Words.{is_up, is_from, listed, is_running, IsStep, IsPlayed, just}
 use Rattle.policy_audit.proofs.Words.{AwaitMessage, Taken, awaits}
 use Rattle.policy_audit.proofs.Words.{is_last, is_visible, is_whole, opened, peer_of, present_link}
-use Rattle.policy_audit.proofs.Words.{taken, Entry, Event, Rule}
+use Rattle.policy_audit.proofs.Words.{taken, Entry, Event}
 use Rattle.policy_audit.proofs.Effects.{breaks_none}
 use Rattle.policy_audit.proofs.Accepted.{Hold, all_hold, open_first, unbroken}
 use Rattle.policy_audit.proofs.UpLinks.{agrees, and_both, other}
@@ -15,6 +17,7 @@ use Rattle.policy_audit.proofs.Walked.{open_opened}
 use Rattle.policy_audit.proofs.RowsAfter.{done_frame, inner_rows, not_local, uncounted}
 use Rattle.policy_audit.proofs.Finished.{given_kept, is_message, kept, message_whole, whole_kept}
 use Rattle.policy_audit.proofs.Heard.{has_sync}
+use Rattle.policy_audit.proofs.Begun.{said_holds}
 
 -- how often a link that is up lists a process of its peer
 abbrev nest : Bool → Bool → Bool → Bool → ℕ → ℕ
@@ -34,16 +37,16 @@ module _ (h : History) (legal : IsPlayed h) (e : Entry) (made : IsStep h e)
   abbrev es : List Entry
   es = h.entries
 
-  module _ (m : Message) (says : said_on l h.entries body ≡ Some m) where
+  module _ (m : Message) (says : said_at h.opening l es body ≡ Some m) where
     inner : is_last (awaits l es) ≡ false
     inner = ap is_last awaited
 
     -- the link is open, and the message breaks no rule
-    met : (is_open l es ≡ true) × (first_broken (message_checks h l m) ≡ None)
+    met : (is_open l es ≡ true) × (first_broken (whole_checks h l m) ≡ None)
     met =
         let found = open_first (is_open l es) (frame_checks h l body (awaits l es)) (breaks_none h e (Event.Frame l body) made yes is) in
         let kind = subst (λ a. first_broken (frame_checks h l body a) ≡ None) awaited found.1 in
-        (found.0, subst (λ x. first_broken (option_map_or (message_checks h l) x (always Rule.BadFrame)) ≡ None) says kind)
+        (found.0, said_holds h legal l body (frame_taken h.opening l es body) m says kind)
 
     whole : is_whole l es ≡ true
     whole = message_whole (opened l es) (taken l es) (open_opened l es met.0) (ap is_message awaited)
@@ -51,8 +54,8 @@ module _ (h : History) (legal : IsPlayed h) (e : Entry) (made : IsStep h e)
     up_link : is_up l es ≡ true
     up_link = and_both (is_open l es) (is_whole l es) met.0 whole
 
-    holds : Hold (message_checks h l m)
-    holds = all_hold (message_checks h l m) met.1
+    holds : Hold (whole_checks h l m)
+    holds = all_hold (whole_checks h l m) met.1
 
     -- how often the link lists p, with that said on it
     abbrev said_so : List ℕ → List ℕ → Pid → List Talk → ℕ
@@ -61,14 +64,15 @@ module _ (h : History) (legal : IsPlayed h) (e : Entry) (made : IsStep h e)
     present : (p : Pid) → same p.node n ≡ true → present_link p.node es ≡ Some l
     present p its = ap (λ v. present_link v es) ((same_decides p.node n).0 its) ∙ (agrees h.opening es legal n l).1 (up_link, of)
 
-    was_said : (t f : List ℕ) (p : Pid) → same p.node n ≡ true → listed h t f p ≡ said_so t f p (talk l es)
+    was_said : (t f : List ℕ) (p : Pid) → same p.node n ≡ true
+        → listed h t f p ≡ said_so t f p (talk h.opening l es)
     was_said t f p its = grind (arith, not_local h p n its foreign, present p its, up_link)
 
     now_said : (t f : List ℕ) (p : Pid) → same p.node n ≡ true
-        → listed (just h e) t f p ≡ said_so t f p (Said m ∷ talk l es)
+        → listed (just h e) t f p ≡ said_so t f p (Said m ∷ talk h.opening l es)
     now_said t f p its =
         done_frame h legal e made yes l body is inner
-        (λ x. listed (just h x) t f p ≡ said_so t f p (Said m ∷ talk l es)) (λ q. (
+        (λ x. listed (just h x) t f p ≡ said_so t f p (Said m ∷ talk h.opening l es)) (λ q. (
         let moment : Taken = record { body = body; before = es } in
         grind (arith, not_local h p n its foreign, present p its, up_link, given_kept moment (opened l es) (taken l es) whole, kept moment (opened l es) (taken l es) whole, whole_kept moment (opened l es) (taken l es) whole, eq-eqb l l)))
 
@@ -78,8 +82,12 @@ module _ (h : History) (legal : IsPlayed h) (e : Entry) (made : IsStep h e)
     elsewhere t f p other = inner_rows h legal e made yes l body is inner t f p (grind (arith, of, same_sym n p.node))
 
     -- so each process is listed as the message says, where these hold of it
-    changed : (s t f : List ℕ) (p : Pid) (now : ℕ) → (same s t ≡ false → said_so t f p (Said m ∷ talk l es) ≡ said_so t f p (talk l es))
-        → (same p.node n ≡ true → same s t ≡ true → said_so t f p (Said m ∷ talk l es) ≡ now) → (same p.node n ≡ false → same s t ≡ true → listed h t f p ≡ now)
+    changed : (s t f : List ℕ) (p : Pid) (now : ℕ)
+        → (same s t ≡ false
+        → said_so t f p (Said m ∷ talk h.opening l es) ≡ said_so t f p (talk h.opening l es))
+        → (same p.node n ≡ true → same s t ≡ true
+        → said_so t f p (Said m ∷ talk h.opening l es) ≡ now)
+        → (same p.node n ≡ false → same s t ≡ true → listed h t f p ≡ now)
         → listed (just h e) t f p ≡ cond (same t s) now (listed h t f p)
     changed s t f p now apart its others = by (same p.node n) refl (same s t) refl ∙ ap (λ b. cond b now (listed h t f p)) (same_sym s t)
       where
@@ -90,7 +98,7 @@ module _ (h : History) (legal : IsPlayed h) (e : Entry) (made : IsStep h e)
         by false i true q = elsewhere t f p i ∙ others i q
         by false i false q = elsewhere t f p i
 
-  pub discovered_rows : (s : List ℕ) → said_on l h.entries body ≡ Some (Message.Discover s)
+  pub discovered_rows : (s : List ℕ) → said_at h.opening l es body ≡ Some (Message.Discover s)
       → (t f : List ℕ) (p : Pid) → listed (just h e) t f p ≡ listed h t f p
   discovered_rows s says t f p = inner_rows h legal e made yes l body is (ap is_last awaited) t f p (grind (arith, says))
 
@@ -98,8 +106,12 @@ module _ (h : History) (legal : IsPlayed h) (e : Entry) (made : IsStep h e)
   running_as : (s t : List ℕ) → same s t ≡ true → not (is_running h s) ≡ false → is_running h t ≡ true
   running_as s t q runs = ap (is_running h) (sym ((same_decides s t).0 q)) ∙ unbroken (is_running h s) runs
 
-  heard_as : (s t : List ℕ) → same s t ≡ true → not (heard l s es) ≡ false → has_sync t (talk l es) ≡ true
-  heard_as s t q hears = ap (λ u. has_sync u (talk l es)) (sym ((same_decides s t).0 q)) ∙ (and_parts (is_up l es) (has_sync s (talk l es)) (unbroken (heard l s es) hears)).1
+  heard_as : (s t : List ℕ) → same s t ≡ true → not (heard h.opening l s es) ≡ false
+      → has_sync t (talk h.opening l es) ≡ true
+  heard_as s t q hears =
+      ap (λ u. has_sync u (talk h.opening l es)) (sym ((same_decides s t).0 q))
+      ∙ (and_parts (is_up l es) (has_sync s (talk h.opening l es))
+      (unbroken (heard h.opening l s es) hears)).1
 
   -- a message names no process that isn't from its link
   none_from : (rows : List Row) → not (list_all (λ r. is_from l es r.pid) rows) ≡ false → (f : List ℕ) (p : Pid) → is_from l es p ≡ false → rows_of f p rows ≡ 0
@@ -108,7 +120,8 @@ module _ (h : History) (legal : IsPlayed h) (e : Entry) (made : IsStep h e)
   foreign_from : (p : Pid) → same p.node n ≡ false → is_from l es p ≡ false
   foreign_from p other = grind (arith, of, same_sym n p.node)
 
-  pub synced_rows : (s : List ℕ) (rows : List Row) → said_on l h.entries body ≡ Some (Message.Sync s rows) → (t f : List ℕ) (p : Pid)
+  pub synced_rows : (s : List ℕ) (rows : List Row)
+      → said_at h.opening l es body ≡ Some (Message.Sync s rows) → (t f : List ℕ) (p : Pid)
       → listed (just h e) t f p
       ≡ cond (same t s)
       (cond (same p.node n) (occurrences same_row (row f p) rows) (listed h t f p)) (listed h t f p)
@@ -119,37 +132,54 @@ module _ (h : History) (legal : IsPlayed h) (e : Entry) (made : IsStep h e)
       (λ i q. ap (λ b. cond b (rows_of f p rows) (listed h t f p)) (sym i))
     where
       said : same s t ≡ true → is_running h t ≡ true → is_visible h l ≡ true → (is_from l es p ≡ false → rows_of f p rows ≡ 0)
-          → nest (is_running h t) (is_visible h l) (is_from l es p) (has_sync t (Said (Message.Sync s rows) ∷ talk l es)) (stated_in t f p (Said (Message.Sync s rows) ∷ talk l es)) ≡ rows_of f p rows
+          → nest (is_running h t) (is_visible h l) (is_from l es p)
+          (has_sync t (Said (Message.Sync s rows) ∷ talk h.opening l es))
+          (stated_in t f p (Said (Message.Sync s rows) ∷ talk h.opening l es)) ≡ rows_of f p rows
       said q a b z = grind arith
 
-  pub added_rows : (s : List ℕ) (rows : List Row) → said_on l h.entries body ≡ Some (Message.Join s rows) → (t f : List ℕ) (p : Pid)
+  pub added_rows : (s : List ℕ) (rows : List Row)
+      → said_at h.opening l es body ≡ Some (Message.Join s rows) → (t f : List ℕ) (p : Pid)
       → listed (just h e) t f p
       ≡ cond (same t s) (listed h t f p + occurrences same_row (row f p) rows) (listed h t f p)
   added_rows s rows says t f p =
       let k = holds (Message.Join s rows) says in
       changed (Message.Join s rows) says s t f p (listed h t f p + rows_of f p rows) (λ q. grind arith)
-      (λ i q. ap (λ b. nest (is_running h t) (is_visible h l) (is_from l es p) (has_sync t (talk l es)) (cond b (stated_in t f p (talk l es) + rows_of f p rows) (stated_in t f p (talk l es)))) q
-      ∙ more (is_running h t) (is_visible h l) (is_from l es p) (has_sync t (talk l es)) (stated_in t f p (talk l es)) (rows_of f p rows) (running_as s t q k.1.0) (unbroken (is_visible h l) k.0) (heard_as s t q k.1.1.0) (none_from rows k.1.1.1.0 f p)
+      (λ i q. ap (λ b. nest (is_running h t) (is_visible h l) (is_from l es p)
+      (has_sync t (talk h.opening l es))
+      (cond b (stated_in t f p (talk h.opening l es) + rows_of f p rows)
+      (stated_in t f p (talk h.opening l es)))) q
+      ∙ more (is_running h t) (is_visible h l) (is_from l es p) (has_sync t (talk h.opening l es))
+      (stated_in t f p (talk h.opening l es)) (rows_of f p rows) (running_as s t q k.1.0)
+      (unbroken (is_visible h l) k.0) (heard_as s t q k.1.1.0) (none_from rows k.1.1.1.0 f p)
       ∙ ap (λ c. c + rows_of f p rows) (sym (was_said (Message.Join s rows) says t f p i)))
       (λ i q. omega (arith, none_from rows k.1.1.1.0 f p (foreign_from p i)))
 
-  pub taken_rows : (s : List ℕ) (rows : List Row) → said_on l h.entries body ≡ Some (Message.Leave s rows) → (t f : List ℕ) (p : Pid)
+  pub taken_rows : (s : List ℕ) (rows : List Row)
+      → said_at h.opening l es body ≡ Some (Message.Leave s rows) → (t f : List ℕ) (p : Pid)
       → listed (just h e) t f p
       ≡ cond (same t s) (listed h t f p - occurrences same_row (row f p) rows) (listed h t f p)
   taken_rows s rows says t f p =
       let k = holds (Message.Leave s rows) says in
       changed (Message.Leave s rows) says s t f p (listed h t f p - rows_of f p rows) (λ q. grind arith)
-      (λ i q. ap (λ b. nest (is_running h t) (is_visible h l) (is_from l es p) (has_sync t (talk l es)) (cond b (stated_in t f p (talk l es) - rows_of f p rows) (stated_in t f p (talk l es)))) q
-      ∙ less (is_running h t) (is_visible h l) (is_from l es p) (has_sync t (talk l es)) (stated_in t f p (talk l es)) (rows_of f p rows) (running_as s t q k.1.0) (unbroken (is_visible h l) k.0) (heard_as s t q k.1.1.0)
+      (λ i q. ap (λ b. nest (is_running h t) (is_visible h l) (is_from l es p)
+      (has_sync t (talk h.opening l es))
+      (cond b (stated_in t f p (talk h.opening l es) - rows_of f p rows)
+      (stated_in t f p (talk h.opening l es)))) q
+      ∙ less (is_running h t) (is_visible h l) (is_from l es p) (has_sync t (talk h.opening l es))
+      (stated_in t f p (talk h.opening l es)) (rows_of f p rows) (running_as s t q k.1.0)
+      (unbroken (is_visible h l) k.0) (heard_as s t q k.1.1.0)
       ∙ ap (λ c. c - rows_of f p rows) (sym (was_said (Message.Leave s rows) says t f p i)))
       (λ i q. omega (arith, none_from rows k.1.1.1.0 f p (foreign_from p i)))
 
-  pub downed_rows : (s : List ℕ) → said_on l h.entries body ≡ Some (Message.Down s)
+  pub downed_rows : (s : List ℕ) → said_at h.opening l es body ≡ Some (Message.Down s)
       → (t f : List ℕ) (p : Pid)
       → listed (just h e) t f p
       ≡ cond (same t s) (cond (same p.node n) 0 (listed h t f p)) (listed h t f p)
   downed_rows s says t f p = changed (Message.Down s) says s t f p (cond (same p.node n) 0 (listed h t f p)) (λ q. grind arith)
       (λ i q. said q ∙ ap (λ b. cond b 0 (listed h t f p)) (sym i)) (λ i q. ap (λ b. cond b 0 (listed h t f p)) (sym i))
     where
-      said : same s t ≡ true → nest (is_running h t) (is_visible h l) (is_from l es p) (has_sync t (Said (Message.Down s) ∷ talk l es)) (stated_in t f p (Said (Message.Down s) ∷ talk l es)) ≡ 0
+      said : same s t ≡ true
+          → nest (is_running h t) (is_visible h l) (is_from l es p)
+          (has_sync t (Said (Message.Down s) ∷ talk h.opening l es))
+          (stated_in t f p (Said (Message.Down s) ∷ talk h.opening l es)) ≡ 0
       said q = grind arith

@@ -1,8 +1,18 @@
 -- Who is counted in a group was named by an event.
-use Rattle.policy_audit.proofs.Words.{arith, list_any-append, filter, flat_map, list_any, Bool, List, [], cond, false, map, true, ℕ, ◌++◌}
-use Rattle.policy_audit.proofs.Words.{◌<◌, ◌∷◌, ◌≡◌, is_among, mentions, occurrences, same, same_pid, same_row, stands_in, Pid, Row}
-use Rattle.policy_audit.proofs.Words.{groups_named, pids_named, row, rows_brought, rows_named, message_taken, rows_of, stated_in, talk}
-use Rattle.policy_audit.proofs.Words.{talk_at, talk_in, History, Moment, events, present, listed, is_running, joined, own, Event}
+use Rattle.policy_audit.proofs.Words.{arith, list_any-append, filter, flat_map, list_any, Bool}
+use Rattle.policy_audit.proofs.Words.{List, [], cond, false, map, true, ℕ, ◌++◌, ◌&&◌, ◌||◌, ◌==◌}
+use Rattle.policy_audit.proofs.Words.{refl, option_map_or, option_and_then, None, Option, Some}
+use Rattle.policy_audit.proofs.Words.{◌<◌, ◌∷◌, ◌≡◌, is_among, mentions, occurrences, same}
+use Rattle.policy_audit.proofs.Words.{same_decides, same_pid, same_row, stands_in, Pid, Row}
+use Rattle.policy_audit.proofs.Words.{Message2, PartKind, Begun, completed, rows_before}
+use Rattle.policy_audit.proofs.Words.{rows_so_far}
+use Rattle.policy_audit.proofs.Words.{groups_named, pids_named, row, rows_in_part, rows_named}
+use Rattle.policy_audit.proofs.Words.{message_taken, rows_of, stated_in, talk, talk_of, Talk, begun}
+use Rattle.policy_audit.proofs.Words.{frame_taken, kept_after, link_version}
+use Rattle.policy_audit.proofs.Words.{History, events, listed, is_running, joined, own, is_whole}
+use Rattle.policy_audit.proofs.Words.{Event, Entry, Verdict, Accepted, Refused, Reply, Opening}
+use Rattle.std.specs.Prelude.{zero, suc}
+use Rattle.policy_audit.proofs.Walked.{but}
 
 -- ---- lists
 
@@ -43,22 +53,174 @@ module _ (s g : List ℕ) (p : Pid) where
   pub joined_named : (es : List Event) → 0 < joined s g p es → named_in es ≡ true
   joined_named [] h = absurd (omega arith)
   joined_named (Event.Join t f ps ∷ es) h = grind (arith, joined_named es, list_any-append, mentioned)
-  joined_named (Event.Frame l body ∷ es) h = any_behind (λ r. same_row r (row g p)) (rows_brought s (message_taken body)) (flat_map (rows_named s) es) (joined_named es h)
+  joined_named (Event.Frame l body ∷ es) h =
+      any_behind (λ r. same_row r (row g p)) (rows_named s (Event.Frame l body))
+      (flat_map (rows_named s) es) (joined_named es h)
   joined_named (e ∷ es) h = grind (arith, joined_named es)
 
   -- what a message brings
   brought : (rows : List Row) → 0 < rows_of g p rows → has rows ≡ true
   brought rows = occurs_stands same_row (row g p) rows
 
-  stated_named : (l : ℕ) (ms : List Moment) → 0 < stated_in s g p (talk_in l ms) → named_in (map (λ m. m.event) ms) ≡ true
-  stated_named l [] h = absurd (omega arith)
-  stated_named l (m ∷ ms) h = by_event m.event (stated_named l ms) h
+  -- the rows of s that are kept of a message whose parts are coming
+  abbrev kept_here : Option Begun → List Row
+  kept_here b = option_map_or (λ x. cond (same x.scope s) x.rows []) b []
+
+  -- what a part has with those before it was kept, or is its own
+  before_here : (b : Option Begun) (kind : PartKind) (t : List ℕ) (number : ℕ) → same t s ≡ true
+      → has (rows_before b kind t number) ≡ true → has (kept_here b) ≡ true
+  before_here None kind t number q h = grind arith
+  before_here (Some b) kind t number q h = grind (arith, same_decides t s, same_decides b.scope t)
+
+  so_far_here : (b : Option Begun) (kind : PartKind) (t : List ℕ) (number : ℕ) (rows : List Row)
+      → same t s ≡ true → has (rows_so_far b kind t number rows) ≡ true
+      → (has (kept_here b) || has rows) ≡ true
+  so_far_here b kind t number rows q h =
+      grind (arith, before_here b kind t number q, list_any-append)
+
+  part_here : Option Message2 → List Row
+  part_here x = rows_in_part s x
+
+  -- what is kept after a message
+  kept_next : (b : Option Begun) (x : Option Message2) → has (kept_here (kept_after b x)) ≡ true
+      → (has (kept_here b) || has (rows_in_part s x)) ≡ true
+  kept_next b None h = grind arith
+  kept_next b (Some (Message2.Discover t)) h = grind arith
+  kept_next b (Some (Message2.Down t)) h = grind arith
+  kept_next b (Some (Message2.Part kind t number true rows)) h = grind arith
+  kept_next b (Some (Message2.Part kind t number false rows)) h =
+      grind (arith, so_far_here b kind t number rows)
+
+  -- what was stated after a message
+  stated_next : (b : Option Begun) (x : Option Message2) (ts : List Talk)
+      → 0 < stated_in s g p (talk_of (option_and_then (completed b) x) ++ ts)
+      → stated_in s g p ts ≡ 0 → (has (kept_here b) || has (rows_in_part s x)) ≡ true
+  stated_next b None ts h none = absurd (omega (arith, h, none))
+  stated_next b (Some (Message2.Discover t)) ts h none = absurd (omega (arith, h, none))
+  stated_next b (Some (Message2.Down t)) ts h none = grind arith
+  stated_next b (Some (Message2.Part kind t number false rows)) ts h none =
+      absurd (omega (arith, h, none))
+  stated_next b (Some (Message2.Part PartKind.Sync t number true rows)) ts h none =
+      grind (
+        arith,
+        none,
+        brought (rows_so_far b PartKind.Sync t number rows),
+        so_far_here b
+            PartKind.Sync t number rows,
+      )
+  stated_next b (Some (Message2.Part PartKind.Join t number true rows)) ts h none =
+      grind (
+        arith,
+        none,
+        brought (rows_so_far b PartKind.Join t number rows),
+        so_far_here b
+            PartKind.Join t number rows,
+      )
+  stated_next b (Some (Message2.Part PartKind.Leave t number true rows)) ts h none =
+      grind (arith, none)
+
+  -- a part that a link takes is read from its body by one of the two grammars
+  part_named : (version : ℕ) (l : ℕ) (body : List ℕ)
+      → has (rows_in_part s (message_taken version body)) ≡ true
+      → has (rows_named s (Event.Frame l body)) ≡ true
+  part_named version l body h = by (version == 2) refl h
     where
-      by_event : (ev : Event) → (0 < stated_in s g p (talk_in l ms) → named_in (map (λ n. n.event) ms) ≡ true) → 0 < stated_in s g p (talk_at l m.before ev ++ talk_in l ms) → named_in (ev ∷ map (λ n. n.event) ms) ≡ true
-      by_event (Event.Frame k body) others h = grind (arith, others, list_any-append, brought)
-      by_event (Event.Join t f ps) others h = any_behind (λ r. same_row r (row g p)) (cond (same t s) (map (row f) ps) []) (flat_map (rows_named s) (map (λ n. n.event) ms)) (others h)
-      by_event (Event.StopScope t) others h = grind (arith, others)
-      by_event ev others h = others h
+      by : (two : Bool) → (version == 2) ≡ two
+          → has (rows_in_part s (cond two (message_taken 2 body) (message_taken 1 body))) ≡ true
+          → has (rows_named s (Event.Frame l body)) ≡ true
+      by true q h =
+          any_behind (λ r. same_row r (row g p)) (rows_in_part s (message_taken 1 body))
+          (rows_in_part s (message_taken 2 body)) h
+      by false q h =
+          any_before (λ r. same_row r (row g p)) (rows_in_part s (message_taken 1 body))
+          (rows_in_part s (message_taken 2 body)) h
+
+  -- whoever is kept or stated was named
+  record IsAllNamed (o : Opening) (l : ℕ) (es : List Entry) : Type 0 where
+    kept_is : has (kept_here (begun o l es)) ≡ true → named_in (events es) ≡ true
+    stated_is : 0 < stated_in s g p (talk o l es) → named_in (events es) ≡ true
+
+  -- another event behind it
+  named_on : (ev : Event) (es : List Entry) → named_in (events es) ≡ true
+      → has (rows_named s ev ++ flat_map (rows_named s) (events es)) ≡ true
+  named_on ev es h =
+      any_behind (λ r. same_row r (row g p)) (rows_named s ev) (flat_map (rows_named s) (events es))
+      h
+
+  named_here : (ev : Event) (es : List Entry) → has (rows_named s ev) ≡ true
+      → has (rows_named s ev ++ flat_map (rows_named s) (events es)) ≡ true
+  named_here ev es h =
+      any_before (λ r. same_row r (row g p)) (rows_named s ev) (flat_map (rows_named s) (events es))
+      h
+
+  frame_named : (o : Opening) (l k : ℕ) (body : List ℕ) (es : List Entry) → IsAllNamed o l es
+      → (has (kept_here (begun o l es)) || has (rows_in_part s (frame_taken o l es body))) ≡ true
+      → has (rows_named s (Event.Frame k body) ++ flat_map (rows_named s) (events es)) ≡ true
+  frame_named o l k body es all h = by (has (kept_here (begun o l es))) refl
+    where
+      by : (b : Bool) → has (kept_here (begun o l es)) ≡ b
+          → has (rows_named s (Event.Frame k body) ++ flat_map (rows_named s) (events es)) ≡ true
+      by true q = named_on (Event.Frame k body) es (IsAllNamed.kept_is all q)
+      by false q =
+          named_here (Event.Frame k body) es (part_named (link_version o l es) k body (grind arith))
+
+  all_named : (o : Opening) (l : ℕ) (es : List Entry) → IsAllNamed o l es
+  all_named o l [] = record { kept_is = λ h. h; stated_is = λ h. absurd (omega (arith, h)) }
+  all_named o l (e ∷ es) = by_event e.event e.verdict (all_named o l es)
+    where
+      by_event : (ev : Event) (v : Verdict) → IsAllNamed o l es → IsAllNamed o l (but e ev v ∷ es)
+      by_event (Event.Frame k body) (Accepted r) all = by ((k == l) && is_whole l es) refl
+        where
+          stated_by : (k : ℕ) (body : List ℕ) (r : Reply) → IsAllNamed o l es
+              → ((k == l) && is_whole l es) ≡ true
+              → 0 < stated_in s g p (talk o l (but e (Event.Frame k body) (Accepted r) ∷ es))
+              → has (rows_named s (Event.Frame k body) ++ flat_map (rows_named s) (events es))
+              ≡ true
+          stated_by k body r all q h = by_count (stated_in s g p (talk o l es)) refl
+            where
+              by_count : (n : ℕ) → stated_in s g p (talk o l es) ≡ n
+                  → has (rows_named s (Event.Frame k body) ++ flat_map (rows_named s) (events es))
+                  ≡ true
+              by_count zero none =
+                  frame_named o l k body es all
+                  (stated_next (begun o l es) (frame_taken o l es body) (talk o l es)
+                  (grind (arith, h, q)) none)
+              by_count (suc n) some =
+                  named_on (Event.Frame k body) es (IsAllNamed.stated_is all (omega (arith, some)))
+
+          by : (b : Bool) → ((k == l) && is_whole l es) ≡ b
+              → IsAllNamed o l (but e (Event.Frame k body) (Accepted r) ∷ es)
+          by true q = record {
+            kept_is = λ h. frame_named o l k body es all
+                (kept_next (begun o l es) (frame_taken o l es body) (grind (arith, h, q)));
+            stated_is = λ h. stated_by k body r all q h;
+          }
+          by false q = record {
+            kept_is = λ h. named_on (Event.Frame k body) es
+                (IsAllNamed.kept_is all (grind (arith, h, q)));
+            stated_is =
+                λ h. named_on (Event.Frame k body) es
+                (IsAllNamed.stated_is all (grind (arith, h, q)));
+          }
+      by_event (Event.StopScope t) (Accepted r) all =
+          record {
+            kept_is = λ h. IsAllNamed.kept_is all (grind arith);
+            stated_is =
+                λ h. IsAllNamed.stated_is all (grind arith);
+          }
+      by_event (Event.Join t f ps) (Accepted r) all =
+          record {
+            kept_is =
+                λ h. named_on (Event.Join t f ps) es (IsAllNamed.kept_is all h);
+            stated_is =
+                λ h. named_on (Event.Join t f ps) es (IsAllNamed.stated_is all h);
+          }
+      by_event Event.Restart (Accepted r) all =
+          record { kept_is = λ h. h; stated_is = λ h. absurd (omega (arith, h)) }
+      by_event ev (Accepted r) all =
+          record { kept_is = IsAllNamed.kept_is all; stated_is = IsAllNamed.stated_is all }
+      by_event ev (Refused r) all =
+          record { kept_is = IsAllNamed.kept_is all; stated_is = IsAllNamed.stated_is all }
 
   pub own_named : (h : History) → 0 < own h s g p → named_in (events h.entries) ≡ true
   own_named h q = joined_named (events h.entries) (some_where (is_running h s) (joined s g p (events h.entries)) q)
@@ -66,8 +228,9 @@ module _ (s g : List ℕ) (p : Pid) where
   pub listed_named : (h : History) → 0 < listed h s g p → named_in (events h.entries) ≡ true
   listed_named h q = grind (arith, own_named h, spoken)
     where
-      spoken : (l : ℕ) → 0 < stated_in s g p (talk l h.entries) → named_in (events h.entries) ≡ true
-      spoken l = stated_named l (present h.entries)
+      spoken : (l : ℕ) → 0 < stated_in s g p (talk h.opening l h.entries)
+          → named_in (events h.entries) ≡ true
+      spoken l = IsAllNamed.stated_is (all_named h.opening l h.entries)
 
   -- ---- the group and the process of a row that is named
 

@@ -3,7 +3,8 @@ use Rattle.policy_audit.proofs.Walked.{fresh}
 use Rattle.policy_audit.proofs.Words.{ap, arith, refl, subst, sym, ◌∙◌, eq-eqb, eqb-true, list_all, option_map_or, Bool, List, None, Some}
 use Rattle.policy_audit.proofs.Words.{[], cond, false, true, ℕ, ◌&&◌, ◌+◌, ◌-◌, ◌==◌, ◌||◌, ◌∷◌, ◌≡◌, same_decides, same_pid_decides}
 use Rattle.policy_audit.proofs.Words.{same_sym, mentions, occurrences, same, same_pid, Pid, checks, join_checks, leave_checks}
-use Rattle.policy_audit.proofs.Words.{is_about_rows, is_replaced, may_change, said_on, History, is_accepted, is_open, is_up, listed}
+use Rattle.policy_audit.proofs.Words.{is_about_rows, is_replaced, may_change, said_at, History}
+use Rattle.policy_audit.proofs.Words.{is_accepted, is_open, is_up, listed}
 use Rattle.policy_audit.proofs.Words.{listed_by, is_local, is_running, own, IsStep, IsPlayed}
 use Rattle.policy_audit.proofs.Words.{up_answer, judgement, just, awaits}
 use Rattle.policy_audit.proofs.Words.{is_last, is_peer, is_visible, is_whole, opened, peer_of, present_link, taken, Entry, Accepted, Event}
@@ -98,7 +99,7 @@ module _ (h : History) (legal : IsPlayed h) (e : Entry) (made : IsStep h e)
 
   -- an event that doesn't concern a row leaves it
   left_alone : (ev : Event) → e.event ≡ ev → (t f : List ℕ) (p : Pid)
-      → ((r : Reply) → may_change es (but e ev (Accepted r)) t f p ≡ false)
+      → ((r : Reply) → may_change h.opening es (but e ev (Accepted r)) t f p ≡ false)
       → listed (just h e) t f p ≡ listed h t f p
   left_alone ev is t f p within =
       by_made h e ev (λ x. listed (just h x) t f p ≡ listed h t f p) made yes is
@@ -173,7 +174,8 @@ module _ (h : History) (legal : IsPlayed h) (e : Entry) (made : IsStep h e)
 
     -- and leaves the rows that it doesn't concern
     pub inner_rows : is_last (awaits l es) ≡ false → (t f : List ℕ) (p : Pid)
-        → (is_whole l es && is_peer p.node l es && is_about_rows t (said_on l es body)) ≡ false
+        → (is_whole l es && is_peer p.node l es && is_about_rows t (said_at h.opening l es body))
+        ≡ false
         → listed (just h e) t f p ≡ listed h t f p
     inner_rows inner t f p within = done_frame inner (λ x. listed (just h x) t f p ≡ listed h t f p)
         (λ q. rows_step h.opening es legal e (fresh h.opening es legal e made) t f p
@@ -209,7 +211,9 @@ module _ (h : History) (legal : IsPlayed h) (e : Entry) (made : IsStep h e)
         up_by q false m =
             rows_step h.opening es legal e (fresh h.opening es legal e made) t f p
             (Event.Frame l body) (Accepted up) q
-            (or_none _ _ (ap (λ b. b && is_peer p.node l es && is_about_rows t (said_on l es body)) c.was_whole) (unreplaced p.node es (fr up ∷ es) (now_linked false m)))
+            (or_none _ _
+            (ap (λ b. b && is_peer p.node l es && is_about_rows t (said_at h.opening l es body))
+            c.was_whole) (unreplaced p.node es (fr up ∷ es) (now_linked false m)))
 
       pub up_rows : listed (just h e) t f p ≡ cond (same p.node n) 0 (listed h t f p)
       up_rows =

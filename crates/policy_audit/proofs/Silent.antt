@@ -6,7 +6,7 @@ use Rattle.policy_audit.proofs.Words.{false, length, map, nat_lt}
 use Rattle.policy_audit.proofs.Words.{same, not, true, ℕ, ◌&&◌, ◌++◌, ◌+◌, ◌==◌, ◌∷◌, ◌≡◌, ◌≤◌}
 use Rattle.policy_audit.proofs.Words.{placed, text_cmp, History, past}
 use Rattle.policy_audit.proofs.Words.{is_accepted, is_open, is_whole, links, opened, awaits}
-use Rattle.policy_audit.proofs.Words.{said_on, running_scopes, checks}
+use Rattle.policy_audit.proofs.Words.{frame_taken, running_scopes, checks}
 use Rattle.policy_audit.proofs.Words.{waiting, waiting_in, frame_owes, message_owes, discovers}
 use Rattle.policy_audit.proofs.Words.{asks, may_tell, lose, just}
 use Rattle.policy_audit.proofs.Words.{is_slow, max_waiting, slow_links, with_entry, IsLegal}
@@ -14,7 +14,7 @@ use Rattle.policy_audit.proofs.Words.{IsPlayed, IsPlayedIn, IsStep}
 use Rattle.policy_audit.proofs.Words.{Awaited, AwaitName, AwaitAnswer, AwaitReply, AwaitStatus}
 use Rattle.policy_audit.proofs.Words.{AwaitChallenge}
 use Rattle.policy_audit.proofs.Words.{AwaitAck, AwaitMessage, Entry, Verdict, Accepted, Refused}
-use Rattle.policy_audit.proofs.Words.{Event, Message, Opening}
+use Rattle.policy_audit.proofs.Words.{Event, Message2, Opening}
 use Rattle.policy_audit.proofs.Accepted.{lie, accepted, all_hold, unbroken}
 use Rattle.policy_audit.proofs.Walked.{but, fresh}
 use Rattle.policy_audit.proofs.Finished.{is_message}
@@ -96,7 +96,7 @@ module _ (h : History) (l : ℕ) (body : List ℕ) where
   handshake_owes AwaitMessage q few = lie q
 
   -- a message other than a Discover: nothing
-  unasked_owes : (x : Option Message) → asks x ≡ false → option_map_or (message_owes h l) x [] ≡ []
+  unasked_owes : (x : Option Message2) → asks x ≡ false → option_map_or (message_owes h l) x [] ≡ []
   unasked_owes None q = refl
   unasked_owes (Some m) q = grind (arith, q)
 
@@ -135,15 +135,15 @@ module _ (h : History) (legal : IsLegal h) (e : Entry) (made : IsStep h e)
 
   -- a frame of link l leaves it with few
   module _ (l : ℕ) (body : List ℕ) (is : e.event ≡ Event.Frame l body)
-      (q : may_tell es (Event.Frame l body) ≡ false) where
+      (q : may_tell h.opening es (Event.Frame l body) ≡ false) where
     owes_by : (w : Bool) → is_whole l es ≡ w
         → length (waiting h l ++ frame_owes h l body (awaits l es)) ≤ max_waiting
     owes_by true whole =
         let waits = few_wait h legal l (frame_open h e made accepts l body is) in
         let awaited = (whole_is_message l es (frame_open h e made accepts l body is)).0 whole in
         let none =
-        unasked_owes h l body (said_on l es body)
-        (sym (ap (λ b. b && asks (said_on l es body)) whole) ∙ q) in
+        unasked_owes h l body (frame_taken h.opening l es body)
+        (sym (ap (λ b. b && asks (frame_taken h.opening l es body)) whole) ∙ q) in
         subst (λ fs. length (waiting h l ++ fs) ≤ max_waiting)
         (sym (ap (frame_owes h l body) awaited ∙ none)) (rw append-nil waits)
     owes_by false whole =
@@ -163,17 +163,18 @@ module _ (h : History) (legal : IsLegal h) (e : Entry) (made : IsStep h e)
         grind (arith, waits, enough)
 
   framed : (k : ℕ) (body : List ℕ) → e.event ≡ Event.Frame k body
-      → may_tell es (Event.Frame k body) ≡ false
+      → may_tell h.opening es (Event.Frame k body) ≡ false
       → (l : ℕ) → (b : Bool) → (k == l) ≡ b → is_slow h.opening (e ∷ es) l ≡ false
   framed k body is q l true m =
       let one : k ≡ l = eqb-true k l m in
       own_still l body (is
       ∙ ap (λ j. Event.Frame j body) one)
-      (subst (λ j. may_tell es (Event.Frame j body) ≡ false) one q)
+      (subst (λ j. may_tell h.opening es (Event.Frame j body) ≡ false) one q)
   framed k body is q l false m = still h e l k body accepts is m (few l)
 
   -- an event that owes no message to a link that was up makes none slow
-  still_few : (ev : Event) (v : Verdict) → e.event ≡ ev → e.verdict ≡ v → may_tell es ev ≡ false
+  still_few : (ev : Event) (v : Verdict) → e.event ≡ ev → e.verdict ≡ v
+      → may_tell h.opening es ev ≡ false
       → (l : ℕ)
       → is_slow h.opening (but e ev v ∷ es) l ≡ false
   still_few ev (Refused r) is says q l = lie (sym accepts ∙ ap is_accepted says)
@@ -191,7 +192,7 @@ module _ (h : History) (legal : IsLegal h) (e : Entry) (made : IsStep h e)
 
 -- an entry of such an event has no losses
 pub tells_none : (h : History) → IsLegal h → (e : Entry) → IsStep h e
-    → may_tell h.entries e.event ≡ false → with_entry h e ≡ just h e
+    → may_tell h.opening h.entries e.event ≡ false → with_entry h e ≡ just h e
 tells_none h legal e made q = by (is_accepted e.verdict) refl
   where
     by : (b : Bool) → is_accepted e.verdict ≡ b

@@ -35,7 +35,18 @@ module _ (h : History) (e : Entry) (r : Rule) where
     living = refl;
     lives = λ p. refl;
     links = refl;
-    same_link = λ l. record { opened = refl; taken = refl; given = refl; peer = refl; awaits = refl; whole = refl; talk = refl };
+    same_link =
+        λ l. record {
+          opened = refl;
+          taken = refl;
+          given = refl;
+          peer = refl;
+          awaits = refl;
+          whole =
+              refl;
+          talk = λ o. refl;
+          begun = λ o. refl;
+        };
     up = λ l. grind arith;
     present = λ n. refl;
     heard = λ l s. grind arith;

@@ -3,14 +3,15 @@ use Rattle.policy_audit.proofs.Words.{ap, arith, refl, subst, sym, ◌∙◌, eq
 use Rattle.policy_audit.proofs.Words.{None, Option, Some, [], cond, false, not, true, ℕ, ◌&&◌, ◌++◌}
 use Rattle.policy_audit.proofs.Words.{◌==◌, ◌||◌, ◌∷◌, ◌≡◌}
 use Rattle.policy_audit.proofs.Words.{same_decides, same_sym, mentions, same, same_pid, stands_in, Pid, Message, checks, is_about_rows}
-use Rattle.policy_audit.proofs.Words.{is_replaced, may_change, Talk, said_on, stated_in, talk, talk_of, History, past, is_open, is_up}
+use Rattle.policy_audit.proofs.Words.{is_replaced, may_change, Talk, said_at, stated_in, talk}
+use Rattle.policy_audit.proofs.Words.{talk_of, History, past, is_open, is_up, is_from}
 use Rattle.policy_audit.proofs.Words.{listed, listed_by, is_local, is_running, own, IsPlayedIn}
 use Rattle.policy_audit.proofs.Words.{IsStep, up_answer, judgement, just}
 use Rattle.policy_audit.proofs.Words.{Taken, awaits, is_last, is_peer, is_visible, is_whole, opened, peer_of, present_link, taken, Entry}
 use Rattle.policy_audit.proofs.Words.{and_parts, Verdict, Accepted, Refused, Event, Opening, Reply}
 use Rattle.policy_audit.proofs.Accepted.{lie, accepted, all_hold}
 use Rattle.policy_audit.proofs.Walked.{but, fresh, frame_fits}
-use Rattle.policy_audit.proofs.Finished.{stays, kept, given_kept, Completed}
+use Rattle.policy_audit.proofs.Finished.{kept, given_kept, whole_kept, Completed}
 use Rattle.policy_audit.proofs.UpLinks.{flip, agrees, none_opened, given_up, done_now, answered, ends_by, other}
 use Rattle.policy_audit.proofs.ChangeLemmas.{stopped_lists}
 use Rattle.policy_audit.proofs.Effects.{rows_left}
@@ -21,6 +22,9 @@ or_left a b q = (or_parts a b q).0
 
 or_right : (a b : Bool) → (a || b) ≡ false → b ≡ false
 or_right a b q = (or_parts a b q).1
+
+third : (a b c : Bool) → a ≡ true → b ≡ true → (a && b && c) ≡ false → c ≡ false
+third a b c x y z = grind arith
 
 unmentioned : (p : Pid) (ps : List Pid) → stands_in same_pid p ps ≡ false → mentions p ps ≡ 0
 unmentioned p [] q = refl
@@ -59,7 +63,7 @@ module _ (o : Opening) (es : List Entry) (legal : IsPlayedIn o es) (e : Entry)
   -- ---- scopes
 
   -- in a scope that doesn't run nobody is heard
-  unheard : is_running (past o es) s ≡ false → (l : ℕ) → has_sync s (talk l es) ≡ false
+  unheard : is_running (past o es) s ≡ false → (l : ℕ) → has_sync s (talk o l es) ≡ false
   unheard q l = grind (arith, heard_runs o es legal l s)
 
   starts_scope : (t : List ℕ) (r : Reply) → is_running (past o es) t ≡ false → same_rows (but e (Event.StartScope t) (Accepted r))
@@ -89,22 +93,71 @@ module _ (o : Opening) (es : List Entry) (legal : IsPlayedIn o es) (e : Entry)
     elsewhere_count x ts q = grind arith
 
     -- a frame that is not the last of a side
-    not_last : is_last (awaits k es) ≡ false → (is_whole k es && is_peer n k es && is_about_rows s (said_on k es body)) ≡ false → same_rows (fr Reply.Done)
+    not_last : is_last (awaits k es) ≡ false
+        → (is_whole k es && is_peer n k es && is_about_rows s (said_at o k es body)) ≡ false
+        → same_rows (fr Reply.Done)
     not_last q within = all_same o es (fr Reply.Done) s g p refl refl refl (remote_same o es (fr Reply.Done) s g p refl (λ l here. each l here (k == l) refl))
       where
+        -- what a link lists is read from these
+        lists_as : (shown shown_now from from_now up up_now : Bool) (ts now : List Talk)
+            → shown_now ≡ shown → from_now ≡ from → up_now ≡ up → has_sync s now ≡ has_sync s ts
+            → stated_in s g p now ≡ stated_in s g p ts
+            → cond (shown_now && from_now) (cond (up_now && has_sync s now) (stated_in s g p now) 0)
+            0 ≡ cond (shown && from) (cond (up && has_sync s ts) (stated_in s g p ts) 0) 0
+        lists_as shown shown_now from from_now up up_now ts now a b c d e =
+            λ i. cond (a i && b i) (cond (c i && d i) (e i) 0) 0
+
         each : (l : ℕ) → present_link n es ≡ Some l → (b : Bool) → (k == l) ≡ b → listed_by (past o (fr Reply.Done ∷ es)) s g p l ≡ listed_by (past o es) s g p l
         each l here false a = grind (arith, given_up o es legal n e fresh_is k body l)
         each l here true a =
             let moment : Taken = record { body = body; before = es } in
             let one : k ≡ l = eqb-true k l a in
-            grind (arith, up_of l here, given_kept moment (opened l es) (taken l es), kept moment (opened l es) (taken l es), stays moment (opened l es) (taken l es), elsewhere_sync (said_on l es body) (talk l es), elsewhere_count (said_on l es body) (talk l es), same_decides n n)
+            let within_l =
+            subst (λ j.
+            (is_whole j es && is_peer n j es && is_about_rows s (said_at o j es body))
+            ≡ false) one within in
+            let peers : is_peer n l es ≡ true =
+            ap (λ x. option_map_or (λ m. same m n) x false) (up_of l here).1
+            ∙ (same_decides n n).1 refl in
+            let quiet : is_about_rows s (said_at o l es body) ≡ false =
+            third (is_whole l es) (is_peer n l es) (is_about_rows s (said_at o l es body))
+            (whole_of l here) peers within_l in
+            let sync = elsewhere_sync (said_at o l es body) (talk o l es) quiet in
+            let count = elsewhere_count (said_at o l es body) (talk o l es) quiet in
+            let speech : talk o l (fr Reply.Done ∷ es) ≡ talk_of (said_at o l es body)
+            ++ talk o l es =
+            grind (arith, a, whole_of l here) in
+            let shown : is_visible (past o (fr Reply.Done ∷ es)) l ≡ is_visible (past o es) l =
+            grind (arith, a, whole_of l here, given_kept moment (opened l es) (taken l es)) in
+            let from : is_from l (fr Reply.Done ∷ es) p ≡ is_from l es p =
+            grind (
+              arith,
+              a,
+              whole_of l here,
+              given_kept moment (opened l es) (taken l es),
+              kept
+                  moment (opened l es) (taken l es),
+            ) in
+            let up : is_up l (fr Reply.Done ∷ es) ≡ is_up l es =
+            grind (
+              arith,
+              a,
+              up_of l here,
+              whole_of l here,
+              whole_kept moment (opened l es)
+                  (taken l es),
+            ) in
+            lists_as (is_visible (past o es) l) _ (is_from l es p) _ (is_up l es) _ (talk o l es)
+            (talk o l (fr Reply.Done ∷ es)) shown from up (ap (has_sync s) speech ∙ sync)
+            (ap (stated_in s g p) speech ∙ count)
 
     -- the last frame of a side: nobody is heard on the link yet
     module _ (opens : is_open k es ≡ true) (last : is_last (awaits k es) ≡ true) (c : Completed (record { body = body; before = es }) (opened k es) (taken k es)) where
       abbrev up_reply : Reply
       up_reply = Reply.Up c.peer c.gave.creation (is_visible (past o es) k)
 
-      silent : (b : Bool) → has_sync s (talk k es) ≡ b → has_sync s (talk k (fr up_reply ∷ es)) ≡ false
+      silent : (b : Bool) → has_sync s (talk o k es) ≡ b
+          → has_sync s (talk o k (fr up_reply ∷ es)) ≡ false
       silent b q = grind (arith, heard_whole o es legal k s, c.was_whole)
 
       pub new_lists : listed_by (past o (fr up_reply ∷ es)) s g p k ≡ 0
@@ -125,14 +178,18 @@ module _ (o : Opening) (es : List Entry) (legal : IsPlayedIn o es) (e : Entry)
                 same_sym n c.peer,
               )
 
-    frame_rows : (r : Reply) → is_open k es ≡ true → r ≡ cond (is_last (awaits k es)) (up_answer (past o es) k) Reply.Done → may_change es (fr r) s g p ≡ false → same_rows (fr r)
+    frame_rows : (r : Reply) → is_open k es ≡ true
+        → r ≡ cond (is_last (awaits k es)) (up_answer (past o es) k) Reply.Done
+        → may_change o es (fr r) s g p ≡ false → same_rows (fr r)
     frame_rows r opens q within = by (is_last (awaits k es)) refl
       where
         by : (b : Bool) → is_last (awaits k es) ≡ b → same_rows (fr r)
         by true last =
             let c = done_now o es legal n e fresh_is k body opens last in
             let is = q ∙ answered o es legal n e fresh_is k body opens last c in
-            subst (λ x. same_rows (fr x)) (sym is) (last_rows opens last c (or_right _ _ (subst (λ x. may_change es (fr x) s g p ≡ false) is within)))
+            subst (λ x. same_rows (fr x)) (sym is)
+            (last_rows opens last c
+            (or_right _ _ (subst (λ x. may_change o es (fr x) s g p ≡ false) is within)))
         by false m =
             let is = q ∙ ap (λ b. cond b (up_answer (past o es) k) Reply.Done) m in
             subst (λ x. same_rows (fr x)) (sym is) (not_last m (or_left _ _ within))
@@ -140,7 +197,7 @@ module _ (o : Opening) (es : List Entry) (legal : IsPlayedIn o es) (e : Entry)
   -- ---- each event
 
   pub rows_step : (ev : Event) (v : Verdict) → v ≡ judgement (past o es) e.seat ev
-      → may_change es (but e ev v) s g p ≡ false → same_rows (but e ev v)
+      → may_change o es (but e ev v) s g p ≡ false → same_rows (but e ev v)
   rows_step ev (Refused r) q within = rows_left (past o es) e ev (Refused r) refl s g p
   rows_step (Event.StartScope t) (Accepted r) q within = starts_scope t r (not-true (is_running (past o es) t) (not-false (not (is_running (past o es) t)) (all_hold (checks (past o es) e.seat (Event.StartScope t)) (accepted (past o es) e.seat (Event.StartScope t) r q).0).0))
   rows_step (Event.Frame k body) (Accepted r) q within =
@@ -163,7 +220,7 @@ module _ (o : Opening) (es : List Entry) (legal : IsPlayedIn o es) (e : Entry)
 
 -- no row changes but those that the entry may change
 pub rows_within : (h : History) (e : Entry) → IsStep h e → IsPlayedIn h.opening h.entries
-    → (s g : List ℕ) (p : Pid) → may_change h.entries e s g p ≡ false
+    → (s g : List ℕ) (p : Pid) → may_change h.opening h.entries e s g p ≡ false
     → listed (just h e) s g p ≡ listed h s g p
 rows_within h e made legal s g p within =
     rows_step h.opening h.entries legal e (fresh h.opening h.entries legal e made) s g p e.event

@@ -50,10 +50,10 @@ module _ (h : History) (e : Entry) (s g : List ℕ) (p : Pid) where
 
   -- the entry concerns these rows
   abbrev about : Bool
-  about = is_accepted e.verdict && concerns es s g p e.event
+  about = is_accepted e.verdict && concerns h.opening es s g p e.event
 
   -- one that doesn't leaves who is local
-  local_by : (ev : Event) (v : Verdict) → (is_accepted v && concerns es s g p ev) ≡ false
+  local_by : (ev : Event) (v : Verdict) → (is_accepted v && concerns h.opening es s g p ev) ≡ false
       → is_local (just h (but e ev v)) p ≡ is_local h p
   local_by Event.Restart (Accepted r) q = lie q
   local_by ev (Accepted r) q = refl
@@ -81,7 +81,7 @@ pub rows_within_losses : (h : History) (e : Entry) → IsPlayed (just h e) → (
 rows_within_losses h e legal s g p = by (is_accepted e.verdict)
   where
     by : (b : Bool)
-        → ((is_accepted e.verdict && concerns h.entries s g p e.event)
+        → ((is_accepted e.verdict && concerns h.opening h.entries s g p e.event)
         || is_replaced p.node h.entries
         (cond b (past h.opening (lose (slow_links (just h e)) (e ∷ h.entries)))
         (just h e)).entries) ≡ false

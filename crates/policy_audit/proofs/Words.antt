@@ -44,18 +44,30 @@ pub use Rattle.handshake_frames.specs.declared.frame.ReplyFrame.{ReplyFrame}
 pub use Rattle.handshake_frames.specs.declared.frame.StatusWord.{StatusWord}
 pub use Rattle.cookie_digest.specs.Digest.{digest_of}
 unfoldable pub use Rattle.link_frames.specs.Reading.{message as read_message}
+unfoldable pub use Rattle.link_frames.specs.PartReading.{message2 as read_message2}
+pub use Rattle.link_frames.specs.declared.part.Message2.{Message2}
+pub use Rattle.link_frames.specs.declared.part.PartKind.{PartKind}
+pub use Rattle.link_frames.specs.Parts.{Begun, begun_after, completed, follows, is_next, message_of}
+pub use Rattle.link_frames.specs.Parts.{rows_before}
+pub use Rattle.link_frames.specs.Parts.{rows_so_far, whole}
 pub use Rattle.link_frames.specs.declared.message.Message.{Message}
 pub use Rattle.policy_audit.specs.Admission.{allowed, cookie, different}
 pub use Rattle.policy_audit.specs.Admitted.{IsAdmitted, IsLetIn, IsReached, IsTrueStatus, LetIn, Reached, goes_on}
 pub use Rattle.policy_audit.specs.Changes.{IsChange, change, events_of, groups_in, if_some, scope_change}
 pub use Rattle.policy_audit.specs.Checks.{Check, always, answer_checks, challenge_checks, checks, dial_checks, digest_checks, first_broken}
 pub use Rattle.policy_audit.specs.Checks.{frame_checks, is_peer_up, join_checks, kept_links, leave_checks, message_checks, name_checks}
+pub use Rattle.policy_audit.specs.Checks.{whole_checks, has_row_room, so_far, own_limit}
+pub use Rattle.policy_audit.specs.Checks.{is_old_told}
 pub use Rattle.policy_audit.specs.Checks.{runs, status_checks}
-pub use Rattle.policy_audit.specs.Contents.{contents, groups_named, local_groups, local_members, local_rows, pids_named, row, rows_brought}
+pub use Rattle.policy_audit.specs.Contents.{contents, groups_named, local_groups, local_members}
+pub use Rattle.policy_audit.specs.Contents.{local_rows, pids_named, row, rows_in_part}
 pub use Rattle.policy_audit.specs.Contents.{rows_named}
 pub use Rattle.policy_audit.specs.Effects.{IsAsOpen, IsSameLink, IsUntouched, is_about_rows, is_replaced, leaves_rows, may_change}
 pub use Rattle.policy_audit.specs.Effects.{concerns, may_change_with}
-pub use Rattle.policy_audit.specs.Hearing.{Said, Stopped, Talk, heard, hears, message_taken, rows_of, said_on, stated_in, talk, talk_at, talk_in}
+pub use Rattle.policy_audit.specs.Hearing.{Said, Stopped, Talk, begun, begun_at, begun_in}
+pub use Rattle.policy_audit.specs.Hearing.{frame_taken, heard, hears}
+pub use Rattle.policy_audit.specs.Hearing.{rows_kept, kept_after, link_version, message_taken}
+pub use Rattle.policy_audit.specs.Hearing.{rows_of, said_at, stated_in, talk, talk_at, talk_in}
 pub use Rattle.policy_audit.specs.Hearing.{talk_of, tells, told}
 pub use Rattle.policy_audit.specs.History.{audited, entered, is_entered, just, lose, loss}
 pub use Rattle.policy_audit.specs.History.{History, Moment, creation, events, first_of, is_accepted, is_restart, past, present}

@@ -15,6 +15,11 @@ use Rattle.handshake_frames.specs.declared.frame.StatusWord.TheVariants as word
 use Rattle.handshake_frames.specs.Reading.{name_frame, challenge_frame, reply_frame, ack_frame, status_of}
 use Rattle.link_frames.specs.declared.message.Message.{Message}
 use Rattle.link_frames.specs.declared.message.Message.TheVariants as said
+use Rattle.link_frames.specs.declared.part.PartKind.{PartKind}
+use Rattle.link_frames.specs.declared.part.PartKind.TheVariants as kinds
+use Rattle.link_frames.specs.declared.part.Message2.{Message2}
+use Rattle.link_frames.specs.declared.part.Message2.TheVariants as frames
+use Rattle.link_frames.specs.Parts.{is_next, rows_so_far}
 use Rattle.policy_audit.specs.declared.event.Event.{Event}
 use Rattle.policy_audit.specs.declared.event.Event.TheVariants as event
 use Rattle.policy_audit.specs.declared.rule.Rule.{Rule}
@@ -24,7 +29,7 @@ use Rattle.policy_audit.specs.Admission.{allowed, allow_list, cookie_peers, diff
 use Rattle.policy_audit.specs.Own.{is_running, running_scopes, living, is_local, lives, own}
 use Rattle.policy_audit.specs.Sides.{peer_of, is_peer, is_name_up, is_visible, Awaited, AwaitName, AwaitAnswer, AwaitReply, AwaitStatus, AwaitChallenge, AwaitAck, AwaitMessage, awaits}
 use Rattle.policy_audit.specs.Links.{is_open, links, is_dialling}
-use Rattle.policy_audit.specs.Hearing.{said_on, heard, rows_of}
+use Rattle.policy_audit.specs.Hearing.{link_version, frame_taken, begun, heard, told, rows_of}
 use Rattle.policy_audit.specs.Listed.{is_from, listed}
 use Rattle.policy_audit.specs.Contents.{members, groups, local_rows}
 use Rattle.policy_audit.specs.Owed.{own_challenge, digest_for, is_kept}
@@ -108,13 +113,27 @@ digest_checks h l digest = unless (bytes_eq digest (digest_for h l (own_challeng
 
 -- ---- messages
 
+-- how many rows of the peer of link l a scope may list
+abbrev pub peer_limit : History → ℕ → ℕ
+peer_limit h l = cond (link_version h.opening l h.entries == 2) 65536 max_rows
+
+-- a peer on a link of version 1 is told in s
+abbrev pub is_old_told : History → List ℕ → Bool
+is_old_told h s =
+    list_any (λ l. told h.opening l s h.entries && not (link_version h.opening l h.entries == 2))
+    (links h.entries)
+
+-- how many own rows s may have
+abbrev pub own_limit : History → List ℕ → ℕ
+own_limit h s = cond (h.opening.links == 2 && not (is_old_told h s)) 65536 max_rows
+
 -- every row's process is of the link's peer, with the creation that it gave there
 abbrev pub are_from : History → ℕ → List Row → Check
 are_from h l rows = unless (list_all (λ r. is_from l h.entries r.pid) rows) rule.ForeignPid
 
 -- the peer of link l is heard in s
 abbrev pub hears_in : History → ℕ → List ℕ → Check
-hears_in h l s = unless (heard l s h.entries) rule.NotHeard
+hears_in h l s = unless (heard h.opening l s h.entries) rule.NotHeard
 
 -- no row is named more often than it is listed
 abbrev pub are_listed : History → List ℕ → List Row → Check
@@ -124,13 +143,69 @@ are_listed h s rows = unless (list_all (λ r. nat_le (rows_of r.group r.pid rows
 abbrev pub is_shown : History → ℕ → Check
 is_shown h l = unless (is_visible h l) rule.HiddenLink
 
+-- the own rows can be said on link l: in one message of 4,096, or in parts
+abbrev pub can_be_told : History → ℕ → List ℕ → Check
+can_be_told h l s =
+    unless (link_version h.opening l h.entries == 2 || nat_le (length (local_rows h s)) max_rows)
+    rule.RowsFull
+
+-- the part is the first of its message, or follows the last accepted message on link l
+abbrev pub is_in_order : History → ℕ → PartKind → List ℕ → ℕ → Check
+is_in_order h l kind s number =
+    unless (is_next (begun h.opening l h.entries) kind s number) rule.PartOrder
+
+-- the rows of the message on link l so far, with those of this part
+abbrev pub so_far : History → ℕ → PartKind → List ℕ → ℕ → List Row → List Row
+so_far h l kind s number rows =
+    rows_so_far (begun h.opening l h.entries) kind s number rows
+
+-- so many rows of the peer of link l may stand in a scope
+abbrev pub has_row_room : History → ℕ → ℕ → Check
+has_row_room h l rows = unless (nat_le rows (peer_limit h l)) rule.RowsFull
+
+-- what a part of this kind is tested for behind the scope: all rows so far are tested, and the
+-- process names of its own
+abbrev pub part_checks : History → ℕ → PartKind → List ℕ → ℕ → List Row → List Check
+part_checks h l kinds.Sync s number rows =
+    is_in_order h l kinds.Sync s number
+    ∷ are_from h l rows
+    ∷ has_row_room h l (length (so_far h l kinds.Sync s number rows))
+    ∷ []
+part_checks h l kinds.Join s number rows =
+    hears_in h l s
+    ∷ is_in_order h l kinds.Join s number
+    ∷ are_from h l rows
+    ∷ has_row_room h l (peer_rows h l s + length (so_far h l kinds.Join s number rows))
+    ∷ []
+part_checks h l kinds.Leave s number rows =
+    hears_in h l s
+    ∷ is_in_order h l kinds.Leave s number
+    ∷ are_from h l rows
+    ∷ are_listed h s (so_far h l kinds.Leave s number rows)
+    ∷ []
+
 -- a message that came on link l, which is up
-abbrev pub message_checks : History → ℕ → Message → List Check
-message_checks h l (said.Discover s) = is_shown h l ∷ runs h s ∷ []
-message_checks h l (said.Sync s rows) = is_shown h l ∷ runs h s ∷ are_from h l rows ∷ []
-message_checks h l (said.Join s rows) = is_shown h l ∷ runs h s ∷ hears_in h l s ∷ are_from h l rows ∷ unless (nat_le (peer_rows h l s + length rows) max_rows) rule.RowsFull ∷ []
-message_checks h l (said.Leave s rows) = is_shown h l ∷ runs h s ∷ hears_in h l s ∷ are_from h l rows ∷ are_listed h s rows ∷ []
-message_checks h l (said.Down s) = is_shown h l ∷ runs h s ∷ []
+abbrev pub message_checks : History → ℕ → Message2 → List Check
+message_checks h l (frames.Discover s) = is_shown h l ∷ runs h s ∷ can_be_told h l s ∷ []
+message_checks h l (frames.Part kind s number last rows) =
+    is_shown h l ∷ runs h s ∷ part_checks h l kind s number rows
+message_checks h l (frames.Down s) = is_shown h l ∷ runs h s ∷ []
+
+-- the same of a message as a whole
+abbrev pub whole_checks : History → ℕ → Message → List Check
+whole_checks h l (said.Discover s) = is_shown h l ∷ runs h s ∷ can_be_told h l s ∷ []
+whole_checks h l (said.Sync s rows) =
+    is_shown h l ∷ runs h s ∷ are_from h l rows ∷ has_row_room h l (length rows) ∷ []
+whole_checks h l (said.Join s rows) =
+    is_shown h l
+    ∷ runs h s
+    ∷ hears_in h l s
+    ∷ are_from h l rows
+    ∷ has_row_room h l (peer_rows h l s + length rows)
+    ∷ []
+whole_checks h l (said.Leave s rows) =
+    is_shown h l ∷ runs h s ∷ hears_in h l s ∷ are_from h l rows ∷ are_listed h s rows ∷ []
+whole_checks h l (said.Down s) = is_shown h l ∷ runs h s ∷ []
 
 -- ---- all events
 
@@ -146,7 +221,9 @@ frame_checks h l body AwaitReply = option_map_or (λ f. digest_checks h l f.dige
 frame_checks h l body AwaitStatus = option_map_or (status_checks (is_peer_up h l)) (status_of body) (always rule.BadFrame)
 frame_checks h l body AwaitChallenge = option_map_or (challenge_checks h l) (challenge_frame body) (always rule.BadFrame)
 frame_checks h l body AwaitAck = option_map_or (λ f. digest_checks h l f.digest) (ack_frame body) (always rule.BadFrame)
-frame_checks h l body AwaitMessage = option_map_or (message_checks h l) (said_on l h.entries body) (always rule.BadFrame)
+frame_checks h l body AwaitMessage =
+    option_map_or (message_checks h l) (frame_taken h.opening l h.entries body)
+    (always rule.BadFrame)
 
 -- a dial to n
 abbrev pub dial_checks : History → List ℕ → List Check
@@ -164,7 +241,7 @@ join_checks h s g ps =
     runs h s
     ∷ unless (list_all (is_local h) ps) rule.NotLocal
     ∷ unless (list_all (lives h) ps) rule.NoProcess
-    ∷ unless (nat_le (length (local_rows h s) + length ps) max_rows) rule.RowsFull
+    ∷ unless (nat_le (length (local_rows h s) + length ps) (own_limit h s)) rule.RowsFull
     ∷ []
 
 -- own processes that leave g of s

@@ -1,13 +1,13 @@
 -- The contents of scopes as lists, ascending.
-use Rattle.std.specs.Prelude.{ℕ, cond, not, List, [], Option, Some, map}
+use Rattle.std.specs.Prelude.{ℕ, cond, not, List, [], ◌++◌, Option, Some, map}
 use Rattle.std.specs.List.{flat_map, filter}
 use Rattle.dist_types.specs.declared.pid.Pid.{Pid}
 use Rattle.dist_types.specs.declared.row.Row.{Row}
 use Rattle.dist_types.specs.Order.{text_cmp, pid_cmp}
 use Rattle.dist_types.specs.Listing.{same, ascending, listing}
 use Rattle.dist_types.specs.Difference.{is_empty}
-use Rattle.link_frames.specs.declared.message.Message.{Message}
-use Rattle.link_frames.specs.declared.message.Message.TheVariants as said
+use Rattle.link_frames.specs.declared.part.Message2.{Message2}
+use Rattle.link_frames.specs.declared.part.Message2.TheVariants as frames
 use Rattle.policy_audit.specs.declared.event.Event.{Event}
 use Rattle.policy_audit.specs.declared.event.Event.TheVariants as event
 use Rattle.policy_audit.specs.declared.reply.GroupPids.{GroupPids}
@@ -20,16 +20,16 @@ use Rattle.policy_audit.specs.Listed.{listed}
 abbrev pub row : List ℕ → Pid → Row
 row g p = record { group = g; pid = p }
 
--- the rows of s that a message may bring
-abbrev pub rows_brought : List ℕ → Option Message → List Row
-rows_brought s (Some (said.Sync t rows)) = cond (same t s) rows []
-rows_brought s (Some (said.Join t rows)) = cond (same t s) rows []
-rows_brought s m = []
+-- the rows of s that a part may bring
+abbrev pub rows_in_part : List ℕ → Option Message2 → List Row
+rows_in_part s (Some (frames.Part kind t number last rows)) = cond (same t s) rows []
+rows_in_part s m = []
 
--- the rows of s that an event may bring
+-- the rows of s that an event may bring, whatever the version of its link
 abbrev pub rows_named : List ℕ → Event → List Row
 rows_named s (event.Join t g ps) = cond (same t s) (map (row g) ps) []
-rows_named s (event.Frame l body) = rows_brought s (message_taken body)
+rows_named s (event.Frame l body) =
+    rows_in_part s (message_taken 1 body) ++ rows_in_part s (message_taken 2 body)
 rows_named s e = []
 
 -- the groups of s that these events name

@@ -5,6 +5,7 @@ use Rattle.dist_types.specs.declared.pid.Pid.{Pid}
 use Rattle.dist_types.specs.Listing.{same, same_pid, stands_in}
 use Rattle.link_frames.specs.declared.message.Message.{Message}
 use Rattle.link_frames.specs.declared.message.Message.TheVariants as said
+use Rattle.policy_audit.specs.declared.opening.Opening.{Opening}
 use Rattle.policy_audit.specs.declared.event.Event.{Event}
 use Rattle.policy_audit.specs.declared.event.Event.TheVariants as event
 use Rattle.policy_audit.specs.declared.entry.Entry.{Entry}
@@ -13,7 +14,7 @@ use Rattle.policy_audit.specs.Admission.{cookie, allow_list}
 use Rattle.policy_audit.specs.Own.{running_scopes, spawned, living, lives, own}
 use Rattle.policy_audit.specs.Sides.{present_link, opened, taken, given, peer_of, is_peer, AwaitMessage, awaits, is_whole}
 use Rattle.policy_audit.specs.Links.{links, is_open, is_up}
-use Rattle.policy_audit.specs.Hearing.{said_on, talk, heard, told}
+use Rattle.policy_audit.specs.Hearing.{said_at, begun, talk, heard, told}
 use Rattle.policy_audit.specs.Listed.{listed}
 use Rattle.policy_audit.specs.Owed.{waiting, with_entry}
 use Rattle.policy_audit.specs.Monitors.{monitor, updates}
@@ -55,23 +56,26 @@ is_about_rows s (Some (said.Down t)) = same t s
 
 -- an accepted event may change how often p is listed in g of s: a Join and a Leave for those named, an Exit for that process, a
 -- stop for the scope, a restart for all, and a message for the processes of the link's peer, in its scope
-abbrev pub concerns : List Entry → List ℕ → List ℕ → Pid → Event → Bool
-concerns es s g p event.Restart = true
-concerns es s g p (event.StopScope t) = same t s
-concerns es s g p (event.Exit q) = same_pid q p
-concerns es s g p (event.Join t f ps) = same t s && same f g && stands_in same_pid p ps
-concerns es s g p (event.Leave t f ps) = same t s && same f g && stands_in same_pid p ps
-concerns es s g p (event.Frame k body) = is_whole k es && is_peer p.node k es && is_about_rows s (said_on k es body)
-concerns es s g p e = false
+abbrev pub concerns : Opening → List Entry → List ℕ → List ℕ → Pid → Event → Bool
+concerns o es s g p event.Restart = true
+concerns o es s g p (event.StopScope t) = same t s
+concerns o es s g p (event.Exit q) = same_pid q p
+concerns o es s g p (event.Join t f ps) = same t s && same f g && stands_in same_pid p ps
+concerns o es s g p (event.Leave t f ps) = same t s && same f g && stands_in same_pid p ps
+concerns o es s g p (event.Frame k body) =
+    is_whole k es && is_peer p.node k es && is_about_rows s (said_at o k es body)
+concerns o es s g p e = false
 
 -- an entry may change how often p is listed in g of s: its event concerns that, or the present link of p's node is replaced
-abbrev pub may_change : List Entry → Entry → List ℕ → List ℕ → Pid → Bool
-may_change es e s g p = (is_accepted e.verdict && concerns es s g p e.event) || is_replaced p.node es (e ∷ es)
+abbrev pub may_change : Opening → List Entry → Entry → List ℕ → List ℕ → Pid → Bool
+may_change o es e s g p =
+    (is_accepted e.verdict && concerns o es s g p e.event) || is_replaced p.node es (e ∷ es)
 
 -- the same of an entry with the losses that come with it
 abbrev pub may_change_with : History → Entry → List ℕ → List ℕ → Pid → Bool
 may_change_with h e s g p =
-    (is_accepted e.verdict && concerns h.entries s g p e.event) || is_replaced p.node h.entries
+    (is_accepted e.verdict && concerns h.opening h.entries s g p e.event) || is_replaced p.node
+    h.entries
     (with_entry h e).entries
 
 -- what is said of link l is the same after these entries as after those, but for whether it is open
@@ -82,7 +86,8 @@ pub record IsSameLink (l : ℕ) (old new : List Entry) : Type 0 where
   pub peer : peer_of l new ≡ peer_of l old
   pub awaits : awaits l new ≡ awaits l old
   pub whole : is_whole l new ≡ is_whole l old
-  pub talk : talk l new ≡ talk l old
+  pub talk : (o : Opening) → talk o l new ≡ talk o l old
+  pub begun : (o : Opening) → begun o l new ≡ begun o l old
 
 -- the step accepts this event, as the policy does after this history
 pub record IsAccepted (h : History) (e : Entry) (ev : Event) : Type 0 where
@@ -97,7 +102,7 @@ pub record IsMessage (h : History) (e : Entry) (l : ℕ) (n : List ℕ) (m : Mes
   pub accepted : IsAccepted h e (event.Frame l body)
   pub awaited : awaits l h.entries ≡ AwaitMessage
   pub peer : peer_of l h.entries ≡ Some n
-  pub says : said_on l h.entries body ≡ Some m
+  pub says : said_at h.opening l h.entries body ≡ Some m
 
 -- all is in k as in h: creation, cookies, allow list, scopes, processes, rows, monitors with what they have still to tell, which
 -- links are up, and what was said of each
@@ -114,8 +119,8 @@ pub record IsUntouched (h k : History) : Type 0 where
   pub same_link : (l : ℕ) → IsSameLink l h.entries k.entries
   pub up : (l : ℕ) → is_up l k.entries ≡ is_up l h.entries
   pub present : (n : List ℕ) → present_link n k.entries ≡ present_link n h.entries
-  pub heard : (l : ℕ) (s : List ℕ) → heard l s k.entries ≡ heard l s h.entries
-  pub told : (l : ℕ) (s : List ℕ) → told l s k.entries ≡ told l s h.entries
+  pub heard : (l : ℕ) (s : List ℕ) → heard k.opening l s k.entries ≡ heard h.opening l s h.entries
+  pub told : (l : ℕ) (s : List ℕ) → told k.opening l s k.entries ≡ told h.opening l s h.entries
   pub own : (s g : List ℕ) (p : Pid) → own k s g p ≡ own h s g p
   pub listed : (s g : List ℕ) (p : Pid) → listed k s g p ≡ listed h s g p
   pub monitors : (seat n : ℕ) → monitor k seat n ≡ monitor h seat n

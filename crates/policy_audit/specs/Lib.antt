@@ -9,6 +9,7 @@ pub mod Own
 pub mod Sides
 pub mod Links
 pub mod Hearing
+pub mod Parted
 pub mod Listed
 pub mod Contents
 pub mod Changes

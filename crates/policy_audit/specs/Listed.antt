@@ -14,7 +14,8 @@ is_from l es p = is_peer p.node l es && option_map_or (λ f. f.creation == p.cre
 
 -- how often link l lists p: as often as it has stated it, where l is visible and p is from it
 abbrev pub listed_by : History → List ℕ → List ℕ → Pid → ℕ → ℕ
-listed_by h s g p l = cond (is_visible h l && is_from l h.entries p) (stated l s g p h.entries) 0
+listed_by h s g p l =
+    cond (is_visible h l && is_from l h.entries p) (stated h.opening l s g p h.entries) 0
 
 -- how often p is listed in g of s. An own process: as often as it is joined. Another, where s runs: as often as the
 -- present link of its node lists it.

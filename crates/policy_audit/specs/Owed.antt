@@ -16,6 +16,9 @@ use Rattle.cookie_digest.specs.Digest.{digest_of}
 use Rattle.link_frames.specs.declared.message.Message.{Message}
 use Rattle.link_frames.specs.declared.message.Message.TheVariants as said
 use Rattle.link_frames.specs.Spelling.{message_bytes}
+use Rattle.link_frames.specs.declared.part.Message2.{Message2}
+use Rattle.link_frames.specs.declared.part.Message2.TheVariants as frames
+use Rattle.link_frames.specs.Parts.{message2_bytes, parts}
 use Rattle.policy_audit.specs.declared.opening.Opening.{Opening}
 use Rattle.policy_audit.specs.declared.event.Event.{Event}
 use Rattle.policy_audit.specs.declared.event.Event.TheVariants as event
@@ -32,7 +35,7 @@ use Rattle.policy_audit.specs.Sides.{challenge_in, opened, peer_of, is_name_up, 
 use Rattle.policy_audit.specs.Sides.{AwaitName, AwaitAnswer, AwaitReply, AwaitStatus}
 use Rattle.policy_audit.specs.Sides.{AwaitChallenge, AwaitAck, AwaitMessage, awaits, is_whole}
 use Rattle.policy_audit.specs.Links.{ends, is_open, is_up, is_dialling, links}
-use Rattle.policy_audit.specs.Hearing.{said_on, heard, told}
+use Rattle.policy_audit.specs.Hearing.{link_version, frame_taken, heard, told}
 use Rattle.policy_audit.specs.Contents.{row, local_rows}
 
 -- a frame of the handshake, with a length of 2 bytes
@@ -42,6 +45,16 @@ narrow body = record { wide = false; body = body }
 -- a message, with a length of 4 bytes
 abbrev pub wide : Message → OutFrame
 wide m = record { wide = true; body = message_bytes m }
+
+-- a message as frames of a link of that version: in parts, where it is 2
+abbrev pub said_frames : ℕ → Message → List OutFrame
+said_frames version m =
+    cond (version == 2) (map (λ part. record { wide = true; body = message2_bytes part }) (parts m))
+    (wide m ∷ [])
+
+-- a message as frames of link l
+abbrev pub frames_to : History → ℕ → Message → List OutFrame
+frames_to h l m = said_frames (link_version h.opening l h.entries) m
 
 -- a status of the handshake
 abbrev pub status_frame : StatusWord → OutFrame
@@ -79,8 +92,10 @@ true_to word.Alive = status_frame word.True ∷ []
 true_to w = []
 
 -- a Discover is owed a Sync with all own rows, and then a Discover where the peer isn't heard; other messages are owed nothing
-abbrev pub message_owes : History → ℕ → Message → List OutFrame
-message_owes h l (said.Discover s) = wide (said.Sync s (local_rows h s)) ∷ cond (heard l s h.entries) [] (wide (said.Discover s) ∷ [])
+abbrev pub message_owes : History → ℕ → Message2 → List OutFrame
+message_owes h l (frames.Discover s) =
+    frames_to h l (said.Sync s (local_rows h s))
+    ++ cond (heard h.opening l s h.entries) [] (wide (said.Discover s) ∷ [])
 message_owes h l m = []
 
 -- what is owed to link l for its accepted frame
@@ -91,7 +106,8 @@ frame_owes h l body AwaitReply = option_map_or (λ f. narrow (ack_bytes (record 
 frame_owes h l body AwaitStatus = option_map_or true_to (status_of body) []
 frame_owes h l body AwaitChallenge = option_map_or (λ f. narrow (reply_bytes (record { challenge = own_challenge l h.entries; digest = digest_for h l f.challenge })) ∷ []) (challenge_frame body) []
 frame_owes h l body AwaitAck = discovers h l
-frame_owes h l body AwaitMessage = option_map_or (message_owes h l) (said_on l h.entries body) []
+frame_owes h l body AwaitMessage =
+    option_map_or (message_owes h l) (frame_taken h.opening l h.entries body) []
 
 -- what is owed to a link for its refused frame
 abbrev pub refusal_owes : Rule → List OutFrame
@@ -102,7 +118,8 @@ refusal_owes r = []
 
 -- these rows, if there are any, to link l, if its peer is told in s
 abbrev pub if_told : History → ℕ → List ℕ → (List Row → Message) → List Row → List OutFrame
-if_told h l s m rows = cond (is_empty rows || not (told l s h.entries)) [] (wide (m rows) ∷ [])
+if_told h l s m rows =
+    cond (is_empty rows || not (told h.opening l s h.entries)) [] (frames_to h l (m rows))
 
 -- what is owed to link l, if it is up and visible
 abbrev pub if_visible : History → ℕ → Message → List OutFrame
@@ -155,19 +172,19 @@ abbrev pub is_slow : Opening → List Entry → ℕ → Bool
 is_slow o es l = is_open l es && nat_lt max_waiting (length (waiting_in o l es))
 
 -- the message asks for the rows of a scope
-abbrev pub asks : Option Message → Bool
-asks (Some (said.Discover s)) = true
+abbrev pub asks : Option Message2 → Bool
+asks (Some (frames.Discover s)) = true
 asks m = false
 
 -- the events that may owe a message to a link that was up before them: of frames a Discover alone
-abbrev pub may_tell : List Entry → Event → Bool
-may_tell es (event.StartScope s) = true
-may_tell es (event.StopScope s) = true
-may_tell es (event.Exit p) = true
-may_tell es (event.Join s g ps) = true
-may_tell es (event.Leave s g ps) = true
-may_tell es (event.Frame l body) = is_whole l es && asks (said_on l es body)
-may_tell es e = false
+abbrev pub may_tell : Opening → List Entry → Event → Bool
+may_tell o es (event.StartScope s) = true
+may_tell o es (event.StopScope s) = true
+may_tell o es (event.Exit p) = true
+may_tell o es (event.Join s g ps) = true
+may_tell o es (event.Leave s g ps) = true
+may_tell o es (event.Frame l body) = is_whole l es && asks (frame_taken o l es body)
+may_tell o es e = false
 
 -- the links for which too many frames wait
 abbrev pub slow_links : History → List ℕ

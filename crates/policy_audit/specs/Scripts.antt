@@ -48,7 +48,7 @@ show h l = record {
   is_visible = is_visible h l;
   peer = peer_of l h.entries;
   awaits = awaits l h.entries;
-  told = filter (λ s. told l s h.entries) (running_scopes h);
-  heard = filter (λ s. heard l s h.entries) (running_scopes h);
+  told = filter (λ s. told h.opening l s h.entries) (running_scopes h);
+  heard = filter (λ s. heard h.opening l s h.entries) (running_scopes h);
   waiting = waiting h l;
 }

@@ -1,15 +1,16 @@
 //! Laws of the written policy. Each function does nothing; its contract is the law.
-ghost use Rattle.std.specs.List.{list_any};
+ghost use Rattle.std.specs.List.{list_all, list_any};
 ghost use Rattle.std.specs.Option.{option_map_or};
 ghost use Rattle.std.specs.Prelude.{length, ◌≤◌, ◌≡◌, ◌↔◌, ℕ, ◌+◌, ◌-◌, ◌==◌, ◌&&◌, not, Bool};
-ghost use Rattle.std.specs.Prelude.{true, false, cond, List, [], ◌∷◌, Some, None, IsTrue};
+ghost use Rattle.std.specs.Prelude.{true, false, cond, List, [], ◌∷◌, ◌++◌, Some, None, IsTrue};
 ghost use Rattle.dist_types.specs.declared.pid.Pid.{Pid};
 ghost use Rattle.dist_types.specs.declared.row.Row.{Row};
-ghost use Rattle.dist_types.specs.Listing.{max_rows};
 ghost use Rattle.dist_types.specs.Listing.{same, same_pid, mentions, IsPidListing, IsRowListing, IsGroupListing};
 ghost use Rattle.dist_types.specs.Flags.{has_bit};
 ghost use Rattle.handshake_frames.specs.Frame.{Name};
-ghost use Rattle.link_frames.specs.declared.message.Message.TheVariants as messages;
+ghost use Rattle.link_frames.specs.declared.message.Message.{Message};
+ghost use Rattle.link_frames.specs.declared.message.Message.TheVariants as said;
+ghost use Rattle.link_frames.specs.Parts.{parts};
 ghost use Rattle.policy_audit.specs.declared.event.Event.{Event};
 ghost use Rattle.policy_audit.specs.declared.event.Event.TheVariants as events;
 ghost use Rattle.policy_audit.specs.declared.reply.Reply.{Reply};
@@ -23,10 +24,14 @@ ghost use Rattle.policy_audit.specs.Owed.{slow_links};
 ghost use Rattle.policy_audit.specs.Own.{is_running, is_local, own};
 ghost use Rattle.policy_audit.specs.Sides.{present_link, frame_of, peer_of, given, is_visible, awaits, is_whole, is_last};
 ghost use Rattle.policy_audit.specs.Links.{is_open, is_up};
-ghost use Rattle.policy_audit.specs.Hearing.{rows_of, heard, told};
-ghost use Rattle.policy_audit.specs.Listed.{listed};
+ghost use Rattle.policy_audit.specs.Hearing.{rows_of, heard, told, begun, kept_after, frame_taken};
+ghost use Rattle.policy_audit.specs.Hearing.{rows_kept};
+ghost use Rattle.policy_audit.specs.Parted.{scope_of, messages, taken_behind, moves_parts};
+ghost use Rattle.policy_audit.specs.Parted.{AreUndisturbed};
+ghost use Rattle.policy_audit.specs.Listed.{is_from, listed};
 ghost use Rattle.policy_audit.specs.Contents.{members, local_members, groups, local_groups, local_rows};
 ghost use Rattle.policy_audit.specs.Changes.{IsChange, change};
+ghost use Rattle.policy_audit.specs.Checks.{own_limit};
 ghost use Rattle.policy_audit.specs.Effects.{leaves_rows, may_change, may_change_with, IsSameLink};
 ghost use Rattle.policy_audit.specs.Effects.{IsAccepted, IsMessage, IsUntouched, IsAsOpen};
 ghost use Rattle.policy_audit.specs.Stages.{stages, is_up_at, name_up};
@@ -95,7 +100,8 @@ pub fn left_alone()
     ensures no_change { (h : History) (e : Entry) → IsTrue (leaves_rows e)
         → IsChange h (just h e) [] }
     ensures within { (h : History) (e : Entry) → IsPlayed (just h e) → (s g : List ℕ) (p : Pid)
-        → may_change h.entries e s g p ≡ false → listed (just h e) s g p ≡ listed h s g p }
+        → may_change h.opening h.entries e s g p ≡ false
+        → listed (just h e) s g p ≡ listed h s g p }
     ensures links { (es : List Entry) (e : Entry) (k l : ℕ) (body : List ℕ) → e.event ≡ events.Frame k body → (k == l) ≡ false → IsSameLink l es (e ∷ es) }
 {}
 
@@ -132,22 +138,52 @@ pub fn slow_links_end()
     ensures alone { (h : History) (e : Entry) → slow_links (just h e) ≡ []
         → with_entry h e ≡ just h e }
     ensures silent { (h : History) → IsLegal h → (e : Entry) → IsStep h e
-        → may_tell h.entries e.event ≡ false → with_entry h e ≡ just h e }
+        → may_tell h.opening h.entries e.event ≡ false → with_entry h e ≡ just h e }
     ensures opens { (es : List Entry) (ls : List ℕ) (k : ℕ)
         → is_open k (lose ls es) ≡ (not (list_any (λ l. l == k) ls) && is_open k es) }
     ensures same { (es : List Entry) (ls : List ℕ) (k : ℕ) → IsSameLink k es (lose ls es) }
     ensures waiting { (o : Opening) (es : List Entry) (ls : List ℕ) (k : ℕ)
         → waiting_in o k (lose ls es) ≡ cond (list_any (λ l. l == k) ls) [] (waiting_in o k es) }
-    ensures heard { (es : List Entry) (ls : List ℕ) (k : ℕ) (s : List ℕ)
-        → heard k s (lose ls es) ≡ (not (list_any (λ l. l == k) ls) && heard k s es) }
-    ensures told { (es : List Entry) (ls : List ℕ) (k : ℕ) (s : List ℕ)
-        → told k s (lose ls es) ≡ (not (list_any (λ l. l == k) ls) && told k s es) }
+    ensures heard { (o : Opening) (es : List Entry) (ls : List ℕ) (k : ℕ) (s : List ℕ)
+        → heard o k s (lose ls es) ≡ (not (list_any (λ l. l == k) ls) && heard o k s es) }
+    ensures told { (o : Opening) (es : List Entry) (ls : List ℕ) (k : ℕ) (s : List ℕ)
+        → told o k s (lose ls es) ≡ (not (list_any (λ l. l == k) ls) && told o k s es) }
     ensures listed { (o : Opening) (es : List Entry) (ls s g : List ℕ) (p : Pid)
         → listed (past o (lose ls es)) s g p
         ≡ cond (not (is_local (past o es) p) && option_map_or (λ k. list_any (λ l. l == k) ls)
         (present_link p.node es) false) 0 (listed (past o es) s g p) }
     ensures within { (h : History) (e : Entry) → IsPlayed (just h e) → (s g : List ℕ) (p : Pid)
         → may_change_with h e s g p ≡ false → listed (with_entry h e) s g p ≡ listed h s g p }
+{}
+
+/// What is kept of a message begun on a link. A frame that the link takes carries it on or breaks it
+/// off; a stop breaks off what is of its scope, a restart all, and nothing else does. The rows kept
+/// are of the link's peer and of the creation that it gave. Before its side is whole there are none.
+pub fn kept_parts()
+    ensures framed { (o : Opening) (es : List Entry) (e : Entry) (l : ℕ) (body : List ℕ)
+        → e.event ≡ events.Frame l body → IsTrue (is_accepted e.verdict) → IsTrue (is_whole l es)
+        → begun o l (e ∷ es) ≡ kept_after (begun o l es) (frame_taken o l es body) }
+    ensures stopped { (o : Opening) (es : List Entry) (e : Entry) (l : ℕ) (s : List ℕ)
+        → e.event ≡ events.StopScope s → IsTrue (is_accepted e.verdict)
+        → begun o l (e ∷ es)
+        ≡ cond (option_map_or (λ b. same b.scope s) (begun o l es) false) None (begun o l es) }
+    ensures restarted { (o : Opening) (es : List Entry) (e : Entry) (l : ℕ)
+        → e.event ≡ events.Restart → IsTrue (is_accepted e.verdict) → begun o l (e ∷ es) ≡ None }
+    ensures others { (o : Opening) (es : List Entry) (e : Entry) (l : ℕ)
+        → (is_accepted e.verdict && moves_parts l es e.event) ≡ false
+        → begun o l (e ∷ es) ≡ begun o l es }
+    ensures peers { (h : History) → IsPlayed h → (l : ℕ) → IsTrue
+        (list_all (λ r. is_from l h.entries r.pid) (rows_kept (begun h.opening l h.entries))) }
+    ensures early { (h : History) → IsPlayed h → (l : ℕ) → is_whole l h.entries ≡ false
+        → begun h.opening l h.entries ≡ None }
+{}
+
+/// Where further entries take on a link just the parts of a message, in their order, and nothing
+/// between them stops its scope or all, that one message stands there, whatever was kept before.
+pub fn parts_are_said()
+    ensures { (o : Opening) (l : ℕ) (es more : List Entry) (m : Message)
+        → AreUndisturbed (scope_of m) more → taken_behind o l es more ≡ parts m
+        → messages o l (more ++ es) ≡ m ∷ messages o l es }
 {}
 
 /// How often the own processes are joined after an accepted Join, Leave and Exit.
@@ -164,9 +200,11 @@ pub fn own_counts()
         → (t f : List ℕ) (p : Pid) → own (just h e) t f p ≡ cond (same_pid q p) 0 (own h t f p) }
 {}
 
-/// A node has at most `dist_types::MAX_ROWS` own rows in a scope.
+/// A node has at most as many own rows in a scope as it may: 65,536 where it knows version 2 and no
+/// link of version 1 is told there, else `dist_types::MAX_ROWS`.
 pub fn few_own()
-    ensures { (h : History) → IsPlayed h → (s : List ℕ) → length (local_rows h s) ≤ max_rows }
+    ensures { (h : History) → IsPlayed h → (s : List ℕ)
+        → length (local_rows h s) ≤ own_limit h s }
 {}
 
 /// How often a process is listed after an accepted event. A Join adds and a Leave takes away, an Exit, a stop and a restart clear,
@@ -211,24 +249,29 @@ pub fn rows_after()
 /// How often a process is listed after an accepted message of a peer: a Sync says all rows of the peer in the scope, a Join
 /// adds, a Leave takes away, a Down clears.
 pub fn rows_after_messages()
-    ensures synced { (h : History) (e : Entry) (l : ℕ) (n s : List ℕ) (rows : List Row) → IsMessage h e l n (messages.Sync s rows)
+    ensures synced { (h : History) (e : Entry) (l : ℕ) (n s : List ℕ) (rows : List Row)
+        → IsMessage h e l n (said.Sync s rows)
         → (t f : List ℕ) (p : Pid)
         → listed (just h e) t f p
         ≡ cond (same t s) (cond (same p.node n) (rows_of f p rows) (listed h t f p))
         (listed h t f p) }
-    ensures joined { (h : History) (e : Entry) (l : ℕ) (n s : List ℕ) (rows : List Row) → IsMessage h e l n (messages.Join s rows)
+    ensures joined { (h : History) (e : Entry) (l : ℕ) (n s : List ℕ) (rows : List Row)
+        → IsMessage h e l n (said.Join s rows)
         → (t f : List ℕ) (p : Pid)
         → listed (just h e) t f p
         ≡ cond (same t s) (listed h t f p + rows_of f p rows) (listed h t f p) }
-    ensures left { (h : History) (e : Entry) (l : ℕ) (n s : List ℕ) (rows : List Row) → IsMessage h e l n (messages.Leave s rows)
+    ensures left { (h : History) (e : Entry) (l : ℕ) (n s : List ℕ) (rows : List Row)
+        → IsMessage h e l n (said.Leave s rows)
         → (t f : List ℕ) (p : Pid)
         → listed (just h e) t f p
         ≡ cond (same t s) (listed h t f p - rows_of f p rows) (listed h t f p) }
-    ensures down { (h : History) (e : Entry) (l : ℕ) (n s : List ℕ) → IsMessage h e l n (messages.Down s)
+    ensures down { (h : History) (e : Entry) (l : ℕ) (n s : List ℕ)
+        → IsMessage h e l n (said.Down s)
         → (t f : List ℕ) (p : Pid)
         → listed (just h e) t f p
         ≡ cond (same t s) (cond (same p.node n) 0 (listed h t f p)) (listed h t f p) }
-    ensures discovered { (h : History) (e : Entry) (l : ℕ) (n s : List ℕ) → IsMessage h e l n (messages.Discover s)
+    ensures discovered { (h : History) (e : Entry) (l : ℕ) (n s : List ℕ)
+        → IsMessage h e l n (said.Discover s)
         → (t f : List ℕ) (p : Pid) → listed (just h e) t f p ≡ listed h t f p }
 {}
 

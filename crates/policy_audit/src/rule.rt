@@ -72,6 +72,8 @@ pub enum Rule {
     CookiesFull,
     /// The creation is the last one.
     CreationSpent,
+    /// The part isn't the first of its message, and doesn't follow what was accepted last on its link.
+    PartOrder,
 }
 
 impl Rule {
@@ -126,6 +128,7 @@ impl Rule {
             Rule::AllowFull => (30, "AllowFull"),
             Rule::CookiesFull => (31, "CookiesFull"),
             Rule::CreationSpent => (32, "CreationSpent"),
+            Rule::PartOrder => (33, "PartOrder"),
         }
     }
 }

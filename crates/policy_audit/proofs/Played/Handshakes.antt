@@ -1,6 +1,8 @@
 -- Handshakes, computed from the policy.
 use Rattle.policy_audit.proofs.Words.{refl, digits, List, [], codes, map, true, ◌++◌, ◌∷◌, ◌≡◌, block_words, compress, digest_bytes}
-use Rattle.policy_audit.proofs.Words.{hash_after, md5, rounds, ack_frame, challenge_frame, name_frame, reply_frame, status_of, read_message}
+use Rattle.policy_audit.proofs.Words.{hash_after, md5, rounds, ack_frame, challenge_frame}
+use Rattle.policy_audit.proofs.Words.{name_frame, reply_frame, status_of, read_message}
+use Rattle.policy_audit.proofs.Words.{read_message2}
 use Rattle.policy_audit.proofs.Words.{verdicts, Event, Reply, Rule}
 use Rattle.policy_audit.proofs.Lines.{Line, gives, done, breaks, takes, sent, a_named, node, frame, calls, judged}
 
@@ -120,5 +122,6 @@ scripts = acceptor_handshake ∷ dialler_handshake ∷ truncated_name ∷ bytes_
 
 -- the verdicts on each script are those that it wants
 played : map (λ script. verdicts node (calls script)) scripts ≡ map judged scripts
-unfolding md5 digest_bytes hash_after compress rounds block_words digits name_frame challenge_frame reply_frame ack_frame status_of read_message
+unfolding md5 digest_bytes hash_after compress rounds block_words digits name_frame challenge_frame
+    reply_frame ack_frame status_of read_message read_message2
 played = refl

@@ -1,6 +1,8 @@
 -- Links, who may connect, and limits, computed from the policy.
 use Rattle.policy_audit.proofs.Words.{refl, digits, List, [], codes, false, map, true, ◌++◌, ◌∷◌, ◌≡◌, block_words, compress, digest_bytes}
-use Rattle.policy_audit.proofs.Words.{hash_after, md5, rounds, ack_frame, challenge_frame, name_frame, reply_frame, status_of, read_message}
+use Rattle.policy_audit.proofs.Words.{hash_after, md5, rounds, ack_frame, challenge_frame}
+use Rattle.policy_audit.proofs.Words.{name_frame, reply_frame, status_of, read_message}
+use Rattle.policy_audit.proofs.Words.{read_message2}
 use Rattle.policy_audit.proofs.Words.{verdicts, Event, Reply, Rule}
 use Rattle.policy_audit.proofs.Lines.{Line, gives, done, breaks, takes, sent, openings, a_named, a_up, begun, node, pid, frame, message, calls, judged}
 
@@ -130,13 +132,16 @@ scripts = replaced_link ∷ two_links_of_one_peer ∷ dial_beside_an_open_link �
 
 -- the verdicts on each script are those that it wants
 played : map (λ script. verdicts node (calls script)) scripts ≡ map judged scripts
-unfolding md5 digest_bytes hash_after compress rounds block_words digits name_frame challenge_frame reply_frame ack_frame status_of read_message
+unfolding md5 digest_bytes hash_after compress rounds block_words digits name_frame challenge_frame
+    reply_frame ack_frame status_of read_message read_message2
 played = refl
 
 entry_limit_played : verdicts (begun (codes "b@h") (codes "password") false 4 2) (calls entry_limit) ≡ judged entry_limit
-unfolding md5 digest_bytes hash_after compress rounds block_words digits name_frame challenge_frame reply_frame ack_frame status_of read_message
+unfolding md5 digest_bytes hash_after compress rounds block_words digits name_frame challenge_frame
+    reply_frame ack_frame status_of read_message read_message2
 entry_limit_played = refl
 
 creation_spent_played : verdicts (begun (codes "b@h") (codes "password") false 4294967295 1000000) (calls creation_spent) ≡ judged creation_spent
-unfolding md5 digest_bytes hash_after compress rounds block_words digits name_frame challenge_frame reply_frame ack_frame status_of read_message
+unfolding md5 digest_bytes hash_after compress rounds block_words digits name_frame challenge_frame
+    reply_frame ack_frame status_of read_message read_message2
 creation_spent_played = refl

@@ -1,6 +1,8 @@
 -- Rows, messages and monitors, computed from the policy.
 use Rattle.policy_audit.proofs.Words.{refl, digits, List, [], codes, false, map, true, ◌++◌, ◌∷◌, ◌≡◌, block_words, compress, digest_bytes}
-use Rattle.policy_audit.proofs.Words.{hash_after, md5, rounds, ack_frame, challenge_frame, name_frame, reply_frame, status_of, read_message}
+use Rattle.policy_audit.proofs.Words.{hash_after, md5, rounds, ack_frame, challenge_frame}
+use Rattle.policy_audit.proofs.Words.{name_frame, reply_frame, status_of, read_message}
+use Rattle.policy_audit.proofs.Words.{read_message2}
 use Rattle.policy_audit.proofs.Words.{verdicts, Refused, Event, Reply, Rule}
 use Rattle.policy_audit.proofs.Lines.{Line, by, gives, done, breaks, takes, sent, a_named, a_up, begun, node, pid, frame, message, calls, judged}
 
@@ -229,9 +231,11 @@ scripts = own_rows ∷ exit_over_scopes ∷ discover_and_sync ∷ joins_need_a_s
 
 -- the verdicts on each script are those that it wants
 played : map (λ script. verdicts node (calls script)) scripts ≡ map judged scripts
-unfolding md5 digest_bytes hash_after compress rounds block_words digits name_frame challenge_frame reply_frame ack_frame status_of read_message
+unfolding md5 digest_bytes hash_after compress rounds block_words digits name_frame challenge_frame
+    reply_frame ack_frame status_of read_message read_message2
 played = refl
 
 hidden_node_played : verdicts (begun (codes "b@h") (codes "password") true 4 1000000) (calls hidden_node) ≡ judged hidden_node
-unfolding md5 digest_bytes hash_after compress rounds block_words digits name_frame challenge_frame reply_frame ack_frame status_of read_message
+unfolding md5 digest_bytes hash_after compress rounds block_words digits name_frame challenge_frame
+    reply_frame ack_frame status_of read_message read_message2
 hidden_node_played = refl

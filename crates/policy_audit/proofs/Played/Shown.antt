@@ -1,7 +1,8 @@
 -- What can be seen of links and scopes behind some of the scripts.
 use Rattle.policy_audit.proofs.Words.{refl, digits, Bool, List, Some, [], codes, false, true, ℕ, ◌∷◌, ◌≡◌, block_words, compress}
 use Rattle.policy_audit.proofs.Words.{digest_bytes, hash_after, md5, rounds, ack_frame, challenge_frame, name_frame, reply_frame, status_of}
-use Rattle.policy_audit.proofs.Words.{read_message, contents, History, lives, Shown, play, show, AwaitMessage}
+use Rattle.policy_audit.proofs.Words.{read_message, read_message2, contents, History, lives, Shown}
+use Rattle.policy_audit.proofs.Words.{play, show, AwaitMessage}
 use Rattle.policy_audit.proofs.Lines.{Line, node, calls, pid}
 use Rattle.policy_audit.proofs.Played.Links.{replaced_link}
 use Rattle.policy_audit.proofs.Played.Rows.{discover_and_sync, hidden_link, joins_need_a_sync}
@@ -25,25 +26,30 @@ whole_link lives visible scopes = record {
 
 -- the newer link of a@h is up, and nobody is heard on it
 newer : show (after_it replaced_link) 16 ≡ whole_link true true []
-unfolding md5 digest_bytes hash_after compress rounds block_words digits name_frame challenge_frame reply_frame ack_frame status_of read_message
+unfolding md5 digest_bytes hash_after compress rounds block_words digits name_frame challenge_frame
+    reply_frame ack_frame status_of read_message read_message2
 newer = refl
 
 -- the older one ended with its waiting frames
 older : show (after_it replaced_link) 1 ≡ whole_link false true []
-unfolding md5 digest_bytes hash_after compress rounds block_words digits name_frame challenge_frame reply_frame ack_frame status_of read_message
+unfolding md5 digest_bytes hash_after compress rounds block_words digits name_frame challenge_frame
+    reply_frame ack_frame status_of read_message read_message2
 older = refl
 
 -- behind a Sync and a Discover the peer is heard and told
 both : show (after_it discover_and_sync) 1 ≡ whole_link true true (codes "pg" ∷ [])
-unfolding md5 digest_bytes hash_after compress rounds block_words digits name_frame challenge_frame reply_frame ack_frame status_of read_message
+unfolding md5 digest_bytes hash_after compress rounds block_words digits name_frame challenge_frame
+    reply_frame ack_frame status_of read_message read_message2
 both = refl
 
 -- a link to a hidden node is up, and not visible
 unseen : show (after_it hidden_link) 1 ≡ whole_link true false []
-unfolding md5 digest_bytes hash_after compress rounds block_words digits name_frame challenge_frame reply_frame ack_frame status_of read_message
+unfolding md5 digest_bytes hash_after compress rounds block_words digits name_frame challenge_frame
+    reply_frame ack_frame status_of read_message read_message2
 unseen = refl
 
 -- a process that its node stated twice
 twice : contents (after_it joins_need_a_sync) (codes "pg") ≡ record { group = codes "g"; pids = pid (codes "a@h") 5 1 ∷ pid (codes "a@h") 5 1 ∷ [] } ∷ []
-unfolding md5 digest_bytes hash_after compress rounds block_words digits name_frame challenge_frame reply_frame ack_frame status_of read_message
+unfolding md5 digest_bytes hash_after compress rounds block_words digits name_frame challenge_frame
+    reply_frame ack_frame status_of read_message read_message2
 twice = refl

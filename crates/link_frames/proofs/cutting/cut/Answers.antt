@@ -1,6 +1,7 @@
 use Rattle.dist_types.specs.Listing.{max_rows}
-use Rattle.link_frames.proofs.Words.{◌≡◌, ◌-◌, length, ap, ◌∙◌, arith, Row}
+use Rattle.link_frames.proofs.Words.{◌≡◌, ◌≤◌, ◌-◌, length, ap, ◌∙◌, arith, Row, All-push}
 use Rattle.std.proofs.lemmas.List.{length-drop}
+use Rattle.link_frames.specs.Stream.{max_body}
 use Rattle.link_frames.proofs.PartLaws.{cut_one, rows_behind, rows_in_front}
 use Rattle.link_frames.proofs.cutting.cut.Goals as goal
 
@@ -19,10 +20,11 @@ loop-rest-preserved c =
       done = cut_one c.args.kind c.args.scope.now c.loop-rest.number rest c.split_at.result.0.now
           back c.loop-rest.bodies.items c.push.new.self.items
           _ (omega (arith, c.loop-rest-test.true))
-          c.split_at.ensures.front c.split_at.ensures.back c.in_ok-part_body.ensures
+          c.split_at.ensures.front c.split_at.ensures.back c.in_ok-part_body.ensures.value
           c.in_ok-push.ensures.items ∙ held.done;
       from_one = omega arith;
       left = omega (arith, behind, held.left, held.from_one, c.loop-rest-test.true);
       some = rows_behind c.args.kind rest back (omega (arith, c.loop-rest-test.true))
           c.split_at.ensures.back;
+      short = rw c.in_ok-push.ensures.items (All-push (λ body. length body ≤ max_body) _ _ held.short c.in_ok-part_body.ensures.short);
     }

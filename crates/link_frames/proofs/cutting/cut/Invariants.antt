@@ -1,6 +1,7 @@
 use Rattle.dist_types.specs.Listing.{max_rows}
-use Rattle.std.specs.Prelude.{◌≡◌, ℕ, ◌+◌, ◌-◌, ◌*◌, ◌<◌, ◌≤◌, ◌^◌, ◌++◌, map, length}
+use Rattle.std.specs.Prelude.{◌≡◌, ℕ, ◌+◌, ◌-◌, ◌*◌, ◌<◌, ◌≤◌, ◌^◌, ◌++◌, map, length, All}
 use Rattle.link_frames.specs.Parts.{message2_bytes, parts_from, before_last, HasSome}
+use Rattle.link_frames.specs.Stream.{max_body}
 use Rattle.link_frames.proofs.cutting.cut.Given as goal
 
 abbrev pub invariant-loop-rest : goal.invariant-loop-rest
@@ -11,6 +12,7 @@ invariant-loop-rest l = record {
   from_one : 1 ≤ l.number;
   left : (l.number - 1) * max_rows + length l.rest ≡ length l.rows;
   some : HasSome l.kind l.rest;
+  short : All (λ body. length body ≤ max_body) l.bodies.items;
 }
 
 abbrev pub decreases-loop-rest : goal.decreases-loop-rest

@@ -1,4 +1,4 @@
-use Rattle.policy_audit.proofs.FewRows.{few_local}
+use Rattle.policy_audit.proofs.OldTold.{few_local}
 use Rattle.policy_audit.proofs.laws.few_own.Goals as goal
 
 pub returns : goal.returns

@@ -25,8 +25,8 @@ returns c = record {
   opens = lost_open;
   same = lost_same;
   waiting = λ o es ls k. lost_waiting es o ls k;
-  heard = lost_heard;
-  told = lost_told;
+  heard = λ o es. lost_heard es o;
+  told = λ o es. lost_told es o;
   listed = lost_rows_gone;
   within = rows_within_losses;
 }

@@ -1,0 +1,275 @@
+-- Where a peer is told on a link of version 1, the scope has few own rows.
+use Rattle.policy_audit.proofs.Words.{arith, refl, subst, sym, eqb-true, leb-true, list_any}
+use Rattle.policy_audit.proofs.Words.{option_map_or}
+use Rattle.policy_audit.proofs.Words.{option_and_then, Bool, List, None, Option, Some, []}
+use Rattle.policy_audit.proofs.Words.{cond, false}
+use Rattle.policy_audit.proofs.Words.{length, not, true, ℕ, ◌&&◌, ◌++◌, ◌==◌, ◌||◌, ◌∷◌, ◌≡◌}
+use Rattle.policy_audit.proofs.Words.{◌≤◌, ◌∙◌}
+use Rattle.policy_audit.proofs.Words.{same, same_decides, max_rows, Message2, PartKind}
+use Rattle.policy_audit.proofs.Words.{Begun, completed}
+use Rattle.policy_audit.proofs.Words.{always, first_broken, frame_checks, message_checks}
+use Rattle.policy_audit.proofs.Words.{local_rows}
+use Rattle.policy_audit.proofs.Words.{begun, frame_taken, link_version, said_at, talk, talk_of}
+use Rattle.policy_audit.proofs.Words.{told, Talk}
+use Rattle.policy_audit.proofs.Words.{and_frame, and_parts, is_accepted, is_peer, is_some, ByDial}
+use Rattle.policy_audit.proofs.Words.{ByPeer, Start, start_of}
+use Rattle.policy_audit.proofs.Words.{ap, ends, Name, past, is_open, is_up, links, IsPlayedIn}
+use Rattle.policy_audit.proofs.Words.{IsStep, judgement, own_limit, is_old_told}
+use Rattle.policy_audit.proofs.Words.{IsPlayed, History}
+use Rattle.policy_audit.proofs.Words.{awaits, given, is_whole, opened, taken, Taken, Entry, Verdict}
+use Rattle.policy_audit.proofs.Words.{Accepted, Refused}
+use Rattle.policy_audit.proofs.Words.{Event, Opening, Rule, tells}
+use Rattle.std.specs.Prelude.{◌⊎◌}
+use Rattle.std.proofs.Common.{inl, inr}
+use Rattle.policy_audit.proofs.Accepted.{accepted, lie, open_first}
+use Rattle.policy_audit.proofs.Walked.{but, fresh, open_opened}
+use Rattle.policy_audit.proofs.Finished.{given_by, given_kept, whole_awaits}
+use Rattle.policy_audit.proofs.Effects.{entry_link}
+use Rattle.policy_audit.proofs.Heard.{has_discover}
+use Rattle.policy_audit.proofs.HeardNow.{only_stops, opening_heard, silent, stopped_heard}
+use Rattle.policy_audit.proofs.NewLinks.{opened_apart}
+use Rattle.policy_audit.proofs.KeptLinks.{opened_linked}
+use Rattle.policy_audit.proofs.FewRows.{fewer, Grows, step}
+
+-- the peer of link l is told in s, and the link is of version 1
+abbrev pub old_told : Opening → ℕ → List ℕ → List Entry → Bool
+old_told o l s es = told o l s es && not (link_version o l es == 2)
+
+was_told : (ended opens whole said one : Bool)
+    → ((((not ended && opens) && whole) && said) && one) ≡ true
+    → (((opens && whole) && said) && one) ≡ true
+was_told ended opens whole said one q = grind arith
+
+from_not : (b : Bool) → not b ≡ true → b ≡ false
+from_not b q = grind arith
+
+abbrev version_of : Opening → Option Name → ℕ
+version_of o gave = cond (o.links == 2 && option_map_or (λ f. f.version) gave 1 == 2) 2 1
+
+-- a test that one of these meets
+pub meets : (test : ℕ → Bool) (ls : List ℕ) (l : ℕ) → list_any (λ k. k == l) ls ≡ true
+    → test l ≡ true → list_any test ls ≡ true
+meets test [] l q t = lie (sym q)
+meets test (k ∷ ks) l q t = grind (arith, eqb-true k l, meets test ks l, t)
+
+-- and one that meets it, where some do
+pub who_meets : (test : ℕ → Bool) (ls : List ℕ) → list_any test ls ≡ true
+    → (l : ℕ) × (test l ≡ true)
+who_meets test [] q = lie (sym q)
+who_meets test (k ∷ ks) q = by (test k) refl q (who_meets test ks)
+  where
+    by : (b : Bool) → test k ≡ b → (b || list_any test ks) ≡ true
+        → (list_any test ks ≡ true → (l : ℕ) × (test l ≡ true)) → (l : ℕ) × (test l ≡ true)
+    by true t q later = (k, t)
+    by false t q later = later q
+
+-- while such a peer is told, the limit is that of version 1
+pub old_limit : (o : Opening) (es : List Entry) (l : ℕ) (s : List ℕ) → old_told o l s es ≡ true
+    → own_limit (past o es) s ≡ max_rows
+old_limit o es l s old =
+    grind (
+      arith,
+      old,
+      opened_linked l es,
+      open_opened l es,
+      meets (λ k. old_told o k s es)
+          (links es) l,
+    )
+
+module _ (o : Opening) (es : List Entry) (e : Entry) (l : ℕ) (s : List ℕ) where
+  -- a message after which the peer is told where it wasn't is a Discover
+  asks : (b : Option Begun) (f : Message2) (ts : List Talk)
+      → first_broken (message_checks (past o es) l f) ≡ None
+      → has_discover s (talk_of (completed b f) ++ ts) ≡ true → link_version o l es == 2 ≡ false
+      → (has_discover s ts ≡ true) ⊎ (length (local_rows (past o es) s) ≤ max_rows)
+  asks b (Message2.Discover t) ts holds says one = by (same t s) refl
+    where
+      by : (x : Bool) → same t s ≡ x
+          → (has_discover s ts ≡ true) ⊎ (length (local_rows (past o es) s) ≤ max_rows)
+      by true here = inr (grind (arith, holds, one, (same_decides t s).0 here, leb-true))
+      by false other = inl (grind (arith, says, other))
+  asks b (Message2.Part PartKind.Sync t number last rows) ts holds says one = inl (grind arith)
+  asks b (Message2.Part PartKind.Join t number last rows) ts holds says one = inl (grind arith)
+  asks b (Message2.Part PartKind.Leave t number last rows) ts holds says one = inl (grind arith)
+  asks b (Message2.Down t) ts holds says one = inl (grind arith)
+
+  taken_asks : (b : Option Begun) (x : Option Message2) (ts : List Talk)
+      → first_broken (option_map_or (message_checks (past o es) l) x (always Rule.BadFrame)) ≡ None
+      → has_discover s (talk_of (option_and_then (completed b) x) ++ ts) ≡ true
+      → link_version o l es == 2 ≡ false
+      → (has_discover s ts ≡ true) ⊎ (length (local_rows (past o es) s) ≤ max_rows)
+  taken_asks b None ts holds says one = inl says
+  taken_asks b (Some f) ts holds says one = asks b f ts holds says one
+
+  -- where a link is told after an entry, it was told before, or there are few own rows
+  abbrev Few : Entry → Type 0
+  Few x = (old_told o l s es ≡ true) ⊎ (length (local_rows (past o (x ∷ es)) s) ≤ max_rows)
+
+  step_as : IsStep (past o es) e → {ev : Event} {v : Verdict} → e.event ≡ ev → e.verdict ≡ v
+      → IsStep (past o es) (but e ev v)
+  step_as made is says =
+      subst (λ (x : Event × Verdict). IsStep (past o es) (but e x.0 x.1)) (λ i. (is i, says i)) made
+
+  -- a new link is told nothing, and leaves the others
+  opened_asked : (st : Start) (x : Entry) → is_accepted x.verdict ≡ true
+      → start_of x.event ≡ Some st → IsStep (past o es) x → IsPlayedIn o es
+      → old_told o l s (x ∷ es) ≡ true → old_told o l s es ≡ true
+  opened_asked st x accepts begins made legal old = by (x.number == l) refl
+    where
+      both : (told o l s (x ∷ es) ≡ true) × (not (link_version o l (x ∷ es) == 2) ≡ true)
+      both = and_parts (told o l s (x ∷ es)) (not (link_version o l (x ∷ es) == 2)) old
+
+      was : told o l s es ≡ true
+      was = sym (opening_heard (past o es) x accepts legal made st begins l s).told_is ∙ both.0
+
+      by : (b : Bool) → (x.number == l) ≡ b → old_told o l s es ≡ true
+      by false m =
+          let it = opened_apart es x l st accepts begins m in
+          let one = sym (ap (λ g. not (version_of o g == 2)) it.given) ∙ both.1 in
+          (λ i. was i && one i)
+      by true m =
+          let opens = (and_parts (is_open l es) (is_whole l es)
+          ((and_parts (is_up l es) (has_discover s (talk o l es)) was).0)).0 in
+          let none = subst (λ n. opened n es ≡ None) (eqb-true x.number l m)
+          (fresh o es legal x made) in
+          lie (sym (open_opened l es opens) ∙ ap is_some none)
+
+  asked : IsPlayedIn o es → IsStep (past o es) e → (ev : Event) (v : Verdict) → e.event ≡ ev
+      → e.verdict ≡ v → old_told o l s (but e ev v ∷ es) ≡ true → Few (but e ev v)
+  asked legal made (Event.Frame k body) (Accepted r) is says old =
+      by (k == l) refl (is_whole l es) refl old
+    where
+      moment : Taken
+      moment = record { body = body; before = es }
+
+      fr : Entry
+      fr = but e (Event.Frame k body) (Accepted r)
+
+      -- the rules that the message met
+      met : (k == l) ≡ true → is_whole l es ≡ true → first_broken (option_map_or
+          (message_checks (past o es) l) (frame_taken o l es body) (always Rule.BadFrame)) ≡ None
+      met n w =
+          let q : Accepted r ≡ judgement (past o es) e.seat (Event.Frame k body) =
+          sym says ∙ made.judged ∙ (λ i. judgement (past o es) e.seat (is i)) in
+          let here = (open_first (is_open k es) (frame_checks (past o es) k body (awaits k es))
+          (accepted (past o es) e.seat (Event.Frame k body) r q).0).1 in
+          let own = subst (λ j. first_broken (frame_checks (past o es) j body (awaits j es)) ≡ None)
+          (eqb-true k l n) here in
+          subst (λ a. first_broken (frame_checks (past o es) l body a) ≡ None)
+          (whole_awaits (opened l es) (taken l es) w) own
+
+      by : (a : Bool) → (k == l) ≡ a → (b : Bool) → is_whole l es ≡ b
+          → old_told o l s (fr ∷ es) ≡ true → Few fr
+      by true n true w old =
+          let both = and_parts (told o l s (fr ∷ es)) (not (link_version o l (fr ∷ es) == 2)) old in
+          let said = and_parts (is_up l (fr ∷ es)) (has_discover s (talk o l (fr ∷ es))) both.0 in
+          let opens = (and_parts (not (ends l es (Accepted r) (Event.Frame k body))) (is_open l es)
+          (and_parts (is_open l (fr ∷ es)) (is_whole l (fr ∷ es)) said.0).0).1 in
+          let gave : given l (fr ∷ es) ≡ given l es =
+          ap (λ x. given_by (opened l es) (and_frame (taken l es) (cond x (Some moment) None))) n
+          ∙ given_kept moment (opened l es) (taken l es) w in
+          let one = from_not (link_version o l es == 2)
+          (sym (ap (λ g. not (version_of o g == 2)) gave) ∙ both.1) in
+          let told_now = sym (ap (λ x. has_discover s (cond x (talk_of (said_at o l es body)) []
+          ++ talk o l es)) (λ i. n i && w i)) ∙ said.1 in
+          of (taken_asks (begun o l es) (frame_taken o l es body) (talk o l es) (met n w) told_now
+          one)
+          (λ i. opens i && w i) one
+        where
+          of : (has_discover s (talk o l es) ≡ true) ⊎
+              (length (local_rows (past o es) s) ≤ max_rows)
+              → is_up l es ≡ true → link_version o l es == 2 ≡ false → Few fr
+          of (inl was) up one = inl (λ i. (up i && was i) && not (one i))
+          of (inr few) up one =
+              (let same = fewer (past o es) s (past o (fr ∷ es)) (λ g p. omega arith)
+              in inr (omega (arith, few, same)))
+      by true n false w old =
+          let stops = silent s (tells s) (λ u. refl) (talk o l es) (only_stops o es legal l w) in
+          let same = ap (λ x. has_discover s (cond x (talk_of (said_at o l es body)) []
+          ++ talk o l es)) (λ i. n i && w i) in
+          let told_now = (and_parts (told o l s (fr ∷ es)) (not (link_version o l (fr ∷ es) == 2))
+          old).0 in
+          let says_so = (and_parts (is_up l (fr ∷ es)) (has_discover s (talk o l (fr ∷ es)))
+          told_now).1 in
+          lie (sym says_so ∙ same ∙ stops)
+      by false n b w old =
+          let it = entry_link es fr k l body refl n in
+          inl (was_told (ends l es (Accepted r) (Event.Frame k body)) (is_open l es) (is_whole l es)
+          (has_discover s (talk o l es)) (not (link_version o l es == 2))
+          (sym (λ i. ((is_open l (fr ∷ es) && it.whole i) && has_discover s (it.talk o i))
+          && not (version_of o (it.given i) == 2)) ∙ old))
+  asked legal made (Event.Frame k body) (Refused r) is says old =
+      inl (was_told (k == l && not (is_whole l es)) (is_open l es) (is_whole l es)
+      (has_discover s (talk o l es)) (not (link_version o l es == 2)) old)
+  asked legal made (Event.Opened c) (Accepted r) is says old =
+      inl (opened_asked (ByPeer c) (but e (Event.Opened c) (Accepted r)) refl refl
+      (step_as made is says) legal old)
+  asked legal made (Event.Dial n c) (Accepted r) is says old =
+      inl (opened_asked (ByDial n c) (but e (Event.Dial n c) (Accepted r)) refl refl
+      (step_as made is says) legal old)
+  asked legal made (Event.StopScope t) (Accepted r) is says old =
+      let it = stopped_heard (past o es) (but e (Event.StopScope t) (Accepted r)) refl t refl l s in
+      let both = and_parts (told o l s (but e (Event.StopScope t) (Accepted r) ∷ es))
+      (not (link_version o l es == 2)) old in
+      let was = (and_parts (told o l s es) (not (same t s)) (sym it.told_is ∙ both.0)).0 in
+      inl (λ i. was i && both.1 i)
+  asked legal made (Event.Lost k) (Accepted r) is says old =
+      inl (was_told (k == l) (is_open l es) (is_whole l es)
+      (has_discover s (talk o l es)) (not (link_version o l es == 2)) old)
+  asked legal made (Event.Disconnect n) (Accepted r) is says old =
+      inl (was_told (is_whole l es && is_peer n l es) (is_open l es) (is_whole l es)
+      (has_discover s (talk o l es)) (not (link_version o l es == 2)) old)
+  asked legal made Event.Restart (Accepted r) is says old = lie (grind (arith, old))
+  asked legal made ev (Accepted r) is says old = inl old
+  asked legal made ev (Refused r) is says old = inl old
+
+-- the limit where nobody is told by version 1
+abbrev most : Opening → ℕ
+most o = cond (o.links == 2) 65536 max_rows
+
+limit_most : (o : Opening) (es : List Entry) (s : List ℕ) → own_limit (past o es) s ≤ most o
+limit_most o es s = grind arith
+
+few_most : (o : Opening) (es : List Entry) → IsPlayedIn o es → (s : List ℕ)
+    → length (local_rows (past o es) s) ≤ most o
+few_most o [] legal s = grind arith
+few_most o (e ∷ es) legal s =
+    by (step o es e s e.event e.verdict legal.0.judged) (few_most o es legal.1 s)
+  where
+    by : Grows o es e s e → length (local_rows (past o es) s) ≤ most o
+        → length (local_rows (past o (e ∷ es)) s) ≤ most o
+    by (inl no_more) few = omega (arith, few, no_more)
+    by (inr room) few = (let limit = limit_most o es s in omega (arith, limit, room))
+
+-- few, where a link of version 1 is told
+few_old : (o : Opening) (es : List Entry) → IsPlayedIn o es → (l : ℕ) (s : List ℕ)
+    → old_told o l s es ≡ true → length (local_rows (past o es) s) ≤ max_rows
+few_old o [] legal l s old = lie (sym old)
+few_old o (e ∷ es) legal l s old =
+    by (step o es e s e.event e.verdict legal.0.judged)
+    (asked o es e l s legal.1 legal.0 e.event e.verdict refl refl old)
+    (few_old o es legal.1 l s)
+  where
+    by : Grows o es e s e → Few o es e l s e
+        → (old_told o l s es ≡ true → length (local_rows (past o es) s) ≤ max_rows)
+        → length (local_rows (past o (e ∷ es)) s) ≤ max_rows
+    by grows (inr few) before = few
+    by (inl no_more) (inl was) before = (let few = before was in omega (arith, few, no_more))
+    by (inr room) (inl was) before =
+        subst (λ n. length (local_rows (past o (e ∷ es)) s) ≤ n) (old_limit o es l s was) room
+
+few_in : (o : Opening) (es : List Entry) → IsPlayedIn o es → (s : List ℕ)
+    → length (local_rows (past o es) s) ≤ own_limit (past o es) s
+few_in o es legal s = by (is_old_told (past o es) s) refl
+  where
+    by : (b : Bool) → is_old_told (past o es) s ≡ b
+        → length (local_rows (past o es) s) ≤ own_limit (past o es) s
+    by true some =
+        let who = who_meets (λ l. old_told o l s es) (links es) some in
+        subst (λ n. length (local_rows (past o es) s) ≤ n) (sym (old_limit o es who.0 s who.1))
+        (few_old o es legal who.0 s who.1)
+    by false none = (let few = few_most o es legal s in grind (arith, few, none))
+
+pub few_local : (h : History) → IsPlayed h → (s : List ℕ)
+    → length (local_rows h s) ≤ own_limit h s
+few_local h legal s = few_in h.opening h.entries legal s
