@@ -1,68 +1,61 @@
 -- Where a peer is heard, its scope runs, its link is up and visible; and what it may say is
 -- accepted.
 use Rattle.frame_laws.proofs
-use proofs.Words.{fresh, judgement, None, opened, verdict}
-use proofs.Words.{max_rows, Accepted, accepted, agrees, all_hold, and_parts, ap, AreStated, arith}
+use proofs.Words.{fresh, judged, judgement, None, opened, verdict, always, frame_taken, Message2}
+use proofs.Words.{Begun, begun, kept_peers, list_all-append}
+use proofs.Words.{PartKind, peer_limit, rows_before, rows_kept, so_far, AreFrom}
+use proofs.Words.{said_at, scope_in, option_map_or}
+use proofs.Words.{Accepted, accepted, agrees, and_parts, ap, AreStated, arith}
 use proofs.Words.{awaits, Bool, but, cond, Entry, eqb-true, Event, events, false, fewer_length}
 use proofs.Words.{filter, filter-append, first_broken, flat_map, frame_checks, group_named, groups}
 use proofs.Words.{groups_are, groups_named, has_sync, HasRoom, heard, heard_runs, heard_whole}
 use proofs.Words.{History, how_many_append, is_accepted, is_from, is_full, is_local, is_open}
 use proofs.Words.{is_peer, is_running, is_up, is_visible, is_whole, IsPlayed, IsPlayedIn, IsListing}
 use proofs.Words.{IsRowListing, le-leb, length, length-append, lie, List, list_all, listed}
-use proofs.Words.{listed_named, map, MaySay, members, members_are, Message, message_checks}
-use proofs.Words.{message_taken, nat_le, None, occurrences, open_first, opened, Opening, Option}
+use proofs.Words.{listed_named, map, MaySay, members, members_are, message_checks}
+use proofs.Words.{nat_le, None, occurrences, open_first, opened, Opening, Option}
 use proofs.Words.{past, peer_foreign, peer_of, peer_rows, Pid, pid_named, pids_named, present_link}
-use proofs.Words.{refl, Refused, Reply, Row, row, rows_are, rows_of, Rule, Said, same, same_decides}
-use proofs.Words.{same_pid, same_row, same_row_decides, scope_of, Some, stands_in, stated, subst}
+use proofs.Words.{refl, Refused, Reply, Row, row, rows_are, rows_of, Rule, same, same_decides}
+use proofs.Words.{same_pid, same_row, same_row_decides, Some, stands_in, stated, subst}
 use proofs.Words.{sym, taken, talk, talk_of, true, Verdict, verdict, whole_awaits, ℕ, []}
 use proofs.Words.{◌&&◌, ◌++◌, ◌+◌, ◌<◌, ◌==◌, ◌∙◌, ◌∷◌, ◌≡◌, ◌≤◌}
 
 -- ---- a peer that is heard is visible
 
 module _ (o : Opening) (s : List ℕ) where
-  -- a Sync is accepted over a visible link alone
-  shown_by : (es : List Entry) (k : ℕ) (m : Message)
-      → first_broken (message_checks (past o es) k m) ≡ None → has_sync s (Said m ∷ []) ≡ true
+  -- a message is accepted over a visible link alone
+  shown_by : (es : List Entry) (k : ℕ) (f : Message2)
+      → first_broken (message_checks (past o es) k f) ≡ None → is_visible (past o es) k ≡ true
+  shown_by es k (Message2.Discover t) met = grind arith
+  shown_by es k (Message2.Part kind t number last rows) met = grind arith
+  shown_by es k (Message2.Down t) met = grind arith
+
+  taken_shows : (es : List Entry) (k : ℕ) (x : Option Message2)
+      → first_broken (option_map_or (message_checks (past o es) k) x (always Rule.BadFrame)) ≡ None
       → is_visible (past o es) k ≡ true
-  shown_by es k (Message.Sync t rows) met q =
-      grind (arith, all_hold (message_checks (past o es) k (Message.Sync t rows)) met)
-  shown_by es k (Message.Discover t) met q = cc
-  shown_by es k (Message.Join t rows) met q = cc
-  shown_by es k (Message.Leave t rows) met q = cc
-  shown_by es k (Message.Down t) met q = grind arith
+  taken_shows es k None met = cc
+  taken_shows es k (Some f) met = shown_by es k f met
 
   module _ (es : List Entry) (e : Entry) (legal : IsPlayedIn o es) (fresh_is : opened e.number es
       ≡ None)
       (l : ℕ) where
     abbrev Before : Type 0
-    Before = has_sync s (talk l es) ≡ true → is_visible (past o es) l ≡ true
-
-    -- the message, or what was said before
-    spoken : (x : Option Message) → ((m : Message) → x ≡ Some m → has_sync s (Said m ∷ []) ≡ true
-        → is_visible (past o es) l ≡ true) → Before → has_sync s (talk_of x ++ talk l es) ≡ true
-        → is_visible (past o es) l ≡ true
-    spoken None shows so_far q = so_far q
-    spoken (Some (Message.Sync t rows)) shows so_far q =
-        grind (arith, shows (Message.Sync t rows) refl, so_far, q)
-    spoken (Some (Message.Down t)) shows so_far q = grind arith
-    spoken (Some m) shows so_far q = so_far q
+    Before = has_sync s (talk o l es) ≡ true → is_visible (past o es) l ≡ true
 
     framed : (k : ℕ) (body : List ℕ) (r : Reply)
         → Accepted r ≡ judgement (past o es) e.seat (Event.Frame k body) → Before → (b : Bool)
         → (k == l) ≡ b
-        → has_sync s (cond (b && is_whole l es) (talk_of (message_taken body)) [] ++ talk l
+        → has_sync s (cond (b && is_whole l es) (talk_of (said_at o l es body)) [] ++ talk o l
         es) ≡ true → is_whole l es ≡ true → is_visible (past o es) l ≡ true
     framed k body r q so_far false other said w = so_far said
     framed k body r q so_far true is said w =
-        grind (
-          arith,
-          eqb-true k l is,
-          open_first (is_open k es) (frame_checks (past o es) k body (awaits k es))
-              (accepted (past o es) e.seat (Event.Frame k body) r q).0,
-          whole_awaits (opened l es) (taken l es) w,
-          spoken,
-          shown_by,
-        )
+        let met = (open_first (is_open k es) (frame_checks (past o es) k body (awaits k es))
+        (accepted (past o es) e.seat (Event.Frame k body) r q).0).1 in
+        let own = subst (λ j. first_broken (frame_checks (past o es) j body (awaits j es)) ≡ None)
+        (eqb-true k l is) met in
+        taken_shows es l (frame_taken o l es body)
+        (subst (λ a. first_broken (frame_checks (past o es) l body a) ≡ None)
+        (whole_awaits (opened l es) (taken l es) w) own)
 
     shown_after : (k : ℕ) (body : List ℕ) (r : Reply) (b : Bool) → (k == l) ≡ b
         → is_whole l es ≡ true → is_visible (past o es) l ≡ true
@@ -70,7 +63,7 @@ module _ (o : Opening) (s : List ℕ) where
     shown_after k body r b is w shown = grind arith
 
     by_event : (ev : Event) (v : Verdict) → v ≡ judgement (past o es) e.seat ev → Before
-        → has_sync s (talk l (but e ev v ∷ es)) ≡ true
+        → has_sync s (talk o l (but e ev v ∷ es)) ≡ true
         → is_visible (past o (but e ev v ∷ es)) l ≡ true
     by_event (Event.Frame k body) (Accepted r) q so_far said = by (is_whole l es) refl
       where
@@ -102,7 +95,7 @@ module _ (o : Opening) (s : List ℕ) where
     by_event ev (Accepted r) q so_far said = so_far said
     by_event ev (Refused r) q so_far said = so_far said
 
-  heard_visible : (es : List Entry) → IsPlayedIn o es → (l : ℕ) → has_sync s (talk l es) ≡ true
+  heard_visible : (es : List Entry) → IsPlayedIn o es → (l : ℕ) → has_sync s (talk o l es) ≡ true
       → is_visible (past o es) l ≡ true
   heard_visible [] legal l q = cc
   heard_visible (e ∷ es) legal l q =
@@ -112,11 +105,11 @@ module _ (o : Opening) (s : List ℕ) where
 -- ---- what is listed of a peer that is heard
 
 module _ (h : History) (legal : IsPlayed h) (l : ℕ) (s : List ℕ)
-    (hears : heard l s h.entries ≡ true) where
+    (hears : heard h.opening l s h.entries ≡ true) where
   abbrev es : List Entry
   es = h.entries
 
-  said : has_sync s (talk l es) ≡ true
+  said : has_sync s (talk h.opening l es) ≡ true
   said = grind (arith, and_parts)
 
   pub is_up_there : is_up l es ≡ true
@@ -139,14 +132,17 @@ module _ (h : History) (legal : IsPlayed h) (l : ℕ) (s : List ℕ)
     present_is : present_link p.node es ≡ Some l
     present_is = grind (arith, agrees, is_up_there, peer_is)
 
-    pub listed_is : (g : List ℕ) → listed h s g p ≡ cond (is_from l es p) (stated l s g p es) 0
+    pub listed_is : (g : List ℕ)
+        → listed h s g p ≡ cond (is_from l es p) (stated h.opening l s g p es) 0
     listed_is g = grind (arith, not_own, scope_runs, present_is, shows)
 
   from_peer : (p : Pid) → is_from l es p ≡ true → is_peer p.node l es ≡ true
   from_peer p q = grind arith
 
-  listed_from : (g : List ℕ) (p : Pid) → is_from l es p ≡ true → listed h s g p ≡ stated l s g p es
-  listed_from g p from = listed_is p (from_peer p from) g ∙ ap (λ b. cond b (stated l s g p es) 0)
+  listed_from : (g : List ℕ) (p : Pid) → is_from l es p ≡ true
+      → listed h s g p ≡ stated h.opening l s g p es
+  listed_from g p from =
+      listed_is p (from_peer p from) g ∙ ap (λ b. cond b (stated h.opening l s g p es) 0)
       from
 
   -- a Leave's rows are listed
@@ -215,21 +211,22 @@ module _ (h : History) (legal : IsPlayed h) (l : ℕ) (s : List ℕ)
       (members h s g)) (filter (λ p. is_peer p.node l es) (flat_map (members h s) gs)))
 
   stated_most : (r : Row) (b : Bool) → of_peer r ≡ b → (c : Bool) → is_from l es r.pid ≡ c
-      → cond (of_peer r) (listed h s r.group r.pid) 0 ≤ stated l s r.group r.pid es
+      → cond (of_peer r) (listed h s r.group r.pid) 0 ≤ stated h.opening l s r.group r.pid es
   stated_most r true its true from = grind (arith, listed_from r.group r.pid from, its)
   stated_most r true its false other =
       (let is = listed_is r.pid its r.group in grind (arith, its, is, other))
   stated_most r false other c from = grind arith
 
   has_room : (rows : List Row) → HasRoom h l s rows
-      → nat_le (peer_rows h l s + length rows) max_rows ≡ true
+      → nat_le (peer_rows h l s + length rows) (peer_limit h l) ≡ true
   has_room rows it =
       let fewer = fewer_length same_row same_row_decides
       (filter of_peer (rows_in_groups (groups h s)) ++ rows) it.all within in
       let both = length-append (filter of_peer (rows_in_groups (groups h s))) rows in
       let long = peer_length (groups h s) in
       let room = it.room in
-      le-leb (peer_rows h l s + length rows) max_rows (omega (arith, fewer, both, long, room))
+      le-leb (peer_rows h l s + length rows) (peer_limit h l)
+      (omega (arith, fewer, both, long, room))
     where
       within : (r : Row) → occurrences same_row r (filter of_peer (rows_in_groups (groups h s))
           ++ rows) ≤ occurrences same_row r it.all
@@ -242,43 +239,117 @@ module _ (h : History) (legal : IsPlayed h) (l : ℕ) (s : List ℕ)
           let stated_so = it.counts r in
           omega (arith, both, counted, most, stated_so)
 
-  -- ---- what it may say breaks no rule
+-- ---- what it may say breaks no rule
 
-  here_met : (m : Message) → scope_of m ≡ s → MaySay h l m
+module _ (h : History) (legal : IsPlayed h) (l : ℕ) where
+  -- the rows that were kept are from the peer
+  before_from : (b : Option Begun) (kind : PartKind) (s : List ℕ) (number : ℕ)
+      → list_all (λ r. is_from l h.entries r.pid) (rows_kept b) ≡ true
+      → list_all (λ r. is_from l h.entries r.pid) (rows_before b kind s number) ≡ true
+  before_from None kind s number q = grind arith
+  before_from (Some b) kind s number q = grind arith
+
+  so_far_from : (kind : PartKind) (s : List ℕ) (number : ℕ) (rows : List Row) → AreFrom h l rows
+      → AreFrom h l (so_far h l kind s number rows)
+  so_far_from kind s number rows from =
+      list_all-append (λ r. is_from l h.entries r.pid)
+      (rows_before (begun h.opening l h.entries) kind s number) rows
+      ∙ (λ i. before_from (begun h.opening l h.entries) kind s number
+      (kept_peers h.opening h.entries legal l) i && from i)
+
+  module _ (s : List ℕ) (shown : is_visible h l ≡ true) (runs : is_running h s ≡ true) where
+    pub sync_met : (number : ℕ) (last : Bool) (rows : List Row)
+        → MaySay h l (Message2.Part PartKind.Sync s number last rows)
+        → first_broken (message_checks h l (Message2.Part PartKind.Sync s number last rows)) ≡ None
+    sync_met number last rows may =
+        grind (
+          arith,
+          shown,
+          runs,
+          may.0,
+          may.1,
+          le-leb (length (so_far h l PartKind.Sync s number rows)) (peer_limit h l) may.2,
+        )
+
+    module _ (hears_so : heard h.opening l s h.entries ≡ true) where
+      join_met : (number : ℕ) (last : Bool) (rows : List Row)
+          → MaySay h l (Message2.Part PartKind.Join s number last rows)
+          → first_broken (message_checks h l (Message2.Part PartKind.Join s number last rows))
+          ≡ None
+      join_met number last rows may =
+          grind (
+            arith,
+            shown,
+            runs,
+            hears_so,
+            may.0,
+            may.1,
+            has_room h legal l s hears_so (so_far h l PartKind.Join s number rows) may.2,
+          )
+
+      leave_met : (number : ℕ) (last : Bool) (rows : List Row)
+          → MaySay h l (Message2.Part PartKind.Leave s number last rows)
+          → first_broken (message_checks h l (Message2.Part PartKind.Leave s number last rows))
+          ≡ None
+      leave_met number last rows may =
+          let listed_so = are_listed h legal l s hears_so
+          (so_far h l PartKind.Leave s number rows) may.2
+          (so_far h l PartKind.Leave s number rows)
+          (so_far_from PartKind.Leave s number rows may.1) in
+          grind (arith, shown, runs, hears_so, may.0, may.1, listed_so)
+
+      here_met : (m : Message2) → scope_in m ≡ s → MaySay h l m
+          → first_broken (message_checks h l m) ≡ None
+      here_met (Message2.Discover t) is may =
+          subst (λ u. MaySay h l (Message2.Discover u)
+          → first_broken (message_checks h l (Message2.Discover u)) ≡ None) (sym is)
+          (λ can. grind (arith, shown, runs, can)) may
+      here_met (Message2.Down t) is may =
+          subst (λ u. first_broken (message_checks h l (Message2.Down u)) ≡ None) (sym is)
+          (grind (arith, shown, runs))
+      here_met (Message2.Part PartKind.Sync t number last rows) is may =
+          subst (λ u. MaySay h l (Message2.Part PartKind.Sync u number last rows)
+          → first_broken (message_checks h l (Message2.Part PartKind.Sync u number last rows))
+          ≡ None) (sym is) (sync_met number last rows) may
+      here_met (Message2.Part PartKind.Join t number last rows) is may =
+          subst (λ u. MaySay h l (Message2.Part PartKind.Join u number last rows)
+          → first_broken (message_checks h l (Message2.Part PartKind.Join u number last rows))
+          ≡ None) (sym is) (join_met number last rows) may
+      here_met (Message2.Part PartKind.Leave t number last rows) is may =
+          subst (λ u. MaySay h l (Message2.Part PartKind.Leave u number last rows)
+          → first_broken (message_checks h l (Message2.Part PartKind.Leave u number last rows))
+          ≡ None) (sym is) (leave_met number last rows) may
+
+  -- what meets the rules of messages is accepted on a link that is up
+  pub admits : is_up l h.entries ≡ true → (seat : ℕ) (body : List ℕ) (m : Message2)
+      → frame_taken h.opening l h.entries body ≡ Some m
       → first_broken (message_checks h l m) ≡ None
-  here_met (Message.Discover t) is may =
-      subst (λ u. first_broken (message_checks h l (Message.Discover u)) ≡ None) (sym is)
-      (grind (arith, shows, scope_runs))
-  here_met (Message.Down t) is may = subst (λ u. first_broken (message_checks h l (Message.Down u))
-      ≡ None) (sym is) (grind (arith, shows, scope_runs))
-  here_met (Message.Sync t rows) is may =
-      subst (λ u. first_broken (message_checks h l (Message.Sync u rows)) ≡ None) (sym is)
-      (grind (arith, shows, scope_runs, may))
-  here_met (Message.Join t rows) is may = subst (λ u. HasRoom h l u rows
-      → first_broken (message_checks h l (Message.Join u rows)) ≡ None) (sym is)
-      (λ room. grind (arith, shows, scope_runs, hears, may.0, has_room rows room)) may.1
-  here_met (Message.Leave t rows) is may = subst (λ u. AreStated h l u rows
-      → first_broken (message_checks h l (Message.Leave u rows)) ≡ None) (sym is)
-      (λ stated. grind (arith, shows, scope_runs, hears, may.0, are_listed rows stated rows may.0))
-      may.1
-
-  pub admits : (seat : ℕ) (body : List ℕ) (m : Message)
-      → message_taken body ≡ Some m → scope_of m ≡ s → MaySay h l m
       → is_accepted (judgement h seat (Event.Frame l body)) ≡ true
-  admits seat body m says is may =
-      grind (
-        arith,
-        Event.Frame l body,
-        (and_parts (is_open l es) (is_whole l es) is_up_there).0,
-        (and_parts (is_open l es) (is_whole l es) is_up_there).1,
-        Rule.NoSuchLink,
-        Rule.BadFrame,
-        here_met m is may,
-      )
+  admits up_there seat body m says met =
+      let up = and_parts (is_open l h.entries) (is_whole l h.entries) up_there in
+      let awaited = whole_awaits (opened l h.entries) (taken l h.entries) up.1 in
+      let checked =
+      ap (λ x. first_broken (option_map_or (message_checks h l) x (always Rule.BadFrame))) says
+      ∙ met in
+      ap (λ b. accepted_by (first_broken
+      (cond b (frame_checks h l body (awaits l h.entries)) (always Rule.NoSuchLink)))) up.0
+      ∙ ap (λ a. accepted_by (first_broken (frame_checks h l body a))) awaited
+      ∙ ap accepted_by checked
+    where
+      accepted_by : Option Rule → Bool
+      accepted_by x = is_accepted (judged h seat (Event.Frame l body) x)
 
-  pub accepts : (seat : ℕ) (body : List ℕ) (m : Message) → is_full h ≡ false
-      → message_taken body ≡ Some m → scope_of m ≡ s → MaySay h l m
+  pub heard_met : (s : List ℕ) → heard h.opening l s h.entries ≡ true → (m : Message2)
+      → scope_in m ≡ s → MaySay h l m → first_broken (message_checks h l m) ≡ None
+  heard_met s hears_so m is may = here_met s (shows h legal l s hears_so)
+      (scope_runs h legal l s hears_so) hears_so m is may
+
+  pub accepts : (s : List ℕ) → heard h.opening l s h.entries ≡ true
+      → (seat : ℕ) (body : List ℕ) (m : Message2) → is_full h ≡ false
+      → frame_taken h.opening l h.entries body ≡ Some m → scope_in m ≡ s → MaySay h l m
       → is_accepted (verdict h seat (Event.Frame l body)) ≡ true
-  accepts seat body m room says is may =
+  accepts s hears_so seat body m room says is may =
       ap (λ b. is_accepted (cond b (Refused Rule.EntriesFull)
-      (judgement h seat (Event.Frame l body)))) room ∙ admits seat body m says is may
+      (judgement h seat (Event.Frame l body)))) room
+      ∙ admits (is_up_there h legal l s hears_so) seat body m says
+      (heard_met s hears_so m is may)

@@ -1,91 +1,170 @@
 -- What frames make of a view, and which leave it.
 use Rattle.frame_laws.proofs
-use proofs.Words.{AllByRecursion, ap, append_assoc, arith, false, has_rows, is_about_rows}
-use proofs.Words.{IsMessage, List, map, map-append, Message, message_taken, messages_said, narrow}
-use proofs.Words.{Option, option_map_or, option_to_list, OutFrame, Pid, refl, says_rows, seen}
-use proofs.Words.{seen_by, slice_get, Some, suc, wide, zero, ℕ, [], ◌++◌, ◌∙◌, ◌∷◌, ◌≡◌}
-use proofs.Handshakes.{begins_message, first_byte, no_message, reads}
+use proofs.Words.{AllByRecursion, ap, arith, before_last, begun_by, Bool, completed_by}
+use proofs.Words.{cond, false, flat_map-append, frames_said, has_rows, is_about_rows, IsText}
+use proofs.Words.{List, map, map-append, Message, Message2, message_taken, narrow, None, Option}
+use proofs.Words.{option_to_list, OutFrame, PartKind, parts, parts_from, Pid, refl, Row}
+use proofs.Words.{said_frames}
+use proofs.Words.{all_append, drop, max_rows, same, seen, seen_by, slice_get, Some, subst, suc}
+use proofs.Words.{true, whole, wide, zero, ℕ, [], ◌++◌, ◌==◌, ◌∙◌, ◌∷◌, ◌≡◌}
+use proofs.Handshakes.{begins_message, first_byte}
+use proofs.Handshakes.{IsClosed, no_message}
+use proofs.Pieces.{begun_apart, completed_apart, pieces, pieces_complete, pieces_end}
+use proofs.Sayable.{asks_alike, asks_sayable, downs_alike, downs_sayable, IsSayable, reads}
+use proofs.Sayable.{reads_hold, said, said_all}
 
 -- what these frames make of a view
-abbrev pub seen_frames : List ℕ → List ℕ → Pid → List OutFrame → Option ℕ → Option ℕ
-seen_frames s g p fs v = seen_by s g p (messages_said (map (λ f. f.body) fs)) v
+abbrev pub seen_frames : ℕ → List ℕ → List ℕ → Pid → List OutFrame → Option ℕ → Option ℕ
+seen_frames v s g p fs x = seen_by s g p (completed_by None (said v fs)) x
 
 module _ (s g : List ℕ) (p : Pid) where
-  pub seen_apart : (ms ns : List Message) (v : Option ℕ)
-      → seen_by s g p (ms ++ ns) v ≡ seen_by s g p ns (seen_by s g p ms v)
-  seen_apart [] ns v = refl
-  seen_apart (m ∷ ms) ns v = seen_apart ms ns (seen s g p m v)
+  pub seen_apart : (ms ns : List Message) (x : Option ℕ)
+      → seen_by s g p (ms ++ ns) x ≡ seen_by s g p ns (seen_by s g p ms x)
+  seen_apart [] ns x = refl
+  seen_apart (m ∷ ms) ns x = seen_apart ms ns (seen s g p m x)
 
-pub said_apart : (xs ys : List (List ℕ))
-    → messages_said (xs ++ ys) ≡ messages_said xs ++ messages_said ys
-said_apart [] ys = refl
-said_apart (x ∷ xs) ys =
-    grind (
-      arith,
-      said_apart xs ys,
-      append_assoc (option_to_list (message_taken x)) (messages_said xs) (messages_said ys),
-    )
+pub said_apart : (v : ℕ) (xs ys : List (List ℕ))
+    → frames_said v (xs ++ ys) ≡ frames_said v xs ++ frames_said v ys
+said_apart v xs ys = flat_map-append (λ body. option_to_list (message_taken v body)) xs ys
 
-pub frames_seen : (s g : List ℕ) (p : Pid) (xs ys : List OutFrame) (v : Option ℕ)
-    → seen_frames s g p (xs ++ ys) v ≡ seen_frames s g p ys (seen_frames s g p xs v)
-frames_seen s g p xs ys v =
-    grind (
-      arith,
-      map-append (λ f. f.body) xs ys,
-      said_apart (map (λ f. f.body) xs) (map (λ f. f.body) ys),
-      seen_apart s g p (messages_said (map (λ f. f.body) xs)) (messages_said (map (λ f. f.body) ys))
-          v,
-    )
+pub frames_apart : (v : ℕ) (xs ys : List OutFrame) → said v (xs ++ ys) ≡ said v xs ++ said v ys
+frames_apart v xs ys = ap (frames_said v) (map-append (λ f. f.body) xs ys)
+    ∙ said_apart v (map (λ f. f.body) xs) (map (λ f. f.body) ys)
+
+-- messages, and each is whole
+abbrev pub AreWhole : ℕ → List OutFrame → Type 0
+AreWhole v fs = begun_by None (said v fs) ≡ None
+
+pub whole_both : (v : ℕ) (xs ys : List OutFrame) → AreWhole v xs → AreWhole v ys
+    → AreWhole v (xs ++ ys)
+whole_both v xs ys first later =
+    ap (begun_by None) (frames_apart v xs ys) ∙ begun_apart None (said v xs) (said v ys)
+    ∙ ap (λ b. begun_by b (said v ys)) first ∙ later
+
+pub frames_seen : (v : ℕ) (s g : List ℕ) (p : Pid) (xs ys : List OutFrame) (x : Option ℕ)
+    → AreWhole v xs
+    → seen_frames v s g p (xs ++ ys) x ≡ seen_frames v s g p ys (seen_frames v s g p xs x)
+frames_seen v s g p xs ys x first =
+    ap (λ ps. seen_by s g p (completed_by None ps) x) (frames_apart v xs ys)
+    ∙ ap (λ ms. seen_by s g p ms x) (completed_apart None (said v xs) (said v ys)
+    ∙ ap (λ b. completed_by None (said v xs) ++ completed_by b (said v ys)) first)
+    ∙ seen_apart s g p (completed_by None (said v xs)) (completed_by None (said v ys)) x
 
 -- ---- one message
 
-pub message_seen : (s g : List ℕ) (p : Pid) (m : Message) → IsMessage m → (v : Option ℕ)
-    → seen_frames s g p (wide m ∷ []) v ≡ seen s g p m v
-message_seen s g p m is v = ap (λ x. seen_by s g p (option_to_list x ++ []) v) (reads m is)
+module _ (v : ℕ) (m : Message) (can : IsSayable v m) where
+  pub message_says : said v (said_frames v m) ≡ pieces v m
+  message_says = said_all v (said_frames v m) (pieces v m) (reads v m can)
+
+  pub message_seen : (s g : List ℕ) (p : Pid) (x : Option ℕ)
+      → seen_frames v s g p (said_frames v m) x ≡ seen s g p m x
+  message_seen s g p x =
+      ap (λ ms. seen_by s g p ms x) (ap (completed_by None) message_says ∙ pieces_complete v m)
+
+  pub message_ends : AreWhole v (said_frames v m)
+  message_ends = ap (begun_by None) message_says ∙ pieces_end v m
 
 -- ---- frames that say no rows of s and leave each view of it
 
-pub record IsCalm (s : List ℕ) (f : OutFrame) : Type 0 where
-  no_rows : has_rows s f.body ≡ false
-  pub stays : (g : List ℕ) (p : Pid) (v : Option ℕ) → seen_frames s g p (f ∷ []) v ≡ v
+-- a part of a message with rows of s
+abbrev pub is_part : List ℕ → Option Message2 → Bool
+is_part s (Some (Message2.Part kind t number last rows)) = same t s
+is_part s x = false
 
-abbrev pub AllCalm : List ℕ → List OutFrame → Type 0
-AllCalm s fs = AllByRecursion (IsCalm s) fs
+-- no frame is one
+abbrev pub HasNoRows : ℕ → List ℕ → List OutFrame → Type 0
+HasNoRows v s fs = AllByRecursion (λ f. is_part s (message_taken v f.body) ≡ false) fs
 
-unsaid : (s : List ℕ) (m : Message) → is_about_rows s (Some m) ≡ false → says_rows s m ≡ false
-unsaid s m q = grind arith
+pub record AllCalm (v : ℕ) (s : List ℕ) (fs : List OutFrame) : Type 0 where
+  pub ends : AreWhole v fs
+  pub no_rows : HasNoRows v s fs
+  pub stays : (g : List ℕ) (p : Pid) (x : Option ℕ) → seen_frames v s g p fs x ≡ x
 
-unseen : (s g : List ℕ) (p : Pid) (m : Message) (v : Option ℕ) → is_about_rows s (Some m) ≡ false
-    → seen s g p m v ≡ v
-unseen s g p m v q = grind arith
+from_other : (s : List ℕ) (kind : PartKind) (t : List ℕ) (number more : ℕ) (rows : List Row)
+    → same t s ≡ false
+    → AllByRecursion (λ p. is_part s (Some p) ≡ false) (parts_from kind t number more rows)
+from_other s kind t number zero rows other = (other, tt)
+from_other s kind t number (suc more) rows other =
+    (other, from_other s kind t (suc number) more (drop max_rows rows) other)
 
-pub calm_message : (s : List ℕ) (m : Message) → IsMessage m → is_about_rows s (Some m) ≡ false
-    → IsCalm s (wide m)
-calm_message s m is other = record {
-  no_rows = ap (λ x. option_map_or (says_rows s) x false) (reads m is) ∙ unsaid s m other;
-  stays = λ g p v. message_seen s g p m is v ∙ unseen s g p m v other;
-}
+pieces_other : (v : ℕ) (s : List ℕ) (m : Message) → is_about_rows s (Some m) ≡ false
+    → AllByRecursion (λ p. is_part s (Some p) ≡ false) (pieces v m)
+pieces_other v s m = by (v == 2) m
+  where
+    by : (b : Bool) (m : Message) → is_about_rows s (Some m) ≡ false
+        → AllByRecursion (λ p. is_part s (Some p) ≡ false) (cond b (parts m) (whole m ∷ []))
+    by true (Message.Discover t) other = (refl, tt)
+    by true (Message.Sync t rows) other =
+        from_other s PartKind.Sync t 1 (before_last rows) rows other
+    by true (Message.Join t rows) other =
+        from_other s PartKind.Join t 1 (before_last rows) rows other
+    by true (Message.Leave t rows) other =
+        from_other s PartKind.Leave t 1 (before_last rows) rows other
+    by true (Message.Down t) other = (refl, tt)
+    by false (Message.Discover t) other = (refl, tt)
+    by false (Message.Sync t rows) other = (other, tt)
+    by false (Message.Join t rows) other = (other, tt)
+    by false (Message.Leave t rows) other = (other, tt)
+    by false (Message.Down t) other = (refl, tt)
 
-pub calm_hello : (s body : List ℕ) → begins_message (first_byte body) ≡ false
-    → IsCalm s (narrow body)
-calm_hello s body q = grind (arith, no_message body q)
+unseen : (s g : List ℕ) (p : Pid) (m : Message) (x : Option ℕ) → is_about_rows s (Some m) ≡ false
+    → seen s g p m x ≡ x
+unseen s g p m x q = grind arith
 
-pub all_stay : (s : List ℕ) (fs : List OutFrame) → AllCalm s fs
-    → (g : List ℕ) (p : Pid) (v : Option ℕ) → seen_frames s g p fs v ≡ v
-all_stay s [] all g p v = refl
-all_stay s (f ∷ fs) all g p v =
-    grind (arith, frames_seen s g p (f ∷ []) fs v, all_stay s fs all.1 g p v)
+module _ (v : ℕ) (s : List ℕ) where
+  pub calm_closed : IsClosed (AllCalm v s)
+  calm_closed = record {
+    nothing = record { ends = refl; no_rows = tt; stays = λ g p x. refl };
+    both = λ xs ys first later. record {
+      ends = whole_both v xs ys first.ends later.ends;
+      no_rows = all_append (λ f. is_part s (message_taken v (OutFrame.body f)) ≡ false) xs ys
+          first.no_rows later.no_rows;
+      stays = λ g p x. frames_seen v s g p xs ys x first.ends
+          ∙ ap (seen_frames v s g p ys) (first.stays g p x) ∙ later.stays g p x;
+    };
+  }
 
--- no frame says rows of s
-abbrev pub HasNoRows : List ℕ → List OutFrame → Type 0
-HasNoRows s fs = AllByRecursion (λ f. has_rows s f.body ≡ false) fs
+  pub calm_message : (m : Message) → IsSayable v m → is_about_rows s (Some m) ≡ false
+      → AllCalm v s (said_frames v m)
+  calm_message m can other = record {
+    ends = message_ends v m can;
+    no_rows = reads_hold v (λ f. is_part s (message_taken v f.body) ≡ false)
+        (λ p. is_part s (Some p) ≡ false) (λ f p wide says apart. ap (is_part s) says ∙ apart)
+        (said_frames v m) (pieces v m) (reads v m can) (pieces_other v s m other);
+    stays = λ g p x. message_seen v m can s g p x ∙ unseen s g p m x other;
+  }
 
-pub calm_rows : (s : List ℕ) (fs : List OutFrame) → AllCalm s fs → HasNoRows s fs
-calm_rows s [] all = tt
-calm_rows s (f ∷ fs) all = grind (arith, calm_rows s fs all.1)
+  pub calm_hello : (body : List ℕ) → begins_message (first_byte body) ≡ false
+      → AllCalm v s (narrow body ∷ [])
+  calm_hello body q = (let none = no_message v body q in record {
+    ends = ap (λ y. begun_by None (option_to_list y ++ [])) none;
+    no_rows = (ap (is_part s) none, tt);
+    stays = λ g p x. ap (λ y. seen_by s g p (completed_by None (option_to_list y ++ [])) x) none;
+  })
 
-pub no_rows_at : (s : List ℕ) (fs : List OutFrame) → HasNoRows s fs → (m : ℕ) (f : OutFrame)
-    → slice_get fs m ≡ Some f → has_rows s f.body ≡ false
-no_rows_at s [] all m f q = grind arith
-no_rows_at s (x ∷ fs) all zero f q = grind arith
-no_rows_at s (x ∷ fs) all (suc m) f q = no_rows_at s fs all.1 m f q
+  pub calm_asks : (t : List ℕ) → IsText t → AllCalm v s (wide (Message.Discover t) ∷ [])
+  calm_asks t text = subst (AllCalm v s) (asks_alike v t)
+      (calm_message (Message.Discover t) (asks_sayable v t text) refl)
+
+  pub calm_down : (t : List ℕ) → IsText t → same t s ≡ false
+      → AllCalm v s (wide (Message.Down t) ∷ [])
+  calm_down t text other = subst (AllCalm v s) (downs_alike v t)
+      (calm_message (Message.Down t) (downs_sayable v t text) other)
+
+pub no_rows_at : (v : ℕ) (s : List ℕ) (fs : List OutFrame) → HasNoRows v s fs → (m : ℕ)
+    (f : OutFrame) → slice_get fs m ≡ Some f → is_part s (message_taken v f.body) ≡ false
+no_rows_at v s [] all m f q = grind arith
+no_rows_at v s (x ∷ fs) all zero f q = grind arith
+no_rows_at v s (x ∷ fs) all (suc m) f q = no_rows_at v s fs all.1 m f q
+
+-- what completes rows of s is a part of it
+pub rows_part : (v : ℕ) (s body : List ℕ) → has_rows v s body ≡ true
+    → is_part s (message_taken v body) ≡ true
+rows_part v s body q = by (message_taken v body) refl q
+  where
+    by : (x : Option Message2) → message_taken v body ≡ x → has_rows v s body ≡ true
+        → is_part s (message_taken v body) ≡ true
+    by None is q = grind arith
+    by (Some (Message2.Discover t)) is q = grind arith
+    by (Some (Message2.Down t)) is q = grind arith
+    by (Some (Message2.Part kind t number last rows)) is q = grind arith

@@ -4,38 +4,40 @@ use Rattle.frame_laws.proofs
 use proofs.Words.{entered}
 use proofs.Words.{Accepted, ap, arith, Bool, but, cond, creation, Entry, Event, false, is_of}
 use proofs.Words.{is_open, is_opened_by, is_some, IsNode, leb-false, leb-true, lie, List}
-use proofs.Words.{Message, message_taken, moment, nat_le, None, Opening, out_in, OutFrame, owed}
+use proofs.Words.{message_taken, Message2, moment, nat_le, Speaks, None, Opening, out_in, OutFrame}
+use proofs.Words.{owed}
 use proofs.Words.{owes, Owing, own_name_frame, past, refl, Refused, slice_get, Some, subst, suc}
 use proofs.Words.{sym, true, unowed, Verdict, zero, ℕ, [], ◌∙◌, ◌∷◌, ◌≡◌, ◌≤◌}
 use proofs.Handshakes.{no_message}
 use proofs.Openings.{open_low, same_creation, unborn_out}
 use proofs.Places.{Parted, InFirst, InSecond, part, all_at, owed_here, earlier_moment}
-use proofs.Spoken.{IsSpoken, node_before, owed_say}
+use proofs.Spoken.{IsSpoken, node_before, owed_say, speaks_now}
 
-module _ (o : Opening) (es : List Entry) (e : Entry) (l : ℕ) where
+module _ (o : Opening) (es : List Entry) (e : Entry) (l v : ℕ) where
   name_alone : (b : Bool) (f : OutFrame) (m : ℕ)
       → slice_get (cond b (own_name_frame (past o es) ∷ []) []) m ≡ Some f
-      → message_taken f.body ≡ None
+      → message_taken v f.body ≡ None
   name_alone true f zero q =
-      grind (arith, no_message (OutFrame.body (own_name_frame (past o es))) refl)
+      grind (arith, no_message v (OutFrame.body (own_name_frame (past o es))) refl)
   name_alone true f (suc m) q = grind arith
   name_alone false f m q = grind arith
 
   -- the entry that opens a link owes it no message
-  opened_silent : (ev : Event) (v : Verdict) → is_opened_by l (but e ev v) ≡ true
-      → (m : ℕ) (f : OutFrame) → slice_get (owed (past o es) l e.number ev v) m ≡ Some f
-      → message_taken f.body ≡ None
+  opened_silent : (ev : Event) (w : Verdict) → is_opened_by l (but e ev w) ≡ true
+      → (m : ℕ) (f : OutFrame) → slice_get (owed (past o es) l e.number ev w) m ≡ Some f
+      → message_taken v f.body ≡ None
   opened_silent (Event.Dial n c) (Accepted r) here m f q = grind (arith, name_alone)
   opened_silent (Event.Opened c) (Accepted r) here m f q = grind arith
   opened_silent ev (Accepted r) here m f q = cc
   opened_silent ev (Refused r) here m f q = cc
 
-pub rows_own : (o : Opening) (es : List Entry) → IsNode (past o es) → (l n : ℕ) (x : Owing)
-    → slice_get (out_in o l es) n ≡ Some x → (m : Message) → message_taken x.frame.body ≡ Some m
+pub rows_own : (o : Opening) (es : List Entry) → IsNode (past o es) → (l v : ℕ) → Speaks o l v es
+    → (n : ℕ) (x : Owing) → slice_get (out_in o l es) n ≡ Some x → (m : Message2)
+    → message_taken v x.frame.body ≡ Some m
     → is_of o.name (creation (moment l (past o es))) m ≡ true
-rows_own o [] node l n x q m says = grind arith
-rows_own o (e ∷ es) node l n x q m says = by (λ r. rows_own o es (node_before o e es node) l n x r m
-    says) (part (out_in o l es) (owes (past o es) l e) n x q)
+rows_own o [] node l v speaks n x q m says = grind arith
+rows_own o (e ∷ es) node l v speaks n x q m says = by (λ r. rows_own o es (node_before o e es node)
+    l v speaks.1 n x r m says) (part (out_in o l es) (owes (past o es) l e) n x q)
   where
     earlier : l ≤ entered es
         → creation (moment l (past o es)) ≡ creation (moment l (past o (e ∷ es)))
@@ -59,8 +61,9 @@ rows_own o (e ∷ es) node l n x q m says = by (λ r. rows_own o es (node_before
 
         said : is_of o.name (creation (past o es)) m ≡ true
         said = IsSpoken.own
-            (all_at (IsSpoken (past o es)) (owed (past o es) l e.number e.event e.verdict)
-            (owed_say (past o es) (node_before o e es node) e.number e.seat l e.event e.verdict
+            (all_at (IsSpoken v (past o es)) (owed (past o es) l e.number e.event e.verdict)
+            (owed_say (past o es) (node_before o e es node) e.number e.seat l v
+            (speaks_now o l v es speaks.1) e.event e.verdict
             node.legal.0.judged node.written.0) j x.frame it) m says
 
         now : (b : Bool) → is_open l es ≡ b → (c : Bool) → is_opened_by l e ≡ c
@@ -69,7 +72,7 @@ rows_own o (e ∷ es) node l n x q m says = by (λ r. rows_own o es (node_before
             (same_creation o es node.legal.1 l opens ∙ earlier (open_low o es node.legal.1 l opens))
             said
         now false shut true here =
-            lie (sym (ap is_some (sym (opened_silent o es e l e.event e.verdict here j x.frame it)
+            lie (sym (ap is_some (sym (opened_silent o es e l v e.event e.verdict here j x.frame it)
             ∙ says)))
         now false shut false other =
             lie (ap is_some (sym it ∙ ap (λ fs. slice_get fs j)

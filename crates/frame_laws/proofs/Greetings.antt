@@ -2,12 +2,13 @@
 -- that it accepted.
 use Rattle.frame_laws.proofs
 use proofs.Numbers.{opens_next, owed_number}
+use proofs.Words.{IsVersion, link_version, Message2, message_taken, said_frames}
 use proofs.Words.{entered, judgement}
 use proofs.Words.{Accepted, AllByRecursion, ap, arith, Bool, but, ByDial, ByPeer}
 use proofs.Words.{Challenge, challenge_bytes, challenge_frame, challenge_frame-spelled}
 use proofs.Words.{challenge_in, cond, creation, Entry, eqb-false, eqb-true, Event, false, hello_in}
 use proofs.Words.{History, is_open, is_opened_by, is_some, IsPlayedIn, IsNode, IsWritten, length}
-use proofs.Words.{lie, List, map, Message, message_bytes, moment, name_bytes, name_frame}
+use proofs.Words.{lie, List, map, Message, moment, name_bytes, name_frame}
 use proofs.Words.{name_frame-spelled, narrow, None, Opened, opened, Opening, opening_of, Option}
 use proofs.Words.{option_map_or, out_in, OutFrame, owed, owes, Owing, owing, own_challenge}
 use proofs.Words.{own_flags, own_hello, own_name_frame, past, refl, Refused, slice_get, Some}
@@ -15,12 +16,14 @@ use proofs.Words.{SpellsChallenge-read, Start, start_of, status_frame, StatusWor
 use proofs.Words.{unowed, Verdict, version_bytes, version_read, wide, ℕ, [], ◌++◌, ◌+◌, ◌<◌, ◌==◌}
 use proofs.Words.{◌^◌, ◌∙◌, ◌∷◌, ◌≡◌}
 use proofs.Words.{◌≤◌}
-use proofs.Handshakes.{first_byte, HoldsOfHellos}
+use proofs.Handshakes.{all_closed, begins_it, begins_message, first_byte, HoldsOfHellos}
+use proofs.Pieces.{pieces}
 use proofs.Openings.{opening_low, same_creation, unborn_out}
 use proofs.OwnLimits.{own_creation_fits}
 use proofs.Places.{all_at, first_of_both, Parted, InFirst, InSecond, part, owed_here}
 use proofs.Places.{earlier_moment, this_moment}
-use proofs.Spoken.{node_before, owed_hold}
+use proofs.Spoken.{Holds, node_before, owed_hold}
+use proofs.Sayable.{IsSayable, reads, reads_hold}
 
 -- ---- bodies
 
@@ -29,12 +32,13 @@ not_asked : (body : List ℕ) → (first_byte body == 0x4E) ≡ false → (f : C
     → challenge_frame body ≡ Some f → ⊥
 not_asked body other f q = grind (arith, SpellsChallenge-read body f q, eqb-false, first_byte)
 
-begins_other : (m : Message) → (first_byte (message_bytes m) == 0x4E) ≡ false
-begins_other (Message.Discover s) = refl
-begins_other (Message.Sync s rows) = refl
-begins_other (Message.Join s rows) = refl
-begins_other (Message.Leave s rows) = refl
-begins_other (Message.Down s) = refl
+-- nor does one that begins as a message does
+begins_other : (byte : ℕ) → begins_message byte ≡ true → (byte == 0x4E) ≡ false
+begins_other byte q = by (byte == 0x4E) refl
+  where
+    by : (b : Bool) → (byte == 0x4E) ≡ b → (byte == 0x4E) ≡ false
+    by true is = lie (sym q ∙ ap begins_message (eqb-true byte 0x4E is))
+    by false other = other
 
 flags_fit : (hidden : Bool) → own_flags hidden < 2 ^ 64
 flags_fit true = omega arith
@@ -66,6 +70,9 @@ module _ (h : History) (node : IsNode h) where
   name_short : length h.opening.name < 2 ^ 16
   name_short = grind arith
 
+  version_known : IsVersion h.opening.links
+  version_known = node.links
+
   -- the own Name is read as it was meant
   name_says : name_frame (name_bytes (own_hello h)) ≡ Some (own_hello h)
   name_says = name_frame-spelled (name_bytes (own_hello h)) (own_hello h)
@@ -74,11 +81,11 @@ module _ (h : History) (node : IsNode h) where
           flags = flags_fit h.opening.hidden;
           creation = own_creation_fits h node;
           length = name_short;
-          version = node.links;
+          version = version_known;
         };
         extra = version_bytes h.opening.links;
         bytes = refl;
-        version = version_read h.opening.links node.links;
+        version = version_read h.opening.links version_known;
       })
 
   module _ (l : ℕ) where
@@ -99,11 +106,11 @@ module _ (h : History) (node : IsNode h) where
         challenge = challenge_fits h.entries node.written l;
         creation = own_creation_fits h node;
         length = name_short;
-        version = node.links;
+        version = version_known;
       };
       extra = version_bytes h.opening.links;
       bytes = refl;
-      version = version_read h.opening.links node.links;
+      version = version_read h.opening.links version_known;
     })
 
     -- a frame in which a Challenge says what this node is
@@ -125,22 +132,44 @@ module _ (h : History) (node : IsNode h) where
     status_own StatusWord.True = none_asked _ refl
     status_own StatusWord.False = none_asked _ refl
 
-    hellos : HoldsOfHellos h l IsOwn
+    hellos : HoldsOfHellos h l (AllByRecursion IsOwn)
     hellos = record {
-      status = status_own;
-      challenge = λ g q. ap hello_in (sym (same_asked own_asked g (sym asked_says ∙ q)));
-      reply = λ f. none_asked _ refl;
-      ack = λ f. none_asked _ refl;
+      status = λ w. (status_own w, tt);
+      challenge = (λ g q. ap hello_in (sym (same_asked own_asked g (sym asked_says ∙ q))), tt);
+      reply = λ f. (none_asked _ refl, tt);
+      ack = λ f. (none_asked _ refl, tt);
     }
 
-    says_own : (m : Message) → IsOwn (wide m)
-    says_own m g q = absurd (not_asked (message_bytes m) (begins_other m) g q)
+    abbrev version : ℕ
+    version = link_version h.opening l h.entries
+
+    says_own : (f : OutFrame) (p : Message2) → f.wide ≡ true → message_taken version f.body ≡ Some p
+        → Unit {0} → IsOwn f
+    says_own f p wide says any g q = absurd (not_asked f.body
+        (begins_other (first_byte f.body) (begins_it version f.body p says)) g q)
+
+    all_any : (ps : List Message2) → AllByRecursion (λ p. Unit {0}) ps
+    all_any [] = tt
+    all_any (p ∷ ps) = (tt, all_any ps)
+
+    said_own : (m : Message) → IsSayable version m → AllByRecursion IsOwn (said_frames version m)
+    said_own m can = reads_hold version IsOwn (λ p. Unit {0}) says_own (said_frames version m)
+        (pieces version m) (reads version m can) (all_any (pieces version m))
+
+    each_own : Holds h node l version (AllByRecursion IsOwn)
+    each_own = record {
+      closed = all_closed IsOwn;
+      hellos = hellos;
+      asks = λ s text. (λ g q. absurd (not_asked _ refl g q), tt);
+      downs = λ s text. (λ g q. absurd (not_asked _ refl g q), tt);
+      said = λ m can own. said_own m can;
+    }
 
     -- all that is owed to a link that was opened before
     owed_own : (number seat : ℕ) → (number == l) ≡ false → (ev : Event) (v : Verdict)
         → v ≡ judgement h seat ev → IsWritten ev → AllByRecursion IsOwn (owed h l number ev v)
-    owed_own number seat later ev v = owed_hold h node l IsOwn hellos (λ m is from. says_own m)
-        number seat ev v (λ here. lie (sym here ∙ later))
+    owed_own number seat later ev v = owed_hold h node l version (λ w. refl)
+        (AllByRecursion IsOwn) each_own number seat ev v (λ here. lie (sym here ∙ later))
 
 -- ---- along a history
 

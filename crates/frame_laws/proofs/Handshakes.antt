@@ -1,22 +1,24 @@
--- The frames of the handshake: their bodies spell no message.
+-- The frames of the handshake, whose bodies spell no message.
 use Rattle.frame_laws.proofs
-use proofs.Words.{ack_bytes, AckFrame, AllByRecursion, ap, AwaitAck, AwaitAnswer, AwaitChallenge}
-use proofs.Words.{Awaited, AwaitMessage, AwaitName, AwaitReply, AwaitStatus, Bool, Challenge}
-use proofs.Words.{challenge_frame, cond, digest_for, discovers, false, frame_owes, get_or, History}
-use proofs.Words.{is_dialling, is_name_up, is_visible, IsMessage, IsNode, IsText, lie, List, map}
-use proofs.Words.{Message, message-spelled, message_bytes, message_owes, message_taken, Name}
-use proofs.Words.{name_frame, narrow, None, Option, option_map_or, OutFrame, own_challenge}
-use proofs.Words.{own_challenge_frame, own_name_frame, refl, refusal_owes, reply_bytes, reply_frame}
-use proofs.Words.{ReplyFrame, Rule, running_scopes, Some, SpellsMessage, SpellsMessage-read}
-use proofs.Words.{status_frame, status_of, StatusWord, sym, true, true_to, welcome, wide, ℕ, []}
+use proofs.Words.{all_append, ack_bytes, AckFrame, AllByRecursion, ap}
+use proofs.Words.{AwaitAck, AwaitAnswer, AwaitChallenge, Awaited, AwaitMessage, AwaitName}
+use proofs.Words.{AwaitReply, AwaitStatus, Bool, Challenge, challenge_frame, cond, digest_for}
+use proofs.Words.{discovers, false, frame_owes, frame_taken, get_or, History}
+use proofs.Words.{is_dialling, is_name_up, is_some, is_visible, IsNode}
+use proofs.Words.{IsText, lie, List, map}
+use proofs.Words.{Message, Message2, message2_bytes}
+use proofs.Words.{message_bytes, message_owes, message_taken, Name, name_frame, narrow}
+use proofs.Words.{None, Option, option_map, option_map_or, OutFrame}
+use proofs.Words.{own_challenge, own_challenge_frame, own_name_frame, PartKind}
+use proofs.Words.{read_message, read_message2, refl, refusal_owes}
+use proofs.Words.{reply_bytes, reply_frame, ReplyFrame, Rule, running_scopes}
+use proofs.Words.{Some, SpellsMessage, SpellsMessage-read, SpellsMessage2}
+use proofs.Words.{SpellsMessage2-read, status_frame, status_of, StatusWord, sym}
+use proofs.Words.{true, true_to, welcome, whole, wide, ℕ, [], ◌++◌}
 use proofs.Words.{◌==◌, ◌||◌, ◌∙◌, ◌∷◌, ◌≡◌}
 use proofs.OwnLimits.{scopes_text}
 
 -- ---- bodies
-
--- a message within the grammar is read as it was meant
-pub reads : (m : Message) → IsMessage m → message_taken (message_bytes m) ≡ Some m
-reads m is = message-spelled (message_bytes m) m (record { within = is; bytes = refl })
 
 abbrev pub first_byte : List ℕ → ℕ
 first_byte body = get_or body 0 0
@@ -32,29 +34,65 @@ begins (Message.Join s rows) = refl
 begins (Message.Leave s rows) = refl
 begins (Message.Down s) = refl
 
-pub no_message : (body : List ℕ) → begins_message (first_byte body) ≡ false
-    → message_taken body ≡ None
-no_message body q = by (message_taken body) refl
+begins_part : (m : Message2) → begins_message (first_byte (message2_bytes m)) ≡ true
+begins_part (Message2.Discover s) = refl
+begins_part (Message2.Part PartKind.Sync s number last rows) = refl
+begins_part (Message2.Part PartKind.Join s number last rows) = refl
+begins_part (Message2.Part PartKind.Leave s number last rows) = refl
+begins_part (Message2.Down s) = refl
+
+pub taken_new : (v : ℕ) (body : List ℕ) → (v == 2) ≡ true → message_taken v body ≡ read_message2
+    body
+taken_new v body q = ap (λ b. cond b (read_message2 body) (option_map whole (read_message body))) q
+
+pub taken_old : (v : ℕ) (body : List ℕ) → (v == 2) ≡ false
+    → message_taken v body ≡ option_map whole (read_message body)
+taken_old v body q = ap (λ b. cond b (read_message2 body) (option_map whole (read_message body))) q
+
+pub no_message : (v : ℕ) (body : List ℕ) → begins_message (first_byte body) ≡ false
+    → message_taken v body ≡ None
+no_message v body q = by (v == 2) (read_message body) refl (read_message2 body) refl
   where
-    by : (x : Option Message) → message_taken body ≡ x → message_taken body ≡ None
-    by None is = is
-    by (Some m) is = lie (sym (begins m) ∙ ap (λ b. begins_message (first_byte b))
+    by : (b : Bool) (x : Option Message) → read_message body ≡ x → (y : Option Message2)
+        → read_message2 body ≡ y → cond b (read_message2 body)
+        (option_map whole (read_message body)) ≡ None
+    by true x p None is = is
+    by true x p (Some m) is = lie (sym (begins_part m) ∙ ap (λ b. begins_message (first_byte b))
+        (sym (SpellsMessage2.bytes (SpellsMessage2-read body m is))) ∙ q)
+    by false None is y p = ap (option_map whole) is
+    by false (Some m) is y p = lie (sym (begins m) ∙ ap (λ b. begins_message (first_byte b))
         (sym (SpellsMessage.bytes (SpellsMessage-read body m is))) ∙ q)
+
+pub begins_it : (v : ℕ) (body : List ℕ) (m : Message2) → message_taken v body ≡ Some m
+    → begins_message (first_byte body) ≡ true
+begins_it v body m says = by (begins_message (first_byte body)) refl
+  where
+    by : (b : Bool) → begins_message (first_byte body) ≡ b → begins_message (first_byte body) ≡ true
+    by true q = q
+    by false q = lie (sym (ap is_some (sym (no_message v body q) ∙ says)))
 
 -- ---- what holds of each frame of the handshake, and of each Discover of a running scope
 
+-- a fact on lists of frames that holds of two, one behind the other, where it holds of both
+pub record IsClosed (L : List OutFrame → Type 0) : Type 0 where
+  pub nothing : L []
+  pub both : (xs ys : List OutFrame) → L xs → L ys → L (xs ++ ys)
+
+pub all_closed : (P : OutFrame → Type 0) → IsClosed (AllByRecursion P)
+all_closed P = record { nothing = tt; both = all_append P }
+
 -- it holds of each frame of the handshake that h may owe to link l
-pub record HoldsOfHellos (h : History) (l : ℕ) (P : OutFrame → Type 0) : Type 0 where
-  pub status : (w : StatusWord) → P (status_frame w)
-  pub challenge : P (own_challenge_frame h l)
-  pub reply : (f : ReplyFrame) → P (narrow (reply_bytes f))
-  pub ack : (f : AckFrame) → P (narrow (ack_bytes f))
+pub record HoldsOfHellos (h : History) (l : ℕ) (L : List OutFrame → Type 0) : Type 0 where
+  pub status : (w : StatusWord) → L (status_frame w ∷ [])
+  pub challenge : L (own_challenge_frame h l ∷ [])
+  pub reply : (f : ReplyFrame) → L (narrow (reply_bytes f) ∷ [])
+  pub ack : (f : AckFrame) → L (narrow (ack_bytes f) ∷ [])
 
 -- it holds of each whose body spells no message
-pub of_hellos : (h : History) (l : ℕ) (P : OutFrame → Type 0)
-    → ((body : List ℕ) → begins_message (first_byte body) ≡ false → P (narrow body))
-    → HoldsOfHellos h l P
-of_hellos h l P hellos =
+pub of_hellos : (h : History) (l : ℕ) (L : List OutFrame → Type 0)
+    → ((body : List ℕ) → begins_message (first_byte body) ≡ false → L (narrow body ∷ []))
+    → HoldsOfHellos h l L
+of_hellos h l L hellos =
     record {
       status = each;
       challenge = hellos _ refl;
@@ -62,7 +100,7 @@ of_hellos h l P hellos =
       ack = λ f. hellos _ refl;
     }
   where
-    each : (w : StatusWord) → P (status_frame w)
+    each : (w : StatusWord) → L (status_frame w ∷ [])
     each StatusWord.Ok = hellos _ refl
     each StatusWord.OkSimultaneous = hellos _ refl
     each StatusWord.Nok = hellos _ refl
@@ -71,85 +109,87 @@ of_hellos h l P hellos =
     each StatusWord.True = hellos _ refl
     each StatusWord.False = hellos _ refl
 
-module _ (h : History) (node : IsNode h) (l : ℕ) (P : OutFrame → Type 0) (hellos : HoldsOfHellos h l
-    P) (asks : (s : List ℕ) → IsText s → P (wide (Message.Discover s))) where
+module _ (h : History) (node : IsNode h) (l : ℕ) (L : List OutFrame → Type 0) (closed : IsClosed L)
+    (hellos : HoldsOfHellos h l L)
+    (asks : (s : List ℕ) → IsText s → L (wide (Message.Discover s) ∷ [])) where
   discover_all : (ss : List (List ℕ)) → AllByRecursion IsText ss
-      → AllByRecursion P (map (λ s. wide (Message.Discover s)) ss)
-  discover_all [] texts = tt
-  discover_all (s ∷ ss) texts = (asks s texts.0, discover_all ss texts.1)
+      → L (map (λ s. wide (Message.Discover s)) ss)
+  discover_all [] texts = closed.nothing
+  discover_all (s ∷ ss) texts = closed.both (wide (Message.Discover s) ∷ [])
+      (map (λ t. wide (Message.Discover t)) ss) (asks s texts.0) (discover_all ss texts.1)
 
-  discovers_all : AllByRecursion P (discovers h l)
+  discovers_all : L (discovers h l)
   discovers_all = by (is_visible h l)
     where
-      by : (b : Bool)
-          → AllByRecursion P (cond b (map (λ s. wide (Message.Discover s)) (running_scopes h)) [])
+      by : (b : Bool) → L (cond b (map (λ s. wide (Message.Discover s)) (running_scopes h)) [])
       by true = discover_all (running_scopes h) (scopes_text h node)
-      by false = tt
+      by false = closed.nothing
 
-  welcome_all : (n : List ℕ) → AllByRecursion P (welcome h l n)
+  welcome_all : (n : List ℕ) → L (welcome h l n)
   welcome_all n = by (is_name_up n h.entries) (is_dialling n h.entries)
     where
-      by : (b c : Bool) → AllByRecursion P (cond b (status_frame StatusWord.Alive ∷ [])
+      by : (b c : Bool) → L (cond b (status_frame StatusWord.Alive ∷ [])
           (cond c (status_frame StatusWord.OkSimultaneous ∷ own_challenge_frame h l ∷ [])
           (status_frame StatusWord.Ok ∷ own_challenge_frame h l ∷ [])))
-      by true c = (hellos.status StatusWord.Alive, tt)
-      by false true = (hellos.status StatusWord.OkSimultaneous, (hellos.challenge, tt))
-      by false false = (hellos.status StatusWord.Ok, (hellos.challenge, tt))
+      by true c = hellos.status StatusWord.Alive
+      by false true = closed.both (status_frame StatusWord.OkSimultaneous ∷ [])
+          (own_challenge_frame h l ∷ []) (hellos.status StatusWord.OkSimultaneous) hellos.challenge
+      by false false = closed.both (status_frame StatusWord.Ok ∷ [])
+          (own_challenge_frame h l ∷ []) (hellos.status StatusWord.Ok) hellos.challenge
 
   -- all that is owed for an accepted frame, where it holds of what a message owes
   pub frame_all : (body : List ℕ) (a : Awaited)
-      → (a ≡ AwaitMessage → (m : Message) → message_taken body ≡ Some m
-      → AllByRecursion P (message_owes h l m)) → AllByRecursion P (frame_owes h l body a)
+      → (a ≡ AwaitMessage → (m : Message2) → frame_taken h.opening l h.entries body ≡ Some m
+      → L (message_owes h l m)) → L (frame_owes h l body a)
   frame_all body AwaitName spoken = by (name_frame body)
     where
-      by : (x : Option Name) → AllByRecursion P (option_map_or (λ f. welcome h l f.name) x [])
-      by None = tt
+      by : (x : Option Name) → L (option_map_or (λ f. welcome h l f.name) x [])
+      by None = closed.nothing
       by (Some f) = welcome_all f.name
-  frame_all body AwaitAnswer spoken = (hellos.challenge, tt)
+  frame_all body AwaitAnswer spoken = hellos.challenge
   frame_all body AwaitReply spoken = by (reply_frame body)
     where
       by : (x : Option ReplyFrame)
-          → AllByRecursion P
-          (option_map_or (λ f. narrow (ack_bytes (record { digest = digest_for h l f.challenge }))
+          → L (option_map_or (λ f. narrow (ack_bytes (record {
+            digest = digest_for h l f.challenge;
+          }))
           ∷ discovers h l) x [])
-      by None = tt
-      by (Some f) = (hellos.ack (record { digest = digest_for h l f.challenge }), discovers_all)
+      by None = closed.nothing
+      by (Some f) = closed.both
+          (narrow (ack_bytes (record { digest = digest_for h l f.challenge })) ∷ [])
+          (discovers h l) (hellos.ack (record { digest = digest_for h l f.challenge }))
+          discovers_all
   frame_all body AwaitStatus spoken = by (status_of body)
     where
-      by : (x : Option StatusWord) → AllByRecursion P (option_map_or true_to x [])
-      by (Some StatusWord.Alive) = (hellos.status StatusWord.True, tt)
-      by (Some w) = tt
-      by None = tt
+      by : (x : Option StatusWord) → L (option_map_or true_to x [])
+      by (Some StatusWord.Alive) = hellos.status StatusWord.True
+      by (Some w) = closed.nothing
+      by None = closed.nothing
   frame_all body AwaitChallenge spoken = by (challenge_frame body)
     where
       by : (x : Option Challenge)
-          → AllByRecursion P
-          (option_map_or
+          → L (option_map_or
           (λ f. narrow
           (reply_bytes
           (record { challenge = own_challenge l h.entries; digest = digest_for h l f.challenge }))
           ∷ []) x [])
-      by None = tt
-      by (Some f) = (
-        hellos.reply
-            (record { challenge = own_challenge l h.entries; digest = digest_for h l f.challenge }),
-        tt,
-      )
+      by None = closed.nothing
+      by (Some f) = hellos.reply
+          (record { challenge = own_challenge l h.entries; digest = digest_for h l f.challenge })
   frame_all body AwaitAck spoken = discovers_all
-  frame_all body AwaitMessage spoken = by (message_taken body) refl
+  frame_all body AwaitMessage spoken = by (frame_taken h.opening l h.entries body) refl
     where
-      by : (x : Option Message) → message_taken body ≡ x
-          → AllByRecursion P (option_map_or (message_owes h l) x [])
-      by None is = tt
+      by : (x : Option Message2) → frame_taken h.opening l h.entries body ≡ x
+          → L (option_map_or (message_owes h l) x [])
+      by None is = closed.nothing
       by (Some m) is = spoken refl m is
 
-  pub refusal_all : (r : Rule) → AllByRecursion P (refusal_owes r)
-  refusal_all Rule.NotAllowed = (hellos.status StatusWord.NotAllowed, tt)
-  refusal_all Rule.Simultaneous = (hellos.status StatusWord.Nok, tt)
-  refusal_all Rule.LinkUp = (hellos.status StatusWord.False, tt)
-  refusal_all r = tt
+  pub refusal_all : (r : Rule) → L (refusal_owes r)
+  refusal_all Rule.NotAllowed = hellos.status StatusWord.NotAllowed
+  refusal_all Rule.Simultaneous = hellos.status StatusWord.Nok
+  refusal_all Rule.LinkUp = hellos.status StatusWord.False
+  refusal_all r = closed.nothing
 
-  pub dial_all : P (own_name_frame h) → (b : Bool)
-      → AllByRecursion P (cond b (own_name_frame h ∷ []) [])
-  dial_all name true = (name, tt)
-  dial_all name false = tt
+  pub dial_all : L (own_name_frame h ∷ []) → (b : Bool) → L (cond b (own_name_frame h ∷ []) [])
+  dial_all name true = name
+  dial_all name false = closed.nothing

@@ -1,13 +1,12 @@
 -- What a node owes to a link is honest.
 use Rattle.frame_laws.proofs
-use proofs.Words.{max_rows, ap, bodies_of, creation, has_rows, History, is_of, is_some, IsHonest}
-use proofs.Words.{IsListing, IsNode, length, lie, List, local_rows, local_rows_are, Message}
-use proofs.Words.{message_taken, moment, out, Owing, PassesThrough, Pid, refl, Row, row, rows_of}
-use proofs.Words.{slice_get, Some, suc, sym, take, true, view_of, zero, ℕ, [], ◌+◌, ◌∙◌, ◌∷◌, ◌≡◌}
-use proofs.Words.{few_local, ◌≤◌}
+use proofs.Words.{AreThere, ap, bodies_of, creation, History, is_some, IsFew, IsHonest, IsNode}
+use proofs.Words.{lie, List, message_taken, moment, out, Owing, PartKind, PassesThrough, refl}
+use proofs.Words.{slice_get, so_far_behind, Some, Speaks, subst, suc, sym, take, view_of, zero, ℕ}
+use proofs.Words.{[], ◌∙◌, ◌∷◌, ◌≡◌}
 use proofs.FromHere.{rows_own}
 use proofs.LinksTell.{all_tell}
-use proofs.Moments.{legal_then}
+use proofs.Orderly.{out_orderly}
 use proofs.Through.{passes}
 
 -- the frame of a body
@@ -33,43 +32,28 @@ take_bodies zero owings = refl
 take_bodies (suc n) [] = refl
 take_bodies (suc n) (x ∷ owings) = ap (λ bs. x.frame.body ∷ bs) (take_bodies n owings)
 
-pub node_honest : (h : History) → IsNode h → (l : ℕ) (s : List ℕ)
-    → IsHonest h.opening.name (creation (moment l h)) s (bodies_of (out h l))
-node_honest h node l s = record { own = own_said; few = few_said; there = there_said }
+pub node_honest : (h : History) → IsNode h → (l v : ℕ) → Speaks h.opening l v h.entries
+    → (s : List ℕ) → IsHonest v h.opening.name (creation (moment l h)) s (bodies_of (out h l))
+node_honest h node l v speaks s = record {
+  own = λ place body m q says.
+      let it = frame_of (out h l) place body q in
+      rows_own h.opening h.entries node l v speaks place it.owing it.stands m
+      (ap (message_taken v) it.body_is ∙ says);
+  order = (out_orderly h.opening h.entries node l v speaks).order;
+  few = λ place body q kind number last rows says.
+      let it = frame_of (out h l) place body q in
+      subst (λ bs. IsFew v s (λ g p. view_of v s g p bs) kind
+      (so_far_behind v bs kind s number rows)) (sym (take_bodies place (out h l)))
+      (passed.few place it.owing it.stands kind number last rows
+      (ap (message_taken v) it.body_is ∙ says));
+  there = λ place body q number last rows says.
+      let it = frame_of (out h l) place body q in
+      subst (λ bs. AreThere (λ g p. view_of v s g p bs)
+      (so_far_behind v bs PartKind.Leave s number rows)) (sym (take_bodies place (out h l)))
+      (passed.there place it.owing it.stands number last rows
+      (ap (message_taken v) it.body_is ∙ says));
+}
   where
-    own_said : (place : ℕ) (body : List ℕ) (m : Message)
-        → slice_get (bodies_of (out h l)) place ≡ Some body → message_taken body ≡ Some m
-        → is_of h.opening.name (creation (moment l h)) m ≡ true
-    own_said place body m q says =
-        let it = frame_of (out h l) place body q in
-        rows_own h.opening h.entries node l place it.owing it.stands m (ap message_taken it.body_is
-        ∙ says)
-
-    few_said : (place : ℕ) (body : List ℕ) → slice_get (bodies_of (out h l)) place ≡ Some body
-        → has_rows s body ≡ true
-        → (all : List Row)
-        × ((g : List ℕ) (p : Pid) → view_of s g p (take (place + 1) (bodies_of (out h l))) ≡ Some
-        (rows_of g p all)) × (length all ≤ max_rows)
-    few_said place body q says =
-        let it = frame_of (out h l) place body q in
-        let then = moment it.owing.source h in (
-          local_rows then s,
-          (λ g p. ap (view_of s g p) (take_bodies (place + 1) (out h l))
-              ∙ PassesThrough.moments
-              (passes h.opening l s h.entries node.legal (all_tell h.opening h.entries node l s))
-              place it.owing it.stands (ap (has_rows s) it.body_is ∙ says) g p
-              ∙ ap Some (sym (IsListing.counts (local_rows_are then s) (row g p)))),
-          few_local then (legal_then h node.legal it.owing.source) s,
-        )
-
-    there_said : (place : ℕ) (body : List ℕ) (rows : List Row)
-        → slice_get (bodies_of (out h l)) place ≡ Some body
-        → message_taken body ≡ Some (Message.Leave s rows)
-        → (g : List ℕ) (p : Pid) → (n : ℕ) × (view_of s g p (take place (bodies_of (out h l)))
-        ≡ Some n) × (rows_of g p rows ≤ n)
-    there_said place body rows q says g p =
-        let it = frame_of (out h l) place body q in
-        let was = PassesThrough.there
-        (passes h.opening l s h.entries node.legal (all_tell h.opening h.entries node l s)) place
-        it.owing it.stands rows (ap message_taken it.body_is ∙ says) g p in
-        (was.0, ap (view_of s g p) (take_bodies place (out h l)) ∙ was.1, was.2)
+    passed : PassesThrough v h l s
+    passed = passes v h.opening l s h.entries node speaks
+        (all_tell h.opening h.entries node l v speaks s)

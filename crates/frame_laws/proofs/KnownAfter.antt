@@ -8,7 +8,7 @@ use proofs.Words.{but, ByDial, ByPeer, cond, done_now, ends, Entry, entry_link}
 use proofs.Words.{eq-eqb, eqb-true, Event, false, first_broken, first_of, frame_checks}
 use proofs.Words.{framed_heard, heard, hears, History, is_last, is_message, is_open, is_whole}
 use proofs.Words.{IsPlayedIn, IsStep, known, lie, List, Message, message_at}
-use proofs.Words.{message_heard, message_taken, None, not, open_first, Opening, opening_heard}
+use proofs.Words.{message_heard, None, said_at, not, open_first, Opening, opening_heard}
 use proofs.Words.{option_to_list, past, Pid, proved_heard, refl, Refused, Reply, Rule, Said, seen}
 use proofs.Words.{seen_by, Some, stated_in, stopped_heard, subst, sym, Talk, talk, true, unwrap_or}
 use proofs.Words.{Verdict, whole_is_message, ℕ, [], ◌&&◌, ◌==◌, ◌∙◌, ◌∷◌, ◌≡◌}
@@ -28,15 +28,16 @@ module _ (s g : List ℕ) (p : Pid) where
   said_known (Message.Leave t rows) ts was q = grind arith
   said_known (Message.Down t) ts was q = grind arith
 
-  known_as : (l : ℕ) (es : List Entry) → heard l s es ≡ true
-      → known l s g p es ≡ Some (stated_in s g p (talk l es))
-  known_as l es q = grind arith
+  known_as : (o : Opening) (l : ℕ) (es : List Entry) → heard o l s es ≡ true
+      → known o l s g p es ≡ Some (stated_in s g p (talk o l es))
+  known_as o l es q = grind arith
 
   -- nothing was said: the same is known
-  still_known : (l : ℕ) (x : Entry) (es : List Entry) → heard l s (x ∷ es) ≡ true
-      → heard l s es ≡ true → stated_in s g p (talk l (x ∷ es)) ≡ stated_in s g p (talk l es)
-      → known l s g p (x ∷ es) ≡ known l s g p es
-  still_known l x es now was same_talk = grind (arith, known_as l (x ∷ es) now, known_as l es was)
+  still_known : (o : Opening) (l : ℕ) (x : Entry) (es : List Entry) → heard o l s (x ∷ es) ≡ true
+      → heard o l s es ≡ true → stated_in s g p (talk o l (x ∷ es)) ≡ stated_in s g p (talk o l es)
+      → known o l s g p (x ∷ es) ≡ known o l s g p es
+  still_known o l x es now was same_talk =
+      grind (arith, known_as o l (x ∷ es) now, known_as o l es was)
 
 module _ (o : Opening) (es : List Entry) (e : Entry) (legal : IsPlayedIn o es) (l : ℕ)
     (s g : List ℕ)
@@ -45,13 +46,14 @@ module _ (o : Opening) (es : List Entry) (e : Entry) (legal : IsPlayedIn o es) (
   h = past o es
 
   abbrev KnownAfter : Event → Verdict → Type 0
-  KnownAfter ev v = heard l s (but e ev v ∷ es) ≡ true
-      → known l s g p (but e ev v ∷ es) ≡ seen_by s g p (message_at l es v ev) (known l s g p es)
+  KnownAfter ev v = heard o l s (but e ev v ∷ es) ≡ true
+      → known o l s g p (but e ev v ∷ es)
+      ≡ seen_by s g p (message_at o l es v ev) (known o l s g p es)
 
   refused_known : (ev : Event) (r : Rule) → IsStep h (but e ev (Refused r))
       → KnownAfter ev (Refused r)
   refused_known ev r next now =
-      still_known s g p l (but e ev (Refused r)) es now (sym (refused_heard e es ev r l s)
+      still_known s g p o l (but e ev (Refused r)) es now (sym (refused_heard o e es ev r l s)
       ∙ now) refl
 
   stopped_known : (t : List ℕ) (r : Reply) → KnownAfter (Event.StopScope t) (Accepted r)
@@ -68,16 +70,17 @@ module _ (o : Opening) (es : List Entry) (e : Entry) (legal : IsPlayedIn o es) (
     made : IsStep h fr
     made = grind (arith, Event.Frame k body, Accepted r)
 
-    other_known : (k == l) ≡ false → heard l s (fr ∷ es) ≡ true
-        → known l s g p (fr ∷ es) ≡ known l s g p es
+    other_known : (k == l) ≡ false → heard o l s (fr ∷ es) ≡ true
+        → known o l s g p (fr ∷ es) ≡ known o l s g p es
     other_known other now =
         let it = entry_link es fr k l body refl other in
-        still_known s g p l fr es now
+        still_known s g p o l fr es now
         (was_heard (ends l es (Accepted r) (Event.Frame k body)) (is_open l es) (is_whole l es)
-        (unwrap_or (first_of (hears s) (talk l es)) false)
-        (sym (λ i. (is_open l (fr ∷ es) && it.whole i) && unwrap_or (first_of (hears s) (it.talk i))
+        (unwrap_or (first_of (hears s) (talk o l es)) false)
+        (sym (λ i. (is_open l (fr ∷ es) && it.whole i)
+        && unwrap_or (first_of (hears s) (it.talk o i))
         false) ∙ now))
-        (ap (stated_in s g p) it.talk)
+        (ap (stated_in s g p) (it.talk o))
 
     module _ (same_link : k ≡ l) where
       found : (is_open l es ≡ true) × (first_broken (frame_checks h l body (awaits l es)) ≡ None)
@@ -91,7 +94,7 @@ module _ (o : Opening) (es : List Entry) (e : Entry) (legal : IsPlayedIn o es) (
       its = grind arith
 
       hello_heard : is_message (awaits l es) ≡ false → (b : Bool) → is_last (awaits l es) ≡ b
-          → heard l s (fr ∷ es) ≡ true → heard l s es ≡ true
+          → heard o l s (fr ∷ es) ≡ true → heard o l s es ≡ true
       hello_heard unlike false inner t =
           grind (arith, framed_heard h legal fr made refl l body its unlike inner l s)
       hello_heard unlike true last t =
@@ -103,55 +106,55 @@ module _ (o : Opening) (es : List Entry) (e : Entry) (legal : IsPlayedIn o es) (
           )
 
       -- within a handshake nobody is heard
-      unheard : is_message (awaits l es) ≡ false → heard l s (fr ∷ es) ≡ true
-          → known l s g p (fr ∷ es) ≡ seen_by s g p
-          (cond (is_whole l es) (option_to_list (message_taken body)) []) (known l s g p es)
+      unheard : is_message (awaits l es) ≡ false → heard o l s (fr ∷ es) ≡ true
+          → known o l s g p (fr ∷ es) ≡ seen_by s g p
+          (cond (is_whole l es) (option_to_list (said_at o l es body)) []) (known o l s g p es)
       unheard unlike now =
           let was = hello_heard unlike (is_last (awaits l es)) refl now in
           let whole = (and_parts (is_open l es) (is_whole l es)
           ((and_parts (is_open l es && is_whole l es)
-          (unwrap_or (first_of (hears s) (talk l es)) false) was).0)).1 in
+          (unwrap_or (first_of (hears s) (talk o l es)) false) was).0)).1 in
           lie (sym (ap is_message ((whole_is_message l es found.0).0 whole)) ∙ unlike)
 
       module _ (a : awaits l es ≡ AwaitMessage) (m : Message)
-          (says : message_taken body ≡ Some m) where
+          (says : said_at o l es body ≡ Some m) where
         whole : is_whole l es ≡ true
         whole = grind (arith, whole_is_message)
 
-        spoken : talk l (fr ∷ es) ≡ Said m ∷ talk l es
+        spoken : talk o l (fr ∷ es) ≡ Said m ∷ talk o l es
         spoken = grind (arith, same_link, eq-eqb l l, whole, says)
 
-        heard_now : heard l s (fr ∷ es) ≡ unwrap_or (hears s (Said m)) (heard l s es)
+        heard_now : heard o l s (fr ∷ es) ≡ unwrap_or (hears s (Said m)) (heard o l s es)
         heard_now = grind (
           arith,
           (message_heard h legal fr made refl l body its m a says l s).heard_is,
           eq-eqb l l,
         )
 
-        said : heard l s (fr ∷ es) ≡ true
-            → known l s g p (fr ∷ es) ≡ seen s g p m (known l s g p es)
+        said : heard o l s (fr ∷ es) ≡ true
+            → known o l s g p (fr ∷ es) ≡ seen s g p m (known o l s g p es)
         said now = grind (
           arith,
-          known_as s g p l (fr ∷ es) now,
+          known_as s g p o l (fr ∷ es) now,
           spoken,
-          said_known s g p m (talk l es) (heard l s es) (sym heard_now ∙ now),
+          said_known s g p m (talk o l es) (heard o l s es) (sym heard_now ∙ now),
         )
 
-        said_at : heard l s (fr ∷ es) ≡ true
-            → known l s g p (fr ∷ es) ≡ seen_by s g p
-            (cond (is_whole l es) (option_to_list (message_taken body)) []) (known l s g p es)
-        said_at now = said now ∙ sym
-            (λ i. seen_by s g p (cond (whole i) (option_to_list (says i)) []) (known l s g p es))
+        spoken_at : heard o l s (fr ∷ es) ≡ true
+            → known o l s g p (fr ∷ es) ≡ seen_by s g p
+            (cond (is_whole l es) (option_to_list (said_at o l es body)) []) (known o l s g p es)
+        spoken_at now = said now ∙ sym
+            (λ i. seen_by s g p (cond (whole i) (option_to_list (says i)) []) (known o l s g p es))
 
       message_known : awaits l es ≡ AwaitMessage
-          → first_broken (frame_checks h l body AwaitMessage) ≡ None → heard l s (fr ∷ es) ≡ true
-          → known l s g p (fr ∷ es) ≡ seen_by s g p
-          (cond (is_whole l es) (option_to_list (message_taken body)) []) (known l s g p es)
-      message_known a q now = grind (arith, said_at)
+          → first_broken (frame_checks h l body AwaitMessage) ≡ None → heard o l s (fr ∷ es) ≡ true
+          → known o l s g p (fr ∷ es) ≡ seen_by s g p
+          (cond (is_whole l es) (option_to_list (said_at o l es body)) []) (known o l s g p es)
+      message_known a q now = grind (arith, spoken_at)
 
-      own_known : (a : Awaited) → awaits l es ≡ a → heard l s (fr ∷ es) ≡ true
-          → known l s g p (fr ∷ es) ≡ seen_by s g p
-          (cond (is_whole l es) (option_to_list (message_taken body)) []) (known l s g p es)
+      own_known : (a : Awaited) → awaits l es ≡ a → heard o l s (fr ∷ es) ≡ true
+          → known o l s g p (fr ∷ es) ≡ seen_by s g p
+          (cond (is_whole l es) (option_to_list (said_at o l es body)) []) (known o l s g p es)
       own_known AwaitMessage is now = message_known is
           (subst (λ x. first_broken (frame_checks h l body x) ≡ None) is found.1) now
       own_known a is now = unheard (ap is_message is) now
@@ -160,8 +163,8 @@ module _ (o : Opening) (es : List Entry) (e : Entry) (legal : IsPlayedIn o es) (
     frame_known now = by (k == l) refl
       where
         by : (b : Bool) → (k == l) ≡ b
-            → known l s g p (fr ∷ es) ≡ seen_by s g p (cond (b && is_whole l es)
-            (option_to_list (message_taken body)) []) (known l s g p es)
+            → known o l s g p (fr ∷ es) ≡ seen_by s g p (cond (b && is_whole l es)
+            (option_to_list (said_at o l es body)) []) (known o l s g p es)
         by true is = own_known (eqb-true k l is) (awaits l es) refl now
         by false other = other_known other now
 
@@ -172,11 +175,11 @@ module _ (o : Opening) (es : List Entry) (e : Entry) (legal : IsPlayedIn o es) (
   known_after (Event.StopScope t) (Accepted r) next now = stopped_known t r now
   known_after (Event.Frame k body) (Accepted r) next now = grind (arith, frame_known)
   known_after (Event.Dial n c) (Accepted r) next now =
-      still_known s g p l (but e (Event.Dial n c) (Accepted r)) es now
+      still_known s g p o l (but e (Event.Dial n c) (Accepted r)) es now
       (sym (opening_heard h (but e (Event.Dial n c) (Accepted r)) refl legal
       next (ByDial n c) refl l s).heard_is ∙ now) refl
   known_after (Event.Opened c) (Accepted r) next now =
-      still_known s g p l (but e (Event.Opened c) (Accepted r)) es now
+      still_known s g p o l (but e (Event.Opened c) (Accepted r)) es now
       (sym (opening_heard h (but e (Event.Opened c) (Accepted r)) refl legal
       next (ByPeer c) refl l s).heard_is ∙ now) refl
   known_after (Event.Lost k) (Accepted r) next now = grind (arith, still_known)

@@ -6,9 +6,13 @@ pub mod Handing
 pub mod Sources
 pub mod SaidUp
 pub mod OwnLimits
+pub mod Pieces
 pub mod Handshakes
+pub mod Sayable
+pub mod OwnMessages
 pub mod Spoken
 pub mod Calm
+pub mod Orderly
 pub mod Telling
 pub mod Through
 pub mod RowsTell
@@ -19,11 +23,16 @@ pub mod FromHere
 pub mod KnownAfter
 pub mod Moments
 pub mod ToldPlaces
+pub mod KeptStands
 pub mod Accepting
 pub mod Bodies
 pub mod NotRefused
+pub mod Alike
+pub mod RefusedParts
 pub mod Hearing
 pub mod HonestNode
 pub mod Giving
+pub mod OneVersion
 pub mod OneView
+pub mod BegunPlaces
 mod Worked

@@ -1,69 +1,97 @@
 -- What each other event says of a scope to a link, and so what every entry says.
 use Rattle.frame_laws.proofs
 use proofs.Refusals.{refused_told}
-use proofs.Words.{fresh}
-use proofs.Words.{Accepted, accepted, all_hold, always, ap, arith, Awaited, AwaitMessage, awaits}
-use proofs.Words.{Bool, but, ByDial, ByPeer, cond, done_now, ends, Entry, entry_link}
-use proofs.Words.{eqb-true, Event, false, first_broken, first_of, frame_checks, frame_owes}
-use proofs.Words.{framed_heard, heard, History, if_visible, is_about_rows, is_last, is_message}
-use proofs.Words.{is_open, is_running, is_some, is_up, is_visible, is_whole, IsStep, IsListing}
-use proofs.Words.{IsMessage, IsStep, IsNode, IsText, IsWritten, lie, List, local_rows}
-use proofs.Words.{local_rows_are, Message, message_checks, message_heard, message_owes}
-use proofs.Words.{message_taken, None, not, not-false, open_first, Opening, opening_heard, Option}
-use proofs.Words.{option_map_or, owed, own, past, Pid, proved_heard, refl, refusal_owes, Refused}
-use proofs.Words.{Reply, Row, row, rows_of, Rule, Said, same, same_decides, says_rows, Some}
+use proofs.Words.{Accepted, accepted, all_hold, AllByRecursion, always, and_parts, ap}
+use proofs.Words.{arith, Awaited, AwaitMessage, awaits, Begun, begun, Bool, but, ByDial, ByPeer}
+use proofs.Words.{completed, cond, done_now, ends, Entry, entry_link, eq-eqb, eqb-true, Event}
+use proofs.Words.{false}
+use proofs.Words.{first_broken, first_of, frame_checks, frame_owes, frame_taken, framed_heard}
+use proofs.Words.{fresh, heard, History, if_visible, is_last, is_message, is_open}
+use proofs.Words.{is_running, is_some, is_up, is_visible, is_whole, IsListing, IsNode, IsStep}
+use proofs.Words.{IsText, IsWritten, length, lie, link_version, List, local_rows}
+use proofs.Words.{local_rows_are, max_rows, Message, message_checks, message_heard}
+use proofs.Words.{message_owes, message_taken, Message2, nat_le, None, not, not-false, open_first}
+use proofs.Words.{Opening, opening_heard, Option, option_and_then, option_map_or, owed, own}
+use proofs.Words.{PartKind, parts, past, Pid, proved_heard, refl, refusal_owes, Refused, Reply, Row}
+use proofs.Words.{row, rows_of, Rule, Said, said_at, said_frames, same, same_decides, Some, Speaks}
 use proofs.Words.{stopped_heard, subst, sym, talk, tells, told, told_runs, true, unbroken}
-use proofs.Words.{unwrap_or, Verdict, wide, ℕ, [], ◌&&◌, ◌==◌, ◌∙◌, ◌∷◌, ◌≡◌}
-use proofs.Calm.{seen_frames, message_seen, AllCalm, IsCalm, HasNoRows, calm_hello, calm_message}
-use proofs.Handshakes.{dial_all, frame_all, of_hellos, reads, refusal_all}
+use proofs.Words.{unwrap_or}
+use proofs.Words.{Verdict, whole, whole_is_message, wide, ℕ, [], ◌&&◌, ◌++◌, ◌==◌, ◌||◌, ◌∙◌, ◌∷◌}
+use proofs.Words.{◌≡◌}
+use proofs.Calm.{AllCalm, calm_asks, calm_closed, calm_down, calm_hello, calm_message, HasNoRows}
+use proofs.Calm.{is_part}
+use proofs.Handshakes.{dial_all, frame_all, HoldsOfHellos}
+use proofs.Handshakes.{of_hellos, refusal_all}
 use proofs.OwnLimits.{scope_text}
+use proofs.Pieces.{pieces, value_of}
 use proofs.RowsTell.{join_tells, leave_tells, exit_tells}
-use proofs.Spoken.{node_before, sync_is}
-use proofs.Telling.{Tells, Silent, Synced, Ended, EntryTells, AllTell}
+use proofs.Spoken.{node_before, speaks_now}
+use proofs.Telling.{AllTell, Ended, EntryTells, Silent, Spoke, Tells, told_sync}
+use proofs.Sayable.{downs_alike, downs_sayable, IsSayable, reads, reads_hold}
+use proofs.OwnMessages.{asked_room, sync_is}
 
-sync_no_leave : (t s : List ℕ) (rows left : List Row)
-    → Some (Message.Sync t rows) ≡ Some (Message.Leave s left) → ⊥
-sync_no_leave t s rows left q = (cc)
+-- a message with rows tells nobody anew
+rows_tell_none : (s : List ℕ) (b : Option Begun) (kind : PartKind) (t : List ℕ) (number : ℕ)
+    (last : Bool) (rows : List Row) (n : Message)
+    → completed b (Message2.Part kind t number last rows) ≡ Some n → tells s (Said n) ≡ None
+rows_tell_none s b kind t number false rows n is = lie (sym (ap is_some is))
+rows_tell_none s b PartKind.Sync t number true rows n is =
+    subst (λ x. tells s (Said x) ≡ None) (value_of is) refl
+rows_tell_none s b PartKind.Join t number true rows n is =
+    subst (λ x. tells s (Said x) ≡ None) (value_of is) refl
+rows_tell_none s b PartKind.Leave t number true rows n is =
+    subst (λ x. tells s (Said x) ≡ None) (value_of is) refl
 
-module _ (o : Opening) (es : List Entry) (e : Entry) (node : IsNode (past o es)) (l : ℕ)
-    (s : List ℕ) where
+-- a Down is no part of rows
+down_quiet_in : (v : ℕ) (s t : List ℕ) → IsText t → HasNoRows v s (wide (Message.Down t) ∷ [])
+down_quiet_in v s t text = subst (HasNoRows v s) (downs_alike v t)
+    (reads_hold v (λ f. is_part s (message_taken v f.body) ≡ false)
+    (λ p. is_part s (Some p) ≡ false) (λ f p wide says apart. ap (is_part s) says ∙ apart)
+    (said_frames v (Message.Down t)) (pieces v (Message.Down t))
+    (reads v (Message.Down t) (downs_sayable v t text)) (by (v == 2)))
+  where
+    by : (b : Bool) → AllByRecursion (λ p. is_part s (Some p) ≡ false)
+        (cond b (parts (Message.Down t)) (whole (Message.Down t) ∷ []))
+    by true = (refl, tt)
+    by false = (refl, tt)
+
+module _ (o : Opening) (es : List Entry) (e : Entry) (node : IsNode (past o es)) (l v : ℕ)
+    (agrees : is_whole l es ≡ true → link_version o l es ≡ v) (s : List ℕ) where
   abbrev h : History
   h = past o es
 
   abbrev TellsOf : Event → Verdict → Type 0
-  TellsOf ev v = EntryTells o l s (but e ev v) es
+  TellsOf ev w = EntryTells v o l s (but e ev w) es
 
-  asks_calm : (t : List ℕ) → IsText t → IsCalm s (wide (Message.Discover t))
-  asks_calm t text = calm_message s (Message.Discover t) text refl
+  hellos_calm : HoldsOfHellos h l (AllCalm v s)
+  hellos_calm = of_hellos h l (AllCalm v s) (calm_hello v s)
 
   -- ---- refusals
 
-  refused_calm : (ev : Event) (r : Rule) → AllCalm s (owed h l e.number ev (Refused r))
+  refused_calm : (ev : Event) (r : Rule) → AllCalm v s (owed h l e.number ev (Refused r))
   refused_calm (Event.Frame k body) r = by (k == l)
     where
-      by : (b : Bool) → AllCalm s (cond b (refusal_owes r) [])
-      by true = refusal_all h node l (IsCalm s) (of_hellos h l (IsCalm s) (calm_hello s)) asks_calm
-          r
-      by false = tt
-  refused_calm ev r = tt
+      by : (b : Bool) → AllCalm v s (cond b (refusal_owes r) [])
+      by true = refusal_all h node l (AllCalm v s) (calm_closed v s) hellos_calm (calm_asks v s) r
+      by false = (calm_closed v s).nothing
+  refused_calm ev r = (calm_closed v s).nothing
 
   refused_tells : (ev : Event) (r : Rule) → IsStep h (but e ev (Refused r)) → TellsOf ev (Refused r)
   refused_tells ev r next =
-      Silent (refused_calm ev r) (λ t. (sym (refused_told e es ev r l s) ∙ t, λ g p. refl))
+      Silent (refused_calm ev r) (λ t. (sym (refused_told o e es ev r l s) ∙ t, λ g p. refl))
 
   -- ---- scopes
 
-  visible_calm : (m : Message) → IsMessage m → is_about_rows s (Some m) ≡ false
-      → AllCalm s (if_visible h l m)
-  visible_calm m is other = by (is_up l es && is_visible h l)
+  visible_calm : (m : Message) → AllCalm v s (wide m ∷ []) → AllCalm v s (if_visible h l m)
+  visible_calm m calm = by (is_up l es && is_visible h l)
     where
-      by : (b : Bool) → AllCalm s (cond b (wide m ∷ []) [])
-      by true = (calm_message s m is other, tt)
-      by false = tt
+      by : (b : Bool) → AllCalm v s (cond b (wide m ∷ []) [])
+      by true = calm
+      by false = (calm_closed v s).nothing
 
   start_tells : (t : List ℕ) (r : Reply) → IsStep h (but e (Event.StartScope t) (Accepted r))
       → IsText t → TellsOf (Event.StartScope t) (Accepted r)
-  start_tells t r next text = Silent (visible_calm (Message.Discover t) text refl)
+  start_tells t r next text = Silent (visible_calm (Message.Discover t) (calm_asks v s t text))
       (λ told. (told, λ g p. by (same t s) refl (told_runs h node.legal l s told) g p))
     where
       idle : not (is_running h t) ≡ true
@@ -74,22 +102,23 @@ module _ (o : Opening) (es : List Entry) (e : Entry) (node : IsNode (past o es))
       by true is runs g p = grind (arith, same_decides t s)
       by false other runs g p = grind arith
 
-  down_quiet : (t : List ℕ) → IsText t → HasNoRows s (if_visible h l (Message.Down t))
+  down_quiet : (t : List ℕ) → IsText t → HasNoRows v s (if_visible h l (Message.Down t))
   down_quiet t text = by (is_up l es && is_visible h l)
     where
-      by : (b : Bool) → HasNoRows s (cond b (wide (Message.Down t) ∷ []) [])
-      by true = (ap (λ x. option_map_or (says_rows s) x false) (reads (Message.Down t) text), tt)
+      by : (b : Bool) → HasNoRows v s (cond b (wide (Message.Down t) ∷ []) [])
+      by true = down_quiet_in v s t text
       by false = tt
 
   stop_tells : (t : List ℕ) (r : Reply) → IsText t → TellsOf (Event.StopScope t) (Accepted r)
   stop_tells t r text = by (same t s) refl
     where
-      now : told l s (but e (Event.StopScope t) (Accepted r) ∷ es) ≡ (told l s es && not (same t s))
+      now : told o l s (but e (Event.StopScope t) (Accepted r) ∷ es)
+          ≡ (told o l s es && not (same t s))
       now = grind (arith, stopped_heard)
 
       by : (b : Bool) → same t s ≡ b → TellsOf (Event.StopScope t) (Accepted r)
       by true is = Ended (down_quiet t text) (grind (arith, now, is))
-      by false other = Silent (visible_calm (Message.Down t) text other)
+      by false other = Silent (visible_calm (Message.Down t) (calm_down v s t text other))
           (λ told. (grind (arith, now, told), λ g p. grind (arith, other)))
 
   -- ---- links
@@ -97,8 +126,8 @@ module _ (o : Opening) (es : List Entry) (e : Entry) (node : IsNode (past o es))
   dial_tells : (n : List ℕ) (c : ℕ) (r : Reply) → IsStep h (but e (Event.Dial n c) (Accepted r))
       → TellsOf (Event.Dial n c) (Accepted r)
   dial_tells n c r next =
-      Silent (dial_all h node l (IsCalm s) (of_hellos h l (IsCalm s) (calm_hello s)) asks_calm
-      (calm_hello s _ refl) (e.number == l))
+      Silent (dial_all h node l (AllCalm v s) (calm_closed v s) hellos_calm (calm_asks v s)
+      (calm_hello v s _ refl) (e.number == l))
       (λ told. (
         sym (opening_heard h (but e (Event.Dial n c) (Accepted r)) refl node.legal
             next (ByDial n c) refl l s).told_is ∙ told,
@@ -107,7 +136,7 @@ module _ (o : Opening) (es : List Entry) (e : Entry) (node : IsNode (past o es))
 
   opened_tells : (c : ℕ) (r : Reply) → IsStep h (but e (Event.Opened c) (Accepted r))
       → TellsOf (Event.Opened c) (Accepted r)
-  opened_tells c r next = Silent tt
+  opened_tells c r next = Silent (calm_closed v s).nothing
       (λ told. (
         sym (opening_heard h (but e (Event.Opened c) (Accepted r)) refl node.legal
             next (ByPeer c) refl l s).told_is ∙ told,
@@ -129,12 +158,13 @@ module _ (o : Opening) (es : List Entry) (e : Entry) (node : IsNode (past o es))
     made = next
 
     -- of another link
-    other_told : (k == l) ≡ false → told l s (fr ∷ es) ≡ true → told l s es ≡ true
+    other_told : (k == l) ≡ false → told o l s (fr ∷ es) ≡ true → told o l s es ≡ true
     other_told other t =
         let it = entry_link es fr k l body refl other in
         was_told (ends l es (Accepted r) (Event.Frame k body)) (is_open l es) (is_whole l es)
-        (unwrap_or (first_of (tells s) (talk l es)) false)
-        (sym (λ i. (is_open l (fr ∷ es) && it.whole i) && unwrap_or (first_of (tells s) (it.talk i))
+        (unwrap_or (first_of (tells s) (talk o l es)) false)
+        (sym (λ i. (is_open l (fr ∷ es) && it.whole i)
+        && unwrap_or (first_of (tells s) (it.talk o i))
         false) ∙ t)
 
     -- its own link: open, and no rule is broken
@@ -150,7 +180,7 @@ module _ (o : Opening) (es : List Entry) (e : Entry) (node : IsNode (past o es))
       its = grind arith
 
       hello_told : is_message (awaits l es) ≡ false → (b : Bool) → is_last (awaits l es) ≡ b
-          → told l s (fr ∷ es) ≡ true → told l s es ≡ true
+          → told o l s (fr ∷ es) ≡ true → told o l s es ≡ true
       hello_told unlike false inner t =
           grind (arith, framed_heard h node.legal fr made refl l body its unlike inner l s)
       hello_told unlike true last t =
@@ -164,81 +194,142 @@ module _ (o : Opening) (es : List Entry) (e : Entry) (node : IsNode (past o es))
           )
 
       handshake : (a : Awaited) → awaits l es ≡ a → is_message a ≡ false
-          → Tells s (told l s es) (told l s (fr ∷ es)) (own h s) (own (past o (fr ∷ es)) s)
+          → Tells v s (told o l s es) (told o l s (fr ∷ es)) (own h s) (own (past o (fr ∷ es)) s)
           (frame_owes h l body a)
       handshake a is unlike =
-          Silent (frame_all h node l (IsCalm s) (of_hellos h l (IsCalm s) (calm_hello s)) asks_calm
+          Silent (frame_all h node l (AllCalm v s) (calm_closed v s) hellos_calm (calm_asks v s)
           body a (λ q m says. lie (sym (ap is_message q) ∙ unlike)))
           (λ t.
           (hello_told (ap is_message is ∙ unlike) (is_last (awaits l es)) refl t, λ g p. refl))
 
-      module _ (a : awaits l es ≡ AwaitMessage) (m : Message) (says : message_taken body ≡ Some m)
-          (met : first_broken (message_checks h l m) ≡ None) where
-        now_told : told l s (fr ∷ es) ≡ cond (l == l) (unwrap_or (tells s (Said m)) (told l s es))
-            (told l s es)
-        now_told = (message_heard h node.legal fr made refl l body its m a says l s).told_is
+      module _ (a : awaits l es ≡ AwaitMessage) where
+        whole_now : is_whole l es ≡ true
+        whole_now = (whole_is_message l es found.0).1 a
 
-      synced : (t : List ℕ) → awaits l es ≡ AwaitMessage
-          → message_taken body ≡ Some (Message.Discover t)
-          → first_broken (message_checks h l (Message.Discover t)) ≡ None
-          → Tells s (told l s es) (told l s (fr ∷ es)) (own h s) (own (past o (fr ∷ es)) s)
-          (message_owes h l (Message.Discover t))
-      synced t a says met = by (heard l t es) (same t s) refl
-        where
-          text : IsText t
-          text = scope_text h node t (unbroken (is_running h t)
-              (all_hold (message_checks h l (Message.Discover t)) met).1.0)
+        -- what a message makes of who is told
+        now_told : (m : Message) → said_at o l es body ≡ Some m → told o l s (fr ∷ es)
+            ≡ cond (l == l) (unwrap_or (tells s (Said m)) (told o l s es))
+            (told o l s es)
+        now_told m says = (message_heard h node.legal fr made refl l body its m a says l s).told_is
 
-          told_now : same t s ≡ false → told l s (fr ∷ es) ≡ true → told l s es ≡ true
-          told_now other q = grind (arith, now_told a (Message.Discover t) says met, other, q)
+        -- a part that completes nothing tells nobody anew
+        told_on : said_at o l es body ≡ None → told o l s (fr ∷ es) ≡ true → told o l s es ≡ true
+        told_on none q =
+            let same_talk : talk o l (fr ∷ es) ≡ talk o l es =
+            grind (arith, same_link, eq-eqb l l, whole_now, none) in
+            let was = sym (ap (λ ts. unwrap_or (first_of (tells s) ts) false) same_talk)
+            ∙ (and_parts (is_up l (fr ∷ es))
+            (unwrap_or (first_of (tells s) (talk o l (fr ∷ es))) false) q).1 in
+            (λ i. (found.0 i && whole_now i) && was i)
 
-          all_rows : same t s ≡ true → (g : List ℕ) (p : Pid) (v : Option ℕ)
-              → seen_frames s g p (wide (Message.Sync t (local_rows h t)) ∷ []) v ≡ Some
-              (own (past o (fr ∷ es)) s g p)
-          all_rows is g p v =
-              message_seen s g p (Message.Sync t (local_rows h t)) (sync_is h node t text) v
-              ∙ ap (λ b. cond b (Some (rows_of g p (local_rows h t))) v) is
-              ∙ ap (λ u. Some (rows_of g p (local_rows h u))) ((same_decides t s).0 is)
-              ∙ ap Some (IsListing.counts (local_rows_are h s) (row g p))
+        synced : (t : List ℕ) → frame_taken o l es body ≡ Some (Message2.Discover t)
+            → first_broken (message_checks h l (Message2.Discover t)) ≡ None
+            → Tells v s (told o l s es) (told o l s (fr ∷ es)) (own h s)
+            (own (past o (fr ∷ es)) s) (message_owes h l (Message2.Discover t))
+        synced t says met =
+            subst (λ fs. Tells v s (told o l s es) (told o l s (fr ∷ es)) (own h s)
+            (own (past o (fr ∷ es)) s) (fs ++ cond (heard o l t es) []
+            (wide (Message.Discover t) ∷ [])))
+            (ap (λ n. said_frames n (Message.Sync t (local_rows h t))) (sym (agrees whole_now)))
+            (by (same t s) refl)
+          where
+            text : IsText t
+            text = scope_text h node t (unbroken (is_running h t)
+                (all_hold (message_checks h l (Message2.Discover t)) met).1.0)
 
-          calm_back : (b : Bool) → AllCalm s (cond b [] (wide (Message.Discover t) ∷ []))
-          calm_back true = tt
-          calm_back false = (asks_calm t text, tt)
+            can : (link_version o l es == 2 || nat_le (length (local_rows h t)) max_rows) ≡ true
+            can = unbroken (link_version o l es == 2 || nat_le (length (local_rows h t)) max_rows)
+                (all_hold (message_checks h l (Message2.Discover t)) met).1.1.0
 
-          by : (b c : Bool) → same t s ≡ c
-              → Tells s (told l s es) (told l s (fr ∷ es)) (own h s) (own (past o (fr ∷ es)) s)
-              (wide (Message.Sync t (local_rows h t)) ∷ cond b [] (wide (Message.Discover t) ∷ []))
-          by b true is = Synced [] (wide (Message.Sync t (local_rows h t)))
-              (cond b [] (wide (Message.Discover t) ∷ [])) refl tt (calm_back b) (all_rows is)
-              (λ left q. sync_no_leave t s (local_rows h t) left
-              (sym (reads (Message.Sync t (local_rows h t)) (sync_is h node t text)) ∙ q))
-          by b false other =
-              Silent (
-                calm_message s (Message.Sync t (local_rows h t)) (sync_is h node t text) other,
-                calm_back b,
-              ) (λ q. (told_now other q, λ g p. refl))
+            told_now : same t s ≡ false → told o l s (fr ∷ es) ≡ true → told o l s es ≡ true
+            told_now other q =
+                grind (
+                  arith,
+                  now_told (Message.Discover t)
+                      (ap (option_and_then (completed (begun o l es))) says),
+                  other,
+                  q,
+                )
 
-      said : (m : Message) → awaits l es ≡ AwaitMessage → message_taken body ≡ Some m
-          → first_broken (message_checks h l m) ≡ None
-          → Tells s (told l s es) (told l s (fr ∷ es)) (own h s) (own (past o (fr ∷ es)) s)
-          (message_owes h l m)
-      said (Message.Discover t) a says met = synced t a says met
-      said m a says met = Silent tt (λ q. (grind (arith, now_told a m says met, q), λ g p. refl))
+            back : (b : Bool) → AllCalm v s (cond b [] (wide (Message.Discover t) ∷ []))
+            back true = (calm_closed v s).nothing
+            back false = calm_asks v s t text
 
-      message : awaits l es ≡ AwaitMessage
-          → first_broken (frame_checks h l body AwaitMessage) ≡ None
-          → Tells s (told l s es) (told l s (fr ∷ es)) (own h s) (own (past o (fr ∷ es)) s)
-          (frame_owes h l body AwaitMessage)
-      message a q = by (message_taken body) refl q
-        where
-          by : (x : Option Message) → message_taken body ≡ x
-              → first_broken (option_map_or (message_checks h l) x (always Rule.BadFrame)) ≡ None
-              → Tells s (told l s es) (told l s (fr ∷ es)) (own h s) (own (past o (fr ∷ es)) s)
-              (option_map_or (message_owes h l) x [])
-          by None says q = lie (ap is_some q)
-          by (Some m) says q = said m a says q
+            all_rows : same t s ≡ true → (g : List ℕ) (p : Pid)
+                → rows_of g p (local_rows h t) ≡ own (past o (fr ∷ es)) s g p
+            all_rows is g p = ap (λ u. rows_of g p (local_rows h u)) ((same_decides t s).0 is)
+                ∙ IsListing.counts (local_rows_are h s) (row g p)
 
-      own_frame : (a : Awaited) → awaits l es ≡ a → Tells s (told l s es) (told l s (fr ∷ es)) (own
+            by : (c : Bool) → same t s ≡ c
+                → Tells v s (told o l s es) (told o l s (fr ∷ es)) (own h s)
+                (own (past o (fr ∷ es)) s) (said_frames v (Message.Sync t (local_rows h t))
+                ++ cond (heard o l t es) [] (wide (Message.Discover t) ∷ []))
+            by true is = Spoke [] PartKind.Sync (local_rows h t)
+                (cond (heard o l t es) [] (wide (Message.Discover t) ∷ []))
+                (ap (λ u. said_frames v (Message.Sync u (local_rows h t))
+                ++ cond (heard o l t es) [] (wide (Message.Discover t) ∷ []))
+                ((same_decides t s).0 is))
+                (calm_closed v s).nothing (back (heard o l t es))
+                (subst (λ u. IsSayable v (Message.Sync u (local_rows h t)))
+                ((same_decides t s).0 is) (sync_is h node l v agrees whole_now t text can))
+                (told_sync v s (told o l s es) (own h s) (own (past o (fr ∷ es)) s)
+                (local_rows h t) (asked_room h node l v agrees whole_now t can) (all_rows is))
+            by false other = Silent ((calm_closed v s).both
+                (said_frames v (Message.Sync t (local_rows h t)))
+                (cond (heard o l t es) [] (wide (Message.Discover t) ∷ []))
+                (calm_message v s (Message.Sync t (local_rows h t))
+                (sync_is h node l v agrees whole_now t text can) other) (back (heard o l t es)))
+                (λ q. (told_now other q, λ g p. refl))
+
+        -- nor does another message
+        others_told : (m : Message2) → frame_taken o l es body ≡ Some m
+            → ((n : Message) → completed (begun o l es) m ≡ Some n
+            → unwrap_or (tells s (Said n)) (told o l s es) ≡ true → told o l s es ≡ true)
+            → told o l s (fr ∷ es) ≡ true → told o l s es ≡ true
+        others_told m says only q = by (completed (begun o l es) m) refl
+          where
+            at_m : said_at o l es body ≡ completed (begun o l es) m
+            at_m = ap (option_and_then (completed (begun o l es))) says
+
+            by : (x : Option Message) → completed (begun o l es) m ≡ x → told o l s es ≡ true
+            by None is = told_on (at_m ∙ is) q
+            by (Some n) is = only n is (sym (now_told n (at_m ∙ is)
+                ∙ ap (λ b. cond b (unwrap_or (tells s (Said n)) (told o l s es)) (told o l s es))
+                (eq-eqb l l refl)) ∙ q)
+
+        said_so : (m : Message2) → frame_taken o l es body ≡ Some m
+            → first_broken (message_checks h l m) ≡ None
+            → Tells v s (told o l s es) (told o l s (fr ∷ es)) (own h s)
+            (own (past o (fr ∷ es)) s) (message_owes h l m)
+        said_so (Message2.Discover t) says met = synced t says met
+        said_so (Message2.Down t) says met = Silent (calm_closed v s).nothing
+            (λ q. (
+              others_told (Message2.Down t) says (λ n is told. grind (arith, is, told)) q,
+              λ g p. refl,
+            ))
+        said_so (Message2.Part kind t number last rows) says met = Silent (calm_closed v s).nothing
+            (λ q. (
+              others_told (Message2.Part kind t number last rows) says
+                  (λ n is now. sym (ap (λ x. unwrap_or x (told o l s es))
+                  (rows_tell_none s (begun o l es) kind t number last rows n is)) ∙ now) q,
+              λ g p. refl,
+            ))
+
+        message : first_broken (frame_checks h l body AwaitMessage) ≡ None
+            → Tells v s (told o l s es) (told o l s (fr ∷ es)) (own h s)
+            (own (past o (fr ∷ es)) s) (frame_owes h l body AwaitMessage)
+        message q = by (frame_taken o l es body) refl q
+          where
+            by : (x : Option Message2) → frame_taken o l es body ≡ x
+                → first_broken (option_map_or (message_checks h l) x (always Rule.BadFrame))
+                ≡ None
+                → Tells v s (told o l s es) (told o l s (fr ∷ es)) (own h s)
+                (own (past o (fr ∷ es)) s) (option_map_or (message_owes h l) x [])
+            by None says q = lie (ap is_some q)
+            by (Some m) says q = said_so m says q
+
+      own_frame : (a : Awaited) → awaits l es ≡ a
+          → Tells v s (told o l s es) (told o l s (fr ∷ es)) (own
           h s) (own (past o (fr ∷ es)) s) (frame_owes h l body a)
       own_frame AwaitMessage is =
           message is (subst (λ x. first_broken (frame_checks h l body x) ≡ None) is found.1)
@@ -247,37 +338,50 @@ module _ (o : Opening) (es : List Entry) (e : Entry) (node : IsNode (past o es))
     frame_tells : TellsOf (Event.Frame k body) (Accepted r)
     frame_tells = by (k == l) refl
       where
-        by : (b : Bool) → (k == l) ≡ b → Tells s (told l s es) (told l s (fr ∷ es)) (own h s) (own
+        by : (b : Bool) → (k == l) ≡ b
+            → Tells v s (told o l s es) (told o l s (fr ∷ es)) (own h s) (own
             (past o (fr ∷ es)) s) (cond b (frame_owes h l body (awaits l es)) [])
         by true is = own_frame (eqb-true k l is) (awaits l es) refl
-        by false other = Silent tt (λ t. (other_told other t, λ g p. refl))
+        by false other =
+            Silent (calm_closed v s).nothing (λ t. (other_told other t, λ g p. refl))
 
   -- ---- every entry
 
-  entry_tells : (ev : Event) (v : Verdict) → IsStep h (but e ev v) → IsWritten ev → TellsOf ev v
+  entry_tells : (ev : Event) (w : Verdict) → IsStep h (but e ev w) → IsWritten ev → TellsOf ev w
   entry_tells ev (Refused r) next text = refused_tells ev r next
   entry_tells (Event.StartScope t) (Accepted r) next text = start_tells t r next text
   entry_tells (Event.StopScope t) (Accepted r) next text = stop_tells t r text
-  entry_tells (Event.Exit x) (Accepted r) next text = exit_tells o es e node l s x r
-  entry_tells (Event.Join t g ps) (Accepted r) next text = join_tells o es e node l s g ps r t next
+  entry_tells (Event.Exit x) (Accepted r) next text = exit_tells o es e node l v agrees s x r
+  entry_tells (Event.Join t g ps) (Accepted r) next text = join_tells o es e node l v agrees s g ps
+      r t next
       text
-  entry_tells (Event.Leave t g ps) (Accepted r) next text = leave_tells o es e node l s g ps r t
+  entry_tells (Event.Leave t g ps) (Accepted r) next text = leave_tells o es e node l v agrees s g
+      ps r t
       text
   entry_tells (Event.Dial n c) (Accepted r) next text = dial_tells n c r next
   entry_tells (Event.Opened c) (Accepted r) next text = opened_tells c r next
   entry_tells (Event.Lost k) (Accepted r) next text =
-      Silent tt (λ t. (was_told (k == l) (is_open l es) (is_whole l es) _ t, λ g p. refl))
+      Silent (calm_closed v s).nothing (λ t. (
+        was_told (k == l) (is_open l es) (is_whole l es) _ t,
+        λ g p. refl,
+      ))
   entry_tells (Event.Disconnect n) (Accepted r) next text =
-      Silent tt (λ t. (was_told _ (is_open l es) (is_whole l es) _ t, λ g p. refl))
+      Silent (calm_closed v s).nothing (λ t. (
+        was_told _ (is_open l es) (is_whole l es) _ t,
+        λ g p.
+            refl,
+      ))
   entry_tells (Event.Frame k body) (Accepted r) next text = frame_tells k body r next
-  entry_tells Event.Restart (Accepted r) next text = Silent tt (λ t. lie (sym t))
-  entry_tells ev (Accepted r) next text = Silent tt (λ t. (t, λ g p. refl))
+  entry_tells Event.Restart (Accepted r) next text = Silent (calm_closed v s).nothing (λ t. lie
+      (sym t))
+  entry_tells ev (Accepted r) next text = Silent (calm_closed v s).nothing (λ t. (t, λ g p. refl))
 
-pub all_tell : (o : Opening) (es : List Entry) → IsNode (past o es) → (l : ℕ) (s : List ℕ)
-    → AllTell o l s es
-all_tell o [] node l s = tt
-all_tell o (e ∷ es) node l s =
+pub all_tell : (o : Opening) (es : List Entry) → IsNode (past o es) → (l v : ℕ)
+    → Speaks o l v es → (s : List ℕ) → AllTell v o l s es
+all_tell o [] node l v speaks s = tt
+all_tell o (e ∷ es) node l v speaks s =
     let before = node_before o e es node in (
-      entry_tells o es e before l s e.event e.verdict node.legal.0 node.written.0,
-      all_tell o es before l s,
+      entry_tells o es e before l v (speaks_now o l v es speaks.1) s e.event e.verdict
+          node.legal.0 node.written.0,
+      all_tell o es before l v speaks.1 s,
     )

@@ -1,15 +1,19 @@
 -- What an honest node says on a link, over which it is heard, is not refused.
 use Rattle.frame_laws.proofs
-use proofs.Words.{max_rows, and_parts, ap, AreFrom, AreStated, arith, Bool, but, cond, delivered}
-use proofs.Words.{Entry, Event, false, has_rows, HasRoom, heard, HeardIsSaid, History}
-use proofs.Words.{is_about_rows, is_accepted, is_from, IsGiven, IsHonest, IsPlayedIn}
-use proofs.Words.{IsStep, length, lie, List, list_all, MaySay, Message, message_taken, None}
-use proofs.Words.{occurrences, Opening, Option, option_map, option_map_or, option_to_list}
-use proofs.Words.{past, Pid, refl, Refused, Row, rows_in, rows_of, Rule, same, same_decides}
-use proofs.Words.{same_row, same_sym, says_rows, scope_of, seen_by, slice_get, Some, stated, subst}
-use proofs.Words.{sym, take, true, view_of, ℕ, [], ◌&&◌, ◌++◌, ◌+◌, ◌==◌, ◌∙◌, ◌∷◌, ◌≡◌, ◌≤◌}
-use proofs.Accepting.{admits}
-use proofs.Bodies.{stands_last, take_all, take_last, view_more}
+use proofs.Words.{and_parts, ap, AreFrom, AreInOrder, AreThere, arith, Begun, begun}
+use proofs.Words.{begun_of, Bool, but, comes_next, cond, delivered, Entry, Event, false}
+use proofs.Words.{fewer_length, follows, frame_taken, frames_said, heard, History}
+use proofs.Words.{is_accepted, is_from, is_next, is_running, is_up, is_visible, IsFew}
+use proofs.Words.{IsGiven, IsHonest, IsPlayedIn, IsStep, judgement, last_in_order, length, lie}
+use proofs.Words.{limit, link_version, List, list_all, MaySay, MaySaySoFar, Message}
+use proofs.Words.{message_taken, Message2, None, Opening, Option}
+use proofs.Words.{option_map_or, option_to_list, PartKind, past, peer_limit, Pid, refl, Refused}
+use proofs.Words.{Row}
+use proofs.Words.{rows_before, rows_of, Rule, same, same_decides, same_row, same_row_decides}
+use proofs.Words.{same_sym, seen, slice_get, so_far, so_far_behind, Some, stated, subst, sym}
+use proofs.Words.{true, view_of, ℕ, [], ◌&&◌, ◌++◌, ◌+◌, ◌==◌, ◌||◌, ◌∙◌, ◌∷◌, ◌≡◌}
+use proofs.Accepting.{admits, heard_met, sync_met}
+use proofs.Bodies.{frames_more, stands_last, take_all}
 
 -- processes of the name and the creation that the peer has given are from it
 module _ (o : Opening) (es : List Entry) (l : ℕ) (name : List ℕ) (creation : ℕ)
@@ -33,97 +37,185 @@ module _ (o : Opening) (es : List Entry) (l : ℕ) (name : List ℕ) (creation :
       (list_all (λ x. same x.pid.node name && x.pid.creation == creation) rows) q in
       (λ i. one_from r.pid both.0 i && all_from rows both.1 i)
 
-module _ (o : Opening) (es : List Entry) (e : Entry) (legal : IsPlayedIn o es) (l : ℕ)
-    (s : List ℕ) where
+-- what is kept is of s
+abbrev pub kept_of : List ℕ → Option Begun → Bool
+kept_of s b = option_map_or (λ x. same x.scope s) b false
+
+-- a part may come where r is kept as where b is, with the same rows before it
+pub record IsInStep (r b : Option Begun) (kind : PartKind) (s : List ℕ) (number : ℕ) : Type 0 where
+  pub next : is_next r kind s number ≡ true
+  pub before : rows_before r kind s number ≡ rows_before b kind s number
+
+pub in_step : (r b : Option Begun) (kind : PartKind) (s : List ℕ) (number : ℕ) (last : Bool)
+    (rows : List Row) → comes_next b (Message2.Part kind s number last rows) ≡ true
+    → (kept_of s b ≡ true → r ≡ b) → IsInStep r b kind s number
+in_step r b kind s number last rows comes alike = by (number == 1) refl b refl comes
+  where
+    by : (one : Bool) → (number == 1) ≡ one → (c : Option Begun) → b ≡ c
+        → comes_next c (Message2.Part kind s number last rows) ≡ true → IsInStep r b kind s number
+    by true first c is comes = record {
+      next = ap (λ x. x || option_map_or (follows kind s number) r false) first;
+      before = ap (λ x. cond x [] (option_map_or
+          (λ y. cond (follows kind s number y) y.rows []) r [])) first
+          ∙ sym (ap (λ x. cond x [] (option_map_or
+          (λ y. cond (follows kind s number y) y.rows []) b [])) first);
+    }
+    by false later None is comes = lie (sym comes ∙ later)
+    by false later (Some k) is comes =
+        let parts = and_parts _ _ comes in
+        let same_scope = (and_parts (same k.scope s) _ parts.1).0 in
+        let same_kept = alike (ap (kept_of s) is ∙ same_scope) in
+        record {
+          next = (λ i. later i || option_map_or (follows kind s number) ((same_kept ∙ is) i) false)
+              ∙ comes;
+          before = ap (λ x. rows_before x kind s number) same_kept;
+        }
+
+module _ (v : ℕ) (o : Opening) (es : List Entry) (e : Entry) (legal : IsPlayedIn o es) (l : ℕ)
+    (s : List ℕ) (up : is_up l es ≡ true) (agrees : link_version o l es ≡ v) where
   abbrev h : History
   h = past o es
 
   abbrev bodies : List (List ℕ)
   bodies = delivered l es
 
-  module _ (name : List ℕ) (creation : ℕ) (gave : IsGiven l name creation es) where
-    module _ (body : List ℕ) (honest : IsHonest name creation s (bodies ++ body ∷ []))
-        (it : HeardIsSaid h l s) where
-      here : slice_get (bodies ++ body ∷ []) (length bodies) ≡ Some body
-      here = stands_last bodies body
+  room_is : peer_limit h l ≡ limit v
+  room_is = ap limit agrees
 
-      rows_from : (m : Message) → message_taken body ≡ Some m → AreFrom h l (rows_in m)
-      rows_from m says = all_from o es l name creation gave (rows_in m)
-          (honest.own (length bodies) body m here says)
+  module _ (name : List ℕ) (creation : ℕ) (gave : IsGiven l name creation es) (body : List ℕ)
+      (honest : IsHonest v name creation s (bodies ++ body ∷ [])) where
+    here : slice_get (bodies ++ body ∷ []) (length bodies) ≡ Some body
+    here = stands_last bodies body
 
-      room_for : (rows : List Row) → message_taken body ≡ Some (Message.Join s rows)
-          → HasRoom h l s rows
-      room_for rows says = record { all = it_has.0; counts = counts; room = it_has.2 }
-        where
-          says_so : has_rows s body ≡ true
-          says_so = ap (λ x. option_map_or (says_rows s) x false) says ∙ (same_decides s s).1 refl
+    -- the next message stands right behind what came
+    pub comes : (f : Message2) → message_taken v body ≡ Some f
+        → comes_next (begun_of v bodies) f ≡ true
+    comes f says = last_in_order None (frames_said v bodies) f
+        (subst (AreInOrder None) (frames_more v bodies body
+        ∙ ap (λ x. frames_said v bodies ++ option_to_list x) says) honest.order)
 
-          it_has : (all : List Row)
-              × ((g : List ℕ) (p : Pid)
-              → view_of s g p (take (length bodies + 1) (bodies ++ body ∷ [])) ≡ Some
-              (rows_of g p all)) × (length all ≤ max_rows)
-          it_has = honest.few (length bodies) body here says_so
+    module _ (kind : PartKind) (number : ℕ) (last : Bool) (rows : List Row)
+        (says : message_taken v body ≡ Some (Message2.Part kind s number last rows))
+        (step : IsInStep (begun o l es) (begun_of v bodies) kind s number) where
+      abbrev all_rows : List Row
+      all_rows = so_far h l kind s number rows
 
-          added : (n m k : ℕ) → Some k ≡ cond (same s s) (option_map (λ x. x + m) (Some n)) (Some n)
-              → k ≡ n + m
-          added n m k q = grind (arith, q, same_decides s s)
+      rows_are : so_far_behind v bodies kind s number rows ≡ all_rows
+      rows_are = ap (λ xs. xs ++ rows) (sym step.before)
 
-          counts : (r : Row) → occurrences same_row r it_has.0 ≡ stated l s r.group r.pid
-              es + rows_of r.group r.pid rows
-          counts r = added (stated l s r.group r.pid es) (rows_of r.group r.pid rows)
-              (rows_of r.group r.pid it_has.0)
-              (sym (it_has.1 r.group r.pid) ∙ ap (view_of s r.group r.pid) (take_last bodies body)
-              ∙ view_more s r.group r.pid bodies body
-              ∙ (λ i. seen_by s r.group r.pid (option_to_list (says i)) (it.now r.group r.pid i)))
+      rows_from : AreFrom h l rows
+      rows_from = all_from o es l name creation gave rows
+          (honest.own (length bodies) body (Message2.Part kind s number last rows) here says)
 
-      stated_there : (rows : List Row) → message_taken body ≡ Some (Message.Leave s rows)
-          → AreStated h l s rows
-      stated_there rows says r =
-          let was = honest.there (length bodies) body rows here says r.group r.pid in
-          let same_number = number was.0 (stated l s r.group r.pid es) (sym was.1
-          ∙ ap (view_of s r.group r.pid) (take_all bodies body) ∙ it.now r.group r.pid) in
-          let less = was.2 in
-          omega (arith, same_number, less)
-        where
-          number : (n m : ℕ) → Some n ≡ Some m → n ≡ m
-          number n m q = (cc)
+      room : IsFew v s (λ g p. view_of v s g p bodies) kind all_rows
+      room = subst (IsFew v s (λ g p. view_of v s g p bodies) kind) rows_are
+          (subst (λ bs. IsFew v s (λ g p. view_of v s g p bs) kind
+          (so_far_behind v bs kind s number rows)) (take_all bodies body)
+          (honest.few (length bodies) body here kind number last rows says))
 
-      may_say : (m : Message) → message_taken body ≡ Some m → scope_of m ≡ s → MaySay h l m
-      may_say (Message.Discover t) says is = tt
-      may_say (Message.Down t) says is = tt
-      may_say (Message.Sync t rows) says is = rows_from (Message.Sync t rows) says
-      may_say (Message.Join t rows) says is = (
-        rows_from (Message.Join t rows) says,
-        subst (λ u. HasRoom h l u rows) (sym is)
-            (room_for rows (says ∙ ap (λ u. Some (Message.Join u rows)) is)),
-      )
-      may_say (Message.Leave t rows) says is = (
-        rows_from (Message.Leave t rows) says,
-        subst (λ u. AreStated h l u rows) (sym is)
-            (stated_there rows (says ∙ ap (λ u. Some (Message.Leave u rows)) is)),
-      )
+      may_if : MaySaySoFar h l kind s all_rows → MaySay h l (Message2.Part kind s number last rows)
+      may_if may = (step.next, rows_from, may)
 
-      scope_is : (m : Message) → is_about_rows s (Some m) ≡ true → scope_of m ≡ s
-      scope_is (Message.Discover t) q = cc
-      scope_is (Message.Sync t rows) q = (same_decides t s).0 q
-      scope_is (Message.Join t rows) q = (same_decides t s).0 q
-      scope_is (Message.Leave t rows) q = (same_decides t s).0 q
-      scope_is (Message.Down t) q = (same_decides t s).0 q
+    -- as many rows as a Sync says
+    synced_number : (g : List ℕ) (p : Pid) (rows : List Row) (x : Option ℕ) (n : ℕ)
+        → seen s g p (Message.Sync s rows) x ≡ Some n → n ≡ rows_of g p rows
+    synced_number g p rows x n q = grind (arith, q, same_decides s s)
 
-      -- so a refused body isn't about rows of s
-      pub not_about : (r : Rule) → IsStep h (but e (Event.Frame l body) (Refused r))
-          → heard l s es ≡ true → is_about_rows s (message_taken body) ≡ false
-      not_about r next hears = by (message_taken body) refl
-        where
-          about : (m : Message) → message_taken body ≡ Some m → (b : Bool)
-              → is_about_rows s (Some m) ≡ b → is_about_rows s (Some m) ≡ false
-          about m says false q = q
-          about m says true q =
-              let is = scope_is m q in
-              lie (sym (admits h legal l s hears e.seat body m says is (may_say m says is))
-              ∙ ap is_accepted (sym next.judged))
+    may_sync : (rows : List Row) → IsFew v s (λ g p. view_of v s g p bodies) PartKind.Sync rows
+        → MaySaySoFar h l PartKind.Sync s rows
+    may_sync rows few =
+        let fewer = fewer_length same_row same_row_decides rows few.0
+        (λ r. (let it = few.1 r.group r.pid in
+        let is = synced_number r.group r.pid rows (view_of v s r.group r.pid bodies) it.0 it.1 in
+        let low = it.2 in omega (arith, is, low))) in
+        let most = few.2 in
+        let limit_is = room_is in
+        omega (arith, fewer, most, limit_is)
 
-          by : (x : Option Message) → message_taken body ≡ x
-              → is_about_rows s (message_taken body) ≡ false
-          by None is = ap (is_about_rows s) is
-          by (Some m) is = ap (is_about_rows s) is ∙ about m is (is_about_rows s (Some m)) refl
+    -- while it is heard so, with what it has stated
+    module _ (now : (g : List ℕ) (p : Pid)
+        → view_of v s g p bodies ≡ Some (stated o l s g p es)) where
+      joined_number : (g : List ℕ) (p : Pid) (rows : List Row) (n m : ℕ)
+          → seen s g p (Message.Join s rows) (Some m) ≡ Some n → n ≡ m + rows_of g p rows
+      joined_number g p rows n m q = grind (arith, q, same_decides s s)
+
+      may_join : (rows : List Row) → IsFew v s (λ g p. view_of v s g p bodies) PartKind.Join rows
+          → MaySaySoFar h l PartKind.Join s rows
+      may_join rows few = record {
+        all = few.0;
+        counts = λ r. (let it = few.1 r.group r.pid in
+            let is = joined_number r.group r.pid rows it.0 (stated o l s r.group r.pid es)
+            (sym (ap (seen s r.group r.pid (Message.Join s rows)) (now r.group r.pid)) ∙ it.1) in
+            let low = it.2 in omega (arith, is, low));
+        room = (let most = few.2 in let limit_is = room_is in omega (arith, most, limit_is));
+      }
+
+      number_of : (n m : ℕ) → Some n ≡ Some m → n ≡ m
+      number_of n m q = (cc)
+
+      may_leave : (rows : List Row) → AreThere (λ g p. view_of v s g p bodies) rows
+          → MaySaySoFar h l PartKind.Leave s rows
+      may_leave rows there r =
+          let it = there r.group r.pid in
+          let is = number_of it.0 (stated o l s r.group r.pid es)
+          (sym it.1 ∙ now r.group r.pid) in
+          let less = it.2 in
+          omega (arith, is, less)
+
+      may_say : (kind : PartKind) (number : ℕ) (last : Bool) (rows : List Row)
+          → message_taken v body ≡ Some (Message2.Part kind s number last rows)
+          → IsInStep (begun o l es) (begun_of v bodies) kind s number
+          → MaySay h l (Message2.Part kind s number last rows)
+      may_say PartKind.Sync number last rows says step =
+          may_if PartKind.Sync number last rows says step
+          (may_sync (so_far h l PartKind.Sync s number rows)
+          (room PartKind.Sync number last rows says step))
+      may_say PartKind.Join number last rows says step =
+          may_if PartKind.Join number last rows says step
+          (may_join (so_far h l PartKind.Join s number rows)
+          (room PartKind.Join number last rows says step))
+      may_say PartKind.Leave number last rows says step =
+          may_if PartKind.Leave number last rows says step
+          (may_leave (so_far h l PartKind.Leave s number rows)
+          (subst (AreThere (λ g p. view_of v s g p bodies))
+          (rows_are PartKind.Leave number last rows says step)
+          (subst (λ bs. AreThere (λ g p. view_of v s g p bs)
+          (so_far_behind v bs PartKind.Leave s number rows)) (take_all bodies body)
+          (honest.there (length bodies) body here number last rows says))))
+
+    taken_there : (f : Message2) → message_taken v body ≡ Some f → frame_taken o l es body ≡ Some f
+    taken_there f says = ap (λ n. message_taken n body) agrees ∙ says
+
+    never : (r : Rule) → IsStep h (but e (Event.Frame l body) (Refused r))
+        → is_accepted (judgement h e.seat (Event.Frame l body)) ≡ true → true ≡ false
+    never r next accepts = sym accepts ∙ ap is_accepted (sym next.judged)
+
+    -- so a part of s is not refused while it is heard
+    pub heard_never : ((g : List ℕ) (p : Pid) → view_of v s g p bodies ≡ Some (stated o l s g p es))
+        → heard o l s es ≡ true → (kept_of s (begun_of v bodies) ≡ true
+        → begun o l es ≡ begun_of v bodies)
+        → (kind : PartKind) (number : ℕ) (last : Bool) (rows : List Row)
+        → message_taken v body ≡ Some (Message2.Part kind s number last rows)
+        → (r : Rule) → IsStep h (but e (Event.Frame l body) (Refused r)) → true ≡ false
+    heard_never now hears alike kind number last rows says r next =
+        let f = Message2.Part kind s number last rows in
+        let step = in_step (begun o l es) (begun_of v bodies) kind s number last rows
+        (comes f says) alike in
+        never r next (admits h legal l up e.seat body f (taken_there f says)
+        (heard_met h legal l s hears f refl (may_say now kind number last rows says step)))
+
+    -- nor is a part of a Sync that goes on
+    pub sync_never : is_visible h l ≡ true → is_running h s ≡ true
+        → (kept_of s (begun_of v bodies) ≡ true → begun o l es ≡ begun_of v bodies)
+        → (number : ℕ) (last : Bool) (rows : List Row)
+        → message_taken v body ≡ Some (Message2.Part PartKind.Sync s number last rows)
+        → (r : Rule) → IsStep h (but e (Event.Frame l body) (Refused r)) → true ≡ false
+    sync_never shown runs alike number last rows says r next =
+        let f = Message2.Part PartKind.Sync s number last rows in
+        let step = in_step (begun o l es) (begun_of v bodies) PartKind.Sync s number last rows
+        (comes f says) alike in
+        never r next (admits h legal l up e.seat body f (taken_there f says)
+        (sync_met h legal l s shown runs number last rows
+        (may_if PartKind.Sync number last rows says step
+        (may_sync (so_far h l PartKind.Sync s number rows)
+        (room PartKind.Sync number last rows says step)))))

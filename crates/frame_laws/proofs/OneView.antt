@@ -1,7 +1,7 @@
 -- What one node hears of another is its own rows at one moment.
 use Rattle.frame_laws.proofs
 use proofs.Numbers.{moment_low}
-use proofs.Words.{entered}
+use proofs.Words.{ends_rows, entered, Speaks}
 use proofs.Words.{AllByRecursion, and_false, and_parts, ap, arith, bodies_of, Bool, cond, creation}
 use proofs.Words.{delivered, Falls, false, foreign_own, has_rows, HasGiven, heard, HeardIsSaid}
 use proofs.Words.{HearsMoment, Hello, History, is_from, is_local, is_open, is_peer, is_whole}
@@ -30,34 +30,39 @@ same_number : (n m : ℕ) → Some n ≡ Some m → n ≡ m
 same_number n m q = (cc)
 
 -- each place in a list has an element
-element : {A : Type 0} (xs : List A) (n : ℕ) → n < length xs → (x : A) × (slice_get xs n ≡ Some x)
+pub element : {A : Type 0} (xs : List A) (n : ℕ) → n < length xs → (x : A) × (slice_get xs n ≡ Some
+    x)
 element [] n less = grind arith
 element (x ∷ xs) zero less = (x, refl)
 element (x ∷ xs) (suc n) less = element xs n (omega (arith, less))
 
 -- what says rows is a message
-is_wide : (s : List ℕ) (f : OutFrame) → SaysOne f → has_rows s f.body ≡ true → f.wide ≡ true
-is_wide s f (Hello narrow none) has = grind arith
-is_wide s f (Means m within is says) has = cc
+is_wide : (v : ℕ) (s : List ℕ) (f : OutFrame) → SaysOne v f → has_rows v s f.body ≡ true
+    → f.wide ≡ true
+is_wide v s f (Hello narrow none) has =
+    lie (sym has ∙ ap (λ x. option_map_or (ends_rows s) x false) none)
+is_wide v s f (Means m wide says) has = wide
 
 -- what is stated, before what is listed
 record StatesMoment (A : History) (a : ℕ) (B : History) (b : ℕ) (s : List ℕ) : Type 0 where
   place : ℕ
   earlier : List ℕ
   source : ℕ
-  last : told_rows b s B.entries ≡ place ∷ earlier
+  last : told_rows B.opening b s B.entries ≡ place ∷ earlier
   is_source : source_at place (out A a) ≡ Some source
   in_order : AllByRecursion (λ n. (k : ℕ) × (source_at n (out A a) ≡ Some k) × (k ≤ source)) earlier
   proved : IsProvedLink (moment source A) a
-  rows : (g : List ℕ) (p : Pid) → stated b s g p B.entries ≡ own (moment source A) s g p
+  rows : (g : List ℕ) (p : Pid) → stated B.opening b s g p B.entries ≡ own (moment source A) s g p
 
-module _ (A : History) (node : IsNode A) (a : ℕ) (B : History) (legal : IsPlayed B) (b : ℕ)
-    (s : List ℕ) (hears : heard b s B.entries ≡ true)
+module _ (v : ℕ) (A : History) (node : IsNode A) (a : ℕ) (B : History) (legal : IsPlayed B)
+    (b : ℕ) (s : List ℕ) (there : Speaks A.opening a v A.entries)
+    (here : Speaks B.opening b v B.entries)
+    (hears : heard B.opening b s B.entries ≡ true)
     (gives : HasGiven b A.opening.name (creation (moment a A)) B.entries) where
   -- where the link has stated all own rows of a moment, as many are listed
   module _ (K : History) (same_opening : K.opening ≡ A.opening) (legal_so : IsPlayed K)
       (creation_is : creation K ≡ creation (moment a A)) (rows : (g : List ℕ) (p : Pid)
-      → stated b s g p B.entries ≡ own K s g p)
+      → stated B.opening b s g p B.entries ≡ own K s g p)
       (g : List ℕ) (p : Pid) (its_node : same p.node A.opening.name ≡ true) where
     gave : IsGiven b A.opening.name (creation (moment a A)) B.entries
     gave = given_here b A.opening.name (creation (moment a A)) B.entries gives
@@ -80,21 +85,22 @@ module _ (A : History) (node : IsNode A) (a : ℕ) (B : History) (legal : IsPlay
       where
         by : (c : Bool) → is_from b B.entries p ≡ c → listed B s g p ≡ own K s g p
         by true from = listed_is B legal b s hears p its g
-            ∙ ap (λ c. cond c (stated b s g p B.entries) 0) from ∙ rows g p
+            ∙ ap (λ c. cond c (stated B.opening b s g p B.entries) 0) from ∙ rows g p
         by false apart = listed_is B legal b s hears p its g
-            ∙ ap (λ c. cond c (stated b s g p B.entries) 0) apart ∙ sym
+            ∙ ap (λ c. cond c (stated B.opening b s g p B.entries) 0) apart ∙ sym
             (foreign_own K legal_so s g p (foreign (p.creation == creation K) refl apart))
 
   module _ (later : List (List ℕ)) (carried : delivered b B.entries ++ later ≡ bodies_of
       (out A a)) where
-    it : HeardIsSaid B b s
-    it = heard_said B.opening B.entries legal b s A.opening.name (creation (moment a A))
-        (honest_first A.opening.name (creation (moment a A)) s (delivered b B.entries) later
-        (subst (IsHonest A.opening.name (creation (moment a A)) s) (sym carried)
-        (node_honest A node a s))) gives hears
+    it : HeardIsSaid v B b s
+    it = heard_said v B.opening B.entries legal b here s A.opening.name (creation (moment a A))
+        (honest_first v A.opening.name (creation (moment a A)) s (delivered b B.entries) later
+        (subst (IsHonest v A.opening.name (creation (moment a A)) s) (sym carried)
+        (node_honest A node a v there s))) gives hears
 
-    passed : PassesThrough A a s
-    passed = passes A.opening a s A.entries node.legal (all_tell A.opening A.entries node a s)
+    passed : PassesThrough v A a s
+    passed = passes v A.opening a s A.entries node there
+        (all_tell A.opening A.entries node a v there s)
 
     -- a body that came is that of a frame owed
     owed_at : (n : ℕ) (body : List ℕ) → slice_get (delivered b B.entries) n ≡ Some body
@@ -118,9 +124,9 @@ module _ (A : History) (node : IsNode A) (a : ℕ) (B : History) (legal : IsPlay
       in_order = ordered it.earlier falls.0 (told_below it.earlier falls.0);
       proved = (holds_then A.opening a (IsSaidUp a) A.entries node.legal
           (all_said_up A.opening A.entries node.legal a) it.place x stands).holds
-          (is_wide s x.frame (holds_then A.opening a IsSaid A.entries node.legal
-          (all_said A.opening A.entries node a) it.place x stands).holds says);
-      rows = λ g p. same_number (stated b s g p B.entries) (own (moment x.source A) s g p)
+          (is_wide v s x.frame (holds_then A.opening a (IsSaid v) A.entries node.legal
+          (all_said A.opening A.entries node a v there) it.place x stands).holds says);
+      rows = λ g p. same_number (stated B.opening b s g p B.entries) (own (moment x.source A) s g p)
           (sym (it.behind g p) ∙ up_to g p ∙ passed.moments it.place x stands says g p);
     }
       where
@@ -133,14 +139,14 @@ module _ (A : History) (node : IsNode A) (a : ℕ) (B : History) (legal : IsPlay
         stands : slice_get (out A a) it.place ≡ Some frame.owing
         stands = frame.stands
 
-        says : has_rows s frame.owing.frame.body ≡ true
+        says : has_rows v s frame.owing.frame.body ≡ true
         says = grind (arith, it.rows)
 
         less : it.place < length (delivered b B.entries)
         less = grind (arith, slice_get_within)
 
         up_to : (g : List ℕ) (p : Pid)
-            → view_of s g p (take (it.place + 1) (delivered b B.entries)) ≡ view_of s g p
+            → view_of v s g p (take (it.place + 1) (delivered b B.entries)) ≡ view_of v s g p
             (bodies_of (take (it.place + 1) (out A a)))
         up_to g p = grind (
           arith,
@@ -149,7 +155,7 @@ module _ (A : History) (node : IsNode A) (a : ℕ) (B : History) (legal : IsPlay
         )
 
         falls : Falls (it.place ∷ it.earlier)
-        falls = subst Falls it.last (told_fall b s B.entries).falls
+        falls = subst Falls it.last (told_fall B.opening b s B.entries).falls
 
         told_below : (ns : List ℕ) → AllByRecursion (λ n. n < it.place) ns
             → AllByRecursion (λ n. n < length (delivered b B.entries)) ns
@@ -217,20 +223,20 @@ module _ (A : History) (node : IsNode A) (a : ℕ) (B : History) (legal : IsPlay
     }
 
   -- where all that is owed came, and the peer is told, they are the rows of now
-  pub hears_now : delivered b B.entries ≡ bodies_of (out A a) → told a s A.entries ≡ true
-      → (g : List ℕ) (p : Pid) → stated b s g p B.entries ≡ own A s g p
+  pub hears_now : delivered b B.entries ≡ bodies_of (out A a) → told A.opening a s A.entries ≡ true
+      → (g : List ℕ) (p : Pid) → stated B.opening b s g p B.entries ≡ own A s g p
   hears_now all tells g p =
       grind (
         arith,
-        heard_said B.opening B.entries legal b s A.opening.name (creation (moment a A))
-            (subst (IsHonest A.opening.name (creation (moment a A)) s) (sym all)
-            (node_honest A node a s)) gives hears,
+        heard_said v B.opening B.entries legal b here s A.opening.name (creation (moment a A))
+            (subst (IsHonest v A.opening.name (creation (moment a A)) s) (sym all)
+            (node_honest A node a v there s)) gives hears,
         same_number,
-        PassesThrough.now (passes A.opening a s A.entries node.legal
-            (all_tell A.opening A.entries node a s)) tells g p,
+        PassesThrough.now (passes v A.opening a s A.entries node there
+            (all_tell A.opening A.entries node a v there s)) tells g p,
       )
 
-  pub listed_now : delivered b B.entries ≡ bodies_of (out A a) → told a s A.entries ≡ true
+  pub listed_now : delivered b B.entries ≡ bodies_of (out A a) → told A.opening a s A.entries ≡ true
       → (g : List ℕ) (p : Pid) → same p.node A.opening.name ≡ true → listed B s g p ≡ own A s g p
   listed_now all tells g p its_node = lists_all A refl node.legal
       (same_creation A.opening A.entries node.legal a opens) (hears_now all tells) g p its_node

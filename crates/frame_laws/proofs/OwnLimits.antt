@@ -1,12 +1,12 @@
 -- Own rows and running scopes are within the limits of messages.
 use Rattle.frame_laws.proofs
 use proofs.Numbers.{entered_more, entered_next}
-use proofs.Words.{entered, few_local, IsNumbered, judgement}
-use proofs.Words.{max_rows, Accepted, accepted, All-from_recursion, all_hold, AllByRecursion}
-use proofs.Words.{and_parts, AreRows, arith, Bool, but, checks, cond, creation, Entry, eqb-false}
+use proofs.Words.{entered, IsNumbered, judgement}
+use proofs.Words.{Accepted, accepted, all_hold, AllByRecursion}
+use proofs.Words.{and_parts, arith, Bool, but, checks, cond, creation, Entry, eqb-false}
 use proofs.Words.{eqb-true, Event, events, false, foreign_own, History, is_among, is_local}
 use proofs.Words.{is_running, IsPlayedIn, IsListing, IsNode, IsNodeName, IsRow, IsText, IsWritten}
-use proofs.Words.{join_checks, joined, leb-true, length, lie, List, list_all, lives, local_rows}
+use proofs.Words.{join_checks, joined, leb-true, lie, List, list_all, lives, local_rows}
 use proofs.Words.{local_rows_are, mentions, occurrences, Opening, own, past, Pid, refl, Refused}
 use proofs.Words.{Reply, Row, row, running_among, running_scopes, same, same_decides, same_pid}
 use proofs.Words.{same_pid_decides, same_row, same_row_decides, spawned, subst, sym, true, unbroken}
@@ -217,11 +217,3 @@ module _ (h : History) (node : IsNode h) where
   pub own_rows : (s : List ℕ) → AllByRecursion IsRow (local_rows h s)
   own_rows s = all_counted IsRow (local_rows h s) (λ r some. own_row s r.group r.pid
       (let is = IsListing.counts (local_rows_are h s) r in omega (arith, is, some)))
-
-  -- rows that are few
-  pub are_rows : (rows : List Row) → length rows ≤ max_rows → AllByRecursion IsRow rows
-      → AreRows rows
-  are_rows rows few each = record { count = few; each = All-from_recursion IsRow rows each }
-
-  pub local_are : (s : List ℕ) → AreRows (local_rows h s)
-  local_are s = are_rows (local_rows h s) (few_local h node.legal s) (own_rows s)

@@ -1,101 +1,103 @@
 -- What a Join, a Leave and an Exit say of a scope to a link.
 use Rattle.frame_laws.proofs
-use proofs.Words.{max_rows, Accepted, accepted, all_append, all_hold, AllByRecursion, ap, apart}
-use proofs.Words.{append-nil, append_assoc, arith, Bool, but, cond, Entry, entry_exited}
-use proofs.Words.{entry_joined, entry_left, Event, false, filter, flat_map, History, if_told}
-use proofs.Words.{is_about_rows, is_among, is_empty, is_running, IsListing, IsMessage, IsStep}
-use proofs.Words.{IsNode, IsText, IsWritten, join_checks, leb-true, length, Less, lie, List}
-use proofs.Words.{list_all, lives, local_rows, local_rows_are, Message, nat_le, not, occurrences}
-use proofs.Words.{Opening, OutFrame, own, past, Pid, refl, Reply, Rises, Row, row, rows_of}
-use proofs.Words.{running_among, running_rises, running_scopes, same, same_decides, same_pid}
-use proofs.Words.{same_pid_decides, same_row, same_row_decides, same_sym, seen, Some, subst, sym}
-use proofs.Words.{text_cmp, told, told_runs, true, unbroken, Verdict, wide, ℕ, [], ◌++◌, ◌+◌, ◌-◌}
-use proofs.Words.{◌||◌, ◌∙◌, ◌∷◌, ◌≡◌, ◌≤◌}
-use proofs.Calm.{message_seen, AllCalm, IsCalm, calm_message}
-use proofs.Handshakes.{reads}
+use proofs.Words.{Accepted, accepted, all_hold, AllByRecursion, ap, append-nil}
+use proofs.Words.{append_assoc, apart, arith, Bool, but, cond, Entry, entry_exited, entry_joined}
+use proofs.Words.{entry_left, Event, false, filter, flat_map, frames_to, History, if_told}
+use proofs.Words.{is_about_rows, is_among, is_empty, is_running, is_whole, IsListing, IsNode}
+use proofs.Words.{IsStep, IsText, IsWritten, join_checks, leb-true, length, Less, lie, link_version}
+use proofs.Words.{List, list_all, lives, local_rows, local_rows_are, Message, message_of, nat_le}
+use proofs.Words.{not, occurrences, Opening, OutFrame, own, own_limit, PartKind, past, Pid, refl}
+use proofs.Words.{Reply, Rises, Row, row, rows_of, running_among, running_rises, running_scopes}
+use proofs.Words.{said_frames, same, same_decides, same_pid, same_pid_decides, same_row}
+use proofs.Words.{same_row_decides, same_sym, Some, subst, sym, text_cmp, told, told_runs, true}
+use proofs.Words.{unbroken, Verdict, ℕ, [], ◌++◌, ◌+◌, ◌-◌, ◌||◌, ◌∙◌, ◌∷◌, ◌≡◌, ◌≤◌}
+use proofs.Calm.{AllCalm, calm_closed, calm_message}
 use proofs.OwnLimits.{scope_text, scopes_text}
-use proofs.Spoken.{join_rows, leave_rows, exit_rows, join_listing, leave_listing, join_is, leave_is}
-use proofs.Spoken.{exit_is}
-use proofs.Telling.{Tells, Silent, Moved, EntryTells}
+use proofs.Telling.{EntryTells, IsTold, Silent, Spoke, Tells, told_join, told_leave}
+use proofs.Sayable.{IsSayable}
+use proofs.OwnMessages.{exit_is, exit_rows, join_few, join_is, join_listing, join_rows, leave_is}
+use proofs.OwnMessages.{leave_listing, leave_rows, own_room, told_room, told_whole}
 
 -- ---- the part of one scope: rows to a peer that is told, among calm frames
 
-module _ (h : History) (l : ℕ) (s : List ℕ) (was now : List ℕ → Pid → ℕ) (say : List Row → Message)
-    (rows : List Row) (is : is_empty rows ≡ false → IsMessage (say rows))
-    (stays : is_empty rows ≡ true → (g : List ℕ) (p : Pid) → now g p ≡ was g p)
-    (moves : (g : List ℕ) (p : Pid) → seen s g p (say rows) (Some (was g p)) ≡ Some (now g p))
-    (there : (left : List Row) → Some (say rows) ≡ Some (Message.Leave s left)
-    → (g : List ℕ) (p : Pid) → rows_of g p left ≤ was g p) where
-  part_tells : (front back fs : List OutFrame) → fs ≡ front ++ (if_told h l s say rows ++ back)
-      → AllCalm s front → AllCalm s back
-      → Tells s (told l s h.entries) (told l s h.entries) was now fs
-  part_tells front back fs whole early late = by (told l s h.entries) refl (is_empty rows) refl
-    where
-      none : if_told h l s say rows ≡ [] → AllCalm s fs
-      none empty = subst (AllCalm s) (sym (whole ∙ ap (λ x. front ++ (x ++ back)) empty))
-          (all_append (IsCalm s) front back early late)
+module _ (h : History) (node : IsNode h) (l v : ℕ)
+    (agrees : is_whole l h.entries ≡ true → link_version h.opening l h.entries ≡ v)
+    (s : List ℕ) where
+  -- while the peer is told, it is told in this version
+  told_frames : (m : Message) → told h.opening l s h.entries ≡ true
+      → frames_to h l m ≡ said_frames v m
+  told_frames m tells = ap (λ n. said_frames n m) (agrees (told_whole h node l v agrees s tells))
 
-      unless_told : told l s h.entries ≡ false → if_told h l s say rows ≡ []
-      unless_told untold = grind arith
+  module _ (was now : List ℕ → Pid → ℕ) (kind : PartKind) (rows : List Row)
+      (is : told h.opening l s h.entries ≡ true → is_empty rows ≡ false
+      → IsSayable v (message_of kind s rows))
+      (stays : is_empty rows ≡ true → (g : List ℕ) (p : Pid) → now g p ≡ was g p)
+      (tells_so : told h.opening l s h.entries ≡ true
+      → IsTold v s (told h.opening l s h.entries) was now kind rows) where
+    abbrev say : List Row → Message
+    say rs = message_of kind s rs
 
-      unless_some : is_empty rows ≡ true → if_told h l s say rows ≡ []
-      unless_some q = cc
+    part_tells : (front back fs : List OutFrame) → fs ≡ front ++ (if_told h l s say rows ++ back)
+        → AllCalm v s front → AllCalm v s back
+        → Tells v s (told h.opening l s h.entries) (told h.opening l s h.entries) was now fs
+    part_tells front back fs whole early late =
+        by (told h.opening l s h.entries) refl (is_empty rows) refl
+      where
+        none : if_told h l s say rows ≡ [] → AllCalm v s fs
+        none empty = subst (AllCalm v s) (sym (whole ∙ ap (λ x. front ++ (x ++ back)) empty))
+            ((calm_closed v s).both front back early late)
 
-      one : told l s h.entries ≡ true → is_empty rows ≡ false
-          → if_told h l s say rows ≡ wide (say rows) ∷ []
-      one tells q = cc
+        unless_told : told h.opening l s h.entries ≡ false → if_told h l s say rows ≡ []
+        unless_told untold = grind arith
 
-      by : (b : Bool) → told l s h.entries ≡ b → (c : Bool) → is_empty rows ≡ c
-          → Tells s (told l s h.entries) (told l s h.entries) was now fs
-      by false untold c q = Silent (none (unless_told untold)) (λ t. lie (sym t ∙ untold))
-      by true tells true q = Silent (none (unless_some q)) (λ t. (t, stays q))
-      by true tells false q = Moved front (wide (say rows)) back
-          (whole ∙ ap (λ x. front ++ (x ++ back)) (one tells q)) early late tells
-          (λ g p. message_seen s g p (say rows) (is q) (Some (was g p)) ∙ moves g p)
-          (λ left m. there left (sym (reads (say rows) (is q)) ∙ m))
+        unless_some : is_empty rows ≡ true → if_told h l s say rows ≡ []
+        unless_some q = cc
+
+        one : told h.opening l s h.entries ≡ true → is_empty rows ≡ false
+            → if_told h l s say rows ≡ said_frames v (say rows)
+        one tells q = (λ i. cond (q i || not (tells i)) [] (frames_to h l (say rows)))
+            ∙ told_frames (say rows) tells
+
+        by : (b : Bool) → told h.opening l s h.entries ≡ b → (c : Bool) → is_empty rows ≡ c
+            → Tells v s (told h.opening l s h.entries) (told h.opening l s h.entries) was now fs
+        by false untold c q = Silent (none (unless_told untold)) (λ t. lie (sym t ∙ untold))
+        by true tells true q = Silent (none (unless_some q)) (λ t. (t, stays q))
+        by true tells false q = Spoke front kind rows back
+            (whole ∙ ap (λ x. front ++ (x ++ back)) (one tells q)) early late (is tells q)
+            (tells_so tells)
 
 -- rows of another scope
-part_calm : (h : History) (l : ℕ) (s t : List ℕ) (say : List Row → Message) (rows : List Row)
-    → (is_empty rows ≡ false → IsMessage (say rows)) → is_about_rows s (Some (say rows)) ≡ false
-    → AllCalm s (if_told h l t say rows)
-part_calm h l s t say rows is other = by (is_empty rows) refl (told l t h.entries)
+part_calm : (h : History) (node : IsNode h) (l v : ℕ)
+    (agrees : is_whole l h.entries ≡ true → link_version h.opening l h.entries ≡ v)
+    (s t : List ℕ) (say : List Row → Message) (rows : List Row)
+    → (told h.opening l t h.entries ≡ true → is_empty rows ≡ false → IsSayable v (say rows))
+    → is_about_rows s (Some (say rows)) ≡ false → AllCalm v s (if_told h l t say rows)
+part_calm h node l v agrees s t say rows is other =
+    by (is_empty rows) refl (told h.opening l t h.entries) refl
   where
-    by : (b : Bool) → is_empty rows ≡ b → (c : Bool)
-        → AllCalm s (cond (b || not c) [] (wide (say rows) ∷ []))
-    by true q c = tt
-    by false q false = tt
-    by false q true = (calm_message s (say rows) (is q) other, tt)
+    by : (b : Bool) → is_empty rows ≡ b → (c : Bool) → told h.opening l t h.entries ≡ c
+        → AllCalm v s (cond (b || not c) [] (frames_to h l (say rows)))
+    by true q c tells = (calm_closed v s).nothing
+    by false q false tells = (calm_closed v s).nothing
+    by false q true tells =
+        subst (AllCalm v s) (sym (told_frames h node l v agrees t (say rows) tells))
+        (calm_message v s (say rows) (is tells q) other)
 
 nothing_of : (g : List ℕ) (p : Pid) (rows : List Row) → is_empty rows ≡ true → rows_of g p rows ≡ 0
 nothing_of g p [] q = refl
 nothing_of g p (r ∷ rows) q = cc
 
-added : (s g : List ℕ) (p : Pid) (rows : List Row) (n : ℕ)
-    → seen s g p (Message.Join s rows) (Some n) ≡ Some (n + rows_of g p rows)
-added s g p rows n = grind (arith, same_decides s s)
+-- all own rows
+own_within : (h : History) (s g : List ℕ) (p : Pid) → own h s g p ≤ rows_of g p (local_rows h s)
+own_within h s g p = (let is = IsListing.counts (local_rows_are h s) (row g p) in omega (arith, is))
 
-taken_off : (s g : List ℕ) (p : Pid) (rows : List Row) (n : ℕ)
-    → seen s g p (Message.Leave s rows) (Some n) ≡ Some (n - rows_of g p rows)
-taken_off s g p rows n = grind (arith, same_decides s s)
-
-join_no_leave : (s : List ℕ) (rows left : List Row)
-    → Some (Message.Join s rows) ≡ Some (Message.Leave s left) → ⊥
-join_no_leave s rows left q = (cc)
-
--- where a Leave has no more rows than there were
-there_of : (s : List ℕ) (rows : List Row) (was : List ℕ → Pid → ℕ)
-    → ((g : List ℕ) (p : Pid) → rows_of g p rows ≤ was g p) → (left : List Row)
-    → Some (Message.Leave s rows) ≡ Some (Message.Leave s left)
-    → (g : List ℕ) (p : Pid) → rows_of g p left ≤ was g p
-there_of s rows was within left q g p = grind arith
-
-module _ (o : Opening) (es : List Entry) (e : Entry) (node : IsNode (past o es)) (l : ℕ)
-    (s : List ℕ) where
+module _ (o : Opening) (es : List Entry) (e : Entry) (node : IsNode (past o es)) (l v : ℕ)
+    (agrees : is_whole l es ≡ true → link_version o l es ≡ v) (s : List ℕ) where
   abbrev h : History
   h = past o es
 
   abbrev TellsOf : Event → Verdict → Type 0
-  TellsOf ev v = EntryTells o l s (but e ev v) es
+  TellsOf ev w = EntryTells v o l s (but e ev w) es
 
   -- ---- a Join
 
@@ -118,19 +120,24 @@ module _ (o : Opening) (es : List Entry) (e : Entry) (node : IsNode (past o es))
         let held = all_hold (join_checks h s g ps)
         (accepted h e.seat (Event.Join s g ps) r next.judged).0 in
         let runs = unbroken (is_running h s) held.0 in
-        let room = leb-true (length (local_rows h s) + length ps) max_rows
-        (unbroken (nat_le (length (local_rows h s) + length ps) max_rows) held.1.1.1.0) in
-        part_tells h l s (own h s) (own (past o (but e (Event.Join s g ps) (Accepted r) ∷ es)) s)
-        (Message.Join s) (join_rows h node g ps)
-        (join_is h node s g ps text.0 text.1 (unbroken (list_all (lives h) ps) held.1.1.0)
-        (omega (arith, room)))
+        let room = leb-true (length (local_rows h s) + length ps) (own_limit h s)
+        (unbroken (nat_le (length (local_rows h s) + length ps) (own_limit h s)) held.1.1.1.0) in
+        part_tells h node l v agrees s (own h s)
+        (own (past o (but e (Event.Join s g ps) (Accepted r) ∷ es)) s)
+        PartKind.Join (join_rows h node g ps)
+        (λ tells some. join_is h node l v agrees s g ps text.0 text.1
+        (unbroken (list_all (lives h) ps) held.1.1.0) room tells some)
         (λ q f p. (let none = nothing_of f p (join_rows h node g ps) q in let is =
         joined_now runs f p in omega (arith, none, is)))
-        (λ f p. added s f p (join_rows h node g ps) (own h s f p)
-        ∙ ap Some (sym (joined_now runs f p)))
-        (λ left q f p. absurd (join_no_leave s (join_rows h node g ps) left q))
+        (λ tells. told_join v s (told o l s es) (own h s)
+        (own (past o (but e (Event.Join s g ps) (Accepted r) ∷ es)) s) (join_rows h node g ps)
+        tells (local_rows h s) (own_within h s)
+        (let few = join_few h node g ps in
+        let most = told_room h node l v agrees s tells in omega (arith, few, room, most))
+        (joined_now runs))
         [] [] (if_told h l s (Message.Join s) (join_rows h node g ps))
-        (sym (append-nil (if_told h l s (Message.Join s) (join_rows h node g ps)))) tt tt
+        (sym (append-nil (if_told h l s (Message.Join s) (join_rows h node g ps))))
+        (calm_closed v s).nothing (calm_closed v s).nothing
 
     pub join_tells : (t : List ℕ) → IsStep h (but e (Event.Join t g ps) (Accepted r))
         → IsWritten (Event.Join t g ps) → TellsOf (Event.Join t g ps) (Accepted r)
@@ -143,11 +150,12 @@ module _ (o : Opening) (es : List Entry) (e : Entry) (node : IsNode (past o es))
         by false other =
             let held = all_hold (join_checks h t g ps)
             (accepted h e.seat (Event.Join t g ps) r next.judged).0 in
-            let room = leb-true (length (local_rows h t) + length ps) max_rows
-            (unbroken (nat_le (length (local_rows h t) + length ps) max_rows) held.1.1.1.0) in
-            Silent (part_calm h l s t (Message.Join t) (join_rows h node g ps)
-            (join_is h node t g ps text.0 text.1 (unbroken (list_all (lives h) ps) held.1.1.0)
-            (omega (arith, room))) other)
+            let room = leb-true (length (local_rows h t) + length ps) (own_limit h t)
+            (unbroken (nat_le (length (local_rows h t) + length ps) (own_limit h t)) held.1.1.1.0)
+            in
+            Silent (part_calm h node l v agrees s t (Message.Join t) (join_rows h node g ps)
+            (λ tells some. join_is h node l v agrees t g ps text.0 text.1
+            (unbroken (list_all (lives h) ps) held.1.1.0) room tells some) other)
             (λ tells. (tells, λ f p. grind (arith, other)))
 
   -- ---- a Leave
@@ -167,18 +175,21 @@ module _ (o : Opening) (es : List Entry) (e : Entry) (node : IsNode (past o es))
 
     leave_here : IsWritten (Event.Leave s g ps) → TellsOf (Event.Leave s g ps) (Accepted r)
     leave_here text =
-        part_tells h l s (own h s) (own (past o (but e (Event.Leave s g ps) (Accepted r) ∷ es)) s)
-        (Message.Leave s) (leave_rows h node s g ps)
-        (leave_is h node s g ps text.0)
+        part_tells h node l v agrees s (own h s)
+        (own (past o (but e (Event.Leave s g ps) (Accepted r) ∷ es)) s)
+        PartKind.Leave (leave_rows h node s g ps)
+        (λ tells some. leave_is h node l v agrees s g ps text.0 tells some)
         (λ q f p. (let none = nothing_of f p (leave_rows h node s g ps) q in let is =
         left_now f p in omega (arith, none, is)))
-        (λ f p. taken_off s f p (leave_rows h node s g ps) (own h s f p)
-        ∙ ap Some (sym (left_now f p)))
-        (there_of s (leave_rows h node s g ps) (own h s)
+        (λ tells. told_leave v s (told o l s es) (own h s)
+        (own (past o (but e (Event.Leave s g ps) (Accepted r) ∷ es)) s) (leave_rows h node s g ps)
+        tells (local_rows h s) (own_within h s) (own_room h node l v agrees s tells)
         (λ f p. grind
-        (arith, same_decides f g, IsListing.counts (leave_listing h node s g ps) (row f p))))
+        (arith, same_decides f g, IsListing.counts (leave_listing h node s g ps) (row f p)))
+        left_now)
         [] [] (if_told h l s (Message.Leave s) (leave_rows h node s g ps))
-        (sym (append-nil (if_told h l s (Message.Leave s) (leave_rows h node s g ps)))) tt tt
+        (sym (append-nil (if_told h l s (Message.Leave s) (leave_rows h node s g ps))))
+        (calm_closed v s).nothing (calm_closed v s).nothing
 
     pub leave_tells : (t : List ℕ) → IsWritten (Event.Leave t g ps)
         → TellsOf (Event.Leave t g ps) (Accepted r)
@@ -187,8 +198,10 @@ module _ (o : Opening) (es : List Entry) (e : Entry) (node : IsNode (past o es))
         by : (b : Bool) → same t s ≡ b → TellsOf (Event.Leave t g ps) (Accepted r)
         by true is = subst (λ u. IsWritten (Event.Leave u g ps) → TellsOf (Event.Leave u g ps)
             (Accepted r)) (sym ((same_decides t s).0 is)) leave_here text
-        by false other = Silent (part_calm h l s t (Message.Leave t) (leave_rows h node t g ps)
-            (leave_is h node t g ps text.0) other) (λ tells. (tells, λ f p. grind (arith, other)))
+        by false other =
+            Silent (part_calm h node l v agrees s t (Message.Leave t) (leave_rows h node t g ps)
+            (λ tells some. leave_is h node l v agrees t g ps text.0 tells some) other) (λ tells.
+            (tells, λ f p. grind (arith, other)))
 
   -- ---- an Exit
 
@@ -219,10 +232,11 @@ module _ (o : Opening) (es : List Entry) (e : Entry) (node : IsNode (past o es))
 
     -- the parts of other scopes
     others : (ss : List (List ℕ)) → is_among s ss ≡ false → AllByRecursion IsText ss
-        → AllCalm s (parts ss)
-    others [] out texts = tt
-    others (t ∷ ss) out texts = all_append (IsCalm s) (part_of t) (parts ss)
-        (part_calm h l s t (Message.Leave t) (exit_rows h node t x) (exit_is h node t x texts.0)
+        → AllCalm v s (parts ss)
+    others [] out texts = (calm_closed v s).nothing
+    others (t ∷ ss) out texts = (calm_closed v s).both (part_of t) (parts ss)
+        (part_calm h node l v agrees s t (Message.Leave t) (exit_rows h node t x)
+        (λ tells some. exit_is h node l v agrees t x texts.0 tells some)
         (grind (arith, out))) (others ss (grind (arith, out)) texts.1)
 
     -- the part of s stands once
@@ -230,8 +244,8 @@ module _ (o : Opening) (es : List Entry) (e : Entry) (node : IsNode (past o es))
       front : List OutFrame
       back : List OutFrame
       whole : parts ss ≡ front ++ (part_of s ++ back)
-      early : AllCalm s front
-      late : AllCalm s back
+      early : AllCalm v s front
+      late : AllCalm v s back
 
     absent : (t : List ℕ) (ss : List (List ℕ)) → AllByRecursion (λ u. text_cmp t u ≡ Less) ss
         → is_among t ss ≡ false
@@ -250,7 +264,7 @@ module _ (o : Opening) (es : List Entry) (e : Entry) (node : IsNode (past o es))
               front = [];
               back = parts ss;
               whole = ap (λ u. part_of u ++ parts ss) here;
-              early = tt;
+              early = (calm_closed v s).nothing;
               late = others ss (subst (λ u. is_among u ss ≡ false) here (absent t ss rises.0))
                   texts.1;
             }
@@ -261,9 +275,9 @@ module _ (o : Opening) (es : List Entry) (e : Entry) (node : IsNode (past o es))
               back = it.back;
               whole = ap (λ w. part_of t ++ w) it.whole
                   ∙ sym (append_assoc (part_of t) it.front (part_of s ++ it.back));
-              early = all_append (IsCalm s) (part_of t) it.front
-                  (part_calm h l s t (Message.Leave t) (exit_rows h node t x)
-                  (exit_is h node t x texts.0) other) it.early;
+              early = (calm_closed v s).both (part_of t) it.front
+                  (part_calm h node l v agrees s t (Message.Leave t) (exit_rows h node t x)
+                  (λ tells some. exit_is h node l v agrees t x texts.0 tells some) other) it.early;
               late = it.late;
             }
 
@@ -274,19 +288,21 @@ module _ (o : Opening) (es : List Entry) (e : Entry) (node : IsNode (past o es))
         by true runs =
             let it = parted (running_scopes h) (running_rises h) (scopes_text h node)
             (running_among h s ∙ runs) in
-            part_tells h l s (own h s) (own (past o (but e (Event.Exit x) (Accepted r) ∷ es)) s)
-            (Message.Leave s) (exit_rows h node s x)
-            (exit_is h node s x (scope_text h node s runs))
+            part_tells h node l v agrees s (own h s)
+            (own (past o (but e (Event.Exit x) (Accepted r) ∷ es)) s)
+            PartKind.Leave (exit_rows h node s x)
+            (λ tells some. exit_is h node l v agrees s x (scope_text h node s runs) tells some)
             (λ q f p. (let none = nothing_of f p (exit_rows h node s x) q in let is =
             exited_now f p in omega (arith, none, is)))
-            (λ f p. taken_off s f p (exit_rows h node s x) (own h s f p)
-            ∙ ap Some (sym (exited_now f p)))
-            (there_of s (exit_rows h node s x) (own h s)
+            (λ tells. told_leave v s (told o l s es) (own h s)
+            (own (past o (but e (Event.Exit x) (Accepted r) ∷ es)) s) (exit_rows h node s x)
+            tells (local_rows h s) (own_within h s) (own_room h node l v agrees s tells)
             (λ f p. grind (
               arith,
               exit_counts (row f p) (local_rows h s),
               IsListing.counts (local_rows_are h s) (row f p),
-            )))
+            ))
+            exited_now)
             it.front it.back (parts (running_scopes h)) it.whole it.early it.late
         by false stopped = Silent (others (running_scopes h) (running_among h s ∙ stopped)
             (scopes_text h node)) (λ tells. lie (sym (told_runs h node.legal l s tells) ∙ stopped))

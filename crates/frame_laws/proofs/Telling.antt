@@ -1,38 +1,136 @@
--- What an entry says of a scope to a link: one of four things.
+-- What an entry says of a scope to a link: one of three things.
 use Rattle.frame_laws.proofs
-use proofs.Words.{Bool, Entry, false, List, Message, message_taken, Opening, Option, OutFrame, owed}
-use proofs.Words.{own, past, Pid, Row, rows_of, Some, told, true, ℕ, [], ◌++◌, ◌∷◌, ◌≡◌, ◌≤◌}
-use proofs.Calm.{seen_frames, AllCalm, HasNoRows}
+use proofs.Words.{AreThere, arith, Bool, Entry, false, how_many_append, IsFew, length}
+use proofs.Words.{length-append, limit, List, Message, message_of, Opening, Option, OutFrame, owed}
+use proofs.Words.{own, PartKind, past, Pid, Row, row, rows_of, said_frames, same_decides}
+use proofs.Words.{same_row, seen, Some, sym, told, true, ℕ, [], ◌++◌, ◌+◌, ◌-◌, ◌∙◌, ◌∷◌, ◌≡◌, ◌≤◌}
+use proofs.Words.{ap}
+use proofs.Calm.{AllCalm, HasNoRows}
+use proofs.Sayable.{IsSayable}
+
+-- what a view may be before an entry: the own rows, while the peer is told
+abbrev pub WasSeen : Bool → (List ℕ → Pid → ℕ) → (List ℕ → Pid → Option ℕ) → Type 0
+WasSeen told_before was x = told_before ≡ true → (g : List ℕ) (p : Pid) → x g p ≡ Some (was g p)
+
+-- the rows of a message of s are those that are new, or all; so far they are no more than may be;
+-- and those of a Leave were there
+pub record IsTold (v : ℕ) (s : List ℕ) (told_before : Bool) (was now : List ℕ → Pid → ℕ)
+    (kind : PartKind) (rows : List Row) : Type 0 where
+  pub says : (x : List ℕ → Pid → Option ℕ) → WasSeen told_before was x → (g : List ℕ) (p : Pid)
+      → seen s g p (message_of kind s rows) (x g p) ≡ Some (now g p)
+  pub few : (x : List ℕ → Pid → Option ℕ) → WasSeen told_before was x → (first rest : List Row)
+      → first ++ rest ≡ rows → IsFew v s x kind first
+  pub there : (x : List ℕ → Pid → Option ℕ) → WasSeen told_before was x → kind ≡ PartKind.Leave
+      → AreThere x rows
 
 -- whether the peer was told before and is told now, the own rows before and now, and the frames
 -- that are owed
-pub data Tells (s : List ℕ) (told_before told_now : Bool) (was now : List ℕ → Pid → ℕ)
+pub data Tells (v : ℕ) (s : List ℕ) (told_before told_now : Bool) (was now : List ℕ → Pid → ℕ)
     (fs : List OutFrame) : Type 0 where
   -- nothing of s; the peer isn't told anew, and while it is told the rows stay
-  Silent : AllCalm s fs
+  Silent : AllCalm v s fs
       → (told_now ≡ true → (told_before ≡ true) × ((g : List ℕ) (p : Pid) → now g p ≡ was g p))
-      → Tells s told_before told_now was now fs
-  -- all rows, whatever was said before, and no Leave
-  Synced : (before : List OutFrame) (f : OutFrame) (after : List OutFrame)
-      → fs ≡ before ++ f ∷ after → AllCalm s before → AllCalm s after
-      → ((g : List ℕ) (p : Pid) (v : Option ℕ) → seen_frames s g p (f ∷ []) v ≡ Some (now g p))
-      → ((rows : List Row) → message_taken f.body ≡ Some (Message.Leave s rows) → ⊥)
-      → Tells s told_before told_now was now fs
-  -- the rows that joined or left, while the peer is told; a Leave has no more than there were
-  Moved : (before : List OutFrame) (f : OutFrame) (after : List OutFrame) → fs ≡ before ++ f ∷ after
-      → AllCalm s before → AllCalm s after → told_before ≡ true
-      → ((g : List ℕ) (p : Pid) → seen_frames s g p (f ∷ []) (Some (was g p)) ≡ Some (now g p))
-      → ((rows : List Row) → message_taken f.body ≡ Some (Message.Leave s rows) → (g : List ℕ)
-      (p : Pid) → rows_of g p rows ≤ was g p) → Tells s told_before told_now was now fs
+      → Tells v s told_before told_now was now fs
+  -- a message with rows
+  Spoke : (before : List OutFrame) (kind : PartKind) (rows : List Row) (after : List OutFrame)
+      → fs ≡ before ++ (said_frames v (message_of kind s rows) ++ after) → AllCalm v s before
+      → AllCalm v s after → IsSayable v (message_of kind s rows)
+      → IsTold v s told_before was now kind rows → Tells v s told_before told_now was now fs
   -- no rows, and the peer isn't told any more
-  Ended : HasNoRows s fs → told_now ≡ false → Tells s told_before told_now was now fs
+  Ended : HasNoRows v s fs → told_now ≡ false → Tells v s told_before told_now was now fs
+
+-- ---- each kind
+
+pub rows_both : (g : List ℕ) (p : Pid) (xs ys : List Row)
+    → rows_of g p (xs ++ ys) ≡ rows_of g p xs + rows_of g p ys
+rows_both g p xs ys = how_many_append (λ x. same_row x (row g p)) xs ys
+
+module _ (g : List ℕ) (p : Pid) (first rest rows : List Row) (is : first ++ rest ≡ rows) where
+  pub fewer_of : rows_of g p first ≤ rows_of g p rows
+  fewer_of = (let all = rows_both g p first rest in let same = ap (rows_of g p) is in
+      omega (arith, all, same))
+
+shorter : (first rest rows : List Row) → first ++ rest ≡ rows → length first ≤ length rows
+shorter first rest rows is = (let all = length-append first rest in let same = ap length is in
+    omega (arith, all, same))
+
+synced : (s g : List ℕ) (p : Pid) (rows : List Row) (x : Option ℕ)
+    → seen s g p (Message.Sync s rows) x ≡ Some (rows_of g p rows)
+synced s g p rows x = grind (arith, same_decides s s)
+
+added : (s g : List ℕ) (p : Pid) (rows : List Row) (n : ℕ)
+    → seen s g p (Message.Join s rows) (Some n) ≡ Some (n + rows_of g p rows)
+added s g p rows n = grind (arith, same_decides s s)
+
+taken_off : (s g : List ℕ) (p : Pid) (rows : List Row) (n : ℕ)
+    → seen s g p (Message.Leave s rows) (Some n) ≡ Some (n - rows_of g p rows)
+taken_off s g p rows n = grind (arith, same_decides s s)
+
+module _ (v : ℕ) (s : List ℕ) (told_before : Bool) (was now : List ℕ → Pid → ℕ)
+    (rows : List Row) where
+  pub told_sync : length rows ≤ limit v → ((g : List ℕ) (p : Pid) → rows_of g p rows ≡ now g p)
+      → IsTold v s told_before was now PartKind.Sync rows
+  told_sync few all = record {
+    says = λ x before g p. synced s g p rows (x g p) ∙ ap Some (all g p);
+    few = λ x before first rest is. (
+      first,
+      (λ g p. (rows_of g p first, synced s g p first (x g p), omega arith)),
+      (let short = shorter first rest rows is in omega (arith, few, short)),
+    );
+    there = λ x before is. cc;
+  }
+
+  module _ (tells : told_before ≡ true) (base : List Row)
+      (within : (g : List ℕ) (p : Pid) → was g p ≤ rows_of g p base) where
+    pub told_join : length base + length rows ≤ limit v
+        → ((g : List ℕ) (p : Pid) → now g p ≡ was g p + rows_of g p rows)
+        → IsTold v s told_before was now PartKind.Join rows
+    told_join few all = record {
+      says = λ x before g p. ap (seen s g p (Message.Join s rows)) (before tells g p)
+          ∙ added s g p rows (was g p) ∙ ap Some (sym (all g p));
+      few = λ x before first rest is. (
+        base ++ first,
+        (λ g p. (
+          was g p + rows_of g p first,
+          ap (seen s g p (Message.Join s first)) (before tells g p)
+              ∙ added s g p first (was g p),
+          (let both = rows_both g p base first in let low = within g p in
+              omega (arith, both, low)),
+        )),
+        (let short = shorter first rest rows is in let both = length-append base first in
+            omega (arith, few, short, both)),
+      );
+      there = λ x before is. cc;
+    }
+
+    pub told_leave : length base ≤ limit v
+        → ((g : List ℕ) (p : Pid) → rows_of g p rows ≤ was g p)
+        → ((g : List ℕ) (p : Pid) → now g p ≡ was g p - rows_of g p rows)
+        → IsTold v s told_before was now PartKind.Leave rows
+    told_leave few less all = record {
+      says = λ x before g p. ap (seen s g p (Message.Leave s rows)) (before tells g p)
+          ∙ taken_off s g p rows (was g p) ∙ ap Some (sym (all g p));
+      few = λ x before first rest is. (
+        base,
+        (λ g p. (
+          was g p - rows_of g p first,
+          ap (seen s g p (Message.Leave s first)) (before tells g p)
+              ∙ taken_off s g p first (was g p),
+          (let low = within g p in omega (arith, low)),
+        )),
+        few,
+      );
+      there = λ x before is g p. (was g p, before tells g p, less g p);
+    }
+
+-- ---- along a history
 
 -- entry e, after these entries, to link l
-abbrev pub EntryTells : Opening → ℕ → List ℕ → Entry → List Entry → Type 0
-EntryTells o l s e es = Tells s (told l s es) (told l s (e ∷ es)) (own (past o es) s)
+abbrev pub EntryTells : ℕ → Opening → ℕ → List ℕ → Entry → List Entry → Type 0
+EntryTells v o l s e es = Tells v s (told o l s es) (told o l s (e ∷ es)) (own (past o es) s)
     (own (past o (e ∷ es)) s) (owed (past o es) l e.number e.event e.verdict)
 
 -- each entry does so
-abbrev pub AllTell : Opening → ℕ → List ℕ → List Entry → Type 0
-AllTell o l s [] = Unit {0}
-AllTell o l s (e ∷ es) = EntryTells o l s e es × AllTell o l s es
+abbrev pub AllTell : ℕ → Opening → ℕ → List ℕ → List Entry → Type 0
+AllTell v o l s [] = Unit {0}
+AllTell v o l s (e ∷ es) = EntryTells v o l s e es × AllTell v o l s es

@@ -1,243 +1,388 @@
 -- Where each entry tells what it does, the frames pass through the sender's rows.
 use Rattle.frame_laws.proofs
 use proofs.Numbers.{owed_number}
-use proofs.Words.{IsStep}
-use proofs.Words.{ap, append-nil, arith, bodies_of, Entry, has_rows, IsPlayedIn, length, lie, List}
-use proofs.Words.{map, Message, message_taken, messages_said, moment, None, Opening, Option, out_in}
-use proofs.Words.{OutFrame, owed, owes, Owing, owing, own, PassesThrough, past, Pid, refl, Row}
-use proofs.Words.{rows_of, same_decides, slice_get, Some, suc, sym, take, take-append-add}
-use proofs.Words.{take-append-le, told, true, view_of, zero, ℕ, [], ◌++◌, ◌+◌, ◌∙◌, ◌∷◌, ◌≡◌, ◌≤◌}
-use proofs.Calm.{seen_frames, seen_apart, said_apart, frames_seen, AllCalm, all_stay, calm_rows}
-use proofs.Calm.{no_rows_at}
+use proofs.Words.{and_parts, AreThere, ap, arith, begun_by, begun_of, bodies_of, Bool, completed_by}
+use proofs.Words.{frames_said, is_some, take-length}
+use proofs.Words.{Begun, ends_rows, Entry, false, has_rows, IsFew, IsNode, IsPlayedIn, IsStep}
+use proofs.Words.{length, lie, List, map, Message, message_of, message_taken, Message2, moment}
+use proofs.Words.{None}
+use proofs.Words.{Opening, Option, option_map_or, out_in, OutFrame, owed, owes, Owing, owing, own}
+use proofs.Words.{PartKind, parts_from, PassesThrough, past, Pid, refl, Row, rows_so_far}
+use proofs.Words.{said_frames, same, same_decides, seen, seen_by, slice_get, slice_get_within}
+use proofs.Words.{so_far_behind, Some, Speaks, subst, suc, sym, take, take-append-add}
+use proofs.Words.{take-append-le, told, true, view_of, zero, ℕ, [], ◌++◌, ◌+◌, ◌<◌, ◌∙◌, ◌∷◌}
+use proofs.Words.{◌≡◌}
+use proofs.Calm.{AllCalm, frames_apart, frames_seen, is_part, message_ends}
+use proofs.Calm.{message_seen, no_rows_at, rows_part, seen_apart, seen_frames}
+use proofs.Orderly.{out_orderly, said_more}
+use proofs.Pieces.{begun_apart, completed_apart, cuts, IsPiece, piece_at, pieces, pieces_are}
+use proofs.Pieces.{value_of}
 use proofs.Places.{Parted, InFirst, InSecond, part, owed_here, earlier_moment, this_moment}
 use proofs.Sources.{is_entry}
-use proofs.Telling.{Silent, Synced, Moved, Ended, EntryTells, AllTell}
-
-bodies_apart : (xs ys : List Owing) → bodies_of (xs ++ ys) ≡ bodies_of xs ++ bodies_of ys
-bodies_apart [] ys = refl
-bodies_apart (x ∷ xs) ys = grind (arith, bodies_apart xs ys)
-
-bodies_owing : (n : ℕ) (fs : List OutFrame) → bodies_of (map (owing n) fs) ≡ map (λ f. f.body) fs
-bodies_owing n [] = refl
-bodies_owing n (f ∷ fs) = grind (arith, bodies_owing n fs)
+use proofs.Spoken.{node_before}
+use proofs.Telling.{AllTell, Ended, EntryTells, fewer_of, IsTold, Silent, Spoke, WasSeen}
+use proofs.Sayable.{IsReadAt, IsSayable, reads, reads_at, reads_length, said, said_take}
 
 take_owing : (n m : ℕ) (fs : List OutFrame) → take m (map (owing n) fs) ≡ map (owing n) (take m fs)
 take_owing n zero fs = refl
 take_owing n (suc m) [] = refl
 take_owing n (suc m) (f ∷ fs) = grind (arith, take_owing n m fs)
 
--- frames that one entry owes, after others
-view_after : (s g : List ℕ) (p : Pid) (xs : List Owing) (n : ℕ) (fs : List OutFrame)
-    → view_of s g p (bodies_of (xs ++ map (owing n) fs)) ≡ seen_frames s g p fs
-    (view_of s g p (bodies_of xs))
-view_after s g p xs n fs =
-    grind (
-      arith,
-      bodies_apart xs (map (owing n) fs),
-      bodies_owing n fs,
-      said_apart (bodies_of xs) (map (λ f. f.body) fs),
-      seen_apart s g p (messages_said (bodies_of xs)) (messages_said (map (λ f. f.body) fs)) None,
-    )
+-- frames that one entry owes, behind whole messages
+module _ (v : ℕ) (xs : List Owing) (ends : begun_of v (bodies_of xs) ≡ None) (n : ℕ)
+    (fs : List OutFrame) where
+  view_after : (s g : List ℕ) (p : Pid) → view_of v s g p (bodies_of (xs ++ map (owing n) fs))
+      ≡ seen_frames v s g p fs (view_of v s g p (bodies_of xs))
+  view_after s g p =
+      ap (λ ps. seen_by s g p (completed_by None ps) None) (said_more v xs n fs)
+      ∙ ap (λ ms. seen_by s g p ms None)
+      (completed_apart None (frames_said v (bodies_of xs)) (said v fs)
+      ∙ ap (λ b. completed_by None (frames_said v (bodies_of xs)) ++ completed_by b (said v fs))
+      ends) ∙ seen_apart s g p (completed_by None (frames_said v (bodies_of xs)))
+      (completed_by None (said v fs)) None
 
--- where one frame says rows and those around it are calm
-module _ (s : List ℕ) (before : List OutFrame) (f : OutFrame) (after : List OutFrame)
-    (early : AllCalm s before) (late : AllCalm s after) (g : List ℕ) (p : Pid) (v : Option ℕ)
-    (n : ℕ)
-    (says : seen_frames s g p (f ∷ []) v ≡ Some n) where
-  up_to : seen_frames s g p (before ++ f ∷ []) v ≡ Some n
-  up_to = grind (arith, frames_seen s g p before (f ∷ []) v, all_stay s before early g p v)
+  begun_after_them : begun_of v (bodies_of (xs ++ map (owing n) fs)) ≡ begun_by None (said v fs)
+  begun_after_them = ap (begun_by None) (said_more v xs n fs)
+      ∙ begun_apart None (frames_said v (bodies_of xs)) (said v fs)
+      ∙ ap (λ b. begun_by b (said v fs)) ends
 
-  in_all : (fs : List OutFrame) → fs ≡ before ++ f ∷ after → seen_frames s g p fs v ≡ Some n
-  in_all fs is =
-      grind (
-        arith,
-        frames_seen s g p before (f ∷ after) v,
-        all_stay s before early g p v,
-        frames_seen s g p (f ∷ []) after v,
-        all_stay s after late g p (Some n),
-      )
+-- what holds at a part, with the rows so far, where this was kept and the view was x
+abbrev FewAt : ℕ → List ℕ → (List ℕ → Pid → Option ℕ) → Option Begun → Message2 → Type 0
+FewAt v s x b (Message2.Part kind t number last rows) =
+    IsFew v s x kind (rows_so_far b kind s number rows)
+FewAt v s x b m = Unit {0}
 
-  at_rows : (fs : List OutFrame) → fs ≡ before ++ f ∷ after → (m : ℕ) (x : OutFrame)
-      → slice_get fs m ≡ Some x → has_rows s x.body ≡ true
-      → seen_frames s g p (take (suc m) fs) v ≡ Some n
-  at_rows fs is m x q has = ap (λ y. seen_frames s g p (take (suc m) y) v) is
-      ∙ by (part before (f ∷ after) m x (ap (λ y. slice_get y m) (sym is) ∙ q))
+abbrev ThereAt : List ℕ → (List ℕ → Pid → Option ℕ) → Option Begun → Message2 → Type 0
+ThereAt s x b (Message2.Part PartKind.Leave t number last rows) =
+    AreThere x (rows_so_far b PartKind.Leave s number rows)
+ThereAt s x b m = Unit {0}
+
+-- where one message says rows and the frames around it are calm
+module _ (v : ℕ) (s : List ℕ) (front : List OutFrame) (kind : PartKind) (rows : List Row)
+    (back : List OutFrame) (early : AllCalm v s front) (late : AllCalm v s back)
+    (can : IsSayable v (message_of kind s rows)) (fs : List OutFrame)
+    (is : fs ≡ front ++ (said_frames v (message_of kind s rows) ++ back)) where
+  abbrev whole_said : Message
+  whole_said = message_of kind s rows
+
+  abbrev block : List OutFrame
+  block = said_frames v whole_said
+
+  abbrev cut : List Message2
+  cut = parts_from kind s 1 (cuts v rows) rows
+
+  cut_is : pieces v whole_said ≡ cut
+  cut_is = pieces_are v kind s rows
+
+  in_all : (g : List ℕ) (p : Pid) (x : Option ℕ) → seen_frames v s g p fs x ≡ seen s g p whole_said
+      x
+  in_all g p x =
+      ap (λ y. seen_frames v s g p y x) is
+      ∙ frames_seen v s g p front (block ++ back) x early.ends
+      ∙ ap (seen_frames v s g p (block ++ back)) (early.stays g p x)
+      ∙ frames_seen v s g p block back x (message_ends v whole_said can)
+      ∙ ap (seen_frames v s g p back) (message_seen v whole_said can s g p x)
+      ∙ late.stays g p (seen s g p whole_said x)
+
+  -- a part of s stands in that message
+  record IsWithin (m : ℕ) (f : OutFrame) : Type 0 where
+    place : ℕ
+    at : m ≡ length front + place
+    stands : slice_get block place ≡ Some f
+
+  within : (m : ℕ) (f : OutFrame) → slice_get fs m ≡ Some f
+      → is_part s (message_taken v f.body) ≡ true → IsWithin m f
+  within m f q its = by (part front (block ++ back) m f (ap (λ y. slice_get y m) (sym is) ∙ q))
     where
-      behind : (k : ℕ) → m ≡ length before + k → slice_get (f ∷ after) k ≡ Some x
-          → seen_frames s g p (take (suc m) (before ++ f ∷ after)) v ≡ Some n
-      behind zero at r = ap (λ j. seen_frames s g p (take j (before ++ f ∷ after)) v)
-          (let j : suc m ≡ length before + 1 = omega (arith, at) in j)
-          ∙ ap (λ y. seen_frames s g p y v) (take-append-add before (f ∷ after) 1) ∙ up_to
-      behind (suc k) at r = lie (sym has ∙ no_rows_at s after (calm_rows s after late) k x r)
+      behind : (k : ℕ) → m ≡ length front + k → Parted block back k f → IsWithin m f
+      behind k at (InFirst r less) = record { place = k; at = at; stands = r }
+      behind k at (InSecond j more r) =
+          lie (sym its ∙ no_rows_at v s back late.no_rows j f r)
 
-      by : Parted before (f ∷ after) m x
-          → seen_frames s g p (take (suc m) (before ++ f ∷ after)) v ≡ Some n
-      by (InFirst r less) = lie (sym has ∙ no_rows_at s before (calm_rows s before early) m x r)
-      by (InSecond k at r) = behind k at r
+      by : Parted front (block ++ back) m f → IsWithin m f
+      by (InFirst r less) = lie (sym its ∙ no_rows_at v s front early.no_rows m f r)
+      by (InSecond k at r) = behind k at (part block back k f r)
 
--- before a Leave
-module _ (s : List ℕ) (x : OutFrame) (rows : List Row)
-    (leaves : message_taken x.body ≡ Some (Message.Leave s rows)) where
-  leave_rows_said : has_rows s x.body ≡ true
-  leave_rows_said = grind (arith, same_decides s s)
+  module _ (m : ℕ) (f : OutFrame) (it : IsWithin m f) where
+    abbrev k : ℕ
+    k = it.place
 
-  there_in : (front : List OutFrame) (f : OutFrame) (back : List OutFrame) → AllCalm s front
-      → AllCalm s back → (was : List ℕ → Pid → ℕ)
-      → ((left : List Row) → message_taken f.body ≡ Some (Message.Leave s left)
-      → (g : List ℕ) (p : Pid) → rows_of g p left ≤ was g p)
-      → (fs : List OutFrame) → fs ≡ front ++ f ∷ back → (m : ℕ) → slice_get fs m ≡ Some x
-      → (g : List ℕ) (p : Pid) (v : Option ℕ) → v ≡ Some (was g p)
-      → (n : ℕ) × (seen_frames s g p (take m fs) v ≡ Some n) × (rows_of g p rows ≤ n)
-  there_in front f back early late was there fs is m q g p v seen =
-      by (part front (f ∷ back) m x (ap (λ y. slice_get y m) (sym is) ∙ q))
-    where
-      behind : (k : ℕ) → m ≡ length front + k → slice_get (f ∷ back) k ≡ Some x
-          → (n : ℕ) × (seen_frames s g p (take m fs) v ≡ Some n) × (rows_of g p rows ≤ n)
-      behind zero at r =
-          let same_frame : f ≡ x = grind (arith, r) in (
-            was g p,
-            (λ i. seen_frames s g p (take (at i) (is i)) v) ∙ ap (λ y. seen_frames s g p y v)
-                (take-append-add front (f ∷ back) 0 ∙ append-nil front) ∙ all_stay s front early g p
-                v
-                ∙ seen,
-            there rows (ap (λ y. message_taken y.body) same_frame ∙ leaves) g p,
-          )
-      behind (suc k) at r =
-          lie (sym leave_rows_said ∙ no_rows_at s back (calm_rows s back late) k x r)
+    read : IsReadAt v f (pieces v whole_said) k
+    read = reads_at v block (pieces v whole_said) (reads v whole_said can) k f it.stands
 
-      by : Parted front (f ∷ back) m x
-          → (n : ℕ) × (seen_frames s g p (take m fs) v ≡ Some n) × (rows_of g p rows ≤ n)
-      by (InFirst r less) =
-          lie (sym leave_rows_said ∙ no_rows_at s front (calm_rows s front early) m x r)
-      by (InSecond k at r) = behind k at r
+    piece : IsPiece None kind s [] rows 0 cut k read.part
+    piece = piece_at kind s 0 (cuts v rows) rows [] None refl k read.part
+        (ap (λ ps. slice_get ps k) (sym cut_is) ∙ read.stands)
 
-  no_leave_in : (front : List OutFrame) (f : OutFrame) (back : List OutFrame) → AllCalm s front
-      → AllCalm s back → ((left : List Row) → message_taken f.body ≡ Some (Message.Leave s left)
-      → ⊥)
-      → (fs : List OutFrame) → fs ≡ front ++ f ∷ back → (m : ℕ) → slice_get fs m ≡ Some x → ⊥
-  no_leave_in front f back early late none fs is m q =
-      by (part front (f ∷ back) m x (ap (λ y. slice_get y m) (sym is) ∙ q))
-    where
-      behind : (k : ℕ) → slice_get (f ∷ back) k ≡ Some x → ⊥
-      behind zero r = grind arith
-      behind (suc k) r = lie (sym leave_rows_said ∙ no_rows_at s back (calm_rows s back late) k x r)
+    taken_so : take m fs ≡ front ++ take k block
+    taken_so =
+        let less = slice_get_within block k f it.stands in
+        (λ i. take (it.at i) (is i)) ∙ take-append-add front (block ++ back) k
+        ∙ ap (λ y. front ++ y) (take-append-le k block back (omega (arith, less)))
 
-      by : Parted front (f ∷ back) m x → ⊥
-      by (InFirst r less) =
-          lie (sym leave_rows_said ∙ no_rows_at s front (calm_rows s front early) m x r)
-      by (InSecond k at r) = behind k r
+    said_so : said v (take k block) ≡ take k cut
+    said_so = said_take v block (pieces v whole_said) (reads v whole_said can) k
+        ∙ ap (take k) cut_is
 
-module _ (o : Opening) (l : ℕ) (s : List ℕ) where
+    begun_so : begun_by None (said v (take m fs)) ≡ begun_by None (take k cut)
+    begun_so =
+        ap (λ y. begun_by None (said v y)) taken_so
+        ∙ ap (begun_by None) (frames_apart v front (take k block))
+        ∙ begun_apart None (said v front) (said v (take k block))
+        ∙ (λ i. begun_by (early.ends i) (said_so i))
+
+    view_so : (g : List ℕ) (p : Pid) (x : Option ℕ) → seen_frames v s g p (take m fs) x ≡ x
+    view_so g p x =
+        ap (λ y. seen_frames v s g p y x) taken_so
+        ∙ frames_seen v s g p front (take k block) x early.ends
+        ∙ ap (seen_frames v s g p (take k block)) (early.stays g p x)
+        ∙ ap (λ ms. seen_by s g p ms x) (ap (completed_by None) said_so ∙ piece.none)
+
+    -- the part that is read there
+    says : message_taken v f.body
+        ≡ Some (Message2.Part kind s piece.number piece.last piece.some)
+    says = read.says ∙ ap Some piece.is
+
+    -- behind its last part the message is said
+    at_last : has_rows v s f.body ≡ true → (g : List ℕ) (p : Pid) (x : Option ℕ)
+        → seen_frames v s g p (take (suc m) fs) x ≡ seen s g p whole_said x
+    at_last has g p x =
+        ap (λ y. seen_frames v s g p y x)
+        ((λ i. take (suc (it.at i)) (is i)) ∙ ap (λ j. take j (front ++ (block ++ back))) place_is
+        ∙ take-append-add front (block ++ back) (length block)
+        ∙ ap (λ y. front ++ y) (take-append-le (length block) block back (omega arith)
+        ∙ take-length block))
+        ∙ frames_seen v s g p front block x early.ends
+        ∙ ap (seen_frames v s g p block) (early.stays g p x)
+        ∙ message_seen v whole_said can s g p x
+      where
+        last_is : piece.last ≡ true
+        last_is = (and_parts piece.last (same s s)
+            (sym (ap (λ y. option_map_or (ends_rows s) y false) says) ∙ has)).0
+
+        place_is : suc (length front + k) ≡ length front + length block
+        place_is =
+            let end = piece.ends last_is in
+            let long = reads_length v block (pieces v whole_said) (reads v whole_said can)
+            ∙ ap length cut_is in
+            omega (arith, end, long)
+
+    module _ (told_before : Bool) (was now : List ℕ → Pid → ℕ)
+        (told_so : IsTold v s told_before was now kind rows) (x : List ℕ → Pid → Option ℕ)
+        (before : WasSeen told_before was x) where
+      few_at : FewAt v s x (begun_by None (take k cut))
+          (Message2.Part kind s piece.number piece.last piece.some)
+      few_at = subst (IsFew v s x kind) (sym piece.so_far)
+          (told_so.few x before piece.first piece.rest piece.whole_is)
+
+      there_at : (j : PartKind) → kind ≡ j → ThereAt s x (begun_by None (take k cut))
+          (Message2.Part j s piece.number piece.last piece.some)
+      there_at PartKind.Leave leaves =
+          subst (AreThere x)
+          (sym (ap (λ j. rows_so_far (begun_by None (take k cut)) j s piece.number piece.some)
+          (sym leaves) ∙ piece.so_far))
+          (λ g p. (let all = told_so.there x before leaves g p in
+          let less = fewer_of g p piece.first piece.rest rows piece.whole_is in
+          let low = all.2 in
+          (all.0, all.1, omega (arith, less, low))))
+      there_at j other = tt
+
+module _ (v : ℕ) (o : Opening) (l : ℕ) (s : List ℕ) where
   module _ (e : Entry) (es : List Entry) (made : IsStep (past o es) e)
-      (before : PassesThrough (past o es) l s) where
+      (before : PassesThrough v (past o es) l s)
+      (ends : begun_of v (bodies_of (out_in o l es)) ≡ None) where
     abbrev fs : List OutFrame
     fs = owed (past o es) l e.number e.event e.verdict
 
     abbrev view : List ℕ → Pid → Option ℕ
-    view g p = view_of s g p (bodies_of (out_in o l es))
+    view g p = view_of v s g p (bodies_of (out_in o l es))
 
-    now_seen : EntryTells o l s e es → told l s (e ∷ es) ≡ true → (g : List ℕ) (p : Pid)
-        → seen_frames s g p fs (view g p) ≡ Some (own (past o (e ∷ es)) s g p)
-    now_seen (Silent calm stays) t g p = grind (arith, all_stay s fs calm g p (view g p), stays t)
-    now_seen (Synced front f back is early late says none) t g p = in_all s front f back early late
-        g p (view g p) (own (past o (e ∷ es)) s g p) (says g p (view g p)) fs is
-    now_seen (Moved front f back is early late was moves there) t g p = grind (arith, in_all)
-    now_seen (Ended none ends) t g p = cc
+    seen_before : WasSeen (told o l s es) (own (past o es) s) view
+    seen_before tells g p = before.now tells g p
 
-    then_seen : EntryTells o l s e es → (m : ℕ) (x : OutFrame) → slice_get fs m ≡ Some x
-        → has_rows s x.body ≡ true → (g : List ℕ) (p : Pid)
-        → seen_frames s g p (take (suc m) fs) (view g p) ≡ Some (own (past o (e ∷ es)) s g p)
+    now_seen : EntryTells v o l s e es → told o l s (e ∷ es) ≡ true → (g : List ℕ) (p : Pid)
+        → seen_frames v s g p fs (view g p) ≡ Some (own (past o (e ∷ es)) s g p)
+    now_seen (Silent calm stays) t g p =
+        calm.stays g p (view g p) ∙ before.now (stays t).0 g p ∙ ap Some (sym ((stays t).1 g p))
+    now_seen (Spoke front kind rows back is early late can it) t g p =
+        in_all v s front kind rows back early late can fs is g p (view g p)
+        ∙ it.says view seen_before g p
+    now_seen (Ended none ends) t g p = lie (sym t ∙ ends)
+
+    then_seen : EntryTells v o l s e es → (m : ℕ) (x : OutFrame) → slice_get fs m ≡ Some x
+        → has_rows v s x.body ≡ true → (g : List ℕ) (p : Pid)
+        → seen_frames v s g p (take (suc m) fs) (view g p) ≡ Some (own (past o (e ∷ es)) s g p)
     then_seen (Silent calm stays) m x q has g p =
-        grind (arith, no_rows_at s fs (calm_rows s fs calm) m x q)
-    then_seen (Synced front f back is early late says none) m x q has g p =
-        at_rows s front f back early late g p (view g p) (own (past o (e ∷ es)) s g p)
-        (says g p (view g p)) fs is m x q has
-    then_seen (Moved front f back is early late was moves there) m x q has g p =
-        grind (arith, at_rows)
-    then_seen (Ended none ends) m x q has g p = grind (arith, no_rows_at s fs none m x q)
+        lie (sym (rows_part v s x.body has) ∙ no_rows_at v s fs calm.no_rows m x q)
+    then_seen (Spoke front kind rows back is early late can it) m x q has g p =
+        at_last v s front kind rows back early late can fs is m x
+        (within v s front kind rows back early late can fs is m x q (rows_part v s x.body has))
+        has g p (view g p) ∙ it.says view seen_before g p
+    then_seen (Ended none ends) m x q has g p =
+        lie (sym (rows_part v s x.body has) ∙ no_rows_at v s fs none m x q)
 
-    there_seen : EntryTells o l s e es → (m : ℕ) (x : OutFrame) → slice_get fs m ≡ Some x
-        → (rows : List Row) → message_taken x.body ≡ Some (Message.Leave s rows)
-        → (g : List ℕ) (p : Pid)
-        → (n : ℕ) × (seen_frames s g p (take m fs) (view g p) ≡ Some n) × (rows_of g p rows ≤ n)
-    there_seen (Silent calm stays) m x q rows leaves g p =
-        lie (sym (leave_rows_said s x rows leaves) ∙ no_rows_at s fs (calm_rows s fs calm) m x q)
-    there_seen (Synced front f back is early late says none) m x q rows leaves g p =
-        grind (arith, no_leave_in)
-    there_seen (Moved front f back is early late was moves there) m x q rows leaves g p =
-        there_in s x rows leaves front f back early late (own (past o es) s) there fs is m q g p
-        (view g p) (before.now was g p)
-    there_seen (Ended none ends) m x q rows leaves g p = grind (arith, leave_rows_said, no_rows_at)
+    -- at a part: the view, and what is kept, are these; and with the rows so far these hold
+    record PartSeen (m : ℕ) (f : Message2) : Type 0 where
+      kept : Option Begun
+      kept_is : begun_by None (said v (take m fs)) ≡ kept
+      stays : (g : List ℕ) (p : Pid) → seen_frames v s g p (take m fs) (view g p) ≡ view g p
+      few : FewAt v s view kept f
+      there : ThereAt s view kept f
 
-    module _ (tells : EntryTells o l s e es) (legal : IsPlayedIn o es) where
-      there : (n : ℕ) (x : Owing) → slice_get (out_in o l (e ∷ es)) n ≡ Some x → (rows : List Row)
-          → message_taken x.frame.body ≡ Some (Message.Leave s rows) → (g : List ℕ) (p : Pid)
-          → (k : ℕ) × (view_of s g p (bodies_of (take n (out_in o l (e ∷ es)))) ≡ Some k)
-          × (rows_of g p rows ≤ k)
-      there n x q rows leaves g p = by (part (out_in o l es) (owes (past o es) l e) n x q)
+    part_seen : EntryTells v o l s e es → (m : ℕ) (x : OutFrame) → slice_get fs m ≡ Some x
+        → (f : Message2) → message_taken v x.body ≡ Some f → is_part s (Some f) ≡ true
+        → PartSeen m f
+    part_seen (Silent calm stays) m x q f says its =
+        lie (sym (ap (is_part s) says ∙ its) ∙ no_rows_at v s fs calm.no_rows m x q)
+    part_seen (Ended none ends) m x q f says its =
+        lie (sym (ap (is_part s) says ∙ its) ∙ no_rows_at v s fs none m x q)
+    part_seen (Spoke front kind rows back is early late can it) m x q f taken_is its =
+        let here = within v s front kind rows back early late can fs is m x q
+        (ap (is_part s) taken_is ∙ its) in
+        let same_part = value_of
+        (sym (says v s front kind rows back early late can fs is m x here) ∙ taken_is) in
+        record {
+          kept = begun_by None (take here.place (parts_from kind s 1 (cuts v rows) rows));
+          kept_is = begun_so v s front kind rows back early late can fs is m x here;
+          stays = λ g p. view_so v s front kind rows back early late can fs is m x here g p
+              (view g p);
+          few = subst (FewAt v s view
+              (begun_by None (take here.place (parts_from kind s 1 (cuts v rows) rows)))) same_part
+              (few_at v s front kind rows back early late can fs is m x here (told o l s es)
+              (own (past o es) s) (own (past o (e ∷ es)) s) it view seen_before);
+          there = subst (ThereAt s view
+              (begun_by None (take here.place (parts_from kind s 1 (cuts v rows) rows)))) same_part
+              (there_at v s front kind rows back early late can fs is m x here (told o l s es)
+              (own (past o es) s) (own (past o (e ∷ es)) s) it view seen_before kind refl);
+        }
+
+    module _ (tells : EntryTells v o l s e es) (legal : IsPlayedIn o es) where
+      -- a place in what was owed before, or one in what is owed now
+      earlier_take : (n : ℕ) (x : Owing) → n < length (out_in o l es)
+          → take n (out_in o l (e ∷ es)) ≡ take n (out_in o l es)
+      earlier_take n x less =
+          take-append-le n (out_in o l es) (owes (past o es) l e) (omega (arith, less))
+
+      now_take : (n m : ℕ) → n ≡ length (out_in o l es) + m
+          → take n (out_in o l (e ∷ es)) ≡ out_in o l es ++ map (owing e.number) (take m fs)
+      now_take n m at = ap (λ j. take j (out_in o l (e ∷ es))) at
+          ∙ take-append-add (out_in o l es) (owes (past o es) l e) m
+          ∙ ap (λ ys. out_in o l es ++ ys) (take_owing e.number m fs)
+
+      -- behind that, while nothing completes
+      now_view : (n m : ℕ) → n ≡ length (out_in o l es) + m → (f : Message2) → PartSeen m f
+          → (g : List ℕ) (p : Pid)
+          → view_of v s g p (bodies_of (take n (out_in o l (e ∷ es)))) ≡ view g p
+      now_view n m at f it g p = ap (λ ys. view_of v s g p (bodies_of ys)) (now_take n m at)
+          ∙ view_after v (out_in o l es) ends e.number (take m fs) s g p ∙ it.stays g p
+
+      now_begun : (n m : ℕ) → n ≡ length (out_in o l es) + m → (f : Message2) → (it : PartSeen m f)
+          → begun_of v (bodies_of (take n (out_in o l (e ∷ es)))) ≡ it.kept
+      now_begun n m at f it = ap (λ ys. begun_of v (bodies_of ys)) (now_take n m at)
+          ∙ begun_after_them v (out_in o l es) ends e.number (take m fs) ∙ it.kept_is
+
+      few : (n : ℕ) (x : Owing) → slice_get (out_in o l (e ∷ es)) n ≡ Some x
+          → (kind : PartKind) (number : ℕ) (last : Bool) (rows : List Row)
+          → message_taken v x.frame.body ≡ Some (Message2.Part kind s number last rows)
+          → IsFew v s (λ g p. view_of v s g p (bodies_of (take n (out_in o l (e ∷ es))))) kind
+          (so_far_behind v (bodies_of (take n (out_in o l (e ∷ es)))) kind s number rows)
+      few n x q kind number last rows says =
+          by (part (out_in o l es) (owes (past o es) l e) n x q)
         where
           by : Parted (out_in o l es) (owes (past o es) l e) n x
-              → (k : ℕ) × (view_of s g p (bodies_of (take n (out_in o l (e ∷ es)))) ≡ Some k)
-              × (rows_of g p rows ≤ k)
+              → IsFew v s (λ g p. view_of v s g p (bodies_of (take n (out_in o l (e ∷ es))))) kind
+              (so_far_behind v (bodies_of (take n (out_in o l (e ∷ es)))) kind s number rows)
           by (InFirst r less) =
-              let was = before.there n x r rows leaves g p in (
-                was.0,
-                ap (λ xs. view_of s g p (bodies_of xs)) (take-append-le n (out_in o l es)
-                    (owes (past o es) l e) (omega (arith, less))) ∙ was.1,
-                was.2,
-              )
+              subst (λ ys. IsFew v s (λ g p. view_of v s g p (bodies_of ys)) kind
+              (so_far_behind v (bodies_of ys) kind s number rows)) (sym (earlier_take n x less))
+              (before.few n x r kind number last rows says)
           by (InSecond m at r) =
               let here = owed_here e.number fs m x r in
-              let it = there_seen tells m x.frame here.frame rows leaves g p in (
-                it.0,
-                ap (λ j. view_of s g p (bodies_of (take j (out_in o l (e ∷ es))))) at
-                    ∙ ap (λ xs. view_of s g p (bodies_of xs))
-                    (take-append-add (out_in o l es) (owes (past o es) l e) m
-                    ∙ ap (λ ys. out_in o l es ++ ys) (take_owing e.number m fs))
-                    ∙ view_after s g p (out_in o l es) e.number (take m fs) ∙ it.1,
-                it.2,
+              let f = Message2.Part kind s number last rows in
+              let it = part_seen tells m x.frame here.frame f says ((same_decides s s).1 refl) in
+              let all = subst (λ b. IsFew v s view kind (rows_so_far b kind s number rows))
+              (sym (now_begun n m at f it)) (PartSeen.few it) in (
+                all.0,
+                (λ g p. (let one = all.1 g p in (
+                  one.0,
+                  ap (seen s g p (message_of kind s
+                      (so_far_behind v (bodies_of (take n (out_in o l (e ∷ es)))) kind s number
+                      rows))) (now_view n m at f it g p) ∙ one.1,
+                  one.2,
+                ))),
+                all.2,
               )
 
+      there : (n : ℕ) (x : Owing) → slice_get (out_in o l (e ∷ es)) n ≡ Some x
+          → (number : ℕ) (last : Bool) (rows : List Row)
+          → message_taken v x.frame.body ≡ Some (Message2.Part PartKind.Leave s number last rows)
+          → AreThere (λ g p. view_of v s g p (bodies_of (take n (out_in o l (e ∷ es)))))
+          (so_far_behind v (bodies_of (take n (out_in o l (e ∷ es)))) PartKind.Leave s number rows)
+      there n x q number last rows says =
+          by (part (out_in o l es) (owes (past o es) l e) n x q)
+        where
+          by : Parted (out_in o l es) (owes (past o es) l e) n x
+              → AreThere (λ g p. view_of v s g p (bodies_of (take n (out_in o l (e ∷ es)))))
+              (so_far_behind v (bodies_of (take n (out_in o l (e ∷ es)))) PartKind.Leave s number
+              rows)
+          by (InFirst r less) =
+              subst (λ ys. AreThere (λ g p. view_of v s g p (bodies_of ys))
+              (so_far_behind v (bodies_of ys) PartKind.Leave s number rows))
+              (sym (earlier_take n x less)) (before.there n x r number last rows says)
+          by (InSecond m at r) =
+              let here = owed_here e.number fs m x r in
+              let f = Message2.Part PartKind.Leave s number last rows in
+              let it = part_seen tells m x.frame here.frame f says ((same_decides s s).1 refl) in
+              let all = subst
+              (λ b. AreThere view (rows_so_far b PartKind.Leave s number rows))
+              (sym (now_begun n m at f it)) (PartSeen.there it) in
+              λ g p. (let one = all g p in
+              (one.0, now_view n m at f it g p ∙ one.1, one.2))
+
       moments : (n : ℕ) (x : Owing) → slice_get (out_in o l (e ∷ es)) n ≡ Some x
-          → has_rows s x.frame.body ≡ true → (g : List ℕ) (p : Pid)
-          → view_of s g p (bodies_of (take (n + 1) (out_in o l (e ∷ es)))) ≡ Some
+          → has_rows v s x.frame.body ≡ true → (g : List ℕ) (p : Pid)
+          → view_of v s g p (bodies_of (take (n + 1) (out_in o l (e ∷ es)))) ≡ Some
           (own (moment x.source (past o (e ∷ es))) s g p)
       moments n x q has g p = by (part (out_in o l es) (owes (past o es) l e) n x q)
         where
           by : Parted (out_in o l es) (owes (past o es) l e) n x
-              → view_of s g p (bodies_of (take (n + 1) (out_in o l (e ∷ es)))) ≡ Some
+              → view_of v s g p (bodies_of (take (n + 1) (out_in o l (e ∷ es)))) ≡ Some
               (own (moment x.source (past o (e ∷ es))) s g p)
           by (InFirst r less) =
-              grind (
-                arith,
-                take-append-le (n + 1) (out_in o l es) (owes (past o es) l e) (omega (arith, less)),
-                x,
-                earlier_moment o e es x.source (is_entry o l es legal n x r).within,
-              )
+              ap (λ ys. view_of v s g p (bodies_of ys))
+              (take-append-le (n + 1) (out_in o l es) (owes (past o es) l e) (omega (arith, less)))
+              ∙ before.moments n x r has g p
+              ∙ ap (λ h. Some (own h s g p))
+              (sym (earlier_moment o e es x.source (is_entry o l es legal n x r).within))
           by (InSecond m at r) =
               let here = owed_here e.number fs m x r in
-              let places : n + 1 ≡ length (out_in o l es) + suc m = omega (arith, at) in
-              ap (λ j. view_of s g p (bodies_of (take j (out_in o l (e ∷ es))))) places
-              ∙ ap (λ xs. view_of s g p (bodies_of xs))
-              (take-append-add (out_in o l es) (owes (past o es) l e) (suc m)
-              ∙ ap (λ ys. out_in o l es ++ ys) (take_owing e.number (suc m) fs))
-              ∙ view_after s g p (out_in o l es) e.number (take (suc m) fs)
+              ap (λ ys. view_of v s g p (bodies_of ys))
+              (now_take (n + 1) (suc m) (omega (arith, at)))
+              ∙ view_after v (out_in o l es) ends e.number (take (suc m) fs) s g p
               ∙ then_seen tells m x.frame here.frame has g p
               ∙ ap (λ h. Some (own h s g p))
               (sym (this_moment o e es x.source
               (here.source ∙ owed_number o es e made l m x.frame here.frame)))
 
-      now : told l s (e ∷ es) ≡ true → (g : List ℕ) (p : Pid)
-          → view_of s g p (bodies_of (out_in o l (e ∷ es))) ≡ Some (own (past o (e ∷ es)) s g p)
-      now t g p = view_after s g p (out_in o l es) e.number fs ∙ now_seen tells t g p
+      now : told o l s (e ∷ es) ≡ true → (g : List ℕ) (p : Pid)
+          → view_of v s g p (bodies_of (out_in o l (e ∷ es))) ≡ Some (own (past o (e ∷ es)) s g p)
+      now t g p = view_after v (out_in o l es) ends e.number fs s g p ∙ now_seen tells t g p
 
-  pub passes : (es : List Entry) → IsPlayedIn o es → AllTell o l s es
-      → PassesThrough (past o es) l s
-  passes [] legal tell = grind arith
-  passes (e ∷ es) legal tell =
-      let before = passes es legal.1 tell.1 in
+  pub passes : (es : List Entry) → IsNode (past o es) → Speaks o l v es → AllTell v o l s es
+      → PassesThrough v (past o es) l s
+  passes [] node speaks tell = record {
+    moments = λ n x q has g p. lie (sym (ap is_some q));
+    now = λ t g p. lie (sym t);
+    few = λ n x q kind number last rows says. lie (sym (ap is_some q));
+    there = λ n x q number last rows says. lie (sym (ap is_some q));
+  }
+  passes (e ∷ es) node speaks tell =
+      let was = node_before o e es node in
+      let before = passes es was speaks.1 tell.1 in
+      let ends = (out_orderly o es was l v speaks.1).ends in
       record {
-        moments = moments e es legal.0 before tell.0 legal.1;
-        now = now e es legal.0 before tell.0 legal.1;
-        there = there e es legal.0 before tell.0 legal.1;
+        moments = moments e es node.legal.0 before ends tell.0 node.legal.1;
+        now = now e es node.legal.0 before ends tell.0 node.legal.1;
+        few = few e es node.legal.0 before ends tell.0 node.legal.1;
+        there = there e es node.legal.0 before ends tell.0 node.legal.1;
       }

@@ -1,6 +1,7 @@
 -- The places of told rows fall, and each is the place of a frame that came.
 use Rattle.frame_laws.proofs
 use proofs.Words.{Accepted, AllByRecursion, arith, Bool, came, cond, delivered, Entry, Event, Falls}
+use proofs.Words.{ap, is_whole, lie, Opening, option_map_or, said_at, says_rows, sym, ◌&&◌, ◌==◌}
 use proofs.Words.{false, heard, length, length-append, List, refl, Refused, tells_rows, told_rows}
 use proofs.Words.{true, Verdict, ℕ, [], ◌++◌, ◌+◌, ◌<◌, ◌∷◌, ◌≡◌, ◌≤◌}
 
@@ -10,41 +11,47 @@ lower n m le [] all = tt
 lower n m le (x ∷ xs) all = grind (arith, lower n m le xs all.1)
 
 -- what tells rows came
-one_came : (l : ℕ) (s : List ℕ) (es : List Entry) (ev : Event) (v : Verdict)
-    → tells_rows l s es v ev ≡ true → length (came l ev) ≡ 1
-one_came l s es (Event.Frame k body) (Accepted r) q = grind arith
-one_came l s es ev (Accepted r) q = cc
-one_came l s es ev (Refused r) q = cc
+one_came : (o : Opening) (l : ℕ) (s : List ℕ) (es : List Entry) (ev : Event) (v : Verdict)
+    → tells_rows o l s es v ev ≡ true → length (came l ev) ≡ 1
+one_came o l s es (Event.Frame k body) (Accepted r) q = by (k == l) refl q
+  where
+    by : (b : Bool) → (k == l) ≡ b → ((b && is_whole l es)
+        && option_map_or (says_rows s) (said_at o l es body) false) ≡ true
+        → length (came l (Event.Frame k body)) ≡ 1
+    by true is q = ap (λ b. length (cond b (body ∷ []) [])) is
+    by false other q = lie (sym q)
+one_came o l s es ev (Accepted r) q = cc
+one_came o l s es ev (Refused r) q = cc
 
 pub record AreBelow (n : ℕ) (xs : List ℕ) : Type 0 where
   pub below : AllByRecursion (λ x. x < n) xs
   pub falls : Falls xs
 
-pub told_fall : (l : ℕ) (s : List ℕ) (es : List Entry)
-    → AreBelow (length (delivered l es)) (told_rows l s es)
-told_fall l s [] = grind arith
-told_fall l s (e ∷ es) = by (heard l s (e ∷ es)) (tells_rows l s es e.verdict e.event) refl
-    (told_fall l s es)
+pub told_fall : (o : Opening) (l : ℕ) (s : List ℕ) (es : List Entry)
+    → AreBelow (length (delivered l es)) (told_rows o l s es)
+told_fall o l s [] = grind arith
+told_fall o l s (e ∷ es) = by (heard o l s (e ∷ es)) (tells_rows o l s es e.verdict e.event) refl
+    (told_fall o l s es)
   where
     grown : length (delivered l (e ∷ es)) ≡ length (delivered l es) + length (came l e.event)
     grown = grind (arith, length-append)
 
-    by : (b c : Bool) → tells_rows l s es e.verdict e.event ≡ c
-        → AreBelow (length (delivered l es)) (told_rows l s es)
+    by : (b c : Bool) → tells_rows o l s es e.verdict e.event ≡ c
+        → AreBelow (length (delivered l es)) (told_rows o l s es)
         → AreBelow (length (delivered l (e ∷ es)))
-        (cond b (cond c (length (delivered l es) ∷ []) [] ++ told_rows l s es) [])
+        (cond b (cond c (length (delivered l es) ∷ []) [] ++ told_rows o l s es) [])
     by false c q before = grind arith
     by true false q before =
         grind (
           arith,
           lower (length (delivered l es)) (length (delivered l (e ∷ es))) (omega (arith, grown))
-              (told_rows l s es) before.below,
+              (told_rows o l s es) before.below,
         )
     by true true q before =
         grind (
           arith,
-          one_came l s es e.event e.verdict q,
+          one_came o l s es e.event e.verdict q,
           grown,
           lower (length (delivered l es)) (length (delivered l (e ∷ es))) (omega (arith, grown))
-              (told_rows l s es) before.below,
+              (told_rows o l s es) before.below,
         )

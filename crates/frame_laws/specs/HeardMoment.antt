@@ -17,9 +17,10 @@ pub record HearsMoment (A : History) (a : ℕ) (B : History) (b : ℕ) (s : List
   pub place : ℕ
   pub earlier : List ℕ
   pub source : ℕ
-  pub last : told_rows b s B.entries ≡ place ∷ earlier
+  pub last : told_rows B.opening b s B.entries ≡ place ∷ earlier
   pub is_source : source_at place (out A a) ≡ Some source
   pub in_order : AllByRecursion (λ n. (k : ℕ) × (source_at n (out A a) ≡ Some k) × (k ≤ source)) earlier
   pub proved : IsProvedLink (moment source A) a
-  pub rows : (g : List ℕ) (p : Pid) → stated b s g p B.entries ≡ own (moment source A) s g p
+  pub rows : (g : List ℕ) (p : Pid)
+      → stated B.opening b s g p B.entries ≡ own (moment source A) s g p
   pub listed_is : (g : List ℕ) (p : Pid) → IsTrue (same p.node A.opening.name) → listed B s g p ≡ own (moment source A) s g p

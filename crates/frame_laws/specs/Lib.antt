@@ -1,9 +1,11 @@
 pub mod Sent
 pub mod Moments
+pub mod Spoken
 pub mod ToldRows
 pub mod Views
 pub mod Written
 pub mod Says
+pub mod BegunAt
 pub mod Hellos
 pub mod Known
 pub mod MaySay

@@ -12,7 +12,10 @@ use Rattle.policy_audit.specs.declared.entry.Verdict.{Verdict}
 use Rattle.policy_audit.specs.declared.entry.Verdict.TheVariants.{Accepted}
 use Rattle.policy_audit.specs.declared.entry.Entry.{Entry}
 use Rattle.policy_audit.specs.Sides.{is_whole}
-use Rattle.policy_audit.specs.Hearing.{message_taken, heard}
+use Rattle.link_frames.specs.declared.part.Message2.{Message2}
+use Rattle.link_frames.specs.declared.part.Message2.TheVariants as frames
+use Rattle.policy_audit.specs.declared.opening.Opening.{Opening}
+use Rattle.policy_audit.specs.Hearing.{message_taken, said_at, heard}
 use Rattle.frame_laws.specs.Sent.{delivered}
 
 -- a Sync, a Join or a Leave of s
@@ -22,20 +25,29 @@ says_rows s (said.Join t rows) = same t s
 says_rows s (said.Leave t rows) = same t s
 says_rows s m = false
 
--- the body spells a Sync, a Join or a Leave of s
-abbrev pub has_rows : List ℕ → List ℕ → Bool
-has_rows s body = option_map_or (says_rows s) (message_taken body) false
+-- the last part of a Sync, a Join or a Leave of s
+abbrev pub ends_rows : List ℕ → Message2 → Bool
+ends_rows s (frames.Part kind t number last rows) = last && same t s
+ends_rows s m = false
 
--- the entry after these is an accepted Sync, Join or Leave of s on link l
-abbrev pub tells_rows : ℕ → List ℕ → List Entry → Verdict → Event → Bool
-tells_rows l s es (Accepted r) (event.Frame k body) = (k == l && is_whole l es) && has_rows s body
-tells_rows l s es v e = false
+-- the body says one
+abbrev pub has_rows : ℕ → List ℕ → List ℕ → Bool
+has_rows version s body = option_map_or (ends_rows s) (message_taken version body) false
 
--- in the present hearing of s on link l: the places, among all frames that came on l, of the accepted Syncs, Joins and Leaves of s,
--- the newest first
-abbrev pub told_rows : ℕ → List ℕ → List Entry → List ℕ
-told_rows l s [] = []
-told_rows l s (e ∷ es) = cond (heard l s (e ∷ es)) (cond (tells_rows l s es e.verdict e.event) (length (delivered l es) ∷ []) [] ++ told_rows l s es) []
+-- the entry after these completes a Sync, a Join or a Leave of s on link l
+abbrev pub tells_rows : Opening → ℕ → List ℕ → List Entry → Verdict → Event → Bool
+tells_rows o l s es (Accepted r) (event.Frame k body) =
+    (k == l && is_whole l es) && option_map_or (says_rows s) (said_at o l es body) false
+tells_rows o l s es v e = false
+
+-- in the present hearing of s on link l: the places, among all frames that came on l, of the frames
+-- that completed a Sync, a Join or a Leave of s, the newest first
+abbrev pub told_rows : Opening → ℕ → List ℕ → List Entry → List ℕ
+told_rows o l s [] = []
+told_rows o l s (e ∷ es) =
+    cond (heard o l s (e ∷ es))
+    (cond (tells_rows o l s es e.verdict e.event) (length (delivered l es) ∷ []) []
+    ++ told_rows o l s es) []
 
 -- each number is greater than all that follow it
 abbrev pub Falls : List ℕ → Type 0

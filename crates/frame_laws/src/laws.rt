@@ -1,5 +1,6 @@
 //! Laws of what a node owes to a link over its whole life. Each function does nothing; its contract is the law.
-ghost use Rattle.std.specs.Prelude.{◌≡◌, ℕ, ◌≤◌, ◌<◌, false, List, [], ◌++◌, ◌∷◌, Some, length, slice_get, IsTrue};
+ghost use Rattle.std.specs.Prelude.{◌≡◌, ℕ, ◌≤◌, ◌<◌, false, List, [], ◌++◌, ◌∷◌, Some, length};
+ghost use Rattle.std.specs.Prelude.{slice_get, take, IsTrue};
 ghost use Rattle.std.specs.List.{AllByRecursion};
 ghost use Rattle.dist_types.specs.declared.pid.Pid.{Pid};
 ghost use Rattle.dist_types.specs.Listing.{same};
@@ -7,21 +8,26 @@ ghost use Rattle.policy_audit.specs.declared.event.Event.TheVariants as events;
 ghost use Rattle.policy_audit.specs.declared.entry.Entry.{Entry};
 ghost use Rattle.policy_audit.specs.OutFrame.{OutFrame};
 ghost use Rattle.handshake_frames.specs.Frame.{Challenge};
-ghost use Rattle.link_frames.specs.declared.message.Message.{Message};
+ghost use Rattle.link_frames.specs.declared.part.Message2.{Message2};
+ghost use Rattle.link_frames.specs.Parts.{Begun, KeepsOrNot};
 ghost use Rattle.handshake_frames.specs.Reading.{name_frame, challenge_frame};
 ghost use Rattle.policy_audit.specs.History.{History, creation, entered, is_accepted, just};
 ghost use Rattle.policy_audit.specs.Sides.{ByPeer, ByDial, Opened, opened, is_visible, is_whole};
 ghost use Rattle.policy_audit.specs.Links.{is_open, is_up};
 ghost use Rattle.policy_audit.specs.Own.{is_running, own};
-ghost use Rattle.policy_audit.specs.Hearing.{heard, told, stated, message_taken, said_on};
+ghost use Rattle.policy_audit.specs.declared.opening.Opening.{Opening};
+ghost use Rattle.policy_audit.specs.Hearing.{begun, frame_taken, message_taken, heard, told};
+ghost use Rattle.policy_audit.specs.Hearing.{stated};
 ghost use Rattle.policy_audit.specs.Listed.{listed};
 ghost use Rattle.policy_audit.specs.Owed.{waiting};
 ghost use Rattle.policy_audit.specs.Policy.{IsPlayed, is_full, verdict};
 ghost use Rattle.frame_laws.specs.Sent.{Owing, out, source_at, frames_of, bodies_of, sent, delivered};
 ghost use Rattle.frame_laws.specs.Honest.{IsHonest, HasGiven, HeardIsSaid};
 ghost use Rattle.frame_laws.specs.ToldRows.{told_rows, Falls};
-ghost use Rattle.frame_laws.specs.MaySay.{MaySay, scope_of};
-ghost use Rattle.frame_laws.specs.Says.{SaysOne, is_of};
+ghost use Rattle.frame_laws.specs.MaySay.{MaySay};
+ghost use Rattle.frame_laws.specs.Says.{SaysOne, is_of, scope_in};
+ghost use Rattle.frame_laws.specs.Spoken.{begun_of, Speaks};
+ghost use Rattle.frame_laws.specs.BegunAt.{IsBegun};
 ghost use Rattle.frame_laws.specs.Given.{IsNamedFirst, IsAskedOnce};
 ghost use Rattle.frame_laws.specs.HeardMoment.{HearsMoment};
 ghost use Rattle.frame_laws.specs.Hellos.{own_hello, hello_in, opening_of};
@@ -52,18 +58,32 @@ pub fn said_once_up()
         → IsTrue x.frame.wide → IsProvedLink (moment x.source h) l }
 {}
 
-/// Every frame that a node owes is one of the handshake, whose body spells no message, or a message that is read as it was meant. The
-/// rows of a message are of the node's own name, and of its creation at the opening of the link.
+/// A link speaks one version of link messages whenever its side is whole.
+pub fn one_version()
+    ensures { (h : History) → IsPlayed h → (l : ℕ) → (version : ℕ) × Speaks h.opening l version
+        h.entries }
+{}
+
+/// Every frame that a node owes on a link is one of the handshake, whose body spells no message, or
+/// a message, or a part of one, that is read as it was meant in the version that the link speaks.
+/// The rows of a message are of the node's own name, and of its creation at the opening of the
+/// link.
 pub fn frames_say()
-    ensures one { (h : History) → IsNode h → (l n : ℕ) (x : Owing) → slice_get (out h l) n ≡ Some x → SaysOne x.frame }
-    ensures own { (h : History) → IsNode h → (l n : ℕ) (x : Owing) (m : Message) → slice_get (out h l) n ≡ Some x → message_taken x.frame.body ≡ Some m
+    ensures one { (h : History) → IsNode h → (l version : ℕ) → Speaks h.opening l version h.entries
+        → (n : ℕ) (x : Owing) → slice_get (out h l) n ≡ Some x → SaysOne version x.frame }
+    ensures own { (h : History) → IsNode h → (l version : ℕ) → Speaks h.opening l version h.entries
+        → (n : ℕ) (x : Owing) (m : Message2)
+        → slice_get (out h l) n ≡ Some x → message_taken version x.frame.body ≡ Some m
         → IsTrue (is_of h.opening.name (creation (moment l h)) m) }
 {}
 
-/// The frames owed to a link pass through the node's own rows: after each Sync, Join and Leave of a scope the view that they make
-/// is the own rows at the moment of its source, and while the peer is told, it is the own rows of now. A Leave takes away what is there.
+/// The frames owed to a link pass through the node's own rows: behind the last part of each Sync,
+/// Join and Leave of a scope the view that they make is the own rows at the moment of its source,
+/// and while the peer is told, behind all of them it is the own rows of now. With the rows of a
+/// message so far there are at no part more than may be, and a Leave takes away what is there.
 pub fn owed_rows()
-    ensures { (h : History) → IsNode h → (l : ℕ) (s : List ℕ) → PassesThrough h l s }
+    ensures { (h : History) → IsNode h → (l version : ℕ) → Speaks h.opening l version h.entries
+        → (s : List ℕ) → PassesThrough version h l s }
 {}
 
 /// What a node says of itself: its own flags, its name, its version of link messages, and its creation at the opening of the link.
@@ -78,32 +98,43 @@ pub fn hellos()
 /// While a peer is heard, what is known of its rows over a link is what the messages accepted there make of it.
 pub fn stated_after()
     ensures { (h : History) (e : Entry) → IsPlayed (just h e) → (l : ℕ) (s g : List ℕ) (p : Pid)
-        → IsTrue (heard l s (e ∷ h.entries))
-        → known l s g p (e ∷ h.entries) ≡ seen_by s g p (message_at l h.entries e.verdict e.event) (known l s g p h.entries) }
+        → IsTrue (heard h.opening l s (e ∷ h.entries))
+        → known h.opening l s g p (e ∷ h.entries)
+        ≡ seen_by s g p (message_at h.opening l h.entries e.verdict e.event)
+        (known h.opening l s g p h.entries) }
 {}
 
 /// Where a peer is heard in a scope, the scope runs, and the link is up and visible.
 pub fn who_is_heard()
-    ensures runs { (h : History) → IsPlayed h → (l : ℕ) (s : List ℕ) → IsTrue (heard l s h.entries)
+    ensures runs { (h : History) → IsPlayed h → (l : ℕ) (s : List ℕ)
+        → IsTrue (heard h.opening l s h.entries)
         → IsTrue (is_running h s) }
-    ensures up { (h : History) → IsPlayed h → (l : ℕ) (s : List ℕ) → IsTrue (heard l s h.entries)
+    ensures up { (h : History) → IsPlayed h → (l : ℕ) (s : List ℕ)
+        → IsTrue (heard h.opening l s h.entries)
         → IsTrue (is_up l h.entries) }
     ensures visible { (h : History) → IsPlayed h → (l : ℕ) (s : List ℕ)
-        → IsTrue (heard l s h.entries) → IsTrue (is_visible h l) }
+        → IsTrue (heard h.opening l s h.entries) → IsTrue (is_visible h l) }
 {}
 
-/// A message of a peer that is heard in its scope is accepted while the audit isn't full, if its rows are from the peer, a Leave names
-/// no row more often than the link has stated it, and with a Join no more than `MAX_ROWS` are stated.
+/// A message, or a part of one, of a peer that is heard in its scope is accepted while the audit
+/// isn't full, if its part is the next one, its rows are from the peer, a Leave names so far no row
+/// more often than the link has stated it, with a Join so far no more are stated than the peer may
+/// have, nor are there more in a Sync so far; and a Discover, if the own rows can be told to who
+/// asks.
 pub fn heard_accepts()
     ensures { (h : History) → IsPlayed h → is_full h ≡ false
-        → (l seat : ℕ) (body : List ℕ) (m : Message) → said_on l h.entries body ≡ Some m
-        → IsTrue (heard l (scope_of m) h.entries) → MaySay h l m → IsTrue (is_accepted (verdict h seat (events.Frame l body))) }
+        → (l seat : ℕ) (body : List ℕ) (m : Message2)
+        → frame_taken h.opening l h.entries body ≡ Some m
+        → IsTrue (heard h.opening l (scope_in m) h.entries) → MaySay h l m
+        → IsTrue (is_accepted (verdict h seat (events.Frame l body))) }
 {}
 
 /// The places of told rows fall, and each is the place of a frame that came.
 pub fn told_in_order()
-    ensures fall { (l : ℕ) (s : List ℕ) (es : List Entry) → Falls (told_rows l s es) }
-    ensures came { (l : ℕ) (s : List ℕ) (es : List Entry) → AllByRecursion (λ n. n < length (delivered l es)) (told_rows l s es) }
+    ensures fall { (o : Opening) (l : ℕ) (s : List ℕ) (es : List Entry)
+        → Falls (told_rows o l s es) }
+    ensures came { (o : Opening) (l : ℕ) (s : List ℕ) (es : List Entry)
+        → AllByRecursion (λ n. n < length (delivered l es)) (told_rows o l s es) }
 {}
 
 /// At each moment the history was legal, and a node's.
@@ -114,16 +145,43 @@ pub fn moments_stand()
 
 /// What a node owes to a link is honest, and so is each beginning of it.
 pub fn honest()
-    ensures owed { (h : History) → IsNode h → (l : ℕ) (s : List ℕ) → IsHonest h.opening.name (creation (moment l h)) s (bodies_of (out h l)) }
-    ensures first { (name : List ℕ) (creation : ℕ) (s : List ℕ) (bodies later : List (List ℕ)) → IsHonest name creation s (bodies ++ later) → IsHonest name creation s bodies }
+    ensures owed { (h : History) → IsNode h → (l version : ℕ) → Speaks h.opening l version h.entries
+        → (s : List ℕ) → IsHonest version h.opening.name (creation (moment l h)) s (bodies_of (out
+        h l)) }
+    ensures first { (version : ℕ) (name : List ℕ) (creation : ℕ) (s : List ℕ) (bodies later : List
+        (List ℕ))
+        → IsHonest version name creation s (bodies ++ later) → IsHonest version name creation s
+        bodies }
 {}
 
-/// What is heard is what was said: where all that came on a link is honest, and its peer has given the name and the creation of the node
-/// that said it, the view of all that came is what the link has stated, while the peer is heard; and so it was behind the last told rows.
+/// What is begun at a place in what a node owed is the first parts of one message, and the rest of
+/// them stand right behind that place.
+pub fn begun_in_parts()
+    ensures { (h : History) → IsNode h → (l version : ℕ) → Speaks h.opening l version h.entries
+        → (n : ℕ) (b : Begun) → begun_of version (take n (bodies_of (out h l))) ≡ Some b
+        → IsBegun version (bodies_of (out h l)) n b }
+{}
+
+/// What is heard is what was said: where all that came on a link is honest in the version that the
+/// link speaks, and its peer has given the name and the creation of the node that said it, the view
+/// of all that came is what the link has stated, while the peer is heard; and so it was behind the
+/// last told rows.
 pub fn heard_is_said()
-    ensures { (h : History) → IsPlayed h → (l : ℕ) (s name : List ℕ) (creation : ℕ)
-        → IsHonest name creation s (delivered l h.entries)
-        → HasGiven l name creation h.entries → IsTrue (heard l s h.entries) → HeardIsSaid h l s }
+    ensures { (h : History) → IsPlayed h → (l version : ℕ) → Speaks h.opening l version h.entries
+        → (s name : List ℕ) (creation : ℕ)
+        → IsHonest version name creation s (delivered l h.entries)
+        → HasGiven l name creation h.entries → IsTrue (heard h.opening l s h.entries)
+        → HeardIsSaid version h l s }
+{}
+
+/// What a link that is up keeps of a message begun is nothing, or what all that came there makes,
+/// where that is honest.
+pub fn kept_is_said()
+    ensures { (h : History) → IsPlayed h → (l version : ℕ) → Speaks h.opening l version h.entries
+        → (name : List ℕ) (creation : ℕ)
+        → ((s : List ℕ) → IsHonest version name creation s (delivered l h.entries))
+        → HasGiven l name creation h.entries → IsTrue (is_up l h.entries)
+        → KeepsOrNot (begun h.opening l h.entries) (begun_of version (delivered l h.entries)) }
 {}
 
 /// What the peer of a whole link has given came there: in the first frame, if it opened the link, and in a Challenge, if it was dialled.
@@ -138,21 +196,31 @@ pub fn given_came()
     ensures once { (l : ℕ) (es : List Entry) (x : Opened) → opened l es ≡ Some x → opening_of l es ≡ Some x.start }
 {}
 
-/// Two nodes and one wire between them, of which this alone is known: on link b of the receiver came a beginning of what the sender owes
-/// to its link a, and the peer of b has given the sender's name and its creation at the opening of a. While the receiver hears a scope
-/// there, it has stated the sender's own rows at one moment, and lists them so; and where all that is owed came, and the sender tells, its own rows of now.
+/// Two nodes and one wire between them, of which this alone is known: both ends spoke one version
+/// of link messages, on link b of the receiver came a beginning of what the sender owes to its link
+/// a, and the peer of b has given the sender's name and its creation at the opening of a. While the
+/// receiver hears a scope there, it has stated the sender's own rows at one moment, and lists them
+/// so; and where all that is owed came, and the sender tells, its own rows of now.
 pub fn one_view()
     ensures moment { (sender receiver : History) → IsNode sender → IsPlayed receiver
-        → (a b : ℕ) (s : List ℕ) (later : List (List ℕ))
+        → (a b version : ℕ) → Speaks sender.opening a version sender.entries
+        → Speaks receiver.opening b version receiver.entries
+        → (s : List ℕ) (later : List (List ℕ))
         → delivered b receiver.entries ++ later ≡ bodies_of (out sender a) → HasGiven b sender.opening.name (creation (moment a sender)) receiver.entries
-        → IsTrue (heard b s receiver.entries) → HearsMoment sender a receiver b s }
+        → IsTrue (heard receiver.opening b s receiver.entries) → HearsMoment sender a receiver b s }
     ensures now { (sender receiver : History) → IsNode sender → IsPlayed receiver
-        → (a b : ℕ) (s : List ℕ)
+        → (a b version : ℕ) → Speaks sender.opening a version sender.entries
+        → Speaks receiver.opening b version receiver.entries → (s : List ℕ)
         → delivered b receiver.entries ≡ bodies_of (out sender a) → HasGiven b sender.opening.name (creation (moment a sender)) receiver.entries
-        → IsTrue (heard b s receiver.entries) → IsTrue (told a s sender.entries) → (g : List ℕ) (p : Pid) → stated b s g p receiver.entries ≡ own sender s g p }
+        → IsTrue (heard receiver.opening b s receiver.entries)
+        → IsTrue (told sender.opening a s sender.entries) → (g : List ℕ) (p : Pid)
+        → stated receiver.opening b s g p receiver.entries ≡ own sender s g p }
     ensures listed_now { (sender receiver : History) → IsNode sender → IsPlayed receiver
-        → (a b : ℕ) (s : List ℕ)
+        → (a b version : ℕ) → Speaks sender.opening a version sender.entries
+        → Speaks receiver.opening b version receiver.entries → (s : List ℕ)
         → delivered b receiver.entries ≡ bodies_of (out sender a) → HasGiven b sender.opening.name (creation (moment a sender)) receiver.entries
-        → IsTrue (heard b s receiver.entries) → IsTrue (told a s sender.entries) → (g : List ℕ) (p : Pid) → IsTrue (same p.node sender.opening.name)
+        → IsTrue (heard receiver.opening b s receiver.entries)
+        → IsTrue (told sender.opening a s sender.entries) → (g : List ℕ) (p : Pid)
+        → IsTrue (same p.node sender.opening.name)
         → listed receiver s g p ≡ own sender s g p }
 {}

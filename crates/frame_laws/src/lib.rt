@@ -4,7 +4,7 @@
 mod laws;
 
 pub use laws::{
-    frames_say, given_came, handed_in_order, heard_accepts, heard_is_said, hellos, honest,
-    moments_stand, one_view, owed_rows, said_once_up, sources_rise, stated_after, told_in_order,
-    who_is_heard,
+    begun_in_parts, frames_say, given_came, handed_in_order, heard_accepts, heard_is_said, hellos,
+    honest, kept_is_said, moments_stand, one_version, one_view, owed_rows, said_once_up,
+    sources_rise, stated_after, told_in_order, who_is_heard,
 };

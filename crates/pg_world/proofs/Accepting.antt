@@ -11,6 +11,8 @@ use proofs.Calling.{IsApart, apart_kept, refused_none}
 use proofs.Entering.{stays_wired}
 use proofs.Next.{says, Keeps}
 use proofs.Opening.{nodes_now, now_here, came_none, handed_none, no_link_came, no_link_handed}
+use proofs.Words.{link_at, node_at}
+use proofs.Opening.{IsLinkFrom, NewLink, WasLink}
 use proofs.Opening.{no_link_gets, opens_it, still_carries, IsEndFrom, WasEnd, NewEnd, opens_world}
 use proofs.Opening.{number_answered}
 use proofs.Puts.{value_of, Compared, Same, Apart, compare, IsFound, Changed, Kept, found}
@@ -44,6 +46,10 @@ module _ (w : Nodes) (sound : IsWorld w) (n seat c : ℕ) (written : IsWritten (
 
     abbrev joins : Wire → Wire
     joins = with_link (Some e.number)
+
+    joined_side : (t : Side) → node_at t x ≡ node_at t (joins x)
+    joined_side side.Dialler = refl
+    joined_side side.Acceptor = refl
 
     -- ---- it is accepted
 
@@ -134,11 +140,28 @@ module _ (w : Nodes) (sound : IsWorld w) (n seat c : ℕ) (written : IsWritten (
           stands = changed_here w.wires n joins x stands;
           ends = record { node = refl; link = refl };
         })
-        wired carried
+        link_from wired carried
       where
         -- the wire that was joined
         it_is : (v y : Wire) → slice_get w.wires n ≡ Some v → y ≡ joins v → joins x ≡ y
         it_is v y its made = ap joins (value_of (sym stands ∙ its)) ∙ sym made
+
+        link_from : (m : ℕ) (y : Wire) → slice_get wires m ≡ Some y → (s : Side) (b : ℕ)
+            → link_at s y ≡ Some b → IsLinkFrom w x.to e.number m y s b
+        link_from m y q s b link = by (found w.wires n joins x stands m y q)
+          where
+            joined : (s : Side) → m ≡ n → joins x ≡ y → link_at s (joins x) ≡ Some b
+                → IsLinkFrom w x.to e.number m y s b
+            joined side.Dialler number is at_x =
+                WasLink x (ap (slice_get w.wires) number ∙ stands)
+                (λ t. joined_side t ∙ ap (node_at t) is) at_x
+            joined side.Acceptor number is at_x =
+                NewLink (ap (λ v. Wire.to v) (sym is)) (sym (value_of at_x))
+
+            by : IsFound w.wires n joins m y → IsLinkFrom w x.to e.number m y s b
+            by (Changed v number its made) = joined s number (it_is v y its made)
+                (ap (link_at s) (it_is v y its made) ∙ link)
+            by (Kept other its) = WasLink y its (λ t. refl) link
 
         wired : (m : ℕ) (y : Wire) → slice_get wires m ≡ Some y → IsWired now y
         wired m y q = by (found w.wires n joins x stands m y q)

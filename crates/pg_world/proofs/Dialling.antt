@@ -10,6 +10,8 @@ use proofs.Calling.{IsApart, apart_kept, asks_kept, refused_none}
 use proofs.Entering.{onward, stays_wired}
 use proofs.Next.{says, Keeps}
 use proofs.Opening.{nodes_now, now_here, came_none, handed_none, no_link_came, no_link_handed}
+use proofs.Words.{link_at, node_at}
+use proofs.Opening.{IsLinkFrom, NewLink, WasLink}
 use proofs.Opening.{opens_it, still_carries, IsEndFrom, WasEnd, NewEnd, opens_world}
 use proofs.Opening.{number_answered}
 use proofs.Puts.{value_of, IsOneOf, Old, New, one_of}
@@ -98,8 +100,22 @@ module _ (w : Nodes) (sound : IsWorld w) (i j seat c : ℕ)
           stands = stands_last w.wires made;
           ends = record { node = refl; link = refl };
         })
-        wired carried
+        link_from wired carried
       where
+        link_from : (m : ℕ) (y : Wire) → slice_get wires m ≡ Some y → (s : Side) (b : ℕ)
+            → link_at s y ≡ Some b → IsLinkFrom w i x.number m y s b
+        link_from m y q s b link = by (one_of w.wires made m y q)
+          where
+            new : (s : Side) → made ≡ y → link_at s made ≡ Some b
+                → IsLinkFrom w i x.number m y s b
+            new side.Dialler is at_made =
+                NewLink (ap (λ v. Wire.from v) (sym is)) (sym (value_of at_made))
+            new side.Acceptor is at_made = no_value (sym at_made)
+
+            by : IsOneOf w.wires made m y → IsLinkFrom w i x.number m y s b
+            by (Old stands) = WasLink y stands (λ t. refl) link
+            by (New number is) = new s (sym is) (ap (link_at s) (sym is) ∙ link)
+
         wired : (m : ℕ) (y : Wire) → slice_get wires m ≡ Some y → IsWired now y
         wired m y q = by (one_of w.wires made m y q)
           where

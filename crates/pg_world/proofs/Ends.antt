@@ -89,13 +89,20 @@ module _ (S : History) (node : IsNode S) (a : ℕ) (o : Opening) (b : ℕ) (star
     carried : delivered b es ++ later ≡ bodies_of (out S a)
     only : (st : Start) → opening_of b es ≡ Some st → st ≡ start
 
+  -- the peer has given what S says of itself
+  record Greets (es : List Entry) : Type 0 where
+    hello : given b es ≡ Some (own_hello (moment a S))
+    gives : IsGiven b S.opening.name (creation (moment a S)) es
+
   gave : (es : List Entry) (f : Name) → f ≡ own_hello (moment a S) → given b es ≡ Some f
-      → peer_of b es ≡ Some S.opening.name → IsGiven b S.opening.name (creation (moment a S)) es
-  gave es f is gives peer =
-      record {
-        peer = peer;
-        creation_is = ap (option_map (λ g. g.creation)) gives ∙ ap (λ g. Some (Name.creation g)) is;
-      }
+      → peer_of b es ≡ Some S.opening.name → Greets es
+  gave es f is gives peer = record {
+    hello = gives ∙ ap Some is;
+    gives = record {
+      peer = peer;
+      creation_is = ap (option_map (λ g. g.creation)) gives ∙ ap (λ g. Some (Name.creation g)) is;
+    };
+  }
 
   kept_opening : (e : Entry) (es : List Entry) → IsPlayedIn o (e ∷ es) → (st : Start)
       → opening_of b es ≡ Some st → opening_of b (e ∷ es) ≡ Some st
@@ -113,13 +120,13 @@ module _ (S : History) (node : IsNode S) (a : ℕ) (o : Opening) (b : ℕ) (star
 
   abbrev Gives : List Entry → Type 0
   Gives es = IsPlayedIn o es → FramesAreLate es → Since es → is_whole b es ≡ true
-      → IsGiven b S.opening.name (creation (moment a S)) es
+      → Greets es
 
   gives_all : ((es : List Entry) → Gives es) → (es : List Entry) → IsPlayedIn o es
       → FramesAreLate es → Since es → HasGiven b S.opening.name (creation (moment a S)) es
   gives_all one [] legal late since = tt
   gives_all one (e ∷ es) legal late since = (
-    λ whole. one (e ∷ es) legal late since whole,
+    λ whole. Greets.gives (one (e ∷ es) legal late since whole),
     gives_all one es legal.1 late.1 (earlier e es legal since),
   )
 
@@ -176,6 +183,7 @@ pub record IsJoined (S : History) (a : ℕ) (R : History) (b : ℕ) : Type 0 whe
   pub later : List (List ℕ)
   pub carried : delivered b R.entries ++ later ≡ bodies_of (out S a)
   pub gives : HasGiven b S.opening.name (creation (moment a S)) R.entries
+  pub hello : is_whole b R.entries ≡ true → given b R.entries ≡ Some (own_hello (moment a S))
 
 module _ (S R : History) (sender : IsNode S) (receiver : IsNode R) (late : FramesAreLate R.entries)
     (a b : ℕ) (q : List OutFrame) (carries : delivered b R.entries ++ bodies q ≡ bodies
@@ -199,6 +207,8 @@ module _ (S R : History) (sender : IsNode S) (receiver : IsNode R) (late : Frame
     carried = it.carried;
     gives = gives_all S sender a R.opening b (ByPeer c)
         (one_named S sender a n d there R.opening b c) R.entries receiver.legal late it;
+    hello = λ whole. Greets.hello (one_named S sender a n d there R.opening b c R.entries
+        receiver.legal late it whole);
   })
 
   pub joined_dialler : (d c : ℕ) → opening_of a S.entries ≡ Some (ByPeer d)
@@ -208,4 +218,6 @@ module _ (S R : History) (sender : IsNode S) (receiver : IsNode R) (late : Frame
     carried = it.carried;
     gives = gives_all S sender a R.opening b (ByDial S.opening.name c)
         (one_asked S sender a d there R.opening b c) R.entries receiver.legal late it;
+    hello = λ whole. Greets.hello (one_asked S sender a d there R.opening b c R.entries
+        receiver.legal late it whole);
   })

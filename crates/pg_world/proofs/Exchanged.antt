@@ -14,6 +14,7 @@ use Rattle.md5.specs.Md5.{md5, digest_bytes, hash_after, compress, rounds, block
 use Rattle.handshake_frames.specs.Reading.{name_frame, challenge_frame, reply_frame, ack_frame}
 use Rattle.handshake_frames.specs.Reading.{status_of}
 use Rattle.link_frames.specs.Reading.{message as read_message}
+use Rattle.link_frames.specs.PartReading.{message2 as read_message2}
 use Rattle.pg_world.specs.declared.world_step.WorldStep.TheVariants as step
 
 -- ---- the nodes are nodes, and what the steps bring is within the limits
@@ -115,7 +116,7 @@ last = play two_nodes exchange
 
 exchanged : IsExchanged last
 unfolding md5 digest_bytes hash_after compress rounds block_words digits name_frame challenge_frame
-    reply_frame ack_frame status_of read_message
+    reply_frame ack_frame status_of read_message read_message2
 exchanged = record {
   a = get_or last.nodes 0 (fresh []);
   b = get_or last.nodes 1 (fresh []);
@@ -145,7 +146,7 @@ again = play two_nodes (exchange ++ join_again)
 
 is_behind : IsBehind again
 unfolding md5 digest_bytes hash_after compress rounds block_words digits name_frame challenge_frame
-    reply_frame ack_frame status_of read_message
+    reply_frame ack_frame status_of read_message read_message2
 is_behind = record {
   a = get_or again.nodes 0 (fresh []);
   b = get_or again.nodes 1 (fresh []);

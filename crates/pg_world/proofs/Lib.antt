@@ -8,7 +8,10 @@ pub mod Wired
 mod Puts
 mod Entering
 mod Ends
+mod Joining
+mod Sharing
 mod Moments
+mod UnderWay
 mod Starting
 mod Steady
 mod Losing

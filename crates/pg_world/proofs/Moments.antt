@@ -7,78 +7,12 @@ use proofs.Words.{is_open, is_up, is_up_there, is_whole, IsEnd, IsNode, IsWired,
 use proofs.Words.{List, listed, listed_now, ListMoments, ListNow, moment, node_at, Nodes, None}
 use proofs.Words.{open_rest, opening_of, Option, other, out, OutFrame, peer_of, Pid, present_link}
 use proofs.Words.{refl, same, same_decides, sent, Side, slice_get, Some, subst, sym, true}
-use proofs.Words.{under_way, waiting, Wire, ℕ, [], ◌++◌, ◌∙◌, ◌≡◌}
-use proofs.Ends.{IsJoined, joined_acceptor, joined_dialler, bodies_all, dialled_some}
+use proofs.Words.{shared, Speaks, under_way, waiting, Wire, ℕ, [], ◌++◌, ◌∙◌, ◌≡◌}
+use proofs.Ends.{IsJoined, bodies_all}
+use proofs.Joining.{at_acceptor, at_dialler, carried_to, was_accepted}
+use proofs.Sharing.{other_twice, shared_sym}
 use proofs.Puts.{value_of}
 use Rattle.pg_world.specs.declared.side.Side.TheVariants as side
-
-module _ (w : Nodes) (sound : IsWorld w) (n : ℕ) (x : Wire)
-    (stands : slice_get w.wires n ≡ Some x) where
-  wired : IsWired w.nodes x
-  wired = sound.wired n x stands
-
-  -- what came at a side and is under way to it was handed out at the other
-  carried_to : (to : Side) (S R : History) (a b : ℕ) → slice_get w.nodes (node_at (other to)
-      x) ≡ Some S → slice_get w.nodes (node_at to x) ≡ Some R
-      → link_at (other to) x ≡ Some a → link_at to x ≡ Some b → is_open b R.entries ≡ true
-      → delivered b R.entries ++ bodies (under_way to x) ≡ bodies (sent a S.entries)
-  carried_to to S R a b there here far near opens =
-      let carries = sound.carried n x stands to ((λ i. gets_of (here i) (near i)) ∙ opens) in
-      sym (λ i. came_of (here i) (near i) ++ bodies (under_way to x)) ∙ carries
-      ∙ (λ i. handed_of (there i) (far i))
-
-  at_acceptor : (S R : History) (b : ℕ) → slice_get w.nodes x.from ≡ Some S
-      → slice_get w.nodes x.to ≡ Some R → x.accepted ≡ Some b → is_open b R.entries ≡ true
-      → IsJoined S x.dialled R b
-  at_acceptor S R b there here near opens =
-      let there_is : wired.dialler ≡ S = value_of (sym wired.from_stands ∙ there) in
-      let here_is : wired.acceptor ≡ R = value_of (sym wired.to_stands ∙ here) in
-      let c = wired.opening b near in
-      joined_acceptor S R (sound.nodes x.from S there) (sound.nodes x.to R here)
-      (sound.late x.to R here) x.dialled b x.to_acceptor
-      (carried_to side.Acceptor S R x.dialled b there here refl near opens)
-      wired.acceptor.opening.name wired.challenge c.0
-      (subst (λ v. opening_of x.dialled v.entries ≡ Some
-      (ByDial wired.acceptor.opening.name wired.challenge)) there_is wired.dial)
-      (subst (λ v. opening_of b v.entries ≡ Some (ByPeer c.0)) here_is c.1)
-
-  dialled_here : (S R : History) → slice_get w.nodes x.to ≡ Some S → slice_get w.nodes x.from ≡ Some
-      R → opening_of x.dialled R.entries ≡ Some (ByDial S.opening.name wired.challenge)
-  dialled_here S R there here =
-      let here_is : wired.dialler ≡ R = value_of (sym wired.from_stands ∙ here) in
-      let there_is : wired.acceptor ≡ S = value_of (sym wired.to_stands ∙ there) in
-      subst (λ v. opening_of x.dialled v.entries ≡ Some (ByDial S.opening.name wired.challenge))
-      here_is
-      (subst (λ v. opening_of x.dialled wired.dialler.entries ≡ Some
-      (ByDial v.opening.name wired.challenge)) there_is wired.dial)
-
-  at_dialler : (S R : History) (a : ℕ) → slice_get w.nodes x.to ≡ Some S
-      → slice_get w.nodes x.from ≡ Some R → x.accepted ≡ Some a → is_open x.dialled R.entries ≡ true
-      → IsJoined S a R x.dialled
-  at_dialler S R a there here far opens =
-      let there_is : wired.acceptor ≡ S = value_of (sym wired.to_stands ∙ there) in
-      let c = wired.opening a far in
-      joined_dialler S R (sound.nodes x.to S there) (sound.nodes x.from R here)
-      (sound.late x.from R here) a x.dialled x.to_dialler
-      (carried_to side.Dialler S R a x.dialled there here far refl opens) c.0 wired.challenge
-      (subst (λ v. opening_of a v.entries ≡ Some (ByPeer c.0)) there_is c.1)
-      (dialled_here S R there here)
-
-  -- a whole dial was accepted at the other end
-  was_accepted : (R : History) → slice_get w.nodes x.from ≡ Some R
-      → is_open x.dialled R.entries ≡ true → is_whole x.dialled R.entries ≡ true
-      → (a : ℕ) × (x.accepted ≡ Some a)
-  was_accepted R here opens whole = by x.accepted refl
-    where
-      by : (l : Option ℕ) → x.accepted ≡ l → (a : ℕ) × (x.accepted ≡ Some a)
-      by (Some a) q = (a, q)
-      by None q =
-          let all = sym (λ i. came_of (here i) (Some x.dialled) ++ bodies x.to_dialler)
-          ∙ sound.carried n x stands side.Dialler ((λ i. gets_of (here i) (Some x.dialled))
-          ∙ opens) ∙ (λ i. handed_of (wired.to_stands i) (q i)) in
-          absurd (dialled_some R (sound.nodes x.from R here) x.dialled wired.acceptor.opening.name
-          wired.challenge (dialled_here wired.acceptor R wired.to_stands here) whole
-          (bodies x.to_dialler) all)
 
 -- ---- what is heard
 
@@ -90,7 +24,7 @@ module _ (w : Nodes) (sound : IsWorld w) (i j : ℕ) (A B : History)
   its_place k C q named = sound.names k i C A q at_a named
 
   module _ (b : ℕ) (s : List ℕ) (present : present_link A.opening.name B.entries ≡ Some b)
-      (hears : heard b s B.entries ≡ true) where
+      (hears : heard B.opening b s B.entries ≡ true) where
     up : is_up b B.entries ≡ true
     up = is_up_there B (sound.nodes j B at_b).legal b s hears
 
@@ -106,13 +40,32 @@ module _ (w : Nodes) (sound : IsWorld w) (i j : ℕ) (A B : History)
     abbrev Shown : Type 0
     Shown = (a : ℕ) × AreEnds w i a j b × HearsMoment A a B b s
 
+    -- both ends speak the version that both nodes share
+    there_speaks : (n : ℕ) (x : Wire) (at : Side) → slice_get w.wires n ≡ Some x → (a : ℕ)
+        → IsEnd x (other at) i a → IsEnd x at j b
+        → Speaks A.opening a (shared A.opening.links B.opening.links) A.entries
+    there_speaks n x at stands a there here = sound.spoken n x stands (other at) A B a
+        (ap (slice_get w.nodes) there.node ∙ at_a)
+        (ap (λ s. slice_get w.nodes (node_at s x)) (other_twice at)
+        ∙ ap (slice_get w.nodes) here.node ∙ at_b) there.link
+
+    here_speaks : (n : ℕ) (x : Wire) (at : Side) → slice_get w.wires n ≡ Some x → (a : ℕ)
+        → IsEnd x (other at) i a → IsEnd x at j b
+        → Speaks B.opening b (shared A.opening.links B.opening.links) B.entries
+    here_speaks n x at stands a there here =
+        subst (λ v. Speaks B.opening b v B.entries)
+        (shared_sym B.opening.links A.opening.links)
+        (sound.spoken n x stands at B A b (ap (slice_get w.nodes) here.node ∙ at_b)
+        (ap (slice_get w.nodes) there.node ∙ at_a) here.link)
+
     shown : (n : ℕ) (x : Wire) (at : Side) → slice_get w.wires n ≡ Some x → (a : ℕ)
         → IsEnd x (other at) i a → IsEnd x at j b → IsJoined A a B b → Shown
     shown n x at stands a there here it = (
       a,
       record { number = n; wire = x; at = at; stands = stands; there = there; here = here },
-      heard_moment A (sound.nodes i A at_a) a B (sound.nodes j B at_b).legal b s hears it.gives
-          it.later it.carried,
+      heard_moment (shared A.opening.links B.opening.links) A (sound.nodes i A at_a) a B
+          (sound.nodes j B at_b).legal b s (there_speaks n x at stands a there here)
+          (here_speaks n x at stands a there here) hears it.gives it.later it.carried,
     )
 
     from_acceptor : (n : ℕ) (x : Wire) → slice_get w.wires n ≡ Some x → IsEnd x side.Acceptor j b
@@ -120,7 +73,8 @@ module _ (w : Nodes) (sound : IsWorld w) (i j : ℕ) (A B : History)
     from_acceptor n x stands here =
         let wired = sound.wired n x stands in
         let near : slice_get w.nodes x.to ≡ Some B = ap (slice_get w.nodes) here.node ∙ at_b in
-        let it = at_acceptor w sound n x stands wired.dialler B b wired.from_stands near here.link
+        let it = at_acceptor w.nodes sound.nodes sound.late x (sound.wired n x stands)
+        (sound.carried n x stands) wired.dialler B b wired.from_stands near here.link
         opens in
         let named = value_of (sym (given_here b wired.dialler.opening.name
         (creation (moment x.dialled wired.dialler)) B.entries it.gives whole).peer ∙ peer) in
@@ -136,10 +90,12 @@ module _ (w : Nodes) (sound : IsWorld w) (i j : ℕ) (A B : History)
         let wired = sound.wired n x stands in
         let link : x.dialled ≡ b = value_of here.link in
         let near : slice_get w.nodes x.from ≡ Some B = ap (slice_get w.nodes) here.node ∙ at_b in
-        let a = was_accepted w sound n x stands B near (subst (λ l. is_open l B.entries ≡ true)
+        let a = was_accepted w.nodes sound.nodes sound.late x (sound.wired n x stands)
+        (sound.carried n x stands) B near (subst (λ l. is_open l B.entries ≡ true)
         (sym link) opens) (subst (λ l. is_whole l B.entries ≡ true) (sym link) whole) in
         let it = subst (λ l. IsJoined wired.acceptor a.0 B l) link
-        (at_dialler w sound n x stands wired.acceptor B a.0 wired.to_stands near a.1
+        (at_dialler w.nodes sound.nodes sound.late x (sound.wired n x stands)
+        (sound.carried n x stands) wired.acceptor B a.0 wired.to_stands near a.1
         (subst (λ l. is_open l B.entries ≡ true) (sym link) opens)) in
         let named = value_of (sym (given_here b wired.acceptor.opening.name
         (creation (moment a.0 wired.acceptor)) B.entries it.gives whole).peer ∙ peer) in
@@ -195,18 +151,26 @@ pub lists_now : (w : Nodes) → IsWorld w → ListNow w
 lists_now w sound n x stands A B b at_a at_b accepted none_there none_here s there here =
     let node_a = sound.nodes x.from A at_a in
     let node_b = sound.nodes x.to B at_b in
+    let from_speaks = sound.spoken n x stands side.Dialler A B x.dialled at_a at_b refl in
+    let to_speaks = subst (λ v. Speaks B.opening b v B.entries)
+    (shared_sym B.opening.links A.opening.links)
+    (sound.spoken n x stands side.Acceptor B A b at_b at_a accepted) in
     let open_a =
     (and_parts (is_open x.dialled A.entries) (is_whole x.dialled A.entries) there.up).0 in
     let open_b = (and_parts (is_open b B.entries) (is_whole b B.entries) here.up).0 in
-    let to_b = at_acceptor w sound n x stands A B b at_a at_b accepted open_b in
-    let to_a = at_dialler w sound n x stands B A b at_b at_a accepted open_a in
+    let to_b = at_acceptor w.nodes sound.nodes sound.late x (sound.wired n x stands)
+    (sound.carried n x stands) A B b at_a at_b accepted open_b in
+    let to_a = at_dialler w.nodes sound.nodes sound.late x (sound.wired n x stands)
+    (sound.carried n x stands) B A b at_b at_a accepted open_a in
     let came_b = all_came A B node_a x.dialled b x.to_acceptor none_there open_a there.none_waits
-    (carried_to w sound n x stands side.Acceptor A B x.dialled b at_a at_b refl accepted
+    (carried_to w.nodes sound.nodes sound.late x (sound.wired n x stands)
+    (sound.carried n x stands) side.Acceptor A B x.dialled b at_a at_b refl accepted
     open_b) in
     let came_a = all_came B A node_b b x.dialled x.to_dialler none_here open_b here.none_waits
-    (carried_to w sound n x stands side.Dialler B A b x.dialled at_b at_a accepted refl open_a) in (
-      (λ g p its. listed_now A node_a x.dialled B node_b.legal b s here.hears to_b.gives came_b
-          there.tells g p its),
-      (λ g p its. listed_now B node_b b A node_a.legal x.dialled s there.hears to_a.gives came_a
-          here.tells g p its),
+    (carried_to w.nodes sound.nodes sound.late x (sound.wired n x stands)
+    (sound.carried n x stands) side.Dialler B A b x.dialled at_b at_a accepted refl open_a) in (
+      (λ g p its. listed_now (shared A.opening.links B.opening.links) A node_a x.dialled B
+          node_b.legal b s from_speaks to_speaks here.hears to_b.gives came_b there.tells g p its),
+      (λ g p its. listed_now (shared A.opening.links B.opening.links) B node_b b A node_a.legal
+          x.dialled s to_speaks from_speaks there.hears to_a.gives came_a here.tells g p its),
     )

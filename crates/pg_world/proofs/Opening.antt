@@ -5,12 +5,15 @@ use proofs.Words.{cond, entered, Entry, eq-eqb, Event, frames_of, gets_of, hande
 use proofs.Words.{History, is_accepted, is_opened_by, is_some, IsEnd, IsNext, IsPlayed, IsWired}
 use proofs.Words.{IsWorld, IsWritten, just, link_at, List, next_number, next_step, no_value}
 use proofs.Words.{node_at, Nodes, None, opened_number, opening_of, Option, other, refl, Reply}
-use proofs.Words.{sent, Side, slice_get, Some, Start, start_of, subst, sym, true, unborn_out}
+use proofs.Words.{shared, Speaks, sent, Side, slice_get, Some, Start, start_of, subst, sym, true}
+use proofs.Words.{unborn_out}
 use proofs.Words.{under_way, Wire, world, ℕ, [], ◌&&◌, ◌++◌, ◌<◌, ◌∙◌, ◌∷◌, ◌≡◌, ◌≤◌}
 use proofs.Calling.{IsApart}
 use proofs.Ends.{none_early}
 use proofs.Entering.{none_came, none_handed, ends_low, carries_on}
-use proofs.Puts.{get_same}
+use proofs.Puts.{get_same, value_of}
+use proofs.Sharing.{SharedBefore, shares_after}
+use Rattle.frame_laws.proofs.OneVersion.{never_whole}
 use proofs.Queued.{still_fits}
 use proofs.Steady.{after, made_of, same_ends, nodes_after, late_after, names_after, open_from}
 use proofs.Steady.{IsMade, IsOpenFrom, WasOpen, OpenedNow}
@@ -48,6 +51,13 @@ pub data IsEndFrom (w : Nodes) (place : ℕ) (at : Side) (i l m : ℕ) (k : Side
   WasEnd : (u : Wire) → slice_get w.wires m ≡ Some u → IsEnd u k a b
       → IsEndFrom w place at i l m k a b
   NewEnd : m ≡ place → k ≡ at → a ≡ i → b ≡ l → IsEndFrom w place at i l m k a b
+
+-- the link at a side of a wire was the end of the wire at that place, between the same nodes, or it
+-- is the new one
+pub data IsLinkFrom (w : Nodes) (i l m : ℕ) (y : Wire) (at : Side) (b : ℕ) : Type 0 where
+  WasLink : (u : Wire) → slice_get w.wires m ≡ Some u → ((s : Side) → node_at s u ≡ node_at s y)
+      → link_at at u ≡ Some b → IsLinkFrom w i l m y at b
+  NewLink : node_at at y ≡ i → b ≡ l → IsLinkFrom w i l m y at b
 
 module _ (w : Nodes) (sound : IsWorld w) (i : ℕ) (h : History) (e : Entry) (here : slice_get w.nodes
     i ≡ Some h) (next : IsNext h e) (written : IsWritten e.event) (apart : IsApart e.event) where
@@ -105,6 +115,8 @@ module _ (w : Nodes) (sound : IsWorld w) (i : ℕ) (h : History) (e : Entry) (he
       → IsEndFrom w place at i e.number m k a b)
       (forth : (a b : ℕ) → HasEnd w.wires a b → HasEnd ys a b)
       (newly : HasEnd ys i e.number)
+      (link_from : (m : ℕ) (y : Wire) → slice_get ys m ≡ Some y → (s : Side) (b : ℕ)
+      → link_at s y ≡ Some b → IsLinkFrom w i e.number m y s b)
       (wired : (m : ℕ) (y : Wire) → slice_get ys m ≡ Some y → IsWired nodes_now y)
       (carried : (m : ℕ) (y : Wire) → slice_get ys m ≡ Some y → (to : Side)
       → Carries nodes_now y to) where
@@ -126,6 +138,21 @@ module _ (w : Nodes) (sound : IsWorld w) (i : ℕ) (h : History) (e : Entry) (he
     has_end k l (OpenedNow is q) = subst (λ m. HasEnd ys m l) (sym is)
         (subst (HasEnd ys i) (opened_number l e q) newly)
 
+    shared_before : (m : ℕ) (y : Wire) → slice_get ys m ≡ Some y → (s : Side)
+        → SharedBefore w.nodes i h e here is_made.step legal y s
+    shared_before m y q s f k l f_is k_is link = by (link_from m y q s l link)
+      where
+        by : IsLinkFrom w i e.number m y s l
+            → Speaks f.opening l (shared f.opening.links k.opening.links) f.entries
+        by (WasLink u stands same was) = sound.spoken m u stands s f k l
+            (ap (slice_get w.nodes) (same s) ∙ f_is)
+            (ap (slice_get w.nodes) (same (other s)) ∙ k_is) was
+        by (NewLink node is) =
+            let its : h ≡ f = value_of (sym here ∙ ap (slice_get w.nodes) (sym node) ∙ f_is) in
+            subst (λ g. Speaks g.opening l (shared g.opening.links k.opening.links) g.entries) its
+            (never_whole h.opening l (shared h.opening.links k.opening.links) h.entries legal
+            (let high = above in omega (arith, high, is)))
+
     pub opens_world : IsWorld (world nodes_now ys)
     opens_world = record {
       nodes = nodes_after w sound i h e here is_made written (apart.late h.entries);
@@ -133,6 +160,10 @@ module _ (w : Nodes) (sound : IsWorld w) (i : ℕ) (h : History) (e : Entry) (he
       names = names_after w sound i h e here is_made written (apart.late h.entries);
       wired = wired;
       carried = carried;
+      spoken = λ m y q s. shares_after w.nodes i h e here is_made.step legal
+          (nodes_after w sound i h e here is_made written (apart.late h.entries))
+          (late_after w sound i h e here is_made written (apart.late h.entries)) y (wired m y q)
+          (carried m y q) s (shared_before m y q s);
       once = once;
       ends = λ k g q l o. has_end k l
           (open_from w sound i h e here is_made written (apart.late h.entries) k g q l o);

@@ -23,6 +23,7 @@ module _ (hs : List History) (differ : DifferInName hs) (nodes : (i : ℕ) (h : 
     names = named;
     wired = λ n x q. no_value (sym q);
     carried = λ n x q. no_value (sym q);
+    spoken = λ n x q. no_value (sym q);
     once = λ m n x y j k i l q. no_value (sym q);
     ends = λ i h q l opens. lie (sym opens ∙ ap (is_open l) (unused i h q));
   }

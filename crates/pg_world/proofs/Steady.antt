@@ -8,6 +8,7 @@ use proofs.Words.{slice_set, Some, subst, sym, true, under_way, Wire, world, ℕ
 use proofs.Words.{◌||◌, ◌∙◌, ◌∷◌, ◌≡◌, ◌≤◌}
 use proofs.Entering.{SameEnds, same_node, same_link, stays_wired, carries_on, none_came}
 use proofs.Entering.{none_handed}
+use proofs.Sharing.{shares_after}
 use proofs.Puts.{get_same, get_other, value_of, Compared, Same, Apart, compare}
 
 pub same_ends : (x : Wire) → SameEnds x x
@@ -160,6 +161,14 @@ module _ (w : Nodes) (sound : IsWorld w) (i : ℕ) (h : History) (e : Entry)
       wired = λ n y q. (let x = back n y q in stays_wired w.nodes i h e here made.step legal x.0 y
           x.2 (sound.wired n x.0 x.1));
       carried = carried;
+      spoken = λ n y q at. (let x = back n y q in
+          shares_after w.nodes i h e here made.step legal nodes_after late_after y
+          (stays_wired w.nodes i h e here made.step legal x.0 y x.2 (sound.wired n x.0 x.1))
+          (carried n y q) at
+          (λ f k l f_is k_is link. sound.spoken n x.0 x.1 at f k l
+          (ap (slice_get w.nodes) (sym (same_node x.0 y x.2 at)) ∙ f_is)
+          (ap (slice_get w.nodes) (sym (same_node x.0 y x.2 (other at))) ∙ k_is)
+          (sym (same_link x.0 y x.2 at) ∙ link)));
       once = λ m n x y j k a l p q r s. (
           let u = back m x p in
           let v = back n y q in

@@ -39,7 +39,27 @@ pub use Rattle.frame_laws.specs.Honest.{HasGiven, IsGiven}
 pub use Rattle.frame_laws.specs.Moments.{moment}
 pub use Rattle.frame_laws.specs.Sent.{bodies_of, came, delivered, frames_of, handed, out, Owing}
 pub use Rattle.frame_laws.specs.Sent.{sent}
+pub use Rattle.frame_laws.specs.Spoken.{Speaks}
 pub use Rattle.frame_laws.specs.Written.{IsNode, IsWritten}
+pub use Rattle.frame_laws.proofs.Spoken.{speaks_now}
+pub use Rattle.frame_laws.proofs.BegunPlaces.{IsCut, out_cut}
+pub use Rattle.frame_laws.proofs.Bodies.{honest_first}
+pub use Rattle.frame_laws.proofs.Calm.{said_apart}
+pub use Rattle.frame_laws.proofs.Hearing.{keeps_or_not}
+pub use Rattle.frame_laws.proofs.HonestNode.{node_honest}
+pub use Rattle.frame_laws.specs.BegunAt.{IsBegun}
+pub use Rattle.frame_laws.specs.Honest.{IsHonest}
+pub use Rattle.frame_laws.specs.Spoken.{begun_of, frames_said}
+pub use Rattle.link_frames.specs.Parts.{Begun, begun_by, KeepsOrNot, parts}
+pub use Rattle.link_frames.specs.declared.message.Message.{Message}
+pub use Rattle.std.proofs.Common.{inl, inr}
+pub use Rattle.std.proofs.Math.Seq.{take-append-add, take-length}
+pub use Rattle.std.proofs.lemmas.List.{drop-append-le, length-append, length-drop, length-map}
+pub use Rattle.std.proofs.lemmas.List.{take-append-le}
+pub use Rattle.policy_audit.proofs.Accepted.{open_first}
+pub use Rattle.policy_audit.proofs.Effects.{entry_link}
+pub use Rattle.policy_audit.proofs.NewLinks.{opened_apart}
+pub use Rattle.policy_audit.proofs.Walked.{unborn}
 pub use Rattle.handshake_frames.specs.Frame.{Name}
 pub use Rattle.node_core.specs.declared.fault.CoreFault.{CoreFault}
 pub use Rattle.policy_audit.proofs.Accepted.{accepted, lie, no_value}
@@ -48,7 +68,7 @@ pub use Rattle.policy_audit.proofs.Losses.{entry_played, next_step}
 pub use Rattle.policy_audit.proofs.UpLinks.{agrees}
 pub use Rattle.policy_audit.proofs.Walked.{but}
 pub use Rattle.policy_audit.specs.Checks.{Check, checks, first_broken, frame_checks}
-pub use Rattle.policy_audit.specs.Hearing.{heard}
+pub use Rattle.policy_audit.specs.Hearing.{begun, heard, link_version}
 pub use Rattle.policy_audit.specs.History.{creation, entered, History, is_accepted, just}
 pub use Rattle.policy_audit.specs.History.{lose, loss, past}
 pub use Rattle.policy_audit.specs.Links.{ends, is_open, is_opened_by, is_up}
@@ -78,6 +98,7 @@ pub use Rattle.pg_world.specs.Queues.{Answers, count_handed, cut_by, frames_in, 
 pub use Rattle.pg_world.specs.Queues.{leaves, left_by, link_opened, oldest, place_dialled, plain}
 pub use Rattle.pg_world.specs.Refusals.{keeps_wires}
 pub use Rattle.pg_world.specs.Sound.{bodies, came_of, Carries, FramesAreLate, gets_of, handed_of}
+pub use Rattle.pg_world.specs.Sound.{shared, SpeaksShared}
 pub use Rattle.pg_world.specs.Sound.{HasEnd, IsEnd, IsLate, IsWired, IsWorld, IsWrittenStep}
 pub use Rattle.pg_world.specs.Starting.{AreNew, IsNew}
 pub use Rattle.pg_world.specs.Steps.{answer_of, Asks, asks, asks_frame, asks_opened, at_end}

@@ -93,6 +93,6 @@ pub record IsBehind (w : Nodes) : Type 0 where
   pub a_stands : slice_get w.nodes 0 ≡ Some a
   pub b_stands : slice_get w.nodes 1 ≡ Some b
   pub present : present_link (codes "a@h") b.entries ≡ Some link
-  pub hears : IsTrue (heard link (codes "pg") b.entries)
+  pub hears : IsTrue (heard b.opening link (codes "pg") b.entries)
   pub a_has : own a (codes "pg") (codes "g") (first_process (codes "a@h")) ≡ 2
   pub b_lists : listed b (codes "pg") (codes "g") (first_process (codes "a@h")) ≡ 1

@@ -4,5 +4,6 @@ pub mod Steps
 pub mod Refusals
 pub mod Sound
 pub mod Views
+pub mod UnderWay
 pub mod Exchange
 pub mod Starting

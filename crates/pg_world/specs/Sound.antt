@@ -1,5 +1,6 @@
 -- The invariant of a world.
-use Rattle.std.specs.Prelude.{◌≡◌, ℕ, ◌≤◌, Bool, true, List, [], ◌∷◌, ◌++◌, Option, Some, slice_get}
+use Rattle.std.specs.Prelude.{◌≡◌, ℕ, ◌≤◌, Bool, true, cond, ◌&&◌, ◌==◌, List, [], ◌∷◌, ◌++◌}
+use Rattle.std.specs.Prelude.{Option, Some, slice_get}
 use Rattle.std.specs.Prelude.{map, IsTrue}
 use Rattle.policy_audit.specs.declared.event.Event.{Event}
 use Rattle.policy_audit.specs.declared.event.Event.TheVariants as event
@@ -10,6 +11,7 @@ use Rattle.policy_audit.specs.Sides.{ByPeer, ByDial}
 use Rattle.policy_audit.specs.Links.{is_open}
 use Rattle.frame_laws.specs.Sent.{sent, delivered}
 use Rattle.frame_laws.specs.Hellos.{opening_of}
+use Rattle.frame_laws.specs.Spoken.{Speaks}
 use Rattle.frame_laws.specs.Written.{IsNode, IsWritten}
 use Rattle.pg_world.specs.declared.side.Side.{Side}
 use Rattle.pg_world.specs.declared.world_step.WorldStep.{WorldStep}
@@ -72,6 +74,16 @@ abbrev pub Carries : List History → Wire → Side → Type 0
 Carries hs x to = IsTrue (gets_of (slice_get hs (node_at to x)) (link_at to x))
     → came_of (slice_get hs (node_at to x)) (link_at to x) ++ bodies (under_way to x) ≡ handed_of (slice_get hs (node_at (other to) x)) (link_at (other to) x)
 
+-- the version of link messages that two nodes share, where they know these: 2, where both know it
+abbrev pub shared : ℕ → ℕ → ℕ
+shared m n = cond (m == 2 && n == 2) 2 1
+
+-- the link at this side spoke, whenever its side was whole, the version that both nodes share
+abbrev pub SpeaksShared : List History → Wire → Side → Type 0
+SpeaksShared hs x at = (h k : History) (l : ℕ) → slice_get hs (node_at at x) ≡ Some h
+    → slice_get hs (node_at (other at) x) ≡ Some k → link_at at x ≡ Some l
+    → Speaks h.opening l (shared h.opening.links k.opening.links) h.entries
+
 -- link l of node i is the end of a wire at a side
 pub record IsEnd (x : Wire) (at : Side) (i l : ℕ) : Type 0 where
   pub node : node_at at x ≡ i
@@ -88,12 +100,15 @@ pub record HasEnd (xs : List Wire) (i l : ℕ) : Type 0 where
 -- ---- the whole
 
 -- Each history is a node's, and their names differ. Each wire was dialled from the one node to the name of the other, and opened there;
--- it carries to both sides what was handed out at the other. A link is the end of one wire at most, at one side, and an open link is one.
+-- it carries to both sides what was handed out at the other, and its ends speak the version that
+-- both nodes share. A link is the end of one wire at most, at one side, and an open link is one.
 pub record IsWorld (w : Nodes) : Type 0 where
   pub nodes : (i : ℕ) (h : History) → slice_get w.nodes i ≡ Some h → IsNode h
   pub late : (i : ℕ) (h : History) → slice_get w.nodes i ≡ Some h → FramesAreLate h.entries
   pub names : (i j : ℕ) (h k : History) → slice_get w.nodes i ≡ Some h → slice_get w.nodes j ≡ Some k → h.opening.name ≡ k.opening.name → i ≡ j
   pub wired : (n : ℕ) (x : Wire) → slice_get w.wires n ≡ Some x → IsWired w.nodes x
   pub carried : (n : ℕ) (x : Wire) → slice_get w.wires n ≡ Some x → (to : Side) → Carries w.nodes x to
+  pub spoken : (n : ℕ) (x : Wire) → slice_get w.wires n ≡ Some x → (at : Side) → SpeaksShared
+      w.nodes x at
   pub once : (m n : ℕ) (x y : Wire) (j k : Side) (i l : ℕ) → slice_get w.wires m ≡ Some x → slice_get w.wires n ≡ Some y → IsEnd x j i l → IsEnd y k i l → (m ≡ n) × (j ≡ k)
   pub ends : (i : ℕ) (h : History) → slice_get w.nodes i ≡ Some h → (l : ℕ) → IsTrue (is_open l h.entries) → HasEnd w.wires i l

@@ -14,6 +14,7 @@ ghost use Rattle.pg_world.specs.Refusals.{keeps_wires};
 ghost use Rattle.pg_world.specs.Sound.{IsWorld, IsWrittenStep};
 ghost use Rattle.frame_laws.specs.Written.{IsNode};
 ghost use Rattle.pg_world.specs.Views.{ListMoments, ListNow};
+ghost use Rattle.pg_world.specs.UnderWay.{PartsUnderWay};
 ghost use Rattle.pg_world.specs.Exchange.{Comes, IsExchanged, IsBehind, two_nodes, exchange, join_again};
 
 /// A step that wants memory changes nothing.
@@ -47,6 +48,14 @@ pub fn list_moments()
 /// each lists exactly the other's own rows of now.
 pub fn list_now()
     ensures { (w : Nodes) → IsWorld w → ListNow w }
+{}
+
+/// In a world, where an end of a wire is up and keeps parts of a message, these are the first that
+/// the other end owed of one message, the last that came; and what is under way to it goes on with
+/// the rest, in order. While the other end is open, so does what waits there, and no part is
+/// missing.
+pub fn parts_under_way()
+    ensures { (w : Nodes) → IsWorld w → PartsUnderWay w }
 {}
 
 /// Nodes that have seen nothing and differ in their names are a world, without wires.

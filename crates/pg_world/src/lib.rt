@@ -13,8 +13,8 @@ mod world_step;
 
 pub use fault::{NoWorld, NodesFault, WorldFault};
 pub use laws::{
-    list_moments, list_now, memory_changes_nothing, refusals_keep_wires, starts_sound, stays_sound,
-    two_nodes_exchange, wires_have_nodes,
+    list_moments, list_now, memory_changes_nothing, parts_under_way, refusals_keep_wires,
+    starts_sound, stays_sound, two_nodes_exchange, wires_have_nodes,
 };
 pub use side::Side;
 pub use world::World;

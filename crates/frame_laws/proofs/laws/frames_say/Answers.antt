@@ -5,8 +5,9 @@ use proofs.Spoken.{IsSaid, all_said}
 use proofs.laws.frames_say.Goals as goal
 
 pub returns-clause-one : goal.returns-clause-one
-returns-clause-one c = λ h node l n x q. (holds_then h.opening l IsSaid h.entries node.legal
-    (all_said h.opening h.entries node l) n x q).holds
+returns-clause-one c = λ h node l v speaks n x q. (holds_then h.opening l (IsSaid v) h.entries
+    node.legal (all_said h.opening h.entries node l v speaks) n x q).holds
 
 pub returns-clause-own : goal.returns-clause-own
-returns-clause-own c = λ h node l n x m q says. rows_own h.opening h.entries node l n x q m says
+returns-clause-own c = λ h node l v speaks n x m q says. rows_own h.opening h.entries node l v
+    speaks n x q m says

@@ -3,5 +3,5 @@ use proofs.Hearing.{heard_said}
 use proofs.laws.heard_is_said.Goals as goal
 
 pub returns : goal.returns
-returns c = λ h legal l s name made honest gives hears. heard_said h.opening h.entries legal l s
-    name made honest gives hears
+returns c = λ h legal l v speaks s name made honest gives hears. heard_said v h.opening h.entries
+    legal l speaks s name made honest gives hears

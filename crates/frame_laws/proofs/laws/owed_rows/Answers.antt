@@ -4,5 +4,5 @@ use proofs.Through.{passes}
 use proofs.laws.owed_rows.Goals as goal
 
 pub returns : goal.returns
-returns c = λ h node l s. passes h.opening l s h.entries node.legal
-    (all_tell h.opening h.entries node l s)
+returns c = λ h node l v speaks s. passes v h.opening l s h.entries node speaks
+    (all_tell h.opening h.entries node l v speaks s)

@@ -4,4 +4,4 @@ use proofs.laws.told_in_order.Goals as goal
 
 pub returns : goal.returns
 returns c = record
-    { fall = λ l s es. (told_fall l s es).falls; came = λ l s es. (told_fall l s es).below }
+    { fall = λ o l s es. (told_fall o l s es).falls; came = λ o l s es. (told_fall o l s es).below }

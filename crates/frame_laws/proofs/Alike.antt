@@ -1,0 +1,171 @@
+-- What an accepted message makes of what is kept, and of what all that came makes.
+use Rattle.frame_laws.proofs
+use proofs.Words.{Accepted, accepted, all_hold, always, and_parts, ap, arith, Begun}
+use proofs.Words.{begun, begun_of, Bool, but, completed}
+use proofs.Words.{cond, delivered, Entry, eqb-true, Event, false}
+use proofs.Words.{first_broken, follows, frame_checks, frame_taken, heard}
+use proofs.Words.{History, is_next, is_open, is_up}
+use proofs.Words.{is_whole, IsPlayedIn, IsStep, judgement, kept_after}
+use proofs.Words.{lie, link_version, List, Message, message_checks, message_of}
+use proofs.Words.{message_taken, Message2, none_begun, None, open_first, Opening, Option}
+use proofs.Words.{option_and_then, option_map_or, option_to_list, PartKind, past, Pid, refl}
+use proofs.Words.{Reply, Row, rows_before, Rule, same, same_decides, seen_by}
+use proofs.Words.{Some, subst, sym}
+use proofs.Words.{true, unbroken, ℕ, []}
+use proofs.Words.{awaits, ◌&&◌, ◌++◌, ◌==◌, ◌||◌, ◌∙◌, ◌≡◌}
+use proofs.KeptStands.{rules_met}
+use proofs.NotRefused.{kept_of}
+
+-- where a message of s is kept, or could go on while s is heard, all that came makes the same
+abbrev pub NeedsAlike : ℕ → Opening → ℕ → List ℕ → List Entry → Bool
+NeedsAlike v o l s es = kept_of s (begun o l es)
+    || (heard o l s es && kept_of s (begun_of v (delivered l es)))
+
+abbrev pub Alike : ℕ → Opening → ℕ → List ℕ → List Entry → Type 0
+Alike v o l s es = is_up l es ≡ true → NeedsAlike v o l s es ≡ true
+    → begun o l es ≡ begun_of v (delivered l es)
+
+module _ (v : ℕ) (o : Opening) (es : List Entry) (e : Entry) (legal : IsPlayedIn o es) (l : ℕ)
+    (agrees : is_whole l es ≡ true → link_version o l es ≡ v) (s : List ℕ) where
+  abbrev h : History
+  h = past o es
+
+  abbrev bodies : List (List ℕ)
+  bodies = delivered l es
+
+  pub some_whole : kept_of s (begun o l es) ≡ true → is_whole l es ≡ true
+  some_whole q = by (is_whole l es) refl
+    where
+      by : (b : Bool) → is_whole l es ≡ b → is_whole l es ≡ true
+      by true w = w
+      by false un = lie (sym q ∙ ap (kept_of s) (none_begun o es legal l un))
+
+  pub taken_same : (body : List ℕ) → is_whole l es ≡ true
+      → frame_taken o l es body ≡ message_taken v body
+  taken_same body whole = ap (λ n. message_taken n body) (agrees whole)
+
+  -- a message that is taken makes of both the same, as far as s is concerned
+  pub record AcceptsAlike (x y : Option Message2) : Type 0 where
+    pub views : (g : List ℕ) (p : Pid) (w : Option ℕ)
+        → seen_by s g p (option_to_list (option_and_then (completed (begun o l es)) x)) w
+        ≡ seen_by s g p (option_to_list (option_and_then (completed (begun_of v bodies)) y)) w
+    pub begins : (kept_of s (kept_after (begun o l es) x)
+        || kept_of s (kept_after (begun_of v bodies) y)) ≡ true
+        → kept_after (begun o l es) x ≡ kept_after (begun_of v bodies) y
+
+  module _ (same_kept : kept_of s (begun o l es) ≡ true → begun o l es ≡ begun_of v bodies) where
+    same_before : (kind : PartKind) (number : ℕ) → is_next (begun o l es) kind s number ≡ true
+        → rows_before (begun o l es) kind s number ≡ rows_before (begun_of v bodies) kind s number
+    same_before kind number next = by (number == 1) refl (begun o l es) refl next
+      where
+        by : (one : Bool) → (number == 1) ≡ one → (c : Option Begun) → begun o l es ≡ c
+            → is_next c kind s number ≡ true
+            → rows_before (begun o l es) kind s number
+            ≡ rows_before (begun_of v bodies) kind s number
+        by true first c is next =
+            ap (λ x. cond x [] (option_map_or
+            (λ y. cond (follows kind s number y) y.rows []) (begun o l es) [])) first
+            ∙ sym (ap (λ x. cond x [] (option_map_or
+            (λ y. cond (follows kind s number y) y.rows []) (begun_of v bodies) [])) first)
+        by false later None is next =
+            lie (sym next ∙ ap (λ x. x || false) later)
+        by false later (Some j) is next =
+            let parts = and_parts _ _ (sym (ap (λ x. x || follows kind s number j) later) ∙ next) in
+            let same_scope = (and_parts (same j.scope s) _ parts.1).0 in
+            ap (λ x. rows_before x kind s number)
+            (same_kept (ap (kept_of s) is ∙ same_scope))
+
+    -- a part of s
+    part_alike : (kind : PartKind) (number : ℕ) (last : Bool) (rows : List Row)
+        → is_next (begun o l es) kind s number ≡ true
+        → AcceptsAlike (Some (Message2.Part kind s number last rows))
+        (Some (Message2.Part kind s number last rows))
+    part_alike kind number last rows next = record {
+      views = λ g p w. ap (λ b. seen_by s g p (option_to_list (cond last
+          (Some (message_of kind s (b ++ rows))) None)) w) (same_before kind number next);
+      begins = λ q. ap (λ b. cond last None (Some (record
+          { kind = kind; scope = s; number = number; rows = b ++ rows })))
+          (same_before kind number next);
+    }
+
+  other_views : (kind : PartKind) (t : List ℕ) (last : Bool) (xs : List Row) → same t s ≡ false
+      → (g : List ℕ) (p : Pid) (w : Option ℕ)
+      → seen_by s g p (option_to_list (cond {A = Option Message} last
+      (Some (message_of kind t xs)) None)) w ≡ w
+  other_views kind t false xs other g p w = refl
+  other_views PartKind.Sync t true xs other g p w = grind (arith, other)
+  other_views PartKind.Join t true xs other g p w = grind (arith, other)
+  other_views PartKind.Leave t true xs other g p w = grind (arith, other)
+
+  other_kept : (kind : PartKind) (t : List ℕ) (number : ℕ) (last : Bool) (xs : List Row)
+      → same t s ≡ false → kept_of s (cond {A = Option Begun} last None
+      (Some (record { kind = kind; scope = t; number = number; rows = xs }))) ≡ false
+  other_kept kind t number true xs other = refl
+  other_kept kind t number false xs other = other
+
+  -- of another scope
+  other_alike : (kind : PartKind) (t : List ℕ) (number : ℕ) (last : Bool) (rows : List Row)
+      → same t s ≡ false
+      → AcceptsAlike (Some (Message2.Part kind t number last rows))
+      (Some (Message2.Part kind t number last rows))
+  other_alike kind t number last rows other = record {
+    views = λ g p w. other_views kind t last _ other g p w
+        ∙ sym (other_views kind t last _ other g p w);
+    begins = λ q. lie (sym q ∙ (λ i. other_kept kind t number last
+        (rows_before (begun o l es) kind t number ++ rows) other i
+        || other_kept kind t number last
+        (rows_before (begun_of v bodies) kind t number ++ rows) other i));
+  }
+
+  next_of : (kind : PartKind) (t : List ℕ) (number : ℕ) (last : Bool) (rows : List Row)
+      → first_broken (message_checks h l (Message2.Part kind t number last rows)) ≡ None
+      → is_next (begun o l es) kind t number ≡ true
+  next_of PartKind.Sync t number last rows met =
+      unbroken (is_next (begun o l es) PartKind.Sync t number)
+      (all_hold (message_checks h l (Message2.Part PartKind.Sync t number last rows)) met).1.1.0
+  next_of PartKind.Join t number last rows met =
+      unbroken (is_next (begun o l es) PartKind.Join t number)
+      (all_hold (message_checks h l (Message2.Part PartKind.Join t number last rows)) met).1.1.1.0
+  next_of PartKind.Leave t number last rows met =
+      unbroken (is_next (begun o l es) PartKind.Leave t number)
+      (all_hold (message_checks h l (Message2.Part PartKind.Leave t number last rows)) met).1.1.1.0
+
+  taken_alike : (kept_of s (begun o l es) ≡ true → begun o l es ≡ begun_of v bodies)
+      → (x : Option Message2)
+      → first_broken (option_map_or (message_checks h l) x (always Rule.BadFrame)) ≡ None
+      → AcceptsAlike x x
+  taken_alike same_kept None met = cc
+  taken_alike same_kept (Some (Message2.Discover t)) met =
+      record { views = λ g p w. refl; begins = λ q. refl }
+  taken_alike same_kept (Some (Message2.Down t)) met =
+      record { views = λ g p w. refl; begins = λ q. refl }
+  taken_alike same_kept (Some (Message2.Part kind t number last rows)) met =
+      by (same t s) refl
+    where
+      by : (b : Bool) → same t s ≡ b → AcceptsAlike (Some (Message2.Part kind t number last rows))
+          (Some (Message2.Part kind t number last rows))
+      by true is = subst (λ u. AcceptsAlike (Some (Message2.Part kind u number last rows))
+          (Some (Message2.Part kind u number last rows))) (sym ((same_decides t s).0 is))
+          (part_alike same_kept kind number last rows
+          (subst (λ u. is_next (begun o l es) kind u number ≡ true) ((same_decides t s).0 is)
+          (next_of kind t number last rows met)))
+      by false other = other_alike kind t number last rows other
+
+  pub accepts_alike : (k : ℕ) (body : List ℕ) (r : Reply)
+      → IsStep h (but e (Event.Frame k body) (Accepted r)) → (k == l) ≡ true
+      → is_whole l es ≡ true → Alike v o l s es
+      → AcceptsAlike (frame_taken o l es body) (message_taken v body)
+  accepts_alike k body r next is whole alike =
+      subst (AcceptsAlike (frame_taken o l es body)) (taken_same body whole)
+      (taken_alike (λ kept. alike (λ i. found.0 i && whole i)
+      (ap (λ b. b || (heard o l s es && kept_of s (begun_of v bodies))) kept))
+      (frame_taken o l es body) (rules_met o l es e legal body r judged_here whole))
+    where
+      judged_here : Accepted r ≡ judgement h e.seat (Event.Frame l body)
+      judged_here = subst (λ j. Accepted r ≡ judgement h e.seat (Event.Frame j body))
+          (eqb-true k l is) next.judged
+
+      found : (is_open l es ≡ true)
+          × (first_broken (frame_checks h l body (awaits l es)) ≡ None)
+      found = open_first (is_open l es) (frame_checks h l body (awaits l es))
+          (accepted h e.seat (Event.Frame l body) r judged_here).0

@@ -1,0 +1,252 @@
+-- What is begun at a place in what a node owed is the first parts of one message.
+use Rattle.frame_laws.proofs
+use proofs.Words.{ap, arith, before_last, Begun, begun_after, begun_by, begun_of}
+use proofs.Words.{bodies_of, Bool, cond, drop, drop-append-add, drop-append-le, Entry, false}
+use proofs.Words.{frames_said, History, is_some, IsBegun, IsNode, leb-false, leb-true, length}
+use proofs.Words.{length-append, length-drop, length-map, lie, List, map, map-append, Message}
+use proofs.Words.{message_taken, Message2, narrow, nat_le, None, Opening, option_to_list}
+use proofs.Words.{out_in, OutFrame, owed, owes, PartKind, parts, parts_from, past, refl, Row}
+use proofs.Words.{said_frames}
+use proofs.Words.{take-map}
+use proofs.Words.{Some, Speaks, subst, suc, sym, take, take_past, take-append-add, take-append-le}
+use proofs.Words.{true, whole, zero, ℕ, [], ◌++◌, ◌+◌, ◌-◌, ◌<◌, ◌==◌, ◌∙◌, ◌∷◌, ◌≡◌, ◌≤◌}
+use proofs.Calm.{message_ends, said_apart}
+use proofs.Handshakes.{begins_message}
+use proofs.Handshakes.{first_byte, IsClosed, no_message, of_hellos}
+use proofs.OneView.{element}
+use proofs.Orderly.{bodies_apart, bodies_owing}
+use proofs.Pieces.{begun_apart, IsPiece, last_ends, piece_at, pieces, value_of}
+use proofs.Spoken.{Holds, node_before, owed_hold, speaks_now}
+use proofs.Sayable.{asks_alike, asks_sayable, downs_alike, downs_sayable, IsSayable, reads}
+use proofs.Sayable.{reads_length, said_take}
+
+-- messages, each whole; and what is begun at a place in them is one of them
+pub record IsCut (v : ℕ) (bs : List (List ℕ)) : Type 0 where
+  pub ends : begun_of v bs ≡ None
+  pub each : (n : ℕ) (k : Begun) → begun_of v (take n bs) ≡ Some k → IsBegun v bs n k
+
+none_some : (k : Begun) → None ≡ Some k → true ≡ false
+none_some k q = sym (ap is_some q)
+
+module _ (v : ℕ) where
+  cut_both : (xs ys : List (List ℕ)) → IsCut v xs → IsCut v ys → IsCut v (xs ++ ys)
+  cut_both xs ys first later = record { ends = behind ys ∙ later.ends; each = each }
+    where
+      behind : (zs : List (List ℕ)) → begun_of v (xs ++ zs) ≡ begun_of v zs
+      behind zs = ap (begun_by None) (said_apart v xs zs)
+          ∙ begun_apart None (frames_said v xs) (frames_said v zs)
+          ∙ ap (λ b. begun_by b (frames_said v zs)) first.ends
+
+      in_first : (n : ℕ) (k : Begun) → IsBegun v xs n k → IsBegun v (xs ++ ys) n k
+      in_first n k it = record {
+        message = it.message;
+        place = it.place;
+        fits = (let long = length-append xs ys in let low = it.fits in omega (arith, long, low));
+        parts_are = λ j le.
+            let fits = it.fits in
+            let long = length-drop it.place xs in
+            ap (λ bs. frames_said v (take j bs))
+            (drop-append-le it.place xs ys (omega (arith, fits)))
+            ∙ ap (frames_said v) (take-append-le j (drop it.place xs) ys
+            (omega (arith, fits, long, le))) ∙ it.parts_are j le;
+        few = it.few;
+        kept = it.kept;
+        behind = it.behind;
+      }
+
+      in_second : (n m : ℕ) (k : Begun) → n ≡ length xs + m → IsBegun v ys m k
+          → IsBegun v (xs ++ ys) n k
+      in_second n m k at it = record {
+        message = it.message;
+        place = length xs + it.place;
+        fits = (let long = length-append xs ys in let low = it.fits in omega (arith, long, low));
+        parts_are = λ j le. ap (λ bs. frames_said v (take j bs)) (drop-append-add xs ys it.place)
+            ∙ it.parts_are j le;
+        few = it.few;
+        kept = it.kept;
+        behind = (let is = it.behind in omega (arith, is, at));
+      }
+
+      each : (n : ℕ) (k : Begun) → begun_of v (take n (xs ++ ys)) ≡ Some k
+          → IsBegun v (xs ++ ys) n k
+      each n k q = by (nat_le n (length xs)) refl
+        where
+          by : (b : Bool) → nat_le n (length xs) ≡ b → IsBegun v (xs ++ ys) n k
+          by true le = in_first n k (first.each n k
+              (sym (ap (begun_of v) (take-append-le n xs ys (leb-true n (length xs) le))) ∙ q))
+          by false more =
+              let above = leb-false n (length xs) more in
+              let at : n ≡ length xs + (n - length xs) = omega (arith, above) in
+              in_second n (n - length xs) k at (later.each (n - length xs) k
+              (sym (behind (take (n - length xs) ys)) ∙ ap (begun_of v)
+              (sym (take-append-add xs ys (n - length xs))
+              ∙ ap (λ j. take j (xs ++ ys)) (sym at)) ∙ q))
+
+  -- ---- one message
+
+  -- what is begun behind some parts of it is numbered as they are many
+  begun_at : (kind : PartKind) (s : List ℕ) (more : ℕ) (rows : List Row) (n : ℕ) (k : Begun)
+      → begun_by None (take n (parts_from kind s 1 more rows)) ≡ Some k
+      → (k.number ≡ n) × (n < length (parts_from kind s 1 more rows))
+  begun_at kind s more rows zero k q = lie (none_some k q)
+  begun_at kind s more rows (suc j) k q = by (nat_le (suc (suc j)) (length (parts_from kind s 1
+      more rows))) refl
+    where
+      ended : length (parts_from kind s 1 more rows) ≤ suc j → true ≡ false
+      ended short = none_some k (sym (ap (begun_by None)
+          (take_past (suc j) (parts_from kind s 1 more rows) short)
+          ∙ last_ends kind s 1 more rows None) ∙ q)
+
+      here : (f : Message2)
+          → (it : IsPiece None kind s [] rows 0 (parts_from kind s 1 more rows) j f) → (b : Bool)
+          → it.last ≡ b → k.number ≡ suc j
+      here f it true is = lie (ended (let end = it.ends is in omega (arith, end)))
+      here f it false is =
+          (let same = ap (λ x. Begun.number x) (value_of (sym q ∙ it.begins is)) in
+          let numbered = it.numbered in
+          omega (arith, same, numbered))
+
+      by : (b : Bool) → nat_le (suc (suc j)) (length (parts_from kind s 1 more rows)) ≡ b
+          → (k.number ≡ suc j) × (suc j < length (parts_from kind s 1 more rows))
+      by false more_than = lie (ended (let low = leb-false (suc (suc j))
+          (length (parts_from kind s 1 more rows)) more_than in omega (arith, low)))
+      by true le =
+          let less = leb-true (suc (suc j)) (length (parts_from kind s 1 more rows)) le in
+          let f = element (parts_from kind s 1 more rows) j (omega (arith, less)) in
+          let it = piece_at kind s 0 more rows [] None refl j f.0 f.1 in
+          (here f.0 it it.last refl, omega (arith, less))
+
+  -- so it is of a message, in the parts of its version
+  begun_of_message : (m : Message) (n : ℕ) (k : Begun)
+      → begun_by None (take n (pieces v m)) ≡ Some k
+      → (pieces v m ≡ parts m) × (k.number ≡ n) × (n < length (parts m))
+  begun_of_message m n k q = by (v == 2) refl m q
+    where
+      single : (f : Message2) → begun_after None f ≡ None → (n : ℕ)
+          → begun_by None (take n (f ∷ [])) ≡ Some k → true ≡ false
+      single f none zero q = none_some k q
+      single f none (suc n) q = none_some k (sym (alone n ∙ none) ∙ q)
+        where
+          alone : (n : ℕ) → begun_by None (take (suc n) (f ∷ [])) ≡ begun_after None f
+          alone zero = refl
+          alone (suc n) = refl
+
+      by : (b : Bool) → (v == 2) ≡ b → (m : Message)
+          → begun_by None (take n (cond b (parts m) (whole m ∷ []))) ≡ Some k
+          → (cond (v == 2) (parts m) (whole m ∷ []) ≡ parts m) × (k.number ≡ n)
+          × (n < length (parts m))
+      by true new (Message.Discover s) q = lie (single (Message2.Discover s) refl n q)
+      by true new (Message.Down s) q = lie (single (Message2.Down s) refl n q)
+      by true new (Message.Sync s rows) q =
+          let it = begun_at PartKind.Sync s (before_last rows) rows n k q in (
+            ap (λ b. cond b (parts (Message.Sync s rows)) (whole (Message.Sync s rows) ∷ [])) new,
+            it.0,
+            it.1,
+          )
+      by true new (Message.Join s rows) q =
+          let it = begun_at PartKind.Join s (before_last rows) rows n k q in (
+            ap (λ b. cond b (parts (Message.Join s rows)) (whole (Message.Join s rows) ∷ [])) new,
+            it.0,
+            it.1,
+          )
+      by true new (Message.Leave s rows) q =
+          let it = begun_at PartKind.Leave s (before_last rows) rows n k q in (
+            ap (λ b. cond b (parts (Message.Leave s rows)) (whole (Message.Leave s rows) ∷ [])) new,
+            it.0,
+            it.1,
+          )
+      by false old (Message.Discover s) q = lie (single (Message2.Discover s) refl n q)
+      by false old (Message.Down s) q = lie (single (Message2.Down s) refl n q)
+      by false old (Message.Sync s rows) q =
+          lie (single (Message2.Part PartKind.Sync s 1 true rows) refl n q)
+      by false old (Message.Join s rows) q =
+          lie (single (Message2.Part PartKind.Join s 1 true rows) refl n q)
+      by false old (Message.Leave s rows) q =
+          lie (single (Message2.Part PartKind.Leave s 1 true rows) refl n q)
+
+  abbrev Cut : List OutFrame → Type 0
+  Cut fs = IsCut v (map (λ f. f.body) fs)
+
+  cut_message : (m : Message) → IsSayable v m → Cut (said_frames v m)
+  cut_message m can = record { ends = message_ends v m can; each = each }
+    where
+      said_so : (n : ℕ) → frames_said v (take n (map (λ f. f.body) (said_frames v m)))
+          ≡ take n (pieces v m)
+      said_so n = ap (frames_said v) (take-map (λ f. OutFrame.body f) n (said_frames v m))
+          ∙ said_take v (said_frames v m) (pieces v m) (reads v m can) n
+
+      each : (n : ℕ) (k : Begun)
+          → begun_of v (take n (map (λ f. f.body) (said_frames v m))) ≡ Some k
+          → IsBegun v (map (λ f. f.body) (said_frames v m)) n k
+      each n k q =
+          let it = begun_of_message m n k (sym (ap (begun_by None) (said_so n)) ∙ q) in
+          let long = length-map (said_frames v m) (λ f. OutFrame.body f) in
+          let many = reads_length v (said_frames v m) (pieces v m) (reads v m can)
+          ∙ ap length it.0 in
+          let number = it.1 in
+          let less = it.2 in
+          record {
+            message = m;
+            place = 0;
+            fits = omega (arith, long, many);
+            parts_are = λ j le. said_so j ∙ ap (take j) it.0;
+            few = omega (arith, number, less);
+            kept = ap (λ j. begun_by None (take j (parts m))) number
+                ∙ ap (λ ps. begun_by None (take n ps)) (sym it.0)
+                ∙ sym (ap (begun_by None) (said_so n)) ∙ q;
+            behind = omega (arith, number);
+          }
+
+  cut_hello : (body : List ℕ) → begins_message (first_byte body) ≡ false
+      → Cut (narrow body ∷ [])
+  cut_hello body other = record {
+    ends = none_said 1;
+    each = λ n k q. lie (none_some k (sym (none_said n) ∙ q));
+  }
+    where
+      none : message_taken v body ≡ None
+      none = no_message v body other
+
+      none_said : (n : ℕ) → begun_of v (take n (body ∷ [])) ≡ None
+      none_said zero = refl
+      none_said (suc zero) = ap (λ y. begun_by None (option_to_list y ++ [])) none
+      none_said (suc (suc n)) = ap (λ y. begun_by None (option_to_list y ++ [])) none
+
+  cut_closed : IsClosed Cut
+  cut_closed = record {
+    nothing = record { ends = refl; each = λ n k q. lie (none_some k (sym (empty n) ∙ q)) };
+    both = λ xs ys first later. subst (IsCut v) (sym (map-append (λ f. f.body) xs ys))
+        (cut_both (map (λ f. f.body) xs) (map (λ f. f.body) ys) first later);
+  }
+    where
+      empty : (n : ℕ) → begun_of v (take n []) ≡ None
+      empty zero = refl
+      empty (suc n) = refl
+
+  each_cut : (h : History) (node : IsNode h) (l : ℕ) → Holds h node l v Cut
+  each_cut h node l = record {
+    closed = cut_closed;
+    hellos = of_hellos h l Cut cut_hello;
+    asks = λ s text. subst Cut (asks_alike v s)
+        (cut_message (Message.Discover s) (asks_sayable v s text));
+    downs = λ s text. subst Cut (downs_alike v s)
+        (cut_message (Message.Down s) (downs_sayable v s text));
+    said = λ m can own. cut_message m can;
+  }
+
+-- ---- along a history
+
+pub out_cut : (o : Opening) (es : List Entry) → IsNode (past o es) → (l v : ℕ) → Speaks o l v es
+    → IsCut v (bodies_of (out_in o l es))
+out_cut o [] node l v speaks = (cut_closed v).nothing
+out_cut o (e ∷ es) node l v speaks =
+    let was = node_before o e es node in
+    subst (IsCut v) (sym (bodies_apart (out_in o l es) (owes (past o es) l e)
+    ∙ ap (λ bs. bodies_of (out_in o l es) ++ bs)
+    (bodies_owing e.number (owed (past o es) l e.number e.event e.verdict))))
+    (cut_both v (bodies_of (out_in o l es))
+    (map (λ f. f.body) (owed (past o es) l e.number e.event e.verdict))
+    (out_cut o es was l v speaks.1)
+    (owed_hold (past o es) was l v (speaks_now o l v es speaks.1) (Cut v)
+    (each_cut v (past o es) was l) e.number e.seat e.event e.verdict
+    (λ is. cut_hello v _ refl) node.legal.0.judged node.written.0))

@@ -1,0 +1,243 @@
+-- Where a message was begun on a link that is up, its scope runs, the link is visible, and for a
+-- Join and a Leave its peer is heard.
+use Rattle.frame_laws.proofs
+use proofs.Words.{Accepted, accepted, all_hold, always, and_parts, ap, arith, awaits, Begun, begun}
+use proofs.Words.{Bool, but, cond, ends, Entry, entry_link, eqb-true, Event, false}
+use proofs.Words.{first_broken, first_of, frame_checks, frame_taken, fresh, heard, hears}
+use proofs.Words.{is_open, is_opened_by, is_running, is_some, is_up, is_visible, is_whole}
+use proofs.Words.{is_whole_in, IsPlayedIn, IsStep, judgement, kept_after, lie, List, message_checks}
+use proofs.Words.{Message2, none_begun, None, not, open_first, Opened, opened, Opening, Option}
+use proofs.Words.{option_and_then, option_map_or, PartKind, past, refl, Refused, Reply}
+use proofs.Words.{Row, Rule, said_at, same, same_decides, Some, stopped_heard, subst, sym, taken}
+use proofs.Words.{talk, true, unbroken, unwrap_or, Verdict, whole_awaits, completed, eq-eqb}
+use proofs.Words.{given_kept, has_bit, start_of, ℕ, [], ◌&&◌, ◌==◌, ◌||◌, ◌∙◌, ◌∷◌, ◌≡◌}
+use proofs.Pieces.{value_of}
+
+abbrev pub is_sync : PartKind → Bool
+is_sync PartKind.Sync = true
+is_sync k = false
+
+module _ (o : Opening) (l : ℕ) where
+  pub record Stands (es : List Entry) (k : Begun) : Type 0 where
+    pub runs : is_running (past o es) k.scope ≡ true
+    pub shows : is_visible (past o es) l ≡ true
+    pub hears : (is_sync k.kind || heard o l k.scope es) ≡ true
+
+  abbrev pub AllStand : List Entry → Type 0
+  AllStand es = is_up l es ≡ true → (k : Begun) → begun o l es ≡ Some k → Stands es k
+
+  module _ (es : List Entry) (e : Entry) (legal : IsPlayedIn o es) where
+    -- ---- a link that was whole, and is up, was up
+
+    numbered : (x : Entry) → is_opened_by l x ≡ true → (x.number == l) ≡ true
+    numbered x q = grind arith
+
+    pub up_back : opened e.number es ≡ None → (ev : Event) (w : Verdict)
+        → is_up l (but e ev w ∷ es) ≡ true → is_whole l es ≡ true → is_up l es ≡ true
+    up_back new ev w up whole = by (is_opened_by l x) refl
+        (and_parts (is_open l (x ∷ es)) (is_whole l (x ∷ es)) up).0
+      where
+        x : Entry
+        x = but e ev w
+
+        none : (e.number == l) ≡ true → opened l es ≡ None
+        none here = subst (λ n. opened n es ≡ None) (eqb-true e.number l here)
+            new
+
+        by : (b : Bool) → is_opened_by l (but e ev w) ≡ b → (is_opened_by l (but e ev w)
+            || (not (ends l es w ev) && is_open l es)) ≡ true → is_up l es ≡ true
+        by true here opens = lie (sym whole ∙ ap (λ (y : Option Opened). option_map_or
+            (λ z. is_whole_in z.start (taken l es)) y false) (none (numbered (but e ev w) here)))
+        by false other opens =
+            (λ i. (and_parts (not (ends l es w ev)) (is_open l es)
+            (sym (ap (λ b. b || (not (ends l es w ev) && is_open l es)) other) ∙ opens)).1 i
+            && whole i)
+
+    -- what is begun is begun on a whole link
+    pub begun_whole : (k : Begun) → begun o l es ≡ Some k → is_whole l es ≡ true
+    begun_whole k is = by (is_whole l es) refl
+      where
+        by : (b : Bool) → is_whole l es ≡ b → is_whole l es ≡ true
+        by true w = w
+        by false un = lie (sym (ap is_some (sym (none_begun o es legal l un) ∙ is)))
+
+    heard_by : (s : List ℕ) (x : Entry) → is_up l (x ∷ es) ≡ true
+        → talk o l (x ∷ es) ≡ talk o l es → heard o l s es ≡ true → heard o l s (x ∷ es) ≡ true
+    heard_by s x up same_talk hears_so =
+        (λ i. up i && (ap (λ ts. unwrap_or (first_of (hears s) ts) false) same_talk
+        ∙ (and_parts (is_up l es) (unwrap_or (first_of (hears s) (talk o l es)) false)
+        hears_so).1) i)
+
+    or_heard : (b c d : Bool) → (b || c) ≡ true → (c ≡ true → d ≡ true) → (b || d) ≡ true
+    or_heard true c d q f = refl
+    or_heard false c d q f = f q
+
+    still : IsStep (past o es) e → (ev : Event) (w : Verdict)
+        → begun o l (but e ev w ∷ es) ≡ begun o l es
+        → ((s : List ℕ) → is_running (past o es) s ≡ true
+        → is_running (past o (but e ev w ∷ es)) s ≡ true)
+        → (is_whole l es ≡ true → is_visible (past o (but e ev w ∷ es)) l
+        ≡ is_visible (past o es) l)
+        → talk o l (but e ev w ∷ es) ≡ talk o l es → AllStand es → AllStand (but e ev w ∷ es)
+    still made ev w same_begun runs shows same_talk before up k is =
+        let was = sym same_begun ∙ is in
+        let whole = begun_whole k was in
+        let it = before (up_back (fresh o es legal e made) ev w up whole) k was in
+        record {
+          runs = runs k.scope it.runs;
+          shows = shows whole ∙ it.shows;
+          hears = or_heard (is_sync k.kind) (heard o l k.scope es)
+              (heard o l k.scope (but e ev w ∷ es)) it.hears
+              (heard_by k.scope (but e ev w) up same_talk);
+        }
+
+    -- ---- a part that was accepted
+
+    module _ (body : List ℕ) (r : Reply)
+        (q : Accepted r ≡ judgement (past o es) e.seat (Event.Frame l body))
+        (whole : is_whole l es ≡ true) where
+      fr : Entry
+      fr = but e (Event.Frame l body) (Accepted r)
+
+      pub rules_met : first_broken (option_map_or (message_checks (past o es) l) (frame_taken o l
+          es body)
+          (always Rule.BadFrame)) ≡ None
+      rules_met = subst (λ a. first_broken (frame_checks (past o es) l body a) ≡ None)
+          (whole_awaits (opened l es) (taken l es) whole)
+          (open_first (is_open l es) (frame_checks (past o es) l body (awaits l es))
+          (accepted (past o es) e.seat (Event.Frame l body) r q).0).1
+
+      shown_on : is_visible (past o (but e (Event.Frame l body) (Accepted r) ∷ es)) l
+          ≡ is_visible (past o es) l
+      shown_on = grind (
+        arith,
+        eq-eqb l l,
+        given_kept (record { body = body; before = es }) (opened l es) (taken l es) whole,
+      )
+
+      kept_talk : said_at o l es body ≡ None
+          → talk o l (but e (Event.Frame l body) (Accepted r) ∷ es) ≡ talk o l es
+      kept_talk none = grind (arith, eq-eqb l l, whole, none)
+
+      heard_met : (kind : PartKind) (s : List ℕ) (number : ℕ) (last : Bool) (rows : List Row)
+          → first_broken (message_checks (past o es) l (Message2.Part kind s number last rows))
+          ≡ None → (is_sync kind || heard o l s es) ≡ true
+      heard_met PartKind.Sync s number last rows met = refl
+      heard_met PartKind.Join s number last rows met = unbroken (heard o l s es)
+          (all_hold (message_checks (past o es) l
+          (Message2.Part PartKind.Join s number last rows)) met).1.1.0
+      heard_met PartKind.Leave s number last rows met = unbroken (heard o l s es)
+          (all_hold (message_checks (past o es) l
+          (Message2.Part PartKind.Leave s number last rows)) met).1.1.0
+
+      part_stands : (x : Option Message2) → frame_taken o l es body ≡ x
+          → first_broken (option_map_or (message_checks (past o es) l) x (always Rule.BadFrame))
+          ≡ None → is_up l (but e (Event.Frame l body) (Accepted r) ∷ es) ≡ true → (k : Begun)
+          → kept_after (begun o l es) x ≡ Some k
+          → Stands (but e (Event.Frame l body) (Accepted r) ∷ es) k
+      part_stands None says met up k is = cc
+      part_stands (Some (Message2.Discover s)) says met up k is = lie (sym (ap is_some is))
+      part_stands (Some (Message2.Down s)) says met up k is = lie (sym (ap is_some is))
+      part_stands (Some (Message2.Part kind s number true rows)) says met up k is =
+          lie (sym (ap is_some is))
+      part_stands (Some (Message2.Part kind s number false rows)) says met up k is =
+          let held = all_hold (message_checks (past o es) l
+          (Message2.Part kind s number false rows)) met in
+          let none = kept_talk (ap (option_and_then (completed (begun o l es))) says) in
+          subst (Stands (but e (Event.Frame l body) (Accepted r) ∷ es)) (value_of is) (record {
+            runs = unbroken (is_running (past o es) s) held.1.0;
+            shows = shown_on ∙ unbroken (is_visible (past o es) l) held.0;
+            hears = or_heard (is_sync kind) (heard o l s es)
+                (heard o l s (but e (Event.Frame l body) (Accepted r) ∷ es))
+                (heard_met kind s number false rows met)
+                (heard_by s (but e (Event.Frame l body) (Accepted r)) up none);
+          })
+
+      pub framed_stand : AllStand (but e (Event.Frame l body) (Accepted r) ∷ es)
+      framed_stand up k is = part_stands (frame_taken o l es body) refl rules_met up k
+          (sym (ap (λ b. cond b (kept_after (begun o l es) (frame_taken o l es body))
+          (begun o l es)) (λ i. eq-eqb l l refl i && whole i)) ∙ is)
+
+    -- ---- each event
+
+    stopped_stand : IsStep (past o es) e → (t : List ℕ) (r : Reply) → AllStand es
+        → AllStand (but e (Event.StopScope t) (Accepted r) ∷ es)
+    stopped_stand made t r before up k is = by (begun o l es) refl is
+      where
+        by : (x : Option Begun) → begun o l es ≡ x
+            → cond (option_map_or (λ y. same y.scope t) x false) None x ≡ Some k
+            → Stands (but e (Event.StopScope t) (Accepted r) ∷ es) k
+        by None was is = lie (sym (ap is_some is))
+        by (Some j) was is = of (same j.scope t) refl is
+          where
+            of : (b : Bool) → same j.scope t ≡ b → cond b None (Some j) ≡ Some k
+                → Stands (but e (Event.StopScope t) (Accepted r) ∷ es) k
+            of true here is = lie (sym (ap is_some is))
+            of false other is =
+                let it = before (up_back (fresh o es legal e made) (Event.StopScope t) (Accepted r)
+                up
+                (begun_whole j was)) j was in
+                let apart : same t j.scope ≡ false =
+                grind (arith, other, same_decides t j.scope, same_decides j.scope t) in
+                subst (Stands (but e (Event.StopScope t) (Accepted r) ∷ es)) (value_of is) (record {
+                  runs = grind (arith, it.runs, apart);
+                  shows = it.shows;
+                  hears = or_heard (is_sync j.kind) (heard o l j.scope es)
+                      (heard o l j.scope (but e (Event.StopScope t) (Accepted r) ∷ es)) it.hears
+                      (λ hears_so. (stopped_heard (past o es)
+                      (but e (Event.StopScope t) (Accepted r)) refl t refl l j.scope).heard_is
+                      ∙ (λ i. hears_so i && not (apart i)));
+                })
+
+    new_visible : IsStep (past o es) e → (ev : Event) (r : Reply)
+        → is_some (start_of ev) ≡ true → is_whole l es ≡ true
+        → is_visible (past o (but e ev (Accepted r) ∷ es)) l ≡ is_visible (past o es) l
+    new_visible made (Event.Opened c) r starts whole =
+        grind (arith, fresh o es legal e made, whole, eqb-true e.number l)
+    new_visible made (Event.Dial n c) r starts whole =
+        grind (arith, fresh o es legal e made, whole, eqb-true e.number l)
+    new_visible made ev r starts whole = lie (sym starts)
+
+    pub each_stands : IsStep (past o es) e → AllStand es → (ev : Event) (w : Verdict)
+        → w ≡ judgement (past o es) e.seat ev → AllStand (but e ev w ∷ es)
+    each_stands made before (Event.Frame j body) (Accepted r) q = by (j == l) refl
+        (is_whole l es) refl
+      where
+        by : (b : Bool) → (j == l) ≡ b → (c : Bool) → is_whole l es ≡ c
+            → AllStand (but e (Event.Frame j body) (Accepted r) ∷ es)
+        by true is true whole =
+            subst (λ n. AllStand (but e (Event.Frame n body) (Accepted r) ∷ es))
+            (sym (eqb-true j l is))
+            (framed_stand body r (subst (λ n. Accepted r ≡ judgement (past o es) e.seat
+            (Event.Frame n body)) (eqb-true j l is) q) whole)
+        by true is false un = λ up k got.
+            lie (sym (ap is_some (sym (ap (λ b. cond b (kept_after (begun o l es)
+            (frame_taken o l es body)) (begun o l es)) (λ i. is i && un i)
+            ∙ none_begun o es legal l un) ∙ got)))
+        by false other c whole =
+            let it = entry_link es (but e (Event.Frame j body) (Accepted r)) j l body refl other in
+            still made (Event.Frame j body) (Accepted r)
+            (ap (λ b. cond (b && is_whole l es) (kept_after (begun o l es)
+            (frame_taken o l es body)) (begun o l es)) other) (λ s runs. runs)
+            (λ w. ap (λ g. not o.hidden && option_map_or (λ f. has_bit 0 f.flags) g false) it.given)
+            (it.talk o) before
+    each_stands made before (Event.StopScope t) (Accepted r) q = stopped_stand made t r before
+    each_stands made before (Event.StartScope t) (Accepted r) q =
+        still made (Event.StartScope t) (Accepted r) refl (λ s runs. grind (arith, runs))
+        (λ w. refl) refl before
+    each_stands made before Event.Restart (Accepted r) q = λ up k is. lie (sym (ap is_some is))
+    each_stands made before (Event.Opened c) (Accepted r) q =
+        still made (Event.Opened c) (Accepted r) refl (λ s runs. runs)
+        (new_visible made (Event.Opened c) r refl) refl before
+    each_stands made before (Event.Dial n c) (Accepted r) q =
+        still made (Event.Dial n c) (Accepted r) refl (λ s runs. runs)
+        (new_visible made (Event.Dial n c) r refl) refl before
+    each_stands made before ev (Accepted r) q =
+        still made ev (Accepted r) refl (λ s runs. runs) (λ w. refl) refl before
+    each_stands made before ev (Refused r) q =
+        still made ev (Refused r) refl (λ s runs. runs) (λ w. refl) refl before
+
+  pub all_stand : (es : List Entry) → IsPlayedIn o es → AllStand es
+  all_stand [] legal = λ up k is. lie (sym up)
+  all_stand (e ∷ es) legal =
+      each_stands es e legal.1 legal.0 (all_stand es legal.1) e.event e.verdict legal.0.judged

@@ -1,0 +1,104 @@
+-- What a node owes to a link is whole messages, one behind the other, each in its parts.
+use Rattle.frame_laws.proofs
+use proofs.Words.{AreInOrder, ap, arith, begun_by, bodies_of, Entry, false}
+use proofs.Words.{frames_said, History, IsNode}
+use proofs.Words.{List, map, Message}
+use proofs.Words.{narrow, None, Opening, option_to_list, out_in}
+use proofs.Words.{OutFrame, owed, Owing, owing, past, refl, said_frames}
+use proofs.Words.{Speaks, subst, sym}
+use proofs.Words.{ℕ, [], ◌++◌, ◌∙◌, ◌∷◌, ◌≡◌}
+use proofs.Calm.{AreWhole, frames_apart, message_ends, message_says, said_apart, whole_both}
+use proofs.Handshakes.{begins_message}
+use proofs.Handshakes.{first_byte, IsClosed, no_message, of_hellos}
+use proofs.Pieces.{begun_apart, order_apart, pieces_in_order}
+use proofs.Spoken.{Holds, node_before, owed_hold, speaks_now}
+use proofs.Sayable.{asks_alike, asks_sayable, downs_alike, downs_sayable, IsSayable, said}
+
+-- messages, each whole and in the order of its parts
+pub record IsOrderly (v : ℕ) (fs : List OutFrame) : Type 0 where
+  pub ends : AreWhole v fs
+  pub order : AreInOrder None (said v fs)
+
+module _ (v : ℕ) where
+  orderly_both : (xs ys : List OutFrame) → IsOrderly v xs → IsOrderly v ys → IsOrderly v (xs ++ ys)
+  orderly_both xs ys first later = record {
+    ends = whole_both v xs ys first.ends later.ends;
+    order = subst (AreInOrder None) (sym (frames_apart v xs ys))
+        (order_apart None (said v xs) (said v ys) first.order
+        (subst (λ b. AreInOrder b (said v ys)) (sym first.ends) later.order));
+  }
+
+  orderly_closed : IsClosed (IsOrderly v)
+  orderly_closed = record { nothing = record { ends = refl; order = tt }; both = orderly_both }
+
+  orderly_message : (m : Message) → IsSayable v m → IsOrderly v (said_frames v m)
+  orderly_message m can = record {
+    ends = message_ends v m can;
+    order = subst (AreInOrder None) (sym (message_says v m can)) (pieces_in_order v m);
+  }
+
+  orderly_hello : (body : List ℕ) → begins_message (first_byte body) ≡ false
+      → IsOrderly v (narrow body ∷ [])
+  orderly_hello body q = (let none = no_message v body q in record {
+    ends = ap (λ y. begun_by None (option_to_list y ++ [])) none;
+    order = subst (λ y. AreInOrder None (option_to_list y ++ [])) (sym none) tt;
+  })
+
+  pub each_orderly : (h : History) (node : IsNode h) (l : ℕ) → Holds h node l v (IsOrderly v)
+  each_orderly h node l = record {
+    closed = orderly_closed;
+    hellos = of_hellos h l (IsOrderly v) orderly_hello;
+    asks = λ s text. subst (IsOrderly v) (asks_alike v s)
+        (orderly_message (Message.Discover s) (asks_sayable v s text));
+    downs = λ s text. subst (IsOrderly v) (downs_alike v s)
+        (orderly_message (Message.Down s) (downs_sayable v s text));
+    said = λ m can own. orderly_message m can;
+  }
+
+-- ---- along a history
+
+pub bodies_apart : (xs ys : List Owing) → bodies_of (xs ++ ys) ≡ bodies_of xs ++ bodies_of ys
+bodies_apart [] ys = refl
+bodies_apart (x ∷ xs) ys = grind (arith, bodies_apart xs ys)
+
+pub bodies_owing : (n : ℕ) (fs : List OutFrame) → bodies_of (map (owing n) fs) ≡ map (λ f. f.body)
+    fs
+bodies_owing n [] = refl
+bodies_owing n (f ∷ fs) = grind (arith, bodies_owing n fs)
+
+-- what these bodies say, and those of frames that one entry owes behind them
+pub said_more : (v : ℕ) (xs : List Owing) (n : ℕ) (fs : List OutFrame)
+    → frames_said v (bodies_of (xs ++ map (owing n) fs)) ≡ frames_said v (bodies_of xs) ++ said v fs
+said_more v xs n fs =
+    ap (frames_said v) (bodies_apart xs (map (owing n) fs) ∙ ap (λ bs. bodies_of xs ++ bs)
+    (bodies_owing n fs)) ∙ said_apart v (bodies_of xs) (map (λ f. f.body) fs)
+
+pub record OutOrderly (v : ℕ) (xs : List Owing) : Type 0 where
+  pub ends : begun_by None (frames_said v (bodies_of xs)) ≡ None
+  pub order : AreInOrder None (frames_said v (bodies_of xs))
+
+pub owed_orderly : (o : Opening) (e : Entry) (es : List Entry) → IsNode (past o (e ∷ es))
+    → (l v : ℕ) → Speaks o l v es
+    → IsOrderly v (owed (past o es) l e.number e.event e.verdict)
+owed_orderly o e es node l v speaks =
+    owed_hold (past o es) (node_before o e es node) l v (speaks_now o l v es speaks) (IsOrderly v)
+    (each_orderly v (past o es) (node_before o e es node) l) e.number e.seat e.event e.verdict
+    (λ is. orderly_hello v _ refl)
+    node.legal.0.judged node.written.0
+
+pub out_orderly : (o : Opening) (es : List Entry) → IsNode (past o es) → (l v : ℕ)
+    → Speaks o l v es → OutOrderly v (out_in o l es)
+out_orderly o [] node l v speaks = record { ends = refl; order = tt }
+out_orderly o (e ∷ es) node l v speaks =
+    let was = out_orderly o es (node_before o e es node) l v speaks.1 in
+    let now = owed_orderly o e es node l v speaks.1 in
+    let fs = owed (past o es) l e.number e.event e.verdict in
+    let more = said_more v (out_in o l es) e.number fs in
+    record {
+      ends = ap (begun_by None) more
+          ∙ begun_apart None (frames_said v (bodies_of (out_in o l es))) (said v fs)
+          ∙ ap (λ b. begun_by b (said v fs)) was.ends ∙ now.ends;
+      order = subst (AreInOrder None) (sym more)
+          (order_apart None (frames_said v (bodies_of (out_in o l es))) (said v fs) was.order
+          (subst (λ b. AreInOrder b (said v fs)) (sym was.ends) now.order));
+    }

@@ -1,0 +1,343 @@
+-- What is refused while a peer is heard, or a message is kept.
+use Rattle.frame_laws.proofs
+use proofs.Words.{Accepted, and_parts, ap, append-nil, arith, Begun}
+use proofs.Words.{begun, begun_after, begun_of, Bool, but, came, comes_next, completed}
+use proofs.Words.{cond, delivered, Entry, eqb-true, Event, false}
+use proofs.Words.{fresh, first_broken, heard}
+use proofs.Words.{HeardIsSaid, History, is_open, is_running, is_some, is_up}
+use proofs.Words.{is_whole, IsGiven, IsHonest, IsPlayedIn, IsStep, kept_after, known}
+use proofs.Words.{lie, link_version, List, Message, message_checks, message_of}
+use proofs.Words.{message_taken, Message2, None, not, Opening, Option}
+use proofs.Words.{option_and_then, option_map_or, option_to_list, PartKind, past, Pid, refl}
+use proofs.Words.{Refused}
+use proofs.Words.{Reply, Row, Rule, said_at, same, same_decides, seen_by}
+use proofs.Words.{slice_get, Some, stated, stopped_heard, subst, sym}
+use proofs.Words.{true, Verdict, ℕ, []}
+use proofs.Words.{is_about_rows, is_accepted, kind_byte}
+use proofs.Words.{◌&&◌, ◌++◌, ◌==◌, ◌||◌, ◌∙◌, ◌∷◌, ◌≡◌}
+use proofs.Accepting.{admits, heard_met, is_up_there}
+use proofs.Bodies.{begun_more, completes_there, is_known, known_heard}
+use proofs.KeptStands.{all_stand, begun_whole, is_sync, Stands, up_back}
+use proofs.KnownAfter.{known_after}
+use proofs.NotRefused.{comes, heard_never, kept_of, sync_never}
+use proofs.Alike.{Alike, NeedsAlike, some_whole, taken_same}
+
+pub from_or : (a b : Bool) (P : Type 0) → (a || b) ≡ true → (a ≡ true → P) → (b ≡ true → P) → P
+from_or true b P q first later = first refl
+from_or false b P q first later = later q
+
+abbrev pub Before : ℕ → Opening → ℕ → List ℕ → List Entry → Type 0
+Before v o l s es = heard o l s es ≡ true → HeardIsSaid v (past o es) l s
+
+pub or_true : (a : Bool) {b : Bool} → b ≡ true → (a || b) ≡ true
+or_true true q = refl
+or_true false q = q
+
+module _ (v : ℕ) (o : Opening) (es : List Entry) (e : Entry) (legal : IsPlayedIn o es) (l : ℕ)
+    (agrees : is_whole l es ≡ true → link_version o l es ≡ v) (s : List ℕ) where
+  abbrev h : History
+  h = past o es
+
+  abbrev bodies : List (List ℕ)
+  bodies = delivered l es
+
+  -- ---- each entry
+
+  number : (n m : ℕ) → Some n ≡ Some m → n ≡ m
+  number n m q = (cc)
+
+  nobody : Pid
+  nobody = record { node = []; creation = 0; number = 0 }
+
+  -- where nothing becomes known the peer was heard before, and the same is stated
+  module _ (ev : Event) (w : Verdict) (hears : heard o l s (but e ev w ∷ es) ≡ true)
+      (same_known : (g : List ℕ) (p : Pid) → known o l s g p (but e ev w ∷ es) ≡ known o l s g p
+      es) where
+    pub heard_before : heard o l s es ≡ true
+    heard_before = known_heard o l s [] nobody es (stated o l s [] nobody (but e ev w ∷ es))
+        (sym (same_known [] nobody) ∙ is_known o l s [] nobody (but e ev w ∷ es) hears)
+
+    pub stated_before : (g : List ℕ) (p : Pid)
+        → stated o l s g p (but e ev w ∷ es) ≡ stated o l s g p es
+    stated_before g p =
+        grind (
+          arith,
+          but e ev w ∷ es,
+          is_known o l s g p (but e ev w ∷ es) hears,
+          same_known g p,
+          is_known o l s g p es heard_before,
+        )
+
+  -- where nothing comes on the link nobody becomes heard
+  pub quiet_heard : (ev : Event) (w : Verdict) → IsStep h (but e ev w) → came l ev ≡ []
+      → heard o l s (but e ev w ∷ es) ≡ true → heard o l s es ≡ true
+  quiet_heard (Event.Frame k body) (Accepted r) next none hears =
+      heard_before (Event.Frame k body) (Accepted r) hears
+      (λ g p. known_after o es e legal l s g p (Event.Frame k body) (Accepted r) next hears
+      ∙ ap (λ b. seen_by s g p (cond (b && is_whole l es)
+      (option_to_list (said_at o l es body)) []) (known o l s g p es)) (other_link (k == l) none))
+    where
+      other_link : (b : Bool) → cond b (body ∷ []) [] ≡ [] → b ≡ false
+      other_link true q = lie (ap (λ (xs : List (List ℕ)). is_some (slice_get xs 0)) q)
+      other_link false q = refl
+  quiet_heard ev (Accepted r) next none hears = heard_before ev (Accepted r) hears
+      (λ g p. known_after o es e legal l s g p ev (Accepted r) next hears)
+  quiet_heard ev (Refused r) next none hears = heard_before ev (Refused r) hears
+      (λ g p. known_after o es e legal l s g p ev (Refused r) next hears)
+
+  -- ---- a refused message
+
+  module _ (name : List ℕ) (creation : ℕ) (gives : is_whole l es ≡ true
+      → IsGiven l name creation es) (body : List ℕ)
+      (honest : IsHonest v name creation s (bodies ++ body ∷ [])) (before : Before v o l s es)
+      (alike : Alike v o l s es) (r : Rule)
+      (next : IsStep h (but e (Event.Frame l body) (Refused r))) where
+    -- while s is heard it is no part of s
+    not_heard : (up : is_up l es ≡ true) → heard o l s es ≡ true → (kind : PartKind) (number : ℕ)
+        (last : Bool) (rows : List Row)
+        → message_taken v body ≡ Some (Message2.Part kind s number last rows) → true ≡ false
+    not_heard up hears kind number last rows says =
+        let whole = (and_parts (is_open l es) (is_whole l es) up).1 in
+        heard_never v o es e legal l s up (agrees whole) name creation (gives whole) body honest
+        (HeardIsSaid.now (before hears)) hears
+        (λ kept. alike up (or_true (kept_of s (begun o l es)) (λ i. hears i && kept i)))
+        kind number last rows says r next
+
+    pub refused_apart : heard o l s es ≡ true
+        → is_about_rows s (completes_there v bodies body) ≡ false
+    refused_apart hears = by (message_taken v body) refl
+      where
+        up : is_up l es ≡ true
+        up = is_up_there h legal l s hears
+
+        none_of : (kind : PartKind) (t : List ℕ) (last : Bool) (xs : List Row) → same t s ≡ false
+            → is_about_rows s (cond {A = Option Message} last (Some (message_of kind t xs)) None)
+            ≡ false
+        none_of kind t false xs other = refl
+        none_of PartKind.Sync t true xs other = other
+        none_of PartKind.Join t true xs other = other
+        none_of PartKind.Leave t true xs other = other
+
+        down_met : (t : List ℕ) → same t s ≡ true
+            → first_broken (message_checks h l (Message2.Down t)) ≡ None
+        down_met t is = heard_met h legal l s hears (Message2.Down t) ((same_decides t s).0 is) tt
+
+        down_apart : (t : List ℕ) → message_taken v body ≡ Some (Message2.Down t) → (b : Bool)
+            → same t s ≡ b → same t s ≡ false
+        down_apart t says true is =
+            let whole = (and_parts (is_open l es) (is_whole l es) up).1 in
+            lie (sym (admits h legal l up e.seat body (Message2.Down t)
+            (taken_same v o es e legal l agrees s body whole ∙ says) (down_met t is)) ∙ ap
+            is_accepted (sym next.judged))
+        down_apart t says false other = other
+
+        part_apart : (kind : PartKind) (t : List ℕ) (number : ℕ) (last : Bool) (rows : List Row)
+            → message_taken v body ≡ Some (Message2.Part kind t number last rows) → (b : Bool)
+            → same t s ≡ b → same t s ≡ false
+        part_apart kind t number last rows says true is =
+            lie (not_heard up hears kind number last rows
+            (says ∙ ap (λ u. Some (Message2.Part kind u number last rows))
+            ((same_decides t s).0 is)))
+        part_apart kind t number last rows says false other = other
+
+        by : (x : Option Message2) → message_taken v body ≡ x
+            → is_about_rows s (completes_there v bodies body) ≡ false
+        by None says = ap (λ x. is_about_rows s (option_and_then (completed (begun_of v bodies)) x))
+            says
+        by (Some (Message2.Discover t)) says =
+            ap (λ x. is_about_rows s (option_and_then (completed (begun_of v bodies)) x)) says
+        by (Some (Message2.Down t)) says =
+            ap (λ x. is_about_rows s (option_and_then (completed (begun_of v bodies)) x)) says
+            ∙ down_apart t says (same t s) refl
+        by (Some (Message2.Part kind t number last rows)) says =
+            ap (λ x. is_about_rows s (option_and_then (completed (begun_of v bodies)) x)) says
+            ∙ none_of kind t last _ (part_apart kind t number last rows says (same t s) refl)
+
+    -- while a message of s is kept it is no message: it would be the next part
+    nothing_kept : (up : is_up l es ≡ true) → kept_of s (begun o l es) ≡ true → (f : Message2)
+        → message_taken v body ≡ Some f → true ≡ false
+    nothing_kept up kept f says = by (begun o l es) refl kept f says refl
+      where
+        whole : is_whole l es ≡ true
+        whole = (and_parts (is_open l es) (is_whole l es) up).1
+
+        same_kept : begun o l es ≡ begun_of v bodies
+        same_kept = alike up (ap (λ b. b || (heard o l s es && kept_of s (begun_of v bodies))) kept)
+
+        next_is : (k : Begun) → begun o l es ≡ Some k → comes_next (Some k) f ≡ true
+        next_is k is = ap (λ x. comes_next x f) (sym (sym same_kept ∙ is))
+            ∙ comes v o es e legal l s up (agrees whole) name creation (gives whole) body honest f
+            says
+
+        sync_only : (kind : PartKind) → is_sync kind ≡ true → kind ≡ PartKind.Sync
+        sync_only PartKind.Sync q = refl
+        sync_only PartKind.Join q = lie (sym q)
+        sync_only PartKind.Leave q = lie (sym q)
+
+        same_kind : (a b : PartKind) → (kind_byte a == kind_byte b) ≡ true → a ≡ b
+        same_kind PartKind.Sync PartKind.Sync q = refl
+        same_kind PartKind.Join PartKind.Join q = refl
+        same_kind PartKind.Leave PartKind.Leave q = refl
+        same_kind PartKind.Sync PartKind.Join q = lie (sym q)
+        same_kind PartKind.Sync PartKind.Leave q = lie (sym q)
+        same_kind PartKind.Join PartKind.Sync q = lie (sym q)
+        same_kind PartKind.Join PartKind.Leave q = lie (sym q)
+        same_kind PartKind.Leave PartKind.Sync q = lie (sym q)
+        same_kind PartKind.Leave PartKind.Join q = lie (sym q)
+
+        by : (x : Option Begun) → begun o l es ≡ x → kept_of s x ≡ true → (g : Message2)
+            → message_taken v body ≡ Some g → f ≡ g → true ≡ false
+        by None is kept g says_g same_f = sym kept
+        by (Some k) is kept (Message2.Discover t) says_g same_f =
+            sym (next_is k is) ∙ ap (comes_next (Some k)) same_f
+        by (Some k) is kept (Message2.Down t) says_g same_f =
+            sym (next_is k is) ∙ ap (comes_next (Some k)) same_f
+        by (Some k) is kept (Message2.Part kind t number last rows) says_g same_f =
+            let follows_it = and_parts _ _ (sym (ap (comes_next (Some k)) same_f)
+            ∙ next_is k is) in
+            let kind_is : k.kind ≡ kind = same_kind k.kind kind follows_it.0 in
+            let scope_is : k.scope ≡ s = (same_decides k.scope s).0 kept in
+            let there_is : k.scope ≡ t =
+            (same_decides k.scope t).0 (and_parts (same k.scope t) _ follows_it.1).0 in
+            let says_s = says_g ∙ ap (λ u. Some (Message2.Part kind u number last rows))
+            (sym there_is ∙ scope_is) in
+            let it = all_stand o l es legal up k is in
+            from_or (is_sync k.kind) (heard o l k.scope es) (true ≡ false) (Stands.hears it)
+            (λ sync. sync_never v o es e legal l s up (agrees whole) name creation (gives whole)
+            body honest (Stands.shows it)
+            (ap (is_running h) (sym scope_is) ∙ Stands.runs it) (λ q. same_kept) number last rows
+            (says_s ∙ ap (λ u. Some (Message2.Part u s number last rows))
+            (sym kind_is ∙ sync_only k.kind sync)) r next)
+            (λ hears. not_heard up (ap (λ u. heard o l u es) (sym scope_is) ∙ hears) kind number
+            last rows says_s)
+
+  pub refused_alike : (name : List ℕ) (creation : ℕ)
+      → (is_whole l es ≡ true → IsGiven l name creation es) → (k : ℕ) (body : List ℕ)
+      → (k == l) ≡ true → IsHonest v name creation s (bodies ++ body ∷ []) → Before v o l s es →
+      Alike v o l s es
+      → (r : Rule) → IsStep h (but e (Event.Frame k body) (Refused r))
+      → Alike v o l s (but e (Event.Frame k body) (Refused r) ∷ es)
+  refused_alike name creation gives k body is honest before alike r next up kept =
+      by (message_taken v body) refl
+    where
+      x : Entry
+      x = but e (Event.Frame k body) (Refused r)
+
+      here : IsStep h (but e (Event.Frame l body) (Refused r))
+      here = subst (λ j. IsStep h (but e (Event.Frame j body) (Refused r))) (eqb-true k l is) next
+
+      came_is : begun_of v (bodies ++ cond (k == l) (body ∷ []) [])
+          ≡ kept_after (begun_of v bodies) (message_taken v body)
+      came_is = ap (λ b. begun_of v (bodies ++ cond b (body ∷ []) [])) is
+          ∙ begun_more v bodies body
+
+      heard_was : heard o l s (but e (Event.Frame k body) (Refused r) ∷ es) ≡ true
+          → heard o l s es ≡ true
+      heard_was hears = heard_before (Event.Frame k body) (Refused r) hears
+          (λ g p. known_after o es e legal l s g p (Event.Frame k body) (Refused r) next hears)
+
+      up_was : is_up l es ≡ true
+      up_was = from_or (kept_of s (begun o l es)) _ (is_up l es ≡ true) kept
+          (λ mine. up_back o l es e legal (fresh o es legal x next) (Event.Frame k body) (Refused
+          r) up
+          (some_whole v o es e legal l agrees s mine))
+          (λ both. is_up_there h legal l s (heard_was (and_parts _ _ both).0))
+
+      of : (m : Option Message2) → message_taken v body ≡ m → (f : Message2) → m ≡ Some f
+          → begun o l es ≡ begun_of v (bodies ++ cond (k == l) (body ∷ []) [])
+      of m says f is_some_f = from_or (kept_of s (begun o l es)) _ _ kept
+          (λ mine. lie (nothing_kept name creation gives body honest before alike r here up_was mine
+          f (says ∙ is_some_f)))
+          (λ both. (let it = and_parts _ _ both in
+          lie (goes f (says ∙ is_some_f) (heard_was it.0)
+          (sym (ap (kept_of s) (came_is ∙ ap (kept_after (begun_of v bodies)) (says ∙ is_some_f)))
+          ∙ it.1))))
+        where
+          goes : (f : Message2) → message_taken v body ≡ Some f → heard o l s es ≡ true
+              → kept_of s (begun_after (begun_of v bodies) f) ≡ true → true ≡ false
+          goes (Message2.Discover t) says hears q = sym q
+          goes (Message2.Down t) says hears q = sym q
+          goes (Message2.Part kind t number true rows) says hears q = sym q
+          goes (Message2.Part kind t number false rows) says hears q =
+              not_heard name creation gives body honest before alike r here up_was hears kind number
+              false rows (says ∙ ap (λ u. Some (Message2.Part kind u number false rows))
+              ((same_decides t s).0 q))
+
+      by : (m : Option Message2) → message_taken v body ≡ m
+          → begun o l es ≡ begun_of v (bodies ++ cond (k == l) (body ∷ []) [])
+      by (Some f) says = of (Some f) says f refl
+      by None says =
+          let same_came = came_is ∙ ap (kept_after (begun_of v bodies)) says in
+          alike up_was (from_or (kept_of s (begun o l es)) _ (NeedsAlike v o l s es ≡ true) kept
+          (λ mine. ap (λ b. b || (heard o l s es && kept_of s (begun_of v bodies))) mine)
+          (λ both. (let it = and_parts _ _ both in
+          or_true (kept_of s (begun o l es)) (λ i. heard_was it.0 i
+          && (sym (ap (kept_of s) same_came) ∙ it.1) i)))) ∙ sym same_came
+
+  -- a stop
+  pub stopped_alike : (t : List ℕ) (r : Reply) → IsStep h (but e (Event.StopScope t) (Accepted r))
+      → Alike v o l s es → Alike v o l s (but e (Event.StopScope t) (Accepted r) ∷ es)
+  stopped_alike t r next alike up kept = by (begun o l es) refl kept
+    where
+      nothing : bodies ++ [] ≡ bodies
+      nothing = append-nil bodies
+
+      heard_is : heard o l s (but e (Event.StopScope t) (Accepted r) ∷ es)
+          ≡ (heard o l s es && not (same t s))
+      heard_is = (stopped_heard h (but e (Event.StopScope t) (Accepted r)) refl t refl l s).heard_is
+
+      -- who is heard still was so, and another scope was stopped
+      still : heard o l s (but e (Event.StopScope t) (Accepted r) ∷ es) ≡ true
+          → (heard o l s es ≡ true) × (not (same t s) ≡ true)
+      still q = (let both = and_parts (heard o l s es) (not (same t s)) (sym heard_is ∙ q) in
+          (both.0, both.1))
+
+      by : (c : Option Begun) → begun o l es ≡ c
+          → (kept_of s (cond (option_map_or (λ y. same y.scope t) c false) None c)
+          || (heard o l s (but e (Event.StopScope t) (Accepted r) ∷ es)
+          && kept_of s (begun_of v (bodies ++ [])))) ≡ true
+          → cond (option_map_or (λ y. same y.scope t) c false) None c
+          ≡ begun_of v (bodies ++ [])
+      by None is q =
+          let both = and_parts _ _ q in
+          let was = (still both.0).0 in
+          sym is ∙ alike (is_up_there h legal l s was) (or_true (kept_of s (begun o l es))
+          (λ i. was i && (sym (ap (λ bs. kept_of s (begun_of v bs)) nothing) ∙ both.1) i))
+          ∙ sym (ap (begun_of v) nothing)
+      by (Some j) is q = of (same j.scope t) refl q
+        where
+          of : (b : Bool) → same j.scope t ≡ b
+              → (kept_of s (cond b None (Some j))
+              || (heard o l s (but e (Event.StopScope t) (Accepted r) ∷ es)
+              && kept_of s (begun_of v (bodies ++ [])))) ≡ true
+              → cond b None (Some j) ≡ begun_of v (bodies ++ [])
+          of true here q =
+              let both = and_parts _ _ q in
+              let was = still both.0 in
+              let same_kept = sym is ∙ alike (is_up_there h legal l s was.0)
+              (or_true (kept_of s (begun o l es)) (λ i. was.0 i
+              && (sym (ap (λ bs. kept_of s (begun_of v bs)) nothing) ∙ both.1) i)) in
+              let mine : same j.scope s ≡ true = ap (kept_of s) same_kept
+              ∙ (sym (ap (λ bs. kept_of s (begun_of v bs)) nothing) ∙ both.1) in
+              lie (grind (
+                arith,
+                was.1,
+                here,
+                mine,
+                same_decides j.scope s,
+                same_decides j.scope t,
+                same_decides t s,
+              ))
+          of false other q =
+              let up_was = up_back o l es e legal
+              (fresh o es legal (but e (Event.StopScope t) (Accepted r)) next)
+              (Event.StopScope t) (Accepted r) up
+              (begun_whole o l es e legal j is) in
+              sym is ∙ alike up_was (from_or (same j.scope s) _ (NeedsAlike v o l s es ≡ true) q
+              (λ mine. ap (λ b. b || (heard o l s es && kept_of s (begun_of v bodies)))
+              (ap (kept_of s) is ∙ mine))
+              (λ both. (let it = and_parts _ _ both in
+              let was = (still it.0).0 in
+              or_true (kept_of s (begun o l es)) (λ i. was i
+              && (sym (ap (λ bs. kept_of s (begun_of v bs)) nothing) ∙ it.1) i))))
+              ∙ sym (ap (begun_of v) nothing)

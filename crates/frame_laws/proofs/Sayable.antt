@@ -1,0 +1,239 @@
+-- What may be said on a link, and the frames of a message, which are read as its parts.
+use Rattle.frame_laws.proofs
+use proofs.Words.{AllByRecursion, All-from_recursion, ap, AreRows, AreWritten}
+use proofs.Words.{arith}
+use proofs.Words.{Bool, cond}
+use proofs.Words.{false, frames_said, HasParts}
+use proofs.Words.{is_some, IsMessage, IsMessage2}
+use proofs.Words.{IsRow, IsText, length, lie, limit, List, list_all, list_all-append, map, max_rows}
+use proofs.Words.{Message, Message2, message2-spelled, message2_bytes, message-spelled}
+use proofs.Words.{message_bytes, message_taken}
+use proofs.Words.{option_map, option_to_list, OutFrame}
+use proofs.Words.{PartKind, parts, parts_from}
+use proofs.Words.{parts_within, recursion_from_All, refl}
+use proofs.Words.{Row, rows_in}
+use proofs.Words.{said_frames, slice_get, Some}
+use proofs.Words.{suc, sym, take}
+use proofs.Words.{take-append-drop, true, whole, wide, zero, ℕ, [], ◌++◌}
+use proofs.Words.{◌<◌, ◌==◌, ◌^◌, ◌∙◌, ◌∷◌, ◌≡◌, ◌≤◌, and_parts, drop, before_last}
+use proofs.Handshakes.{taken_new, taken_old}
+use proofs.Pieces.{pieces, value_of}
+
+-- ---- what may be said
+
+abbrev pub rows_said : Message → List Row
+rows_said (Message.Sync s rows) = rows
+rows_said (Message.Join s rows) = rows
+rows_said (Message.Leave s rows) = rows
+rows_said m = []
+
+-- the message is within its grammar, on a link of this version
+pub record IsSayable (v : ℕ) (m : Message) : Type 0 where
+  pub written : AreWritten m
+  pub has : HasParts m
+  pub few : length (rows_said m) ≤ limit v
+
+are_few : (v : ℕ) (rows : List Row) → (v == 2) ≡ false → AllByRecursion IsRow rows
+    → length rows ≤ limit v → AreRows rows
+are_few v rows old each few =
+    let is : limit v ≡ max_rows = ap (λ b. cond b 65536 max_rows) old in
+    record { count = omega (arith, few, is); each = All-from_recursion IsRow rows each }
+
+old_message : (v : ℕ) (m : Message) → (v == 2) ≡ false → IsSayable v m → IsMessage m
+old_message v (Message.Discover s) old it = it.written
+old_message v (Message.Sync s rows) old it =
+    (it.written.0, are_few v rows old (recursion_from_All IsRow rows it.written.1) it.few)
+old_message v (Message.Join s rows) old it =
+    (it.written.0, are_few v rows old (recursion_from_All IsRow rows it.written.1) it.few, it.has.0)
+old_message v (Message.Leave s rows) old it =
+    (it.written.0, are_few v rows old (recursion_from_All IsRow rows it.written.1) it.few, it.has.0)
+old_message v (Message.Down s) old it = it.written
+
+limit_small : (v : ℕ) → limit v ≤ 65536
+limit_small v = by (v == 2)
+  where
+    by : (b : Bool) → cond b 65536 max_rows ≤ 65536
+    by true = omega arith
+    by false = omega arith
+
+-- rows of each kind
+module _ (v : ℕ) (s : List ℕ) (text : IsText s) (rows : List Row)
+    (each : AllByRecursion IsRow rows) (few : length rows ≤ limit v) where
+  fits : length rows < 2 ^ 32
+  fits = (let small = limit_small v in omega (arith, few, small))
+
+  pub sync_sayable : IsSayable v (Message.Sync s rows)
+  sync_sayable = record
+      { written = (text, All-from_recursion IsRow rows each); has = fits; few = few }
+
+  pub join_sayable : 0 < length rows → IsSayable v (Message.Join s rows)
+  join_sayable some = record
+      { written = (text, All-from_recursion IsRow rows each); has = (some, fits); few = few }
+
+  pub leave_sayable : 0 < length rows → IsSayable v (Message.Leave s rows)
+  leave_sayable some = record
+      { written = (text, All-from_recursion IsRow rows each); has = (some, fits); few = few }
+
+-- ---- frames that are read as these parts
+
+abbrev pub Reads : ℕ → List OutFrame → List Message2 → Type 0
+Reads v [] [] = Unit {0}
+Reads v (f ∷ fs) (p ∷ ps) =
+    ((f.wide ≡ true) × (message_taken v f.body ≡ Some p)) × Reads v fs ps
+Reads v fs ps = ⊥
+
+-- what these frames say
+abbrev pub said : ℕ → List OutFrame → List Message2
+said v fs = frames_said v (map (λ f. f.body) fs)
+
+pub said_take : (v : ℕ) (fs : List OutFrame) (ps : List Message2) → Reads v fs ps → (k : ℕ)
+    → said v (take k fs) ≡ take k ps
+said_take v fs ps reads zero = refl
+said_take v [] [] reads (suc k) = refl
+said_take v (f ∷ fs) (p ∷ ps) reads (suc k) =
+    λ i. option_to_list (reads.0.1 i) ++ said_take v fs ps reads.1 k i
+said_take v [] (p ∷ ps) reads (suc k) = absurd reads
+said_take v (f ∷ fs) [] reads (suc k) = absurd reads
+
+pub said_all : (v : ℕ) (fs : List OutFrame) (ps : List Message2) → Reads v fs ps → said v fs ≡ ps
+said_all v [] [] reads = refl
+said_all v (f ∷ fs) (p ∷ ps) reads =
+    λ i. option_to_list (reads.0.1 i) ++ said_all v fs ps reads.1 i
+said_all v [] (p ∷ ps) reads = absurd reads
+said_all v (f ∷ fs) [] reads = absurd reads
+
+pub reads_length : (v : ℕ) (fs : List OutFrame) (ps : List Message2) → Reads v fs ps
+    → length fs ≡ length ps
+reads_length v [] [] reads = refl
+reads_length v (f ∷ fs) (p ∷ ps) reads = ap suc (reads_length v fs ps reads.1)
+reads_length v [] (p ∷ ps) reads = absurd reads
+reads_length v (f ∷ fs) [] reads = absurd reads
+
+pub record IsReadAt (v : ℕ) (f : OutFrame) (ps : List Message2) (k : ℕ) : Type 0 where
+  pub part : Message2
+  pub stands : slice_get ps k ≡ Some part
+  pub says : message_taken v f.body ≡ Some part
+
+pub reads_at : (v : ℕ) (fs : List OutFrame) (ps : List Message2) → Reads v fs ps → (k : ℕ)
+    (f : OutFrame) → slice_get fs k ≡ Some f → IsReadAt v f ps k
+reads_at v [] ps reads k f q = lie (sym (ap is_some q))
+reads_at v (x ∷ fs) (p ∷ ps) reads zero f q = record {
+  part = p;
+  stands = refl;
+  says = ap (λ y. message_taken v (OutFrame.body y)) (sym (value_of q)) ∙ reads.0.1;
+}
+reads_at v (x ∷ fs) (p ∷ ps) reads (suc k) f q =
+    let it = reads_at v fs ps reads.1 k f q in
+    record { part = it.part; stands = it.stands; says = it.says }
+reads_at v (x ∷ fs) [] reads k f q = absurd reads
+
+-- what holds of each that is read as one of these holds of all
+pub reads_hold : (v : ℕ) (P : OutFrame → Type 0) (Q : Message2 → Type 0)
+    → ((f : OutFrame) (p : Message2) → f.wide ≡ true → message_taken v f.body ≡ Some p → Q p → P f)
+    → (fs : List OutFrame) (ps : List Message2) → Reads v fs ps → AllByRecursion Q ps
+    → AllByRecursion P fs
+reads_hold v P Q each [] [] reads all = tt
+reads_hold v P Q each (f ∷ fs) (p ∷ ps) reads all = (
+  each f p reads.0.0 reads.0.1 all.0,
+  reads_hold v P Q each fs ps reads.1 all.1,
+)
+reads_hold v P Q each [] (p ∷ ps) reads all = absurd reads
+reads_hold v P Q each (f ∷ fs) [] reads all = absurd reads
+
+-- a message within the grammar is read as it was meant
+new_reads : (v : ℕ) → (v == 2) ≡ true → (ps : List Message2) → AllByRecursion IsMessage2 ps
+    → Reads v (map (λ part. record { wide = true; body = message2_bytes part }) ps) ps
+new_reads v new [] all = tt
+new_reads v new (p ∷ ps) all = (
+  (
+    refl,
+    taken_new v (message2_bytes p) new
+        ∙ message2-spelled (message2_bytes p) p (record { within = all.0; bytes = refl }),
+  ),
+  new_reads v new ps all.1,
+)
+
+pub reads : (v : ℕ) (m : Message) → IsSayable v m → Reads v (said_frames v m) (pieces v m)
+reads v m it = by (v == 2) refl
+  where
+    by : (b : Bool) → (v == 2) ≡ b
+        → Reads v
+        (cond b (map (λ part. record { wide = true; body = message2_bytes part }) (parts m))
+        (wide m ∷ [])) (cond b (parts m) (whole m ∷ []))
+    by true new = new_reads v new (parts m)
+        (recursion_from_All IsMessage2 (parts m) (parts_within m it.written it.has))
+    by false old = (
+      (
+        refl,
+        taken_old v (message_bytes m) old
+            ∙ ap (option_map whole) (message-spelled (message_bytes m) m
+            (record { within = old_message v m old it; bytes = refl })),
+      ),
+      tt,
+    )
+
+-- a message without rows is one frame, of the same bytes in both versions
+pub asks_alike : (v : ℕ) (s : List ℕ)
+    → said_frames v (Message.Discover s) ≡ wide (Message.Discover s) ∷ []
+asks_alike v s = by (v == 2)
+  where
+    by : (b : Bool)
+        → cond b (map (λ part. record { wide = true; body = message2_bytes part })
+        (parts (Message.Discover s))) (wide (Message.Discover s) ∷ [])
+        ≡ wide (Message.Discover s) ∷ []
+    by true = refl
+    by false = refl
+
+pub downs_alike : (v : ℕ) (s : List ℕ)
+    → said_frames v (Message.Down s) ≡ wide (Message.Down s) ∷ []
+downs_alike v s = by (v == 2)
+  where
+    by : (b : Bool)
+        → cond b (map (λ part. record { wide = true; body = message2_bytes part })
+        (parts (Message.Down s))) (wide (Message.Down s) ∷ [])
+        ≡ wide (Message.Down s) ∷ []
+    by true = refl
+    by false = refl
+
+pub asks_sayable : (v : ℕ) (s : List ℕ) → IsText s → IsSayable v (Message.Discover s)
+asks_sayable v s text = record { written = text; has = tt; few = omega arith }
+
+pub downs_sayable : (v : ℕ) (s : List ℕ) → IsText s → IsSayable v (Message.Down s)
+downs_sayable v s text = record { written = text; has = tt; few = omega arith }
+
+-- ---- rows of parts are rows of the message
+
+module _ (test : Row → Bool) where
+  abbrev AllMeet : List Message2 → Type 0
+  AllMeet ps = AllByRecursion (λ p. list_all test (rows_in p) ≡ true) ps
+
+  cut_meet : (n : ℕ) (rows : List Row) → list_all test rows ≡ true
+      → (list_all test (take n rows) ≡ true) × (list_all test (drop n rows) ≡ true)
+  cut_meet n rows all =
+      and_parts (list_all test (take n rows)) (list_all test (drop n rows))
+      (sym (list_all-append test (take n rows) (drop n rows))
+      ∙ ap (list_all test) (take-append-drop n rows) ∙ all)
+
+  from_meet : (kind : PartKind) (s : List ℕ) (number more : ℕ) (rows : List Row)
+      → list_all test rows ≡ true → AllMeet (parts_from kind s number more rows)
+  from_meet kind s number zero rows all = (all, tt)
+  from_meet kind s number (suc more) rows all =
+      let cut = cut_meet max_rows rows all in
+      (cut.0, from_meet kind s (suc number) more (drop max_rows rows) cut.1)
+
+  pub pieces_meet : (v : ℕ) (m : Message) → list_all test (rows_said m) ≡ true
+      → AllMeet (pieces v m)
+  pieces_meet v m = by (v == 2) m
+    where
+      by : (b : Bool) (m : Message) → list_all test (rows_said m) ≡ true
+          → AllMeet (cond b (parts m) (whole m ∷ []))
+      by true (Message.Discover s) all = (refl, tt)
+      by true (Message.Sync s rows) all = from_meet PartKind.Sync s 1 (before_last rows) rows all
+      by true (Message.Join s rows) all = from_meet PartKind.Join s 1 (before_last rows) rows all
+      by true (Message.Leave s rows) all = from_meet PartKind.Leave s 1 (before_last rows) rows all
+      by true (Message.Down s) all = (refl, tt)
+      by false (Message.Discover s) all = (refl, tt)
+      by false (Message.Sync s rows) all = (all, tt)
+      by false (Message.Join s rows) all = (all, tt)
+      by false (Message.Leave s rows) all = (all, tt)
+      by false (Message.Down s) all = (refl, tt)

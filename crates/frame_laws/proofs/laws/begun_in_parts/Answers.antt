@@ -1,0 +1,7 @@
+use Rattle.frame_laws.proofs
+use proofs.BegunPlaces.{IsCut, out_cut}
+use proofs.laws.begun_in_parts.Goals as goal
+
+pub returns : goal.returns
+returns c = λ h node l v speaks n b q. IsCut.each (out_cut h.opening h.entries node l v speaks) n b
+    q

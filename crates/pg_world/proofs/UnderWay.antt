@@ -1,0 +1,168 @@
+-- Of a message of which parts have come the rest is under way, or waits.
+use Rattle.pg_world.proofs
+use proofs.Words.{all_handed, and_parts, ap, append-nil, append_assoc, arith, begun, Begun}
+use proofs.Words.{begun_by}
+use proofs.Words.{begun_of, bodies, bodies_of, Bool, delivered, drop, drop-append-le}
+use proofs.Words.{frames_of, frames_said, given_here, HasGiven, History, honest_first, inl, inr}
+use proofs.Words.{is_open, is_some, is_up, is_whole, IsBegun, IsCut, IsHonest, IsNode, IsWorld}
+use proofs.Words.{keeps_or_not, KeepsOrNot, length, length-append, length-drop, length-map, lie}
+use proofs.Words.{link_at, List, map-append, Message, moment, creation, node_at, node_honest, Nodes}
+use proofs.Words.{None, open_rest, Option, other, out, out_cut, OutFrame, parts, refl, said_apart}
+use proofs.Words.{sent, shared, Side, slice_get, Some, Speaks, subst, sym, take, take-append-le}
+use proofs.Words.{take-append-add, take-length, true, under_way, waiting, Wire, ℕ, [], ◌++◌, ◌+◌}
+use proofs.Words.{◌<◌, ◌∙◌, ◌∷◌, ◌≡◌, ◌≤◌}
+use proofs.Ends.{bodies_all, IsJoined}
+use proofs.Joining.{at_acceptor, at_dialler, carried_to}
+use proofs.Puts.{value_of}
+use proofs.Sharing.{other_twice, shared_sym}
+use Rattle.pg_world.specs.declared.side.Side.TheVariants as side
+use Rattle.pg_world.specs.UnderWay.{IsUnderWay, PartsUnderWay}
+
+-- what stands behind some of these, and how it goes on
+split_at : {A : Type 0} (place n j : ℕ) (xs ys : List A) → length xs ≡ place + n
+    → take (n + j) (drop place (xs ++ ys)) ≡ drop place xs ++ take j ys
+split_at place n j xs ys long =
+    let less = length-drop place xs in
+    ap (take (n + j)) (drop-append-le place xs ys (omega (arith, long)))
+    ∙ ap (λ m. take m (drop place xs ++ ys))
+    (let is : n + j ≡ length (drop place xs) + j = omega (arith, less, long) in is)
+    ∙ take-append-add (drop place xs) ys j
+
+module _ (A : History) (node : IsNode A) (a : ℕ) (B : History) (receiver : IsNode B) (b : ℕ)
+    (x : Wire) (to : Side) (v : ℕ) (there : Speaks A.opening a v A.entries)
+    (here : Speaks B.opening b v B.entries) (it : IsJoined A a B b)
+    (carries : delivered b B.entries ++ bodies (under_way to x) ≡ bodies (sent a A.entries))
+    (up : is_up b B.entries ≡ true) (k : Begun) (keeps : begun B.opening b B.entries ≡ Some k) where
+  abbrev came : List (List ℕ)
+  came = delivered b B.entries
+
+  abbrev q : List (List ℕ)
+  q = bodies (under_way to x)
+
+  -- what the link keeps is what all that came makes
+  same_kept : begun_of v came ≡ Some k
+  same_kept = by (keeps_or_not v B.opening B.entries receiver.legal b here A.opening.name
+      (creation (moment a A)) honest it.gives up)
+    where
+      honest : (s : List ℕ) → IsHonest v A.opening.name (creation (moment a A)) s came
+      honest s = honest_first v A.opening.name (creation (moment a A)) s came it.later
+          (subst (IsHonest v A.opening.name (creation (moment a A)) s) (sym it.carried)
+          (node_honest A node a v there s))
+
+      by : KeepsOrNot (begun B.opening b B.entries) (begun_of v came) → begun_of v came ≡ Some k
+      by (inl none) = lie (sym (ap is_some keeps) ∙ ap is_some none)
+      by (inr same) = sym same ∙ keeps
+
+  -- and that is the beginning of one message
+  begun_there : IsBegun v (bodies_of (out A a)) (length came) k
+  begun_there = IsCut.each (out_cut A.opening A.entries node a v there) (length came) k
+      (ap (λ bs. begun_of v (take (length came) bs)) (sym it.carried)
+      ∙ ap (begun_of v) (take-append-le (length came) came it.later (omega arith)
+      ∙ take-length came) ∙ same_kept)
+
+  abbrev m : Message
+  m = begun_there.message
+
+  abbrev place : ℕ
+  place = begun_there.place
+
+  long : length came ≡ place + k.number
+  long = sym begun_there.behind
+
+  -- the parts that came, and some behind them
+  goes_on : (later : List (List ℕ)) → came ++ later ≡ bodies_of (out A a) → (j : ℕ)
+      → k.number + j ≤ length (parts m)
+      → frames_said v (drop place came) ++ frames_said v (take j later)
+      ≡ take (k.number + j) (parts m)
+  goes_on later all j le =
+      sym (said_apart v (drop place came) (take j later))
+      ∙ ap (frames_said v) (sym (split_at place k.number j came later long)
+      ∙ ap (λ bs. take (k.number + j) (drop place bs)) all)
+      ∙ begun_there.parts_are (k.number + j) le
+
+  accepted_are : frames_said v (drop place came) ≡ take k.number (parts m)
+  accepted_are =
+      let few = begun_there.few in
+      sym (append-nil (frames_said v (drop place came)))
+      ∙ goes_on it.later it.carried 0 (omega (arith, few))
+      ∙ ap (λ n. take n (parts m)) (let is : k.number + 0 ≡ k.number = omega arith in is)
+
+  behind_them : (later : List (List ℕ)) → came ++ later ≡ bodies_of (out A a) → (j : ℕ)
+      → k.number + j ≤ length (parts m)
+      → take k.number (parts m) ++ frames_said v (take j later) ≡ take (k.number + j) (parts m)
+  behind_them later all j le = ap (λ ps. ps ++ frames_said v (take j later)) (sym accepted_are)
+      ∙ goes_on later all j le
+
+  -- what is under way, and then others
+  wire_first : (rest : List OutFrame) → (sent a A.entries ++ rest ≡ frames_of (out A a))
+      → came ++ (q ++ bodies rest) ≡ bodies_of (out A a)
+  wire_first rest all = sym (append_assoc came q (bodies rest)) ∙ ap (λ v. v ++ bodies rest) carries
+      ∙ sym (map-append (λ f. f.body) (sent a A.entries) rest) ∙ ap bodies all
+      ∙ bodies_all (out A a)
+
+  waits_first : is_open a A.entries ≡ true
+      → came ++ (q ++ bodies (waiting A a)) ≡ bodies_of (out A a)
+  waits_first opens = wire_first (waiting A a) (open_rest A.opening A.entries a opens
+      (all_handed A.opening A.entries node.legal a))
+
+  pub under_way_so : IsUnderWay A a B b x to k
+  under_way_so = record {
+    version = v;
+    message = m;
+    place = place;
+    owed = begun_there.parts_are;
+    kept = begun_there.kept;
+    few = begun_there.few;
+    behind = long;
+    accepted = accepted_are;
+    on_the_wire = λ j less le.
+        let out_of = all_handed A.opening A.entries node.legal a in
+        let many = length-map (under_way to x) (λ f. OutFrame.body f) in
+        ap (λ bs. take k.number (parts m) ++ frames_said v bs)
+        (sym (take-append-le j q (bodies out_of.rest) (omega (arith, less, many))))
+        ∙ behind_them (q ++ bodies out_of.rest) (wire_first out_of.rest out_of.all) j le;
+    all = λ opens j le. behind_them (q ++ bodies (waiting A a)) (waits_first opens) j le;
+    none_missing = λ opens.
+        let fits = begun_there.fits in
+        let both = length-append came (q ++ bodies (waiting A a)) in
+        let same = ap length (waits_first opens) in
+        let came_so = long in
+        omega (arith, fits, both, same, came_so);
+  }
+
+-- ---- at each end
+
+pub parts_go_on : (w : Nodes) → IsWorld w → PartsUnderWay w
+parts_go_on w sound n x stands to A B a b at_a at_b far near up k keeps =
+    under_way_so A (sound.nodes _ A at_a) a B (sound.nodes _ B at_b) b x to
+    (shared A.opening.links B.opening.links) there here joined
+    (carried_to w.nodes sound.nodes sound.late x (sound.wired n x stands)
+    (sound.carried n x stands) to A B a b at_a at_b far near opens) up k keeps
+  where
+    opens : is_open b B.entries ≡ true
+    opens = (and_parts (is_open b B.entries) (is_whole b B.entries) up).0
+
+    there : Speaks A.opening a (shared A.opening.links B.opening.links) A.entries
+    there = sound.spoken n x stands (other to) A B a at_a
+        (ap (λ s. slice_get w.nodes (node_at s x)) (other_twice to) ∙ at_b) far
+
+    here : Speaks B.opening b (shared A.opening.links B.opening.links) B.entries
+    here = subst (λ v. Speaks B.opening b v B.entries)
+        (shared_sym B.opening.links A.opening.links)
+        (sound.spoken n x stands to B A b at_b at_a near)
+
+    joined_by : (s : Side) → slice_get w.nodes (node_at (other s) x) ≡ Some A
+        → slice_get w.nodes (node_at s x) ≡ Some B → link_at (other s) x ≡ Some a
+        → link_at s x ≡ Some b → IsJoined A a B b
+    joined_by side.Acceptor p q far near =
+        subst (λ l. IsJoined A l B b) (value_of far)
+        (at_acceptor w.nodes sound.nodes sound.late x (sound.wired n x stands)
+        (sound.carried n x stands) A B b p q near opens)
+    joined_by side.Dialler p q far near =
+        subst (λ l. IsJoined A a B l) (value_of near)
+        (at_dialler w.nodes sound.nodes sound.late x (sound.wired n x stands)
+        (sound.carried n x stands) A B a p q far
+        (subst (λ l. is_open l B.entries ≡ true) (sym (value_of near)) opens))
+
+    joined : IsJoined A a B b
+    joined = joined_by to at_a at_b far near
