@@ -1,13 +1,11 @@
 -- The changes where some rows leave and others join, or take the place of others.
 use Rattle.scope_core.proofs.Words.{◌≡◌, ℕ, ◌+◌, ◌-◌, ◌<◌, Bool, true, false, cond, ◌&&◌, List, []}
-use Rattle.scope_core.proofs.Words.{◌∷◌, map, refl, ◌∙◌, arith}
-use Rattle.scope_core.proofs.Words.{AllByRecursion, or_right, or_left, exact_bytes, Pid, text_cmp}
-use Rattle.scope_core.proofs.Words.{same, mentions, is_among, total, Rises}
-use Rattle.scope_core.proofs.Words.{IsGroupListing, is_empty, IsProper, texts_total, same_decides}
-use Rattle.scope_core.proofs.Words.{one_of_many, Counted, counted_cmp}
-use Rattle.scope_core.proofs.Words.{Tells, GroupChange, length, Less, Row, how_many, IsDifference}
-use Rattle.scope_core.proofs.Words.{is_row, tally, IsEmptied}
-use Rattle.scope_core.proofs.Words.{Adds, times_beyond, picked, no_count}
+use Rattle.scope_core.proofs.Words.{◌∷◌, map, refl, ◌∙◌, arith, AllByRecursion, or_right, or_left}
+use Rattle.scope_core.proofs.Words.{exact_bytes, Pid, text_cmp, same, mentions, is_among, total}
+use Rattle.scope_core.proofs.Words.{Rises, IsGroupListing, is_empty, IsProper, texts_total}
+use Rattle.scope_core.proofs.Words.{same_decides, one_of_many, Counted, counted_cmp, Tells}
+use Rattle.scope_core.proofs.Words.{GroupChange, length, Less, Row, how_many, IsDifference, is_row}
+use Rattle.scope_core.proofs.Words.{tally, IsEmptied, Adds, times_beyond, picked, no_count}
 use Rattle.scope_core.proofs.Rising.{all_unmapped, once, row_is, tally_absent}
 
 -- the change where the processes that are hit leave all groups, and some are their rows

@@ -1,18 +1,17 @@
 -- What the calls of a table change, and when there is room: for rows of one node, and for own
 -- processes.
-use Rattle.scope_core.proofs.Words.{All, Bool, Err, IfErr, List, Ok, OnOk, Result, [], cond, false}
-use Rattle.scope_core.proofs.Words.{length, map, min, true, ℕ, ◌+◌, ◌∷◌, ◌≡◌, ◌≤◌}
-use Rattle.scope_core.proofs.Words.{arith, refl, not-false, not-true, length-map, All-map}
-use Rattle.scope_core.proofs.Words.{AllByRecursion, one_difference, same_decides}
-use Rattle.scope_core.proofs.Words.{same_pid_decides, same_sym, all_from, how_many_le, IsDifference}
-use Rattle.scope_core.proofs.Words.{change_unless_empty, IsPidListing, how_many}
+use Rattle.scope_core.proofs.Words.{All, Bool, List, [], cond, false, length, map, min, true, ℕ}
+use Rattle.scope_core.proofs.Words.{◌+◌, ◌∷◌, ◌≡◌, ◌≤◌, arith, refl, not-false, not-true}
+use Rattle.scope_core.proofs.Words.{length-map, All-map, AllByRecursion, one_difference}
+use Rattle.scope_core.proofs.Words.{same_decides, same_pid_decides, same_sym, how_many_le}
+use Rattle.scope_core.proofs.Words.{IsDifference, change_unless_empty, IsPidListing, how_many}
 use Rattle.scope_core.proofs.Words.{mentions, same, same_pid, GroupChange, Pid, Row, Adds}
-use Rattle.scope_core.proofs.Words.{HasRoomFor, Joins, row_in, without_node, Counts}
-use Rattle.scope_core.proofs.Words.{IsAddFault, IsSyncFault, count_after_add, count_after_sync}
-use Rattle.scope_core.proofs.Words.{Tells, IsKept, Table, is_of_node, is_row, local_count}
-use Rattle.scope_core.proofs.Words.{local_total, tally, Counted, TableFault, NotJoined, NotListed}
-use Rattle.scope_core.proofs.Words.{OutOfMemory, RowsFull}
-use Rattle.scope_core.proofs.Words.{max_rows, not, sym, Covers, IsNodeList, same_length}
+use Rattle.scope_core.proofs.Words.{HasRoomFor, Joins, row_in, without_node, Counts, IsAddFault}
+use Rattle.scope_core.proofs.Words.{IsSyncFault, count_after_add, count_after_sync, Tells, IsKept}
+use Rattle.scope_core.proofs.Words.{Table, is_of_node, is_row, local_count, local_total, tally}
+use Rattle.scope_core.proofs.Words.{Counted, TableFault, NotJoined, NotListed, OutOfMemory}
+use Rattle.scope_core.proofs.Words.{RowsFull, max_rows, not, sym, Covers, IsNodeList, same_length}
+use Rattle.scope_core.proofs.Words.{recursion_from_All}
 use Rattle.scope_core.proofs.Rising.{row_is, all_map, none_pass, tally_none, tally_all, gone_counts}
 use Rattle.scope_core.proofs.Rising.{own_from_tally}
 use Rattle.scope_core.proofs.Shares.{fewer_rows}
@@ -59,7 +58,7 @@ module _ (n : List ℕ) where
 
 module _ (n : List ℕ) (rows : List Row) (own : All (λ r. r.pid.node ≡ n) rows) where
   all_of_one : AllByRecursion (λ r. r.pid.node ≡ n) rows
-  all_of_one = all_from (λ r. r.pid.node ≡ n) rows (λ k d l h. own k d h)
+  all_of_one = recursion_from_All _ _ own
 
   -- all of them are of a node that is this one, and none of one that isn't
   pub all_or_none : (node : List ℕ)
@@ -159,15 +158,6 @@ taken_change rows cs counted new changes told counts taken =
     told _ _ (λ g p. grind (arith, taken g p, counts (is_row g p)))
     (λ g p. grind (arith, taken g p))
 
-pub ok_then : {T E A B : Type 0} (r : Result T E) → (A → B) → OnOk r A → OnOk r B
-ok_then (Ok x) f a = f a
-ok_then (Err e) f a = tt
-
-pub err_then : {T E : Type 0} {P Q : E → Type 0} (r : Result T E) → ((e : E) → P e → Q e)
-    → IfErr r P → IfErr r Q
-err_then (Ok x) f a = tt
-err_then (Err e) f a = f e a
-
 -- ---- own processes
 
 -- the rows of a list of processes are the mentions of each
@@ -212,7 +202,7 @@ unmentioned own ps all p other =
     none_pass (λ q. same_pid q p) ps
     (all_map (λ q. q.node ≡ own) (λ q. same_pid q p ≡ false)
     (λ q is. grind (arith, is, same_pid_decides q p, same_decides p.node own)) ps
-    (all_from (λ q. q.node ≡ own) ps (λ k d l h. all k d h)))
+    (recursion_from_All _ _ all))
 
 module _ (t : Table) (g : List ℕ) (ps gone : List Pid) (all : All (λ q. q.node ≡ t.own) ps)
     (listing : IsPidListing (λ p. min (mentions p ps) (tally (is_row g p) t.rows)) gone) where

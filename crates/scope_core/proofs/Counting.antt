@@ -1,10 +1,10 @@
 -- Rows in order that are counted one by one.
 use Rattle.scope_core.proofs.Words.{IsPermutation, how_many_is, sum_by-IsPermutation, ◌≡◌, ℕ, zero}
 use Rattle.scope_core.proofs.Words.{refl, suc, ◌+◌, ◌<◌, ◌≤◌, Bool, cond, List, [], ◌∷◌, ◌++◌}
-use Rattle.scope_core.proofs.Words.{length, ap, sym, ◌∙◌, arith, subst}
-use Rattle.scope_core.proofs.Words.{Less, AllByRecursion, HoldsAt, get_or, set, drop, same_decides}
-use Rattle.scope_core.proofs.Words.{Rises, row_cmp, Row, Counted, counted_cmp, tally, is_of_node}
-use Rattle.scope_core.proofs.Words.{max_rows, AreCounted, IsKept, HasRoomFor, Adds, how_many}
+use Rattle.scope_core.proofs.Words.{length, ap, sym, ◌∙◌, arith, subst, Less, AllByRecursion}
+use Rattle.scope_core.proofs.Words.{HoldsAt, get_or, set, drop, same_decides, Rises, row_cmp, Row}
+use Rattle.scope_core.proofs.Words.{Counted, counted_cmp, tally, is_of_node, max_rows, AreCounted}
+use Rattle.scope_core.proofs.Words.{IsKept, HasRoomFor, Adds, how_many}
 use Rattle.scope_core.proofs.Tallies.{tally_append}
 use Rattle.scope_core.proofs.Pushed.{rises_push}
 

@@ -5,11 +5,11 @@ use Rattle.scope_core.proofs.Words.{length, list_any, list_all, refl, arith, inl
 use Rattle.scope_core.proofs.Words.{AllByRecursion, All, length-filter, how_many_is, how_many_le}
 use Rattle.scope_core.proofs.Words.{Less, tied_itself, rows_total, Row, Pid, Counted, Rises}
 use Rattle.scope_core.proofs.Words.{counted_cmp, same, same_pid, same_row, same_sym, same_decides}
-use Rattle.scope_core.proofs.Words.{same_pid_decides, same_row_decides}
-use Rattle.scope_core.proofs.Words.{how_many, mentions, occurrences, is_row, is_of_node, tally}
-use Rattle.scope_core.proofs.Words.{row_in, are_all_in, Adds, Joins, HasRoomFor, IsPidListing}
-use Rattle.scope_core.proofs.Words.{IsDifference, change_unless_empty, one_difference, Table}
-use Rattle.scope_core.proofs.Words.{count_of, node_total, max_rows, without_node}
+use Rattle.scope_core.proofs.Words.{same_pid_decides, same_row_decides, how_many, mentions}
+use Rattle.scope_core.proofs.Words.{occurrences, is_row, is_of_node, tally, row_in, are_all_in}
+use Rattle.scope_core.proofs.Words.{Adds, Joins, HasRoomFor, IsPidListing, IsDifference}
+use Rattle.scope_core.proofs.Words.{change_unless_empty, one_difference, Table, count_of}
+use Rattle.scope_core.proofs.Words.{node_total, max_rows, without_node}
 use Rattle.scope_core.proofs.Calls.{alone_fit, mentions_in, no_others, all_or_none}
 use Rattle.scope_core.proofs.Rising.{gone_counts, row_is, tally_none, tally_all}
 use Rattle.scope_core.proofs.Runs.{all_at}

@@ -1,30 +1,19 @@
 -- What the index of groups counts: the rows of the node, and what changes where all leave.
-use Rattle.scope_core.proofs.Words.{◌≡◌, ℕ, ◌-◌, ◌&&◌, ◌==◌, Bool, true, false, cond, List, []}
-use Rattle.scope_core.proofs.Words.{◌∷◌, ◌++◌}
-use Rattle.scope_core.proofs.Words.{map, flat_map, length, replicate, refl, sym, ap, subst, ◌∙◌}
-use Rattle.scope_core.proofs.Words.{arith, Less}
+use Rattle.scope_core.proofs.Words.{◌≡◌, ℕ, ◌-◌, ◌==◌, true, false, cond, List, [], ◌∷◌, ◌++◌, map}
+use Rattle.scope_core.proofs.Words.{flat_map, length, refl, sym, ap, subst, ◌∙◌, arith, Less}
 use Rattle.scope_core.proofs.Words.{AllByRecursion, Rises, Ascends, text_cmp, pid_cmp, same}
-use Rattle.scope_core.proofs.Words.{same_decides}
-use Rattle.scope_core.proofs.Words.{tied_itself, texts_total, pids_total, tally, is_row, Row, Pid}
-use Rattle.scope_core.proofs.Words.{row_in}
-use Rattle.scope_core.proofs.Words.{how_many, how_many_append, how_many_replicate, mentions}
-use Rattle.scope_core.proofs.Words.{same_pid}
+use Rattle.scope_core.proofs.Words.{same_decides, tied_itself, texts_total, pids_total, tally}
+use Rattle.scope_core.proofs.Words.{is_row, Row, Pid, row_in, how_many, how_many_append, mentions}
 use Rattle.scope_core.proofs.Words.{spread, spread_ascends, GroupChange, IsDifference, IsProper}
-use Rattle.scope_core.proofs.Words.{is_empty}
-use Rattle.scope_core.proofs.Words.{change_unless_empty}
-use Rattle.dist_types.specs.Difference.{times_left, times_joined}
-use Rattle.std.proofs.lemmas.List.{append-nil}
-use Rattle.std.specs.Map.{keys_of}
+use Rattle.scope_core.proofs.Words.{change_unless_empty, same_row, spread_counts, times_left}
+use Rattle.scope_core.proofs.Words.{times_joined, append-nil, keys_of, BTreeMap, ProcessKey}
+use Rattle.scope_core.proofs.Words.{SmallMap, entries_of, pid_of, key_of, key_cmp, group_rows}
+use Rattle.scope_core.proofs.Words.{counted_in, IsHashed}
 use Rattle.std.specs.List.Sorted.{IsStrictlySortedBy}
-use Rattle.std.specs.BTreeMap.{BTreeMap}
-use Rattle.scope_core.specs.declared.process_key.ProcessKey.{ProcessKey}
-use Rattle.scope_core.specs.declared.small_map.SmallMap.{SmallMap}
-use Rattle.scope_core.specs.SmallMap.{entries_of}
-use Rattle.scope_core.specs.HashedRows.{pid_of, key_of, key_cmp, group_rows, counted_in, IsHashed}
 use Rattle.scope_core.proofs.HashedWrites.{in_group_count}
-use Rattle.scope_core.proofs.Tallies.{tally_append}
+use Rattle.scope_core.proofs.Tallies.{none_mentioned, tally_append}
 use Rattle.scope_core.proofs.GroupRows.{SortedMembers, flat, flat_tally, flat_others}
-use Rattle.scope_core.proofs.GroupRows.{entries_others}
+use Rattle.scope_core.proofs.GroupRows.{entries_others, group_total, member_counts, other_group}
 
 abbrev Members : Type 0
 Members = List (ProcessKey × ℕ)
@@ -43,11 +32,9 @@ module _ (node : List ℕ) where
 
   members_times : (g h : List ℕ) (p : Pid) (ms : Members)
       → how_many (is_row g p) (members_repeated h ms) ≡ tally (is_row g p) (group_rows node h ms)
-  members_times g h p [] = refl
-  members_times g h p (m ∷ ms) =
-      let row = row_in h (pid_of node m.0) in
-      let all = how_many_append (is_row g p) (replicate m.1 row) (members_repeated h ms) in
-      grind (arith, members_times g h p ms, all, how_many_replicate (is_row g p) m.1 row)
+  members_times g h p ms =
+      spread_counts same_row (λ m. row_in h (pid_of node m.0)) (λ m. m.1) (row_in g p) ms
+      ∙ sym (group_total node (is_row g p) h ms)
 
   repeated_times : (g : List ℕ) (p : Pid) (es : List GroupEntry)
       → how_many (is_row g p) (repeated es) ≡ tally (is_row g p) (flat node es)
@@ -63,12 +50,6 @@ module _ (node : List ℕ) where
 
   abbrev left_of : GroupEntry → List Pid
   left_of e = spread (λ m. pid_of node m.0) (λ m. m.1) (entries_of e.1)
-
-  -- that of one group in front, unless it has no process
-  abbrev in_front : Bool → GroupEntry → List GroupChange → List GroupChange
-  in_front none e rest =
-      let all : GroupChange = record { group = e.0; left = left_of e; joined = [] } in
-      cond (none && true) [] (all ∷ []) ++ rest
 
   abbrev pub all_gone : List GroupEntry → List GroupChange
   all_gone es = flat_map (λ e. change_unless_empty e.0 (left_of e) []) es
@@ -99,50 +80,24 @@ module _ (node : List ℕ) where
   above_all : (g : List ℕ) (es : List GroupEntry) → Above g (keys_of es)
       → Above g (groups_in (all_gone es))
   above_all g [] l = tt
-  above_all g (e ∷ es) l = by (is_empty (left_of e)) (above_all g es l.1)
-    where
-      by : (b : Bool) → Above g (groups_in (all_gone es))
-          → Above g (groups_in (in_front b e (all_gone es)))
-      by true rest = rest
-      by false rest = (l.0, rest)
+  above_all g (e ∷ es) l = grind (arith, above_all g es l.1, l.0)
 
   gone_rises : (es : List GroupEntry) → IsStrictlySortedBy text_cmp (keys_of es)
       → Rises text_cmp (groups_in (all_gone es))
   unfolding IsStrictlySortedBy
   gone_rises [] s = tt
-  gone_rises (e ∷ es) s = by (is_empty (left_of e)) (gone_rises es s.1)
-    where
-      by : (b : Bool) → Rises text_cmp (groups_in (all_gone es))
-          → Rises text_cmp (groups_in (in_front b e (all_gone es)))
-      by true rest = rest
-      by false rest = (above_all e.0 es s.0, rest)
+  gone_rises (e ∷ es) s = grind (arith, gone_rises es s.1, above_all e.0 es s.0)
 
   gone_proper : (es : List GroupEntry) → AllByRecursion SortedMembers es
       → AllByRecursion IsProper (all_gone es)
   gone_proper [] a = tt
-  gone_proper (e ∷ es) a = by (is_empty (left_of e)) refl (gone_proper es a.1)
-    where
-      by : (b : Bool) → is_empty (left_of e) ≡ b → AllByRecursion IsProper (all_gone es)
-          → AllByRecursion IsProper (in_front b e (all_gone es))
-      by true h rest = rest
-      by false h rest =
-          let left = left_ascends e a.0 in
-          (record { left = left; joined = tt; some = ap (λ b. b && true) h }, rest)
+  gone_proper (e ∷ es) a = grind (arith, gone_proper es a.1, left_ascends e a.0)
 
   members_left : (g h : List ℕ) (p : Pid) (ms : Members)
       → cond (same h g) (mentions p (spread (λ m. pid_of node m.0) (λ m. m.1) ms)) 0
       ≡ tally (is_row g p) (group_rows node h ms)
-  members_left g h p [] = grind arith
-  members_left g h p (m ∷ ms) =
-      let test = λ (q : Pid). same_pid q p in
-      let pid = pid_of node m.0 in
-      let rest = spread (λ m. pid_of node m.0) (λ m. m.1) ms in
-      let all = how_many_append test (replicate m.1 pid) rest in
-      grind (arith, members_left g h p ms, all, how_many_replicate test m.1 pid)
-
-  none_mentioned : (p : Pid) (ps : List Pid) → is_empty ps ≡ true → mentions p ps ≡ 0
-  none_mentioned p [] e = refl
-  none_mentioned p (q ∷ ps) e = grind arith
+  members_left g h p ms =
+      grind (arith, member_counts node h p ms, other_group node g h p ms, same_decides h g)
 
   gone_left : (g : List ℕ) (p : Pid) (es : List GroupEntry)
       → times_left g p (all_gone es) ≡ tally (is_row g p) (flat node es)

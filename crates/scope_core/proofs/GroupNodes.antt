@@ -1,21 +1,19 @@
 -- A node more in the list of a group, or one less.
 use Rattle.scope_core.proofs.Words.{◌≡◌, ℕ, ◌≤◌, ◌&&◌, ◌+◌, Bool, true, false, cond, List, [], ◌∷◌}
-use Rattle.scope_core.proofs.Words.{Option, None, Some, refl, sym, ap, arith, length}
-use Rattle.scope_core.proofs.Words.{insert, remove, same, same_decides, how_many, how_many_is}
+use Rattle.scope_core.proofs.Words.{Option, None, Some, refl, sym, ap, arith, length, insert}
+use Rattle.scope_core.proofs.Words.{remove, same, same_decides, how_many, how_many_is}
 use Rattle.scope_core.proofs.Words.{sum_by-insert, sum_by-remove, ◌<◌, ◌∙◌, nat_lt, subst, same_sym}
 use Rattle.scope_core.proofs.Words.{is_gt, Less, AllByRecursion, HoldsAt, text_cmp, texts_total}
 use Rattle.scope_core.proofs.Words.{tied_itself, occurrences, is_among, Ascends, Rises, all_from}
-use Rattle.scope_core.proofs.Words.{ltb-true}
-use Rattle.scope_core.proofs.Words.{named_groups, node_names, times_named, get_or, exact_bytes}
-use Rattle.scope_core.proofs.Words.{IsBinarySearchResult, IfOk}
+use Rattle.scope_core.proofs.Words.{ltb-true, named_groups, node_names, times_named, get_or}
+use Rattle.scope_core.proofs.Words.{exact_bytes, IsBinarySearchResult, IfOk, Result, Ok, Err}
+use Rattle.scope_core.proofs.Words.{IsListing, IsDistinct-head, IsDistinct-tail, lookup, keys_of}
 use Rattle.scope_core.proofs.Groups.{below, among_counts}
 use Rattle.scope_core.proofs.Rising.{none_pass}
 use Rattle.scope_core.proofs.Searches.{rises_with, rises_without}
 use Rattle.scope_core.specs.GroupNodes.{AreInOrder, IsNameGap, nodes_of}
-use Rattle.dist_types.specs.Listing.{IsListing}
 use Rattle.std.specs.List.{IsDistinct}
-use Rattle.std.specs.Prelude.{Vec, Result, Ok, Err, OnErr}
-use Rattle.std.specs.Map.{lookup, keys_of}
+use Rattle.std.specs.Prelude.{Vec}
 use Rattle.std.specs.declared.alloc.Global.{Global}
 
 abbrev Named : Type 0
@@ -60,9 +58,9 @@ name_found ns m (Ok i) h = λ d. exact_bytes (get_or ns i d) m (h d)
 name_found ns m (Err i) h = tt
 
 -- it stands there already
-pub stands : (m : List ℕ) (ns : List (List ℕ)) (i : ℕ) → i < length ns → HoldsAt (λ k. k ≡ m) ns i
+pub named_already : (m : List ℕ) (ns : List (List ℕ)) (i : ℕ) → i < length ns → HoldsAt (λ k. k ≡ m) ns i
     → Rises text_cmp ns → (n : List ℕ) → times ns n ≡ cond (same m n) 1 (times ns n)
-stands m ns i l at r n =
+named_already m ns i l at r n =
     grind (arith, times_remove ns i m n l at, times_once ns r n, same_decides m n)
 
 -- it is put in
@@ -134,10 +132,6 @@ pub none_times : (es : Named) (g : List ℕ) → lookup (same g) es ≡ None →
     → times_named (node_names es) g n ≡ 0
 none_times es g none n = ap (λ ns. times ns n) (nodes_are es g ∙ ap items_of none)
 
-pub err_still : {T E A B : Type 0} (r : Result T E) → (A → B) → OnErr r A → OnErr r B
-err_still (Ok x) f a = tt
-err_still (Err e) f a = f a
-
 -- ---- the groups in order
 
 abbrev names : Named → List (List ℕ)
@@ -148,16 +142,6 @@ absent_names : (k : List ℕ) (es : Named) → AllByRecursion (λ j. same k j �
 absent_names k [] a = refl
 absent_names k (e ∷ es) a = grind (arith, absent_names k es a.1, same_sym e.0 k)
 
-rest_absent : (e : List ℕ × Vec (List ℕ) Global) (es : Named) → IsDistinct same (keys_of (e ∷ es))
-    → occurrences same e.0 (names es) ≡ 0
-unfolding IsDistinct
-rest_absent e es d = absent_names e.0 es d.0
-
-rest_apart : (e : List ℕ × Vec (List ℕ) Global) (es : Named) → IsDistinct same (keys_of (e ∷ es))
-    → IsDistinct same (keys_of es)
-unfolding IsDistinct
-rest_apart e es d = d.1
-
 -- no group stands among them twice
 pub names_apart : (es : Named) → IsDistinct same (keys_of es) → (g : List ℕ)
     → occurrences same g (names es) ≤ 1
@@ -166,14 +150,14 @@ names_apart (e ∷ es) d g =
     let none =
     λ (h : same e.0 g ≡ true).
     subst (λ k. occurrences same k (names es) ≡ 0) ((same_decides e.0 g).0 h)
-    (rest_absent e es d) in
-    grind (arith, names_apart es (rest_apart e es d) g, none)
+    (absent_names e.0 es (IsDistinct-head _ _ _ d)) in
+    grind (arith, names_apart es (IsDistinct-tail _ _ _ d) g, none)
 
 pub found_name : (es : Named) → IsDistinct same (keys_of es) → (g : List ℕ)
     → is_among g (names es) ≡ true → (n : List ℕ) × (0 < times_named (node_names es) g n)
 found_name [] d g h = grind arith
 found_name (e ∷ es) d g h =
-    by (same g e.0) e.1.items refl refl (found_name es (rest_apart e es d) g)
+    by (same g e.0) e.1.items refl refl (found_name es (IsDistinct-tail _ _ _ d) g)
   where
     by : (b : Bool) (ns : List (List ℕ)) → same g e.0 ≡ b → e.1.items ≡ ns
         → (is_among g (names es) ≡ true → (n : List ℕ) × (0 < times_named (node_names es) g n))
@@ -182,7 +166,7 @@ found_name (e ∷ es) d g h =
     by true [] s i rest =
         let none =
         subst (λ k. occurrences same k (names es) ≡ 0) (sym ((same_decides g e.0).0 s))
-        (rest_absent e es d) in
+        (absent_names e.0 es (IsDistinct-head _ _ _ d)) in
         grind (arith, h, i, none, among_counts g (names es))
     by false ns s i rest = let there = rest (grind (arith, h, s, same_sym g e.0)) in
         (there.0, grind (arith, there.1, s))

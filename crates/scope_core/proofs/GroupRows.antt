@@ -1,20 +1,14 @@
 -- The rows of a node, as the index of groups has them in order.
 use Rattle.scope_core.proofs.Words.{◌≡◌, ℕ, ◌+◌, Bool, true, false, cond, List, [], ◌∷◌, ◌++◌}
-use Rattle.scope_core.proofs.Words.{flat_map, Some, refl, sym, ap, ◌∙◌, arith}
-use Rattle.scope_core.proofs.Words.{Less, AllByRecursion, Rises, all_append, text_cmp, row_cmp}
-use Rattle.scope_core.proofs.Words.{same, same_decides, tied_itself, texts_total, tally, is_row}
-use Rattle.scope_core.proofs.Words.{Row, Pid, Counted, counted_cmp, row_in, subst, same_sym}
-use Rattle.scope_core.proofs.Words.{same_pid, mentions, spread, spread_counts, total, replicate}
-use Rattle.scope_core.proofs.Words.{append_assoc}
+use Rattle.scope_core.proofs.Words.{flat_map, refl, sym, ap, ◌∙◌, arith, Less, AllByRecursion}
+use Rattle.scope_core.proofs.Words.{Rises, all_append, text_cmp, row_cmp, same, same_decides}
+use Rattle.scope_core.proofs.Words.{tied_itself, texts_total, tally, is_row, Row, Pid, Counted}
+use Rattle.scope_core.proofs.Words.{counted_cmp, row_in, same_sym, same_pid, mentions, spread}
+use Rattle.scope_core.proofs.Words.{spread_counts, total, replicate, append_assoc, unwrap_or}
+use Rattle.scope_core.proofs.Words.{lookup, keys_of, is_eq, ProcessKey, SmallMap, entries_of, found}
+use Rattle.scope_core.proofs.Words.{pid_of, key_of, key_cmp, group_rows, counted_in}
 use Rattle.std.proofs.lemmas.List.{replicate_more}
-use Rattle.std.specs.Option.{unwrap_or}
-use Rattle.std.specs.Map.{lookup, keys_of}
 use Rattle.std.specs.List.Sorted.{IsStrictlySortedBy}
-use Rattle.std.specs.Ordering.{is_eq}
-use Rattle.scope_core.specs.declared.process_key.ProcessKey.{ProcessKey}
-use Rattle.scope_core.specs.declared.small_map.SmallMap.{SmallMap}
-use Rattle.scope_core.specs.SmallMap.{entries_of, found}
-use Rattle.scope_core.specs.HashedRows.{pid_of, key_of, key_cmp, group_rows, counted_in}
 use Rattle.scope_core.proofs.HashedRows.{one_key, one_text}
 use Rattle.scope_core.proofs.Tallies.{tally_append}
 
@@ -25,59 +19,45 @@ abbrev pub SortedMembers : List ℕ × SmallMap ProcessKey ℕ → Type 0
 SortedMembers e = IsStrictlySortedBy key_cmp (keys_of (entries_of e.1))
 
 module _ (node : List ℕ) where
-  key_order : (g : List ℕ) (a b : ProcessKey) → key_cmp a b ≡ Less
-      → row_cmp (row_in g (pid_of node a)) (row_in g (pid_of node b)) ≡ Less
-  key_order g a b l = grind (arith, l, tied_itself texts_total g, tied_itself texts_total node)
+  -- a row of this group and process is below all of these
+  abbrev IsBelow : List ℕ → ProcessKey → List Counted → Type 0
+  IsBelow g a cs = AllByRecursion (λ d. row_cmp (row_in g (pid_of node a)) d.row ≡ Less) cs
 
-  above_key : (g : List ℕ) (a : ProcessKey) (n : ℕ) (ms : List (ProcessKey × ℕ))
-      → AllByRecursion (λ k. key_cmp a k ≡ Less) (keys_of ms)
-      → AllByRecursion
-      (λ d. counted_cmp (record { row = row_in g (pid_of node a); count = n }) d ≡ Less)
-      (group_rows node g ms)
-  above_key g a n [] l = tt
-  above_key g a n (m ∷ ms) l = (key_order g a m.0 l.0, above_key g a n ms l.1)
+  above_key : (g : List ℕ) (a : ProcessKey) (ms : List (ProcessKey × ℕ))
+      → AllByRecursion (λ k. key_cmp a k ≡ Less) (keys_of ms) → IsBelow g a (group_rows node g ms)
+  above_key g a [] l = tt
+  above_key g a (m ∷ ms) l = (
+    grind (arith, l.0, tied_itself texts_total g, tied_itself texts_total node),
+    above_key g a ms l.1,
+  )
 
   members_rise : (g : List ℕ) (ms : List (ProcessKey × ℕ)) → IsStrictlySortedBy key_cmp (keys_of ms)
       → Rises counted_cmp (group_rows node g ms)
   unfolding IsStrictlySortedBy
   members_rise g [] s = tt
-  members_rise g (m ∷ ms) s = (above_key g m.0 m.1 ms s.0, members_rise g ms s.1)
+  members_rise g (m ∷ ms) s = (above_key g m.0 ms s.0, members_rise g ms s.1)
 
   abbrev pub flat : Groups → List Counted
   flat es = flat_map (λ e. group_rows node e.0 (entries_of e.1)) es
 
-  group_order : (g h : List ℕ) (a b : ProcessKey) → text_cmp g h ≡ Less
-      → row_cmp (row_in g (pid_of node a)) (row_in h (pid_of node b)) ≡ Less
-  group_order g h a b l = grind (arith, l)
+  above_rows : (g h : List ℕ) (a : ProcessKey) (ms : List (ProcessKey × ℕ)) → text_cmp g h ≡ Less
+      → IsBelow g a (group_rows node h ms)
+  above_rows g h a [] l = tt
+  above_rows g h a (m ∷ ms) l = (grind (arith, l), above_rows g h a ms l)
 
-  above_rows : (g h : List ℕ) (a : ProcessKey) (n : ℕ) (ms : List (ProcessKey × ℕ))
-      → text_cmp g h ≡ Less
-      → AllByRecursion
-      (λ d. counted_cmp (record { row = row_in g (pid_of node a); count = n }) d ≡ Less)
-      (group_rows node h ms)
-  above_rows g h a n [] l = tt
-  above_rows g h a n (m ∷ ms) l = (group_order g h a m.0 l, above_rows g h a n ms l)
-
-  above_flat : (g : List ℕ) (a : ProcessKey) (n : ℕ) (es : Groups)
-      → AllByRecursion (λ h. text_cmp g h ≡ Less) (keys_of es)
-      → AllByRecursion
-      (λ d. counted_cmp (record { row = row_in g (pid_of node a); count = n }) d ≡ Less) (flat es)
-  above_flat g a n [] l = tt
-  above_flat g a n (e ∷ es) l =
-      all_append (λ d. counted_cmp (record { row = row_in g (pid_of node a); count = n }) d ≡ Less)
-      (group_rows node e.0 (entries_of e.1)) (flat es)
-      (above_rows g e.0 a n (entries_of e.1) l.0) (above_flat g a n es l.1)
+  above_flat : (g : List ℕ) (a : ProcessKey) (es : Groups)
+      → AllByRecursion (λ h. text_cmp g h ≡ Less) (keys_of es) → IsBelow g a (flat es)
+  above_flat g a [] l = tt
+  above_flat g a (e ∷ es) l =
+      all_append _ _ _ (above_rows g e.0 a (entries_of e.1) l.0) (above_flat g a es l.1)
 
   rise_before : (g : List ℕ) (ms : List (ProcessKey × ℕ)) (es : Groups)
       → Rises counted_cmp (group_rows node g ms)
       → AllByRecursion (λ h. text_cmp g h ≡ Less) (keys_of es)
       → Rises counted_cmp (flat es) → Rises counted_cmp (group_rows node g ms ++ flat es)
   rise_before g [] es r l f = f
-  rise_before g (m ∷ ms) es r l f = (
-    all_append (λ d. counted_cmp (record { row = row_in g (pid_of node m.0); count = m.1 }) d
-        ≡ Less) (group_rows node g ms) (flat es) r.0 (above_flat g m.0 m.1 es l),
-    rise_before g ms es r.1 l f,
-  )
+  rise_before g (m ∷ ms) es r l f =
+      (all_append _ _ _ r.0 (above_flat g m.0 es l), rise_before g ms es r.1 l f)
 
   -- the rows of all groups rise
   pub flat_rises : (es : Groups) → IsStrictlySortedBy text_cmp (keys_of es)
@@ -90,7 +70,7 @@ module _ (node : List ℕ) where
 
   -- ---- counts
 
-  other_group : (g h : List ℕ) (p : Pid) (ms : List (ProcessKey × ℕ)) → same h g ≡ false
+  pub other_group : (g h : List ℕ) (p : Pid) (ms : List (ProcessKey × ℕ)) → same h g ≡ false
       → tally (is_row g p) (group_rows node h ms) ≡ 0
   other_group g h p [] e = refl
   other_group g h p (m ∷ ms) e = grind (arith, other_group g h p ms e)
@@ -143,11 +123,23 @@ module _ (node : List ℕ) where
         tied_itself texts_total g,
       )
 
-  spread_tally : (g : List ℕ) (p : Pid) (ms : List (ProcessKey × ℕ))
-      → total (λ m. cond (same_pid (pid_of node m.0) p) m.1 0) ms
+  pub group_total : (test : Row → Bool) (g : List ℕ) (ms : List (ProcessKey × ℕ))
+      → tally test (group_rows node g ms)
+      ≡ total (λ m. cond (test (row_in g (pid_of node m.0))) m.1 0) ms
+  group_total test g [] = refl
+  group_total test g (m ∷ ms) = grind (arith, group_total test g ms)
+
+  pub member_counts : (g : List ℕ) (p : Pid) (ms : List (ProcessKey × ℕ))
+      → mentions p (spread (λ m. pid_of node m.0) (λ m. m.1) ms)
       ≡ tally (is_row g p) (group_rows node g ms)
-  spread_tally g p [] = refl
-  spread_tally g p (m ∷ ms) = grind (arith, spread_tally g p ms, same_decides g g)
+  member_counts g p ms =
+      spread_counts same_pid (λ (m : ProcessKey × ℕ). pid_of node m.0) (λ m. m.1) p ms ∙ each ms
+    where
+      each : (xs : List (ProcessKey × ℕ))
+          → total (λ m. cond (same_pid (pid_of node m.0) p) m.1 0) xs
+          ≡ tally (is_row g p) (group_rows node g xs)
+      each [] = refl
+      each (m ∷ xs) = grind (arith, each xs, same_decides g g)
 
   -- processes of a group are mentioned as often as they are found there
   pub member_mentions : (g : List ℕ) (p : Pid) (ms : List (ProcessKey × ℕ))
@@ -155,14 +147,11 @@ module _ (node : List ℕ) where
       → mentions p (spread (λ m. pid_of node m.0) (λ m. m.1) ms)
       ≡ cond (same node p.node) (unwrap_or (lookup (λ q. is_eq (key_cmp (key_of p) q)) ms) 0) 0
   member_mentions g p ms s =
-      let counts =
-      spread_counts same_pid (λ (m : ProcessKey × ℕ). pid_of node m.0) (λ m. m.1) p ms
-      ∙ spread_tally g p ms in
       let mine =
       λ (h : same node p.node ≡ true).
       members_tally g p ms (sym ((same_decides node p.node).0 h)) s in
       let other = λ (h : same node p.node ≡ false). other_node g g p ms h in
-      grind (arith, counts, mine, other)
+      grind (arith, member_counts g p ms, mine, other)
 
   -- a process of the node is counted in the index as it is found there
   pub flat_tally : (g : List ℕ) (p : Pid) (es : Groups) → p.node ≡ node
@@ -176,43 +165,17 @@ module _ (node : List ℕ) where
       let none = λ (h : e.0 ≡ g). later_groups g p e.0 es h s.0 in
       let mine = members_tally e.0 p (entries_of e.1) own a.0 in
       let other = other_group g e.0 p (entries_of e.1) in
-      by (same g e.0) refl rest none mine other
-    where
-      by : (b : Bool) → same g e.0 ≡ b
-          → tally (is_row g p) (flat es)
-          ≡ unwrap_or (found key_cmp (lookup (λ h. is_eq (text_cmp g h)) es) (key_of p)) 0
-          → (e.0 ≡ g → tally (is_row g p) (flat es) ≡ 0)
-          → tally (is_row e.0 p) (group_rows node e.0 (entries_of e.1))
-          ≡ unwrap_or (lookup (λ q. is_eq (key_cmp (key_of p) q)) (entries_of e.1)) 0
-          → (same e.0 g ≡ false → tally (is_row g p) (group_rows node e.0 (entries_of e.1)) ≡ 0)
-          → tally (is_row g p) (group_rows node e.0 (entries_of e.1) ++ flat es)
-          ≡ unwrap_or (found key_cmp
-          (cond (is_eq (text_cmp g e.0)) (Some e.1) (lookup (λ h. is_eq (text_cmp g h)) es))
-          (key_of p)) 0
-      by true h rest none mine other =
-          let is : g ≡ e.0 = (same_decides g e.0).0 h in
-          let here =
-          subst (λ x. tally (is_row x p) (group_rows node e.0 (entries_of e.1))
-          ≡ unwrap_or (lookup (λ q. is_eq (key_cmp (key_of p) q)) (entries_of e.1)) 0)
-          (sym is) mine in
-          let hit = one_text g e.0 ∙ h in
-          grind (
-            arith,
-            here,
-            none (sym is),
-            tally_append (is_row g p) (group_rows node e.0 (entries_of e.1)) (flat es),
-            hit,
-          )
-      by false h rest none mine other =
-          let miss = one_text g e.0 ∙ h in
-          let gone = other (same_sym e.0 g ∙ h) in
-          grind (
-            arith,
-            rest,
-            gone,
-            tally_append (is_row g p) (group_rows node e.0 (entries_of e.1)) (flat es),
-            miss,
-          )
+      grind (
+        arith,
+        rest,
+        none,
+        mine,
+        other,
+        one_text g e.0,
+        same_decides g e.0,
+        same_sym e.0 g,
+        tally_append (is_row g p) (group_rows node e.0 (entries_of e.1)) (flat es),
+      )
 
   pub flat_others : (g : List ℕ) (p : Pid) (es : Groups) → same node p.node ≡ false
       → tally (is_row g p) (flat es) ≡ 0

@@ -1,15 +1,13 @@
 -- The groups of rows that rise, and those of two lists.
 use Rattle.scope_core.proofs.Words.{◌≡◌, ℕ, ◌<◌, Bool, true, false, cond, not, ◌&&◌, ◌||◌, nat_lt}
-use Rattle.scope_core.proofs.Words.{◌-◌, List, [], ◌∷◌, ◌++◌, length}
-use Rattle.scope_core.proofs.Words.{slice_get, Option, Some, None, refl, ap, ◌∙◌, sym, arith, inl}
-use Rattle.scope_core.proofs.Words.{inr, append_assoc, Less, is_gt}
+use Rattle.scope_core.proofs.Words.{◌-◌, List, [], ◌∷◌, ◌++◌, length, slice_get, Option, Some, None}
+use Rattle.scope_core.proofs.Words.{refl, ap, ◌∙◌, sym, arith, inl, inr, append_assoc, Less, is_gt}
 use Rattle.scope_core.proofs.Words.{list_any, AllByRecursion, and_parts, or_cases, length_push}
-use Rattle.scope_core.proofs.Words.{exact_bytes, Pid, text_cmp, Counted, same}
-use Rattle.scope_core.proofs.Words.{is_among, Rises, IsGroupListing, is_row, tally, counted_cmp}
-use Rattle.scope_core.proofs.Words.{is_in, heads, differs, last_of, texts_total}
-use Rattle.scope_core.proofs.Words.{same_decides, same_pid_decides, lt-ltb, occurrences}
+use Rattle.scope_core.proofs.Words.{exact_bytes, Pid, text_cmp, Counted, same, is_among, Rises}
+use Rattle.scope_core.proofs.Words.{IsGroupListing, is_row, tally, counted_cmp, is_in, heads}
+use Rattle.scope_core.proofs.Words.{differs, last_of, texts_total, same_decides, same_pid_decides}
+use Rattle.scope_core.proofs.Words.{lt-ltb, occurrences, append-nil}
 use Rattle.scope_core.proofs.Rising.{all_map, groups_above}
-use Rattle.std.proofs.lemmas.List.{append-nil}
 
 -- a text that isn't above another, and isn't the same, is below it
 pub below : (g h : List ℕ) → is_gt (text_cmp g h) ≡ false → not (same g h) ≡ true

@@ -1,52 +1,46 @@
 -- One row more, or one less, in a map with two indexes; and what is counted there.
 use Rattle.scope_core.proofs.Words.{◌≡◌, ℕ, ◌+◌, ◌&&◌, ◌==◌, Bool, true, false, cond, List, [], ◌∷◌}
-use Rattle.scope_core.proofs.Words.{◌++◌, Option, None, refl, sym, ap, ◌∙◌, arith}
-use Rattle.scope_core.proofs.Words.{Ordering, Equal, AllByRecursion, exact_bytes, tied_itself}
-use Rattle.scope_core.proofs.Words.{texts_total, rows_total, exact_rows, same_decides}
-use Rattle.scope_core.proofs.Words.{same_row_decides, and_parts, same, same_row, text_cmp, row_cmp}
-use Rattle.scope_core.proofs.Words.{Row, tally, is_row, subst, ◌<◌, bare_rows, AreCounted}
-use Rattle.std.specs.Ordering.{eq_by_cmp, is_eq, nat_cmp}
+use Rattle.scope_core.proofs.Words.{◌++◌, Option, None, refl, sym, ap, ◌∙◌, arith, Ordering}
+use Rattle.scope_core.proofs.Words.{AllByRecursion, exact_bytes, tied_itself, texts_total}
+use Rattle.scope_core.proofs.Words.{rows_total, exact_rows, same_decides, same_row_decides}
+use Rattle.scope_core.proofs.Words.{and_parts, same, same_row, text_cmp, row_cmp, Row, tally}
+use Rattle.scope_core.proofs.Words.{is_row, ◌<◌, bare_rows, AreCounted, eq_by_cmp, is_eq}
+use Rattle.scope_core.proofs.Words.{IsTotalOrder, is_some, unwrap_or, lookup, keys_of, remove_entry}
+use Rattle.scope_core.proofs.Words.{set_value, IsDistinct-tail, Decides-eqb, ProcessKey, key_of}
+use Rattle.scope_core.proofs.Words.{pid_of, key_cmp, has_key, has_row, stands, counted_in}
+use Rattle.std.specs.Ordering.{nat_cmp}
 use Rattle.std.specs.Bool.{Decides}
-use Rattle.std.specs.Cmp.{IsEquivalence, IsTotalOrder}
-use Rattle.std.specs.Option.{is_some, unwrap_or}
-use Rattle.std.specs.Map.{lookup, keys_of, remove_entry, set_value}
+use Rattle.std.proofs.lemmas.Map.Lookups.{CmpEqualImpliesEq}
+use Rattle.std.specs.Cmp.{IsEquivalence}
 use Rattle.std.specs.List.{IsDistinct}
-use Rattle.std.proofs.lemmas.Map.{NonePasses}
+use Rattle.std.proofs.lemmas.Map.{NonePasses, lookup-none, lookup-remove_entry}
+use Rattle.std.proofs.lemmas.Map.Views.{tells_apart}
 use Rattle.std.proofs.lemmas.Map.Entries.{none_past_head}
 use Rattle.std.proofs.lemmas.Bool.Decides.{same_from_decides}
 use Rattle.std.proofs.lemmas.Cmp.{nat_cmp_total, on_total, then_total}
 use Rattle.std.proofs.lemmas.Map.Lookups.{exact_pairs, exact_unsigned}
-use Rattle.std.proofs.lemmas.Bool.Decides.{Decides-eqb}
-use Rattle.scope_core.specs.declared.process_key.ProcessKey.{ProcessKey}
-use Rattle.scope_core.specs.HashedRows.{key_of, pid_of, key_cmp, has_key, has_row, stands}
-use Rattle.scope_core.specs.HashedRows.{counted_in}
 
-equal_from : (o : Ordering) → is_eq o ≡ true → o ≡ Equal
-equal_from o e = grind arith
-
--- ---- what compares equal is the same
+-- what compares equal is the same
+one_by_order : {K : Type 0} {R : K → K → Ordering} {alike : K → K → Bool} → IsTotalOrder R
+    → CmpEqualImpliesEq R → ((a b : K) → Decides (alike a b) (a ≡ b)) → (a b : K)
+    → eq_by_cmp R a b ≡ alike a b
+one_by_order {R = R} total exact decides a b =
+    same_from_decides _ _ (
+      tells_apart exact a b,
+      λ h. ap (λ x. is_eq (R a x)) (sym h) ∙ ap is_eq (tied_itself total a),
+    ) (decides a b)
 
 pub one_row : (row r : Row) → eq_by_cmp row_cmp row r ≡ same_row row r
-one_row row r =
-    let d : Decides (eq_by_cmp row_cmp row r) (row ≡ r) = (
-      (λ h. exact_rows row r (equal_from (row_cmp row r) h)),
-      (λ h. ap (λ x. is_eq (row_cmp row x)) (sym h) ∙ ap is_eq (tied_itself rows_total row)),
-    ) in
-    same_from_decides (eq_by_cmp row_cmp row r) (same_row row r) d (same_row_decides row r)
+one_row = one_by_order rows_total exact_rows same_row_decides
 
 pub one_text : (a b : List ℕ) → eq_by_cmp text_cmp a b ≡ same a b
-one_text a b =
-    let d : Decides (eq_by_cmp text_cmp a b) (a ≡ b) = (
-      (λ h. exact_bytes a b (equal_from (text_cmp a b) h)),
-      (λ h. ap (λ x. is_eq (text_cmp a x)) (sym h) ∙ ap is_eq (tied_itself texts_total a)),
-    ) in
-    same_from_decides (eq_by_cmp text_cmp a b) (same a b) d (same_decides a b)
+one_text = one_by_order texts_total exact_bytes same_decides
 
 pub keys_total : IsTotalOrder key_cmp
 keys_total =
     then_total (on_total (λ k. k.creation) nat_cmp_total) (on_total (λ k. k.number) nat_cmp_total)
 
-exact_keys : (a b : ProcessKey) → key_cmp a b ≡ Equal → a ≡ b
+exact_keys : CmpEqualImpliesEq key_cmp
 exact_keys a b h =
     ap (λ (t : ℕ × ℕ). record { creation = t.0; number = t.1 })
     (exact_pairs nat_cmp nat_cmp exact_unsigned exact_unsigned (a.creation, a.number)
@@ -55,7 +49,7 @@ exact_keys a b h =
 abbrev same_key : ProcessKey → ProcessKey → Bool
 same_key a b = a.creation == b.creation && a.number == b.number
 
-same_key_decides : (a b : ProcessKey) → Decides (same_key a b) (a ≡ b)
+pub same_key_decides : (a b : ProcessKey) → Decides (same_key a b) (a ≡ b)
 same_key_decides a b = (
   (λ h. let t = and_parts _ _ h in
       λ i. record {
@@ -66,12 +60,7 @@ same_key_decides a b = (
 )
 
 pub one_key : (a b : ProcessKey) → eq_by_cmp key_cmp a b ≡ same_key a b
-one_key a b =
-    let d : Decides (eq_by_cmp key_cmp a b) (a ≡ b) = (
-      (λ h. exact_keys a b (equal_from (key_cmp a b) h)),
-      (λ h. ap (λ x. is_eq (key_cmp a x)) (sym h) ∙ ap is_eq (tied_itself keys_total a)),
-    ) in
-    same_from_decides (eq_by_cmp key_cmp a b) (same_key a b) d (same_key_decides a b)
+one_key = one_by_order keys_total exact_keys same_key_decides
 
 -- a place in the index of groups is that of one row of the node
 pub one_place : (node g : List ℕ) (k : ProcessKey) (row : Row) → row.pid.node ≡ node
@@ -88,19 +77,20 @@ one_place node g k row own =
 
 -- ---- one row more, and one less, among those of the processes
 
-pub put_copy : (k : ProcessKey) (row r : Row) (was now had has : Bool)
+-- b is whether the row is there then
+pub write_copy : (k : ProcessKey) (row r : Row) (b was now had has : Bool)
     → was ≡ (has_key k r.pid && had)
-    → now ≡ cond (eq_by_cmp key_cmp (key_of row.pid) k && eq_by_cmp row_cmp row r) true was
-    → has ≡ cond (same_row row r) true had → now ≡ (has_key k r.pid && has)
-put_copy k row r was now had has w n h =
+    → now ≡ cond (eq_by_cmp key_cmp (key_of row.pid) k && eq_by_cmp row_cmp row r) b was
+    → has ≡ cond (same_row row r) b had → now ≡ (has_key k r.pid && has)
+write_copy k row r b was now had has w n h =
     grind (arith, w, n, h, one_row row r, one_key (key_of row.pid) k, same_row_decides row r)
 
-pub take_copy : (k : ProcessKey) (row r : Row) (was now had has : Bool)
-    → was ≡ (has_key k r.pid && had)
-    → now ≡ cond (eq_by_cmp key_cmp (key_of row.pid) k && eq_by_cmp row_cmp row r) false was
-    → has ≡ cond (same_row row r) false had → now ≡ (has_key k r.pid && has)
-take_copy k row r was now had has w n h =
-    grind (arith, w, n, h, one_row row r, one_key (key_of row.pid) k, same_row_decides row r)
+-- a row that is there stands at its place
+pub kept_copy : (k : ProcessKey) (row r : Row) (es : List (Row × ℕ)) (was : Bool)
+    → was ≡ (has_key k r.pid && has_row es r) → has_row es row ≡ true
+    → was ≡ cond (eq_by_cmp key_cmp (key_of row.pid) k && eq_by_cmp row_cmp row r) true was
+kept_copy k row r es was w there =
+    grind (arith, w, there, one_row row r, one_key (key_of row.pid) k, same_row_decides row r)
 
 pub some_cond : {A : Type 0} (b : Bool) (o w v : Option A) → v ≡ cond b o w
     → is_some v ≡ cond b (is_some o) (is_some w)
@@ -126,17 +116,12 @@ tally_none row [] none = refl
 tally_none row (e ∷ es) none =
     grind (arith, tally_none row es none.1, none.0, rows_equal.symm row e.0)
 
-rest_once : (e : Row × ℕ) (es : List (Row × ℕ)) → IsDistinct same_row (keys_of (e ∷ es))
-    → IsDistinct same_row (keys_of es)
-unfolding IsDistinct
-rest_once e es d = d.1
-
 -- where each row stands once, a row is counted as the map has it
 pub count_is : (row : Row) (es : List (Row × ℕ)) → IsDistinct same_row (keys_of es)
     → tally (is_row row.group row.pid) (counted_in es) ≡ unwrap_or (lookup (same_row row) es) 0
 count_is row [] d = refl
 count_is row (e ∷ es) d =
-    let rest = count_is row es (rest_once e es d) in
+    let rest = count_is row es (IsDistinct-tail _ _ _ d) in
     let none =
     λ (h : same_row row e.0 ≡ true). tally_none row es (none_past_head rows_equal row e es d h) in
     grind (arith, rest, none, rows_equal.symm row e.0)
@@ -162,44 +147,11 @@ tally_removed : (test : Row → Bool) (row : Row) (es : Entries)
 tally_removed test row [] = grind arith
 tally_removed test row (e ∷ es) = grind (arith, tally_removed test row es, same_row_decides row e.0)
 
-removed_other : (row r : Row) (es : Entries) → same_row row r ≡ false
-    → lookup (same_row r) (remove_entry (same_row row) es) ≡ lookup (same_row r) es
-removed_other row r [] h = refl
-removed_other row r (e ∷ es) h =
-    grind (
-      arith,
-      removed_other row r es h,
-      same_row_decides row e.0,
-      same_row_decides r e.0,
-      same_row_decides row r,
-      h,
-    )
-
-none_absent : (row : Row) (es : Entries) → NonePasses (same_row row) es
-    → lookup (same_row row) es ≡ None
-none_absent row [] none = refl
-none_absent row (e ∷ es) none = grind (arith, none_absent row es none.1, none.0)
-
-removed_itself : (row : Row) (es : Entries) → Once es
-    → lookup (same_row row) (remove_entry (same_row row) es) ≡ None
-removed_itself row [] d = refl
-removed_itself row (e ∷ es) d =
-    let none =
-    λ (h : same_row row e.0 ≡ true). none_absent row es (none_past_head rows_equal row e es d h) in
-    grind (arith, removed_itself row es (rest_once e es d), none)
-
 pub removed_lookup : (row r : Row) (es : Entries) → Once es
     → lookup (same_row r) (remove_entry (same_row row) es)
     ≡ cond (same_row row r) None (lookup (same_row r) es)
-removed_lookup row r es d = by (same_row row r) refl
-  where
-    by : (b : Bool) → same_row row r ≡ b
-        → lookup (same_row r) (remove_entry (same_row row) es)
-        ≡ cond b None (lookup (same_row r) es)
-    by true h =
-        subst (λ x. lookup (same_row x) (remove_entry (same_row row) es) ≡ None)
-        ((same_row_decides row r).0 h) (removed_itself row es d)
-    by false h = removed_other row r es h
+removed_lookup row r es d =
+    lookup-remove_entry rows_equal (same_row row) (rows_equal.congr row) r es d
 
 removed_absent : (k row : Row) (es : Entries)
     → AllByRecursion (λ x. same_row k x ≡ false) (keys_of es)
@@ -229,11 +181,11 @@ same_tally (e ∷ es) fs d f same test =
     let gone = removed_lookup e.0 r fs f in
     let none =
     λ (h : same_row e.0 r ≡ true).
-    none_absent e.0 es (none_past_head rows_equal e.0 e es d (rows_equal.refl e.0)) in
+    lookup-none (same_row e.0) es (none_past_head rows_equal e.0 e es d (rows_equal.refl e.0)) in
     let is : lookup (same_row r) (remove_entry (same_row e.0) fs) ≡ lookup (same_row r) es =
     grind (arith, gone, same r, none, same_row_decides e.0 r, same_row_decides r e.0) in is in
     let less =
-    same_tally es (remove_entry (same_row e.0) fs) (rest_once e es d)
+    same_tally es (remove_entry (same_row e.0) fs) (IsDistinct-tail _ _ _ d)
     (removed_once e.0 fs f) rest test in
     grind (arith, less, tally_removed test e.0 fs, at, rows_equal.refl e.0)
 
@@ -294,12 +246,13 @@ counted_from [] d h = tt
 counted_from (e ∷ es) d h =
     let rest = λ (r : Row) (there : has_row es r ≡ true).
     let none =
-    λ (same : same_row r e.0 ≡ true). none_absent r es (none_past_head rows_equal r e es d same) in
+    λ (same : same_row r e.0 ≡ true).
+    lookup-none (same_row r) es (none_past_head rows_equal r e es d same) in
     let some = h r (grind (arith, there)) in
     let is : 0 < unwrap_or (lookup (same_row r) es) 0 = grind (arith, some, none, there) in is in (
       let some = h e.0 (grind (arith, rows_equal.refl e.0)) in
           grind (arith, some, rows_equal.refl e.0),
-      counted_from es (rest_once e es d) rest,
+      counted_from es (IsDistinct-tail _ _ _ d) rest,
     )
 
 -- where a row is taken out, the others stay counted

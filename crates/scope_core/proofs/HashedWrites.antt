@@ -1,21 +1,15 @@
 -- What a write does to the index of groups, and to the map alone.
-use Rattle.scope_core.proofs.Words.{◌≡◌, ℕ, ◌+◌, ◌&&◌, Bool, true, false, cond, List, [], ◌∷◌}
-use Rattle.scope_core.proofs.Words.{◌++◌, Option, None, Some, refl, sym, ap, ◌∙◌, arith}
-use Rattle.scope_core.proofs.Words.{AllByRecursion}
-use Rattle.scope_core.proofs.Words.{same_decides}
-use Rattle.scope_core.proofs.Words.{same_row_decides, same_row, text_cmp}
-use Rattle.scope_core.proofs.Words.{Pid, Row, tally, is_row, ◌<◌, bare_rows, AreCounted}
-use Rattle.scope_core.proofs.Words.{same_pid, is_there, Counted, ◌||◌, length, take, zero, suc, ◌≤◌}
-use Rattle.scope_core.proofs.Words.{get_or, take_more, list_any}
-use Rattle.std.proofs.lemmas.List.{append-nil}
-use Rattle.std.specs.Ordering.{eq_by_cmp}
-use Rattle.std.specs.Option.{is_some, unwrap_or}
-use Rattle.std.specs.Map.{lookup, set_value}
-use Rattle.scope_core.specs.declared.process_key.ProcessKey.{ProcessKey}
-use Rattle.scope_core.specs.HashedRows.{key_of, pid_of, key_cmp, has_key, has_row, stands}
-use Rattle.scope_core.specs.HashedRows.{counted_in}
-use Rattle.scope_core.proofs.HashedRows.{one_place, some_cond, rows_equal, stands_is, count_is}
-use Rattle.scope_core.proofs.HashedRows.{Entries, Once, own_at, own_from, counted_from}
+use Rattle.scope_core.proofs.Words.{◌≡◌, ℕ, ◌+◌, ◌&&◌, Bool, true, false, cond, List, [], ◌∷◌, ◌++◌}
+use Rattle.scope_core.proofs.Words.{Option, None, Some, refl, sym, ap, ◌∙◌, arith, same_decides}
+use Rattle.scope_core.proofs.Words.{same_row_decides, same_row, text_cmp, row_cmp, Pid, Row, tally}
+use Rattle.scope_core.proofs.Words.{is_row, ◌<◌, bare_rows, AreCounted, same_pid, is_there, Counted}
+use Rattle.scope_core.proofs.Words.{◌||◌, length, take, zero, suc, get_or, take_more, list_any}
+use Rattle.scope_core.proofs.Words.{append-nil, eq_by_cmp, is_some, unwrap_or, lookup, set_value}
+use Rattle.scope_core.proofs.Words.{ProcessKey, key_of, pid_of, key_cmp, has_key, has_row, stands}
+use Rattle.scope_core.proofs.Words.{counted_in, IsHashed, find_in, SmallMap, BTreeMap, drop}
+use Rattle.scope_core.proofs.Words.{take-append-drop, or_right}
+use Rattle.scope_core.proofs.HashedRows.{write_copy, one_place, some_cond, rows_equal, stands_is}
+use Rattle.scope_core.proofs.HashedRows.{count_is, Entries, Once, own_at, own_from, counted_from}
 
 -- ---- the index of groups
 
@@ -25,14 +19,6 @@ module _ (node g : List ℕ) (k : ProcessKey) (row : Row) (own : row.pid.node �
 
   abbrev place : Bool
   place = eq_by_cmp text_cmp row.group g && eq_by_cmp key_cmp (key_of row.pid) k
-
-  -- a row gets a value, or is taken out, in the map and in the index
-  pub set_group : (es fs : Entries) (w was now : Option ℕ) → was ≡ lookup (same_row here) es
-      → now ≡ cond place w was
-      → lookup (same_row here) fs ≡ cond (same_row row here) w (lookup (same_row here) es)
-      → now ≡ lookup (same_row here) fs
-  set_group es fs w was now old new is =
-      new ∙ (λ i. cond (one_place node g k row own i) w (old i)) ∙ sym is
 
   -- what was put in and taken out again is as it was, where it was none of the rows
   pub back_group : (es : Entries) (n : ℕ) (was then now : Option ℕ)
@@ -55,16 +41,6 @@ module _ (node g : List ℕ) (k : ProcessKey) (row : Row) (own : row.pid.node �
 pub at_row : (node : List ℕ) (row : Row) → row.pid.node ≡ node
     → record { group = row.group; pid = pid_of node (key_of row.pid) } ≡ row
 at_row node row own = λ i. record { group = row.group; pid = pid_of (sym own i) (key_of row.pid) }
-
--- where a row that is there gets another count, the same rows are there
-pub same_copy : (k : ProcessKey) (row r : Row) (n : ℕ) (es fs : Entries) (was : Bool)
-    → was ≡ (has_key k r.pid && has_row es r) → has_row es row ≡ true
-    → lookup (same_row r) fs ≡ cond (same_row row r) (Some n) (lookup (same_row r) es)
-    → was ≡ (has_key k r.pid && has_row fs r)
-same_copy k row r n es fs was old there is =
-    let has =
-    some_cond (same_row row r) (Some n) (lookup (same_row r) es) (lookup (same_row r) fs) is in
-    grind (arith, old, there, has, same_row_decides row r)
 
 -- where no row has the key of the process, none is counted
 pub none_of : (p : Pid) (es : Entries)
@@ -114,21 +90,35 @@ pub last_there : (es : Entries) (row : Row) (n : ℕ) → has_row (es ++ (row, n
 last_there [] row n = grind (arith, rows_equal.refl row)
 last_there (e ∷ es) row n = grind (arith, last_there es row n)
 
-own_case : (node : List ℕ) (row r : Row) (es : Entries) (o now : Option ℕ) → row.pid.node ≡ node
-    → AllByRecursion (λ e. e.0.pid.node ≡ node) es
-    → (b : Bool) → same_row row r ≡ b → now ≡ cond b o (lookup (same_row r) es) → is_some now ≡ true
-    → r.pid.node ≡ node
-own_case node row r es o now own a true e is h =
-    ap (λ (x : Row). x.pid.node) (sym ((same_row_decides row r).0 e)) ∙ own
-own_case node row r es o now own a false e is h = own_at node r es a (sym (ap is_some is) ∙ h)
+-- ---- the map and its indexes, where one row is written
 
--- all rows are the node's still, where one is put in, changed, or taken out
-pub own_set : (node : List ℕ) (row : Row) (es fs : Entries) (o : Option ℕ) → row.pid.node ≡ node
+abbrev ByGroup : Type 0
+ByGroup = BTreeMap (List ℕ) (SmallMap ProcessKey ℕ)
+
+abbrev ByProcess : Type 0
+ByProcess = BTreeMap ProcessKey (SmallMap Row (Unit {0}))
+
+-- a row gets a count, or is taken out
+pub hashed_write : {node : List ℕ} {es : Entries} {groups : ByGroup} {processes : ByProcess}
+    → IsHashed node es groups processes → (row : Row) → row.pid.node ≡ node
+    → (o : Option ℕ) (fs : Entries) (gs : ByGroup) (ps : ByProcess) → Once fs
     → ((r : Row) → lookup (same_row r) fs ≡ cond (same_row row r) o (lookup (same_row r) es))
-    → AllByRecursion (λ e. e.0.pid.node ≡ node) es → AllByRecursion (λ e. e.0.pid.node ≡ node) fs
-own_set node row es fs o own is a =
-    own_from node fs
-    (λ r h. own_case node row r es o (lookup (same_row r) fs) own a (same_row row r) refl (is r) h)
+    → ((g : List ℕ) (k : ProcessKey) → find_in text_cmp key_cmp gs g k
+    ≡ cond (eq_by_cmp text_cmp row.group g && eq_by_cmp key_cmp (key_of row.pid) k) o
+    (find_in text_cmp key_cmp groups g k))
+    → ((k : ProcessKey) (r : Row) → is_some (find_in key_cmp row_cmp ps k r)
+    ≡ cond (eq_by_cmp key_cmp (key_of row.pid) k && eq_by_cmp row_cmp row r) (is_some o)
+    (is_some (find_in key_cmp row_cmp processes k r)))
+    → IsHashed node fs gs ps
+hashed_write {node = node} {es = es} was row own o fs gs ps once is group process = record {
+  once = once;
+  own = own_from node fs
+      (λ r h. grind (arith, is r, h, own_at node r es was.own, own, same_row_decides row r));
+  by_group = λ g k. group g k
+      ∙ (λ i. cond (one_place node g k row own i) o (was.by_group g k i)) ∙ sym (is _);
+  by_process = λ k r. write_copy k row r (is_some o) _ _ (has_row es r) (has_row fs r)
+      (was.by_process k r) (process k r) (some_cond _ _ _ _ (is r));
+}
 
 -- ---- rows that are put in with no count
 
@@ -136,6 +126,12 @@ pub stands_append : (r : Row) (xs ys : List Counted)
     → stands r (xs ++ ys) ≡ (stands r xs || stands r ys)
 stands_append r [] ys = refl
 stands_append r (x ∷ xs) ys = grind (arith, stands_append r xs ys)
+
+pub stands_drop : (r : Row) (n : ℕ) (xs : List Counted) → stands r (drop n xs) ≡ true
+    → stands r xs ≡ true
+stands_drop r n xs h =
+    ap (stands r) (sym (take-append-drop n xs)) ∙ stands_append r (take n xs) (drop n xs)
+    ∙ or_right _ _ h
 
 pub grown_stands : (row r : Row) (old : List Counted)
     → stands r (old ++ cond (stands row old) [] (record { row = row; count = 0 } ∷ []))
@@ -161,11 +157,6 @@ grown_tally row test (c ∷ cs) = by (stands row (c ∷ cs))
         ≡ tally test (c ∷ cs)
     by true = ap (tally test) (append-nil (c ∷ cs))
     by false = zero_last (c ∷ cs)
-
-pub take_first : (xs ys : List Counted) (n : ℕ) → n ≤ length xs → take n (xs ++ ys) ≡ take n xs
-take_first xs ys zero l = refl
-take_first [] ys (suc n) l = absurd (omega (arith, l))
-take_first (x ∷ xs) ys (suc n) l = ap (λ zs. x ∷ zs) (take_first xs ys n (omega (arith, l)))
 
 pub stands_more : (r : Row) (more : List Counted) (i : ℕ) (c : Counted) → i < length more
     → c ≡ get_or more i c

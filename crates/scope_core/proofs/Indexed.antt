@@ -1,21 +1,16 @@
 -- The nodes of each group, and the rows.
 use Rattle.scope_core.proofs.Words.{◌≡◌, ℕ, ◌≤◌, ◌<◌, ◌&&◌, ◌+◌, Bool, true, false, cond, not}
-use Rattle.scope_core.proofs.Words.{nat_lt, List, [], ◌∷◌, ◌++◌, refl, sym, ap, ◌∙◌, arith}
-use Rattle.scope_core.proofs.Words.{list_any, length, same, same_decides, GroupChange, Joins}
-use Rattle.scope_core.proofs.Words.{how_many, Result, take, get_or, take_more, zero, suc, Row}
-use Rattle.scope_core.proofs.Words.{Counted, tally}
+use Rattle.scope_core.proofs.Words.{nat_lt, List, [], ◌∷◌, refl, sym, ap, ◌∙◌, arith, list_any}
+use Rattle.scope_core.proofs.Words.{length, same, same_decides, GroupChange, Joins, how_many}
+use Rattle.scope_core.proofs.Words.{Result, take, get_or, take_more, zero, suc, Row, Counted, tally}
 use Rattle.scope_core.proofs.Words.{AllByRecursion, is_of_node, of_node, is_there, has_members}
-use Rattle.scope_core.proofs.Words.{is_named, Covers}
+use Rattle.scope_core.proofs.Words.{is_named, Covers, OnOk, Ok, Err, Pid, how_many_append, is_row}
+use Rattle.scope_core.proofs.Words.{same_sym, text_cmp, without_node, subst, IsDifference, Tells}
+use Rattle.scope_core.proofs.Words.{is_some, lookup, is_eq}
 use Rattle.scope_core.proofs.NodeLists.{node_tally, lone_row}
-use Rattle.scope_core.proofs.Words.{OnOk, Ok, Err, Pid, how_many_append, is_row}
-use Rattle.scope_core.proofs.Words.{same_sym, text_cmp}
-use Rattle.std.specs.Option.{is_some}
-use Rattle.std.specs.Map.{lookup}
-use Rattle.std.specs.Ordering.{is_eq}
 use Rattle.scope_core.proofs.HashedRows.{one_text}
 use Rattle.scope_core.proofs.Unnamed.{named_moves, row_there, some_row}
-use Rattle.std.specs.Result.{is_err, OnErr}
-use Rattle.scope_core.proofs.Words.{without_node, subst, IsDifference, Tells}
+use Rattle.std.specs.Result.{OnErr}
 use Rattle.scope_core.proofs.Rising.{tally_none, tally_all}
 
 pub named_part : (g : List ℕ) (i : ℕ) (cs : List GroupChange) → is_named g (take i cs) ≡ true
@@ -27,17 +22,6 @@ named_part g (suc i) (x ∷ cs) e = grind (arith, named_part g i cs)
 there_of_node : (g n : List ℕ) (r : Row) → is_of_node n r ≡ false → is_there g n r ≡ false
 there_of_node g n r e = grind arith
 
-module _ (group node : List ℕ) (rows : List Counted) (was now : List ℕ → List ℕ → ℕ) where
-  pub settled_take : has_members group node rows ≡ false
-      → ((g n : List ℕ) → now g n ≡ cond (same group g && same node n) 0 (was g n)) → (g n : List ℕ)
-      → now g n ≡ cond ((same group g && same node n) && not (has_members g n rows)) 0 (was g n)
-  settled_take none took g n =
-      grind (arith, same_decides group g, same_decides node n, none, took g n)
-
-  pub settled_keep : has_members group node rows ≡ true → (g n : List ℕ)
-      → was g n ≡ cond ((same group g && same node n) && not (has_members g n rows)) 0 (was g n)
-  settled_keep some g n = grind (arith, same_decides group g, same_decides node n, some)
-
 -- where a growth is refused, some of them are put in
 pub put_some : (changes : List GroupChange) (i : ℕ) (node : List ℕ)
     (first old new : List ℕ → List ℕ → ℕ)
@@ -47,14 +31,6 @@ pub put_some : (changes : List GroupChange) (i : ℕ) (node : List ℕ)
     × (new g n ≡ cond (b && (same node n && is_named g changes)) 1 (first g n))
 put_some changes i node first old new so_far same_still g n =
     (is_named g (take i changes), grind (arith, so_far g n, same_still g n, named_part g i changes))
-
-pub err_is : {T E P : Type 0} (r : Result T E) → is_err r ≡ true → OnErr r P → P
-err_is (Ok x) e p = grind arith
-err_is (Err x) e p = p
-
-pub err_not : {T E P : Type 0} (r : Result T E) → is_err r ≡ false → OnOk r P → P
-err_not (Ok x) e p = p
-err_not (Err x) e p = grind arith
 
 module _ (changes : List GroupChange) (node : List ℕ) where
   -- what of them was put in is settled again
@@ -189,19 +165,6 @@ dropped node was list old new is indexed others own g n =
     ∙ ap (tally (is_there g node)) (sym is) in
     grind (arith, indexed g n, others g n, own g, none, stay, mine, same_decides node n)
 
--- the node is taken out of one of the groups to come, and then out of the others
-pub unnamed_next : {A : Type 0} (node : List ℕ) (x : List ℕ × A) (xs rest all : List (List ℕ × A))
-    (first old new : List ℕ → List ℕ → ℕ) → rest ≡ x ∷ xs
-    → ((g n : List ℕ)
-    → cond (list_any (λ e. same e.0 g) rest && same node n) 0 (old g n)
-    ≡ cond (list_any (λ e. same e.0 g) all && same node n) 0 (first g n))
-    → ((g n : List ℕ) → new g n ≡ cond (same x.0 g && same node n) 0 (old g n))
-    → (g n : List ℕ)
-    → cond (list_any (λ e. same e.0 g) xs && same node n) 0 (new g n)
-    ≡ cond (list_any (λ e. same e.0 g) all && same node n) 0 (first g n)
-unnamed_next node x xs rest all first old new e so_far took g n =
-    grind (arith, so_far g n, took g n, e)
-
 -- a group that is found is one of the entries
 pub got_named : {A : Type 0} (g : List ℕ) (es : List (List ℕ × A))
     → is_some (lookup (λ k. is_eq (text_cmp g k)) es) ≡ true → list_any (λ e. same e.0 g) es ≡ true
@@ -209,11 +172,6 @@ got_named g [] e = e
 got_named g (x ∷ es) e = grind (arith, got_named g es, one_text g x.0, same_sym g x.0)
 
 -- ---- the processes of a group
-
-names_append : (n : List ℕ) (xs ys : List (List ℕ))
-    → how_many (λ m. same m n) (xs ++ ys)
-    ≡ how_many (λ m. same m n) xs + how_many (λ m. same m n) ys
-names_append n xs ys = how_many_append (λ m. same m n) xs ys
 
 names_part : (n : List ℕ) (i : ℕ) (ns : List (List ℕ))
     → how_many (λ m. same m n) (take i ns) ≤ how_many (λ m. same m n) ns
@@ -236,7 +194,7 @@ gather_more nodes i x l at once g rows old new so_far next p =
         ≡ how_many (λ m. same m p.node) (take i nodes) + cond (same x p.node) 1 0
     step =
         simp (take_more nodes i x l, ← at)
-        (names_append p.node (take i nodes) (x ∷ []) ∙ grind arith)
+        (how_many_append (λ m. same m p.node) (take i nodes) (x ∷ []) ∙ grind arith)
 
 -- nobody is missing: where no node is named there is no row
 pub all_gathered : (g : List ℕ) (p : Pid) (rows : List Counted) (named : ℕ)

@@ -1,15 +1,14 @@
 -- What is kept of groups that stay as they are.
 use Rattle.scope_core.proofs.Words.{◌≡◌, ◌∙◌, ◌||◌, ◌+◌, ◌<◌, ◌++◌, ℕ, Bool, true, false, cond}
 use Rattle.scope_core.proofs.Words.{List, [], ◌∷◌, Some, refl, sym, ap, arith, length, take, get_or}
-use Rattle.scope_core.proofs.Words.{take_more}
-use Rattle.scope_core.proofs.Words.{GroupChange, IsDifference, IsPidListing, IsGroupListing}
-use Rattle.scope_core.proofs.Words.{Counted, Pid, list_any, same, same_decides, same_pid}
-use Rattle.scope_core.proofs.Words.{same_pid_decides, tally, is_row, is_named, has_members, Joins}
-use Rattle.scope_core.proofs.Words.{of_node, without_node}
+use Rattle.scope_core.proofs.Words.{take_more, GroupChange, IsDifference, IsPidListing}
+use Rattle.scope_core.proofs.Words.{IsGroupListing, Counted, Pid, list_any, same, same_decides}
+use Rattle.scope_core.proofs.Words.{same_pid, same_pid_decides, tally, is_row, is_named}
+use Rattle.scope_core.proofs.Words.{has_members, Joins, of_node, without_node, lookup, AreListings}
+use Rattle.scope_core.proofs.Words.{Forgets}
 use Rattle.scope_core.proofs.Rising.{gone_counts, kept_counts}
 use Rattle.scope_core.proofs.Unnamed.{unnamed_same, row_there}
-use Rattle.std.specs.Map.{lookup}
-use Rattle.scope_core.specs.Kept.{KeptLists, kept_of, AreListings, Forgets}
+use Rattle.scope_core.specs.Kept.{KeptLists, kept_of}
 
 -- a listing is one of each count that is the same
 still_listing : (before after : Pid → ℕ) (ps : List Pid) → ((p : Pid) → before p ≡ after p)
@@ -85,17 +84,6 @@ any_append : {A : Type 0} (test : A → Bool) (xs ys : List A)
 any_append test [] ys = refl
 any_append test (x ∷ xs) ys = grind (arith, any_append test xs ys)
 
--- what forgets some, and then others, forgets both
-pub forgets_both : (some others : List ℕ → Bool) (was then now : KeptLists) → Forgets some was then
-    → Forgets others then now → Forgets (λ g. some g || others g) was now
-forgets_both some others was then now first second = record {
-  pids = λ g. grind (arith, first.pids g, second.pids g);
-  groups = λ gs e.
-      let after = second.groups gs e in
-      let begun = first.groups gs after.0 in
-      (begun.0, λ g. grind (arith, begun.1 g, after.1 g));
-}
-
 -- once the lists of those to come are forgotten, those of all are
 abbrev pub Forgetting : {A : Type 0} → (List ℕ → A → Bool) → List A → List A → KeptLists → KeptLists
     → Type 0
@@ -104,13 +92,6 @@ Forgetting test all rest was now =
     → Forgets (λ g. list_any (test g) all) was later
 
 module _ {A : Type 0} (test : List ℕ → A → Bool) (all : List A) (was : KeptLists) where
-  pub forgets_next : (x : A) (xs rest : List A) (then now : KeptLists) → rest ≡ x ∷ xs
-      → Forgetting test all rest was then → Forgets (λ g. test g x) then now
-      → Forgetting test all xs was now
-  forgets_next x xs rest then now e so_far one later others =
-      so_far later (rw e
-      (forgets_both (λ g. test g x) (λ g. list_any (test g) xs) then now later one others))
-
   pub forgets_end : (rest : List A) (now : KeptLists) → length rest ≡ 0
       → Forgetting test all rest was now → Forgets (λ g. list_any (test g) all) was now
   forgets_end [] now e so_far =

@@ -1,22 +1,15 @@
 -- Counts that are lowered, one row after another, and raised again.
 use Rattle.scope_core.proofs.Words.{◌≡◌, ℕ, zero, suc, ◌+◌, ◌-◌, ◌<◌, ◌≤◌, ◌==◌, Bool, true, false}
-use Rattle.scope_core.proofs.Words.{cond}
-use Rattle.scope_core.proofs.Words.{List, [], ◌∷◌, ◌++◌, Option, None, Some, refl, sym, ap, subst}
-use Rattle.scope_core.proofs.Words.{◌∙◌}
-use Rattle.scope_core.proofs.Words.{arith, Row, Pid, Counted, same_row, tally, is_row, is_of_node}
-use Rattle.scope_core.proofs.Words.{are_all_in}
-use Rattle.scope_core.proofs.Words.{list_all, list_any, nat_lt, how_many, how_many_append, take}
-use Rattle.scope_core.proofs.Words.{drop, length, get_or, get_or_default, take_more, take_all}
-use Rattle.scope_core.proofs.Words.{HoldsAt}
-use Rattle.scope_core.proofs.Words.{take-append-drop, max_rows, le-leb, lt-leb}
-use Rattle.std.specs.Prelude.{IfSome}
-use Rattle.std.specs.Option.{unwrap_or}
+use Rattle.scope_core.proofs.Words.{cond, List, [], ◌∷◌, ◌++◌, Option, None, Some, refl, sym, ap}
+use Rattle.scope_core.proofs.Words.{subst, ◌∙◌, arith, Row, Pid, Counted, same_row, tally, is_row}
+use Rattle.scope_core.proofs.Words.{is_of_node, are_all_in, list_all, list_any, nat_lt, how_many}
+use Rattle.scope_core.proofs.Words.{how_many_append, take, drop, length, get_or, get_or_default}
+use Rattle.scope_core.proofs.Words.{take_more, take_all, HoldsAt, take-append-drop, max_rows}
+use Rattle.scope_core.proofs.Words.{le-leb, lt-leb, IfSome, unwrap_or, lookup, keys_of}
+use Rattle.scope_core.proofs.Words.{keys-set_value, counted_in, has_row, IsLowered}
 use Rattle.std.specs.List.{IsDistinct}
-use Rattle.std.specs.Map.{lookup, keys_of}
 use Rattle.std.proofs.lemmas.Bool.{eqb-true, eqb-false}
-use Rattle.std.proofs.lemmas.Map.{keys-set_value}
-use Rattle.scope_core.specs.HashedRows.{counted_in, has_row}
-use Rattle.scope_core.specs.LoweredRows.{once_more, raised, IsLowered}
+use Rattle.scope_core.specs.LoweredRows.{once_more, raised}
 use Rattle.scope_core.proofs.HashedRows.{count_is, set_tally, rows_equal, stands_is}
 use Rattle.scope_core.proofs.HashedWrites.{tally_stands}
 
@@ -39,9 +32,6 @@ more_tally : (row : Row) (es : Entries) → has_row es row ≡ true → (test : 
 more_tally row es there test =
     let more = suc (unwrap_or (lookup (same_row row) es) 0) in
     grind (arith, set_tally row more es there test)
-
-pub none_lowered : (es : Entries) → IsLowered [] es es
-none_lowered es = record { adds = λ test. omega arith; raised = refl; keys = refl }
 
 has_row_is : (r : Row) (es : Entries) → has_row es r ≡ list_any (same_row r) (keys_of es)
 has_row_is r [] = refl

@@ -1,18 +1,13 @@
 -- The indexes of a node, made of rows in order.
-use Rattle.scope_core.proofs.Words.{◌≡◌, ℕ, Bool, true, false, cond, List, [], ◌∷◌, map, None}
-use Rattle.scope_core.proofs.Words.{Some, refl, sym, ap, ◌∙◌, arith, length, get_or}
-use Rattle.scope_core.proofs.Words.{Less, AllByRecursion, Rises, text_cmp, same, same_row}
-use Rattle.scope_core.proofs.Words.{same_decides, tied_itself, texts_total, Row, Counted}
-use Rattle.scope_core.proofs.Words.{counted_cmp}
-use Rattle.std.specs.Ordering.{eq_by_cmp, is_eq}
-use Rattle.std.specs.Map.{lookup, keys_of}
+use Rattle.scope_core.proofs.Words.{◌≡◌, ℕ, Bool, true, false, cond, List, [], ◌∷◌, map, None, Some}
+use Rattle.scope_core.proofs.Words.{refl, sym, ap, ◌∙◌, arith, length, get_or, Less, AllByRecursion}
+use Rattle.scope_core.proofs.Words.{Rises, text_cmp, same, same_row, same_decides, tied_itself}
+use Rattle.scope_core.proofs.Words.{texts_total, Row, Counted, counted_cmp, ◌++◌, Pid, slice_get}
+use Rattle.scope_core.proofs.Words.{subst, eq_by_cmp, is_eq, lookup, keys_of, ProcessKey, SmallMap}
+use Rattle.scope_core.proofs.Words.{find, found, pid_of, key_of, key_cmp, entries_in}
 use Rattle.std.specs.List.{IsDistinct}
-use Rattle.scope_core.proofs.Words.{false, ◌++◌, Pid, slice_get, subst}
-use Rattle.scope_core.specs.declared.process_key.ProcessKey.{ProcessKey}
-use Rattle.scope_core.specs.declared.small_map.SmallMap.{SmallMap}
-use Rattle.scope_core.specs.SmallMap.{find, found}
-use Rattle.scope_core.proofs.Told.{AreAbove, AreIn, Run}
-use Rattle.scope_core.specs.HashedRows.{pid_of, key_of, key_cmp, entries_in}
+use Rattle.scope_core.proofs.Told.{AreAbove, AreIn, Run, all_front, all_back}
+use Rattle.scope_core.proofs.Rising.{all_map}
 use Rattle.scope_core.proofs.HashedRows.{one_key, one_text}
 
 -- a row's process and count, as the index of groups has them
@@ -116,18 +111,6 @@ none_other g h p (c ∷ cs) a n =
       n,
     )
 
-own_front : (node : List ℕ) (xs ys : List Counted)
-    → AllByRecursion (λ c. c.row.pid.node ≡ node) (xs ++ ys)
-    → AllByRecursion (λ c. c.row.pid.node ≡ node) xs
-own_front node [] ys a = tt
-own_front node (x ∷ xs) ys a = (a.0, own_front node xs ys a.1)
-
-own_back : (node : List ℕ) (xs ys : List Counted)
-    → AllByRecursion (λ c. c.row.pid.node ≡ node) (xs ++ ys)
-    → AllByRecursion (λ c. c.row.pid.node ≡ node) ys
-own_back node [] ys a = a
-own_back node (x ∷ xs) ys a = own_back node xs ys a.1
-
 of_one : (node g : List ℕ) (xs : List Counted) → AreIn g xs
     → AllByRecursion (λ c. c.row.pid.node ≡ node) xs → OfOne node g xs
 of_one node g [] a b = tt
@@ -147,22 +130,17 @@ module _ (group : List ℕ) (all xs cs : List Counted)
     → find key_cmp m k
     ≡ lookup (same_row (record { group = g; pid = pid_of node k })) (entries_in xs))
     (tail : Groups) (rest : Indexes cs tail) where
-  all_apart : (ks : List (List ℕ)) → AllByRecursion (λ h. text_cmp group h ≡ Less) ks
-      → AllByRecursion (λ h. eq_by_cmp text_cmp group h ≡ false) ks
-  all_apart [] l = tt
-  all_apart (k ∷ ks) l = (ap is_eq l.0, all_apart ks l.1)
-
   keys_apart : IsDistinct (eq_by_cmp text_cmp) (group ∷ keys_of tail)
   unfolding IsDistinct
-  keys_apart = (all_apart (keys_of tail) (rest.above group run.above), rest.apart)
+  keys_apart = (all_map _ _ (λ h e. ap is_eq e) _ (rest.above group run.above), rest.apart)
 
   all_above : (k : List ℕ) → AreAbove k all
       → AllByRecursion (λ h. text_cmp k h ≡ Less) (group ∷ keys_of tail)
-  all_above k a = (first k a, rest.above k (above_back xs cs (subst (AreAbove k) run.whole a)))
-    where
-      above_back : (ys ds : List Counted) → AreAbove k (ys ++ ds) → AreAbove k ds
-      above_back [] ds b = b
-      above_back (y ∷ ys) ds b = above_back ys ds b.1
+  all_above k a = (
+    first k a,
+    rest.above k
+        (all_back _ xs cs (subst (AreAbove k) run.whole a)),
+  )
 
   looked_parts : (node : List ℕ) → AllByRecursion (λ d. d.row.pid.node ≡ node) (xs ++ cs)
       → (g : List ℕ) (k : ProcessKey) → (b : Bool) → same g group ≡ b
@@ -173,14 +151,14 @@ module _ (group : List ℕ) (all xs cs : List Counted)
       let test = same_row (record { group = g; pid = pid_of node k }) in
       members node g
       (subst (λ h. OfOne node h xs) (sym is)
-      (of_one node group xs run.inside (own_front node xs cs own)))
+      (of_one node group xs run.inside (all_front _ xs cs own)))
       k
       ∙ sym
       (lookup_front test xs cs
       (none_above g (pid_of node k) cs (subst (λ h. AreAbove h cs) (sym is) run.above)))
   looked_parts node own g k false e =
       let test = same_row (record { group = g; pid = pid_of node k }) in
-      rest.looked node (own_back node xs cs own) g k
+      rest.looked node (all_back _ xs cs own) g k
       ∙ sym (lookup_back test xs cs (none_other group g (pid_of node k) xs run.inside e))
 
   pub indexes_next : Indexes all ((group, m) ∷ tail)

@@ -1,18 +1,17 @@
 -- The rows that lists of members and of changes tell of.
 use Rattle.scope_core.proofs.Words.{◌≡◌, ℕ, ◌-◌, false, cond, List, [], ◌∷◌, ◌++◌, map, refl, ◌∙◌}
-use Rattle.scope_core.proofs.Words.{Less, is_gt, AllByRecursion, flat_map, Pid, Row}
-use Rattle.scope_core.proofs.Words.{GroupChange, text_cmp, pid_cmp, row_cmp, same, same_row}
-use Rattle.scope_core.proofs.Words.{occurrences, mentions, total, Rises, Ascends}
-use Rattle.scope_core.proofs.Words.{IsRowListing, IsProper, IsDifference, same_sym, in_one_group}
-use Rattle.scope_core.proofs.Words.{how_many_append, all_append, is_row, row_in}
-use Rattle.scope_core.proofs.Words.{rows_left, rows_joined, arith, ◌≤◌, length, length-append}
-use Rattle.scope_core.proofs.Words.{filter, length-map, exact_bytes, IsPidListing}
-use Rattle.scope_core.proofs.Words.{IsGroupListing, texts_total, same_decides, same_pid_decides}
-use Rattle.scope_core.proofs.Words.{one_of_many, Table, count_of, node_total}
+use Rattle.scope_core.proofs.Words.{Less, is_gt, AllByRecursion, flat_map, Pid, Row, GroupChange}
+use Rattle.scope_core.proofs.Words.{text_cmp, pid_cmp, row_cmp, same, same_row, occurrences}
+use Rattle.scope_core.proofs.Words.{mentions, total, Rises, Ascends, IsRowListing, IsProper}
+use Rattle.scope_core.proofs.Words.{IsDifference, same_sym, in_one_group, how_many_append}
+use Rattle.scope_core.proofs.Words.{all_append, is_row, row_in, rows_left, rows_joined, arith, ◌≤◌}
+use Rattle.scope_core.proofs.Words.{length, length-append, filter, length-map, exact_bytes}
+use Rattle.scope_core.proofs.Words.{IsPidListing, IsGroupListing, texts_total, same_decides}
+use Rattle.scope_core.proofs.Words.{same_pid_decides, one_of_many, Table, count_of, node_total}
+use Rattle.scope_core.proofs.Words.{filter-append}
 use Rattle.scope_core.proofs.Calls.{mentions_in}
 use Rattle.scope_core.proofs.Rising.{all_map, all_unmapped}
 use Rattle.scope_core.proofs.Shares.{same_rows, fewer_rows}
-use Rattle.std.proofs.lemmas.List.Elements.{filter-append}
 
 -- rows of one group ascend as their processes
 not_above_in : (g : List ℕ) (p : Pid) (ps : List Pid)
@@ -30,8 +29,7 @@ rows_ascend g (p ∷ ps) rest a b r =
     let below =
     all_map (λ s. text_cmp g s.group ≡ Less) (λ s. is_gt (row_cmp (row_in g p) s) ≡ false)
     (λ s l. grind (arith, l)) rest b in (
-      all_append (λ s. is_gt (row_cmp (row_in g p) s) ≡ false) (map (row_in g) ps) rest
-          (not_above_in g p ps a.0) below,
+      all_append _ _ _ (not_above_in g p ps a.0) below,
       rows_ascend g ps rest a.1 b r,
     )
 
@@ -44,7 +42,7 @@ module _ (part : GroupChange → List Pid) where
       → AllByRecursion (λ r. text_cmp g r.group ≡ Less) (moved changes)
   moved_above g [] a = tt
   moved_above g (c ∷ cs) a =
-      all_append (λ r. text_cmp g r.group ≡ Less) (map (row_in c.group) (part c)) (moved cs)
+      all_append _ _ _
       (alone (part c)) (moved_above g cs a.1)
     where
       alone : (ps : List Pid)
@@ -80,7 +78,7 @@ pub left_listing : (before after : List ℕ → Pid → ℕ) (changes : List Gro
 left_listing before after changes d = record {
   ascends =
       moved_ascends (λ c. c.left) changes d.groups
-      (all_map IsProper (λ c. Ascends pid_cmp c.left) (λ c p. p.left) changes d.proper);
+      (all_map IsProper _ (λ c p. p.left) changes d.proper);
   counts = λ x. moved_counts (λ c. c.left) x changes ∙ d.left x.group x.pid;
 }
 
@@ -91,7 +89,7 @@ pub joined_listing : (before after : List ℕ → Pid → ℕ) (changes : List G
 joined_listing before after changes d = record {
   ascends =
       moved_ascends (λ c. c.joined) changes d.groups
-      (all_map IsProper (λ c. Ascends pid_cmp c.joined) (λ c p. p.joined) changes d.proper);
+      (all_map IsProper _ (λ c p. p.joined) changes d.proper);
   counts = λ x. moved_counts (λ c. c.joined) x changes ∙ d.joined x.group x.pid;
 }
 

@@ -1,12 +1,11 @@
 -- Processes in order: those that are the same stand in a run.
 use Rattle.scope_core.proofs.Words.{◌≡◌, ℕ, zero, suc, ◌+◌, ◌≤◌, min, true, false, List, [], ◌∷◌}
-use Rattle.scope_core.proofs.Words.{◌++◌, take, drop, replicate, length, refl, ap, ◌∙◌}
-use Rattle.scope_core.proofs.Words.{sym, subst, arith, inl, inr, is_gt, AllByRecursion, AllWithin}
-use Rattle.scope_core.proofs.Words.{IsPartitionedBy, cases_lt, take-append-drop}
-use Rattle.scope_core.proofs.Words.{append_assoc, length-take-le, length-filter, Pid, pid_cmp}
-use Rattle.scope_core.proofs.Words.{same_pid, mentions, Ascends, pids_total, exact_pids}
-use Rattle.scope_core.proofs.Words.{same_pid_decides, how_many_is, how_many_append}
-use Rattle.scope_core.proofs.Words.{how_many_replicate}
+use Rattle.scope_core.proofs.Words.{◌++◌, take, drop, replicate, length, refl, ap, ◌∙◌, sym, subst}
+use Rattle.scope_core.proofs.Words.{arith, inl, inr, is_gt, AllByRecursion, AllWithin}
+use Rattle.scope_core.proofs.Words.{IsPartitionedBy, cases_lt, take-append-drop, append_assoc}
+use Rattle.scope_core.proofs.Words.{length-take-le, length-filter, Pid, pid_cmp, same_pid, mentions}
+use Rattle.scope_core.proofs.Words.{Ascends, pids_total, exact_pids, same_pid_decides, how_many_is}
+use Rattle.scope_core.proofs.Words.{how_many_append, how_many_replicate}
 use Rattle.scope_core.proofs.Runs.{all_at, filter_takes}
 
 -- where neither comes after the other, they are the same

@@ -1,12 +1,10 @@
 -- Rows that come, counted, and what they are more than others.
-use Rattle.scope_core.proofs.Words.{append_assoc, picked, zero, suc, ◌≡◌, ℕ, ◌<◌, ◌≤◌}
-use Rattle.scope_core.proofs.Words.{Bool, cond, List, [], ◌∷◌, ◌++◌, drop, Some, slice_get, refl}
-use Rattle.scope_core.proofs.Words.{◌∙◌, arith}
+use Rattle.scope_core.proofs.Words.{append_assoc, picked, zero, suc, ◌≡◌, ℕ, ◌<◌, ◌≤◌, Bool, cond}
+use Rattle.scope_core.proofs.Words.{List, [], ◌∷◌, ◌++◌, drop, Some, slice_get, refl, ◌∙◌, arith}
 use Rattle.scope_core.proofs.Words.{Less, AllByRecursion, tied_itself, exact_rows, rows_total}
 use Rattle.scope_core.proofs.Words.{same_row_decides, same_row, Rises, row_cmp, Row, Counted}
-use Rattle.scope_core.proofs.Words.{counted_cmp, tally, is_row}
+use Rattle.scope_core.proofs.Words.{counted_cmp, tally, is_row, ◌≢◌}
 use Rattle.scope_core.proofs.Rising.{once, tally_absent, all_map}
-use Rattle.std.specs.Prelude.{◌≢◌}
 
 -- a row below all of these isn't among them
 pub below_none : (row : Row) (cs : List Counted) → AllByRecursion (λ c. row_cmp row c.row ≡ Less) cs
@@ -23,12 +21,6 @@ pub first_counted : (b : Bool) (row : Row) (rows : List Counted) (c : Counted)
     → cond b c.count 0 ≡ tally (is_row row.group row.pid) rows
 first_counted b row [] c e same a = grind arith
 first_counted b row (x ∷ xs) c e same a = grind (arith, e, same, below_none row xs a)
-
--- a lower row counts for none that isn't lower
-pub low_next : (row r : Row) (c : Counted) (cs : List Counted) → row_cmp c.row row ≡ Less
-    → row_cmp r row ≢ Less
-    → tally (is_row r.group r.pid) (c ∷ cs) ≡ tally (is_row r.group r.pid) cs
-low_next row r c cs l n = grind (arith, same_row_decides c.row r, l, n)
 
 -- what is above a row that isn't lower than another is above that one
 above_next : (row : Row) (c d : Counted) → row_cmp c.row row ≢ Less → counted_cmp c d ≡ Less
@@ -47,8 +39,7 @@ pub above_all : (row : Row) (c : Counted) (cs : List Counted) → row_cmp c.row 
     → AllByRecursion (λ d. counted_cmp c d ≡ Less) cs
     → AllByRecursion (λ d. row_cmp row d.row ≡ Less) cs
 above_all row c cs n a =
-    all_map (λ d. counted_cmp c d ≡ Less) (λ d. row_cmp row d.row ≡ Less)
-    (λ d. above_next row c d n) cs a
+    all_map _ _ (λ d. above_next row c d n) cs a
 
 -- ---- a row on, in the loop over rows of which some are more
 

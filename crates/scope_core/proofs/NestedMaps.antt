@@ -1,13 +1,8 @@
 -- One change of an ordered map of small maps, at both keys.
-use Rattle.scope_core.proofs.Words.{◌≡◌, ◌&&◌, Bool, true, false, cond, Option, Some, refl, sym, ap}
-use Rattle.scope_core.proofs.Words.{◌∙◌, arith, Ordering, Equal, List, [], ◌∷◌, length, tied_itself}
-use Rattle.std.specs.Option.{is_some}
-use Rattle.std.specs.Ordering.{eq_by_cmp, is_eq}
-use Rattle.std.specs.Cmp.{IsTotalOrder}
-use Rattle.std.specs.Map.{lookup}
-use Rattle.std.specs.BTreeMap.{BTreeMap, get}
-use Rattle.scope_core.specs.declared.small_map.SmallMap.{SmallMap}
-use Rattle.scope_core.specs.SmallMap.{find, found, find_in}
+use Rattle.scope_core.proofs.Words.{◌≡◌, ◌&&◌, Bool, true, cond, Option, Some, refl, sym, ap, arith}
+use Rattle.scope_core.proofs.Words.{Ordering, Equal, List, [], ◌∷◌, length, tied_itself, is_some}
+use Rattle.scope_core.proofs.Words.{eq_by_cmp, is_eq, IsTotalOrder, lookup, BTreeMap, get, SmallMap}
+use Rattle.scope_core.proofs.Words.{find, found, find_in}
 
 equal_from : (o : Ordering) → is_eq o ≡ true → o ≡ Equal
 equal_from o e = grind arith
@@ -28,38 +23,21 @@ module _ {A B V : Type 0} {outer : A → A → Ordering} (total : IsTotalOrder o
       → found inner o b ≡ cond hit w (find inner s b)
       → find_in outer inner n a b
       ≡ cond (eq_by_cmp outer key a && hit) w (find_in outer inner m a b)
-  set_at m n key a b hit w s o e there is =
-      ap (λ v. found inner v b) e ∙ by (eq_by_cmp outer key a) refl
-    where
-      by : (c : Bool) → eq_by_cmp outer key a ≡ c
-          → found inner (cond c o (get outer m a)) b ≡ cond (c && hit) w (find_in outer inner m a b)
-      by true h = is ∙ ap (λ v. cond hit w (found inner v b)) (there ∙ sym (get_equal m key a h))
-      by false h = refl
+  set_at m n key a b hit w s o e there is = grind (arith, e, there, is, get_equal m key a)
 
   -- or it has what it had
   pub same_at : (m n : BTreeMap A (SmallMap B V)) (key a : A) (b : B) (s : SmallMap B V)
       (o : Option (SmallMap B V))
       → get outer n a ≡ cond (eq_by_cmp outer key a) o (get outer m a) → Some s ≡ get outer m key
       → found inner o b ≡ find inner s b → find_in outer inner n a b ≡ find_in outer inner m a b
-  same_at m n key a b s o e there is = ap (λ v. found inner v b) e ∙ by (eq_by_cmp outer key a) refl
-    where
-      by : (c : Bool) → eq_by_cmp outer key a ≡ c
-          → found inner (cond c o (get outer m a)) b ≡ find_in outer inner m a b
-      by true h = is ∙ ap (λ v. found inner v b) (there ∙ sym (get_equal m key a h))
-      by false h = refl
+  same_at m n key a b s o e there is = grind (arith, e, there, is, get_equal m key a)
 
   -- what is set twice is what was set last
   pub after_two : (m n l : BTreeMap A (SmallMap B V)) (key a : A) (o w : Option (SmallMap B V))
       → get outer n a ≡ cond (eq_by_cmp outer key a) w (get outer m a)
       → get outer l a ≡ cond (eq_by_cmp outer key a) o (get outer n a)
       → get outer l a ≡ cond (eq_by_cmp outer key a) o (get outer m a)
-  after_two m n l key a o w e f =
-      f ∙ ap (λ v. cond (eq_by_cmp outer key a) o v) e
-      ∙ split (eq_by_cmp outer key a) (get outer m a)
-    where
-      split : (b : Bool) (x : Option (SmallMap B V)) → cond b o (cond b w x) ≡ cond b o x
-      split true x = refl
-      split false x = refl
+  after_two m n l key a o w e f = grind (arith, e, f)
 
 -- a list of entries that isn't empty has a key
 pub some_entry : {K V : Type 0} {cmp : K → K → Ordering} → IsTotalOrder cmp → (es : List (K × V))

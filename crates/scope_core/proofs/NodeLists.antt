@@ -1,21 +1,17 @@
 -- The list of one node among those of all.
 use Rattle.scope_core.proofs.Words.{◌≡◌, ℕ, ◌+◌, ◌≤◌, Bool, true, false, not, List, [], ◌∷◌, ◌++◌}
-use Rattle.scope_core.proofs.Words.{None, Some, refl, sym, ap, subst, ◌∙◌}
-use Rattle.scope_core.proofs.Words.{arith, filter, AllByRecursion, Counted, Row, Pid, same}
-use Rattle.scope_core.proofs.Words.{same_decides, same_sym, tally, AreCounted, max_rows}
-use Rattle.scope_core.proofs.Words.{is_of_node}
-use Rattle.scope_core.proofs.Words.{without_node, Joins, same_pid_decides, is_row, same_row}
-use Rattle.scope_core.proofs.Words.{occurrences, nat_le, list_all, ◌&&◌}
-use Rattle.scope_core.proofs.Words.{are_all_in, All, all_from, length, ◌==◌, total}
+use Rattle.scope_core.proofs.Words.{None, Some, refl, sym, ap, subst, ◌∙◌, arith, filter}
+use Rattle.scope_core.proofs.Words.{AllByRecursion, Counted, Row, Pid, same, same_decides, same_sym}
+use Rattle.scope_core.proofs.Words.{tally, AreCounted, max_rows, is_of_node, without_node, Joins}
+use Rattle.scope_core.proofs.Words.{same_pid_decides, is_row, same_row, occurrences, nat_le}
+use Rattle.scope_core.proofs.Words.{list_all, ◌&&◌, are_all_in, All, length, ◌==◌, total, of_node}
+use Rattle.scope_core.proofs.Words.{IsNodeList, all_rows, IsDistinct-head, IsDistinct-tail, keys_of}
+use Rattle.scope_core.proofs.Words.{lookup, set_value, remove_entry, append-nil, filter-append}
+use Rattle.scope_core.proofs.Words.{insert_entry, recursion_from_All}
 use Rattle.scope_core.proofs.Rising.{all_unmapped, tally_all, own_from_tally}
 use Rattle.scope_core.proofs.Tallies.{tally_append}
-use Rattle.scope_core.specs.NodeLists.{all_rows, of_node, IsNodeList}
 use Rattle.std.specs.List.{IsDistinct}
-use Rattle.std.specs.Map.{keys_of, lookup, set_value, remove_entry}
 use Rattle.std.proofs.lemmas.Map.{none_passes_from_lookup}
-use Rattle.std.proofs.lemmas.List.{append-nil}
-use Rattle.std.proofs.lemmas.List.Elements.{filter-append}
-use Rattle.indexmap.specs.IndexMap.{insert_entry}
 
 abbrev pub Lists : Type 0
 Lists = List (List ℕ × List Counted)
@@ -34,16 +30,10 @@ Others node es = AllByRecursion (λ e. same node e.0 ≡ false) es
 
 rest_others : (node : List ℕ) (e : List ℕ × List Counted) (es : Lists)
     → IsDistinct same (keys_of (e ∷ es)) → same node e.0 ≡ true → Others node es
-unfolding IsDistinct
 rest_others node e es d h =
     all_unmapped (λ k. same node k ≡ false) (λ x. x.0) es
     (subst (λ n. AllByRecursion (λ k. same n k ≡ false) (keys_of es))
-    (sym ((same_decides node e.0).0 h)) d.0)
-
-rest_apart : (e : List ℕ × List Counted) (es : Lists) → IsDistinct same (keys_of (e ∷ es))
-    → IsDistinct same (keys_of es)
-unfolding IsDistinct
-rest_apart e es d = d.1
+    (sym ((same_decides node e.0).0 h)) (IsDistinct-head _ _ _ d))
 
 module _ (node : List ℕ) where
   -- ---- where all rows of other nodes stay
@@ -115,7 +105,7 @@ module _ (node : List ℕ) where
       → lookup (same node) es ≡ Some v → of_node node (all_rows es) ≡ v
   own_all [] v a d found = grind arith
   own_all (e ∷ es) v a d found =
-      let rest = own_all es v a.1 (rest_apart e es d) in
+      let rest = own_all es v a.1 (IsDistinct-tail _ _ _ d) in
       let none =
       λ (h : same node e.0 ≡ true).
       none_all (λ c. is_of_node node c.row) of_others es a.1 (rest_others node e es d h) in
@@ -196,7 +186,7 @@ module _ (node : List ℕ) where
   removed_all (e ∷ es) a d =
       let keep = λ (c : Counted). not (same c.row.pid.node node) in
       let others = λ (c : Counted) (h : same c.row.pid.node node ≡ false). ap not h in
-      let rest = removed_all es a.1 (rest_apart e es d) in
+      let rest = removed_all es a.1 (IsDistinct-tail _ _ _ d) in
       let stay =
       λ (h : same node e.0 ≡ true). kept_all keep others es a.1 (rest_others node e es d h) in
       let mine =
@@ -307,7 +297,7 @@ module _ (node : List ℕ) where
       → are_all_in rows gone ≡ are_all_in some gone
   all_in_list gone own rows some is =
       all_in_each gone rows some (sym is) gone
-      (all_from (λ r. r.pid.node ≡ node) gone (λ k d l h. own k d h))
+      (recursion_from_All _ _ own)
 
 -- among no rows is none
 pub none_in : (gone : List Row) → are_all_in [] gone ≡ (length gone == 0)

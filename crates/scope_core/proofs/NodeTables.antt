@@ -1,25 +1,23 @@
 -- The tables of all nodes, and what a call does to one of them.
-use Rattle.scope_core.proofs.Words.{◌≡◌, ℕ, ◌+◌, ◌≤◌, Bool, true, false, not, List, [], ◌∷◌}
-use Rattle.scope_core.proofs.Words.{Option, None, Some, refl, sym, ap, subst, ◌∙◌}
-use Rattle.scope_core.proofs.Words.{arith, AllByRecursion, Counted, Row, Pid, same}
-use Rattle.scope_core.proofs.Words.{same_pid, same_decides, tally, max_rows}
-use Rattle.scope_core.proofs.Words.{is_of_node}
-use Rattle.scope_core.proofs.Words.{without_node, Joins, is_row}
-use Rattle.scope_core.proofs.Words.{cond, length, total}
+use Rattle.scope_core.proofs.Words.{◌≡◌, ℕ, ◌+◌, ◌≤◌, Bool, true, false, not, List, [], ◌∷◌, Option}
+use Rattle.scope_core.proofs.Words.{None, Some, refl, sym, ap, subst, ◌∙◌, arith, AllByRecursion}
+use Rattle.scope_core.proofs.Words.{Counted, Row, Pid, same, same_pid, same_decides, tally}
+use Rattle.scope_core.proofs.Words.{max_rows, is_of_node, without_node, Joins, is_row, cond, length}
+use Rattle.scope_core.proofs.Words.{total, is_there, length-append, has_members, nat_lt, of_node}
+use Rattle.scope_core.proofs.Words.{IsNodeList, all_rows, rows_by_node, NodeTable, IfSome, keys_of}
+use Rattle.scope_core.proofs.Words.{lookup, set_value, remove_entry, keys-set_value, insert_entry}
 use Rattle.scope_core.proofs.Rising.{kept_counts}
-use Rattle.scope_core.specs.NodeLists.{all_rows, of_node, IsNodeList, AreNodeLists, rows_by_node}
-use Rattle.scope_core.specs.HashedRows.{NodeTable}
+use Rattle.scope_core.specs.NodeLists.{AreNodeLists}
 use Rattle.std.specs.Option.{option_map, option_copied, IfNone}
 use Rattle.std.proofs.Common.{Bor}
-use Rattle.std.specs.Prelude.{IfSome, IfOk, Result, Ok, Err}
-use Rattle.scope_core.proofs.Words.{is_there, length-append}
 use Rattle.std.specs.List.{IsDistinct}
-use Rattle.std.specs.Map.{keys_of, lookup, set_value, remove_entry}
-use Rattle.std.proofs.lemmas.Map.{keys-set_value}
-use Rattle.indexmap.specs.IndexMap.{insert_entry}
 use Rattle.scope_core.proofs.NodeLists.{Lists, Each, AreLists, no_list, own_list, list_found}
 use Rattle.scope_core.proofs.NodeLists.{set_tally, put_tally, removed_rows, set_same, node_tally}
 use Rattle.scope_core.proofs.NodeLists.{list_fits, none_filtered, row_tally}
+
+-- each table is that of its node
+abbrev AllTables : List (List ℕ × NodeTable) → Type 0
+AllTables es = AllByRecursion (λ e. (e.1.node ≡ e.0) × IsNodeList e.0 e.1.rows) es
 
 -- ---- the lists of tables
 
@@ -56,7 +54,7 @@ lists_of es are =
     }
   where
     each : (es : List (List ℕ × NodeTable))
-        → AllByRecursion (λ e. (e.1.node ≡ e.0) × IsNodeList e.0 e.1.rows) es
+        → AllTables es
         → Each (rows_by_node es)
     each [] a = tt
     each (e ∷ es) a = (a.0.1, each es a.1)
@@ -69,7 +67,7 @@ module _ (n : List ℕ) where
   by_name es t found = lookup_by_node n es ∙ ap (option_map (λ x. x.rows)) found
 
   pub table_node : (es : List (List ℕ × NodeTable)) (t : NodeTable)
-      → AllByRecursion (λ e. (e.1.node ≡ e.0) × IsNodeList e.0 e.1.rows) es
+      → AllTables es
       → lookup (same n) es ≡ Some t → t.node ≡ n
   table_node [] t a found = grind arith
   table_node (e ∷ es) t a found =
@@ -79,6 +77,12 @@ module _ (n : List ℕ) where
       → lookup (same n) es ≡ Some t → IsNodeList n t.rows
   table_list es t are found =
       list_found n (rows_by_node es) t.rows (lists_of es are) (by_name es t found)
+
+  pub table_lists : (es : List (List ℕ × NodeTable)) (t : NodeTable) → AreNodeLists es
+      → lookup (same n) es ≡ Some t → IsNodeList t.node t.rows
+  table_lists es t are found =
+      subst (λ k. IsNodeList k t.rows) (sym (table_node es t are.each found))
+      (table_list es t are found)
 
   pub table_rows : (es : List (List ℕ × NodeTable)) (t : NodeTable) → AreNodeLists es
       → lookup (same n) es ≡ Some t → t.rows ≡ of_node n (all_rows (rows_by_node es))
@@ -91,25 +95,17 @@ module _ (n : List ℕ) where
       no_list n (rows_by_node es) (lists_of es are)
       (lookup_by_node n es ∙ ap (option_map (λ x. x.rows)) none)
 
-  tables_case : (b : Bool) (e : List ℕ × NodeTable) (es : List (List ℕ × NodeTable))
-      → AllByRecursion (λ x. (x.1.node ≡ x.0) × IsNodeList x.0 x.1.rows) (e ∷ es)
-      → AllByRecursion (λ x. (x.1.node ≡ x.0) × IsNodeList x.0 x.1.rows) (remove_entry (same n) es)
-      → AllByRecursion (λ x. (x.1.node ≡ x.0) × IsNodeList x.0 x.1.rows)
-      (cond b es (e ∷ remove_entry (same n) es))
-  tables_case true e es a rest = a.1
-  tables_case false e es a rest = (a.0, rest)
-
   tables_rest : (es : List (List ℕ × NodeTable))
-      → AllByRecursion (λ x. (x.1.node ≡ x.0) × IsNodeList x.0 x.1.rows) es
-      → AllByRecursion (λ x. (x.1.node ≡ x.0) × IsNodeList x.0 x.1.rows) (remove_entry (same n) es)
+      → AllTables es
+      → AllTables (remove_entry (same n) es)
   tables_rest [] a = tt
-  tables_rest (e ∷ es) a = tables_case (same n e.0) e es a (tables_rest es a.1)
+  tables_rest (e ∷ es) a = grind (arith, tables_rest es a.1, a.0, a.1)
 
   pub tables_removed : (es new : List (List ℕ × NodeTable)) → AreNodeLists es
       → new ≡ remove_entry (same n) es → IsDistinct same (keys_of new) → AreNodeLists new
   tables_removed es new are is apart = record {
     each =
-        subst (AllByRecursion (λ x. (x.1.node ≡ x.0) × IsNodeList x.0 x.1.rows)) (sym is)
+        subst AllTables (sym is)
         (tables_rest es are.each);
     apart = apart;
   }
@@ -137,27 +133,23 @@ module _ (n : List ℕ) where
           omega (arith, e, (table_list es t are found).few n)
 
   -- another table in the place of the node's, or a first one
-  put_case : (b : Bool) (e : List ℕ × NodeTable) (es : List (List ℕ × NodeTable)) (t : NodeTable)
-      → same n e.0 ≡ b → t.node ≡ n → IsNodeList n t.rows
-      → AllByRecursion (λ x. (x.1.node ≡ x.0) × IsNodeList x.0 x.1.rows) (e ∷ es)
-      → AllByRecursion (λ x. (x.1.node ≡ x.0) × IsNodeList x.0 x.1.rows) (insert_entry same es n t)
-      → AllByRecursion (λ x. (x.1.node ≡ x.0) × IsNodeList x.0 x.1.rows)
-      (cond b ((e.0, t) ∷ es) (e ∷ insert_entry same es n t))
-  put_case true e es t h m is a rest = let here = (same_decides n e.0).0 h in
-      ((m ∙ here, subst (λ k. IsNodeList k t.rows) here is), a.1)
-  put_case false e es t h m is a rest = (a.0, rest)
-
   put_each : (es : List (List ℕ × NodeTable)) (t : NodeTable) → t.node ≡ n → IsNodeList n t.rows
-      → AllByRecursion (λ x. (x.1.node ≡ x.0) × IsNodeList x.0 x.1.rows) es
-      → AllByRecursion (λ x. (x.1.node ≡ x.0) × IsNodeList x.0 x.1.rows) (insert_entry same es n t)
+      → AllTables es
+      → AllTables (insert_entry same es n t)
   put_each [] t m is a = ((m, is), tt)
-  put_each (e ∷ es) t m is a = put_case (same n e.0) e es t refl m is a (put_each es t m is a.1)
+  put_each (e ∷ es) t m is a = put_case (same n e.0) refl (put_each es t m is a.1)
+    where
+      put_case : (b : Bool) → same n e.0 ≡ b → AllTables (insert_entry same es n t)
+          → AllTables (cond b ((e.0, t) ∷ es) (e ∷ insert_entry same es n t))
+      put_case true h rest = let here = (same_decides n e.0).0 h in
+          ((m ∙ here, subst (λ k. IsNodeList k t.rows) here is), a.1)
+      put_case false h rest = (a.0, rest)
 
   pub tables_put : (es new : List (List ℕ × NodeTable)) (t : NodeTable) → AreNodeLists es
       → t.node ≡ n → IsNodeList n t.rows → new ≡ insert_entry same es n t
       → IsDistinct same (keys_of new) → AreNodeLists new
   tables_put es new t are m is e apart = record {
-    each = subst (AllByRecursion (λ x. (x.1.node ≡ x.0) × IsNodeList x.0 x.1.rows)) (sym e)
+    each = subst AllTables (sym e)
         (put_each es t m is are.each);
     apart = apart;
   }
@@ -202,52 +194,20 @@ pub if_none : {A Q : Type 0} (o : Option (Bor A)) (l : Option A) → option_copi
 if_none None l e f = f (sym e)
 if_none (Some b) l e f = tt
 
-pub if_ok : {T E : Type 0} {P Q : T → Type 0} (r : Result T E) → ((x : T) → P x → Q x) → IfOk r P
-    → IfOk r Q
-if_ok (Ok x) f p = f x p
-if_ok (Err e) f p = tt
-
 -- ---- another table in the place of one
 
 module _ (n : List ℕ) where
-  set_case : (b : Bool) (e : List ℕ × NodeTable) (es : List (List ℕ × NodeTable)) (t : NodeTable)
-      → same n e.0 ≡ b → t.node ≡ n → IsNodeList n t.rows
-      → (e.1.node ≡ e.0) × IsNodeList e.0 e.1.rows
-      → AllByRecursion (λ x. (x.1.node ≡ x.0) × IsNodeList x.0 x.1.rows) es
-      → AllByRecursion (λ x. (x.1.node ≡ x.0) × IsNodeList x.0 x.1.rows) (set_value (same n) es t)
-      → AllByRecursion (λ x. (x.1.node ≡ x.0) × IsNodeList x.0 x.1.rows)
-      (cond b ((e.0, t) ∷ es) (e ∷ set_value (same n) es t))
-  set_case true e es t h m is a rest new = (
-    (
-      m ∙ (same_decides n e.0).0 h,
-      subst (λ k. IsNodeList k t.rows) ((same_decides n e.0).0 h)
-          is,
-    ),
-    rest,
-  )
-  set_case false e es t h m is a rest new = (a, new)
-
   set_each : (es : List (List ℕ × NodeTable)) (t : NodeTable) → t.node ≡ n → IsNodeList n t.rows
-      → AllByRecursion (λ x. (x.1.node ≡ x.0) × IsNodeList x.0 x.1.rows) es
-      → AllByRecursion (λ x. (x.1.node ≡ x.0) × IsNodeList x.0 x.1.rows) (set_value (same n) es t)
+      → AllTables es
+      → AllTables (set_value (same n) es t)
   set_each [] t m is a = tt
-  set_each (e ∷ es) t m is a =
-      set_case (same n e.0) e es t refl m is a.0 a.1 (set_each es t m is a.1)
-
-  pub tables_set : (es : List (List ℕ × NodeTable)) (t : NodeTable) → AreNodeLists es → t.node ≡ n
-      → IsNodeList n t.rows → AreNodeLists (set_value (same n) es t)
-  tables_set es t are m is = record {
-    each = set_each es t m is are.each;
-    apart = subst (IsDistinct same) (sym (keys-set_value (same n) es t)) are.apart;
-  }
-
-  pub tables_tally : (es : List (List ℕ × NodeTable)) (v t : NodeTable)
-      → lookup (same n) es ≡ Some v → (test : Row → Bool)
-      → tally test (all_rows (rows_by_node (set_value (same n) es t))) + tally test v.rows
-      ≡ tally test (all_rows (rows_by_node es)) + tally test t.rows
-  tables_tally es v t found test =
-      ap (λ xs. tally test (all_rows xs) + tally test v.rows) (set_by_node n t es)
-      ∙ set_tally n (rows_by_node es) v.rows t.rows (by_name n es v found) test
+  set_each (e ∷ es) t m is a = set_case (same n e.0) refl (set_each es t m is a.1)
+    where
+      set_case : (b : Bool) → same n e.0 ≡ b → AllTables (set_value (same n) es t)
+          → AllTables (cond b ((e.0, t) ∷ es) (e ∷ set_value (same n) es t))
+      set_case true h rest = let here = (same_decides n e.0).0 h in
+          ((m ∙ here, subst (λ k. IsNodeList k t.rows) here is), a.1)
+      set_case false h rest = (a.0, rest)
 
   set_length : (es : Lists) (v w : List Counted) → lookup (same n) es ≡ Some v
       → length (all_rows (set_value (same n) es w)) + length v ≡ length (all_rows es) + length w
@@ -263,34 +223,55 @@ module _ (n : List ℕ) where
         found,
       )
 
-  pub tables_length : (es : List (List ℕ × NodeTable)) (v t : NodeTable)
-      → lookup (same n) es ≡ Some v
-      → length (all_rows (rows_by_node (set_value (same n) es t))) + length v.rows
-      ≡ length (all_rows (rows_by_node es)) + length t.rows
-  tables_length es v t found =
-      ap (λ xs. length (all_rows xs) + length v.rows) (set_by_node n t es)
-      ∙ set_length (rows_by_node es) v.rows t.rows (by_name n es v found)
+-- w in the place of v, which is the node's
+module _ (n : List ℕ) (es fs : List (List ℕ × NodeTable)) (v w : NodeTable)
+    (found : lookup (same n) es ≡ Some v) (is : fs ≡ set_value (same n) es w) where
+  abbrev all_now : List Counted
+  all_now = all_rows (rows_by_node fs)
 
-  pub tables_same : (es : List (List ℕ × NodeTable)) (v t : NodeTable) → lookup (same n) es ≡ Some v
-      → t.rows ≡ v.rows
-      → all_rows (rows_by_node (set_value (same n) es t)) ≡ all_rows (rows_by_node es)
-  tables_same es v t found is =
-      ap all_rows (set_by_node n t es)
-      ∙ set_same n (rows_by_node es) v.rows t.rows (by_name n es v found) is
+  by_lists : all_now ≡ all_rows (set_value (same n) (rows_by_node es) w.rows)
+  by_lists = ap (λ xs. all_rows (rows_by_node xs)) is ∙ ap all_rows (set_by_node n w es)
+
+  pub tables_tally : (test : Row → Bool) → tally test all_now + tally test v.rows
+      ≡ tally test (all_rows (rows_by_node es)) + tally test w.rows
+  tables_tally test =
+      ap (λ xs. tally test xs + tally test v.rows) by_lists
+      ∙ set_tally n (rows_by_node es) v.rows w.rows (by_name n es v found) test
+
+  pub tables_length : length all_now + length v.rows
+      ≡ length (all_rows (rows_by_node es)) + length w.rows
+  tables_length =
+      ap (λ xs. length xs + length v.rows) by_lists
+      ∙ set_length n (rows_by_node es) v.rows w.rows (by_name n es v found)
+
+  pub tables_same : w ≡ v → all_now ≡ all_rows (rows_by_node es)
+  tables_same alike =
+      by_lists
+      ∙ set_same n (rows_by_node es) v.rows w.rows (by_name n es v found)
+      (ap (λ (t : NodeTable). t.rows) alike)
+
+  module _ (are : AreNodeLists es) (node : w.node ≡ v.node) where
+    its_node : w.node ≡ n
+    its_node = node ∙ table_node n es v are.each found
+
+    pub tables_set : IsNodeList w.node w.rows → AreNodeLists fs
+    tables_set list =
+        subst AreNodeLists (sym is) (record {
+          each = set_each n es w its_node (subst (λ k. IsNodeList k w.rows) its_node list) are.each;
+          apart = subst (IsDistinct same) (sym (keys-set_value (same n) es w)) are.apart;
+        })
+
+    -- in which groups the node has processes shows in its table
+    pub tables_members : (g : List ℕ) → has_members g w.node w.rows ≡ has_members g n all_now
+    tables_members g =
+        let all = tables_tally (is_there g n) in
+        let was = members_of_node n g (all_rows (rows_by_node es))
+        ∙ ap (tally (is_there g n)) (sym (table_rows n es v are found)) in
+        ap (λ k. has_members g k w.rows) its_node
+        ∙ ap (nat_lt 0) (let e : tally (is_there g n) w.rows ≡ tally (is_there g n) all_now =
+        omega (arith, all, was) in e)
 
 module _ (n : List ℕ) where
-  -- in which groups the node has processes shows in its table
-  pub tables_members : (es : List (List ℕ × NodeTable)) (v t : NodeTable) → AreNodeLists es
-      → lookup (same n) es ≡ Some v → (g : List ℕ)
-      → tally (is_there g n) (all_rows (rows_by_node (set_value (same n) es t)))
-      ≡ tally (is_there g n) t.rows
-  tables_members es v t are found g =
-      let all = tables_tally n es v t found (is_there g n) in
-      let was =
-      members_of_node n g (all_rows (rows_by_node es))
-      ∙ ap (tally (is_there g n)) (sym (table_rows n es v are found)) in
-      omega (arith, all, was)
-
   -- a row of the node is counted in its table
   pub table_count : (es : List (List ℕ × NodeTable)) (v : NodeTable) → AreNodeLists es
       → lookup (same n) es ≡ Some v → (g : List ℕ) (p : Pid) → p.node ≡ n

@@ -1,18 +1,9 @@
 -- What a call ensures, where its result is known.
-use Rattle.std.specs.Prelude.{◌≡◌, true, false, Result, Ok, Err, OnOk, OnErr, IfOk, IsOk}
-use Rattle.std.specs.Prelude.{Option, None, Some}
+use Rattle.std.specs.Prelude.{◌≡◌, true, false, Result, Ok, Err, OnOk, OnErr, IfOk, IsOk, Option}
+use Rattle.std.specs.Prelude.{None, Some, IfSome}
 use Rattle.std.specs.Option.{is_some, IfNone}
-use Rattle.std.specs.Prelude.{IfSome}
 use Rattle.std.specs.Result.{is_err}
 use Rattle.std.proofs.Common.{refl, sym}
-
-pub ok_then : {T E A B : Type 0} (r : Result T E) → (A → B) → OnOk r A → OnOk r B
-ok_then (Ok x) f a = f a
-ok_then (Err e) f a = tt
-
-pub err_then : {T E P Q : Type 0} (r : Result T E) → (P → Q) → OnErr r P → OnErr r Q
-err_then (Ok x) f p = tt
-err_then (Err e) f p = f p
 
 pub on_err : {T E P : Type 0} (r : Result T E) → P → OnErr r P
 on_err (Ok x) p = tt

@@ -1,17 +1,13 @@
 -- The rows of one process among those of its node.
-use Rattle.scope_core.proofs.Words.{◌≡◌, ℕ, ◌<◌, ◌&&◌, Bool, true, false, cond, List, [], ◌∷◌}
-use Rattle.scope_core.proofs.Words.{None, Some, refl, sym, ap, ◌∙◌, arith, filter, list_any, Less}
+use Rattle.scope_core.proofs.Words.{◌≡◌, ℕ, ◌<◌, ◌&&◌, Bool, true, false, cond, List, [], ◌∷◌, None}
+use Rattle.scope_core.proofs.Words.{Some, refl, sym, ap, ◌∙◌, arith, filter, list_any, Less}
 use Rattle.scope_core.proofs.Words.{AllByRecursion, Rises, Row, Pid, Counted, same_row, same_pid}
 use Rattle.scope_core.proofs.Words.{same_row_decides, same_decides, row_cmp, counted_cmp, tally}
-use Rattle.scope_core.proofs.Words.{is_row}
-use Rattle.scope_core.proofs.Words.{is_of_node, AreCounted, IsKept, HasRoomFor}
-use Rattle.std.specs.Option.{is_some}
-use Rattle.std.specs.Ordering.{is_eq}
-use Rattle.std.specs.Map.{lookup, keys_of}
+use Rattle.scope_core.proofs.Words.{is_row, is_of_node, AreCounted, IsKept, HasRoomFor, is_some}
+use Rattle.scope_core.proofs.Words.{is_eq, lookup, keys_of, counted_in, entries_in, with_counts}
+use Rattle.scope_core.proofs.Words.{has_row, has_key, key_of}
 use Rattle.std.specs.List.{IsDistinct}
 use Rattle.std.specs.List.Sorted.{IsStrictlySortedBy}
-use Rattle.scope_core.specs.HashedRows.{counted_in, entries_in, with_counts, has_row, has_key}
-use Rattle.scope_core.specs.HashedRows.{key_of}
 use Rattle.scope_core.proofs.HashedRows.{count_is, one_row, rows_equal, same_tally, own_at}
 use Rattle.scope_core.proofs.HashedRows.{stands_is}
 use Rattle.scope_core.proofs.HashedWrites.{counted_stands}

@@ -1,8 +1,7 @@
 -- An element behind others that rise.
 use Rattle.scope_core.proofs.Words.{◌≡◌, suc, ◌-◌, List, [], ◌∷◌, ◌++◌, length, slice_get, Some}
 use Rattle.scope_core.proofs.Words.{refl, ap, ◌∙◌, arith, subst, Ordering, Less, AllByRecursion}
-use Rattle.scope_core.proofs.Words.{Rises, length_push}
-use Rattle.std.specs.Cmp.{IsTotalOrder}
+use Rattle.scope_core.proofs.Words.{Rises, length_push, IsTotalOrder}
 
 module _ {A K : Type 0} {cmp : K → K → Ordering} (order : IsTotalOrder cmp) (key : A → K) where
   -- where the last is below a key, all are

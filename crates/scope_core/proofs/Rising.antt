@@ -1,10 +1,10 @@
 -- Rows that rise: what is filtered from them rises and is counted, and a row stands in them once.
 use Rattle.scope_core.proofs.Words.{◌≡◌, ℕ, Bool, true, false, List, [], ◌∷◌, Less, is_gt, filter}
-use Rattle.scope_core.proofs.Words.{AllByRecursion, and_parts, tied_itself}
-use Rattle.scope_core.proofs.Words.{Pid, Row, text_cmp, pid_cmp, Counted, Rises, is_row}
-use Rattle.scope_core.proofs.Words.{counted_cmp, is_in, same_decides, same_pid_decides}
-use Rattle.scope_core.proofs.Words.{rows_total, in_one_group, arith, refl, how_many, ◌≤◌, ◌<◌, cond}
-use Rattle.scope_core.proofs.Words.{not, tally, is_of_node, map, without_node}
+use Rattle.scope_core.proofs.Words.{AllByRecursion, and_parts, tied_itself, Pid, Row, text_cmp}
+use Rattle.scope_core.proofs.Words.{pid_cmp, Counted, Rises, is_row, counted_cmp, is_in}
+use Rattle.scope_core.proofs.Words.{same_decides, same_pid_decides, rows_total, in_one_group, arith}
+use Rattle.scope_core.proofs.Words.{refl, how_many, ◌≤◌, ◌<◌, cond, not, tally, is_of_node, map}
+use Rattle.scope_core.proofs.Words.{without_node}
 
 pub all_map : {A : Type 0} (P Q : A → Type 0) → ((x : A) → P x → Q x) → (xs : List A)
     → AllByRecursion P xs → AllByRecursion Q xs
@@ -102,7 +102,8 @@ own_from_tally node (c ∷ cs) a e =
     grind (arith, own_from_tally node cs a.1, same_decides c.row.pid.node node)
 
 -- where a node has no rows, those of the others are all
-pub tally_others : (n : List ℕ) (test : Row → Bool) (cs : List Counted) → tally (is_of_node n) cs ≡ 0
+pub tally_others : (n : List ℕ) (test : Row → Bool) (cs : List Counted)
+    → tally (is_of_node n) cs ≡ 0
     → tally test (without_node n cs) ≡ tally test cs
 tally_others n test [] none = refl
 tally_others n test (c ∷ cs) none = grind (arith, tally_others n test cs, none)

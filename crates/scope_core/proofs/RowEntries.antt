@@ -1,19 +1,11 @@
 -- Rows in order as the entries of a map, and the map with its indexes.
-use Rattle.scope_core.proofs.Words.{◌≡◌, ℕ, ◌&&◌, false, List, [], ◌∷◌, ◌++◌, None, refl}
-use Rattle.scope_core.proofs.Words.{sym, ap, subst, ◌∙◌, append_assoc, arith, Less, AllByRecursion}
-use Rattle.scope_core.proofs.Words.{Rises}
+use Rattle.scope_core.proofs.Words.{◌≡◌, ℕ, ◌&&◌, false, List, [], ◌∷◌, ◌++◌, None, refl, sym, ap}
+use Rattle.scope_core.proofs.Words.{subst, ◌∙◌, append_assoc, arith, Less, AllByRecursion, Rises}
 use Rattle.scope_core.proofs.Words.{Row, Counted, same_row, same_row_decides, row_cmp, text_cmp}
-use Rattle.scope_core.proofs.Words.{counted_cmp}
-use Rattle.scope_core.proofs.Words.{tied_itself, rows_total}
-use Rattle.std.specs.Option.{is_some}
-use Rattle.std.specs.Map.{lookup, keys_of}
+use Rattle.scope_core.proofs.Words.{counted_cmp, tied_itself, rows_total, is_some, lookup, keys_of}
+use Rattle.scope_core.proofs.Words.{BTreeMap, ProcessKey, SmallMap, find_in, counted_in, entries_in}
+use Rattle.scope_core.proofs.Words.{has_key, pid_of, key_cmp, stands, IsHashed}
 use Rattle.std.specs.List.{IsDistinct}
-use Rattle.std.specs.BTreeMap.{BTreeMap}
-use Rattle.scope_core.specs.declared.process_key.ProcessKey.{ProcessKey}
-use Rattle.scope_core.specs.declared.small_map.SmallMap.{SmallMap}
-use Rattle.scope_core.specs.SmallMap.{find_in}
-use Rattle.scope_core.specs.HashedRows.{counted_in, entries_in, has_key, pid_of, key_cmp, stands}
-use Rattle.scope_core.specs.HashedRows.{IsHashed}
 use Rattle.scope_core.proofs.HashedRows.{rows_equal, stands_is}
 use Rattle.scope_core.proofs.Rising.{all_mapped}
 
@@ -86,7 +78,7 @@ hashed_of node rows es groups processes own rises made by_group by_process =
     ap (stands r) (sym (back_again rows)) ∙ stands_is r (entries_in rows) in
     subst (λ xs. IsHashed node xs groups processes) (sym made) (record {
       once = rising_once rows rises;
-      own = all_mapped (λ e. e.0.pid.node ≡ node) (λ c. (c.row, c.count)) rows own;
+      own = all_mapped _ _ rows own;
       by_group = by_group;
       by_process = λ k r. by_process k r ∙ ap (λ b. has_key k r.pid && b) (there r);
     })

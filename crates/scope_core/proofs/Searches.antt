@@ -1,11 +1,9 @@
 -- Elements that rise by a key: where a key is among them, and one more of them or one less.
 use Rattle.scope_core.proofs.Words.{◌≡◌, ℕ, zero, suc, ◌<◌, ◌≤◌, false, List, [], ◌∷◌, length}
-use Rattle.scope_core.proofs.Words.{Result, Ok, Err, IfErr, ap, ◌∙◌}
-use Rattle.scope_core.proofs.Words.{arith, get_or, add-one, Ordering, Less, is_lt, AllByRecursion}
-use Rattle.scope_core.proofs.Words.{insert, remove}
+use Rattle.scope_core.proofs.Words.{Result, Ok, Err, IfErr, ap, ◌∙◌, arith, get_or, add-one}
+use Rattle.scope_core.proofs.Words.{Ordering, Less, is_lt, AllByRecursion, insert, remove}
 use Rattle.scope_core.proofs.Words.{IsBinarySearchResult, IsSortedBy, IsPartitionPoint}
-use Rattle.scope_core.proofs.Words.{searchable_from_sorted, Rises, all_from}
-use Rattle.std.specs.Cmp.{IsTotalOrder}
+use Rattle.scope_core.proofs.Words.{searchable_from_sorted, Rises, all_from, IsTotalOrder}
 use Rattle.std.specs.declared.cmp.Ordering.TheVariants.{Greater}
 
 module _ {A : Type 0} (P : A → Type 0) where
@@ -58,7 +56,7 @@ module _ {A K : Type 0} {cmp : K → K → Ordering} (order : IsTotalOrder cmp) 
   rises_with xs zero x l r p = grind (arith, order.antisymm, all_from)
   rises_with [] (suc i) x l r p = grind arith
   rises_with (y ∷ ys) (suc i) x l r p = (
-    all_insert (λ d. cmp (key y) (key d) ≡ Less) ys i x (p.0 0 y (omega arith) (omega arith)) r.0,
+    all_insert _ ys i x (p.0 0 y (omega arith) (omega arith)) r.0,
     rises_with ys i x (omega (arith, l)) r.1 (
       (λ k d m h. p.0 (suc k) d (omega arith) (omega (arith, h))),
       (λ k d m h. p.1 (suc k) d (omega arith) (omega (arith, h))),

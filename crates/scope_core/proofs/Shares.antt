@@ -1,12 +1,12 @@
 -- What is counted is listed.
 use Rattle.scope_core.proofs.Words.{◌≡◌, ℕ, ◌≤◌, cond, List, [], ◌∷◌, length, refl, ◌∙◌, sym, arith}
-use Rattle.scope_core.proofs.Words.{filter, Row, pid_cmp, row_cmp, Counted}
+use Rattle.scope_core.proofs.Words.{Bool, Ordering, ◌<◌, filter, Row, pid_cmp, row_cmp, Counted}
 use Rattle.scope_core.proofs.Words.{occurrences, same, same_pid, same_row, total, Rises}
 use Rattle.scope_core.proofs.Words.{IsPidListing, IsRowListing, spread, Table, is_row, is_of_node}
 use Rattle.scope_core.proofs.Words.{tally, counted_cmp, count_of, node_total, local_count}
 use Rattle.scope_core.proofs.Words.{local_total, is_in, pids_in, of_node, pids_total, rows_total}
 use Rattle.scope_core.proofs.Words.{same_row_decides, total_filter, spread_ascends, spread_counts}
-use Rattle.scope_core.proofs.Words.{length-spread, same_length, fewer_length}
+use Rattle.scope_core.proofs.Words.{length-spread, same_length, fewer_length, IsListing}
 use Rattle.scope_core.proofs.Rising.{in_group_rises, kept_counts}
 
 -- the processes of the rows of a group
@@ -28,6 +28,13 @@ rows_listing cs r = record {
   ascends = spread_ascends row_cmp rows_total (λ c. c.row) (λ c. c.count) cs r;
   counts = λ x. spread_counts same_row (λ c. c.row) (λ c. c.count) x cs;
 }
+
+-- one alone lists itself, and none does
+pub short_listing : {A : Type 0} (cmp : A → A → Ordering) (alike : A → A → Bool) (xs : List A)
+    → length xs < 2 → IsListing cmp alike (λ x. occurrences alike x xs) xs
+short_listing cmp alike [] l = record { ascends = tt; counts = λ x. refl }
+short_listing cmp alike (x ∷ []) l = record { ascends = (tt, tt); counts = λ y. refl }
+short_listing cmp alike (x ∷ y ∷ ys) l = absurd (omega (arith, l))
 
 -- how many rows a node has
 pub node_rows : (node : List ℕ) (cs : List Counted)

@@ -1,7 +1,8 @@
 -- Sums over lists of rows that are joined.
 use Rattle.scope_core.proofs.Words.{◌≡◌, ◌+◌, Bool, List, [], ◌∷◌, ◌++◌, arith, Row, Counted, tally}
 use Rattle.scope_core.proofs.Words.{total, cond, take, take_more, get_or, length, ℕ, zero, suc, ◌<◌}
-use Rattle.scope_core.proofs.Words.{◌≤◌, ◌∙◌}
+use Rattle.scope_core.proofs.Words.{◌≤◌, ◌∙◌, true, refl, Pid, mentions, is_empty, drop}
+use Rattle.scope_core.proofs.Words.{take-append-drop, ap, sym}
 
 pub tally_append : (test : Row → Bool) (xs ys : List Counted)
     → tally test (xs ++ ys) ≡ tally test xs + tally test ys
@@ -26,3 +27,12 @@ take_le test [] zero = omega arith
 take_le test [] (suc i) = omega arith
 take_le test (x ∷ xs) zero = omega arith
 take_le test (x ∷ xs) (suc i) = grind (arith, take_le test xs i)
+
+pub tally_parts : (test : Row → Bool) (n : ℕ) (xs : List Counted)
+    → tally test xs ≡ tally test (take n xs) + tally test (drop n xs)
+tally_parts test n xs =
+    ap (tally test) (sym (take-append-drop n xs)) ∙ tally_append test (take n xs) (drop n xs)
+
+pub none_mentioned : (p : Pid) (ps : List Pid) → is_empty ps ≡ true → mentions p ps ≡ 0
+none_mentioned p [] e = refl
+none_mentioned p (q ∷ ps) e = grind (arith, e)

@@ -1,17 +1,17 @@
 -- The changes of rows that leave and join, told group by group.
 use Rattle.scope_core.proofs.Words.{◌≡◌, ℕ, zero, suc, ◌+◌, ◌-◌, ◌<◌, ◌≤◌, Bool, true, false, cond}
 use Rattle.scope_core.proofs.Words.{◌&&◌, ◌||◌, List, [], ◌∷◌, ◌++◌, take, drop, length, Some}
-use Rattle.scope_core.proofs.Words.{slice_get, refl, ap, sym, ◌∙◌, arith, subst}
-use Rattle.scope_core.proofs.Words.{Less, is_gt, AllByRecursion, AllWithin, HoldsAt, list_any}
-use Rattle.scope_core.proofs.Words.{filter, tied_itself, texts_total, exact_bytes, same_decides}
-use Rattle.scope_core.proofs.Words.{text_cmp, same, Rises, Pid, Counted, counted_cmp, is_in, is_row}
-use Rattle.scope_core.proofs.Words.{tally, mentions, spread, GroupChange, Tells, IsDifference}
-use Rattle.scope_core.proofs.Words.{is_empty, and_parts, change_unless_empty, IsPidListing}
-use Rattle.dist_types.specs.Difference.{times_left, times_joined}
+use Rattle.scope_core.proofs.Words.{slice_get, refl, ap, sym, ◌∙◌, arith, subst, Less, is_gt}
+use Rattle.scope_core.proofs.Words.{AllByRecursion, AllWithin, HoldsAt, list_any, filter}
+use Rattle.scope_core.proofs.Words.{tied_itself, texts_total, exact_bytes, same_decides, text_cmp}
+use Rattle.scope_core.proofs.Words.{same, Rises, Pid, Counted, counted_cmp, is_in, is_row, tally}
+use Rattle.scope_core.proofs.Words.{mentions, spread, GroupChange, Tells, IsDifference, is_empty}
+use Rattle.scope_core.proofs.Words.{and_parts, change_unless_empty, IsPidListing, times_left}
+use Rattle.scope_core.proofs.Words.{times_joined}
 use Rattle.scope_core.proofs.Rising.{groups_above, all_map, all_mapped}
 use Rattle.scope_core.proofs.Groups.{below}
 use Rattle.scope_core.proofs.Shares.{pids_listing}
-use Rattle.scope_core.proofs.Tallies.{tally_append}
+use Rattle.scope_core.proofs.Tallies.{none_mentioned, tally_append}
 
 -- ---- the first rows, of the lowest group, and those behind them
 
@@ -32,9 +32,7 @@ higher g h k l n = grind (arith, texts_total.trans g h k l, exact_bytes h k, n, 
 above_from : (g : List ℕ) (c : Counted) (cs : List Counted) → text_cmp g c.row.group ≡ Less
     → Rises counted_cmp (c ∷ cs) → AreAbove g cs
 above_from g c cs l r =
-    all_map (λ d. is_gt (text_cmp c.row.group d.row.group) ≡ false)
-    (λ d. text_cmp g d.row.group ≡ Less) (λ d n. higher g c.row.group d.row.group l n) cs
-    (groups_above c cs r.0)
+    all_map _ _ (λ d n. higher g c.row.group d.row.group l n) cs (groups_above c cs r.0)
 
 -- where the run of a group ends that is the lowest, all others are above it
 run_parts : (g : List ℕ) (n : ℕ) (cs : List Counted) → Rises counted_cmp cs → NoneBelow g cs
@@ -94,18 +92,18 @@ rises_back [] ys r = r
 rises_back (x ∷ xs) ys r = rises_back xs ys r.1
 
 module _ (P : Counted → Type 0) where
-  all_front : (xs ys : List Counted) → AllByRecursion P (xs ++ ys) → AllByRecursion P xs
+  pub all_front : (xs ys : List Counted) → AllByRecursion P (xs ++ ys) → AllByRecursion P xs
   all_front [] ys a = tt
   all_front (x ∷ xs) ys a = (a.0, all_front xs ys a.1)
 
-  all_back : (xs ys : List Counted) → AllByRecursion P (xs ++ ys) → AllByRecursion P ys
+  pub all_back : (xs ys : List Counted) → AllByRecursion P (xs ++ ys) → AllByRecursion P ys
   all_back [] ys a = a
   all_back (x ∷ xs) ys a = all_back xs ys a.1
 
 pub rises_front : (xs ys : List Counted) → Rises counted_cmp (xs ++ ys) → Rises counted_cmp xs
 rises_front [] ys r = tt
 rises_front (x ∷ xs) ys r =
-    (all_front (λ d. counted_cmp x d ≡ Less) xs ys r.0, rises_front xs ys r.1)
+    (all_front _ xs ys r.0, rises_front xs ys r.1)
 
 -- ---- the lower one of the first groups
 
@@ -116,9 +114,7 @@ none_below_first g [] c e n r = tt
 none_below_first g (x ∷ xs) c e n r =
     let first : is_gt (text_cmp g x.row.group) ≡ false = grind (arith, e, n) in (
       first,
-      all_map (λ d. is_gt (text_cmp x.row.group d.row.group) ≡ false)
-          (λ d. is_gt (text_cmp g d.row.group) ≡ false) (λ d m. up d first m) xs
-          (groups_above x xs r.0),
+      all_map _ _ (λ d m. up d first m) xs (groups_above x xs r.0),
     )
   where
     up : (d : Counted) → is_gt (text_cmp g x.row.group) ≡ false
@@ -203,10 +199,6 @@ above_tally g h p (c ∷ cs) a e =
       e,
     )
 
-none_mentioned : (p : Pid) (ps : List Pid) → is_empty ps ≡ true → mentions p ps ≡ 0
-none_mentioned p [] e = refl
-none_mentioned p (q ∷ ps) e = grind (arith, e)
-
 -- rows of the group g, and behind them rows of higher groups
 module _ (g : List ℕ) (xs cs : List Counted) (inside : AreIn g xs) (high : AreAbove g cs)
     (r : Rises counted_cmp (xs ++ cs)) where
@@ -229,7 +221,7 @@ module _ (g : List ℕ) (xs cs : List Counted) (inside : AreIn g xs) (high : Are
 
   pub below_run : (k : List ℕ) → AreAbove k (xs ++ cs) → is_empty (pids xs) ≡ false
       → text_cmp k g ≡ Less
-  below_run k a e = by xs inside (all_front (λ c. text_cmp k c.row.group ≡ Less) xs cs a) e
+  below_run k a e = by xs inside (all_front _ xs cs a) e
     where
       by : (ys : List Counted) → AreIn g ys → AreAbove k ys → is_empty (pids ys) ≡ false
           → text_cmp k g ≡ Less
@@ -291,7 +283,7 @@ module _ (g : List ℕ) (xs cs ys ds : List Counted) (inside : AreIn g xs) (high
     }
     difference false e = record {
       groups = (
-        all_mapped (λ h. text_cmp g h ≡ Less) (λ c. c.group) changes (told.above g high up),
+        all_mapped _ _ changes (told.above g high up),
         rest.groups,
       );
       proper = (
@@ -310,12 +302,12 @@ module _ (g : List ℕ) (xs cs ys ds : List Counted) (inside : AreIn g xs) (high
       → AreAbove k (xs ++ cs) → AreAbove k (ys ++ ds)
       → AllByRecursion (λ c. text_cmp k c.group ≡ Less) (with_here none)
   above_here true e k a b =
-      told.above k (all_back (λ c. text_cmp k c.row.group ≡ Less) xs cs a)
-      (all_back (λ c. text_cmp k c.row.group ≡ Less) ys ds b)
+      told.above k (all_back _ xs cs a)
+      (all_back _ ys ds b)
   above_here false e k a b = (
     grind (arith, e, below_run g xs cs inside high r k a, below_run g ys ds also up s k b),
-    told.above k (all_back (λ c. text_cmp k c.row.group ≡ Less) xs cs a)
-        (all_back (λ c. text_cmp k c.row.group ≡ Less) ys ds b),
+    told.above k (all_back _ xs cs a)
+        (all_back _ ys ds b),
   )
 
   told_first : Told (xs ++ cs) (ys ++ ds) (change_unless_empty g (pids xs) (pids ys) ++ changes)

@@ -2,9 +2,8 @@
 use Rattle.scope_core.proofs.Words.{◌≡◌, ℕ, ◌<◌, ◌≤◌, ◌+◌, ◌&&◌, Bool, true, false, cond, nat_lt}
 use Rattle.scope_core.proofs.Words.{List, [], ◌∷◌, refl, sym, subst, arith, Pid, Counted}
 use Rattle.scope_core.proofs.Words.{GroupChange, IsDifference, same, same_decides, same_pid_decides}
-use Rattle.scope_core.proofs.Words.{mentions, total, tally, is_row, is_there}
-use Rattle.scope_core.proofs.Words.{has_members, is_named, is_empty, AllByRecursion, IsProper}
-use Rattle.dist_types.specs.Difference.{times_left, times_joined}
+use Rattle.scope_core.proofs.Words.{mentions, total, tally, is_row, is_there, has_members, is_named}
+use Rattle.scope_core.proofs.Words.{is_empty, AllByRecursion, IsProper, times_left, times_joined}
 
 named_total : (part : GroupChange → List Pid) (g : List ℕ) (p : Pid) (changes : List GroupChange)
     → is_named g changes ≡ false

@@ -148,6 +148,10 @@ pub fn in_order(alloc: Global, pids: &[Pid]) -> Result<Vec<Pid>, OutOfMemory>
     ensures { IfOk result (λ sorted. IsPidListing (λ p. mentions p pids.now) sorted.items) }
 {
     let mut copies = copies_of(alloc, pids)?;
+    // One alone is in order.
+    if copies.len() < 2 {
+        return Ok(copies);
+    }
     copies.sort_unstable();
     Ok(copies)
 }

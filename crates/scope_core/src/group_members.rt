@@ -10,6 +10,7 @@ ghost use Rattle.scope_core.specs.HashedRows.{group_rows, pid_of, key_cmp};
 
 use crate::counted::Counted;
 use crate::process_key::ProcessKey;
+use crate::reads::push_one;
 use crate::small_map::SmallMap;
 use dist_types::{Group, NodeName, OutOfMemory, Pid, Row, TryClone};
 use std::alloc::Global;
@@ -132,13 +133,8 @@ fn push_times(
 ) -> Result<(), OutOfMemory>
     ensures { OnOk result (pids.new.items ≡ pids.old.items ++ replicate times (pid_of node.now key)) }
 {
-    // Most processes join once.
-    if times == 1 {
-        pids.push(key.pid(alloc, node)?)?;
-        return Ok(());
-    }
     for _ in 0..times {
-        pids.push(key.pid(alloc, node)?)?;
+        push_one(pids, key.pid(alloc, node)?)?;
     }
     Ok(())
 }

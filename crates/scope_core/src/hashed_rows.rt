@@ -1,32 +1,20 @@
 //! The rows of one node in a hashed map, with an ordered index of its groups and one of its processes.
-ghost use Rattle.std.specs.Prelude.{◌≡◌, ◌++◌, ◌+◌, ◌||◌, ◌&&◌, List, Bool, [], ◌∷◌, take, length, replicate, ◌-◌, ◌≤◌, ◌<◌, cond, true, false, None, All, IsTrue, IsSome, IfSome, IfOk, OnOk, OnErr, ℕ};
+ghost use Rattle.std.specs.Prelude.{◌≡◌, ◌++◌, ◌+◌, ◌||◌, Bool, [], ◌∷◌, take, length, ◌-◌, ◌≤◌, ◌<◌, cond, true, false, IfSome, IfOk, OnOk, OnErr};
 ghost use Rattle.std.specs.Option.{IfNone};
 ghost use Rattle.std.specs.List.{AllByRecursion};
-ghost use Rattle.std.specs.List.Sorted.{IsStrictlySortedBy};
-ghost use Rattle.std.specs.Map.{keys_of};
-ghost use Rattle.std.specs.Ordering.{eq_by_cmp};
-ghost use Rattle.std.specs.BTreeMap.{get};
-ghost use Rattle.dist_types.specs.declared.pid.Pid.{Pid};
 ghost use Rattle.dist_types.specs.declared.row.Row.{Row};
-ghost use Rattle.dist_types.specs.Order.{text_cmp, pid_cmp, row_cmp};
-ghost use Rattle.dist_types.specs.Listing.{same, same_pid, how_many, mentions, spread, Rises, Ascends};
-ghost use Rattle.dist_types.specs.Difference.{IsDifference};
-ghost use Rattle.scope_core.specs.declared.process_key.ProcessKey.{ProcessKey};
-ghost use Rattle.scope_core.specs.Table.{tally, is_row, counted_cmp, max_rows, AreCounted, IsKept};
-ghost use Rattle.scope_core.specs.Added.{row_in, are_all_in, bare_rows, Joins, HasRoomFor};
-ghost use Rattle.scope_core.specs.Indexed.{has_members};
-ghost use Rattle.scope_core.specs.SmallMap.{entries_of, find_in};
-ghost use Rattle.scope_core.specs.HashedRows.{NodeTable, stands, group_rows, with_counts, entries_in, key_of, pid_of, key_cmp};
+ghost use Rattle.dist_types.specs.Listing.{same, same_pid, Rises};
+ghost use Rattle.scope_core.specs.Table.{tally, is_row, counted_cmp, max_rows, AreCounted};
+ghost use Rattle.scope_core.specs.Added.{are_all_in, bare_rows, Joins, HasRoomFor};
+ghost use Rattle.scope_core.specs.HashedRows.{NodeTable, stands};
 
-use crate::changes::push_change;
 use crate::counted::Counted;
-use crate::group_members::{behind_all, push_counted, push_pids};
 use crate::lowering::can_lower;
 use crate::nested_map::{get, pop, put, set, take};
 use crate::node_indexes::{counts_of, forget, groups_of, processes_of};
 use crate::process_key::ProcessKey;
 use crate::small_map::SmallMap;
-use dist_types::{Group, GroupChange, NodeName, OutOfMemory, Pid, Row, TryClone};
+use dist_types::{Group, NodeName, OutOfMemory, Pid, Row, TryClone};
 use indexmap::IndexMap;
 use std::alloc::Global;
 use std::collections::BTreeMap;
@@ -35,13 +23,13 @@ use std::marker::Model;
 /// Rows of one node, each with a count, which may be 0 while rows are put in.
 #[derive(Debug, Drop)]
 pub struct HashedRows {
-    alloc: Global,
-    node: NodeName,
-    counts: IndexMap<Row, u32>,
+    pub(crate) alloc: Global,
+    pub(crate) node: NodeName,
+    pub(crate) counts: IndexMap<Row, u32>,
     /// For each group its processes, with the same counts.
-    groups: BTreeMap<Group, SmallMap<ProcessKey, u32>>,
+    pub(crate) groups: BTreeMap<Group, SmallMap<ProcessKey, u32>>,
     /// For each process copies of its rows, which are the keys of the map where it exits.
-    processes: BTreeMap<ProcessKey, SmallMap<Row, ()>>,
+    pub(crate) processes: BTreeMap<ProcessKey, SmallMap<Row, ()>>,
 }
 
 impl Model for HashedRows {
@@ -55,19 +43,6 @@ impl Model for HashedRows {
 }
 
 impl HashedRows {
-    /// No rows of the node.
-    pub fn new(alloc: Global, node: NodeName) -> HashedRows
-        ensures { result ≡ record { node = node; rows = [] } }
-    {
-        HashedRows {
-            alloc,
-            node,
-            counts: IndexMap::new(alloc),
-            groups: BTreeMap::new(alloc),
-            processes: BTreeMap::new(alloc),
-        }
-    }
-
     /// Just these rows of the node, which are in order.
     pub fn of(alloc: Global, node: NodeName, rows: Vec<Counted>) -> Result<HashedRows, OutOfMemory>
         requires own { AllByRecursion (λ c. c.row.pid.node ≡ node) rows.items }
@@ -102,7 +77,7 @@ impl HashedRows {
     }
 
     /// Puts a new row last.
-    pub fn put(&mut self, row: Row, count: u32) -> Result<(), OutOfMemory>
+    fn put(&mut self, row: Row, count: u32) -> Result<(), OutOfMemory>
         requires own { row.pid.node ≡ self.old.node }
         requires fresh { stands row self.old.rows ≡ false }
         ensures ok { OnOk result (self.new ≡ record { node = self.old.node; rows = self.old.rows ++ record { row = row; count = count } ∷ [] }) }
@@ -122,8 +97,61 @@ impl HashedRows {
         Ok(())
     }
 
+    /// Puts each row that isn't there yet last: all of them, or none. Those before the first that is there have their counts
+    /// then, and the others the count 0. Answers how many the former are.
+    pub fn grow(&mut self, more: &[Counted]) -> Result<usize, OutOfMemory>
+        requires { AllByRecursion (λ c. c.row.pid.node ≡ self.old.node) more.now }
+        ensures bound { IfOk result (λ n. n ≤ length more.now) }
+        ensures ok { IfOk result (λ n. (test : Row → Bool) → tally test self.new.rows ≡ tally test self.old.rows + tally test (take n more.now)) }
+        ensures stand { OnOk result ((r : Row) → stands r self.new.rows ≡ (stands r self.old.rows || stands r more.now)) }
+        ensures node { self.new.node ≡ self.old.node }
+        ensures same { OnErr result (self.new ≡ self.old) }
+    {
+        let len = self.counts.len();
+        let fresh = self.put_new(more)?;
+        let (_, others) = more.split_at(fresh);
+        if self.hold(others).is_err() {
+            self.cut(len);
+            return Err(OutOfMemory);
+        }
+        Ok(fresh)
+    }
+
+    /// Puts rows last up to the first that is there: all of those, or none. Answers how many they are.
+    fn put_new(&mut self, more: &[Counted]) -> Result<usize, OutOfMemory>
+        requires { AllByRecursion (λ c. c.row.pid.node ≡ self.old.node) more.now }
+        ensures bound { IfOk result (λ n. n ≤ length more.now) }
+        ensures ok { IfOk result (λ n. self.new ≡ record { node = self.old.node; rows = self.old.rows ++ take n more.now }) }
+        ensures same { OnErr result (self.new ≡ self.old) }
+    {
+        let len = self.counts.len();
+        let mut fresh = 0;
+        for counted in more {
+            if self.counts.contains_key(&counted.row) {
+                return Ok(fresh);
+            }
+            if self.put_copy(&counted.row, counted.count).is_err() {
+                self.cut(len);
+                return Err(OutOfMemory);
+            }
+            fresh += 1;
+        }
+        Ok(fresh)
+    }
+
+    /// Puts a copy of a new row last.
+    fn put_copy(&mut self, row: &Row, count: u32) -> Result<(), OutOfMemory>
+        requires own { row.now.pid.node ≡ self.old.node }
+        requires fresh { stands row.now self.old.rows ≡ false }
+        ensures ok { OnOk result (self.new ≡ record { node = self.old.node; rows = self.old.rows ++ record { row = row.now; count = count } ∷ [] }) }
+        ensures same { OnErr result (self.new ≡ self.old) }
+    {
+        let copy = row.try_clone(self.alloc)?;
+        self.put(copy, count)
+    }
+
     /// Puts each row that isn't there yet last, with the count 0: all of them, or none.
-    pub fn grow(&mut self, more: &[Counted]) -> Result<(), OutOfMemory>
+    fn hold(&mut self, more: &[Counted]) -> Result<(), OutOfMemory>
         requires { AllByRecursion (λ c. c.row.pid.node ≡ self.old.node) more.now }
         ensures ok { OnOk result ((test : Row → Bool) → tally test self.new.rows ≡ tally test self.old.rows) }
         ensures stand { OnOk result ((r : Row) → stands r self.new.rows ≡ (stands r self.old.rows || stands r more.now)) }
@@ -150,8 +178,7 @@ impl HashedRows {
         if self.counts.contains_key(row) {
             return Ok(());
         }
-        let copy = row.try_clone(self.alloc)?;
-        self.put(copy, 0)
+        self.put_copy(row, 0)
     }
 
     /// Takes all rows out but so many of the first.
@@ -174,7 +201,7 @@ impl HashedRows {
     }
 
     /// Gives a row that is there a count.
-    pub fn set(&mut self, row: &Row, count: u32)
+    fn set(&mut self, row: &Row, count: u32)
         requires { stands row.now self.old.rows ≡ true }
         ensures tallies { (test : Row → Bool) → tally test self.new.rows + cond (test row.now) (tally (is_row row.now.group row.now.pid) self.old.rows) 0 ≡ tally test self.old.rows + cond (test row.now) count 0 }
         ensures rows { bare_rows self.new.rows ≡ bare_rows self.old.rows }
@@ -197,13 +224,8 @@ impl HashedRows {
         ensures rows { bare_rows self.new.rows ≡ bare_rows self.old.rows }
         ensures node { self.new.node ≡ self.old.node }
     {
-        let Some(place) = self.counts.get_mut(row) else {
-            return;
-        };
-        *place += more;
-        let count = *place;
-        let key = ProcessKey::of(&row.pid);
-        set(&mut self.groups, &row.group, &key, count);
+        let count = self.count(row);
+        self.set(row, count + more);
     }
 
     /// Whether each row stands in the list at most as often as it is counted.
@@ -239,7 +261,7 @@ impl HashedRows {
     }
 
     /// Takes a row out. The last one takes its place in the map.
-    pub fn remove(&mut self, row: &Row)
+    fn remove(&mut self, row: &Row)
         ensures tallies { (test : Row → Bool) → tally test self.new.rows + cond (test row.now) (tally (is_row row.now.group row.now.pid) self.old.rows) 0 ≡ tally test self.old.rows }
         ensures counted { AreCounted self.old.rows → AreCounted self.new.rows }
         ensures node { self.new.node ≡ self.old.node }
@@ -268,122 +290,5 @@ impl HashedRows {
         take(&mut self.groups, &row.group, &key);
         let count = self.counts.swap_remove(&row).unwrap_or(0);
         Some(Counted { row, count })
-    }
-
-    /// Whether a process of the node is in the group.
-    pub fn has_group(&self, group: &Group) -> bool
-        requires { AreCounted self.now.rows }
-        ensures { result ≡ has_members group.now self.now.node self.now.rows }
-    {
-        match self.groups.get(group) {
-            Some(members) => !members.is_empty(),
-            None => false,
-        }
-    }
-
-    /// The groups of which there are rows.
-    pub fn groups(&self) -> &BTreeMap<Group, SmallMap<ProcessKey, u32>>
-        ensures { (g : List ℕ) → IsTrue (has_members g self.now.node self.now.rows) → IsSome (get text_cmp result.now g) }
-    {
-        &self.groups
-    }
-
-    /// Puts the processes of a group at the end of a list, each as often as it is counted.
-    pub fn push_members(&self, pids: &mut Vec<Pid>, group: &Group) -> Result<(), OutOfMemory>
-        ensures counts { OnOk result ((p : Pid) → mentions p pids.new.items ≡ mentions p pids.old.items + cond (same self.now.node p.node) (tally (is_row group.now p) self.now.rows) 0) }
-        ensures ascends { OnOk result (pids.old.items ≡ [] → Ascends pid_cmp pids.new.items) }
-    {
-        let Some(members) = self.groups.get(group) else {
-            return Ok(());
-        };
-        push_pids(self.alloc, &self.node, members, pids)
-    }
-
-    /// The changes where all rows leave.
-    pub fn all_left(&self) -> Result<Vec<GroupChange>, OutOfMemory>
-        requires { AreCounted self.now.rows }
-        ensures { IfOk result (λ changes. (before after : List ℕ → Pid → ℕ)
-            → ((g : List ℕ) (p : Pid) → before g p - after g p ≡ tally (is_row g p) self.now.rows) → ((g : List ℕ) (p : Pid) → after g p - before g p ≡ 0) → IsDifference before after changes.items) }
-    {
-        let mut changes = Vec::with_capacity(self.alloc, self.groups.len())?;
-        for (group, members) in self.groups.iter() {
-            let mut left = Vec::new(self.alloc);
-            push_pids(self.alloc, &self.node, members, &mut left)?;
-            // The index may name a group that has no process: it has no change.
-            push_change(self.alloc, &mut changes, group, left, Vec::new(self.alloc))?;
-        }
-        Ok(changes)
-    }
-
-    /// The rows in their order.
-    pub fn in_order(&self) -> Result<Vec<Counted>, OutOfMemory>
-        ensures rises { IfOk result (λ rows. Rises counted_cmp rows.items) }
-        ensures counts { IfOk result (λ rows. (g : List ℕ) (p : Pid) → tally (is_row g p) rows.items ≡ tally (is_row g p) self.now.rows) }
-    {
-        let mut rows = Vec::with_capacity(self.alloc, self.counts.len())?;
-        for (group, members) in self.groups.iter() {
-            push_counted(self.alloc, &self.node, group, members, &mut rows)?;
-        }
-        Ok(rows)
-    }
-
-    /// The rows of a process in their order.
-    pub fn of_process(&self, pid: &Pid) -> Result<Vec<Counted>, OutOfMemory>
-        requires own { pid.now.node ≡ self.now.node }
-        requires counted { AreCounted self.now.rows }
-        requires few { HasRoomFor [] self.now.rows }
-        ensures kept { IfOk result (λ rows. IsKept rows.items) }
-        ensures counts { IfOk result (λ rows. (g : List ℕ) (p : Pid) → tally (is_row g p) rows.items ≡ cond (same_pid p pid.now) (tally (is_row g p) self.now.rows) 0) }
-    {
-        let Some(copies) = self.processes.get(&ProcessKey::of(pid)) else {
-            return Ok(Vec::new(self.alloc));
-        };
-        self.counted_all(copies)
-    }
-
-    /// Copies of rows, each with its count.
-    fn counted_all(&self, copies: &SmallMap<Row, ()>) -> Result<Vec<Counted>, OutOfMemory>
-        ensures rows { IfOk result (λ rows. rows.items ≡ with_counts self.now.rows (keys_of (entries_of copies.now))) }
-        ensures ordered { IfOk result (λ _. IsStrictlySortedBy row_cmp (keys_of (entries_of copies.now))) }
-    {
-        match copies {
-            SmallMap::Empty => Ok(Vec::new(self.alloc)),
-            SmallMap::One(row, _) => {
-                let counted = self.counted(row)?;
-                Ok(vec![in self.alloc; counted]?)
-            }
-            SmallMap::Many(map) => {
-                let mut rows = Vec::with_capacity(self.alloc, map.len())?;
-                for (row, _) in map {
-                    rows.push(self.counted(row)?)?;
-                }
-                Ok(rows)
-            }
-        }
-    }
-
-    /// A copy of a row, with its count.
-    fn counted(&self, row: &Row) -> Result<Counted, OutOfMemory>
-        ensures { IfOk result (λ c. c ≡ record { row = row.now; count = tally (is_row row.now.group row.now.pid) self.now.rows }) }
-    {
-        Ok(Counted {
-            row: row.try_clone(self.alloc)?,
-            count: self.count(row),
-        })
-    }
-
-    /// Whether these are the rows of the node in their order, each as often as it is counted.
-    pub fn are_just(&self, rows: &[Row]) -> bool
-        requires { All (λ r. r.pid.node ≡ self.now.node) rows.now }
-        ensures { IsTrue result → (g : List ℕ) (p : Pid) → how_many (is_row g p) rows.now ≡ tally (is_row g p) self.now.rows }
-    {
-        let mut rest = rows;
-        for (group, members) in self.groups.iter() {
-            match behind_all(rest, group, members) {
-                Some(others) => rest = others,
-                None => return false,
-            }
-        }
-        rest.is_empty()
     }
 }

@@ -156,8 +156,12 @@ impl IndexedRows {
     pub fn members(&self, alloc: Global, group: &Group) -> Result<Vec<Pid>, OutOfMemory>
         ensures { IfOk result (λ pids. IsPidListing (λ p. tally (is_row group.now p) self.now) pids.items) }
     {
-        let mut pids = gathered(alloc, &self.lists, self.index.of(group), group)?;
-        pids.sort_unstable();
+        let nodes = self.index.of(group);
+        let mut pids = gathered(alloc, &self.lists, nodes, group)?;
+        // Those of one node come in order.
+        if nodes.len() > 1 {
+            pids.sort_unstable();
+        }
         Ok(pids)
     }
 

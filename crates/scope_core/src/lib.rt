@@ -19,7 +19,9 @@ mod node_indexes;
 mod node_lists;
 mod node_rows;
 mod process_key;
+mod queries;
 mod reads;
+mod row_reads;
 mod small_map;
 mod table;
 

@@ -70,8 +70,9 @@ impl NodeRows {
         ensures node { self.new.node ≡ self.old.node }
         ensures same { OnErr result (self.new ≡ self.old) }
     {
-        self.rows.grow(more)?;
-        for counted in more {
+        let fresh = self.rows.grow(more)?;
+        let (_, others) = more.split_at(fresh);
+        for counted in others {
             self.rows.raise(&counted.row, counted.count);
         }
         self.rows.each_once();

@@ -81,8 +81,19 @@ pub fn push_copies<T: TryClone + Drop>(
     ensures { OnOk result (items.new.items ≡ items.old.items ++ replicate times item.now) }
 {
     for _ in 0..times {
-        items.push(item.try_clone(alloc)?)?;
+        push_one(items, item.try_clone(alloc)?)?;
     }
+    Ok(())
+}
+
+/// Puts an item at the end, mostly into room that there is.
+pub fn push_one<T: Drop>(items: &mut Vec<T>, item: T) -> Result<(), OutOfMemory>
+    ensures { OnOk result (items.new.items ≡ items.old.items ++ item ∷ []) }
+{
+    if items.len() == items.capacity() {
+        items.reserve(1)?;
+    }
+    items.push_reserved(item);
     Ok(())
 }
 

@@ -1,9 +1,9 @@
 //! The table of one scope.
-ghost use Rattle.std.specs.Prelude.{◌≡◌, ℕ, ◌+◌, ◌≤◌, min, cond, IsTrue, IfSome, IfOk, IfErr, OnErr, OnOk, List, length, All};
+ghost use Rattle.std.specs.Prelude.{◌≡◌, ℕ, ◌+◌, ◌≤◌, min, cond, IsTrue, IfOk, IfErr, OnErr, OnOk, List, length, All};
 ghost use Rattle.dist_types.specs.declared.pid.Pid.{Pid};
-ghost use Rattle.dist_types.specs.Listing.{same, mentions, IsPidListing, IsRowListing, IsGroupListing};
+ghost use Rattle.dist_types.specs.Listing.{same, mentions, IsPidListing};
 ghost use Rattle.dist_types.specs.Difference.{IsDifference};
-ghost use Rattle.scope_core.specs.Table.{count_of, local_count, local_total, node_total, max_rows};
+ghost use Rattle.scope_core.specs.Table.{count_of, local_total, node_total, max_rows};
 ghost use Rattle.scope_core.specs.Calls.{Counts, is_any_joined, no_count, count_after_join, count_after_leave, count_after_exit, count_after_drop, count_after_sync, count_after_add, count_after_take, are_counted, IsChange, IsJoinFault, IsLeaveFault, IsSyncFault, IsAddFault, IsTakeFault};
 
 use crate::changes::{changes_joined, changes_left, changes_of, in_order, one_change, rows_in};
@@ -12,21 +12,20 @@ use crate::incoming::{beyond, counted_rows};
 use crate::indexed_rows::IndexedRows;
 use crate::leaving::{all_gone, gone_of};
 use crate::listings::Listings;
-use crate::reads::{groups_of, rows_of};
-use dist_types::{Group, GroupChange, NodeName, OutOfMemory, Pid, Row, Shared, TryClone};
+use dist_types::{Group, GroupChange, NodeName, OutOfMemory, Pid, Row};
 use std::alloc::Global;
 use std::marker::Model;
 
 /// How often each process is in each group of one scope.
 #[derive(Debug)]
 pub struct ScopeTable {
-    alloc: Global,
-    own: NodeName,
-    rows: IndexedRows,
+    pub(crate) alloc: Global,
+    pub(crate) own: NodeName,
+    pub(crate) rows: IndexedRows,
     /// How many rows the own processes have, repeats included.
-    own_rows: usize,
+    pub(crate) own_rows: usize,
     /// What was answered of groups that didn't change since.
-    listings: Listings,
+    pub(crate) listings: Listings,
 }
 
 impl Drop for ScopeTable {
@@ -290,97 +289,6 @@ impl ScopeTable {
     {
         let changes = all_gone(self.alloc, &self.rows)?;
         Ok(changes)
-    }
-
-    /// The processes of a group.
-    pub fn members(&self, group: &Group) -> Result<Vec<Pid>, OutOfMemory>
-        ensures { IfOk result (λ pids. IsPidListing (count_of self.now group.now) pids.items) }
-    {
-        let pids = self.rows.members(self.alloc, group)?;
-        Ok(pids)
-    }
-
-    /// The processes of a group, in a list that is made once for all who ask until the group changes.
-    pub fn listing(&mut self, group: &Group) -> Result<Shared<Pid>, OutOfMemory>
-        ensures value { IfOk result (λ pids. IsPidListing (count_of self.old group.now) pids) }
-        ensures same { self.new ≡ self.old }
-    {
-        if let Some(pids) = self.listings.get(group) {
-            return pids.try_clone(self.alloc);
-        }
-        let pids = Shared::of(self.rows.members(self.alloc, group)?)?;
-        // A group that doesn't exist isn't kept: whoever asks for many of those takes no memory.
-        if !pids.as_slice().is_empty() {
-            self.listings.keep(self.alloc, group, &pids)?;
-        }
-        Ok(pids)
-    }
-
-    /// A group's name as the table keeps it, so that whoever has an equal one can share it.
-    pub fn stored_group(&self, group: &Group) -> Option<&Group>
-        ensures { IfSome result (λ stored. stored.now ≡ group.now) }
-    {
-        self.rows.stored(group)
-    }
-
-    /// The own processes of a group.
-    pub fn local_members(&self, group: &Group) -> Result<Vec<Pid>, OutOfMemory>
-        ensures value { IfOk result (λ pids. IsPidListing (local_count self.now group.now) pids.items) }
-        ensures limits { IfOk result (λ pids. length pids.items ≤ local_total self.now) }
-    {
-        let mut pids = Vec::new(self.alloc);
-        self.rows.push_members(&mut pids, &self.own, group)?;
-        Ok(pids)
-    }
-
-    /// The own processes that a leave of these takes from a group, each as often as it leaves.
-    pub fn leaving(&self, group: &Group, pids: &[Pid]) -> Result<Vec<Pid>, OutOfMemory>
-        requires { All (λ p. p.node ≡ self.now.own) pids.now }
-        ensures value { IfOk result (λ gone. IsPidListing (λ p. min (mentions p pids.now) (local_count self.now group.now p)) gone.items) }
-        ensures limits { IfOk result (λ gone. length gone.items ≤ local_total self.now) }
-    {
-        let gone = gone_of(self.alloc, &self.rows, group, pids)?;
-        Ok(gone)
-    }
-
-    /// The groups with a process.
-    pub fn groups(&self) -> Result<Vec<Group>, OutOfMemory>
-        ensures { IfOk result (λ groups. IsGroupListing (count_of self.now) groups.items) }
-    {
-        let groups = self.rows.groups(self.alloc)?;
-        Ok(groups)
-    }
-
-    /// The groups with a process, in a list that is made once for all who ask until rows of the table change.
-    pub fn group_listing(&mut self) -> Result<Shared<Group>, OutOfMemory>
-        ensures value { IfOk result (λ groups. IsGroupListing (count_of self.old) groups) }
-        ensures same { self.new ≡ self.old }
-    {
-        if let Some(groups) = self.listings.groups() {
-            return groups.try_clone(self.alloc);
-        }
-        let groups = Shared::of(self.rows.groups(self.alloc)?)?;
-        self.listings.keep_groups(groups.try_clone(self.alloc)?);
-        Ok(groups)
-    }
-
-    /// The groups with an own process.
-    pub fn local_groups(&self) -> Result<Vec<Group>, OutOfMemory>
-        ensures { IfOk result (λ groups. IsGroupListing (local_count self.now) groups.items) }
-    {
-        let held = self.rows.in_order(self.alloc, &self.own)?;
-        let groups = groups_of(self.alloc, &held)?;
-        Ok(groups)
-    }
-
-    /// The rows of the own processes.
-    pub fn local_rows(&self) -> Result<Vec<Row>, OutOfMemory>
-        ensures value { IfOk result (λ rows. IsRowListing (local_count self.now) rows.items) }
-        ensures limits { IfOk result (λ rows. length rows.items ≤ local_total self.now) }
-    {
-        let held = self.rows.in_order(self.alloc, &self.own)?;
-        let rows = rows_of(self.alloc, &held)?;
-        Ok(rows)
     }
 }
 

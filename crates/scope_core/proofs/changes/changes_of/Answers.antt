@@ -1,6 +1,5 @@
-use Rattle.scope_core.proofs.Words.{◌≡◌, [], ◌++◌, ◌∙◌, ap, sym, subst, arith}
-use Rattle.scope_core.proofs.Words.{append_assoc, change_unless_empty}
-use Rattle.std.proofs.lemmas.List.{append-nil}
+use Rattle.scope_core.proofs.Words.{◌≡◌, [], ◌++◌, ◌∙◌, ap, sym, subst, arith, append_assoc}
+use Rattle.scope_core.proofs.Words.{change_unless_empty, append-nil}
 use Rattle.scope_core.proofs.Told.{Run, Told, pids, run_at, some_run, told_none, told_next}
 use Rattle.scope_core.proofs.Told.{rises_back}
 use Rattle.scope_core.proofs.changes.changes_of.Goals.{After-split_at-in-Some}

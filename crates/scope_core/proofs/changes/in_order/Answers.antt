@@ -1,6 +1,13 @@
 use Rattle.scope_core.proofs.Words.{subst, pid_cmp, same_pid, mentions, IsPidListing, pids_total}
-use Rattle.scope_core.proofs.Words.{sorted_listing}
+use Rattle.scope_core.proofs.Words.{sorted_listing, arith}
+use Rattle.scope_core.proofs.Shares.{short_listing}
 use Rattle.scope_core.proofs.changes.in_order.Goals as goal
+
+pub returns-then-len-lt2 : goal.returns-then-len-lt2
+returns-then-len-lt2 c =
+    subst (λ ps. IsPidListing (λ p. mentions p ps) c.in_ok-copies.copies.items)
+    c.in_ok-copies.ensures
+    (short_listing pid_cmp same_pid _ (omega (arith, c.if-len-lt2.true, c.len.ensures)))
 
 pub returns : goal.returns
 returns c =

@@ -1,7 +1,5 @@
 use Rattle.scope_core.proofs.Words.{◌≡◌, ◌∷◌, arith, subst, row_in, AllByRecursion, same_decides}
-use Rattle.scope_core.proofs.Words.{same_row_decides}
-use Rattle.std.proofs.lemmas.Grind.{common_steps}
-use Rattle.scope_core.specs.HashedRows.{pid_of}
+use Rattle.scope_core.proofs.Words.{same_row_decides, common_steps, pid_of}
 use Rattle.scope_core.proofs.GroupRows.{behind_next}
 use Rattle.scope_core.proofs.group_members.behind.Goals as goal
 

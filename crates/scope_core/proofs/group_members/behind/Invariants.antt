@@ -1,5 +1,4 @@
-use Rattle.scope_core.proofs.Words.{◌≡◌, ◌++◌, ℕ, List, AllByRecursion, replicate, row_in}
-use Rattle.scope_core.specs.HashedRows.{pid_of}
+use Rattle.scope_core.proofs.Words.{◌≡◌, ◌++◌, ℕ, List, AllByRecursion, replicate, row_in, pid_of}
 use Rattle.scope_core.proofs.group_members.behind.Given as goal
 
 -- so many rows are the process's so far

@@ -1,7 +1,6 @@
 use Rattle.scope_core.proofs.Words.{◌++◌, ◌∙◌, ap, arith, append_assoc, replicate, row_in, List}
+use Rattle.scope_core.proofs.Words.{Row, pid_of}
 use Rattle.std.specs.List.Sorted.{IsStrictlySortedBy}
-use Rattle.dist_types.specs.declared.row.Row.{Row}
-use Rattle.scope_core.specs.HashedRows.{pid_of}
 use Rattle.scope_core.proofs.Outcomes.{some_any}
 use Rattle.scope_core.proofs.group_members.behind_all.Goals as goal
 

@@ -1,6 +1,4 @@
-use Rattle.scope_core.proofs.Words.{◌≡◌, ◌++◌}
-use Rattle.scope_core.specs.HashedRows.{group_rows}
-use Rattle.scope_core.specs.SmallMap.{entries_of}
+use Rattle.scope_core.proofs.Words.{◌≡◌, ◌++◌, group_rows, entries_of}
 use Rattle.scope_core.proofs.group_members.push_counted.Given as goal
 
 -- with those of the entries to come, all are there

@@ -1,6 +1,4 @@
-use Rattle.scope_core.proofs.Words.{◌≡◌, ◌++◌, spread}
-use Rattle.scope_core.specs.HashedRows.{pid_of}
-use Rattle.scope_core.specs.SmallMap.{entries_of}
+use Rattle.scope_core.proofs.Words.{◌≡◌, ◌++◌, spread, pid_of, entries_of}
 use Rattle.scope_core.proofs.group_members.push_pids.Given as goal
 
 -- with those of the entries to come, all are there

@@ -1,5 +1,4 @@
-use Rattle.scope_core.proofs.Words.{◌≡◌, ◌++◌, replicate}
-use Rattle.scope_core.specs.HashedRows.{pid_of}
+use Rattle.scope_core.proofs.Words.{◌≡◌, ◌++◌, replicate, pid_of}
 use Rattle.scope_core.proofs.group_members.push_times.Given as goal
 
 -- the copies so far

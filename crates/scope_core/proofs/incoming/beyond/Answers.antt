@@ -1,8 +1,8 @@
 use Rattle.scope_core.proofs.Words.{◌≡◌, ◌∷◌, ◌++◌, ◌+◌, ◌-◌, ◌∙◌, ap, sym, subst, arith, drop}
-use Rattle.scope_core.proofs.Words.{drop_more, Rises, counted_cmp, AllByRecursion, []}
-use Rattle.scope_core.proofs.Words.{times_beyond, picked}
-use Rattle.scope_core.proofs.Merges.{IsCountedAs, rises_drop, low_all, low_itself}
-use Rattle.scope_core.proofs.Merges.{picked_more, picked_none}
+use Rattle.scope_core.proofs.Words.{drop_more, Rises, counted_cmp, AllByRecursion, [], times_beyond}
+use Rattle.scope_core.proofs.Words.{picked}
+use Rattle.scope_core.proofs.Merges.{IsCountedAs, rises_drop, low_all, low_itself, picked_more}
+use Rattle.scope_core.proofs.Merges.{picked_none}
 use Rattle.scope_core.proofs.incoming.beyond.Goals.{then-count-gt0+in_ok-row+in_ok-push}
 use Rattle.scope_core.proofs.incoming.beyond.Goals.{else-count-gt0}
 use Rattle.scope_core.proofs.incoming.beyond.Goals as goal

@@ -1,7 +1,6 @@
 use Rattle.scope_core.proofs.Words.{◌≡◌, arith, subst, Less, Rises, counted_cmp, AllByRecursion}
-use Rattle.scope_core.proofs.Words.{drop, row_cmp, sym}
-use Rattle.std.specs.Prelude.{◌≢◌}
-use Rattle.scope_core.proofs.Merges.{low_next, above_all}
+use Rattle.scope_core.proofs.Words.{drop, row_cmp, sym, ◌≢◌}
+use Rattle.scope_core.proofs.Merges.{above_all}
 use Rattle.scope_core.proofs.incoming.from.Goals as goal
 
 pub returns-then-ge-clause-first : goal.returns-then-ge-clause-first
@@ -12,18 +11,3 @@ returns-then-ge-clause-first c =
     subst (λ rs. AllByRecursion (λ d. row_cmp row d.row ≡ Less) (drop 1 rs))
     (sym c.in-Some.ensures.cases.0)
     (above_all row c.in-Some.first.now c.in-Some.others.now high rises.0)
-
-pub loop-first-preserved : goal.loop-first-preserved
-loop-first-preserved c =
-    let row = c.args.row.now in
-    let low : row_cmp c.in-Some.first.now.row row ≡ Less = grind (arith, c.if-ge.ensures) in
-    let rises = subst (Rises counted_cmp) c.in-Some.ensures.cases.0 c.loop-first.invariant.rises in
-    record {
-      rises = rises.1;
-      low =
-          λ r n.
-          let was =
-          c.loop-first.invariant.low r n in
-          let less = low_next row r c.in-Some.first.now c.in-Some.others.now low n in
-          grind (arith, was, less, c.in-Some.ensures.cases.0);
-    }

@@ -1,6 +1,5 @@
 use Rattle.scope_core.proofs.Words.{◌≡◌, Less, length, Row, row_cmp, Rises, counted_cmp, tally}
-use Rattle.scope_core.proofs.Words.{is_row}
-use Rattle.std.specs.Prelude.{◌≢◌}
+use Rattle.scope_core.proofs.Words.{is_row, ◌≢◌}
 use Rattle.scope_core.proofs.incoming.from.Given as goal
 
 -- those left rise, and rows that aren't lower are counted among them as among all

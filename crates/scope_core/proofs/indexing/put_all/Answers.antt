@@ -1,4 +1,4 @@
-use Rattle.scope_core.specs.GroupNodes.{times_named}
+use Rattle.scope_core.proofs.Words.{times_named}
 use Rattle.scope_core.proofs.Outcomes.{on_err}
 use Rattle.scope_core.proofs.Indexed.{put_some}
 use Rattle.scope_core.proofs.indexing.put_all.Goals as goal

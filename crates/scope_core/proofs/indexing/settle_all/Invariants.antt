@@ -1,6 +1,5 @@
-use Rattle.scope_core.proofs.Words.{◌≡◌, ◌&&◌, cond, not, same, take, List, ℕ}
-use Rattle.scope_core.specs.GroupNodes.{times_named}
-use Rattle.scope_core.specs.Indexed.{has_members, is_named}
+use Rattle.scope_core.proofs.Words.{◌≡◌, ◌&&◌, cond, not, same, take, List, ℕ, times_named}
+use Rattle.scope_core.proofs.Words.{has_members, is_named}
 use Rattle.scope_core.proofs.indexing.settle_all.Given as goal
 
 -- those so far are settled

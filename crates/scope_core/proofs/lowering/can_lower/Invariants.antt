@@ -1,5 +1,4 @@
-use Rattle.scope_core.proofs.Words.{◌≤◌, take, length}
-use Rattle.scope_core.specs.LoweredRows.{IsLowered}
+use Rattle.scope_core.proofs.Words.{◌≤◌, take, length, IsLowered}
 use Rattle.scope_core.proofs.lowering.can_lower.Given as goal
 
 -- the first rows are lowered still

@@ -1,7 +1,5 @@
-use Rattle.scope_core.proofs.Words.{◌≡◌, ◌∙◌, ◌-◌, ap, sym, arith, suc, Some}
-use Rattle.std.specs.Option.{is_some, unwrap_or}
-use Rattle.std.specs.Map.{lookup, set_value}
-use Rattle.dist_types.specs.Listing.{same_row}
+use Rattle.scope_core.proofs.Words.{◌≡◌, ◌∙◌, ◌-◌, ap, sym, arith, suc, Some, same_row, is_some}
+use Rattle.scope_core.proofs.Words.{unwrap_or, lookup, set_value}
 use Rattle.scope_core.proofs.HashedWrites.{set_back, set_twice, lookup_set}
 use Rattle.scope_core.proofs.lowering.lower.Goals as goal
 

@@ -1,9 +1,6 @@
-use Rattle.scope_core.proofs.Words.{◌≡◌, ◌+◌, ap, sym, subst, refl, arith, get_or}
-use Rattle.scope_core.proofs.LoweredRows.{none_lowered, lowered_more}
+use Rattle.scope_core.proofs.Words.{◌≡◌, ◌+◌, ap, sym, subst, arith, get_or}
+use Rattle.scope_core.proofs.LoweredRows.{lowered_more}
 use Rattle.scope_core.proofs.lowering.lower_all.Goals as goal
-
-pub loop-row-init : goal.loop-row-init
-loop-row-init c = (refl, none_lowered c.args.counts.now.entries)
 
 pub loop-row-preserved : goal.loop-row-preserved
 loop-row-preserved c =

@@ -1,6 +1,4 @@
-use Rattle.scope_core.proofs.Words.{ap, sym, Some, None, ◌∙◌}
-use Rattle.std.specs.Option.{is_some}
-use Rattle.std.specs.Ordering.{eq_by_cmp}
+use Rattle.scope_core.proofs.Words.{ap, sym, Some, None, ◌∙◌, is_some, eq_by_cmp}
 use Rattle.scope_core.proofs.NestedMaps.{set_at, same_at, after_two}
 use Rattle.scope_core.proofs.nested_map.pop.Goals as goal
 

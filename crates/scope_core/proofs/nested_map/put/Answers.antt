@@ -1,7 +1,4 @@
-use Rattle.scope_core.proofs.Words.{ap, sym, Some}
-use Rattle.std.specs.Option.{is_some}
-use Rattle.std.specs.Ordering.{eq_by_cmp}
-use Rattle.scope_core.proofs.Outcomes.{ok_then, err_then}
+use Rattle.scope_core.proofs.Words.{ap, sym, Some, on_err_weaker, on_ok_weaker, is_some, eq_by_cmp}
 use Rattle.scope_core.proofs.NestedMaps.{set_at, same_at}
 use Rattle.scope_core.proofs.nested_map.put.Goals as goal
 
@@ -9,7 +6,7 @@ pub returns-clause-ok : goal.returns-clause-ok
 returns-clause-ok g c =
     let w = c.insert-2.new.self in
     let up = ((c.get_mut.follows.holds w).3 (ap is_some (sym c.in-Some.ensures.value))).0 in
-    ok_then c.insert-2.result
+    on_ok_weaker c.insert-2.result
     (λ put a b. set_at g.met.A.Ord.total g.B.Ord.cmp c.args.map.now
     (c.get_mut.follows.lender w) c.args.outer.now a b
     (eq_by_cmp g.B.Ord.cmp c.args.inner b) (Some c.args.value) c.in-Some.place.now (Some w)
@@ -20,7 +17,7 @@ pub returns-clause-same : goal.returns-clause-same
 returns-clause-same g c =
     let w = c.insert-2.new.self in
     let up = ((c.get_mut.follows.holds w).3 (ap is_some (sym c.in-Some.ensures.value))).0 in
-    err_then c.insert-2.result
+    on_err_weaker c.insert-2.result
     (λ same a b. same_at g.met.A.Ord.total g.B.Ord.cmp c.args.map.now
     (c.get_mut.follows.lender w) c.args.outer.now a b
     c.in-Some.place.now (Some w) (up a) c.in-Some.ensures.value (same b))

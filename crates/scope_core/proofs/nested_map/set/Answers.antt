@@ -1,6 +1,4 @@
-use Rattle.scope_core.proofs.Words.{ap, sym, Some}
-use Rattle.std.specs.Option.{is_some}
-use Rattle.std.specs.Ordering.{eq_by_cmp}
+use Rattle.scope_core.proofs.Words.{ap, sym, Some, is_some, eq_by_cmp}
 use Rattle.scope_core.proofs.NestedMaps.{set_at}
 use Rattle.scope_core.proofs.nested_map.set.Goals as goal
 

@@ -1,19 +1,12 @@
 use Rattle.scope_core.proofs.Words.{◌≡◌, ◌||◌, ◌&&◌, ◌-◌, ◌+◌, ◌<◌, ◌∷◌, [], ◌++◌, ◌∙◌, ap, sym}
-use Rattle.scope_core.proofs.Words.{subst, arith, refl, length, vec_len, Rises, AllByRecursion}
-use Rattle.scope_core.proofs.Words.{Less, set}
+use Rattle.scope_core.proofs.Words.{on_ok_weaker, subst, arith, refl, length, vec_len, Rises}
+use Rattle.scope_core.proofs.Words.{AllByRecursion, Less, set, row_cmp, keys_of, eq_by_cmp, is_eq}
+use Rattle.scope_core.proofs.Words.{ProcessKey, key_cmp, is_held, IsLastKey, One}
 use Rattle.std.proofs.lemmas.List.{set-get_or}
-use Rattle.std.specs.Map.{keys_of}
-use Rattle.std.specs.Ordering.{eq_by_cmp, is_eq}
-use Rattle.dist_types.specs.Order.{row_cmp}
-use Rattle.scope_core.specs.declared.process_key.ProcessKey.{ProcessKey}
-use Rattle.scope_core.specs.HashedRows.{key_cmp}
-use Rattle.scope_core.specs.Copies.{is_held, IsLastKey}
-use Rattle.scope_core.specs.declared.small_map.SmallMap.TheVariants.{One}
-use Rattle.scope_core.proofs.HashedRows.{keys_total}
-use Rattle.scope_core.proofs.Outcomes.{ok_then}
+use Rattle.scope_core.proofs.HashedRows.{keys_total, same_key_decides}
 use Rattle.scope_core.proofs.Pushed.{all_below, rises_push, last_pushed}
 use Rattle.scope_core.proofs.Copies.{held_set, keys_set, last_key, keys_push, held_push}
-use Rattle.scope_core.proofs.Copies.{behind_last, none_below, same_keys}
+use Rattle.scope_core.proofs.Copies.{behind_last, none_below}
 use Rattle.scope_core.proofs.node_indexes.add_copy.Goals.{in-Some+else-eq, in_default}
 use Rattle.scope_core.proofs.node_indexes.add_copy.Goals as goal
 
@@ -24,8 +17,8 @@ returns-then-eq-clause-held c =
     let m = c.insert.new.self in
     let within : vec_len v - 1 < length v.items =
     omega (arith, c.in-Some.ensures.variant.0 refl, v.ok) in
-    let same : last.0 ≡ c.args.key = same_keys last.0 c.args.key (sym c.if-eq.ensures) in
-    ok_then c.insert.result
+    let same : last.0 ≡ c.args.key = (same_key_decides last.0 c.args.key).0 (sym c.if-eq.ensures) in
+    on_ok_weaker c.insert.result
     (λ put k r.
     held_set c.args.row m last put k r v.items (vec_len v - 1) within c.in-Some.ensures.value
     ∙ ap (λ x. is_held k r v.items || (is_eq (key_cmp k x) && eq_by_cmp row_cmp c.args.row r)) same)
@@ -37,10 +30,10 @@ returns-then-eq-clause-last c =
     let last = c.in-Some.last.now in
     let end : vec_len v - 1 + 1 ≡ length v.items =
     omega (arith, c.in-Some.ensures.variant.0 refl, v.ok) in
-    let same : last.0 ≡ c.args.key = same_keys last.0 c.args.key (sym c.if-eq.ensures) in
+    let same : last.0 ≡ c.args.key = (same_key_decides last.0 c.args.key).0 (sym c.if-eq.ensures) in
     let was = last_key v.items (vec_len v - 1) last end c.in-Some.ensures.value in
     let m = c.insert.new.self in
-    ok_then c.insert.result
+    on_ok_weaker c.insert.result
     (λ put.
     subst (IsLastKey c.args.key)
     (sym (keys_set c.args.row m last put v.items (vec_len v - 1) c.in-Some.ensures.value))
@@ -50,7 +43,7 @@ returns-then-eq-clause-last c =
 pub returns-then-eq-clause-rises : goal.returns-then-eq-clause-rises
 returns-then-eq-clause-rises c =
     let v = c.args.all.now in
-    ok_then c.insert.result
+    on_ok_weaker c.insert.result
     (λ put rises low.
     subst (Rises key_cmp)
     (sym

@@ -1,5 +1,4 @@
-use Rattle.scope_core.proofs.Words.{◌∙◌, same_row}
-use Rattle.indexmap.proofs.CallerLemmas.{insert_entry-new}
+use Rattle.scope_core.proofs.Words.{◌∙◌, same_row, insert_entry-new}
 use Rattle.scope_core.proofs.RowEntries.{next_fresh, next_in}
 use Rattle.scope_core.proofs.node_indexes.counts_of.Goals as goal
 

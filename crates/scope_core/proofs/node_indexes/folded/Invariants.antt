@@ -1,9 +1,6 @@
 use Rattle.scope_core.proofs.Words.{◌≡◌, ◌||◌, false, is_gt, AllByRecursion, Rises, Ascends, Row}
-use Rattle.std.specs.Map.{keys_of}
+use Rattle.scope_core.proofs.Words.{keys_of, ProcessKey, key_cmp, is_held, is_keyed, IsLastKey}
 use Rattle.std.specs.Vec.Iter.{into_iter_items}
-use Rattle.scope_core.specs.declared.process_key.ProcessKey.{ProcessKey}
-use Rattle.scope_core.specs.HashedRows.{key_cmp}
-use Rattle.scope_core.specs.Copies.{is_held, is_keyed, IsLastKey}
 use Rattle.scope_core.proofs.node_indexes.folded.Given as goal
 
 -- the keys so far rise, none to come is below the last; what is held and what is to come is all

@@ -1,8 +1,5 @@
 use Rattle.scope_core.proofs.Words.{◌≡◌, ◌∷◌, [], ◌++◌, ◌∙◌, ap, sym, subst, arith, append_assoc}
-use Rattle.scope_core.proofs.Words.{is_gt, false, text_cmp}
-use Rattle.std.proofs.lemmas.List.{append-nil}
-use Rattle.scope_core.specs.SmallMap.{found}
-use Rattle.scope_core.specs.HashedRows.{key_cmp}
+use Rattle.scope_core.proofs.Words.{is_gt, false, text_cmp, append-nil, found, key_cmp}
 use Rattle.scope_core.proofs.Told.{Run, run_at, rises_front, rises_back, none_below_first, itself}
 use Rattle.scope_core.proofs.Making.{Indexes, indexes_none, indexes_next, first_above}
 use Rattle.scope_core.proofs.node_indexes.groups_of.Goals.{After-split_at}

@@ -1,6 +1,4 @@
-use Rattle.scope_core.proofs.Words.{ℕ, List, ◌++◌, length, Rises, counted_cmp}
-use Rattle.scope_core.specs.declared.process_key.ProcessKey.{ProcessKey}
-use Rattle.scope_core.specs.declared.small_map.SmallMap.{SmallMap}
+use Rattle.scope_core.proofs.Words.{ℕ, List, ◌++◌, length, Rises, counted_cmp, ProcessKey, SmallMap}
 use Rattle.scope_core.proofs.Making.{Indexes}
 use Rattle.scope_core.proofs.node_indexes.groups_of.Given as goal
 

@@ -1,5 +1,4 @@
-use Rattle.scope_core.proofs.Words.{◌∙◌, refl, arith}
-use Rattle.std.specs.Ordering.{eq_by_cmp}
+use Rattle.scope_core.proofs.Words.{◌∙◌, refl, arith, eq_by_cmp}
 use Rattle.std.specs.BTreeMap.{IsFromIterResult}
 use Rattle.std.proofs.lemmas.Map.Made.{update_all_none}
 use Rattle.std.proofs.lemmas.Cmp.{eq_by_cmp_equiv}

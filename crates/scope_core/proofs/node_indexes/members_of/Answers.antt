@@ -1,9 +1,7 @@
 use Rattle.scope_core.proofs.Words.{◌∷◌, [], ◌∙◌, ap, sym, subst, arith, cond, Some, None, same_row}
-use Rattle.scope_core.proofs.Words.{take_all}
-use Rattle.std.specs.Map.{lookup, keys_of}
+use Rattle.scope_core.proofs.Words.{take_all, lookup, keys_of, eq_by_cmp, is_eq, pid_of, key_cmp}
+use Rattle.scope_core.proofs.Words.{entries_in}
 use Rattle.std.specs.List.{IsDistinct}
-use Rattle.std.specs.Ordering.{eq_by_cmp, is_eq}
-use Rattle.scope_core.specs.HashedRows.{pid_of, key_cmp, entries_in}
 use Rattle.scope_core.proofs.Making.{OfOne, pairs, pairs_lookup, pairs_apart, alone}
 use Rattle.scope_core.proofs.node_indexes.members_of.Goals as goal
 

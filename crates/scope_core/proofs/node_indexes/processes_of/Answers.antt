@@ -1,8 +1,5 @@
 use Rattle.scope_core.proofs.Words.{◌∙◌, ap, sym, subst, refl, rules, Rises, always_returns_same}
-use Rattle.std.specs.Map.{keys_of}
-use Rattle.std.specs.BTreeMap.{get}
-use Rattle.scope_core.specs.HashedRows.{key_cmp}
-use Rattle.scope_core.specs.Copies.{is_held}
+use Rattle.scope_core.proofs.Words.{keys_of, get, key_cmp, is_held}
 use Rattle.scope_core.proofs.Copies.{copies_found, keyed_sorted, sorted_keys, maps_are}
 use Rattle.scope_core.proofs.Copies.{keys_of_maps}
 use Rattle.scope_core.proofs.node_indexes.processes_of.Goals as goal

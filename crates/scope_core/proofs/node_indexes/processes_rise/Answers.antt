@@ -1,10 +1,6 @@
-use Rattle.scope_core.proofs.Words.{◌≡◌, [], ◌∷◌, ◌++◌, ◌+◌, ◌∙◌, ap, sym, subst, arith, drop}
-use Rattle.scope_core.proofs.Words.{drop_more, Rises, refl}
-use Rattle.std.proofs.lemmas.List.{drop_all}
-use Rattle.std.specs.Option.{option_to_list}
-use Rattle.scope_core.specs.HashedRows.{key_cmp}
-use Rattle.scope_core.specs.Copies.{process_keys}
-use Rattle.scope_core.proofs.Copies.{rises_next, rises_end}
+use Rattle.scope_core.proofs.Words.{◌≡◌, ◌∷◌, ◌++◌, ◌+◌, ◌∙◌, ap, sym, subst, arith, drop}
+use Rattle.scope_core.proofs.Words.{drop_more, Rises, refl, option_to_list, key_cmp, process_keys}
+use Rattle.scope_core.proofs.Copies.{rises_next}
 use Rattle.scope_core.proofs.node_indexes.processes_rise.Goals as goal
 
 pub loop-counted-preserved : goal.loop-counted-preserved
@@ -25,11 +21,3 @@ loop-counted-preserved c = λ rises.
     rises_next last key (process_keys (drop (i + 1) rows)) (c.if-not-is_above.ensures refl)
     rises in
     c.loop-counted.invariant (subst (λ ks. Rises key_cmp (option_to_list last ++ ks)) keys all)
-
-pub returns : goal.returns
-returns c = λ rises.
-    let done : drop c.loop-counted.counted-index c.args.rows.now ≡ [] =
-    drop_all c.loop-counted.counted-index c.args.rows.now c.loop-counted-test.false in
-    c.loop-counted.invariant
-    (subst (λ cs. Rises key_cmp (option_to_list c.loop-counted.last ++ process_keys cs)) (sym done)
-    (rises_end c.loop-counted.last))

@@ -1,7 +1,4 @@
-use Rattle.scope_core.proofs.Words.{◌++◌, drop, Rises}
-use Rattle.std.specs.Option.{option_to_list}
-use Rattle.scope_core.specs.HashedRows.{key_cmp}
-use Rattle.scope_core.specs.Copies.{process_keys}
+use Rattle.scope_core.proofs.Words.{◌++◌, drop, Rises, option_to_list, key_cmp, process_keys}
 use Rattle.scope_core.proofs.node_indexes.processes_rise.Given as goal
 
 -- where the last key and those to come rise, all do

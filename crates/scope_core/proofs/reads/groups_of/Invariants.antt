@@ -1,5 +1,4 @@
-use Rattle.scope_core.proofs.Words.{drop}
-use Rattle.scope_core.proofs.Words.{◌≡◌, ◌++◌, None, heads, last_of}
+use Rattle.scope_core.proofs.Words.{drop, ◌≡◌, ◌++◌, None, heads, last_of}
 use Rattle.scope_core.proofs.reads.groups_of.Given as goal
 
 -- the groups so far, and those of the rows to come, are all

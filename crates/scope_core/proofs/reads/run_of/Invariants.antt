@@ -1,5 +1,4 @@
-use Rattle.scope_core.proofs.Words.{◌≡◌, true, AllWithin}
-use Rattle.scope_core.specs.Listed.{is_in}
+use Rattle.scope_core.proofs.Words.{◌≡◌, true, AllWithin, is_in}
 use Rattle.scope_core.proofs.reads.run_of.Given as goal
 
 -- the rows so far are of the group

@@ -1,6 +1,5 @@
-use Rattle.scope_core.proofs.Words.{◌∙◌, sym, ap, None}
+use Rattle.scope_core.proofs.Words.{◌∙◌, sym, ap, None, times_named}
 use Rattle.scope_core.proofs.GroupNodes.{set_same_times, set_rises}
-use Rattle.scope_core.specs.GroupNodes.{times_named}
 use Rattle.scope_core.proofs.group_nodes.GroupNodes.forget.Goals as goal
 
 pub invariant_of-self : goal.invariant_of-self

@@ -1,8 +1,7 @@
-use Rattle.scope_core.proofs.Words.{◌∙◌, sym, ap, cond, same, Some}
-use Rattle.std.specs.Option.{is_some}
-use Rattle.scope_core.proofs.Calls.{ok_then}
+use Rattle.scope_core.proofs.Words.{◌∙◌, sym, ap, cond, same, Some, on_err_weaker, on_ok_weaker}
+use Rattle.scope_core.proofs.Words.{is_some}
 use Rattle.scope_core.proofs.GroupNodes.{set_times, set_same_times, set_rises, found_nodes}
-use Rattle.scope_core.proofs.GroupNodes.{none_times, err_still, times}
+use Rattle.scope_core.proofs.GroupNodes.{none_times, times}
 use Rattle.scope_core.proofs.group_nodes.GroupNodes.put.Goals as goal
 
 pub begin-requires : goal.begin-requires
@@ -29,7 +28,7 @@ returns-clause-ok c =
     let w = c.add.new.nodes in
     let up = ((c.get_mut.follows.holds w).3 (ap is_some (sym c.in-Some.ensures.value))).0 in
     let was = found_nodes es group c.in-Some.nodes.now (sym c.in-Some.ensures.value) in
-    ok_then c.add.result
+    on_ok_weaker c.add.result
     (λ ok g n. rw (← c.self.view_is)
     (set_times es (c.get_mut.follows.lender w).entries group (Some w) up c.args.node.now 1
     (λ m. ok m ∙ ap (λ ns. cond (same c.args.node.now m) 1 (times ns m)) was) g n))
@@ -42,7 +41,7 @@ returns-clause-same c =
     let w = c.add.new.nodes in
     let up = ((c.get_mut.follows.holds w).3 (ap is_some (sym c.in-Some.ensures.value))).0 in
     let was = found_nodes es group c.in-Some.nodes.now (sym c.in-Some.ensures.value) in
-    err_still c.add.result
+    on_err_weaker c.add.result
     (λ still g n. rw (← c.self.view_is)
     (set_same_times es (c.get_mut.follows.lender w).entries group (Some w) up
     (λ m. ap (λ ns. times ns m) (still ∙ was)) g n))

@@ -1,6 +1,5 @@
-use Rattle.scope_core.proofs.Words.{◌∙◌, sym, ap, arith, cond, same, Some, same_decides}
-use Rattle.std.specs.Option.{is_some}
-use Rattle.std.proofs.lemmas.Grind.{common_steps}
+use Rattle.scope_core.proofs.Words.{◌∙◌, sym, ap, arith, cond, same, Some, same_decides, is_some}
+use Rattle.scope_core.proofs.Words.{common_steps}
 use Rattle.scope_core.proofs.GroupNodes.{set_times, set_rises, set_none, none_times, found_nodes}
 use Rattle.scope_core.proofs.GroupNodes.{times}
 use Rattle.scope_core.proofs.group_nodes.GroupNodes.take.Goals as goal

@@ -1,5 +1,4 @@
-use Rattle.scope_core.proofs.Words.{[], arith, subst, sym, HasRoomFor}
-use Rattle.scope_core.specs.HashedRows.{NodeTable, counted_in}
+use Rattle.scope_core.proofs.Words.{[], arith, subst, sym, HasRoomFor, NodeTable, counted_in}
 use Rattle.scope_core.proofs.LoweredRows.{row_le_node}
 use Rattle.scope_core.proofs.hashed_rows.HashedRows.are_all_in.Goals as goal
 

@@ -1,18 +1,8 @@
 use Rattle.scope_core.proofs.Words.{◌≡◌, ◌∙◌, ◌++◌, ap, sym, subst, arith, List, [], Row}
-use Rattle.scope_core.proofs.Words.{AllByRecursion}
-use Rattle.scope_core.proofs.Words.{append_assoc, all_from}
-use Rattle.scope_core.specs.HashedRows.{NodeTable}
-use Rattle.scope_core.specs.SmallMap.{entries_of}
+use Rattle.scope_core.proofs.Words.{AllByRecursion, append_assoc, NodeTable, entries_of}
 use Rattle.scope_core.proofs.GroupRows.{SortedMembers}
 use Rattle.scope_core.proofs.GroupIndex.{repeated, members_repeated, all_repeated, no_rows}
 use Rattle.scope_core.proofs.hashed_rows.HashedRows.are_just.Goals as goal
-
-pub loop-group-init : goal.loop-group-init
-loop-group-init c = (
-  all_from (λ r. r.pid.node ≡ c.args.self.now.node) c.args.rows.now (λ k d l h. c.requires k d h),
-  λ xs h. h,
-  λ a. a,
-)
 
 pub loop-group-preserved : goal.loop-group-preserved
 loop-group-preserved c =

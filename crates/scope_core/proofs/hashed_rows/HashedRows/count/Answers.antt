@@ -1,8 +1,5 @@
-use Rattle.scope_core.proofs.Words.{◌≡◌, ◌∙◌, ap, sym, arith, tally, is_row, same_row}
-use Rattle.std.specs.Option.{unwrap_or}
-use Rattle.std.specs.Map.{lookup}
-use Rattle.std.proofs.lemmas.Grind.{common_steps}
-use Rattle.scope_core.specs.HashedRows.{NodeTable}
+use Rattle.scope_core.proofs.Words.{◌≡◌, ◌∙◌, ap, sym, arith, tally, is_row, same_row, unwrap_or}
+use Rattle.scope_core.proofs.Words.{lookup, common_steps, NodeTable}
 use Rattle.scope_core.proofs.HashedRows.{count_is}
 use Rattle.scope_core.proofs.hashed_rows.HashedRows.count.Goals as goal
 

@@ -1,9 +1,5 @@
-use Rattle.scope_core.proofs.Words.{◌≡◌, ◌∙◌, ap, sym, arith, tally, is_row, same_row}
-use Rattle.std.specs.Option.{unwrap_or}
-use Rattle.std.specs.Map.{lookup}
-use Rattle.std.proofs.lemmas.Grind.{common_steps}
-use Rattle.dist_types.specs.declared.row.Row.{Row}
-use Rattle.scope_core.specs.HashedRows.{NodeTable, pid_of}
+use Rattle.scope_core.proofs.Words.{◌≡◌, ◌∙◌, ap, sym, arith, tally, is_row, same_row, Row}
+use Rattle.scope_core.proofs.Words.{unwrap_or, lookup, common_steps, NodeTable, pid_of}
 use Rattle.scope_core.proofs.HashedRows.{count_is}
 use Rattle.scope_core.proofs.hashed_rows.HashedRows.count_in.Goals as goal
 

@@ -1,10 +1,6 @@
-use Rattle.scope_core.proofs.Words.{◌≡◌, ◌∙◌, ap, sym, subst, arith, true}
-use Rattle.scope_core.specs.HashedRows.{NodeTable}
+use Rattle.scope_core.proofs.Words.{◌≡◌, ◌∙◌, ap, sym, subst, arith, true, has_members, text_cmp}
+use Rattle.scope_core.proofs.Words.{NodeTable, key_cmp, found, get}
 use Rattle.scope_core.proofs.HashedWrites.{none_there}
-use Rattle.scope_core.specs.HashedRows.{key_cmp}
-use Rattle.scope_core.specs.SmallMap.{found}
-use Rattle.std.specs.BTreeMap.{get}
-use Rattle.scope_core.proofs.Words.{has_members, text_cmp}
 use Rattle.scope_core.proofs.Outcomes.{some_of}
 use Rattle.scope_core.proofs.hashed_rows.HashedRows.groups.Goals as goal
 

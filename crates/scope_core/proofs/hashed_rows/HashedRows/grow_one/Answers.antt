@@ -1,7 +1,5 @@
-use Rattle.scope_core.proofs.Words.{◌≡◌, ◌∙◌, ap, sym, arith, true, false}
-use Rattle.std.proofs.lemmas.Grind.{common_steps}
-use Rattle.scope_core.specs.HashedRows.{NodeTable, stands}
-use Rattle.scope_core.proofs.Outcomes.{ok_then}
+use Rattle.scope_core.proofs.Words.{◌≡◌, ◌∙◌, ap, sym, arith, true, false, on_ok_weaker}
+use Rattle.scope_core.proofs.Words.{common_steps, NodeTable, stands}
 use Rattle.scope_core.proofs.HashedRows.{stands_is}
 use Rattle.scope_core.proofs.hashed_rows.HashedRows.grow_one.Goals as goal
 
@@ -13,10 +11,9 @@ returns-then-contains_key-clause-ok c =
     ∙ sym c.contains_key.ensures ∙ c.if-contains_key.true in
     grind (arith, common_steps, there)
 
-pub put-requires-clause-fresh : goal.put-requires-clause-fresh
-put-requires-clause-fresh c =
-    ap (λ r. stands r c.args.self.now.rows) c.in_ok-copy.ensures
-    ∙ sym (ap (λ (t : NodeTable). stands c.args.row.now t.rows) c.self.view_is)
+pub put_copy-requires-clause-fresh : goal.put_copy-requires-clause-fresh
+put_copy-requires-clause-fresh c =
+    sym (ap (λ (t : NodeTable). stands c.args.row.now t.rows) c.self.view_is)
     ∙ stands_is c.args.row.now c.self.inside.counts.entries
     ∙ sym c.contains_key.ensures ∙ c.if-contains_key.false
 
@@ -26,6 +23,6 @@ returns-clause-ok c =
     sym (ap (λ (t : NodeTable). stands c.args.row.now t.rows) c.self.view_is)
     ∙ stands_is c.args.row.now c.self.inside.counts.entries
     ∙ sym c.contains_key.ensures ∙ c.if-contains_key.false in
-    ok_then c.put.result
-    (λ put. ap (λ (t : NodeTable). t.rows) put ∙ grind (arith, absent, c.in_ok-copy.ensures))
-    c.put.ensures.ok
+    on_ok_weaker c.put_copy.result
+    (λ put. ap (λ (t : NodeTable). t.rows) put ∙ grind (arith, absent))
+    c.put_copy.ensures.ok

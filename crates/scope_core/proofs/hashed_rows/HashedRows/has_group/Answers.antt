@@ -1,8 +1,5 @@
 use Rattle.scope_core.proofs.Words.{◌≡◌, ◌∙◌, ap, sym, subst, refl, arith, true, false, Bool, not}
-use Rattle.scope_core.proofs.Words.{has_members, AreCounted}
-use Rattle.scope_core.specs.declared.process_key.ProcessKey.{ProcessKey}
-use Rattle.std.specs.Option.{is_some}
-use Rattle.scope_core.specs.HashedRows.{NodeTable}
+use Rattle.scope_core.proofs.Words.{has_members, AreCounted, ProcessKey, is_some, NodeTable}
 use Rattle.scope_core.proofs.HashedWrites.{none_there, some_there}
 use Rattle.scope_core.proofs.hashed_rows.HashedRows.has_group.Goals as goal
 

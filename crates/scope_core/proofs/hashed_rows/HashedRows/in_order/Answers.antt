@@ -1,6 +1,5 @@
 use Rattle.scope_core.proofs.Words.{◌∙◌, ◌++◌, ap, sym, subst, tally, is_row, AllByRecursion, Rises}
-use Rattle.scope_core.proofs.Words.{counted_cmp}
-use Rattle.std.proofs.lemmas.List.{append-nil}
+use Rattle.scope_core.proofs.Words.{counted_cmp, append-nil}
 use Rattle.scope_core.proofs.GroupRows.{SortedMembers, flat, flat_rises}
 use Rattle.scope_core.proofs.GroupIndex.{index_tally}
 use Rattle.scope_core.proofs.hashed_rows.HashedRows.in_order.Goals as goal

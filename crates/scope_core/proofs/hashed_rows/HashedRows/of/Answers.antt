@@ -1,5 +1,4 @@
-use Rattle.scope_core.proofs.Words.{◌∙◌, ap}
-use Rattle.scope_core.specs.HashedRows.{counted_in}
+use Rattle.scope_core.proofs.Words.{◌∙◌, ap, counted_in}
 use Rattle.scope_core.proofs.RowEntries.{back_again, hashed_of}
 use Rattle.scope_core.proofs.hashed_rows.HashedRows.of.Goals as goal
 

@@ -1,11 +1,7 @@
 use Rattle.scope_core.proofs.Words.{◌≡◌, ◌∙◌, ◌&&◌, ap, sym, subst, [], cond, list_any, tally}
-use Rattle.scope_core.proofs.Words.{is_row, same_row}
-use Rattle.scope_core.proofs.Words.{same_pid, row_cmp, List, ℕ, Pid, Row, AreCounted, HasRoomFor}
-use Rattle.scope_core.proofs.Words.{IsKept}
-use Rattle.std.specs.Option.{is_some}
-use Rattle.std.specs.Map.{keys_of}
-use Rattle.scope_core.specs.SmallMap.{entries_of, found}
-use Rattle.scope_core.specs.HashedRows.{NodeTable, has_key, has_row, key_of, with_counts}
+use Rattle.scope_core.proofs.Words.{is_row, same_row, same_pid, row_cmp, List, ℕ, Pid, Row}
+use Rattle.scope_core.proofs.Words.{AreCounted, HasRoomFor, IsKept, is_some, keys_of, entries_of}
+use Rattle.scope_core.proofs.Words.{found, NodeTable, has_key, has_row, key_of, with_counts}
 use Rattle.scope_core.proofs.Outcomes.{if_both}
 use Rattle.scope_core.proofs.ProcessRows.{in_keys, none_sorted, process_counts, process_kept}
 use Rattle.scope_core.proofs.hashed_rows.HashedRows.of_process.Goals.{After-counted_all}

@@ -1,41 +1,22 @@
 use Rattle.scope_core.proofs.Words.{◌≡◌, ◌∙◌, ap, sym, subst, arith, true, false, None, same_row}
-use Rattle.scope_core.proofs.Words.{◌&&◌, same_decides, same_pid_decides, length-map}
-use Rattle.std.specs.Option.{is_some, unwrap_or}
-use Rattle.std.specs.Map.{lookup}
-use Rattle.std.proofs.lemmas.Grind.{common_steps}
-use Rattle.dist_types.specs.declared.row.Row.{Row}
-use Rattle.scope_core.specs.HashedRows.{NodeTable, has_row, key_of, has_key}
-use Rattle.scope_core.proofs.HashedRows.{count_is, take_copy, some_cond, taken_tally}
-use Rattle.scope_core.proofs.HashedWrites.{set_group}
-use Rattle.scope_core.proofs.HashedRows.{own_at, taken_counted}
-use Rattle.scope_core.proofs.HashedWrites.{none_of, own_set}
+use Rattle.scope_core.proofs.Words.{◌&&◌, same_decides, same_pid_decides, length-map, Row, is_some}
+use Rattle.scope_core.proofs.Words.{unwrap_or, lookup, common_steps, NodeTable, has_row, key_of}
+use Rattle.scope_core.proofs.Words.{has_key}
+use Rattle.scope_core.proofs.HashedRows.{count_is, some_cond, taken_tally, own_at, taken_counted}
+use Rattle.scope_core.proofs.HashedWrites.{none_of, hashed_write}
 use Rattle.scope_core.proofs.hashed_rows.HashedRows.pop_of.Goals as goal
 
 pub invariant_of-self-2 : goal.invariant_of-self-2
 invariant_of-self-2 c =
-    let es = c.self.inside.counts.entries in
-    let fs = c.swap_remove.new.self.entries in
     let row = c.in-Some.row in
-    let node = c.self.inside.node in
-    let gone = c.swap_remove.ensures.updates.0 in
     let found = sym (c.self.invariant.by_process c.of-key.result row) ∙ c.in-Some.ensures.found in
-    let there : has_row es row ≡ true = grind (arith, found) in
-    let own = own_at node row es c.self.invariant.own there in
+    let there : has_row c.self.inside.counts.entries row ≡ true = grind (arith, found) in
     let key : key_of row.pid ≡ c.of-key.result = grind (arith, found) in
     let took = rw (← key) at c.take.ensures in
     let popped = rw (← key) at c.in-Some.ensures.taken in
-    record {
-      once = c.swap_remove.ensures.unique;
-      own = own_set node row es fs None own gone c.self.invariant.own;
-      by_group =
-          λ g k. set_group node g k row own es fs None _ _
-          (c.self.invariant.by_group g k) (took g k)
-          (gone _);
-      by_process =
-          λ k r. take_copy k row r _ _ (has_row es r) (has_row fs r)
-          (c.self.invariant.by_process k r)
-          (some_cond _ _ _ _ (popped k r)) (some_cond _ _ _ _ (gone r));
-    }
+    hashed_write c.self.invariant row (own_at _ row _ c.self.invariant.own there) None _ _ _
+    c.swap_remove.ensures.unique c.swap_remove.ensures.updates.0 took
+    (λ k r. some_cond _ _ _ _ (popped k r))
 
 pub returns-in_default-clause-none : goal.returns-in_default-clause-none
 returns-in_default-clause-none c =

@@ -1,8 +1,6 @@
 use Rattle.scope_core.proofs.Words.{◌≡◌, ◌∙◌, ◌++◌, ap, sym, subst, arith, true, same, same_decides}
-use Rattle.scope_core.proofs.Words.{same_pid}
-use Rattle.scope_core.proofs.Words.{how_many_append, mentions, Ascends, pid_cmp, spread}
-use Rattle.scope_core.specs.HashedRows.{key_of, key_cmp, pid_of}
-use Rattle.scope_core.specs.SmallMap.{entries_of, found}
+use Rattle.scope_core.proofs.Words.{same_pid, how_many_append, mentions, Ascends, pid_cmp, spread}
+use Rattle.scope_core.proofs.Words.{key_of, key_cmp, pid_of, entries_of, found}
 use Rattle.scope_core.proofs.Outcomes.{ok_both}
 use Rattle.scope_core.proofs.HashedWrites.{in_group_count}
 use Rattle.scope_core.proofs.GroupIndex.{left_ascends}
@@ -19,9 +17,6 @@ returns-in_default-clause-counts c = λ p.
     in_group_count node g p es _ c.self.invariant.once ((same_decides node p.node).0 h)
     (sym none ∙ c.self.invariant.by_group g (key_of p)) in
     rw (← c.self.view_is) (grind (arith, count))
-
-pub returns-in_default-clause-ascends : goal.returns-in_default-clause-ascends
-returns-in_default-clause-ascends c = λ none. subst (Ascends pid_cmp) (sym none) tt
 
 pub returns-clause-counts : goal.returns-clause-counts
 returns-clause-counts c =

@@ -1,14 +1,9 @@
 use Rattle.scope_core.proofs.Words.{◌≡◌, ◌∙◌, ◌++◌, [], ◌∷◌, ap, sym, arith, Some, None, same_row}
-use Rattle.scope_core.proofs.Words.{List, ℕ}
-use Rattle.std.specs.Option.{is_some}
-use Rattle.std.specs.Map.{lookup}
-use Rattle.dist_types.specs.declared.row.Row.{Row}
-use Rattle.scope_core.specs.HashedRows.{NodeTable, counted_in, has_row, stands}
+use Rattle.scope_core.proofs.Words.{List, ℕ, Row, is_some, lookup, NodeTable, counted_in, stands}
+use Rattle.scope_core.proofs.Words.{insert_entry-new}
 use Rattle.scope_core.proofs.Outcomes.{from_ok, from_not_err, from_err}
-use Rattle.scope_core.proofs.HashedRows.{put_copy, some_cond, stands_is, counted_more}
-use Rattle.scope_core.proofs.HashedWrites.{set_group}
-use Rattle.scope_core.proofs.HashedWrites.{back_group, own_set}
-use Rattle.indexmap.proofs.CallerLemmas.{insert_entry-new}
+use Rattle.scope_core.proofs.HashedRows.{some_cond, stands_is, counted_more}
+use Rattle.scope_core.proofs.HashedWrites.{back_group, hashed_write}
 use Rattle.scope_core.proofs.hashed_rows.HashedRows.put.Goals as goal
 
 pub invariant_of-self-in_err-put : goal.invariant_of-self-in_err-put
@@ -42,7 +37,6 @@ invariant_of-self-then-is_err c =
 
 pub invariant_of-self-2 : goal.invariant_of-self-2
 invariant_of-self-2 c =
-    let es = c.self.inside.counts.entries in
     let row = c.args.row in
     let own : row.pid.node ≡ c.self.inside.node =
     c.requires.own ∙ sym (ap (λ (t : NodeTable). t.node) c.self.view_is) in
@@ -54,19 +48,8 @@ invariant_of-self-2 c =
     rw (c.in_ok-copy.ensures, c.of-key.ensures) at
     (from_not_err c.put-copied.result
     (sym c.is_err.ensures.value ∙ c.if-is_err.false) c.put-copied.ensures.ok) in
-    record {
-      once = c.insert.ensures.unique;
-      own =
-          own_set c.self.inside.node row es c.insert.new.self.entries
-          (Some c.args.count) own there c.self.invariant.own;
-      by_group =
-          λ g k. set_group c.self.inside.node g k row own es c.insert.new.self.entries
-          (Some c.args.count) _ _ (c.self.invariant.by_group g k) (put g k) (there _);
-      by_process =
-          λ k r. put_copy k row r _ _ (has_row es r) (has_row c.insert.new.self.entries r)
-          (c.self.invariant.by_process k r)
-          (some_cond _ _ _ _ (copied k r)) (some_cond _ _ _ _ (there r));
-    }
+    hashed_write c.self.invariant row own (Some c.args.count) _ _ _ c.insert.ensures.unique there
+    put (λ k r. some_cond _ _ _ _ (copied k r))
 
 pub returns-clause-ok : goal.returns-clause-ok
 returns-clause-ok c =

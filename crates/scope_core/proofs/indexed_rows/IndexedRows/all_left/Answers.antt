@@ -1,11 +1,11 @@
-use Rattle.scope_core.proofs.Words.{◌∙◌, ap, sym, arith, tally, is_row, cond, same}
-use Rattle.scope_core.specs.HashedRows.{NodeTable}
-use Rattle.scope_core.proofs.NodeTables.{if_ok, node_count}
+use Rattle.scope_core.proofs.Words.{◌∙◌, ap, sym, arith, tally, is_row, cond, same, IfOk-weaker}
+use Rattle.scope_core.proofs.Words.{NodeTable}
+use Rattle.scope_core.proofs.NodeTables.{node_count}
 use Rattle.scope_core.proofs.indexed_rows.IndexedRows.all_left.Goals as goal
 
 pub returns-in-Some : goal.returns-in-Some
 returns-in-Some c =
-    if_ok c.all_left.result (λ changes told.
+    IfOk-weaker c.all_left.result _ _ (λ changes told.
     let n = c.args.node.now in
     let all = c.self.inside.lists in
     let mine = λ (g : _) (p : _). ap (λ (t : NodeTable). tally (is_row g p) t.rows)

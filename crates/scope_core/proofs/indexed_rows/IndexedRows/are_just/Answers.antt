@@ -1,12 +1,7 @@
 use Rattle.scope_core.proofs.Words.{◌≡◌, ◌∙◌, ap, sym, arith, refl, tally, is_row, how_many, length}
-use Rattle.scope_core.proofs.Words.{Row, List, ℕ, Pid, [], ◌∷◌}
-use Rattle.scope_core.specs.HashedRows.{NodeTable}
+use Rattle.scope_core.proofs.Words.{Row, List, ℕ, Pid, [], ◌∷◌, NodeTable}
 use Rattle.scope_core.proofs.NodeTables.{node_count}
 use Rattle.scope_core.proofs.indexed_rows.IndexedRows.are_just.Goals as goal
-
-pub are_just-requires : goal.are_just-requires
-are_just-requires c = λ k d l. c.requires k d l
-    ∙ sym (ap (λ (t : NodeTable). t.node) c.rows.ensures.rows ∙ c.in-Some.ensures.node)
 
 pub returns-then-total-rows : goal.returns-then-total-rows
 returns-then-total-rows c = λ yes g p.

@@ -1,5 +1,4 @@
-use Rattle.scope_core.proofs.Words.{ap, sym, arith, tally, is_row, same_decides}
-use Rattle.scope_core.specs.HashedRows.{NodeTable}
+use Rattle.scope_core.proofs.Words.{ap, sym, arith, tally, is_row, same_decides, NodeTable}
 use Rattle.scope_core.proofs.NodeTables.{node_count}
 use Rattle.scope_core.proofs.indexed_rows.IndexedRows.count.Goals as goal
 

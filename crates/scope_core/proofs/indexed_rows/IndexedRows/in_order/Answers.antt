@@ -1,11 +1,10 @@
-use Rattle.scope_core.proofs.Words.{◌∙◌, ap, sym, arith, tally, is_row}
-use Rattle.scope_core.specs.HashedRows.{NodeTable}
-use Rattle.scope_core.proofs.NodeTables.{if_ok, node_count}
+use Rattle.scope_core.proofs.Words.{◌∙◌, ap, sym, arith, tally, is_row, IfOk-weaker, NodeTable}
+use Rattle.scope_core.proofs.NodeTables.{node_count}
 use Rattle.scope_core.proofs.indexed_rows.IndexedRows.in_order.Goals as goal
 
 pub returns-in-Some-clause-counts : goal.returns-in-Some-clause-counts
 returns-in-Some-clause-counts c =
-    if_ok c.in_order.result (λ rows counts g p.
+    IfOk-weaker c.in_order.result _ _ (λ rows counts g p.
     let mine = node_count c.args.node.now g p c.self.inside.lists c.in-Some.list.now.rows
     c.in-Some.ensures.rows in
     rw (← c.self.view_is)

@@ -1,12 +1,12 @@
-use Rattle.scope_core.proofs.Words.{sym, ◌∙◌}
-use Rattle.scope_core.proofs.Indexed.{err_is, err_not, unsettled, joined_settled}
-use Rattle.scope_core.specs.GroupNodes.{times_named}
+use Rattle.scope_core.proofs.Words.{sym, ◌∙◌, times_named}
+use Rattle.scope_core.proofs.Outcomes.{from_err, from_not_err}
+use Rattle.scope_core.proofs.Indexed.{unsettled, joined_settled}
 use Rattle.scope_core.proofs.indexed_rows.IndexedRows.join.Goals as goal
 
 pub invariant_of-self : goal.invariant_of-self
 invariant_of-self c =
     let some =
-    err_is c.put_all.result
+    from_err c.put_all.result
     (sym c.is_err.ensures.value ∙ c.if-is_err.true) c.put_all.ensures.some in
     unsettled c.args.changes.now c.args.node.now c.self.inside.lists
     (times_named c.self.inside.index) (times_named c.put_all.new.index)
@@ -15,10 +15,10 @@ invariant_of-self c =
 pub invariant_of-self-else-is_err-2 : goal.invariant_of-self-else-is_err-2
 invariant_of-self-else-is_err-2 c =
     let put =
-    err_not c.put_all.result
+    from_not_err c.put_all.result
     (sym c.is_err.ensures.value ∙ c.if-is_err.false) c.put_all.ensures.ok in
     let joins =
-    err_not c.join-joined.result
+    from_not_err c.join-joined.result
     (sym c.is_err-2.ensures.value ∙ c.if-is_err-2.false) c.join-joined.ensures.ok in
     joined_settled c.args.changes.now c.args.node.now c.args.more.items c.self.inside.lists
     c.join-joined.new.self (times_named c.self.inside.index)

@@ -1,18 +1,28 @@
-use Rattle.scope_core.proofs.Words.{ap, ◌∙◌, tally, is_row, pid_cmp, same_pid, pids_total}
-use Rattle.scope_core.proofs.Words.{sorted_listing}
+use Rattle.scope_core.proofs.Words.{◌≡◌, ◌∙◌, ap, arith, tally, is_row, pid_cmp, same_pid}
+use Rattle.scope_core.proofs.Words.{pids_total, sorted_listing, mentions, Ascends, IsPidListing}
+use Rattle.scope_core.proofs.Words.{List, ℕ, Pid}
 use Rattle.scope_core.proofs.Indexed.{all_gathered}
+use Rattle.scope_core.proofs.indexed_rows.IndexedRows.members.Goals.{then-nodes-gt1, else-nodes-gt1}
 use Rattle.scope_core.proofs.indexed_rows.IndexedRows.members.Goals as goal
+
+listing : (count : Pid → ℕ) (ps : List Pid) → Ascends pid_cmp ps
+    → ((p : Pid) → mentions p ps ≡ count p) → IsPidListing count ps
+listing count ps ascends counts = record { ascends = ascends; counts = counts }
 
 pub returns : goal.returns
 returns c =
-    let sorted =
-    sorted_listing pid_cmp same_pid pids_total _ _ c.sort_unstable.ensures.permutation
-    c.sort_unstable.ensures.sorted in
-    record {
-      ascends = sorted.ascends;
-      counts =
-          λ p. sorted.counts p ∙ c.in_ok-pids.ensures p
-          ∙ all_gathered c.args.group.now p c.self.inside.lists _
-          (c.of.ensures.nodes p.node ∙ c.self.invariant c.args.group.now p.node)
-          ∙ ap (tally (is_row c.args.group.now p)) c.self.view_is;
-    }
+    let counts =
+    λ (p : Pid). c.in_ok-pids.ensures.counts p
+    ∙ all_gathered c.args.group.now p c.self.inside.lists _
+    (c.of-nodes.ensures.nodes p.node ∙ c.self.invariant c.args.group.now p.node)
+    ∙ ap (tally (is_row c.args.group.now p)) c.self.view_is in
+    elim c.if-nodes-gt1.branch [
+      | then-nodes-gt1 w ↦
+          let sorted =
+          sorted_listing pid_cmp same_pid pids_total _ _ w.sort_unstable.ensures.permutation
+          w.sort_unstable.ensures.sorted in
+          rw w.pids-is (listing _ _ sorted.ascends (λ p. sorted.counts p ∙ counts p))
+      | else-nodes-gt1 w ↦
+          rw w.pids-is (listing _ _
+          (c.in_ok-pids.ensures.ascends (omega (arith, w.if-nodes-gt1.false))) counts)
+    ]

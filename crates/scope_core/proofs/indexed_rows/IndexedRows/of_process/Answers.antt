@@ -1,11 +1,11 @@
 use Rattle.scope_core.proofs.Words.{ap, sym, arith, tally, is_row, same_pid_decides, same_decides}
-use Rattle.scope_core.specs.HashedRows.{NodeTable}
-use Rattle.scope_core.proofs.NodeTables.{if_ok, node_count}
+use Rattle.scope_core.proofs.Words.{IfOk-weaker, NodeTable}
+use Rattle.scope_core.proofs.NodeTables.{node_count}
 use Rattle.scope_core.proofs.indexed_rows.IndexedRows.of_process.Goals as goal
 
 pub returns-in-Some-clause-counts : goal.returns-in-Some-clause-counts
 returns-in-Some-clause-counts c =
-    if_ok c.of_process.result (λ rows counts g p.
+    IfOk-weaker c.of_process.result _ _ (λ rows counts g p.
     let q = c.args.pid.now in
     let mine = node_count q.node g p c.self.inside.lists c.in-Some.list.now.rows
     c.in-Some.ensures.rows in

@@ -1,6 +1,5 @@
 use Rattle.scope_core.proofs.Words.{◌∙◌, ap, sym, subst, refl, arith, cond, has_members, ◌≤◌}
-use Rattle.scope_core.specs.HashedRows.{NodeTable}
-use Rattle.scope_core.specs.GroupNodes.{times_named}
+use Rattle.scope_core.proofs.Words.{times_named, NodeTable}
 use Rattle.scope_core.proofs.Indexed.{dropped}
 use Rattle.scope_core.proofs.indexed_rows.IndexedRows.remove_node.Goals as goal
 

@@ -1,14 +1,12 @@
-use Rattle.scope_core.proofs.Words.{sym, ◌∙◌}
-use Rattle.scope_core.proofs.Calls.{ok_then}
-use Rattle.scope_core.proofs.Indexed.{err_is, err_not, unsettled, step_settled, covers_replaced}
-use Rattle.scope_core.proofs.Indexed.{replaced_others}
-use Rattle.scope_core.specs.GroupNodes.{times_named}
+use Rattle.scope_core.proofs.Words.{sym, ◌∙◌, on_ok_weaker, times_named}
+use Rattle.scope_core.proofs.Outcomes.{from_err, from_not_err}
+use Rattle.scope_core.proofs.Indexed.{unsettled, step_settled, covers_replaced, replaced_others}
 use Rattle.scope_core.proofs.indexed_rows.IndexedRows.replace.Goals as goal
 
 pub invariant_of-self : goal.invariant_of-self
 invariant_of-self c =
     let some =
-    err_is c.put_all.result
+    from_err c.put_all.result
     (sym c.is_err.ensures.value ∙ c.if-is_err.true) c.put_all.ensures.some in
     unsettled c.args.changes.now c.args.node.now c.self.inside.lists
     (times_named c.self.inside.index) (times_named c.put_all.new.index)
@@ -20,12 +18,12 @@ invariant_of-self-2 c =
     let cs = c.args.changes.now in
     let was = c.self.inside.lists in
     let put =
-    err_not c.put_all.result
+    from_not_err c.put_all.result
     (sym c.is_err.ensures.value ∙ c.if-is_err.false) c.put_all.ensures.ok in
     step_settled c.replace-replaced.result cs n was c.replace-replaced.new.self
     (times_named c.self.inside.index) (times_named c.put_all.new.index)
     (times_named c.settle_all-2.new.index) c.self.invariant put c.settle_all-2.ensures
-    (ok_then c.replace-replaced.result
+    (on_ok_weaker c.replace-replaced.result
     (λ joins. (
       covers_replaced n c.args.rows.items was c.replace-replaced.new.self joins cs
           (rw (← c.self.view_is) at c.requires.changes),

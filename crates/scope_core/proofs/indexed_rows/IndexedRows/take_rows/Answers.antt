@@ -1,5 +1,4 @@
-use Rattle.scope_core.proofs.Words.{◌<◌, ◌≤◌, sym, subst, arith, tally, is_row, take_all, length}
-use Rattle.scope_core.proofs.Words.{Counted}
+use Rattle.scope_core.proofs.Words.{◌<◌, ◌≤◌, sym, subst, arith, tally, is_row, length, Counted}
 use Rattle.scope_core.proofs.Runs.{all_at}
 use Rattle.scope_core.proofs.Tallies.{tally_take}
 use Rattle.scope_core.proofs.GoneRows.{none_before}
@@ -26,7 +25,3 @@ loop-counted-preserved c = λ test.
     let next = tally_take test c.args.gone.now c.loop-counted.counted-index c.counted-item.result
     (omega (arith, c.loop-counted-test.true)) c.counted-item.is in
     grind (arith, so_far, taken, next)
-
-pub returns : goal.returns
-returns c = rw (← take_all c.loop-counted.counted-index c.args.gone.now c.loop-counted-test.false)
-    c.loop-counted.invariant

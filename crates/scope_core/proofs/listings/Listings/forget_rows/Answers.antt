@@ -1,15 +1,8 @@
 use Rattle.scope_core.proofs.Words.{◌≡◌, ◌∙◌, ap, arith, true, has_members, length, list_any, same}
 use Rattle.scope_core.proofs.Words.{List, ℕ}
-use Rattle.scope_core.proofs.Kept.{forgets_next, forgets_end, still_listed}
+use Rattle.scope_core.proofs.Kept.{forgets_end, still_listed}
 use Rattle.scope_core.proofs.Indexed.{got_named}
 use Rattle.scope_core.proofs.listings.Listings.forget_rows.Goals as goal
-
-pub loop-group-preserved : goal.loop-group-preserved
-loop-group-preserved c =
-    forgets_next (λ g e. same e.0 g) c.into_iter-group-iterator.result c.args.self.now
-    (c.in-Some.group.now, c.in-Some.field-0-1.now) c.next.new.self c.loop-group.group-iterator
-    c.loop-group.self c.forget.new.self c.in-Some.ensures.steps c.loop-group.invariant
-    c.forget.ensures
 
 pub returns : goal.returns
 returns c = λ before after listed stays.

@@ -1,10 +1,6 @@
-use Rattle.scope_core.proofs.Words.{◌∙◌, ap, sym, subst}
-use Rattle.scope_core.specs.HashedRows.{NodeTable}
-use Rattle.scope_core.specs.NodeLists.{all_rows, rows_by_node, IsNodeList, AreNodeLists}
-use Rattle.scope_core.proofs.NodeLists.{all_in_list}
-use Rattle.scope_core.proofs.NodeTables.{table_node, table_list, table_rows, no_table}
-use Rattle.scope_core.proofs.NodeLists.{none_in}
-use Rattle.scope_core.proofs.NodeTables.{tables_set, tables_same}
+use Rattle.scope_core.proofs.Words.{◌∙◌, ap, sym, NodeTable, all_rows, rows_by_node}
+use Rattle.scope_core.proofs.NodeLists.{all_in_list, none_in}
+use Rattle.scope_core.proofs.NodeTables.{table_rows, no_table, tables_set, tables_same, table_lists}
 use Rattle.scope_core.proofs.node_lists.NodeLists.are_all_in.Goals as goal
 
 pub returns-in_default-clause-value : goal.returns-in_default-clause-value
@@ -19,18 +15,10 @@ returns-in_default-clause-value c =
 
 pub invariant_of-self-2 : goal.invariant_of-self-2
 invariant_of-self-2 c =
-    let n = c.args.node.now in
-    let es = c.self.inside.lists.entries in
-    let v = c.in-Some.list.now in
-    let w = c.are_all_in.new.self in
     let found = sym c.in-Some.ensures.value in
     let same = c.are_all_in.ensures.same in
-    let mine = ap (λ (t : NodeTable). t.node) same
-    ∙ table_node n es v c.self.invariant.each found in
-    let list = subst (λ (t : NodeTable). IsNodeList n t.rows) (sym same)
-    (table_list n es v c.self.invariant found) in
-    subst AreNodeLists (sym (c.get_mut.follows.holds w).0)
-    (tables_set n es w c.self.invariant mine list)
+    tables_set _ _ _ _ _ found (c.get_mut.follows.holds c.are_all_in.new.self).0 c.self.invariant
+    (ap (λ (t : NodeTable). t.node) same) (rw same (table_lists _ _ _ c.self.invariant found))
 
 pub returns-clause-value : goal.returns-clause-value
 returns-clause-value c =
@@ -44,8 +32,7 @@ returns-clause-value c =
 
 pub returns-clause-same : goal.returns-clause-same
 returns-clause-same c =
-    let w = c.are_all_in.new.self in
-    let rows = ap (λ (t : NodeTable). t.rows) c.are_all_in.ensures.same in
-    ap (λ es. all_rows (rows_by_node es)) (c.get_mut.follows.holds w).0
-    ∙ tables_same c.args.node.now c.self.inside.lists.entries c.in-Some.list.now w
-    (sym c.in-Some.ensures.value) rows ∙ c.self.view_is
+    tables_same c.args.node.now c.self.inside.lists.entries _
+    c.in-Some.list.now c.are_all_in.new.self (sym c.in-Some.ensures.value)
+    (c.get_mut.follows.holds c.are_all_in.new.self).0
+    c.are_all_in.ensures.same ∙ c.self.view_is

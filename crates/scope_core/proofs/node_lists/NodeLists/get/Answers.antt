@@ -1,5 +1,4 @@
-use Rattle.scope_core.proofs.Words.{◌∙◌, ap, sym}
-use Rattle.scope_core.specs.NodeLists.{of_node}
+use Rattle.scope_core.proofs.Words.{◌∙◌, ap, sym, of_node}
 use Rattle.scope_core.proofs.NodeTables.{table_node, table_rows, no_table, if_some, if_none}
 use Rattle.scope_core.proofs.node_lists.NodeLists.get.Goals as goal
 

@@ -1,5 +1,4 @@
-use Rattle.scope_core.proofs.Words.{◌∙◌, ap, sym, nat_lt, tally, is_there}
-use Rattle.scope_core.specs.HashedRows.{NodeTable}
+use Rattle.scope_core.proofs.Words.{◌∙◌, ap, sym, nat_lt, tally, is_there, NodeTable}
 use Rattle.scope_core.proofs.NodeTables.{members_of_node}
 use Rattle.scope_core.proofs.node_lists.NodeLists.has_group.Goals as goal
 

@@ -1,8 +1,6 @@
 use Rattle.scope_core.proofs.Words.{◌≡◌, ◌∙◌, ◌+◌, ap, sym, subst, arith, ◌≤◌, tally, is_of_node}
-use Rattle.scope_core.proofs.Words.{without_node, Row, max_rows}
-use Rattle.scope_core.proofs.Outcomes.{ok_then, err_then}
-use Rattle.scope_core.specs.HashedRows.{NodeTable}
-use Rattle.scope_core.specs.NodeLists.{all_rows, rows_by_node, IsNodeList, AreNodeLists}
+use Rattle.scope_core.proofs.Words.{on_err_weaker, on_ok_weaker, without_node, Row, max_rows}
+use Rattle.scope_core.proofs.Words.{IsNodeList, all_rows, rows_by_node}
 use Rattle.scope_core.proofs.NodeTables.{table_node, none_without, table_fits, tables_set}
 use Rattle.scope_core.proofs.NodeTables.{tables_tally, tables_same}
 use Rattle.scope_core.proofs.Rising.{tally_others}
@@ -12,7 +10,7 @@ pub returns-then-total_of-eq0-clause-ok : goal.returns-then-total_of-eq0-clause-
 returns-then-total_of-eq0-clause-ok c =
     let n = c.args.node.now in
     let none = sym c.total_of.ensures.total ∙ c.if-total_of-eq0.true in
-    ok_then c.replace.result (λ joins (test : Row → _).
+    on_ok_weaker c.replace.result (λ joins (test : Row → _).
     let others = tally_others n test c.args.self.now none in
     let all = joins test in omega (arith, others, all)) c.replace.ensures.ok
 
@@ -23,7 +21,8 @@ returns-in_default-clause-ok c =
     let stay = none_without n es c.self-2.invariant (sym c.in_default.ensures.value) in
     let was = ap (λ (m : _). without_node n (all_rows (rows_by_node m.entries)))
     c.get_mut.follows.holds-at-none ∙ stay ∙ c.self-2.view_is in
-    ok_then c.replace-in_default.result (λ joins (test : Row → _). rw was at (joins test)) c.replace-in_default.ensures.ok
+    on_ok_weaker c.replace-in_default.result (λ joins (test : Row → _). rw was at (joins test))
+    c.replace-in_default.ensures.ok
 
 pub join-requires-clause-list : goal.join-requires-clause-list
 join-requires-clause-list c =
@@ -44,33 +43,25 @@ join-requires-clause-few c =
 
 pub invariant_of-self-2 : goal.invariant_of-self-2
 invariant_of-self-2 c =
-    let n = c.args.node.now in
-    let es = c.self-2.inside.lists.entries in
-    let w = c.join.new.self in
-    let mine = c.join.ensures.node
-    ∙ table_node n es c.in-Some.list.now c.self-2.invariant.each (sym c.in-Some.ensures.value) in
-    subst AreNodeLists (sym (c.get_mut.follows.holds w).0)
-    (tables_set n es w c.self-2.invariant mine
-    (subst (λ k. IsNodeList k w.rows) mine c.join.ensures.list))
+    tables_set _ _ _ _ _ (sym c.in-Some.ensures.value) (c.get_mut.follows.holds c.join.new.self).0
+    c.self-2.invariant c.join.ensures.node c.join.ensures.list
 
 pub returns-clause-ok : goal.returns-clause-ok
 returns-clause-ok c =
-    let w = c.join.new.self in
-    let found = sym c.in-Some.ensures.value in
-    ok_then c.join.result (λ joins test.
-    let all = tables_tally c.args.node.now c.self-2.inside.lists.entries c.in-Some.list.now w found
-    test in
-    let new = ap (λ es. tally test (all_rows (rows_by_node es))) (c.get_mut.follows.holds w).0 in
+    on_ok_weaker c.join.result (λ joins test.
+    let all = tables_tally c.args.node.now c.self-2.inside.lists.entries _
+    c.in-Some.list.now c.join.new.self (sym c.in-Some.ensures.value)
+    (c.get_mut.follows.holds c.join.new.self).0 test in
     let more = joins test
     ∙ ap (λ rows. tally test c.in-Some.list.now.rows + tally test rows) c.deref.ensures.value in
-    rw (← c.self-2.view_is) (omega (arith, all, new, more)))
+    rw (← c.self-2.view_is) (omega (arith, all, more)))
     c.join.ensures.ok
 
 pub returns-clause-same : goal.returns-clause-same
 returns-clause-same c =
-    let w = c.join.new.self in
-    err_then c.join.result (λ (same : w ≡ c.in-Some.list.now).
-    ap (λ es. all_rows (rows_by_node es)) (c.get_mut.follows.holds w).0
-    ∙ tables_same c.args.node.now c.self-2.inside.lists.entries c.in-Some.list.now w
-    (sym c.in-Some.ensures.value) (ap (λ (t : NodeTable). t.rows) same) ∙ c.self-2.view_is)
+    on_err_weaker c.join.result (λ (same : c.join.new.self ≡ c.in-Some.list.now).
+    tables_same c.args.node.now c.self-2.inside.lists.entries _
+    c.in-Some.list.now c.join.new.self (sym c.in-Some.ensures.value)
+    (c.get_mut.follows.holds c.join.new.self).0 same
+    ∙ c.self-2.view_is)
     c.join.ensures.same

@@ -1,13 +1,10 @@
-use Rattle.scope_core.proofs.Words.{◌≡◌, ◌∙◌, ◌+◌, ap, sym, subst, arith, true, cond, same}
-use Rattle.scope_core.proofs.Words.{same_decides, Ascends, pid_cmp}
-use Rattle.scope_core.proofs.Words.{tally, is_row, mentions}
-use Rattle.scope_core.proofs.Outcomes.{ok_then}
-use Rattle.scope_core.specs.HashedRows.{NodeTable}
+use Rattle.scope_core.proofs.Words.{◌≡◌, ◌∙◌, ◌+◌, ap, sym, arith, true, cond, same, on_ok_weaker}
+use Rattle.scope_core.proofs.Words.{same_decides, tally, is_row, mentions, NodeTable}
 use Rattle.scope_core.proofs.NodeLists.{row_tally}
 use Rattle.scope_core.proofs.node_lists.NodeLists.push_members.Goals as goal
 
 pub returns-in-Some-clause-counts : goal.returns-in-Some-clause-counts
-returns-in-Some-clause-counts c = ok_then c.push_members.result (λ pushed p.
+returns-in-Some-clause-counts c = on_ok_weaker c.push_members.result (λ pushed p.
     let n = c.args.node.now in
     let g = c.args.group.now in
     let all = c.args.self.now in
@@ -28,6 +25,3 @@ returns-in-None-clause-counts c = λ p.
     λ (h : same n p.node ≡ true). row_tally n g p (sym ((same_decides n p.node).0 h)) all
     ∙ ap (tally (is_row g p)) c.in-None.ensures.none in
     grind (arith, mine)
-
-pub returns-in-None-clause-ascends : goal.returns-in-None-clause-ascends
-returns-in-None-clause-ascends c = λ none. subst (Ascends pid_cmp) (sym none) tt

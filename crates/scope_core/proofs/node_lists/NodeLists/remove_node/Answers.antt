@@ -1,6 +1,5 @@
-use Rattle.scope_core.proofs.Words.{◌∙◌, ap, sym}
+use Rattle.scope_core.proofs.Words.{◌∙◌, ap, sym, of_node}
 use Rattle.scope_core.proofs.Outcomes.{some_then, none_then}
-use Rattle.scope_core.specs.NodeLists.{of_node}
 use Rattle.scope_core.proofs.NodeTables.{table_node, table_rows, no_table, tables_removed}
 use Rattle.scope_core.proofs.NodeTables.{rows_removed}
 use Rattle.scope_core.proofs.node_lists.NodeLists.remove_node.Goals as goal

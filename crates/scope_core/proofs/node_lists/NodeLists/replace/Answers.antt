@@ -1,6 +1,4 @@
-use Rattle.scope_core.proofs.Words.{◌≡◌, ◌∙◌, refl, same}
-use Rattle.indexmap.specs.IndexMap.{insert_entry}
-use Rattle.scope_core.specs.HashedRows.{NodeTable}
+use Rattle.scope_core.proofs.Words.{◌≡◌, ◌∙◌, refl, same, insert_entry, NodeTable}
 use Rattle.scope_core.proofs.NodeTables.{tables_put, rows_put}
 use Rattle.scope_core.proofs.node_lists.NodeLists.replace.Goals.{Joined-branch-5}
 use Rattle.scope_core.proofs.node_lists.NodeLists.replace.Goals as goal

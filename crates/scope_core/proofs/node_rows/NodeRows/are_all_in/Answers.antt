@@ -1,5 +1,4 @@
-use Rattle.scope_core.proofs.Words.{◌≡◌, arith, ap, ◌∙◌, length, tally, is_row}
-use Rattle.scope_core.specs.HashedRows.{NodeTable}
+use Rattle.scope_core.proofs.Words.{◌≡◌, arith, ap, ◌∙◌, length, tally, is_row, NodeTable}
 use Rattle.scope_core.proofs.LoweredRows.{one_in}
 use Rattle.scope_core.proofs.node_rows.NodeRows.are_all_in.Goals as goal
 

@@ -1,45 +1,46 @@
 use Rattle.scope_core.proofs.Words.{◌≡◌, ◌∙◌, ◌+◌, ◌≤◌, ap, sym, subst, arith, tally, is_row}
 use Rattle.scope_core.proofs.Words.{is_of_node, Row, true, Bool, same_row, take, list_any, or_right}
-use Rattle.scope_core.proofs.Words.{total, cond, max_rows, take_all}
-use Rattle.scope_core.specs.NodeLists.{IsNodeList}
-use Rattle.scope_core.specs.HashedRows.{NodeTable}
+use Rattle.scope_core.proofs.Words.{total, cond, max_rows, take_all, IsNodeList, NodeTable}
 use Rattle.scope_core.proofs.NodeLists.{joined_list}
 use Rattle.scope_core.proofs.HashedRows.{rows_equal}
-use Rattle.scope_core.proofs.HashedWrites.{stands_bare, stands_at, counted_stands}
-use Rattle.scope_core.proofs.Tallies.{tally_le, tally_take, take_le}
+use Rattle.scope_core.proofs.HashedWrites.{stands_bare, stands_at, counted_stands, stands_drop}
+use Rattle.scope_core.proofs.Tallies.{tally_le, tally_take, take_le, tally_parts}
 use Rattle.scope_core.proofs.node_rows.NodeRows.join.Goals.{After-each_once}
 use Rattle.scope_core.proofs.node_rows.NodeRows.join.Goals as goal
 
 pub raise-requires-clause-stands : goal.raise-requires-clause-stands
 raise-requires-clause-stands c =
     let r = c.counted-item.result.row in
+    let there = stands_at c.split_at.result.1.now c.loop-counted.counted-index c.counted-item.result
+    (omega (arith, c.loop-counted-test.true)) c.counted-item.is in
     stands_bare r c.loop-counted.self-inside.rows.rows
     ∙ ap (list_any (λ x. same_row x r)) c.loop-counted.invariant.1
-    ∙ sym (stands_bare r c.grow.new.self.rows) ∙ c.in_ok-grow.ensures.stand r
-    ∙ or_right _ _ (stands_at c.args.more.now c.loop-counted.counted-index c.counted-item.result
-    (omega (arith, c.loop-counted-test.true)) c.counted-item.is)
+    ∙ sym (stands_bare r c.grow.new.self.rows) ∙ c.in_ok-fresh.ensures.stand r
+    ∙ or_right _ _
+    (stands_drop r c.in_ok-fresh.fresh c.args.more.now (rw c.split_at.ensures.back at there))
 
 pub raise-requires-clause-few : goal.raise-requires-clause-few
 raise-requires-clause-few c =
     let item = c.counted-item.result in
     let more = c.args.more.now in
+    let others = c.split_at.result.1.now in
     let i = c.loop-counted.counted-index in
     let test = is_row item.row.group item.row.pid in
-    let so_far = c.loop-counted.invariant.0 test in
-    let was = c.in_ok-grow.ensures.ok test in
     let next =
-    tally_take test more i item (omega (arith, c.loop-counted-test.true)) c.counted-item.is in
+    tally_take test others i item (omega (arith, c.loop-counted-test.true)) c.counted-item.is in
     let whole =
-    next ∙ ap (λ b. tally test (take i more) + cond b item.count 0) (rows_equal.refl item.row) in
+    next ∙ ap (λ b. tally test (take i others) + cond b item.count 0) (rows_equal.refl item.row) in
     let few =
     subst (λ (t : NodeTable). total (λ x. x.count) t.rows + total (λ x. x.count) more ≤ max_rows)
     (sym c.self.view_is) c.requires.few in
     omega (
       arith,
-      so_far,
-      was,
+      c.loop-counted.invariant.0 test,
+      c.in_ok-fresh.ensures.ok test,
       whole,
-      take_le test more (i + 1),
+      take_le test others (i + 1),
+      tally_parts test c.in_ok-fresh.fresh more,
+      ap (tally test) c.split_at.ensures.back,
       tally_le test more,
       tally_le test c.self.inside.rows.rows,
       few,
@@ -48,11 +49,11 @@ raise-requires-clause-few c =
 pub loop-counted-preserved : goal.loop-counted-preserved
 loop-counted-preserved c =
     let item = c.counted-item.result in
-    let more = c.args.more.now in
+    let others = c.split_at.result.1.now in
     let i = c.loop-counted.counted-index in (
       λ test.
-          let next =
-          tally_take test more i item (omega (arith, c.loop-counted-test.true)) c.counted-item.is in
+          let next = tally_take test others i item (omega (arith, c.loop-counted-test.true))
+          c.counted-item.is in
           let so_far = c.loop-counted.invariant.0 test in
           let raised = c.raise.ensures.tallies test in omega (arith, next, so_far, raised),
       c.raise.ensures.rows ∙ c.loop-counted.invariant.1,
@@ -65,10 +66,16 @@ all_joined : (c : After-each_once) (test : Row → Bool)
     → tally test c.loop-counted.self-inside.rows.rows
     ≡ tally test c.self.inside.rows.rows + tally test c.args.more.now
 all_joined c test =
-    let more = c.args.more.now in
-    let all = take_all c.loop-counted.counted-index more c.loop-counted-test.false in
-    c.loop-counted.invariant.0 test
-    ∙ (λ j. c.in_ok-grow.ensures.ok test j + tally test (all j))
+    let all = take_all c.loop-counted.counted-index c.split_at.result.1.now
+    c.loop-counted-test.false in
+    omega (
+      arith,
+      c.loop-counted.invariant.0 test,
+      ap (tally test) all,
+      ap (tally test) c.split_at.ensures.back,
+      c.in_ok-fresh.ensures.ok test,
+      tally_parts test c.in_ok-fresh.fresh c.args.more.now,
+    )
 
 -- the rows that were there and those that joined, in one list
 joined : (c : After-each_once)
@@ -80,7 +87,7 @@ joined c =
     let joins = all_joined c in
     let stand = λ (r : Row).
     stands_bare r now.rows ∙ ap (list_any (λ x. same_row x r)) c.loop-counted.invariant.1
-    ∙ sym (stands_bare r c.grow.new.self.rows) ∙ c.in_ok-grow.ensures.stand r in
+    ∙ sym (stands_bare r c.grow.new.self.rows) ∙ c.in_ok-fresh.ensures.stand r in
     let list =
     subst (λ (t : NodeTable). IsNodeList t.node more) (sym c.self.view_is) c.requires.list in
     let room = λ (t : NodeTable).
@@ -110,6 +117,10 @@ invariant_of-self-2 c =
       );
       list = joined at;
     }
+
+pub returns-clause-ok : goal.returns-clause-ok
+returns-clause-ok c = λ test.
+    rw (← c.self.view_is) (all_joined (goal.at.returns-clause-ok c).After-each_once test)
 
 pub returns-clause-list : goal.returns-clause-list
 returns-clause-list c = joined (goal.at.returns-clause-list c).After-each_once

@@ -6,7 +6,7 @@ abbrev pub invariant-loop-counted : goal.invariant-loop-counted
 invariant-loop-counted l =
     ((test : Row → Bool)
     → tally test l.self-inside.rows.rows
-    ≡ tally test l.initial.self-inside.rows.rows + tally test (take l.counted-index l.more))
+    ≡ tally test l.initial.self-inside.rows.rows + tally test (take l.counted-index l.others))
     × (bare_rows l.self-inside.rows.rows ≡ bare_rows l.initial.self-inside.rows.rows)
     × (l.self-inside.rows.node ≡ l.initial.self-inside.rows.node)
     × (l.self-inside.total ≡ l.initial.self-inside.total)

@@ -1,9 +1,5 @@
-use Rattle.scope_core.proofs.Words.{◌≡◌, ◌∙◌, ap, sym}
+use Rattle.scope_core.proofs.Words.{◌≡◌, ◌∙◌, ap, sym, is_some, find, SmallMap, Many}
 use Rattle.std.proofs.Common.{true≢false}
-use Rattle.std.specs.Option.{is_some}
-use Rattle.scope_core.specs.SmallMap.{find}
-use Rattle.scope_core.specs.declared.small_map.SmallMap.{SmallMap}
-use Rattle.scope_core.specs.declared.small_map.SmallMap.TheVariants.{Many}
 use Rattle.scope_core.proofs.NestedMaps.{some_entry}
 use Rattle.scope_core.proofs.small_map.SmallMap.is_empty.Goals as goal
 

@@ -1,8 +1,4 @@
-use Rattle.scope_core.proofs.Words.{◌≡◌, ◌∙◌, ap, cond, None}
-use Rattle.std.specs.Ordering.{eq_by_cmp}
-use Rattle.scope_core.specs.SmallMap.{find}
-use Rattle.scope_core.specs.declared.small_map.SmallMap.{SmallMap}
-use Rattle.scope_core.specs.declared.small_map.SmallMap.TheVariants.{Many}
+use Rattle.scope_core.proofs.Words.{◌≡◌, ◌∙◌, ap, cond, None, eq_by_cmp, find, SmallMap, Many}
 use Rattle.scope_core.proofs.small_map.SmallMap.remove.Goals as goal
 
 pub returns-in-Many : goal.returns-in-Many

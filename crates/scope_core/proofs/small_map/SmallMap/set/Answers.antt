@@ -1,9 +1,5 @@
-use Rattle.scope_core.proofs.Words.{◌≡◌, ◌∙◌, ap, sym, cond, Some}
-use Rattle.std.specs.Option.{is_some}
-use Rattle.std.specs.Ordering.{eq_by_cmp}
-use Rattle.scope_core.specs.SmallMap.{find}
-use Rattle.scope_core.specs.declared.small_map.SmallMap.{SmallMap}
-use Rattle.scope_core.specs.declared.small_map.SmallMap.TheVariants.{Many}
+use Rattle.scope_core.proofs.Words.{◌≡◌, ◌∙◌, ap, sym, cond, Some, is_some, eq_by_cmp, find}
+use Rattle.scope_core.proofs.Words.{SmallMap, Many}
 use Rattle.scope_core.proofs.small_map.SmallMap.set.Goals as goal
 
 pub returns-in-Some : goal.returns-in-Some

@@ -1,7 +1,6 @@
 use Rattle.scope_core.proofs.Words.{◌≡◌, ◌∙◌, ap, sym, subst, refl, arith, false, same}
 use Rattle.scope_core.proofs.Words.{same_decides, tally, is_row, is_of_node, has_members}
-use Rattle.scope_core.proofs.Words.{without_node, List, ℕ}
-use Rattle.scope_core.specs.HashedRows.{NodeTable}
+use Rattle.scope_core.proofs.Words.{without_node, List, ℕ, NodeTable}
 use Rattle.scope_core.proofs.Calls.{own_left}
 use Rattle.scope_core.proofs.Kept.{dropped_same, still_listings}
 use Rattle.scope_core.proofs.NodeLists.{node_tally}

@@ -1,6 +1,5 @@
 use Rattle.scope_core.proofs.Words.{◌≡◌, ◌∙◌, sym, subst, arith, false, same_pid, same_pid_decides}
-use Rattle.scope_core.proofs.Words.{tally, is_row, Pid}
-use Rattle.scope_core.specs.Kept.{AreListings}
+use Rattle.scope_core.proofs.Words.{tally, is_row, Pid, AreListings}
 use Rattle.scope_core.proofs.Kept.{others_stay, popped_listed, none_of_process}
 use Rattle.scope_core.proofs.table.ScopeTable.exit.Goals as goal
 

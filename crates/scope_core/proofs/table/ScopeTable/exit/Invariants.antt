@@ -1,5 +1,5 @@
 use Rattle.scope_core.proofs.Words.{◌≡◌, false, same_pid, tally, is_row, length, List, ℕ, Pid}
-use Rattle.scope_core.specs.Kept.{AreListings}
+use Rattle.scope_core.proofs.Words.{AreListings}
 use Rattle.scope_core.proofs.table.ScopeTable.exit.Given as goal
 
 -- the rows of other processes stay, and what is kept is right

@@ -1,6 +1,6 @@
-use Rattle.scope_core.proofs.Words.{◌≡◌, ◌∙◌, ◌+◌, ◌≤◌, ap, sym, subst, rules, refl, arith}
-use Rattle.scope_core.proofs.Words.{how_many, is_of_node, is_row, max_rows, tally, Table}
-use Rattle.scope_core.proofs.Words.{IsDifference, List, ℕ, Pid}
+use Rattle.scope_core.proofs.Words.{◌≡◌, ◌∙◌, ◌+◌, ◌≤◌, ap, sym, subst, rules, arith, how_many}
+use Rattle.scope_core.proofs.Words.{is_of_node, is_row, max_rows, tally, Table, IsDifference, List}
+use Rattle.scope_core.proofs.Words.{ℕ, Pid}
 use Rattle.scope_core.proofs.Calls.{all_or_none, taken_change}
 use Rattle.scope_core.proofs.GoneRows.{listed_fit}
 use Rattle.scope_core.proofs.Kept.{changed_listed}
@@ -57,11 +57,6 @@ overflow_sub-self c =
       c.share_of.ensures,
       c.self.invariant.total,
     )
-
-pub returns-clause-ok : goal.returns-clause-ok
-returns-clause-ok c =
-    let is = taken (goal.at.returns-clause-ok c).After-take_listed in
-    rw (← c.self.view_is) (record { own = refl; counts = λ g p. grind (arith, is g p) })
 
 pub returns-clause-change : goal.returns-clause-change
 returns-clause-change c =

@@ -18,9 +18,6 @@ own_listing c = record {
   );
 }
 
-pub returns-clause-value : goal.returns-clause-value
-returns-clause-value c = rw (← c.self.view_is) (own_listing c)
-
 pub returns-clause-limits : goal.returns-clause-limits
 returns-clause-limits c =
     rw (← c.self.view_is)

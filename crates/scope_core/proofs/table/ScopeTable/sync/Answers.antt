@@ -1,8 +1,9 @@
 use Rattle.scope_core.proofs.Words.{List, cond, length, vec_len, ℕ, ◌≡◌, ◌∙◌, ap, sym, subst, arith}
-use Rattle.scope_core.proofs.Words.{refl, rules, how_many, same, Pid, Counted, Table, Tells}
-use Rattle.scope_core.proofs.Words.{IsDifference, is_of_node, is_row, tally, picked, times_beyond}
+use Rattle.scope_core.proofs.Words.{IfErr-weaker, on_ok_weaker, refl, rules, how_many, same, Pid}
+use Rattle.scope_core.proofs.Words.{Counted, Table, Tells, IsDifference, is_of_node, is_row, tally}
+use Rattle.scope_core.proofs.Words.{picked, times_beyond}
 use Rattle.scope_core.proofs.Calls.{all_or_none, counted_own, no_others, sync_counts, sync_covered}
-use Rattle.scope_core.proofs.Calls.{own_left, first_counts, first_fault, ok_then, err_then}
+use Rattle.scope_core.proofs.Calls.{own_left, first_counts, first_fault}
 use Rattle.scope_core.proofs.Between.{synced_change, unchanged}
 use Rattle.scope_core.proofs.Kept.{changed_listed}
 use Rattle.scope_core.proofs.table.ScopeTable.sync.Goals.{In_ok-changes, Then-total_of-eq0}
@@ -17,14 +18,14 @@ none_held c = sym (ap (λ (t : Table). tally (is_of_node c.args.peer.now) t.rows
 pub returns-then-total_of-eq0-clause-ok : goal.returns-then-total_of-eq0-clause-ok
 returns-then-total_of-eq0-clause-ok c =
     let none = none_held (goal.at.returns-then-total_of-eq0-clause-ok c).Then-total_of-eq0 in
-    ok_then c.join_remote.result
+    on_ok_weaker c.join_remote.result
     (first_counts c.args.peer.now c.args.rows.now c.requires c.args.self.now _ none)
     c.join_remote.ensures.ok
 
 pub returns-then-total_of-eq0-clause-refused : goal.returns-then-total_of-eq0-clause-refused
 returns-then-total_of-eq0-clause-refused c =
     let none = none_held (goal.at.returns-then-total_of-eq0-clause-refused c).Then-total_of-eq0 in
-    err_then c.join_remote.result
+    IfErr-weaker c.join_remote.result _ _
     (λ fault.
     first_fault c.args.peer.now c.args.self.now c.args.rows.now c.args.limit fault none)
     c.join_remote.ensures.refused

@@ -1,7 +1,5 @@
-use Rattle.scope_core.proofs.Words.{◌≡◌, ◌≤◌, ◌||◌, Bool, length, take, tally}
-use Rattle.dist_types.specs.declared.row.Row.{Row}
-use Rattle.scope_core.specs.HashedRows.{stands}
-use Rattle.scope_core.proofs.hashed_rows.HashedRows.grow.Given as goal
+use Rattle.scope_core.proofs.Words.{◌≡◌, ◌≤◌, ◌||◌, Bool, length, take, tally, Row, stands}
+use Rattle.scope_core.proofs.hashed_rows.HashedRows.hold.Given as goal
 
 -- the first rows are those that were there, and those of the list so far stand behind them
 abbrev pub invariant-loop-counted : goal.invariant-loop-counted

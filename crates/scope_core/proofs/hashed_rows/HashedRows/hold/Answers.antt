@@ -1,0 +1,26 @@
+use Rattle.scope_core.proofs.Words.{◌∙◌, ap, sym, arith, tally, length, length-append, take, stands}
+use Rattle.std.proofs.lemmas.List.{take-append-le}
+use Rattle.scope_core.proofs.Outcomes.{from_not_err}
+use Rattle.scope_core.proofs.HashedWrites.{grown_stands, grown_tally, stands_more}
+use Rattle.scope_core.proofs.hashed_rows.HashedRows.hold.Goals as goal
+
+pub loop-counted-preserved : goal.loop-counted-preserved
+loop-counted-preserved c =
+    let item = c.counted-item.result in
+    let cur = c.loop-counted.self.rows in
+    let more = c.args.more.now in
+    let i = c.loop-counted.counted-index in
+    let so_far = c.loop-counted.invariant in
+    let put =
+    from_not_err c.grow_one.result
+    (sym c.is_err.ensures.value ∙ c.if-is_err.false) c.grow_one.ensures.ok in
+    let len = ap length put in (
+      ap (take c.len-len.result) put ∙ take-append-le c.len-len.result cur _ so_far.1 ∙ so_far.0,
+      grind (arith, len, length-append, so_far.1),
+      c.grow_one.ensures.node ∙ so_far.2,
+      λ test. ap (tally test) put ∙ grown_tally item.row test cur ∙ so_far.3 test,
+      λ r. ap (stands r) put ∙ grown_stands item.row r cur
+          ∙ (let more_one =
+          stands_more r more i item (omega (arith, c.loop-counted-test.true)) c.counted-item.is in
+          let was = so_far.4 r in grind (arith, more_one, was)),
+    )
