@@ -81,7 +81,7 @@ module _ {call : Call} {kept : Kept} (called : IsCalled call kept) (e : Event) w
       accepts_alone none t = told (enters_alone legal entry named none t)
 
       -- one that owes no message to a link that was up
-      pub accepts : may_tell call.past.entries e ≡ false
+      pub accepts : may_tell call.past.opening call.past.entries e ≡ false
           → IsAlone call.past entry × Follows (just call.past entry) (parts new)
           → Answers call e new (Ok a)
       accepts quiet t = accepts_alone (tells_none call.past legal entry (answered_by t.0) quiet) t

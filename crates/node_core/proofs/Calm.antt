@@ -45,8 +45,10 @@ module _ (h : History) (seat : ℕ) (ev : Event) (r : Rule) (calm : refuses_calm
     own = h.opening.name;
     running = running_scopes h;
     listed = λ s g p. entry_rows h (made h seat ev (Refused r) []) refl s g p i;
-    heard = λ l s. (opens_still h l r ev calm i && is_whole l h.entries) && unwrap_or (first_of (hears s) (talk l h.entries)) false;
-    told = λ l s. (opens_still h l r ev calm i && is_whole l h.entries) && unwrap_or (first_of (tells s) (talk l h.entries)) false;
+    heard = λ l s. (opens_still h l r ev calm i && is_whole l h.entries)
+        && unwrap_or (first_of (hears s) (talk h.opening l h.entries)) false;
+    told = λ l s. (opens_still h l r ev calm i && is_whole l h.entries)
+        && unwrap_or (first_of (tells s) (talk h.opening l h.entries)) false;
   }
 
   pub refused_change : IsChange h k []
@@ -82,8 +84,12 @@ module _ (h : History) (seat : ℕ) (r : Reply) (ev : Event) (still : is_still e
   still_scopes : scope_words (answered h seat ev r) ≡ scope_words h
   still_scopes =
       let runs : running_scopes (answered h seat ev r) ≡ running_scopes h = grind arith in
-      let hear : (l : ℕ) (s : List ℕ) → heard l s (answered h seat ev r).entries ≡ heard l s h.entries = λ l s. grind arith in
-      let tell : (l : ℕ) (s : List ℕ) → told l s (answered h seat ev r).entries ≡ told l s h.entries = λ l s. grind arith in
+      let hear : (l : ℕ) (s : List ℕ)
+      → heard h.opening l s (answered h seat ev r).entries ≡ heard h.opening l s h.entries =
+      λ l s. grind arith in
+      let tell : (l : ℕ) (s : List ℕ)
+      → told h.opening l s (answered h seat ev r).entries ≡ told h.opening l s h.entries =
+      λ l s. grind arith in
       λ i. record {
         own = h.opening.name;
         running = runs i;

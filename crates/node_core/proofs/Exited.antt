@@ -1,7 +1,8 @@
 -- A process that ends.
+use Rattle.node_core.proofs.Words.{Bool, facts}
 use Rattle.node_core.proofs.Words.{List, None, Some, ap, arith, cond, false, length, nat_eq, not, refl, sym, true, ℕ, [], ◌++◌, ◌+◌, ◌==◌, ◌∙◌, ◌∷◌, ◌≡◌}
 use Rattle.node_core.proofs.Words.{AllByRecursion, AllZip, filter, flat_map, same_decides, same, same_pid, Pid, count_after_exit, Table, stopped_lists}
-use Rattle.node_core.proofs.Words.{told_numbers, IsChange, local_rows, heard, told, History, creation, listed, OutFrame, waiting, wide, is_local}
+use Rattle.node_core.proofs.Words.{told_numbers, IsChange, local_rows, heard, told, History, creation, listed, OutFrame, waiting, is_local}
 use Rattle.node_core.proofs.Words.{IsStep, is_full, just, Change, Entry, Accepted, Rule, Follows}
 use Rattle.node_core.proofs.Words.{Parts, all_frames, exit_frames, link_words}
 use Rattle.node_core.proofs.Words.{KeptLink, IsParting, rows_left, Spawned, IsRunningOf, is_number, scope_words, if_told, lives_of, exited_links, Running}
@@ -16,19 +17,26 @@ use Rattle.node_core.specs.declared.changes.Leaving.{Leaving}
 use Rattle.node_core.proofs.Entered.{step_follows, made, accepted_next, answered_by}
 use Rattle.node_core.proofs.Ended.{Turns}
 use Rattle.node_core.proofs.PeersKept.{exit_leaves, monitors_stay}
-use Rattle.node_core.proofs.Moved.{told_frames}
+use Rattle.node_core.proofs.Moved.{rows_told}
 use Rattle.node_core.proofs.Partings.{one_parting, partings_change}
-use Rattle.node_core.proofs.RowsGone.{few_total, left_are}
+use Rattle.node_core.proofs.OwnLimits.{few_told}
+use Rattle.node_core.proofs.RowsGone.{left_are}
 use Rattle.node_core.proofs.Starting.{names}
-use Rattle.node_core.proofs.Told.{told_follow, prepared_on, prepared_waits}
+use Rattle.node_core.proofs.Told.{IsItsWay, told_follow, prepared_on, prepared_waits}
 use Rattle.node_core.proofs.Zipped.{zipped_map, zipped_each}
 
 -- ---- the Leaves of a process, scope by scope
 
-frames_end : (p : Pid) (rs : List Running) (cs : List Change) (r : Running) (c : Change) (l : ℕ) → AllZip (IsParting (λ x. count_after_exit x p)) rs cs → all_frames (rs ++ r ∷ []) (cs ++ c ∷ []) l ≡ all_frames rs cs l ++ exit_frames r c.groups l
-frames_end p [] [] r c l a = append-nil (exit_frames r c.groups l)
-frames_end p (q ∷ qs) (d ∷ ds) r c l a = ap (λ f. exit_frames q d.groups l ++ f) (frames_end p qs ds r c l a.1) ∙ sym (append_assoc (exit_frames q d.groups l) (all_frames qs ds l) (exit_frames r c.groups l))
-frames_end p qs ds r c l a = absurd a
+frames_end : (p : Pid) (rs : List Running) (cs : List Change) (r : Running) (c : Change)
+    (l : ℕ) (parted : Bool) → AllZip (IsParting (λ x. count_after_exit x p)) rs cs
+    → all_frames (rs ++ r ∷ []) (cs ++ c ∷ []) l parted
+    ≡ all_frames rs cs l parted ++ exit_frames r c.groups l parted
+frames_end p [] [] r c l parted a = append-nil (exit_frames r c.groups l parted)
+frames_end p (q ∷ qs) (d ∷ ds) r c l parted a =
+    ap (λ f. exit_frames q d.groups l parted ++ f) (frames_end p qs ds r c l parted a.1)
+    ∙ sym (append_assoc (exit_frames q d.groups l parted) (all_frames qs ds l parted)
+    (exit_frames r c.groups l parted))
+frames_end p qs ds r c l parted a = absurd a
 
 -- one scope more
 pub exits_on : (p : Pid) (rs : List Running) (r : Running) (old mid new : List KeptLink) (cs ds : List Change) (gs : List GroupChange) → AreExits p rs old mid cs
@@ -39,7 +47,10 @@ exits_on p rs r old mid new cs ds gs t d prepared more =
       all = parted.all;
       each = parted.each;
       some = more ∙ parted.some;
-      links = subst (λ (f : ℕ → List OutFrame). ArePrepared f old new) (λ i l. sym (frames_end p rs t.all r (record { scope = r.scope; groups = gs }) l t.each) i) (prepared_on (all_frames rs t.all) (exit_frames r gs) old mid new t.links prepared);
+      links = subst (λ (f : ℕ → Bool → List OutFrame). ArePrepared f old new)
+          (λ i l parted. sym (frames_end p rs t.all r
+          (record { scope = r.scope; groups = gs }) l parted t.each) i)
+          (prepared_on (all_frames rs t.all) (exit_frames r gs) old mid new t.links prepared);
     }
 
 -- the Leaves that were prepared wait
@@ -66,9 +77,9 @@ module _ (h : History) (seat : ℕ) (parts : Parts) (t : Follows h parts) (p : P
   own_node = (same_decides p.node h.opening.name).0 (and_parts (same p.node h.opening.name) (p.creation == creation h) local).0
 
   -- the scopes are of the node of the process, with few own rows
-  pub exit_own : AllByRecursion (IsOwnScope p.node) parts.scopes
-  exit_own = all_map (IsRunningOf (scope_words h)) (IsOwnScope p.node)
-      (λ r a. record { own = a.own ∙ sym own_node; few = few_total h r a t.sound.played })
+  pub exit_own : AllByRecursion (IsOwnScope p.node parts.links) parts.scopes
+  exit_own = all_map (IsRunningOf (scope_words h)) (IsOwnScope p.node parts.links)
+      (λ r a. record { own = a.own ∙ sym own_node; few = few_told t r a })
       parts.scopes t.scopes.each
 
   -- ---- what is told
@@ -76,16 +87,25 @@ module _ (h : History) (seat : ℕ) (parts : Parts) (t : Follows h parts) (p : P
   abbrev policy_frames : ℕ → List (List ℕ) → List OutFrame
   policy_frames l ss = flat_map (λ s. if_told h l s (Message.Leave s) (filter (λ w. same_pid w.pid p) (local_rows h s))) ss
 
-  its_frames : (l : ℕ) (r : Running) (c : Change) → IsRunningOf (scope_words h) r → IsParting (λ u. count_after_exit u p) r c → if_told h l r.scope (Message.Leave r.scope) (filter (λ w. same_pid w.pid p) (local_rows h r.scope)) ≡ exit_frames r c.groups l
-  its_frames l r c a z =
+  its_frames : (l : ℕ) (parted : Bool) → IsItsWay (facts h l) parted → (r : Running) (c : Change)
+      → IsRunningOf (scope_words h) r → IsParting (λ u. count_after_exit u p) r c
+      → if_told h l r.scope (Message.Leave r.scope)
+      (filter (λ w. same_pid w.pid p) (local_rows h r.scope))
+      ≡ exit_frames r c.groups l parted
+  its_frames l parted way r c a z =
       ap (λ rows. if_told h l r.scope (Message.Leave r.scope) rows)
       (sym (left_are h r a t.sound.played p (a.own ∙ sym own_node) c.groups z.groups))
-      ∙ told_frames (rows_left c.groups) r.told.items (wide (Message.Leave r.scope (rows_left c.groups))) l (told l r.scope h.entries) (a.told l)
+      ∙ rows_told h l r.scope (Message.Leave r.scope) (rows_left c.groups) r.told.items parted way
+      (a.told l)
 
-  frames_are : (l : ℕ) (rs : List Running) (cs : List Change) → AllByRecursion (IsRunningOf (scope_words h)) rs → AllZip (IsParting (λ u. count_after_exit u p)) rs cs → policy_frames l (names rs) ≡ all_frames rs cs l
-  frames_are l [] [] a z = refl
-  frames_are l (r ∷ rs) (c ∷ cs) a z = λ i. its_frames l r c a.0 z.0 i ++ frames_are l rs cs a.1 z.1 i
-  frames_are l rs cs a z = absurd z
+  frames_are : (l : ℕ) (parted : Bool) → IsItsWay (facts h l) parted → (rs : List Running)
+      (cs : List Change) → AllByRecursion (IsRunningOf (scope_words h)) rs
+      → AllZip (IsParting (λ u. count_after_exit u p)) rs cs
+      → policy_frames l (names rs) ≡ all_frames rs cs l parted
+  frames_are l parted way [] [] a z = refl
+  frames_are l parted way (r ∷ rs) (c ∷ cs) a z =
+      λ i. its_frames l parted way r c a.0 z.0 i ++ frames_are l parted way rs cs a.1 z.1 i
+  frames_are l parted way rs cs a z = absurd z
 
   module _ (links : List KeptLink) (cs : List Change) (told_so : AreExitsTold p parts.scopes parts.links links cs) where
     abbrev exit_entry : Entry
@@ -110,8 +130,10 @@ module _ (h : History) (seat : ℕ) (parts : Parts) (t : Follows h parts) (p : P
         parted r new z a = record {
           own = z.rows.own ∙ a.own;
           rows = λ g x. z.rows.counts g x ∙ is r.table g x ∙ ap (λ n. cond (same_pid x p) 0 n) (a.rows g x) ∙ sym (now_listed r.scope g x) ∙ ap (λ s. listed exited s g x) (sym z.scope);
-          heard = λ l. ap (is_number l) z.heard ∙ a.heard l ∙ ap (λ s. heard l s h.entries) (sym z.scope);
-          told = λ l. ap (is_number l) z.told ∙ a.told l ∙ ap (λ s. told l s h.entries) (sym z.scope);
+          heard = λ l. ap (is_number l) z.heard ∙ a.heard l
+              ∙ ap (λ s. heard h.opening l s h.entries) (sym z.scope);
+          told = λ l. ap (is_number l) z.told ∙ a.told l
+              ∙ ap (λ s. told h.opening l s h.entries) (sym z.scope);
         }
 
     pub exit_now : is_full h ≡ false → is_number p.number parts.processes.live ≡ true
@@ -138,7 +160,9 @@ module _ (h : History) (seat : ℕ) (parts : Parts) (t : Follows h parts) (p : P
               })
               (told_follow (link_words h) (link_words exited) (all_frames parts.scopes told_so.all) (λ l. refl)
               (told_numbers h exit_entry it refl refl (λ l. (exited_links h exit_entry it refl p refl l).kept_is)) parts.links links
-              (λ l. ap (λ f. waiting h l ++ f) (ap (policy_frames l) (sym t.scopes.running) ∙ frames_are l parts.scopes told_so.all t.scopes.each told_so.each))
+              (λ l parted way. ap (λ f. waiting h l ++ f)
+              (ap (policy_frames l) (sym t.scopes.running)
+              ∙ frames_are l parted way parts.scopes told_so.all t.scopes.each told_so.each))
               told_so.links t.links);
           leaves = exit_leaves h seat cs p;
           monitors = monitors_stay h seat parts.monitors t.monitors (Event.Exit p) refl;

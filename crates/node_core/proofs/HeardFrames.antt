@@ -1,9 +1,10 @@
 -- A frame of the handshake, as the node hears it: the state of its link, and what is heard of it.
+use Rattle.node_core.proofs.Words.{frame_taken}
 use Rattle.node_core.proofs.Words.{nat_le, List, Some, false, get_or, refl, subst, sym, true, ℕ}
 use Rattle.node_core.proofs.Words.{◌&&◌, ◌≡◌, History, is_last}
 use Rattle.node_core.proofs.Words.{IsState, LinkFacts, facts, link_words, KeptLink, LinkState, Bool, None, Option, arith, length, ◌<◌, option_map}
 use Rattle.node_core.proofs.Words.{AdmissionRules, Pending, no_value, Follows, Parts, IsLinkOf, Heard, accepted_as}
-use Rattle.node_core.proofs.Words.{link_place, ap, asks, Event, is_whole, may_tell, said_on}
+use Rattle.node_core.proofs.Words.{link_place, ap, asks, Event, is_whole, may_tell}
 use Rattle.node_core.proofs.KeptOn.{each_at, place_is}
 use Rattle.node_core.proofs.Found.{some_is}
 
@@ -39,8 +40,9 @@ module _ (f : LinkFacts) (s : LinkState) (a : IsState f s) where
 
 -- a frame of an unfinished handshake owes no message
 pub unwhole_quiet : (h : History) (j : ℕ) (body : List ℕ) → is_whole j h.entries ≡ false
-    → may_tell h.entries (Event.Frame j body) ≡ false
-unwhole_quiet h j body unwhole = ap (λ b. b && asks (said_on j h.entries body)) unwhole
+    → may_tell h.opening h.entries (Event.Frame j body) ≡ false
+unwhole_quiet h j body unwhole =
+    ap (λ b. b && asks (frame_taken h.opening j h.entries body)) unwhole
 
 -- the link at the place of a number
 module _ (h : History) (parts : Parts) (t : Follows h parts) (j p : ℕ)

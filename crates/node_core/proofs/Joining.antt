@@ -1,14 +1,15 @@
 -- Own processes that join groups and leave them.
+use Rattle.node_core.proofs.Words.{own_limit, own_most}
 use Rattle.node_core.proofs.Words.{lt-leb, All, Bool, List, None, Option, Some, ap, arith, cond}
 use Rattle.node_core.proofs.Words.{false, get_or, length, map, nat_le, not, refl, set}
 use Rattle.node_core.proofs.Words.{sym, true, ℕ, [], ◌&&◌, ◌++◌, ◌+◌, ◌==◌, ◌∙◌, ◌∷◌, ◌≡◌, ◌≤◌, list_all, le-leb, leb-true, same_decides, listing, mentions}
 use Rattle.node_core.proofs.Words.{same, pid_cmp, Pid, Message, local_total, all_hold, unbroken, told_numbers, checks, first_broken, local_rows, row, History}
-use Rattle.node_core.proofs.Words.{listed, waiting, wide, is_local, is_running, lives, IsStep}
+use Rattle.node_core.proofs.Words.{listed, waiting, said_in, is_local, is_running, lives, IsStep}
 use Rattle.node_core.proofs.Words.{is_full, just, Change, Entry, Accepted, Rule}
 use Rattle.node_core.proofs.Words.{IsChange, IsOwnChange, IsCalmFault, Follows, Parts, link_words}
 use Rattle.node_core.proofs.Words.{KeptLink, ProcessesFollow, process_words, Spawned, IsRunningOf}
 use Rattle.node_core.proofs.Words.{is_number}
-use Rattle.node_core.proofs.Words.{scope_words, if_among, said_to, max_rows, count_after_join, lives_of, joined_links, Running, CoreFault, IsJoinRefusal}
+use Rattle.node_core.proofs.Words.{scope_words, if_among, said_to, told_limit, count_after_join, lives_of, joined_links, Running, CoreFault, IsJoinRefusal}
 use Rattle.node_core.proofs.Words.{own_checks, Event, Reply, Keeps, Kept, nat_lt, subst, ◌-◌, list_any, count_of, local_count, min, count_after_leave}
 use Rattle.node_core.proofs.Words.{is_any_joined, own, left_links, IsLeaveRefusal, AdmissionFollows, admission_words, running_scopes, heard, told, facts}
 use Rattle.node_core.proofs.Words.{kept_numbers, if_told, Row, answer, is_said, is_empty}
@@ -20,6 +21,7 @@ use Rattle.node_core.proofs.Entered.{step_follows, made, accepted_next, answered
 use Rattle.node_core.proofs.Ended.{Turns}
 use Rattle.node_core.proofs.LostChanges.{LeavesPeers}
 use Rattle.node_core.proofs.PeersKept.{join_leaves, leave_leaves, monitors_stay}
+use Rattle.node_core.proofs.OwnLimits.{most_told, own_limit_is}
 use Rattle.node_core.proofs.RowsGone.{rows_total}
 use Rattle.node_core.proofs.Scopes.{own_counts}
 use Rattle.node_core.proofs.MessagePlaces.{scope_here, runs_here}
@@ -86,7 +88,10 @@ module _ {h : History} (seat : ℕ) {parts : Parts} (t : Follows h parts) (s : L
           now (rows_now its) (others_now its)
 
       moves_now : is_full h ≡ false → first_broken (checks h seat ev) ≡ None → answer h seat ev ≡ Reply.Done → concerns_monitors ev ≡ false → is_said (say a.scope brought) ≡ not (is_empty brought) → (admission_words now ≡ admission_words h) × (process_words now ≡ process_words h) × (running_scopes now ≡ running_scopes h)
-          → ((l : ℕ) (u : List ℕ) → heard l u now.entries ≡ heard l u h.entries) → ((l : ℕ) (u : List ℕ) → told l u now.entries ≡ told l u h.entries) → ((l : ℕ) → facts now l ≡ facts h l)
+          → ((l : ℕ) (u : List ℕ)
+          → heard now.opening l u now.entries ≡ heard h.opening l u h.entries)
+          → ((l : ℕ) (u : List ℕ) → told now.opening l u now.entries ≡ told h.opening l u h.entries)
+          → ((l : ℕ) → facts now l ≡ facts h l)
           → (IsStep h entry → kept_numbers now ≡ kept_numbers h)
           → ((l : ℕ) → waiting now l ≡ waiting h l ++ if_told h l s (say s) brought)
           → LeavesPeers h now (λ u. false)
@@ -104,8 +109,13 @@ module _ {h : History} (seat : ℕ) {parts : Parts} (t : Follows h parts) (s : L
                 (subst (λ w. AdmissionFollows w parts.admission) (sym same_words.0) t.admission)
                 (subst (λ w. ProcessesFollow w parts.processes) (sym same_words.1) t.processes)
                 (moved_scopes h seat parts t s p here a b at m count links cs moved now (rows_now its) (others_now its) same_words.2 refl hears tells)
-                (told_follow (link_words h) (link_words now) (if_among (said_to a.told.items m) (wide m)) same_facts (numbers its) parts.links links
-                (λ l. waits l ∙ ap (λ f. waiting h l ++ f) (moved_frames h seat parts t s p here a b at m count links cs moved say brought l ∙ ap (λ c. if_among (cond c a.told.items []) (wide m) l) (sym brings)))
+                (told_follow (link_words h) (link_words now)
+                (if_among (said_to a.told.items m) (said_in m)) same_facts (numbers its)
+                parts.links links
+                (λ l parted way. waits l ∙ ap (λ f. waiting h l ++ f)
+                (moved_frames h seat parts t s p here a b at m count links cs moved say brought l
+                parted way
+                ∙ ap (λ c. if_among (cond c a.told.items []) (said_in m) l parted) (sym brings)))
                 moved.links t.links);
             leaves = leaves;
             owned = owned_now its;
@@ -114,47 +124,83 @@ module _ {h : History} (seat : ℕ) {parts : Parts} (t : Follows h parts) (s : L
 
 -- ---- the rules of a Join
 
-module _ (h : History) (seat : ℕ) (s g : List ℕ) (ps : List Pid) where
+module _ (h : History) (seat : ℕ) (s g : List ℕ) (ps : List Pid) (most : ℕ)
+    (limit : most ≡ own_limit h s) where
   abbrev join_broken : Bool → Bool → Bool → Bool → Option Rule
   join_broken runs local alive fit = cond (not runs) (Some Rule.NoScope) (cond (not local) (Some Rule.NotLocal) (cond (not alive) (Some Rule.NoProcess) (cond (not fit) (Some Rule.RowsFull) None)))
 
+  abbrev first_join : Bool → ℕ → Option Rule
+  first_join runs most =
+      join_broken runs (list_all (is_local h) ps) (list_all (lives h) ps)
+      (nat_le (length (local_rows h s) + length ps) most)
+
   -- the first rule that processes break by themselves
-  pub join_own : is_running h s ≡ true → (r : Rule) → first_broken (own_checks h ps) ≡ Some r → first_broken (checks h seat (Event.Join s g ps)) ≡ Some r
+  pub join_own : is_running h s ≡ true → (r : Rule) → first_broken (own_checks h ps most) ≡ Some r → first_broken (checks h seat (Event.Join s g ps)) ≡ Some r
   join_own runs r q =
-      ap (λ b. join_broken b (list_all (is_local h) ps) (list_all (lives h) ps) (nat_le (length (local_rows h s) + length ps) max_rows)) runs
+      ap (λ n. first_join (is_running h s) n) (sym limit)
+      ∙ ap (λ b. first_join b most) runs
       ∙ grind (arith, leb-true, le-leb, lt-leb)
 
   -- where they break none, there is room for them or not
-  join_left : is_running h s ≡ true → first_broken (own_checks h ps) ≡ None → first_broken (checks h seat (Event.Join s g ps)) ≡ cond (nat_le (length (local_rows h s) + length ps) max_rows) None (Some Rule.RowsFull)
+  pub join_left : is_running h s ≡ true → first_broken (own_checks h ps most) ≡ None → first_broken (checks h seat (Event.Join s g ps)) ≡ cond (nat_le (length (local_rows h s) + length ps) most) None (Some Rule.RowsFull)
   join_left runs q =
-      ap (λ b. join_broken b (list_all (is_local h) ps) (list_all (lives h) ps) (nat_le (length (local_rows h s) + length ps) max_rows)) runs
+      ap (λ n. first_join (is_running h s) n) (sym limit)
+      ∙ ap (λ b. first_join b most) runs
       ∙ grind arith
 
 -- ---- a Join
 
+-- the most own rows that the scope at a place may have
+pub limit_here : {h : History} (seat : ℕ) {parts : Parts} (t : Follows h parts) (s : List ℕ) {p : ℕ}
+    (here : scope_place s parts.scopes ≡ Some p) {a : Running} (at : a ≡ get_or parts.scopes p a)
+    → own_most h.opening.links a.told.items parts.links ≡ own_limit h s
+limit_here {h} seat t s here {a} at =
+    own_limit_is t a (there seat t s here at) ∙ ap (own_limit h) (its_scope seat t s here at)
+
 module _ {h : History} (seat : ℕ) {parts : Parts} (t : Follows h parts) (s g : List ℕ)
-    (ps : List Pid) {p : ℕ} (here : scope_place s parts.scopes ≡ Some p)
+    (ps : List Pid) (most : ℕ) (limit : most ≡ own_limit h s) {p : ℕ}
+    (here : scope_place s parts.scopes ≡ Some p)
     {a : Running} (at : a ≡ get_or parts.scopes p a) where
   own_total : length (local_rows h s) ≡ local_total a.table
   own_total = rows_total h s a (its_scope seat t s here at) (there seat t s here at) t.sound.played
 
-  pub joins_own : first_broken (own_checks h ps) ≡ None → All (λ q. q.node ≡ a.table.own) ps
-  joins_own q = own_nodes h a.table.own (there seat t s here at).own ps (unbroken (list_all (is_local h) ps) (all_hold (own_checks h ps) q).0)
+  -- and what is brought can be told
+  pub joins_told : first_broken (own_checks h ps most) ≡ None
+      → length ps ≤ told_limit a.told.items parts.links
+  joins_told q =
+      let few = leb-true (length ps) most
+      (unbroken (nat_le (length ps) most) (all_hold (own_checks h ps most) q).1.1.0) in
+      let is = limit ∙ ap (own_limit h) (sym (its_scope seat t s here at))
+      ∙ sym (own_limit_is t a (there seat t s here at)) in
+      let fits = most_told t a (there seat t s here at) in
+      omega (arith, few, is, fits)
+
+  pub joins_own : first_broken (own_checks h ps most) ≡ None → All (λ q. q.node ≡ a.table.own) ps
+  joins_own q = own_nodes h a.table.own (there seat t s here at).own ps (unbroken (list_all (is_local h) ps) (all_hold (own_checks h ps most) q).0)
 
   -- what the table refuses is the first rule that is broken
-  pub join_calm : first_broken (own_checks h ps) ≡ None → (f : CoreFault) → IsJoinRefusal a.table ps f → IsCalmFault h seat (Event.Join s g ps) f
-  join_calm q (CoreFault.Refused r) over = (join_left h seat s g ps (runs_here t s p here) q ∙ rw (lt-leb (length (local_rows h s) + length ps) max_rows (let is = own_total in let many = over.1 in omega (arith, is, many))) (ap Some (sym over.0)), refl)
+  pub join_calm : first_broken (own_checks h ps most) ≡ None → (f : CoreFault) → IsJoinRefusal a.table ps most f → IsCalmFault h seat (Event.Join s g ps) f
+  join_calm q (CoreFault.Refused r) over = (
+    join_left h seat s g ps most limit (runs_here t s p here) q
+        ∙ rw (lt-leb (length (local_rows h s) + length ps) most
+        (let is = own_total in let many = over.1 in omega (arith, is, many))) (ap Some (sym over.0)),
+    refl,
+  )
   join_calm q CoreFault.OutOfMemory over = tt
 
   pub joined : (b : Running) (links : List KeptLink) (cs : List Change) → IsMoved (Message.Join a.scope (map (row g) (listing pid_cmp (λ q. mentions q ps) ps))) (count_after_join a.table g ps) a b parts.links links cs
-      → is_full h ≡ false → first_broken (own_checks h ps) ≡ None → local_total a.table + length ps ≤ max_rows
+      → is_full h ≡ false → first_broken (own_checks h ps most) ≡ None → local_total a.table + length ps ≤ most
       → Turns h seat (Event.Join s g ps) cs
       (record parts { scopes = set parts.scopes p b; links = links }) (λ u. false)
       (IsOwnChange a (count_after_join a.table g ps))
   joined b links cs moved space q few =
       let e = made h seat (Event.Join s g ps) (Accepted Reply.Done) cs in
       moves_now seat t s here at (Event.Join s g ps) Message.Join (map (row g) (listing pid_cmp (λ q. mentions q ps) ps)) (λ n f q. n + cond (same f g) (mentions q ps) 0) b links cs moved
-      (λ its. joined_rows h e its refl s g ps refl) space (join_left h seat s g ps (runs_here t s p here) q ∙ rw (le-leb (length (local_rows h s) + length ps) max_rows (let is = own_total in omega (arith, is, few)))) refl refl refl (refl, refl, refl) (λ l u. refl) (λ l u. refl) (λ l. refl)
+      (λ its. joined_rows h e its refl s g ps refl) space
+      (join_left h seat s g ps most limit (runs_here t s p here) q
+      ∙ rw (le-leb (length (local_rows h s) + length ps) most
+      (let is = own_total in omega (arith, is, few)))) refl refl refl (refl, refl, refl)
+      (λ l u. refl) (λ l u. refl) (λ l. refl)
       (λ its. told_numbers h e its refl refl (λ l. (joined_links h e its refl s g ps refl l).kept_is)) (λ l. refl)
       (join_leaves h seat cs s g ps)
 

@@ -66,14 +66,14 @@ module _ (h : History) (seat j : ℕ) (body : List ℕ) (up : Linked) (frames : 
               arith,
               (proved_heard h t.sound.played e up_answered refl j body refl up.peer c.last
                   c.known.peer.peer l s).heard_is,
-              but_replaced h t.sound.played up.peer j c.unwhole l (heard l s h.entries),
+              but_replaced h t.sound.played up.peer j c.unwhole l (heard h.opening l s h.entries),
             );
         told =
             λ l s. grind (
               arith,
               (proved_heard h t.sound.played e up_answered refl j body refl up.peer c.last
                   c.known.peer.peer l s).told_is,
-              but_replaced h t.sound.played up.peer j c.unwhole l (told l s h.entries),
+              but_replaced h t.sound.played up.peer j c.unwhole l (told h.opening l s h.entries),
             );
       }
 
@@ -125,7 +125,7 @@ module _ {h : History} {parts : Parts} (t : Follows h parts) (seat : ℕ) (body 
   unwhole = (last_facts (facts h j) s (held_state t held) late).1
 
   -- no message is owed
-  pub last_quiet : may_tell h.entries (Event.Frame j body) ≡ false
+  pub last_quiet : may_tell h.opening h.entries (Event.Frame j body) ≡ false
   last_quiet = unwhole_quiet h j body unwhole
 
   module _ (pending : Pending) where

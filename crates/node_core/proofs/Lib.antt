@@ -53,6 +53,7 @@ pub mod Ending
 -- own rows
 pub mod Lives
 pub mod RowsGone
+pub mod OwnLimits
 pub mod Said
 pub mod Moved
 pub mod Joining

@@ -31,7 +31,9 @@ pub record IsGone (h k : History) (j : ℕ) : Type 0 where
   pub waits : (l : ℕ) → waiting k l ≡ cond (j == l) [] (waiting h l)
   pub numbers : kept_numbers k ≡ filter (λ l. not (j == l)) (kept_numbers h)
   pub running : running_scopes k ≡ running_scopes h
-  pub heard : (l : ℕ) (s : List ℕ) → IsHeardNow k l s (heard l s h.entries && not (j == l)) (told l s h.entries && not (j == l))
+  pub heard : (l : ℕ) (s : List ℕ)
+      → IsHeardNow k l s (heard h.opening l s h.entries && not (j == l))
+      (told h.opening l s h.entries && not (j == l))
 
 module _ (h k : History) (j : ℕ) (gone : IsGone h k j) where
   other_facts : (l : ℕ) → (j == l) ≡ false → facts k l ≡ facts h l
@@ -59,8 +61,12 @@ module _ (h k : History) (j : ℕ) (gone : IsGone h k j) where
       own = (gone.name i).name;
       running = gone.running i;
       listed = λ s g p. rows s g p i;
-      heard = λ l s. ((gone.heard l s).heard_is ∙ unless_gone l (heard l s h.entries) (λ d. rw d refl)) i;
-      told = λ l s. ((gone.heard l s).told_is ∙ unless_gone l (told l s h.entries) (λ d. rw d refl)) i;
+      heard = λ l s.
+          ((gone.heard l s).heard_is
+          ∙ unless_gone l (heard h.opening l s h.entries) (λ d. rw d refl)) i;
+      told = λ l s.
+          ((gone.heard l s).told_is ∙ unless_gone l (told h.opening l s h.entries) (λ d. rw d refl))
+          i;
     }
 
   -- ---- a link that was up with n
@@ -71,8 +77,10 @@ module _ (h k : History) (j : ℕ) (gone : IsGone h k j) where
       own = ap (λ o. o.name) gone.name;
       running = gone.running;
       listed = rows;
-      heard = λ l s. (gone.heard l s).heard_is ∙ ap (λ b. heard l s h.entries && not b) (flip j l);
-      told = λ l s. (gone.heard l s).told_is ∙ ap (λ b. told l s h.entries && not b) (flip j l);
+      heard = λ l s. (gone.heard l s).heard_is
+          ∙ ap (λ b. heard h.opening l s h.entries && not b) (flip j l);
+      told = λ l s. (gone.heard l s).told_is
+          ∙ ap (λ b. told h.opening l s h.entries && not b) (flip j l);
     }
 
   -- ---- both

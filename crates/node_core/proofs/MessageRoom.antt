@@ -1,10 +1,12 @@
 -- Room that is made for a message, and the answer to a Discover.
 use Rattle.node_core.proofs.Words.{Follows, Parts, same, early_checks, List, None, Some, ap, cond}
 use Rattle.node_core.proofs.Words.{false, get_or, refl, set, subst, sym, true}
-use Rattle.node_core.proofs.Words.{ℕ, [], ◌++◌, ◌∙◌, ◌∷◌, ◌≡◌, IsRowListing, count_of, kept_climbs, running_rises, first_broken, local_rows, said_on}
+use Rattle.node_core.proofs.Words.{ℕ, [], ◌++◌, ◌∙◌, ◌∷◌, ◌≡◌, IsRowListing, count_of, kept_climbs}
+use Rattle.node_core.proofs.Words.{running_rises, first_broken, local_rows, read_message}
 use Rattle.node_core.proofs.Words.{History, is_up, OutFrame, wide, is_full, just, Accepted}
 use Rattle.node_core.proofs.Words.{IsLinkOf, LinksFollow, link_words, KeptLink, with_frames}
-use Rattle.node_core.proofs.Words.{with_room, ScopesFollow, scope_words, message_owes, Running, with_number, HasBecome, AnswersDiscover, Message, Event, Reply}
+use Rattle.node_core.proofs.Words.{with_room, ScopesFollow, scope_words, old_owes, Running}
+use Rattle.node_core.proofs.Words.{with_number, HasBecome, AnswersDiscover, Message, Event, Reply}
 use Rattle.node_core.proofs.Words.{IsAlone}
 use Rattle.policy_audit.proofs.OwnRows.{sync_listing}
 use Rattle.node_core.proofs.Entered.{made}
@@ -51,11 +53,13 @@ module _ {h : History} {parts : Parts} (t : Follows h parts) (seat l : ℕ) (bod
     (x_is : x ≡ get_or parts.links pl x)
     (s : List ℕ) {p : ℕ} {r : Running} (y : Running) (at : scope_place s parts.scopes ≡ Some p)
     (r_is : r ≡ get_or parts.scopes p r)
-    (says : said_on l h.entries body ≡ Some (Message.Discover s)) (early : first_broken (early_checks h l (Message.Discover s)) ≡ None) where
+    (says : read_message body ≡ Some (Message.Discover s))
+    (early : first_broken (early_checks h l (Message.Discover s)) ≡ None) where
   here : IsUpHere h l x
   here = up_here t l up placed x_is
 
-  answer_is : {frames : List OutFrame} → AnswersDiscover r l s frames → frames ≡ message_owes h l (Message.Discover s)
+  answer_is : {frames : List OutFrame} → AnswersDiscover r l s frames
+      → frames ≡ old_owes h l (Message.Discover s)
   answer_is a =
       let there = scope_here t s at r_is in
       let rows_are : a.rows ≡ local_rows h s =
@@ -76,7 +80,8 @@ module _ {h : History} {parts : Parts} (t : Follows h parts) (seat l : ℕ) (bod
       let answer = answer_is (subst (λ w. AnswersDiscover w l s frames) (same_there h parts.scopes s p r o (scope_here t s at r_is) o_is) answers) in (
         discovered_next t seat l body space up placed x_is s y at r_is says early,
         discovered_follows t seat l body space up placed x_is s y at r_is says early becomes (set parts.links pl z)
-            (owed_links h seat l body (Message.Discover s) space up here.awaited says early []
+            (owed_links h t.sound seat l body (Message.Discover s) space up here.awaited says early
+            []
             parts.links t.sound.played t.links pl x z placed here
             (ap (λ w. w.number) is) (ap (λ w. w.state) is) (ap (λ w. w.prepared) is ∙ here.link.idle) (ap (λ w. w.frames) is ∙ ap (λ fs. x.frames ++ fs) answer)),
       )

@@ -1,10 +1,11 @@
 -- A Discover that ends its link: too many frames would wait for it.
+use Rattle.node_core.proofs.Words.{said_is, said_at}
 use Rattle.node_core.proofs.Words.{arith, ap, refl, subst, sym, ◌∙◌, Bool, List, None, Some, []}
 use Rattle.node_core.proofs.Words.{◌∷◌, ◌≡◌, ◌&&◌, ◌++◌, ◌+◌, ◌==◌, cond, false, true, not, ℕ}
 use Rattle.node_core.proofs.Words.{length}
 use Rattle.node_core.proofs.Words.{map, nat_lt, reverse, filter, set, get_or, and_both, and_parts}
 use Rattle.node_core.proofs.Words.{History, past, is_open, is_up, is_whole, named_by, is_last}
-use Rattle.node_core.proofs.Words.{said_on, heard, is_full}
+use Rattle.node_core.proofs.Words.{read_message, heard, is_full}
 use Rattle.node_core.proofs.Words.{IsLegal, IsStep, IsNext, with_entry, just, lose, loss, audit_of}
 use Rattle.node_core.proofs.Words.{max_waiting}
 use Rattle.node_core.proofs.Words.{Entry, Accepted, Event, Reply, Message, Change, same, IsChange}
@@ -12,7 +13,7 @@ use Rattle.node_core.proofs.Words.{entry_link, framed_numbers, Follows, Parts, I
 use Rattle.node_core.proofs.Words.{LinksFollow, link_words, KeptLink, Running, up_peer}
 use Rattle.node_core.proofs.Words.{without_number}
 use Rattle.node_core.proofs.Words.{AreCut, AreLost, OutFrame, and-true, is_some, get_or_default}
-use Rattle.node_core.proofs.Words.{with_frames, message_owes, first_broken, early_checks, is_number}
+use Rattle.node_core.proofs.Words.{with_frames, old_owes, first_broken, early_checks, is_number}
 use Rattle.node_core.proofs.Words.{link_place, scope_place, waiting, frame_owes, AwaitMessage}
 use Rattle.node_core.proofs.Words.{is_kept}
 use Rattle.node_core.proofs.Words.{no_value, le-ltb, lt-ltb, local_rows, wide, ◌≤◌, ◌<◌}
@@ -41,7 +42,7 @@ module _ {h : History} {parts : Parts} (t : Follows h parts) (legal : IsLegal h)
     (x_is : x ≡ get_or parts.links pl x)
     (s : List ℕ) {p : ℕ} {r : Running} (at : scope_place s parts.scopes ≡ Some p)
     (r_is : r ≡ get_or parts.scopes p r)
-    (says : said_on l h.entries body ≡ Some (Message.Discover s))
+    (says : read_message body ≡ Some (Message.Discover s))
     (early : first_broken (early_checks h l (Message.Discover s)) ≡ None) where
   here : IsUpHere h l x
   here = up_here t l up placed x_is
@@ -49,20 +50,24 @@ module _ {h : History} {parts : Parts} (t : Follows h parts) (legal : IsLegal h)
   there : IsScopeHere h parts.scopes s p r
   there = scope_here t s at r_is
 
+  on_link : {m : Message} → read_message body ≡ Some m → said_at h.opening l h.entries body ≡ Some m
+  on_link says = said_is h.opening t.sound.links l h.entries body ∙ says
+
   abbrev e : List Change → Entry
   e cs = made h seat (Event.Frame l body) (Accepted Reply.Done) cs
 
   so : (cs : List Change) → IsStep h (e cs)
-  so = its_answered h seat l body (Message.Discover s) space up here.awaited says early
+  so = its_answered h t.sound seat l body (Message.Discover s) space up here.awaited says early
 
   -- the link with all that would wait for it
   abbrev full : KeptLink
-  full = with_frames x (message_owes h l (Message.Discover s))
+  full = with_frames x (old_owes h l (Message.Discover s))
 
   full_links : (cs : List Change)
       → LinksFollow (link_words (just h (e cs))) (set parts.links pl full)
   full_links cs =
-      owed_links h seat l body (Message.Discover s) space up here.awaited says early cs parts.links
+      owed_links h t.sound seat l body (Message.Discover s) space up here.awaited says early cs
+      parts.links
       t.sound.played t.links pl x full placed here refl refl here.link.idle refl
 
   full_alone : filter is_slow_link (set parts.links pl full)
@@ -84,11 +89,11 @@ module _ {h : History} {parts : Parts} (t : Follows h parts) (legal : IsLegal h)
       two true f g = refl
       two false f g = refl
 
-      long : length (x.frames ++ message_owes h l (Message.Discover s)) ≡ many_now
+      long : length (x.frames ++ old_owes h l (Message.Discover s)) ≡ many_now
       long =
-          length-append x.frames (message_owes h l (Message.Discover s))
+          length-append x.frames (old_owes h l (Message.Discover s))
           ∙ ap (λ n. length x.frames + n)
-          (two (heard l s h.entries) (wide (Message.Sync s (local_rows h s)))
+          (two (heard h.opening l s h.entries) (wide (Message.Sync s (local_rows h s)))
           (wide (Message.Discover s))
           ∙ ap (λ b. cond b 1 2) (sym (heard_there h s r there.named there.running l)))
 
@@ -133,6 +138,7 @@ module _ {h : History} {parts : Parts} (t : Follows h parts) (legal : IsLegal h)
             awaits = it.awaits;
             whole = it.whole;
             talk = it.talk;
+            begun = it.begun;
           };
       opens = λ j.
           (lost_links k (loss l) refl l refl j).open_is
@@ -149,7 +155,7 @@ module _ {h : History} {parts : Parts} (t : Follows h parts) (legal : IsLegal h)
       heard = λ j u.
           let was =
           discovered_heard h t.sound.played (e cs) (so cs) refl l body refl here.awaited
-          j u s says in
+          j u s (on_link says) in
           let now = lost_heard k (loss l) refl l refl j u in
           grind (arith, was.heard_is, was.told_is, now.heard_is, now.told_is);
     }
@@ -176,7 +182,7 @@ module _ {h : History} {parts : Parts} (t : Follows h parts) (legal : IsLegal h)
         still_up.up still_up.peer still_up.other u g q
         ∙ ap (cond (same q.node n) 0)
         (discovered_rows h t.sound.played (e cs) (so cs) refl l body refl n here.awaited
-        of.peer of.other s says u g q))
+        of.peer of.other s (on_link says) u g q))
 
     alone : IsAlone h (e [])
     alone = discovered_next t seat l body space up placed x_is s r at r_is says early
@@ -201,7 +207,8 @@ module _ {h : History} {parts : Parts} (t : Follows h parts) (legal : IsLegal h)
     lost_next lost = record {
       room = alone.room;
       number = refl;
-      verdict = its_verdict h seat l body (Message.Discover s) space up here.awaited says early cs;
+      verdict = its_verdict h t.sound seat l body (Message.Discover s) space up here.awaited says
+          early cs;
       change =
           subst (λ k. IsChange h k cs) (sym with_loss)
           (gone_change h after l gone (up_peer x.state) rows parts.scopes cs lost t.scopes);

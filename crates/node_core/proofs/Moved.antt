@@ -1,8 +1,10 @@
 -- One scope whose own rows have changed, and the links that are told of it.
-use Rattle.node_core.proofs.Words.{arith, Bool, List, Some, ap, cond, false, get_or, not, set}
+use Rattle.node_core.proofs.Words.{and_parts, facts, frames_to, is_open, is_up, is_whole, link_version}
+use Rattle.node_core.proofs.Words.{first_of, said_in, talk, tells as tells_it, true, unwrap_or, ◌&&◌, ◌==◌}
+use Rattle.node_core.proofs.Words.{arith, Bool, List, Some, ap, cond, false, get_or, refl, not, set}
 use Rattle.node_core.proofs.Words.{subst, sym, ℕ, [], ◌||◌, ◌∙◌, ◌∷◌, ◌≡◌}
 use Rattle.node_core.proofs.Words.{IsDifference, is_empty, same, Pid, Row, Message, count_of, IsChange, if_some, heard, told, History, listed}
-use Rattle.node_core.proofs.Words.{OutFrame, wide, running_scopes, Change, Follows, Parts, KeptLink}
+use Rattle.node_core.proofs.Words.{OutFrame, running_scopes, Change, Follows, Parts, KeptLink}
 use Rattle.node_core.proofs.Words.{AreTold, IsMovedBy, IsOwnChange, said_to, IsRunningOf}
 use Rattle.node_core.proofs.Words.{ScopesFollow, is_number}
 use Rattle.node_core.proofs.Words.{scope_words, Alike, if_among, running_rises, set-get_or, if_told, Running}
@@ -11,12 +13,38 @@ use Rattle.scope_core.specs.Calls.{Counts}
 use Rattle.node_core.proofs.Scopes.{counts_listed}
 use Rattle.node_core.proofs.MessagePlaces.{scope_here}
 use Rattle.node_core.proofs.OneScope.{one_scope_follows, scope_change}
-use Rattle.node_core.proofs.Told.{alike_again}
+use Rattle.node_core.proofs.Told.{IsItsWay, alike_again}
 
 -- ---- what waits for the links that are told
 
-pub told_frames : (rows : List Row) (numbers : List ℕ) (frame : OutFrame) (l : ℕ) (b : Bool) → is_number l numbers ≡ b → (cond (is_empty rows || not b) [] (frame ∷ [])) ≡ if_among (cond (not (is_empty rows)) numbers []) frame l
-told_frames rows numbers frame l b q = grind (arith, q)
+told_frames : (rows : List Row) (numbers : List ℕ) (frames : Bool → List OutFrame) (l : ℕ)
+    (parted version is_told : Bool) → is_number l numbers ≡ is_told
+    → (is_told ≡ true → parted ≡ version)
+    → cond (is_empty rows || not is_told) [] (frames version)
+    ≡ if_among (cond (not (is_empty rows)) numbers []) frames l parted
+told_frames rows numbers frames l parted version true q way =
+    grind (arith, q, way refl)
+told_frames rows numbers frames l parted version false q way = grind (arith, q)
+
+-- a link that is told takes messages by its version
+told_way : (h : History) (l : ℕ) (s : List ℕ) (parted : Bool) → IsItsWay (facts h l) parted
+    → told h.opening l s h.entries ≡ true → parted ≡ (link_version h.opening l h.entries == 2)
+told_way h l s parted way told_so =
+    let up = (and_parts (is_up l h.entries)
+    (unwrap_or (first_of (tells_it s) (talk h.opening l h.entries)) false) told_so).0 in
+    let both = and_parts (is_open l h.entries) (is_whole l h.entries) up in
+    way both.0 both.1
+
+-- what the policy owes to a link for rows is what the links of these numbers are told
+pub rows_told : (h : History) (l : ℕ) (s : List ℕ) (say : List Row → Message) (rows : List Row)
+    (numbers : List ℕ) (parted : Bool) → IsItsWay (facts h l) parted
+    → is_number l numbers ≡ told h.opening l s h.entries
+    → if_told h l s say rows
+    ≡ if_among (cond (not (is_empty rows)) numbers []) (said_in (say rows)) l parted
+rows_told h l s say rows numbers parted way q =
+    told_frames rows numbers (said_in (say rows)) l parted
+    (link_version h.opening l h.entries == 2) (told h.opening l s h.entries) q
+    (told_way h l s parted way)
 
 -- ---- one scope after a change of its own rows
 
@@ -28,12 +56,12 @@ pub record IsMoved (m : Message) (count : List ℕ → Pid → ℕ) (old new : R
   pub told : new.told.items ≡ old.told.items
   pub rows : Counts old.table new.table count
   pub own : IsOwnChange old count cs
-  pub links : AreTold (if_among (said_to old.told.items m) (wide m)) links_old links_new
+  pub links : AreTold (if_among (said_to old.told.items m) (said_in m)) links_old links_new
 
 -- the same, where a link ends with it: the changes of own rows were made beforehand
 pub moved_so : {m : Message} {count : List ℕ → Pid → ℕ} {old new : Running}
     {links links_new : List KeptLink} {cs own : List Change} → IsMovedBy count old new cs
-    → AreTold (if_among (said_to old.told.items m) (wide m)) links links_new
+    → AreTold (if_among (said_to old.told.items m) (said_in m)) links links_new
     → IsOwnChange old count own → IsMoved m count old new links links_new own
 moved_so by links own = record {
   scope = by.scope;
@@ -67,37 +95,47 @@ module _ (h : History) (seat : ℕ) (parts : Parts) (t : Follows h parts) (s : L
 
   -- the scopes after it
   module _ (k : History) (rows : (f : List ℕ) (q : Pid) → listed k s f q ≡ count f q) (others : (u f : List ℕ) (q : Pid) → same u s ≡ false → listed h u f q ≡ listed k u f q)
-      (running : running_scopes k ≡ running_scopes h) (own_name : k.opening.name ≡ h.opening.name) (hears : (l : ℕ) (u : List ℕ) → heard l u k.entries ≡ heard l u h.entries) (tells : (l : ℕ) (u : List ℕ) → told l u k.entries ≡ told l u h.entries) where
-    abbrev there : IsRunningOf (scope_words h) a
-    there = (scope_here t s here at).running
+      (running : running_scopes k ≡ running_scopes h) (own_name : k.opening.name ≡ h.opening.name)
+      (hears : (l : ℕ) (u : List ℕ) → heard k.opening l u k.entries ≡ heard h.opening l u h.entries)
+      (tells : (l : ℕ) (u : List ℕ) → told k.opening l u k.entries ≡ told h.opening l u h.entries)
+    where
+      abbrev there : IsRunningOf (scope_words h) a
+      there = (scope_here t s here at).running
 
-    changed : IsRunningOf (scope_words k) b
-    changed = record {
-      own = moved.rows.own ∙ there.own ∙ sym own_name;
-      rows = now_counted k rows others;
-      heard = λ l. ap (is_number l) moved.heard ∙ there.heard l ∙ ap (λ u. heard l u h.entries) (sym moved.scope) ∙ sym (hears l b.scope);
-      told = λ l. ap (is_number l) moved.told ∙ there.told l ∙ ap (λ u. told l u h.entries) (sym moved.scope) ∙ sym (tells l b.scope);
-    }
+      changed : IsRunningOf (scope_words k) b
+      changed = record {
+        own = moved.rows.own ∙ there.own ∙ sym own_name;
+        rows = now_counted k rows others;
+        heard = λ l. ap (is_number l) moved.heard ∙ there.heard l
+            ∙ ap (λ u. heard h.opening l u h.entries) (sym moved.scope) ∙ sym (hears l b.scope);
+        told = λ l. ap (is_number l) moved.told ∙ there.told l
+            ∙ ap (λ u. told h.opening l u h.entries) (sym moved.scope) ∙ sym (tells l b.scope);
+      }
 
-    still : (r : Running) → same r.scope s ≡ false → IsRunningOf (scope_words h) r → IsRunningOf (scope_words k) r
-    still r other q = record {
-      own = q.own ∙ sym own_name;
-      rows = λ f x. q.rows f x ∙ others r.scope f x other;
-      heard = λ l. q.heard l ∙ sym (hears l r.scope);
-      told = λ l. q.told l ∙ sym (tells l r.scope);
-    }
+      still : (r : Running) → same r.scope s ≡ false → IsRunningOf (scope_words h) r → IsRunningOf (scope_words k) r
+      still r other q = record {
+        own = q.own ∙ sym own_name;
+        rows = λ f x. q.rows f x ∙ others r.scope f x other;
+        heard = λ l. q.heard l ∙ sym (hears l r.scope);
+        told = λ l. q.told l ∙ sym (tells l r.scope);
+      }
 
-    pub moved_scopes : ScopesFollow (scope_words k) (set parts.scopes p b)
-    moved_scopes = one_scope_follows (scope_words h) (scope_words k) s b changed (moved.scope ∙ its_scope) still
-        parts.scopes p a t.scopes (running_rises h) running (scope_here t s here at).within (sym (ap (λ r. r.scope) at) ∙ its_scope)
+      pub moved_scopes : ScopesFollow (scope_words k) (set parts.scopes p b)
+      moved_scopes = one_scope_follows (scope_words h) (scope_words k) s b changed (moved.scope ∙ its_scope) still
+          parts.scopes p a t.scopes (running_rises h) running (scope_here t s here at).within (sym (ap (λ r. r.scope) at) ∙ its_scope)
 
   -- what is told of rows, to links of which as many are told as the policy says
   pub moved_frames : (say : List ℕ → List Row → Message) (brought : List Row) (l : ℕ)
-      → if_told h l s (say s) brought ≡ if_among (cond (not (is_empty brought)) a.told.items []) (wide (say a.scope brought)) l
-  moved_frames say brought l =
+      (parted : Bool) → IsItsWay (facts h l) parted
+      → if_told h l s (say s) brought
+      ≡ if_among (cond (not (is_empty brought)) a.told.items []) (said_in (say a.scope brought)) l
+      parted
+  moved_frames say brought l parted way =
       let there = (scope_here t s here at).running in
-      told_frames brought a.told.items (wide (say s brought)) l (told l s h.entries) (there.told l ∙ ap (λ u. told l u h.entries) its_scope)
-      ∙ ap (λ u. if_among (cond (not (is_empty brought)) a.told.items []) (wide (say u brought)) l) (sym its_scope)
+      rows_told h l s (say s) brought a.told.items parted way
+      (there.told l ∙ ap (λ u. told h.opening l u h.entries) its_scope)
+      ∙ ap (λ u. if_among (cond (not (is_empty brought)) a.told.items []) (said_in (say u brought)) l
+      parted) (sym its_scope)
 
 -- ---- where nothing was moved
 

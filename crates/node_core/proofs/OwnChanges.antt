@@ -57,7 +57,7 @@ ok_both {F} (Ok x) p same a b both = both a x (subst (λ r. IfOk r F) (sym same)
 ok_both (Err e) p same a b both = tt
 
 -- what was prepared is dropped again
-pub dropped : (more : ℕ → List OutFrame) (old mid new : List KeptLink) → AreIdle old
+pub dropped : (more : ℕ → Bool → List OutFrame) (old mid new : List KeptLink) → AreIdle old
     → ArePrepared more old mid
     → map unroomed new ≡ map (λ x. unroomed (with_prepared x [])) mid → Alike old new
 dropped more old mid new idle q d = d ∙ prepared_bare more old mid q ∙ forgotten old idle

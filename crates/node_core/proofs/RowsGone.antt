@@ -1,4 +1,5 @@
 -- The rows that leave with a process.
+use Rattle.node_core.proofs.Words.{IsSound}
 use Rattle.node_core.proofs.Words.{List, ap, arith, cond, false, length, map, refl, ℕ, [], ◌++◌, ◌+◌, ◌∙◌, ◌∷◌, ◌≡◌, ◌≤◌, AllByRecursion, filter, Less}
 use Rattle.node_core.proofs.Words.{same_decides, same_pid_decides, IsDifference, Rises, occurrences, same_pid, same_row, pid_cmp, row_cmp, text_cmp}
 use Rattle.node_core.proofs.Words.{GroupChange, Pid, Row, count_after_exit, Table, count_of}
@@ -9,7 +10,7 @@ use Rattle.std.specs.Ordering.{ordering_then}
 use Rattle.dist_types.proofs.Listings.{all_append, fewer_length, length-spread, spread_counts}
 use Rattle.dist_types.proofs.Totals.{how_many_append}
 use Rattle.policy_audit.proofs.Lists.{rows_of_group}
-use Rattle.policy_audit.proofs.FewRows.{few_local}
+use Rattle.policy_audit.proofs.OldLinks.{few_own}
 use Rattle.policy_audit.proofs.OwnRows.{exit_listing, local_rows_are}
 use Rattle.node_core.proofs.Scopes.{own_counts}
 use Rattle.scope_core.specs.declared.counted.Counted.{Counted}
@@ -44,11 +45,11 @@ rows_total h s r named t legal =
     ∙ own_length r.table
 
 -- so they are no more than a message brings
-pub few_total : (h : History) (r : Running) → IsRunningOf (scope_words h) r → IsPlayed h
+pub few_total : (h : History) (r : Running) → IsRunningOf (scope_words h) r → IsSound h
     → local_total r.table ≤ max_rows
-few_total h r t legal =
-    let is = rows_total h r.scope r refl t legal in
-    let few = few_local h legal r.scope in
+few_total h r t sound =
+    let is = rows_total h r.scope r refl t sound.played in
+    let few = few_own h sound.links sound.played r.scope in
     omega (arith, is, few)
 
 -- each row leaves as often as the changes say
@@ -81,8 +82,8 @@ module _ (t : Table) (p : Pid) (own_one : t.own ≡ p.node) (gs : List GroupChan
   exit_counts : (r : Row) → occurrences same_row r (rows_left gs) ≡ cond (same_pid r.pid p) (local_count t r.group r.pid) 0
   exit_counts r = left_occurs r gs ∙ d.left r.group r.pid ∙ grind (arith, same_pid_decides r.pid p, same_decides r.pid.node t.own, own_one)
 
-  pub few_left : local_total t ≤ max_rows → length (rows_left gs) ≤ max_rows
-  few_left few = (let within = few_rows t (rows_left gs) (λ r. grind (arith, exit_counts r)) in omega (arith, within, few))
+  pub few_left : (most : ℕ) → local_total t ≤ most → length (rows_left gs) ≤ most
+  few_left most few = (let within = few_rows t (rows_left gs) (λ r. grind (arith, exit_counts r)) in omega (arith, within, few))
 
 -- they are the policy's rows of the process
 pub left_are : (h : History) (r : Running) → IsRunningOf (scope_words h) r → IsPlayed h → (p : Pid)

@@ -1,11 +1,13 @@
 -- Messages of own rows, and the links that are told them.
 use Rattle.node_core.proofs.Words.{List, OnErr, ap, arith, cond, length, map, not, refl, subst, sym, true, ℕ, [], ◌<◌, ◌∙◌, ◌∷◌, ◌≡◌, same_pid_decides}
 use Rattle.node_core.proofs.Words.{is_empty, IsListing, IsPidListing, IsRowListing, listing, mentions, same, same_pid, pid_cmp, Pid, Row, Message, Table, lie}
+use Rattle.node_core.proofs.Words.{Bool, false, ◌≤◌, ◌^◌, MayBeSaid, is_any_in, told_limit}
 use Rattle.node_core.proofs.Words.{row, KeptLink, Alike, min, stands_in, exact_pids, pids_total, IsJoinFault, IsLeaveFault, occurs_stands, Running, IsBrief}
 use Rattle.node_core.proofs.Words.{is_said, fault_of, IsJoinRefusal, IsLeaveRefusal, length-map, same_sym, occurrences, same_row, row_cmp, same_row_decides}
 use Rattle.node_core.proofs.Words.{same_length, count_in_group, max_rows}
 use Rattle.std.proofs.Common.{Result}
 use Rattle.dist_types.proofs.Listings.{listing_counts}
+use Rattle.link_frames.specs.Parts.{HasParts}
 use Rattle.link_frames.specs.Spelling.{HasSpelling}
 use Rattle.scope_core.specs.declared.fault.TableFault.{TableFault}
 use Rattle.policy_audit.proofs.OwnRows.{one_row_listing, rows_in_group}
@@ -15,13 +17,35 @@ some_left : {A : Type 0} (xs : List A) → not (is_empty xs) ≡ true → 0 < le
 some_left [] q = lie (sym q)
 some_left (x ∷ xs) q = omega arith
 
--- a message that is said can be spelled
-pub spelled : (m : Message) → IsBrief m → is_said m ≡ true → HasSpelling m
+-- a message that is said can be spelled, whole and in parts
+pub spelled : (m : Message) → IsBrief max_rows m → is_said m ≡ true → HasSpelling m
 spelled (Message.Discover s) b q = tt
 spelled (Message.Sync s rows) b q = b
 spelled (Message.Join s rows) b q = (some_left rows q, b)
 spelled (Message.Leave s rows) b q = (some_left rows q, b)
 spelled (Message.Down s) b q = tt
+
+below : (most : ℕ) → most ≤ 65536 → (rows : List Row) → length rows ≤ most → length rows < 2 ^ 32
+below most within rows few = omega (arith, within, few)
+
+in_parts : (most : ℕ) → most ≤ 65536 → (m : Message) → IsBrief most m → is_said m ≡ true
+    → HasParts m
+in_parts most w (Message.Discover s) b q = tt
+in_parts most w (Message.Sync s rows) b q = below most w rows b
+in_parts most w (Message.Join s rows) b q = (some_left rows q, below most w rows b)
+in_parts most w (Message.Leave s rows) b q = (some_left rows q, below most w rows b)
+in_parts most w (Message.Down s) b q = tt
+
+within : (b : Bool) → cond b max_rows 65536 ≤ 65536
+within true = omega arith
+within false = omega arith
+
+pub may_be_said : (numbers : List ℕ) (links : List KeptLink) (m : Message)
+    → IsBrief (told_limit numbers links) m → is_said m ≡ true → MayBeSaid numbers links m
+may_be_said numbers links m b q true some =
+    in_parts (told_limit numbers links) (within (is_any_in false numbers links)) m b q
+may_be_said numbers links m b q false some =
+    spelled m (subst (λ old. IsBrief (cond old max_rows 65536) m) some b) q
 
 -- ---- rows of one group
 
@@ -53,11 +77,11 @@ module _ (g : List ℕ) (pids : List Pid) (rows sorted : List Row) (is : rows �
 
 -- ---- faults
 
-pub join_fault : (t : Table) (ps : List Pid) (f : TableFault) → IsJoinFault t ps max_rows f
-    → IsJoinRefusal t ps (fault_of f)
-join_fault t ps TableFault.RowsFull q = (refl, q)
-join_fault t ps TableFault.OutOfMemory q = tt
-join_fault t ps f q = absurd q
+pub join_fault : (t : Table) (ps : List Pid) (most : ℕ) (f : TableFault)
+    → IsJoinFault t ps most f → IsJoinRefusal t ps most (fault_of f)
+join_fault t ps most TableFault.RowsFull q = (refl, q)
+join_fault t ps most TableFault.OutOfMemory q = tt
+join_fault t ps most f q = absurd q
 
 pub leave_fault : (t : Table) (g : List ℕ) (ps : List Pid) (f : TableFault) → IsLeaveFault t g ps f → IsLeaveRefusal t g ps (fault_of f)
 leave_fault t g ps TableFault.NotJoined q = (refl, q)

@@ -1,7 +1,7 @@
 -- A scope that starts.
 use Rattle.node_core.proofs.Words.{Bool, List, None, Option, Some, ap, arith, cond, false, get_or, length, map, not, refl, suc, sym, true, zero, ℕ, [], ◌++◌}
 use Rattle.node_core.proofs.Words.{◌<◌, ◌∙◌, ◌∷◌, ◌≡◌, ◌≤◌, AllByRecursion, Less, le-ltb, lt-ltb, same_decides, Rises, is_among, text_cmp, Pid, count_of}
-use Rattle.node_core.proofs.Words.{no_change, stopped_lists, told_numbers, running_among, checks, first_broken, heard, told, History, listed, waiting, wide}
+use Rattle.node_core.proofs.Words.{no_change, stopped_lists, told_numbers, running_among, checks, first_broken, heard, told, History, listed, waiting, said_in}
 use Rattle.node_core.proofs.Words.{is_running, running_scopes, IsStep, is_full, just, Entry}
 use Rattle.node_core.proofs.Words.{Accepted, Rule, Follows, Parts, link_words}
 use Rattle.node_core.proofs.Words.{KeptLink, IsRunningOf, ScopesFollow, is_number, scope_words, AreTold, if_among, shown_numbers, insert, placed, texts_total}
@@ -16,7 +16,7 @@ use Rattle.node_core.proofs.Entered.{step_follows, made, accepted_next, answered
 use Rattle.node_core.proofs.Ended.{Turns}
 use Rattle.node_core.proofs.PeersKept.{start_leaves, monitors_stay}
 use Rattle.node_core.proofs.KeptOn.{each_at}
-use Rattle.node_core.proofs.Told.{told_follow, shown_number}
+use Rattle.node_core.proofs.Told.{discover_alike, told_follow, visible_told}
 
 -- ---- a scope put among others
 
@@ -100,16 +100,16 @@ module _ (h : History) (seat : ℕ) (s : List ℕ) where
             ∙ stopped_lists h s g p stopped);
         heard =
             λ l. ap (is_number l) unheard
-            ∙ nobody (heard l s h.entries) (heard_runs' h t.sound.played l s)
-            ∙ ap (λ x. heard l x h.entries) (sym named);
+            ∙ nobody (heard h.opening l s h.entries) (heard_runs' h t.sound.played l s)
+            ∙ ap (λ x. heard h.opening l x h.entries) (sym named);
         told =
             λ l. ap (is_number l) untold
-            ∙ nobody (told l s h.entries) (told_runs h t.sound.played l s)
-            ∙ ap (λ x. told l x h.entries) (sym named);
+            ∙ nobody (told h.opening l s h.entries) (told_runs h t.sound.played l s)
+            ∙ ap (λ x. told h.opening l x h.entries) (sym named);
       }
 
     pub start_now : is_full h ≡ false → length parts.scopes < 64 → (r : Running) → r.scope ≡ s → r.table.own ≡ h.opening.name → ((g : List ℕ) (p : Pid) → count_of r.table g p ≡ 0) → r.heard.items ≡ [] → r.told.items ≡ []
-        → (links : List KeptLink) → AreTold (if_among (shown_numbers parts.links) (wide (Message.Discover s))) parts.links links
+        → (links : List KeptLink) → AreTold (if_among (shown_numbers parts.links) (said_in (Message.Discover s))) parts.links links
         → Turns h seat (Event.StartScope s) []
         (record parts { scopes = put_scope r parts.scopes; links = links }) (λ u. false)
         (λ x. x ≡ [])
@@ -130,10 +130,11 @@ module _ (h : History) (seat : ℕ) (s : List ℕ) where
                     ∙ (λ i. placed text_cmp (named i) (t.scopes.running i)) ∙ sym (running_started h e refl s refl);
                 each = put_each (IsRunningOf (scope_words started)) r parts.scopes (new_one its r named own none unheard untold) others;
               })
-              (told_follow (link_words h) (link_words started) (if_among (shown_numbers parts.links) (wide (Message.Discover s))) (λ l. refl)
+              (told_follow (link_words h) (link_words started) (if_among (shown_numbers parts.links) (said_in (Message.Discover s))) (λ l. refl)
               (told_numbers h e its refl refl (λ l. (started_links h e its refl s refl l).kept_is)) parts.links links
-              (λ l. ap (λ b. waiting h l ++ cond b (wide (Message.Discover s) ∷ []) [])
-              (sym (shown_number h parts.links t.sound.played t.links l)))
+              (λ l parted way. ap (λ fs. waiting h l ++ fs)
+              (visible_told h parts.links t.sound.played t.links (Message.Discover s) (discover_alike s) l
+              parted))
               tells t.links);
           leaves = start_leaves h seat [] t.sound.played s its;
           monitors = monitors_stay h seat parts.monitors t.monitors (Event.StartScope s) refl;

@@ -1,6 +1,6 @@
 -- A scope that stops.
 use Rattle.node_core.proofs.Words.{List, ap, cond, false, not, refl, subst, sym, true, ℕ, [], ◌++◌, ◌∙◌, ◌∷◌, ◌≡◌, AllByRecursion, filter, same_decides}
-use Rattle.node_core.proofs.Words.{same_sym, IsDifference, same, GroupChange, no_count, told_numbers, if_some, History, listed, waiting, wide, is_running}
+use Rattle.node_core.proofs.Words.{same_sym, IsDifference, same, GroupChange, no_count, told_numbers, if_some, History, listed, waiting, said_in, is_running}
 use Rattle.node_core.proofs.Words.{IsStep, is_full, just, Entry, Accepted, Follows, Parts}
 use Rattle.node_core.proofs.Words.{link_words, KeptLink, IsRunningOf, scope_words}
 use Rattle.node_core.proofs.Words.{AreTold, if_among, shown_numbers, stopped_links, running_stopped}
@@ -13,7 +13,7 @@ use Rattle.node_core.proofs.PeersKept.{stop_leaves, monitors_drop}
 use Rattle.node_core.proofs.Entered.{made, accepted_next, answered_by, sound_now}
 use Rattle.node_core.proofs.OneScope.{scope_change}
 use Rattle.node_core.proofs.Starting.{names}
-use Rattle.node_core.proofs.Told.{told_follow, shown_number}
+use Rattle.node_core.proofs.Told.{down_alike, told_follow, visible_told}
 
 -- ---- scopes but one
 
@@ -50,7 +50,7 @@ module _ (h : History) (seat : ℕ) (s : List ℕ) (gs : List GroupChange) where
       all_still (r ∷ rs) a = elim (same r.scope s) as (λ b. same r.scope s ≡ b → AllByRecursion (IsRunningOf (scope_words stopped)) (cond (not b) (r ∷ all_but s rs) (all_but s rs)))
           [ true ↦ λ q. all_still rs a.1 | false ↦ λ q. (still r q a.0, all_still rs a.1) ] refl
 
-    pub stop_now : is_full h ≡ false → (links : List KeptLink) → AreTold (if_among (shown_numbers parts.links) (wide (Message.Down s))) parts.links links
+    pub stop_now : is_full h ≡ false → (links : List KeptLink) → AreTold (if_among (shown_numbers parts.links) (said_in (Message.Down s))) parts.links links
         → Turns h seat (Event.StopScope s) (if_some s gs)
         (record parts {
           scopes = all_but s parts.scopes;
@@ -75,10 +75,11 @@ module _ (h : History) (seat : ℕ) (s : List ℕ) (gs : List GroupChange) where
               running = names_left s parts.scopes ∙ ap (filter (λ u. not (same u s))) t.scopes.running ∙ sym (running_stopped h e refl s refl);
               each = all_still its parts.scopes t.scopes.each;
             };
-            links = told_follow (link_words h) (link_words stopped) (if_among (shown_numbers parts.links) (wide (Message.Down s))) (λ l. refl)
+            links = told_follow (link_words h) (link_words stopped) (if_among (shown_numbers parts.links) (said_in (Message.Down s))) (λ l. refl)
                 (told_numbers h e its refl refl (λ l. (stopped_links h e its refl s refl l).kept_is)) parts.links links
-                (λ l. ap (λ b. waiting h l ++ cond b (wide (Message.Down s) ∷ []) [])
-                (sym (shown_number h parts.links t.sound.played t.links l)))
+                (λ l parted way. ap (λ fs. waiting h l ++ fs)
+                (visible_told h parts.links t.sound.played t.links (Message.Down s) (down_alike s) l
+                parted))
                 tells t.links;
             monitors = monitors_drop h seat parts.monitors t.monitors s (if_some s gs);
           };

@@ -5,6 +5,8 @@ use Rattle.node_core.proofs.Words.{OutFrame, Follows, IsPlayed, Parts, IsLinkOf,
 use Rattle.node_core.proofs.Words.{LinkWords, LinksFollow, facts, link_words, KeptLink}
 use Rattle.node_core.proofs.Words.{committed, prepared_for, unroomed, with_frames, with_prepared, with_room, is_number, Alike, AreIdle, AreTold, if_among}
 use Rattle.node_core.proofs.Words.{shown_numbers, LinkState, is_shown, bare, ArePrepared}
+use Rattle.node_core.proofs.Words.{cond, lie, takes_parts, ◌==◌, IsSpelled, said_in, takes, Message}
+use Rattle.node_core.proofs.Words.{is_any_in, wide, if_visible}
 use Rattle.scope_core.proofs.Rising.{all_map, all_mapped, all_unmapped}
 use Rattle.node_core.proofs.Zipped.{SoFar}
 
@@ -35,13 +37,28 @@ module _ (w v : LinkWords) (g : KeptLink → KeptLink) (on : (x : KeptLink) → 
         all_map (λ x. IsLinkOf v (unroomed x)) (IsLinkOf v) (λ x it. record { state = it.state; frames = it.frames; idle = it.idle }) new (all_unmapped (IsLinkOf v) unroomed new moved);
   }
 
+-- a link of which this is said takes messages so, where it is up
+abbrev pub IsItsWay : LinkFacts → Bool → Type 0
+IsItsWay f parted = f.open_now ≡ true → f.whole ≡ true → parted ≡ (f.version == 2)
+
+pub its_way : (f : LinkFacts) (s : LinkState) → IsState f s → IsItsWay f (takes_parts s)
+its_way f (LinkState.Up s) t o w = ap (λ v. v == 2) t.1.said.1.version_is
+its_way f LinkState.Ended t o w = lie (sym o ∙ t)
+its_way f s t o w = lie (sym w ∙ t.0.whole)
+
 -- links for which further frames wait, as the words say of each of them
-pub told_follow : (w v : LinkWords) (more : ℕ → List OutFrame) → ((l : ℕ) → v.facts l ≡ w.facts l) → v.numbers ≡ w.numbers → (old new : List KeptLink) → ((l : ℕ) → v.waiting l ≡ w.waiting l ++ more l)
+pub told_follow : (w v : LinkWords) (more : ℕ → Bool → List OutFrame)
+    → ((l : ℕ) → v.facts l ≡ w.facts l) → v.numbers ≡ w.numbers → (old new : List KeptLink)
+    → ((l : ℕ) (parted : Bool) → IsItsWay (w.facts l) parted
+    → v.waiting l ≡ w.waiting l ++ more l parted)
     → AreTold more old new → LinksFollow w old → LinksFollow v new
-told_follow w v more facts numbers old new waits q t = changed_follow w v (λ x. with_frames x (more x.number))
+told_follow w v more facts numbers old new waits q t =
+    changed_follow w v (λ x. with_frames x (more x.number (takes_parts x.state)))
     (λ x it. record {
       state = subst (λ f. IsState f x.state) (sym (facts x.number)) it.state;
-      frames = ap (λ f. f ++ more x.number) it.frames ∙ sym (waits x.number);
+      frames = ap (λ f. f ++ more x.number (takes_parts x.state)) it.frames
+          ∙ sym (waits x.number (takes_parts x.state)
+          (its_way (w.facts x.number) x.state it.state));
       idle = it.idle;
     })
     numbers old new refl q t
@@ -81,6 +98,25 @@ pub shown_number : (h : History) (xs : List KeptLink) → IsPlayed h → LinksFo
     → (l : ℕ) → is_number l (shown_numbers xs) ≡ shown_by (facts h l)
 shown_number h xs legal t l = shown_among (link_words h) xs t.each l ∙ grind (arith, ap (is_number l) t.numbers, kept_among h legal l)
 
+-- a Discover and a Down are spelled alike on all links
+pub discover_alike : (s : List ℕ) (parted : Bool)
+    → said_in (Message.Discover s) parted ≡ wide (Message.Discover s) ∷ []
+discover_alike s true = refl
+discover_alike s false = refl
+
+pub down_alike : (s : List ℕ) (parted : Bool)
+    → said_in (Message.Down s) parted ≡ wide (Message.Down s) ∷ []
+down_alike s true = refl
+down_alike s false = refl
+
+-- what the policy owes to links that are up and visible is what those shown are told
+pub visible_told : (h : History) (xs : List KeptLink) → IsPlayed h → LinksFollow (link_words h) xs
+    → (m : Message) → ((parted : Bool) → said_in m parted ≡ wide m ∷ []) → (l : ℕ)
+    (parted : Bool) → if_visible h l m ≡ if_among (shown_numbers xs) (said_in m) l parted
+visible_told h xs legal t m alike l parted =
+    ap (λ b. cond b (wide m ∷ []) []) (sym (shown_number h xs legal t l))
+    ∙ ap (λ fs. cond (is_number l (shown_numbers xs)) fs []) (sym (alike parted))
+
 -- ---- frames that are prepared and wait then
 
 -- what was prepared is dropped
@@ -90,48 +126,65 @@ forgot_bare old new q = through bare unroomed (λ x. unroomed (with_prepared x [
 pub forgotten : (xs : List KeptLink) → AreIdle xs → map (λ x. unroomed (with_prepared x [])) xs ≡ map unroomed xs
 forgotten xs idle = map_same (λ x. unroomed (with_prepared x [])) unroomed xs (all_map (λ x. x.prepared ≡ []) (λ x. bare x ≡ unroomed x) (λ x none. λ i. record (unroomed x) { prepared = sym none i }) xs idle)
 
-module _ (more : ℕ → List OutFrame) where
+module _ (more : ℕ → Bool → List OutFrame) where
+  abbrev pub more_for : KeptLink → List OutFrame
+  more_for x = more x.number (takes_parts x.state)
+
   abbrev pub more_prepared : KeptLink → KeptLink
-  more_prepared x = unroomed (with_prepared x (x.prepared ++ more x.number))
+  more_prepared x = unroomed (with_prepared x (x.prepared ++ more_for x))
 
   pub prepared_bare : (old new : List KeptLink) → ArePrepared more old new → map bare new ≡ map bare old
   prepared_bare old new q = through bare unroomed more_prepared old new q
 
-  pub prepared_none : ((l : ℕ) → more l ≡ []) → (xs : List KeptLink) → ArePrepared more xs xs
+  pub prepared_none : ((l : ℕ) (parted : Bool) → more l parted ≡ []) → (xs : List KeptLink)
+      → ArePrepared more xs xs
   prepared_none none [] = refl
-  prepared_none none (x ∷ xs) = λ i. record (unroomed x) { prepared = (sym (append-nil x.prepared) ∙ ap (λ f. x.prepared ++ f) (sym (none x.number))) i } ∷ prepared_none none xs i
+  prepared_none none (x ∷ xs) = λ i. record (unroomed x) {
+    prepared = (sym (append-nil x.prepared)
+        ∙ ap (λ f. x.prepared ++ f) (sym (none x.number (takes_parts x.state)))) i;
+  } ∷ prepared_none none xs i
 
   -- what is prepared waits
   pub prepared_waits : (old mid : List KeptLink) → AreIdle old → ArePrepared more old mid → AreTold more old (map committed mid)
   prepared_waits old mid idle q =
       map_map unroomed committed mid ∙ through (λ z. unroomed (committed z)) unroomed more_prepared old mid q
-      ∙ map_same (λ x. unroomed (committed (more_prepared x))) (λ x. unroomed (with_frames x (more x.number))) old
-      (all_map (λ x. x.prepared ≡ []) (λ x. unroomed (committed (more_prepared x)) ≡ unroomed (with_frames x (more x.number)))
-      (λ x none. λ i. record (unroomed x) { frames = x.frames ++ (none i ++ more x.number); prepared = sym none i }) old idle)
+      ∙ map_same (λ x. unroomed (committed (more_prepared x))) (λ x. unroomed (with_frames x (more_for x))) old
+      (all_map (λ x. x.prepared ≡ [])
+      (λ x. unroomed (committed (more_prepared x)) ≡ unroomed (with_frames x (more_for x)))
+      (λ x none. λ i. record (unroomed x) {
+        frames = x.frames ++ (none i ++ more_for x);
+        prepared = sym none i;
+      }) old idle)
 
-  pub prepared_on : (later : ℕ → List OutFrame) (old mid new : List KeptLink) → ArePrepared more old mid → ArePrepared later mid new → ArePrepared (λ l. more l ++ later l) old new
-  prepared_on later old mid new a b = b ∙ through (λ z. unroomed (with_prepared z (z.prepared ++ later z.number))) unroomed more_prepared old mid a ∙ simp append_assoc
+  pub prepared_on : (later : ℕ → Bool → List OutFrame) (old mid new : List KeptLink)
+      → ArePrepared more old mid → ArePrepared later mid new
+      → ArePrepared (λ l parted. more l parted ++ later l parted) old new
+  prepared_on later old mid new a b = b
+      ∙ through
+      (λ z. unroomed (with_prepared z (z.prepared ++ later z.number (takes_parts z.state))))
+      unroomed more_prepared old mid a
+      ∙ simp append_assoc
 
-module _ (numbers : List ℕ) (frame : OutFrame) where
-  pub prepared_among : (old new : List KeptLink) → map unroomed new ≡ map (λ x. unroomed (prepared_for numbers frame x)) old → ArePrepared (if_among numbers frame) old new
+module _ (numbers : List ℕ) (frames : Bool → List OutFrame) where
+  pub prepared_among : (old new : List KeptLink) → map unroomed new ≡ map (λ x. unroomed (prepared_for numbers frames x)) old → ArePrepared (if_among numbers frames) old new
   prepared_among old new q = q ∙ all old
     where
-      all : (xs : List KeptLink) → map (λ x. unroomed (prepared_for numbers frame x)) xs ≡ map (more_prepared (if_among numbers frame)) xs
+      all : (xs : List KeptLink) → map (λ x. unroomed (prepared_for numbers frames x)) xs ≡ map (more_prepared (if_among numbers frames)) xs
       all [] = refl
       all (x ∷ xs) = grind (arith, all xs, append-nil x.prepared)
 
-  pub prepared_told : (old mid : List KeptLink) → AreIdle old → map unroomed mid ≡ map (λ x. unroomed (prepared_for numbers frame x)) old → AreTold (if_among numbers frame) old (map committed mid)
-  prepared_told old mid idle q = prepared_waits (if_among numbers frame) old mid idle (prepared_among old mid q)
+  pub prepared_told : (old mid : List KeptLink) → AreIdle old → map unroomed mid ≡ map (λ x. unroomed (prepared_for numbers frames x)) old → AreTold (if_among numbers frames) old (map committed mid)
+  prepared_told old mid idle q = prepared_waits (if_among numbers frames) old mid idle (prepared_among old mid q)
 
   -- what is prepared and then dropped leaves all as it was
-  pub dropped_again : (old mid new : List KeptLink) → AreIdle old → map unroomed mid ≡ map (λ x. unroomed (prepared_for numbers frame x)) old → map unroomed new ≡ map (λ x. unroomed (with_prepared x [])) mid → Alike old new
-  dropped_again old mid new idle q dropped = dropped ∙ prepared_bare (if_among numbers frame) old mid (prepared_among old mid q) ∙ forgotten old idle
+  pub dropped_again : (old mid new : List KeptLink) → AreIdle old → map unroomed mid ≡ map (λ x. unroomed (prepared_for numbers frames x)) old → map unroomed new ≡ map (λ x. unroomed (with_prepared x [])) mid → Alike old new
+  dropped_again old mid new idle q dropped = dropped ∙ prepared_bare (if_among numbers frames) old mid (prepared_among old mid q) ∙ forgotten old idle
 
   -- ---- frames that are prepared, one link after the other
 
   -- what is prepared for a link
   abbrev pub Prepared : KeptLink → KeptLink → Type 0
-  Prepared x y = unroomed y ≡ unroomed (prepared_for numbers frame x)
+  Prepared x y = unroomed y ≡ unroomed (prepared_for numbers frames x)
 
   turned : (x : KeptLink) (n : ℕ) (b : Bool) → n ≡ x.number → b ≡ list_any (λ y. nat_eq y n) numbers → list_any (nat_eq x.number) numbers ≡ b
   turned x n b is q = (λ i. list_any (λ y. flip x.number y i) numbers) ∙ ap (λ m. list_any (λ y. nat_eq y m) numbers) (sym is) ∙ sym q
@@ -140,7 +193,10 @@ module _ (numbers : List ℕ) (frame : OutFrame) where
   pub unprepared : (x : KeptLink) (n : ℕ) → n ≡ x.number → false ≡ list_any (λ y. nat_eq y n) numbers → Prepared x x
   unprepared x n is q = grind (arith, turned x n false is q)
 
-  pub one_prepared : (x y : KeptLink) (n : ℕ) → n ≡ x.number → true ≡ list_any (λ z. nat_eq z n) numbers → y ≡ with_room (with_prepared x (x.prepared ++ frame ∷ [])) y.room → Prepared x y
+  pub one_prepared : (x y : KeptLink) (n : ℕ) → n ≡ x.number
+      → true ≡ list_any (λ z. nat_eq z n) numbers
+      → y ≡ with_room (with_prepared x (x.prepared ++ frames (takes_parts x.state))) y.room
+      → Prepared x y
   one_prepared x y n is q made = ap unroomed made ∙ grind (arith, turned x n true is q)
 
   one_dropped : (x y : KeptLink) → Prepared x y → bare y ≡ bare x
@@ -151,3 +207,34 @@ module _ (numbers : List ℕ) (frame : OutFrame) where
   all_dropped (suc i) [] [] so_far = refl
   all_dropped (suc i) (x ∷ xs) (y ∷ ys) so_far = λ j. one_dropped x y so_far.done.0 j ∷ all_dropped i xs ys (record { done = so_far.done.1; rest = so_far.rest }) j
   all_dropped i xs ys so_far = absurd so_far.done
+
+-- a body as a frame with a length of 4 bytes
+abbrev pub wide_body : List ℕ → OutFrame
+wide_body body = record { wide = true; body = body }
+
+-- ---- what is spelled whole, in parts, or both ways, as the links of these numbers take it
+
+abbrev pub both : List OutFrame → List OutFrame → Bool → List OutFrame
+both whole parts parted = cond parted parts whole
+
+module _ (numbers : List ℕ) (m : Message) (whole parts : List OutFrame) where
+  -- so each of them gets the message
+  one_spelled : (x : KeptLink) → (list_any (nat_eq x.number) numbers ≡ true
+      → both whole parts (takes_parts x.state) ≡ said_in m (takes_parts x.state))
+      → prepared_for numbers (both whole parts) x ≡ prepared_for numbers (said_in m) x
+  one_spelled x spelled = grind (arith, spelled)
+
+  pub all_spelled : (xs : List KeptLink) → IsSpelled false numbers xs m whole
+      → IsSpelled true numbers xs m parts
+      → map (λ x. unroomed (prepared_for numbers (both whole parts) x)) xs
+      ≡ map (λ x. unroomed (prepared_for numbers (said_in m) x)) xs
+  all_spelled [] w p = refl
+  all_spelled (x ∷ xs) w p = λ i. unroomed (one_spelled x (here (takes_parts x.state) refl) i)
+      ∷ all_spelled xs (λ some. w (grind (arith, some))) (λ some. p (grind (arith, some))) i
+    where
+      here : (b : Bool) → takes_parts x.state ≡ b → list_any (nat_eq x.number) numbers ≡ true
+          → both whole parts (takes_parts x.state) ≡ said_in m (takes_parts x.state)
+      here true is among =
+          ap (both whole parts) is ∙ p (grind (arith, is, among)) ∙ ap (said_in m) (sym is)
+      here false is among =
+          ap (both whole parts) is ∙ w (grind (arith, is, among)) ∙ ap (said_in m) (sym is)

@@ -58,17 +58,26 @@ pub use Rattle.policy_audit.proofs.ScopesNow.{running_among, running_rises, runn
 pub use Rattle.policy_audit.proofs.UpLinks.{and_both, and_false, flip, agrees, number_of}
 pub use Rattle.policy_audit.specs.Admission.{allow_list, allowed, cookie, cookie_peers, different}
 pub use Rattle.policy_audit.specs.Changes.{IsChange, if_some}
-pub use Rattle.policy_audit.specs.Checks.{always, checks, dial_checks, first_broken, frame_checks, message_checks, answer_checks}
+pub use Rattle.policy_audit.specs.Checks.{always, checks, dial_checks, first_broken, frame_checks}
+pub use Rattle.policy_audit.specs.Checks.{own_limit, answer_checks}
 pub use Rattle.policy_audit.specs.Checks.{challenge_checks, digest_checks, is_peer_up, is_simultaneous, kept_links, name_checks}
 pub use Rattle.policy_audit.specs.Checks.{peer_rows, status_checks}
 pub use Rattle.policy_audit.specs.Contents.{local_rows, row, contents, groups, groups_named, local_groups, local_members, members, pids_named}
-pub use Rattle.policy_audit.specs.Hearing.{heard, said_on, told, hears, rows_of, talk, tells}
+pub use Rattle.link_frames.specs.Reading.{message as read_message}
+pub use Rattle.policy_audit.proofs.OldLinks.{completes, few_own, frames_checked, old_checks}
+pub use Rattle.policy_audit.proofs.OldLinks.{old_owes}
+pub use Rattle.policy_audit.proofs.OldLinks.{owes_are, said_is, taken_is}
+pub use Rattle.policy_audit.specs.Owed.{frames_to, if_visible}
+pub use Rattle.policy_audit.specs.Hearing.{link_version}
+pub use Rattle.link_frames.specs.Parts.{whole}
+pub use Rattle.policy_audit.specs.Hearing.{frame_taken, heard, said_at, told, hears, rows_of, talk}
+pub use Rattle.policy_audit.specs.Hearing.{tells}
 pub use Rattle.policy_audit.specs.History.{History, creation, events, first_of, is_accepted, past, is_restart}
 pub use Rattle.policy_audit.specs.Links.{is_dialling, is_open, is_unfinished_dial, is_up, links, named_by, ends, is_dial_to}
 pub use Rattle.policy_audit.specs.Listed.{listed, is_from}
 pub use Rattle.policy_audit.specs.OutFrame.{OutFrame}
 pub use Rattle.policy_audit.specs.Owed.{digest_for, discovers, frame_owes, is_kept, narrow, own_challenge, refusal_owes, waiting, wide, if_told}
-pub use Rattle.policy_audit.specs.Owed.{message_owes, owed, own_challenge_frame, status_frame, true_to, welcome}
+pub use Rattle.policy_audit.specs.Owed.{owed, own_challenge_frame, status_frame, true_to, welcome}
 pub use Rattle.policy_audit.specs.Own.{is_local, is_running, lives, running_scopes, is_spawn, living, own, spawned}
 pub use Rattle.policy_audit.specs.Policy.{IsStep, IsPlayed, IsNext, IsNumbered, IsLegal, IsLegalIn}
 pub use Rattle.policy_audit.specs.Policy.{answer, is_full, judgement, next_number, up_answer}
@@ -120,6 +129,7 @@ pub use Rattle.node_core.specs.LinkFacts.{IsIntroduced, IsLinkOf, IsState, LinkF
 pub use Rattle.node_core.specs.LinkFacts.{IsGiven, IsPeer}
 pub use Rattle.node_core.specs.Links.{KeptLink, StatelessLink, in_state, committed, dial_beside, dialled_peer, known_peer, narrow_frames, prepared_for, unroomed, up_peer}
 pub use Rattle.node_core.specs.Links.{with_frames, with_prepared, with_room, are_of_peer, dial_to}
+pub use Rattle.node_core.specs.Links.{takes, takes_parts, is_any_in}
 pub use Rattle.node_core.specs.Links.{dialled_link, is_ended, is_shown, link_place, without_number}
 pub use Rattle.node_core.specs.Moving.{IsMovedBy, IsOwnChange, IsJoinRefusal, IsLeaveRefusal}
 pub use Rattle.node_core.specs.Moving.{fault_of, join_of, leave_of, own_checks}
@@ -128,6 +138,11 @@ pub use Rattle.node_core.specs.ProcessFacts.{ProcessesFollow, process_words}
 pub use Rattle.node_core.specs.Processes.{Spawned}
 pub use Rattle.node_core.specs.ScopeFacts.{IsRunningOf, ScopeWords, ScopesFollow, is_number}
 pub use Rattle.node_core.specs.ScopeFacts.{scope_words, with_number, scope_place}
+pub use Rattle.node_core.specs.Telling.{told_limit}
+pub use Rattle.node_core.specs.Moving.{own_most}
+pub use Rattle.policy_audit.proofs.OldTold.{few_local}
+pub use Rattle.policy_audit.specs.Checks.{is_old_told}
+pub use Rattle.node_core.specs.Telling.{said_in, wide_frames, CanBeSaid, IsSpelled, MayBeSaid}
 pub use Rattle.node_core.specs.Telling.{Alike, AreIdle, AreTold, if_among, said_to, shown_numbers, IsBrief, is_said, put_scope}
 pub use Rattle.node_core.specs.MessageRules.{AnswersDiscover, HasBecome, IsAddRefusal, IsTakeRefusal, early_checks}
 pub use Rattle.node_core.specs.declared.fault.CoreFault.{CoreFault}

@@ -1,5 +1,6 @@
 -- What is known of a frame and its link, where it is handed to what hears it.
 use Rattle.std.specs.Prelude.{◌≡◌, ℕ, true, false, None, Some}
+use Rattle.dist_types.specs.Listing.{max_rows}
 use Rattle.link_frames.specs.declared.message.Message.{Message}
 use Rattle.policy_audit.specs.Checks.{first_broken}
 use Rattle.policy_audit.specs.Links.{is_open, is_up}
@@ -40,4 +41,4 @@ pub record IsSoundMessage (call : Call) (kept : Kept) (place at number : ℕ) (m
   pub on : IsUpLink call kept place number
   pub there : scope_place (scope_in message) kept.scopes.items ≡ Some at
   pub holds : first_broken (early_checks call.past number message) ≡ None
-  pub brief : IsBrief message
+  pub brief : IsBrief max_rows message

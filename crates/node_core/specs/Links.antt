@@ -74,6 +74,15 @@ abbrev pub is_shown : LinkState → Bool
 is_shown (state.Up up) = up.visible
 is_shown s = false
 
+-- messages go in parts over the link: it is up, and of version 2
+abbrev pub takes_parts : LinkState → Bool
+takes_parts (state.Up up) = up.version == 2
+takes_parts s = false
+
+-- messages go over it in parts, or whole, as asked
+abbrev pub takes : Bool → LinkState → Bool
+takes parted s = cond parted (takes_parts s) (not (takes_parts s))
+
 -- the link ended by a refused frame of its own
 abbrev pub is_ended : LinkState → Bool
 is_ended state.Ended = true
@@ -117,6 +126,14 @@ unroomed link = with_room link 0
 abbrev pub committed : KeptLink → KeptLink
 committed link = with_prepared (with_frames link link.prepared) []
 
--- the link, with one frame more prepared if its number is one of these
-abbrev pub prepared_for : List ℕ → OutFrame → KeptLink → KeptLink
-prepared_for numbers frame link = cond (list_any (nat_eq link.number) numbers) (with_prepared link (link.prepared ++ frame ∷ [])) link
+-- the link, with further frames prepared if its number is one of these: those for links that take
+-- parts, or those for the others
+abbrev pub prepared_for : List ℕ → (Bool → List OutFrame) → KeptLink → KeptLink
+prepared_for numbers frames link =
+    cond (list_any (nat_eq link.number) numbers)
+    (with_prepared link (link.prepared ++ frames (takes_parts link.state))) link
+
+-- one of the links of these numbers takes messages in parts, or whole, as asked
+abbrev pub is_any_in : Bool → List ℕ → List KeptLink → Bool
+is_any_in parted numbers links =
+    list_any (λ x. takes parted x.state && list_any (nat_eq x.number) numbers) links

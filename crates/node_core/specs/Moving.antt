@@ -1,5 +1,5 @@
 -- Own processes that join and leave groups.
-use Rattle.std.specs.Prelude.{◌≡◌, ℕ, ◌+◌, ◌<◌, nat_le, min, false, List, [], ◌∷◌, map, length}
+use Rattle.std.specs.Prelude.{◌≡◌, ℕ, ◌+◌, ◌<◌, ◌==◌, ◌&&◌, cond, not, nat_le, min, false, List, [], ◌∷◌, map, length}
 use Rattle.std.specs.List.{list_all}
 use Rattle.dist_types.specs.declared.pid.Pid.{Pid}
 use Rattle.dist_types.specs.declared.change.GroupChange.{GroupChange}
@@ -19,19 +19,19 @@ use Rattle.policy_audit.specs.Own.{is_local, lives}
 use Rattle.policy_audit.specs.Changes.{if_some}
 use Rattle.policy_audit.specs.Checks.{Check, unless}
 use Rattle.policy_audit.specs.Contents.{row}
-use Rattle.policy_audit.specs.Owed.{wide}
 use Rattle.node_core.specs.declared.fault.CoreFault.{CoreFault}
 use Rattle.node_core.specs.declared.fault.CoreFault.TheVariants as faults
 use Rattle.node_core.specs.declared.running.Running.{Running}
-use Rattle.node_core.specs.Links.{KeptLink, unroomed, prepared_for}
-use Rattle.node_core.specs.Telling.{said_to}
+use Rattle.node_core.specs.Links.{KeptLink, is_any_in, unroomed, prepared_for}
+use Rattle.node_core.specs.Telling.{said_in, said_to}
 
--- the rules for processes that join a group, but for those of the scope and of its other rows
-abbrev pub own_checks : History → List Pid → List Check
-own_checks h ps =
+-- the rules for processes that join a group, where a scope may have so many own rows, but for those
+-- of the scope and of its other rows
+abbrev pub own_checks : History → List Pid → ℕ → List Check
+own_checks h ps most =
     unless (list_all (is_local h) ps) rule.NotLocal
     ∷ unless (list_all (lives h) ps) rule.NoProcess
-    ∷ unless (nat_le (length ps) max_rows) rule.RowsFull
+    ∷ unless (nat_le (length ps) most) rule.RowsFull
     ∷ []
 
 -- the Join of these processes
@@ -44,7 +44,9 @@ leave_of r g ps = said.Leave r.scope (map (row g) (listing pid_cmp (λ p. min (m
 
 -- the message is prepared for the links that are told of the scope, if it is said
 abbrev pub IsPrepared : Message → Running → List KeptLink → List KeptLink → Type 0
-IsPrepared m r old new = map unroomed new ≡ map (λ x. unroomed (prepared_for (said_to r.told.items m) (wide m) x)) old
+IsPrepared m r old new =
+    map unroomed new
+    ≡ map (λ x. unroomed (prepared_for (said_to r.told.items m) (said_in m) x)) old
 
 -- this is what changes in one scope where rows come to be counted so
 pub record IsOwnChange (r : Running) (count : List ℕ → Pid → ℕ) (cs : List Change) : Type 0 where
@@ -68,10 +70,17 @@ fault_of fault.NotJoined = faults.Refused rule.NotJoined
 fault_of fault.NotListed = faults.Refused rule.NotListed
 fault_of fault.OutOfMemory = faults.OutOfMemory
 
--- why processes did not join
-abbrev pub IsJoinRefusal : Table → List Pid → CoreFault → Type 0
-IsJoinRefusal t ps (faults.Refused r) = (r ≡ rule.RowsFull) × (max_rows < local_total t + length ps)
-IsJoinRefusal t ps faults.OutOfMemory = Unit {0}
+-- why processes did not join, where the scope may have so many own rows
+abbrev pub IsJoinRefusal : Table → List Pid → ℕ → CoreFault → Type 0
+IsJoinRefusal t ps most (faults.Refused r) =
+    (r ≡ rule.RowsFull) × (most < local_total t + length ps)
+IsJoinRefusal t ps most faults.OutOfMemory = Unit {0}
+
+-- the most own rows that a scope may have, on a node of this version, told to the links of these
+-- numbers: those of one message, where the node knows no parts or one of the links takes none
+abbrev pub own_most : ℕ → List ℕ → List KeptLink → ℕ
+own_most version told links =
+    cond (version == 2 && not (is_any_in false told links)) 65536 max_rows
 
 -- why processes did not leave
 abbrev pub IsLeaveRefusal : Table → List ℕ → List Pid → CoreFault → Type 0

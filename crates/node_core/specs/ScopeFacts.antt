@@ -42,8 +42,8 @@ scope_words h = record {
   own = h.opening.name;
   running = running_scopes h;
   listed = listed h;
-  heard = λ l s. heard l s h.entries;
-  told = λ l s. told l s h.entries;
+  heard = λ l s. heard h.opening l s h.entries;
+  told = λ l s. told h.opening l s h.entries;
 }
 
 -- a scope with its rows, and the links whose peers are heard and told in it

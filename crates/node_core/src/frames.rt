@@ -1,12 +1,55 @@
 //! Messages as frames.
-ghost use Rattle.std.specs.Prelude.{◌≡◌, IfOk};
+ghost use Rattle.std.specs.Prelude.{◌≡◌, ◌≤◌, true, length, IfOk};
+ghost use Rattle.std.specs.List.{AllByRecursion};
+ghost use Rattle.link_frames.specs.Parts.{HasParts};
 ghost use Rattle.link_frames.specs.Spelling.{HasSpelling};
+ghost use Rattle.link_frames.specs.Stream.{max_body};
 ghost use Rattle.policy_audit.specs.Owed.{wide};
+ghost use Rattle.node_core.specs.Telling.{said_in, wide_frames, CanBeSaid};
 
 use dist_types::{Body, OutOfMemory, Scope, TryClone};
-use link_frames::{Message, encode, fits_a_reader};
+use link_frames::{Message, encode, encode_parts, fits_a_reader};
 use policy_audit::OutFrame;
 use std::alloc::Global;
+
+/// The frames of a message: its parts, or the whole.
+pub fn frames_of(
+    alloc: Global,
+    message: &Message,
+    parted: bool,
+) -> Result<Vec<OutFrame>, OutOfMemory>
+    requires { CanBeSaid parted message.now }
+    ensures { IfOk result (λ frames. frames.items ≡ said_in message.now parted) }
+{
+    if parted {
+        return parts_of(alloc, message);
+    }
+    let mut frames = Vec::new(alloc);
+    frames.push(frame_of(alloc, message)?)?;
+    Ok(frames)
+}
+
+/// The parts of a message.
+fn parts_of(alloc: Global, message: &Message) -> Result<Vec<OutFrame>, OutOfMemory>
+    requires { HasParts message.now }
+    ensures { IfOk result (λ frames. frames.items ≡ said_in message.now true) }
+{
+    let bodies = encode_parts(alloc, message)?;
+    let frames = wide_frames(alloc, bodies)?;
+    Ok(frames)
+}
+
+/// These bodies as frames with a length of 4 bytes.
+fn wide_frames(alloc: Global, bodies: Vec<Body>) -> Result<Vec<OutFrame>, OutOfMemory>
+    requires { AllByRecursion (λ body. length body ≤ max_body) bodies.items }
+    ensures { IfOk result (λ frames. frames.items ≡ wide_frames bodies.items) }
+{
+    let mut frames = Vec::with_capacity(alloc, bodies.len())?;
+    for body in bodies {
+        frames.push_reserved(OutFrame { wide: true, body });
+    }
+    Ok(frames)
+}
 
 /// The frame of a message.
 pub fn frame_of(alloc: Global, message: &Message) -> Result<OutFrame, OutOfMemory>

@@ -1,13 +1,14 @@
 //! A link that is kept.
-ghost use Rattle.std.specs.Prelude.{◌≡◌, ◌++◌, vec_len, vec_capacity, ◌∷◌, [], ◌≤◌, ◌+◌, false, ℕ, List, length, OnOk, OnErr, IfOk};
+ghost use Rattle.std.specs.Prelude.{◌≡◌, ◌++◌, vec_len, vec_capacity, [], ◌≤◌, ◌+◌, ◌==◌, false, ℕ, List, length, OnOk, OnErr, IfOk};
 ghost use Rattle.std.specs.Option.{option_map, option_map_or};
 ghost use Rattle.dist_types.specs.Listing.{same};
+ghost use Rattle.policy_audit.specs.OutFrame.{OutFrame};
 ghost use Rattle.node_core.specs.Ending.{is_overfull};
-ghost use Rattle.node_core.specs.Links.{KeptLink, with_frames, with_prepared, with_room, narrow_frames, up_peer, dialled_peer, known_peer, is_shown, is_ended, in_state};
+ghost use Rattle.node_core.specs.Links.{KeptLink, with_frames, with_prepared, with_room, narrow_frames, up_peer, dialled_peer, known_peer, is_shown, is_ended, in_state, takes, takes_parts};
 
 use crate::link_state::LinkState;
 use crate::slow::MAX_WAITING;
-use dist_types::{NodeName, OutOfMemory};
+use dist_types::{NodeName, OutOfMemory, TryClone};
 use link_states::{Bodies, HandshakeBody};
 use policy_audit::{OutFrame, OutFrames};
 use std::alloc::Global;
@@ -156,12 +157,18 @@ impl Link {
         self.owed = self.waiting.len();
     }
 
-    /// Prepares a frame, which waits once it is committed.
-    pub fn prepare(&mut self, frame: OutFrame) -> Result<(), OutOfMemory>
-        ensures ok { OnOk result (self.new ≡ with_room (with_prepared self.old (self.old.prepared ++ frame ∷ [])) self.new.room) }
+    /// Prepares copies of frames, which wait once they are committed.
+    pub fn prepare(&mut self, alloc: Global, frames: &[OutFrame]) -> Result<(), OutOfMemory>
+        ensures ok { OnOk result
+            (self.new ≡ with_room (with_prepared self.old (self.old.prepared ++ frames.now))
+            self.new.room) }
         ensures same { OnErr result (self.new ≡ with_room self.old self.new.room) }
     {
-        self.waiting.push(frame)?;
+        let before = self.waiting.len();
+        if put_copies(alloc, &mut self.waiting, frames).is_err() {
+            self.waiting.truncate(before);
+            return Err(OutOfMemory);
+        }
         Ok(())
     }
 
@@ -246,6 +253,23 @@ impl Link {
         }
     }
 
+    /// Whether messages go over the link in parts.
+    pub fn takes_parts(&self) -> bool
+        ensures { result ≡ takes_parts self.now.state }
+    {
+        match &self.state {
+            LinkState::Up(up) => up.version() == 2,
+            _ => false,
+        }
+    }
+
+    /// Whether messages go over it in parts, or whole, as asked.
+    pub fn takes(&self, parted: bool) -> bool
+        ensures { result ≡ takes parted self.now.state }
+    {
+        self.takes_parts() == parted
+    }
+
     /// Whether the link ended by a refused frame of its own.
     pub fn is_ended(&self) -> bool
         ensures { result ≡ is_ended self.now.state }
@@ -300,6 +324,23 @@ fn put_frames(waiting: &mut Vec<OutFrame>, frames: Vec<OutFrame>)
     for frame in frames {
         waiting.push_reserved(frame);
     }
+}
+
+/// Puts copies of frames behind the others. Where memory is wanting, some may stand there.
+fn put_copies(
+    alloc: Global,
+    waiting: &mut Vec<OutFrame>,
+    frames: &[OutFrame],
+) -> Result<(), OutOfMemory>
+    ensures ok { OnOk result (waiting.new.items ≡ waiting.old.items ++ frames.now) }
+    ensures grown { OnErr result
+        ((rest : List OutFrame) × (waiting.new.items ≡ waiting.old.items ++ rest)) }
+{
+    waiting.reserve(frames.len())?;
+    for frame in frames {
+        waiting.push(frame.try_clone(alloc)?)?;
+    }
+    Ok(())
 }
 
 /// Puts bodies behind the frames, in the room that there is.

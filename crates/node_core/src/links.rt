@@ -1,15 +1,15 @@
 //! The kept links together.
-ghost use Rattle.std.specs.Prelude.{◌≡◌, ◌++◌, ◌∷◌, [], ◌&&◌, cond, nat_eq, false, map, position, is_some, OnOk, OnErr, IfOk, ◌<◌, length, slice_index_or};
+ghost use Rattle.std.specs.Prelude.{◌≡◌, ◌++◌, ◌∷◌, [], ◌&&◌, cond, nat_eq, true, false, map, position, is_some, OnOk, OnErr, IfOk, ◌<◌, length, slice_index_or};
 ghost use Rattle.std.specs.List.{list_any, filter, flat_map, AllByRecursion};
 ghost use Rattle.std.specs.Option.{option_map, option_map_or, option_to_list};
 ghost use Rattle.dist_types.specs.Listing.{same};
-ghost use Rattle.link_frames.specs.Spelling.{HasSpelling};
-ghost use Rattle.policy_audit.specs.Owed.{wide};
 ghost use Rattle.node_core.specs.Links.{KeptLink, AreInOrder, up_peer, dialled_peer, dial_to, is_shown, with_prepared, unroomed, committed, prepared_for, link_place, without_number};
+ghost use Rattle.node_core.specs.Links.{is_any_in};
+ghost use Rattle.node_core.specs.Telling.{said_in, CanBeSaid, IsSpelled, MayBeSaid};
 ghost use Rattle.node_core.specs.Gone.{without_ended};
 ghost use Rattle.node_core.specs.ScopeFacts.{is_number};
 
-use crate::frames::frame_of;
+use crate::frames::frames_of;
 use crate::link::Link;
 use dist_types::{NodeName, OutOfMemory, TryClone};
 use link_frames::Message;
@@ -85,46 +85,114 @@ pub fn shown(alloc: Global, links: &[Link]) -> Result<Vec<u32>, OutOfMemory>
     Ok(numbers)
 }
 
-/// Prepares a message for the links of these numbers, and spells it once. Where memory is wanting, what was prepared before is dropped,
-/// too.
+/// Prepares a message for the links of these numbers, and spells it at most once whole and once in
+/// parts. Where memory is wanting, what was prepared before is dropped, too.
 pub fn prepare(
     alloc: Global,
     links: &mut Vec<Link>,
     numbers: &[u32],
     message: &Message,
 ) -> Result<(), OutOfMemory>
-    requires { HasSpelling message.now }
-    ensures ok { OnOk result (map unroomed links.new.items ≡ map (λ x. unroomed (prepared_for numbers.now (wide message.now) x)) links.old.items) }
+    requires { MayBeSaid numbers.now links.old.items message.now }
+    ensures ok { OnOk result
+        (map unroomed links.new.items
+        ≡ map (λ x. unroomed (prepared_for numbers.now (said_in message.now) x)) links.old.items) }
     ensures forgot { OnErr result (map unroomed links.new.items ≡ map (λ x. unroomed (with_prepared x [])) links.old.items) }
 {
     if numbers.is_empty() {
         return Ok(());
     }
-    let Ok(frame) = frame_of(alloc, message) else {
+    let Ok(spelled) = spell(alloc, links, numbers, message) else {
         forget(links);
         return Err(OutOfMemory);
     };
-    prepare_frame(alloc, links, numbers, &frame)
+    prepare_frames(alloc, links, numbers, &spelled)
 }
 
-/// Prepares a copy of a frame for each of these links.
-fn prepare_frame(
+/// A message as it is spelled for some links.
+struct Spelled {
+    whole: Vec<OutFrame>,
+    parts: Vec<OutFrame>,
+}
+
+impl Drop for Spelled {
+    fn drop(self) {
+        let Spelled { whole: _, parts: _ } = self;
+    }
+}
+
+impl Spelled {
+    /// The parts, or the whole.
+    fn frames(&self, parted: bool) -> &[OutFrame]
+        ensures { result.now ≡ cond parted self.now.parts.items self.now.whole.items }
+    {
+        if parted { &self.parts } else { &self.whole }
+    }
+}
+
+/// Spells a message for the links of these numbers, whole and in parts, each where one takes it so.
+fn spell(
+    alloc: Global,
+    links: &[Link],
+    numbers: &[u32],
+    message: &Message,
+) -> Result<Spelled, OutOfMemory>
+    requires { MayBeSaid numbers.now links.now message.now }
+    ensures whole { IfOk result
+        (λ s. IsSpelled false numbers.now links.now message.now s.whole.items) }
+    ensures parts { IfOk result
+        (λ s. IsSpelled true numbers.now links.now message.now s.parts.items) }
+{
+    let whole = spell_in(alloc, links, numbers, message, false)?;
+    let parts = spell_in(alloc, links, numbers, message, true)?;
+    Ok(Spelled { whole, parts })
+}
+
+/// Spells a message in parts, or whole, where one of the links of these numbers takes it so.
+fn spell_in(
+    alloc: Global,
+    links: &[Link],
+    numbers: &[u32],
+    message: &Message,
+    parted: bool,
+) -> Result<Vec<OutFrame>, OutOfMemory>
+    requires { is_any_in parted numbers.now links.now ≡ true → CanBeSaid parted message.now }
+    ensures { IfOk result
+        (λ frames. IsSpelled parted numbers.now links.now message.now frames.items) }
+{
+    if !is_any_in(links, numbers, parted) {
+        return Ok(Vec::new(alloc));
+    }
+    frames_of(alloc, message, parted)
+}
+
+/// Whether one of the links of these numbers takes messages in parts, or whole, as asked.
+pub fn is_any_in(links: &[Link], numbers: &[u32], parted: bool) -> bool
+    ensures { result ≡ is_any_in parted numbers.now links.now }
+{
+    links.iter().any(|link| link.takes(parted) && numbers.contains(&link.number()))
+}
+
+/// Prepares copies of frames for each of these links: of the parts, or of the whole.
+fn prepare_frames(
     alloc: Global,
     links: &mut Vec<Link>,
     numbers: &[u32],
-    frame: &OutFrame,
+    spelled: &Spelled,
 ) -> Result<(), OutOfMemory>
-    ensures ok { OnOk result (map unroomed links.new.items ≡ map (λ x. unroomed (prepared_for numbers.now frame.now x)) links.old.items) }
+    ensures ok { OnOk result
+        (map unroomed links.new.items
+        ≡ map (λ x. unroomed
+        (prepared_for numbers.now (λ p. cond p spelled.now.parts.items spelled.now.whole.items) x))
+        links.old.items) }
     ensures forgot { OnErr result (map unroomed links.new.items ≡ map (λ x. unroomed (with_prepared x [])) links.old.items) }
 {
     for place in 0..links.len() {
         if !numbers.contains(&links[place].number()) {
             continue;
         }
-        let prepared = match frame.try_clone(alloc) {
-            Ok(copy) => links[place].prepare(copy),
-            Err(fault) => Err(fault),
-        };
+        let parted = links[place].takes_parts();
+        let prepared = links[place].prepare(alloc, spelled.frames(parted));
         if prepared.is_err() {
             forget(links);
             return Err(OutOfMemory);

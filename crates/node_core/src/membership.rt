@@ -2,7 +2,7 @@
 ghost use Rattle.std.specs.Prelude.{◌≡◌, ◌≤◌, ◌+◌, ◌==◌, ◌&&◌, false, true, length, All, IfOk};
 ghost use Rattle.std.specs.Prelude.{IfErr, OnOk, OnErr};
 ghost use Rattle.std.specs.List.{list_all};
-ghost use Rattle.dist_types.specs.Listing.{max_rows, same};
+ghost use Rattle.dist_types.specs.Listing.{same};
 ghost use Rattle.scope_core.specs.Table.{local_total};
 ghost use Rattle.scope_core.specs.Calls.{count_after_join, count_after_leave, is_any_joined};
 ghost use Rattle.policy_audit.specs.Checks.{first_broken};
@@ -11,9 +11,9 @@ ghost use Rattle.policy_audit.specs.Own.{is_local, lives};
 ghost use Rattle.node_core.specs.Core.{Keeps};
 ghost use Rattle.policy_audit.specs.declared.event.Event.TheVariants as events;
 ghost use Rattle.node_core.specs.Step.{Call, IsCalled, Answers};
-ghost use Rattle.node_core.specs.Telling.{AreIdle, Alike};
+ghost use Rattle.node_core.specs.Telling.{AreIdle, Alike, told_limit};
 ghost use Rattle.node_core.specs.Ending.{ends_of, IsEnding};
-ghost use Rattle.node_core.specs.Moving.{own_checks, join_of, leave_of, IsPrepared, IsMovedBy};
+ghost use Rattle.node_core.specs.Moving.{own_checks, own_most, join_of, leave_of, IsPrepared, IsMovedBy};
 ghost use Rattle.node_core.specs.Moving.{IsOwnChange, IsJoinRefusal, IsLeaveRefusal, fault_of};
 
 use crate::changes::{ChangeRoom, Leaving, leave_all, rows_of};
@@ -22,22 +22,36 @@ use crate::fault::CoreFault;
 use crate::gathering::{ascending, change_in};
 use crate::kept::Kept;
 use crate::link::Link;
-use crate::links::{commit, or_forget};
-use crate::running::{ROWS_OF_VERSION_1, Running, place_of};
+use crate::links::{commit, is_any_in, or_forget};
+use crate::running::{ROWS_OF_VERSION_1, ROWS_OF_VERSION_2, Running, place_of};
 use crate::slow::{Ending, ending_with, is_any_overfull, settled};
 use crate::telling::{tell, tell_exit};
-use dist_types::{Group, MAX_ROWS, OutOfMemory, Pid, Pids, Scope, TryClone};
+use dist_types::{Group, OutOfMemory, Pid, Pids, Scope, TryClone};
 use link_frames::{Message, Rows};
 use policy_audit::{Change, Rule};
 use scope_core::TableFault;
 use std::alloc::Global;
 
 impl Kept {
-    /// The first rule that own processes break that join a group, but for those of the scope and of its other rows.
-    fn join_refusal(&self, pids: &[Pid]) -> Option<Rule>
+    /// The most own rows that a scope may have: those of one message, where the node knows no
+    /// parts or a link that takes none is told there.
+    fn own_limit(&self, running: &Running) -> u32
+        ensures { result
+            ≡ own_most self.now.opening.links running.now.told.items self.now.links.items }
+    {
+        if self.opening.links == 2 && !is_any_in(&self.links, &running.told, false) {
+            ROWS_OF_VERSION_2
+        } else {
+            ROWS_OF_VERSION_1
+        }
+    }
+
+    /// The first rule that own processes break that join a group of a scope with at most so many
+    /// own rows, but for those of the scope and of its other rows.
+    fn join_refusal(&self, pids: &[Pid], limit: u32) -> Option<Rule>
         ghost past: { History }
         requires { Keeps past self.now }
-        ensures { result ≡ first_broken (own_checks past pids.now) }
+        ensures { result ≡ first_broken (own_checks past pids.now limit) }
     {
         if !self.are_local(pids) {
             return Some(Rule::NotLocal);
@@ -45,7 +59,7 @@ impl Kept {
         if !self.are_alive(pids) {
             return Some(Rule::NoProcess);
         }
-        if pids.len() > MAX_ROWS {
+        if pids.len() > limit as usize {
             return Some(Rule::RowsFull);
         }
         None
@@ -89,7 +103,8 @@ impl Kept {
             return Err(CoreFault::Refused(Rule::NoScope));
         };
         let pids = pids.as_slice();
-        if let Some(rule) = self.join_refusal(pids) {
+        let limit = self.own_limit(&self.scopes[place]);
+        if let Some(rule) = self.join_refusal(pids, limit) {
             return Err(CoreFault::Refused(rule));
         }
         tell_join(
@@ -108,7 +123,7 @@ impl Kept {
             pids,
         );
         let ending = or_forget(&mut self.links, ending)?;
-        let own = join_one(self.alloc, &mut self.scopes[place], group, pids);
+        let own = join_one(self.alloc, &mut self.scopes[place], group, pids, limit);
         let own = or_forget(&mut self.links, own)?;
         commit(&mut self.links);
         Ok(settled(&mut self.scopes, &mut self.links, own, ending))
@@ -178,23 +193,25 @@ impl Kept {
     }
 }
 
-/// Own processes join a group of one scope. Where they don't, nothing has changed.
+/// Own processes join a group of one scope, which may have so many own rows. Where they don't,
+/// nothing has changed.
 fn join_one(
     alloc: Global,
     running: &mut Running,
     group: &Group,
     pids: &[Pid],
+    limit: u32,
 ) -> Result<Vec<Change>, CoreFault>
     requires { All (λ p. p.node ≡ running.old.table.own) pids.now }
     ensures joined { IfOk result
         (λ changes. IsMovedBy (count_after_join running.old.table group.now pids.now) running.old
         running.new changes.items) }
-    ensures few { OnOk result (local_total running.old.table + length pids.now ≤ max_rows) }
-    ensures refused { IfErr result (IsJoinRefusal running.old.table pids.now) }
+    ensures few { OnOk result (local_total running.old.table + length pids.now ≤ limit) }
+    ensures refused { IfErr result (IsJoinRefusal running.old.table pids.now limit) }
     ensures same { OnErr result (running.new ≡ running.old) }
 {
     let room = ChangeRoom::new(alloc, running.scope.try_clone(alloc)?)?;
-    match running.table.join_local(group, pids, ROWS_OF_VERSION_1) {
+    match running.table.join_local(group, pids, limit) {
         Ok(groups) => Ok(room.filled(groups)),
         Err(fault) => Err(fault_of(fault)),
     }
@@ -231,7 +248,7 @@ fn tell_join(
     group: &Group,
     pids: &[Pid],
 ) -> Result<(), OutOfMemory>
-    requires few { length pids.now ≤ max_rows }
+    requires few { length pids.now ≤ told_limit running.now.told.items links.old.items }
     requires idle { AreIdle links.old.items }
     ensures told { OnOk result (IsPrepared (join_of running.now.scope group.now pids.now) running.now links.old.items links.new.items) }
     ensures same { OnErr result (Alike links.old.items links.new.items) }
@@ -299,7 +316,8 @@ fn tell_leave(
     pids: &[Pid],
 ) -> Result<(), OutOfMemory>
     requires own { All (λ p. p.node ≡ running.now.table.own) pids.now }
-    requires few { local_total running.now.table ≤ max_rows }
+    requires few { local_total running.now.table
+        ≤ told_limit running.now.told.items links.old.items }
     requires idle { AreIdle links.old.items }
     ensures told { OnOk result (IsPrepared (leave_of running.now group.now pids.now) running.now links.old.items links.new.items) }
     ensures same { OnErr result (Alike links.old.items links.new.items) }

@@ -18,7 +18,7 @@ ghost use Rattle.std.specs.List.{list_all};
 ghost use Rattle.dist_types.specs.Listing.{max_rows, same};
 ghost use Rattle.scope_core.specs.Table.{count_of, local_total, node_total};
 ghost use Rattle.scope_core.specs.Calls.{count_after_sync, count_after_add, count_after_take, count_after_drop, are_counted};
-ghost use Rattle.policy_audit.specs.Hearing.{said_on};
+ghost use Rattle.link_frames.specs.Reading.{message as read_message};
 ghost use Rattle.policy_audit.specs.declared.event.Event.TheVariants as events;
 ghost use Rattle.link_frames.specs.declared.message.Message.TheVariants as said;
 ghost use Rattle.node_core.specs.FramesHere.{IsUpLink, IsSoundMessage};
@@ -85,7 +85,8 @@ impl Kept {
     ) -> Result<Answered, CoreFault>
         ghost call: { Call }
         requires { IsSoundMessage call self.old place at number message }
-        ensures { (body : List ℕ) → said_on number call.past.entries body ≡ Some message → Answers call (events.Frame number body) self.new result }
+        ensures { (body : List ℕ) → read_message body ≡ Some message
+            → Answers call (events.Frame number body) self.new result }
     {
         let Some(peer) = self.links[place].up_peer() else {
             unreachable!()
@@ -128,7 +129,7 @@ impl Kept {
         ghost call: { Call }
         requires { IsSoundMessage call self.old place at number (said.Discover scope.now) }
         ensures { (body : List ℕ)
-            → said_on number call.past.entries body ≡ Some (said.Discover scope.now)
+            → read_message body ≡ Some (said.Discover scope.now)
             → Answers call (events.Frame number body) self.new result }
     {
         let owed = discover_owes(&self.scopes[at], number);

@@ -11,6 +11,9 @@ use scope_core::ScopeTable;
 /// version 1 has.
 pub const ROWS_OF_VERSION_1: u32 = 4096;
 
+/// The same where messages come in parts.
+pub const ROWS_OF_VERSION_2: u32 = 65536;
+
 /// A scope, with its rows and the links that it is shared over.
 #[derive(Drop)]
 pub struct Running {

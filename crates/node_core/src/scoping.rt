@@ -1,16 +1,14 @@
 //! Scopes that start and stop, and a node that begins anew.
-ghost use Rattle.std.specs.Prelude.{◌≡◌, ◌<◌, ℕ, not, List, [], map, vec_len, vec_capacity, IfOk, OnOk, OnErr};
+ghost use Rattle.std.specs.Prelude.{◌≡◌, ◌<◌, ℕ, Bool, not, List, [], map, vec_len, vec_capacity, IfOk, OnOk, OnErr};
 ghost use Rattle.std.specs.List.{filter};
 ghost use Rattle.dist_types.specs.declared.pid.Pid.{Pid};
 ghost use Rattle.dist_types.specs.Listing.{same};
 ghost use Rattle.node_core.specs.ScopeFacts.{AreAscending};
-ghost use Rattle.link_frames.specs.Spelling.{HasSpelling};
 ghost use Rattle.scope_core.specs.Table.{count_of};
 ghost use Rattle.policy_audit.specs.Changes.{if_some};
-ghost use Rattle.policy_audit.specs.Owed.{wide};
 ghost use Rattle.policy_audit.specs.declared.event.Event.TheVariants as events;
 ghost use Rattle.node_core.specs.Step.{Call, IsCalled, Answers};
-ghost use Rattle.node_core.specs.Telling.{AreIdle, Alike, IsForShown, put_scope};
+ghost use Rattle.node_core.specs.Telling.{AreIdle, Alike, CanBeSaid, IsForShown, put_scope};
 
 use crate::changes::{ChangeRoom, Leaving, changes_of};
 use crate::entering::Answered;
@@ -183,7 +181,7 @@ fn tell_stop(
 /// Prepares a message for the links that are up and visible.
 /// Where memory is wanting, nothing has changed.
 fn prepare_shown(alloc: Global, links: &mut Vec<Link>, message: &Message) -> Result<(), OutOfMemory>
-    requires spelled { HasSpelling message.now }
+    requires spelled { (parted : Bool) → CanBeSaid parted message.now }
     requires idle { AreIdle links.old.items }
     ensures told { OnOk result (IsForShown message.now links.old.items links.new.items) }
     ensures same { OnErr result (Alike links.old.items links.new.items) }

@@ -1,12 +1,11 @@
 //! What the told links are told of the own rows.
 ghost use Rattle.std.specs.Prelude.{◌≡◌, [], map, IfOk, OnOk, OnErr};
-ghost use Rattle.policy_audit.specs.Owed.{wide};
 ghost use Rattle.node_core.specs.Links.{unroomed, with_prepared, prepared_for};
 ghost use Rattle.std.specs.List.{AllByRecursion};
 ghost use Rattle.dist_types.specs.Difference.{IsDifference};
 ghost use Rattle.scope_core.specs.Table.{count_of};
 ghost use Rattle.scope_core.specs.Calls.{count_after_exit};
-ghost use Rattle.node_core.specs.Telling.{AreIdle, Alike, IsBrief, is_said, said_to};
+ghost use Rattle.node_core.specs.Telling.{AreIdle, Alike, IsBrief, is_said, said_in, said_to, told_limit};
 ghost use Rattle.node_core.specs.Exiting.{bare, exit_frames, ArePrepared, AreExits, IsOwnScope};
 
 use crate::changes::rows_left;
@@ -26,8 +25,12 @@ pub fn tell(
     numbers: &[u32],
     message: &Message,
 ) -> Result<(), OutOfMemory>
-    requires { IsBrief message.now }
-    ensures ok { OnOk result (map unroomed links.new.items ≡ map (λ x. unroomed (prepared_for (said_to numbers.now message.now) (wide message.now) x)) links.old.items) }
+    requires { IsBrief (told_limit numbers.now links.old.items) message.now }
+    ensures ok { OnOk result
+        (map unroomed links.new.items
+        ≡ map (λ x. unroomed
+        (prepared_for (said_to numbers.now message.now) (said_in message.now) x))
+        links.old.items) }
     ensures forgot { OnErr result (map unroomed links.new.items ≡ map (λ x. unroomed (with_prepared x [])) links.old.items) }
 {
     if !is_said(message) {
@@ -55,7 +58,7 @@ pub fn tell_exit(
     scopes: &[Running],
     pid: &Pid,
 ) -> Result<Vec<Change>, OutOfMemory>
-    requires own { AllByRecursion (IsOwnScope pid.now.node) scopes.now }
+    requires own { AllByRecursion (IsOwnScope pid.now.node links.old.items) scopes.now }
     requires idle { AreIdle links.old.items }
     ensures told { IfOk result
         (λ changes. AreExits pid.now scopes.now links.old.items links.new.items changes.items) }
@@ -72,7 +75,7 @@ fn prepare_exit(
     scopes: &[Running],
     pid: &Pid,
 ) -> Result<Vec<Change>, OutOfMemory>
-    requires { AllByRecursion (IsOwnScope pid.now.node) scopes.now }
+    requires { AllByRecursion (IsOwnScope pid.now.node links.old.items) scopes.now }
     ensures told { IfOk result (λ changes. AreExits pid.now scopes.now links.old.items links.new.items changes.items) }
     ensures same { OnErr result (map bare links.new.items ≡ map bare links.old.items) }
 {
@@ -96,7 +99,7 @@ fn exit_one(
     running: &Running,
     pid: &Pid,
 ) -> Result<Vec<GroupChange>, OutOfMemory>
-    requires { IsOwnScope pid.now.node running.now }
+    requires { IsOwnScope pid.now.node links.old.items running.now }
     ensures groups { IfOk result (λ groups. IsDifference (count_of running.now.table) (count_after_exit running.now.table pid.now) groups.items) }
     ensures told { IfOk result (λ groups. ArePrepared (exit_frames running.now groups.items) links.old.items links.new.items) }
     ensures same { OnErr result (map bare links.new.items ≡ map bare links.old.items) }

@@ -19,7 +19,7 @@ returns-in-Ok-clause-joined c = record {
 
 pub returns-in-Err-clause-refused : goal.returns-in-Err-clause-refused
 returns-in-Err-clause-refused c = rw c.fault_of.ensures
-    (join_fault c.args.running.now.table c.args.pids.now c.in-Err.fault c.in-Err.ensures.refused)
+    (join_fault c.args.running.now.table c.args.pids.now c.args.limit c.in-Err.fault c.in-Err.ensures.refused)
 
 pub returns-in-Err-clause-same : goal.returns-in-Err-clause-same
 returns-in-Err-clause-same c =

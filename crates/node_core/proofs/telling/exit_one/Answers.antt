@@ -1,4 +1,4 @@
-use Rattle.node_core.proofs.Words.{ap, arith, eqb-true, sym, vec_len, ◌∙◌, wide, exit_frames, rows_left, said_to, Message}
+use Rattle.node_core.proofs.Words.{ap, arith, eqb-true, sym, vec_len, ◌∙◌, said_in, exit_frames, rows_left, said_to, Message}
 use Rattle.std.proofs.lemmas.List.{nil_from_length}
 use Rattle.node_core.proofs.RowsGone.{few_left}
 use Rattle.scope_core.proofs.Outcomes.{on_err}
@@ -8,9 +8,9 @@ use Rattle.node_core.proofs.telling.exit_one.Goals.{else-not-is_empty}
 use Rattle.node_core.proofs.telling.exit_one.Goals as goal
 
 pub tell-told-requires : goal.tell-told-requires
-tell-told-requires c = rw (c.of-rows.ensures, c.in_ok-rows_left.ensures, c.deref.ensures.value)
+tell-told-requires c = rw (c.deref-then-not-is_empty.ensures.value, c.of-rows.ensures, c.in_ok-rows_left.ensures, c.deref.ensures.value)
     (few_left c.args.running.now.table c.args.pid.now c.requires.own c.in_ok-groups.groups.items
-    c.in_ok-groups.ensures.change c.requires.few)
+    c.in_ok-groups.ensures.change _ c.requires.few)
 
 pub returns-in_err-told-clause-same : goal.returns-in_err-told-clause-same
 returns-in_err-told-clause-same c = on_err _ (forgot_bare c.args.links.now.items
@@ -30,9 +30,9 @@ returns-clause-told c =
             w.deref.ensures.value,
           ) at
           w.in_ok-told.ensures.ok in
-          rw w.links-is (prepared_among (said_to c.args.running.now.told.items said) (wide said)
+          rw w.links-is (prepared_among (said_to c.args.running.now.told.items said) (said_in said)
           c.args.links.now.items w.tell-told.new.links.items prepared)
       | else-not-is_empty w ↦
           let none = nil_from_length groups (let empty = eqb-true (vec_len c.in_ok-groups.groups) 0 (sym c.is_empty.ensures ∙ w.if-not-is_empty.false) in omega (arith, empty, c.in_ok-groups.groups.ok)) in
-          rw w.links-is (prepared_none (exit_frames c.args.running.now groups) (λ l. ap (λ g. exit_frames c.args.running.now g l) none) c.args.links.now.items)
+          rw w.links-is (prepared_none (exit_frames c.args.running.now groups) (λ l parted. ap (λ g. exit_frames c.args.running.now g l parted) none) c.args.links.now.items)
     ]

@@ -3,9 +3,29 @@ use Rattle.node_core.proofs.Words.{exit_frames, take_more, AreExits}
 use Rattle.node_core.proofs.Exited.{exits_on}
 use Rattle.node_core.proofs.Partings.{none_by}
 use Rattle.scope_core.proofs.Outcomes.{on_err}
+use Rattle.node_core.proofs.Words.{IsOwnScope, local_total, ◌≤◌}
+use Rattle.node_core.proofs.KeptOn.{each_at}
+use Rattle.node_core.proofs.OwnLimits.{limit_again}
 use Rattle.node_core.proofs.Told.{prepared_bare}
 use Rattle.node_core.proofs.telling.prepare_exit.Goals.{then-not-is_empty+in_ok-try_clone+in_ok-push, else-not-is_empty}
 use Rattle.node_core.proofs.telling.prepare_exit.Goals as goal
+
+pub exit_one-requires : goal.exit_one-requires
+exit_one-requires c =
+    let one = each_at (IsOwnScope c.args.pid.now.node c.args.links.now.items) c.args.scopes.now
+    c.loop-running.running-index c.running-item.result c.requires c.loop-running-test.true in
+    let here = subst (IsOwnScope c.args.pid.now.node c.args.links.now.items)
+    (sym c.running-item.is) one in
+    record {
+      own = here.own;
+      few = subst (λ n. local_total c.running-item.result.table ≤ n)
+          (sym (limit_again c.running-item.result.told.items c.args.links.now.items
+          c.loop-running.links.items
+          (prepared_bare (all_frames (take c.loop-running.running-index c.args.scopes.now)
+          c.loop-running.invariant.all) c.args.links.now.items c.loop-running.links.items
+          c.loop-running.invariant.links)))
+          here.few;
+    }
 
 pub returns-in_err-groups-clause-same : goal.returns-in_err-groups-clause-same
 returns-in_err-groups-clause-same c = on_err _ (c.in_err-groups.ensures.same ∙ prepared_bare (all_frames (take c.loop-running.running-index c.args.scopes.now) c.loop-running.invariant.all) c.args.links.now.items c.loop-running.links.items c.loop-running.invariant.links)

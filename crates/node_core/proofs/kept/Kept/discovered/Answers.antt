@@ -11,7 +11,7 @@ ready_to_answer-requires-clause-few g c =
     let t = c.requires.on.link.called.keeps.follows in
     let r_is = c.index_mut-running.ensures.value in
     let here = scope_here t c.args.scope.now c.requires.there r_is in
-    few_total g.call.past c.index_mut-running.result.now here.running t.sound.played
+    few_total g.call.past c.index_mut-running.result.now here.running t.sound
 
 pub returns-in_err-frames : goal.returns-in_err-frames
 returns-in_err-frames g c = λ body says.

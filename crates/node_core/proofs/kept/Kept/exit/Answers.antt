@@ -1,5 +1,5 @@
 use Rattle.node_core.proofs.Words.{None, Some, cond, not, refl, sym, ap, ◌∙◌, link_words, lives_of}
-use Rattle.node_core.proofs.Words.{Rule, Reply, committed, map}
+use Rattle.node_core.proofs.Words.{Rule, Reply, all_frames, committed, map}
 use Rattle.node_core.proofs.Answering.{accepts_ending, refuses, wanted}
 use Rattle.node_core.proofs.Ended.{turns_on}
 use Rattle.node_core.proofs.Joining.{local_by}
@@ -37,7 +37,8 @@ returns-in_err-ending g c =
     let idle = follow_idle (link_words g.call.past) old t.links.each in
     wanted c.requires _ _ refl
     (alike_again g.call.past _ t c.or_forget.new.links.items
-    (dropped _ old c.tell_exit.new.links.items c.or_forget.new.links.items idle
+    (dropped (all_frames c.deref.result.now c.in_ok-own.ensures.told.all) old
+    c.tell_exit.new.links.items c.or_forget.new.links.items idle
     c.in_ok-own.ensures.told.links c.in_err-ending.ensures.forgot))
     _ c.from_residual-in_err-ending.ensures.1
 

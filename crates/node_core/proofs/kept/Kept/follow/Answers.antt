@@ -43,7 +43,8 @@ returns-in_err-changes-in-Sync g c = λ body says.
 
 pub returns-in_ok-changes-in-Sync : goal.returns-in_ok-changes-in-Sync
 returns-in_ok-changes-in-Sync g c = λ body says. accepts c.requires.on.link.called _ _ refl _ _ _ (rw c.in_ok-changes-in-Sync.ensures.change.changes at c.changed.ensures)
-    (unasked g.call.past c.args.number body _ (rw c.in-Sync.is at says) refl)
+    (unasked g.call.past c.requires.on.link.called.keeps.follows.sound c.args.number body _
+    (rw c.in-Sync.is at says) refl)
     (synced c.requires.on.link.called.keeps.follows g.call.seat c.args.number body c.requires.on.link.called.space c.requires.on.up c.requires.on.link.here c.index.ensures c.in-Sync.scope c.hear_rows.new.running (rw c.in-Sync.is at c.requires.there) c.index_mut-running.ensures.value c.in-Some.ensures
     c.in-Sync.rows (rw c.in-Sync.is at says) (rw c.in-Sync.is at c.requires.holds) c.in_ok-changes-in-Sync.ensures.change.groups c.in_ok-changes-in-Sync.ensures.ok c.in_ok-changes-in-Sync.ensures.change.difference)
 
@@ -69,7 +70,8 @@ returns-in_err-changes-in-Join g c = λ body says.
 
 pub returns-in_ok-changes-in-Join : goal.returns-in_ok-changes-in-Join
 returns-in_ok-changes-in-Join g c = λ body says. accepts c.requires.on.link.called _ _ refl _ _ _ (rw c.in_ok-changes-in-Join.ensures.change.changes at c.changed-in-Join.ensures)
-    (unasked g.call.past c.args.number body _ (rw c.in-Join.is at says) refl)
+    (unasked g.call.past c.requires.on.link.called.keeps.follows.sound c.args.number body _
+    (rw c.in-Join.is at says) refl)
     (added c.requires.on.link.called.keeps.follows g.call.seat c.args.number body
     c.requires.on.link.called.space c.requires.on.up c.requires.on.link.here c.index.ensures
     c.in-Join.scope c.add_rows.new.running (rw c.in-Join.is at c.requires.there)
@@ -97,7 +99,8 @@ returns-in_err-changes-in-Leave g c = λ body says.
 
 pub returns-in_ok-changes-in-Leave : goal.returns-in_ok-changes-in-Leave
 returns-in_ok-changes-in-Leave g c = λ body says. accepts c.requires.on.link.called _ _ refl _ _ _ (rw c.in_ok-changes-in-Leave.ensures.change.changes at c.changed-in-Leave.ensures)
-    (unasked g.call.past c.args.number body _ (rw c.in-Leave.is at says) refl)
+    (unasked g.call.past c.requires.on.link.called.keeps.follows.sound c.args.number body _
+    (rw c.in-Leave.is at says) refl)
     (taken c.requires.on.link.called.keeps.follows g.call.seat c.args.number body
     c.requires.on.link.called.space c.requires.on.up c.requires.on.link.here c.index.ensures
     c.in-Leave.scope c.take_rows.new.running (rw c.in-Leave.is at c.requires.there)
@@ -108,7 +111,8 @@ returns-in_ok-changes-in-Leave g c = λ body says. accepts c.requires.on.link.ca
 
 pub returns-in_ok-changes-in-Down : goal.returns-in_ok-changes-in-Down
 returns-in_ok-changes-in-Down g c = λ body says. accepts c.requires.on.link.called _ _ refl _ _ _ (rw c.in_ok-changes-in-Down.ensures.changes at c.changed-in-Down.ensures)
-    (unasked g.call.past c.args.number body _ (rw c.in-Down.is at says) refl)
+    (unasked g.call.past c.requires.on.link.called.keeps.follows.sound c.args.number body _
+    (rw c.in-Down.is at says) refl)
     (downed c.requires.on.link.called.keeps.follows g.call.seat c.args.number body
     c.requires.on.link.called.space c.requires.on.up c.requires.on.link.here c.index.ensures
     c.in-Down.scope c.cut_off.new.running (rw c.in-Down.is at c.requires.there)

@@ -1,12 +1,13 @@
 use Rattle.node_core.proofs.Words.{ap, sym, refl, link_words, Rule, Reply, committed, map, said_to}
-use Rattle.node_core.proofs.Words.{wide, join_of}
+use Rattle.node_core.proofs.Words.{Opening, own_most, said_in, join_of, ◌∙◌}
 use Rattle.node_core.proofs.Answering.{accepts_ending, refuses, failed, wanted}
 use Rattle.node_core.proofs.Ended.{turns_on}
 use Rattle.node_core.proofs.Moved.{moved_so, unmoved}
 use Rattle.node_core.proofs.MessagePlaces.{runs_here, scope_here, stopped_here}
 use Rattle.node_core.proofs.OwnChanges.{one_place}
 use Rattle.node_core.proofs.Told.{alike_again, dropped_again, follow_idle, prepared_told}
-use Rattle.node_core.proofs.Joining.{join_own, join_calm, joins_own, joined}
+use Rattle.node_core.proofs.Joining.{join_own, join_calm, joins_own, joins_told, joined}
+use Rattle.node_core.proofs.Joining.{limit_here}
 use Rattle.node_core.proofs.Searched.{scopes_ascend}
 use Rattle.node_core.proofs.kept.Kept.join.Goals as goal
 
@@ -14,7 +15,15 @@ pub returns-in_default : goal.returns-in_default
 returns-in_default g c = refuses c.requires _ Rule.NoScope (rw (stopped_here c.requires.keeps.follows c.args.scope.now (sym (rw c.deref.ensures.value at c.in_default.ensures)))) refl
 
 pub returns-in-Some-join_refusal : goal.returns-in-Some-join_refusal
-returns-in-Some-join_refusal g c = refuses c.requires _ c.in-Some-join_refusal.rule (join_own g.call.past g.call.seat c.args.scope.now c.args.group.now c.args.pids.now
+returns-in-Some-join_refusal g c =
+    let limit = c.own_limit-limit.ensures
+    ∙ ap (λ (o : Opening). own_most o.links c.index.result.now.told.items
+    c.args.self.now.links.items) c.requires.keeps.opening
+    ∙ limit_here g.call.seat c.requires.keeps.follows c.args.scope.now
+    (sym (rw c.deref.ensures.value at c.in-Some.ensures)) c.index.ensures in
+    refuses c.requires _ c.in-Some-join_refusal.rule
+    (join_own g.call.past g.call.seat c.args.scope.now c.args.group.now c.args.pids.now
+    c.own_limit-limit.result limit
     (runs_here c.requires.keeps.follows c.args.scope.now c.in-Some.place (sym (rw c.deref.ensures.value at c.in-Some.ensures))) c.in-Some-join_refusal.rule (sym (rw c.as_slice-pids.ensures at c.in-Some-join_refusal.ensures))) refl
 
 pub tell_join-requires-clause-idle : goal.tell_join-requires-clause-idle
@@ -22,11 +31,29 @@ tell_join-requires-clause-idle g c =
     follow_idle (link_words g.call.past) c.args.self.now.links.items
     c.requires.keeps.follows.links.each
 
+pub tell_join-requires-clause-few : goal.tell_join-requires-clause-few
+tell_join-requires-clause-few g c =
+    let limit = c.own_limit-limit.ensures
+    ∙ ap (λ (o : Opening). own_most o.links c.index.result.now.told.items
+    c.args.self.now.links.items) c.requires.keeps.opening
+    ∙ limit_here g.call.seat c.requires.keeps.follows c.args.scope.now
+    (sym (rw c.deref.ensures.value at c.in-Some.ensures)) c.index.ensures in
+    rw c.as_slice-pids.ensures
+    (joins_told g.call.seat c.requires.keeps.follows c.args.scope.now c.args.group.now
+    c.args.pids.now c.own_limit-limit.result limit
+    (sym (rw c.deref.ensures.value at c.in-Some.ensures)) c.index-2.ensures
+    (sym (rw c.as_slice-pids.ensures at c.in_default-join_refusal.ensures)))
+
 pub join_one-own-requires : goal.join_one-own-requires
 join_one-own-requires g c =
+    let limit = c.own_limit-limit.ensures
+    ∙ ap (λ (o : Opening). own_most o.links c.index.result.now.told.items
+    c.args.self.now.links.items) c.requires.keeps.opening
+    ∙ limit_here g.call.seat c.requires.keeps.follows c.args.scope.now
+    (sym (rw c.deref.ensures.value at c.in-Some.ensures)) c.index.ensures in
     rw c.as_slice-pids.ensures
     (joins_own g.call.seat c.requires.keeps.follows c.args.scope.now c.args.group.now
-    c.args.pids.now
+    c.args.pids.now c.own_limit-limit.result limit
     (sym (rw c.deref.ensures.value at c.in-Some.ensures)) c.index_mut.ensures.value
     (sym (rw c.as_slice-pids.ensures at c.in_default-join_refusal.ensures)))
 
@@ -39,11 +66,11 @@ pub returns-in_err-ending : goal.returns-in_err-ending
 returns-in_err-ending g c =
     let t = c.requires.keeps.follows in
     let old = c.args.self.now.links.items in
-    let said = join_of c.index.result.now.scope c.args.group.now c.args.pids.now in
+    let said = join_of c.index-2.result.now.scope c.args.group.now c.args.pids.now in
     wanted c.requires _ _ refl
     (alike_again g.call.past _ t c.or_forget.new.links.items
-    (dropped_again (said_to c.index.result.now.told.items said)
-    (wide said) old c.tell_join.new.links.items c.or_forget.new.links.items
+    (dropped_again (said_to c.index-2.result.now.told.items said)
+    (said_in said) old c.tell_join.new.links.items c.or_forget.new.links.items
     (follow_idle (link_words g.call.past) old t.links.each)
     (rw c.as_slice-pids.ensures at c.in_ok-tell_join.ensures.told) c.in_err-ending.ensures.forgot))
     _ c.from_residual-in_err-ending.ensures.1
@@ -51,19 +78,25 @@ returns-in_err-ending g c =
 pub returns-in_err-own : goal.returns-in_err-own
 returns-in_err-own g c =
     let t = c.requires.keeps.follows in
+    let limit = c.own_limit-limit.ensures
+    ∙ ap (λ (o : Opening). own_most o.links c.index.result.now.told.items
+    c.args.self.now.links.items) c.requires.keeps.opening
+    ∙ limit_here g.call.seat c.requires.keeps.follows c.args.scope.now
+    (sym (rw c.deref.ensures.value at c.in-Some.ensures)) c.index.ensures in
     let old = c.args.self.now.links.items in
-    let said = join_of c.index.result.now.scope c.args.group.now c.args.pids.now in
+    let said = join_of c.index-2.result.now.scope c.args.group.now c.args.pids.now in
     let placed = sym (rw c.deref.ensures.value at c.in-Some.ensures) in
     failed c.requires _ _ refl
     (unmoved t c.in-Some.place c.index_mut.ensures.value
     (rw (sym c.in_err-own.ensures.result) at c.join_one-own.ensures.same)
-    (dropped_again (said_to c.index.result.now.told.items said)
-    (wide said) old c.tell_join.new.links.items c.or_forget-2.new.links.items
+    (dropped_again (said_to c.index-2.result.now.told.items said)
+    (said_in said) old c.tell_join.new.links.items c.or_forget-2.new.links.items
     (follow_idle (link_words g.call.past) old t.links.each)
     (rw c.as_slice-pids.ensures at c.in_ok-tell_join.ensures.told)
     (rw (ap (λ x. x.items) c.in_ok-ending.ensures.same) at c.in_err-own.ensures.forgot)))
     c.in_err-own.field-0.0
-    (join_calm g.call.seat t c.args.scope.now c.args.group.now c.args.pids.now placed
+    (join_calm g.call.seat t c.args.scope.now c.args.group.now c.args.pids.now
+    c.own_limit-limit.result limit placed
     c.index_mut.ensures.value
     (sym (rw c.as_slice-pids.ensures at c.in_default-join_refusal.ensures))
     c.in_err-own.field-0.0
@@ -84,19 +117,25 @@ returns g c =
     let fine = sym (rw c.as_slice-pids.ensures at c.in_default-join_refusal.ensures) in
     let at = c.index_mut.ensures.value in
     let one = one_place scopes c.in-Some.place (scope_here t c.args.scope.now placed at).within
-    c.index.ensures at in
-    let again = one_place scopes c.in-Some.place (scope_here t c.args.scope.now placed at).within
     c.index-2.ensures at in
+    let again = one_place scopes c.in-Some.place (scope_here t c.args.scope.now placed at).within
+    c.index-3.ensures at in
     let said = join_of c.index_mut.result.now.scope c.args.group.now c.args.pids.now in
     let told = prepared_told (said_to c.index_mut.result.now.told.items said)
-    (wide said) old prepared
+    (said_in said) old prepared
     (follow_idle (link_words h) old t.links.each)
     (rw (c.as_slice-pids.ensures, one) at c.in_ok-tell_join.ensures.told) in
     let by = rw (
       c.as_slice-pids.ensures,
       sym c.in_ok-own.ensures.result,
     ) at c.join_one-own.ensures.joined in
-    let turns = joined g.call.seat t c.args.scope.now c.args.group.now c.args.pids.now placed at
+    let limit = c.own_limit-limit.ensures
+    ∙ ap (λ (o : Opening). own_most o.links c.index.result.now.told.items
+    c.args.self.now.links.items) c.requires.keeps.opening
+    ∙ limit_here g.call.seat c.requires.keeps.follows c.args.scope.now
+    (sym (rw c.deref.ensures.value at c.in-Some.ensures)) c.index.ensures in
+    let turns = joined g.call.seat t c.args.scope.now c.args.group.now c.args.pids.now
+    c.own_limit-limit.result limit placed at
     c.join_one-own.new.running (map committed prepared) c.in_ok-own.own.items
     (moved_so by told by.change) c.requires.space
     fine (rw (

@@ -1,11 +1,11 @@
 use Rattle.node_core.proofs.Words.{ap, sym, refl, ◌∙◌, link_words, Rule, Reply, committed, map}
-use Rattle.node_core.proofs.Words.{said_to, wide, leave_of}
+use Rattle.node_core.proofs.Words.{said_to, said_in, leave_of}
 use Rattle.node_core.proofs.Answering.{accepts_ending, refuses, failed, wanted}
 use Rattle.node_core.proofs.Ended.{turns_on}
 use Rattle.node_core.proofs.Moved.{moved_so, unmoved}
 use Rattle.node_core.proofs.MessagePlaces.{runs_here, scope_here, stopped_here}
 use Rattle.node_core.proofs.OwnChanges.{one_place}
-use Rattle.node_core.proofs.RowsGone.{few_total}
+use Rattle.node_core.proofs.OwnLimits.{few_told}
 use Rattle.node_core.proofs.Told.{alike_again, dropped_again, follow_idle, prepared_told}
 use Rattle.node_core.proofs.Joining.{leave_foreign, leaves_own, leave_calm, left}
 use Rattle.node_core.proofs.Searched.{scopes_ascend}
@@ -36,7 +36,7 @@ tell_leave-requires-clause-few g c =
     let t = c.requires.keeps.follows in
     let here = scope_here t c.args.scope.now (sym (rw c.deref.ensures.value at c.in-Some.ensures))
     c.index.ensures in
-    few_total g.call.past c.index.result.now here.running t.sound.played
+    few_told t c.index.result.now here.running
 
 pub leave_ending-ending-requires : goal.leave_ending-ending-requires
 leave_ending-ending-requires g c =
@@ -59,7 +59,7 @@ returns-in_err-ending g c =
     wanted c.requires _ _ refl
     (alike_again g.call.past _ t c.or_forget.new.links.items
     (dropped_again (said_to c.index.result.now.told.items said)
-    (wide said) old c.tell_leave.new.links.items c.or_forget.new.links.items
+    (said_in said) old c.tell_leave.new.links.items c.or_forget.new.links.items
     (follow_idle (link_words g.call.past) old t.links.each)
     (rw c.as_slice-pids.ensures at c.in_ok-tell_leave.ensures.told) c.in_err-ending.ensures.forgot))
     _ c.from_residual-in_err-ending.ensures.1
@@ -74,7 +74,7 @@ returns-in_err-own g c =
     (unmoved t c.in-Some.place c.index_mut.ensures.value
     (rw (sym c.in_err-own.ensures.result) at c.leave_one-own.ensures.same)
     (dropped_again (said_to c.index.result.now.told.items said)
-    (wide said) old c.tell_leave.new.links.items c.or_forget-2.new.links.items
+    (said_in said) old c.tell_leave.new.links.items c.or_forget-2.new.links.items
     (follow_idle (link_words g.call.past) old t.links.each)
     (rw c.as_slice-pids.ensures at c.in_ok-tell_leave.ensures.told)
     (rw (ap (λ x. x.items) c.in_ok-ending.ensures.same) at c.in_err-own.ensures.forgot)))
@@ -106,7 +106,7 @@ returns g c =
     c.index-2.ensures at in
     let said = leave_of c.index_mut.result.now c.args.group.now c.args.pids.now in
     let told = prepared_told (said_to c.index_mut.result.now.told.items said)
-    (wide said) old prepared
+    (said_in said) old prepared
     (follow_idle (link_words h) old t.links.each)
     (rw (c.as_slice-pids.ensures, one) at c.in_ok-tell_leave.ensures.told) in
     let by = rw (

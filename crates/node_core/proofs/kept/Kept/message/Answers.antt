@@ -14,7 +14,10 @@ use Rattle.node_core.proofs.kept.Kept.message.Goals.{In-Ok, After-is_shown, Afte
 -- a rule that the message breaks early is the frame's
 breaks : (g : Over) (c : In-Ok g) (r : Rule) → first_broken (early_checks g.call.past c.args.number c.in-Ok.message) ≡ Some r
     → first_broken (checks g.call.past g.call.seat (Event.Frame c.args.number c.args.body.now)) ≡ Some r
-breaks g c r q = says_broken g.call.past g.call.seat c.args.number c.args.body.now c.in-Ok.message r c.requires.up (up_awaits g.call.past c.args.number c.requires.up)
+breaks g c r q =
+    says_broken g.call.past c.requires.link.called.keeps.follows.sound g.call.seat c.args.number
+    c.args.body.now c.in-Ok.message r c.requires.up
+    (up_awaits g.call.past c.args.number c.requires.up)
     (rw c.as_slice.ensures at c.in-Ok.ensures.value) (early_broken g.call.past c.args.number c.in-Ok.message r q)
 
 -- the link at its place is up, and tells whether it is visible
@@ -35,7 +38,9 @@ early g c =
 
 pub returns-in-Err-BadFrame : goal.returns-in-Err-BadFrame
 returns-in-Err-BadFrame g c = refuses c.requires.link.called _ Rule.BadFrame
-    (frame_unread g.call.past g.call.seat c.args.number c.args.body.now c.requires.up (rw c.as_slice.ensures at (c.in-Err-BadFrame.ensures.value c.in-Err-BadFrame.field-0-is)))
+    (frame_unread g.call.past c.requires.link.called.keeps.follows.sound g.call.seat c.args.number
+    c.args.body.now c.requires.up
+    (rw c.as_slice.ensures at (c.in-Err-BadFrame.ensures.value c.in-Err-BadFrame.field-0-is)))
     (calm g.call.past c.args.number c.args.body.now c.requires.up Rule.BadFrame refl)
 
 pub returns-then-not-is_shown : goal.returns-then-not-is_shown

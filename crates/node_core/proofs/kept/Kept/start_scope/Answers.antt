@@ -1,6 +1,6 @@
 use Rattle.node_core.proofs.Words.{arith, length, refl, subst, sym, ◌<◌, ◌∙◌, Rises, text_cmp}
 use Rattle.node_core.proofs.Words.{running_rises, link_words, ap, Rule, Reply, committed, map}
-use Rattle.node_core.proofs.Words.{shown_numbers, wide, Message}
+use Rattle.node_core.proofs.Words.{shown_numbers, said_in, Message}
 use Rattle.node_core.proofs.Answering.{accepts_ending, refuses, wanted}
 use Rattle.node_core.proofs.Ended.{turns_on}
 use Rattle.node_core.proofs.MessagePlaces.{placed_is}
@@ -35,7 +35,7 @@ returns-in_err-ending g c =
     wanted c.requires _
     (record c.args.self.now { scopes = c.reserve.new.self; links = c.or_forget.new.links }) refl
     (rw c.in_ok-reserve.ensures.items (alike_again g.call.past _ t c.or_forget.new.links.items
-    (dropped_again (shown_numbers old) (wide (Message.Discover c.args.scope.now)) old
+    (dropped_again (shown_numbers old) (said_in (Message.Discover c.args.scope.now)) old
     c.asked_scope.new.links.items c.or_forget.new.links.items
     (follow_idle (link_words g.call.past) old t.links.each) c.in_ok-running.ensures.told
     c.in_err-ending.ensures.forgot)))
@@ -54,7 +54,7 @@ returns g c =
     let new = c.in_ok-running.ensures in
     let old = c.args.self.now.links.items in
     let prepared = c.asked_scope.new.links.items in
-    let told = prepared_told (shown_numbers old) (wide (Message.Discover scope)) old prepared
+    let told = prepared_told (shown_numbers old) (said_in (Message.Discover scope)) old prepared
     (follow_idle (link_words h) old t.links.each) new.told in
     let turns = start_now h g.call.seat scope _ t stopped c.requires.space few
     c.in_ok-running.running new.scope (new.own ∙ ap (λ o. o.name) c.requires.keeps.opening) new.rows

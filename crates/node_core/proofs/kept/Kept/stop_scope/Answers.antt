@@ -1,5 +1,5 @@
 use Rattle.node_core.proofs.Words.{ap, refl, subst, sym, IsDifference, no_count, link_words, Rule}
-use Rattle.node_core.proofs.Words.{Reply, committed, map, shown_numbers, wide, Message}
+use Rattle.node_core.proofs.Words.{Reply, committed, map, shown_numbers, said_in, Message}
 use Rattle.node_core.proofs.Answering.{accepts_ending, refuses, wanted}
 use Rattle.node_core.proofs.Ended.{turns_on}
 use Rattle.node_core.proofs.MessagePlaces.{runs_here, scope_here, stopped_here}
@@ -31,7 +31,7 @@ returns-in_err-ending g c =
     let old = c.args.self.now.links.items in
     wanted c.requires _ _ refl
     (alike_again g.call.past _ t c.or_forget.new.links.items
-    (dropped_again (shown_numbers old) (wide (Message.Down c.args.scope.now)) old
+    (dropped_again (shown_numbers old) (said_in (Message.Down c.args.scope.now)) old
     c.tell_stop.new.links.items c.or_forget.new.links.items
     (follow_idle (link_words g.call.past) old t.links.each) c.in_ok-own.ensures.told
     c.in_err-ending.ensures.forgot))
@@ -48,7 +48,7 @@ returns g c =
     let groups = subst (λ f. IsDifference f no_count c.in_ok-groups.groups.items) (counts_listed h scope c.index.result.now there.named there.running) c.in_ok-groups.ensures in
     let old = c.args.self.now.links.items in
     let prepared = c.tell_stop.new.links.items in
-    let told = prepared_told (shown_numbers old) (wide (Message.Down scope)) old prepared
+    let told = prepared_told (shown_numbers old) (said_in (Message.Down scope)) old prepared
     (follow_idle (link_words h) old t.links.each) c.in_ok-own.ensures.told in
     let turns = stop_now h g.call.seat scope c.in_ok-groups.groups.items _ t runs groups
     c.requires.space (map committed prepared) told in

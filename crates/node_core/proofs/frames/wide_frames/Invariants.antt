@@ -1,0 +1,15 @@
+use Rattle.node_core.proofs.Words.{◌≡◌, ◌++◌, ◌+◌, ◌≤◌, AllByRecursion, length, into_iter_items}
+use Rattle.node_core.proofs.Words.{vec_capacity, vec_len, wide_frames}
+use Rattle.link_frames.specs.Stream.{max_body}
+use Rattle.node_core.proofs.frames.wide_frames.Given as goal
+
+-- the bodies so far are frames, and there is room for the others, which are short
+abbrev pub invariant-loop-body : goal.invariant-loop-body
+invariant-loop-body l = record {
+  able : (goal.iterator-loop-body).can_next l.body-iterator;
+  finite : (goal.iterator-loop-body).is_finite l.body-iterator;
+  all : l.frames.items ++ wide_frames (into_iter_items l.body-iterator)
+      ≡ wide_frames l.fn.bodies.items;
+  room : vec_len l.frames + length (into_iter_items l.body-iterator) ≤ vec_capacity l.frames;
+  short : AllByRecursion (λ body. length body ≤ max_body) (into_iter_items l.body-iterator);
+}
