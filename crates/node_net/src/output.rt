@@ -22,6 +22,10 @@ const GATHERING: u64 = 3;
 /// Where more frames than this wait, a writer doesn't rest.
 const MANY: usize = 64;
 
+/// In a write of less than so many milliseconds fewer come: the writer rests without a look at the
+/// node, whose lock others want.
+const SHORT: u64 = 1;
+
 /// How many messages may go out singly, one right behind the other, before a writer rests all the same.
 const SINGLES: u64 = 20;
 
@@ -153,23 +157,27 @@ impl<'a, R: Wait + Clock> LinkOutput<'a, R> {
         LinkOutput { at, outlet }
     }
 
-    /// Rests, so that messages gather, unless many wait already.
-    fn rest(&self) {
-        if self.at.waiting().unwrap_or(0) <= MANY {
-            thread::sleep(self.at.rt, Duration::from_millis(GATHERING));
+    /// Rests behind a write that began then, so that messages gather, unless many wait already.
+    fn rest(&self, began: Instant) -> io::Result<()> {
+        let HostedLink { rt, .. } = *self.at;
+        let is_short = began.elapsed(rt)? < Duration::from_millis(SHORT);
+        if is_short || self.at.waiting().unwrap_or(0) <= MANY {
+            thread::sleep(rt, Duration::from_millis(GATHERING));
         }
+        Ok(())
     }
 }
 
 impl<R: Wait + Clock> Write for LinkOutput<'_, R> {
     /// Writes all, and rests then where messages come so often that they are better taken together: each Take is an entry.
     fn write(&mut self, buf: &[u8]) -> io::Result<usize> {
+        let began = Instant::now(self.at.rt)?;
         let sent = self.outlet.send(self.at, buf);
         if has_stood_still(&sent) {
             self.at.note(Ending::Slow);
         }
         if sent? {
-            self.rest();
+            self.rest(began)?;
         }
         Ok(buf.len())
     }

@@ -1,7 +1,11 @@
 //! The writers of links, for who would rather wait than let too many frames gather for a peer that
 //! reads.
+ghost use Rattle.std.specs.Prelude.{◌≡◌};
+ghost use Rattle.node_net.specs.Behind.{most_behind, frames_behind};
+
 use crate::limits::Limits;
 use node_core::NodeCore;
+use std::sync::atomic::{AtomicBool, Ordering};
 use std::sync::{Mutex, Wait};
 use std::time::Duration;
 
@@ -28,6 +32,8 @@ struct State {
 #[derive(Drop)]
 pub struct Writers {
     state: Mutex<State>,
+    /// A writer has begun, or gets on again, since the last look.
+    are_more: AtomicBool,
 }
 
 impl Writers {
@@ -37,6 +43,7 @@ impl Writers {
                 writers: [None; PLACES],
                 limits: Limits::default(),
             }),
+            are_more: AtomicBool::new(true),
         }
     }
 
@@ -54,18 +61,16 @@ impl Writers {
         self.state.lock(rt).limits.tick
     }
 
-    /// Whether more than so many frames wait for a link whose writer gets on.
-    pub fn are_behind<R: Wait>(&self, rt: &R, core: &NodeCore, most: usize) -> bool {
+    /// Whether a writer gets on that didn't at the last look.
+    pub fn are_more(&self) -> bool {
+        self.are_more.load(Ordering::SeqCst)
+    }
+
+    /// Looks at all writers: the most frames that wait for a link whose writer gets on.
+    pub fn most_behind<R: Wait>(&self, rt: &R, core: &NodeCore) -> usize {
         let state = self.state.lock(rt);
-        for writer in state.writers.as_slice() {
-            if let Some(writer) = writer
-                && !writer.stands_still
-                && core.waiting(writer.link).unwrap_or(0) > most
-            {
-                return true;
-            }
-        }
-        false
+        self.are_more.store(false, Ordering::SeqCst);
+        most_behind(&state.writers, core)
     }
 
     /// The writer of a link begins. Where there is no place, nobody waits for it.
@@ -76,6 +81,7 @@ impl Writers {
                 link,
                 stands_still: false,
             });
+            self.are_more.store(true, Ordering::SeqCst);
         }
     }
 
@@ -97,6 +103,28 @@ impl Writers {
                 *writer = Some(Writer { link, stands_still });
             }
         }
+        self.are_more.fetch_or(!stands_still, Ordering::SeqCst);
+    }
+}
+
+/// The most frames that wait for a link whose writer gets on.
+fn most_behind(writers: &[Option<Writer>], core: &NodeCore) -> usize
+    ensures { result ≡ most_behind core.now writers.now }
+{
+    writers
+        .iter()
+        .map(|writer| frames_behind(writer, core))
+        .max()
+        .unwrap_or(0)
+}
+
+/// How many frames wait for the link of a writer that gets on.
+fn frames_behind(writer: &Option<Writer>, core: &NodeCore) -> usize
+    ensures { result ≡ frames_behind core.now writer.now }
+{
+    match writer {
+        Some(writer) if !writer.stands_still => core.waiting(writer.link).unwrap_or(0),
+        _ => 0,
     }
 }
 

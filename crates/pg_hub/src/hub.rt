@@ -188,9 +188,9 @@ impl Hub {
             let Some(promise) = self.promise_of_an_end(rt, seat) else {
                 return;
             };
-            self.let_through(rt, &promise);
+            let call = self.let_through(rt, promise);
             let had_one = !self.is_quitting() && self.leave_one(rt, seat);
-            self.has_called(rt, promise);
+            self.has_called(rt, call);
             if !had_one {
                 return;
             }
@@ -221,7 +221,8 @@ impl Hub {
         had_one
     }
 
-    /// Adds the answer to a line of a seat. A call that meets a full audit, or no memory, is answered by the next life.
+    /// Adds the answer to a line of a seat, for which there is room. A call that meets a full audit,
+    /// or no memory, is answered by the next life.
     pub fn answer<R: Wait>(
         &self,
         rt: &R,
@@ -231,7 +232,6 @@ impl Hub {
     ) -> Result<Next, OutOfMemory> {
         let mut has_let_go = false;
         for _ in rt.forever() {
-            self.wait_for_room(rt);
             match self.try_answer(rt, seat, line, out) {
                 Ok((next, None)) => return Ok(next),
                 Ok((_, Some(Lack::Room))) => {}
@@ -246,6 +246,7 @@ impl Hub {
                     return Err(fault);
                 }
             }
+            self.wait_for_room(rt);
         }
         unreachable!()
     }

@@ -9,7 +9,7 @@ mod hub;
 mod promises;
 mod twins;
 
-pub use brake::Promise;
+pub use brake::{LetThrough, Promise};
 pub use clients::{Clients, Stream};
 pub use crowd::Crowd;
 pub use host::Host;

@@ -1,5 +1,5 @@
-//! What calls may owe that were let through, and aren't made yet.
-ghost use Rattle.std.specs.Prelude.{◌≡◌, ◌+◌, ◌<◌, ◌≤◌, ◌^◌, IfSome, IsNone};
+//! What calls may owe that were let through.
+ghost use Rattle.std.specs.Prelude.{◌≡◌, ◌+◌, ◌<◌, ◌≤◌, ◌^◌, true, false};
 
 use std::marker::Model;
 
@@ -7,48 +7,82 @@ use std::marker::Model;
 /// The other half is for what the readers of links owe, who wait for nobody.
 const MOST: usize = 512;
 
-/// How many frames the calls may owe to a link that were let through, and aren't made yet.
-/// Contracts see it as their number.
+/// What the calls may owe to a link that were let through, as far as they are known of.
 #[derive(Debug, Drop)]
 pub struct Promises {
-    frames: usize,
+    /// The frames of those that aren't made yet.
+    owed: usize,
+    /// How many wait at most when all are made: those that waited for one link at the last look,
+    /// and what was owed then, and was let through since.
+    waiting: usize,
 }
 
 impl Model for Promises {
-    ghost use Rattle.std.specs.Prelude.{ℕ};
+    ghost use Rattle.std.specs.Prelude.{◌≤◌};
+    ghost use Rattle.pg_hub.specs.Brake.{Reckoning};
 
-    ghost Value = { ℕ };
+    ghost Value = { Reckoning };
 
-    ghost view = { λ promises. promises.frames };
+    ghost view = { λ promises. record { owed = promises.owed; waiting = promises.waiting } };
+
+    ghost invariant = { λ promises. promises.owed ≤ promises.waiting };
 }
 
 impl Promises {
     pub fn new() -> Promises
-        ensures { result ≡ 0 }
+        ensures { result ≡ record { owed = 0; waiting = 0 } }
     {
-        Promises { frames: 0 }
+        Promises {
+            owed: 0,
+            waiting: 0,
+        }
     }
 
-    /// How many frames may wait for a link at most where a call goes on that may owe it so many;
-    /// none where it can't go on.
-    pub fn room_for(&self, frames: usize) -> Option<usize>
-        ensures some { IfSome result (λ most. most + self.now + frames ≡ 512) }
-        ensures none { IsNone result → 512 < self.now + frames }
+    /// So many frames wait for a link at most.
+    pub fn look(&mut self, most: usize)
+        ensures waiting { most + self.old.owed < 2 ^ 64 → self.new.waiting ≡ most + self.old.owed }
+        ensures owed { self.new.owed ≡ self.old.owed }
     {
-        MOST.checked_sub(self.frames)?.checked_sub(frames)
+        self.waiting = self.owed.saturating_add(most);
     }
 
-    /// A call that may owe so many frames is let through.
+    /// Lets a call through that may owe so many frames, unless more than 512 would wait behind it:
+    /// whether it did.
+    pub fn let_through(&mut self, frames: usize) -> bool
+        ensures room { result ≡ true → self.old.waiting + frames ≤ 512 }
+        ensures through { result ≡ true → self.new ≡ record {
+          owed = self.old.owed + frames;
+          waiting = self.old.waiting + frames;
+        } }
+        ensures full { result ≡ false → 512 < self.old.waiting + frames }
+        ensures held { result ≡ false → self.new ≡ self.old }
+    {
+        let Some(left) = MOST.checked_sub(self.waiting) else {
+            return false;
+        };
+        if left < frames {
+            return false;
+        }
+        self.add(frames);
+        true
+    }
+
+    /// Lets a call through, however many frames wait.
     pub fn add(&mut self, frames: usize)
-        ensures { self.old + frames < 2 ^ 64 → self.new ≡ self.old + frames }
+        ensures { self.old.waiting + frames < 2 ^ 64 → self.new ≡ record {
+          owed = self.old.owed + frames;
+          waiting = self.old.waiting + frames;
+        } }
     {
-        self.frames = self.frames.saturating_add(frames);
+        self.owed = self.owed.saturating_add(frames);
+        self.waiting = self.waiting.saturating_add(frames);
     }
 
-    /// It is made, or wasn't.
+    /// A call that was let through is made, or can't be. Its frames may wait now.
     pub fn remove(&mut self, frames: usize)
-        ensures { frames ≤ self.old → self.new + frames ≡ self.old }
+        ensures owed { frames ≤ self.old.owed → self.new.owed + frames ≡ self.old.owed }
+        ensures waiting { self.new.waiting ≡ self.old.waiting }
     {
-        self.frames = self.frames.saturating_sub(frames);
+        self.owed = self.owed.saturating_sub(frames);
     }
 }

@@ -1,0 +1,16 @@
+use Rattle.std.proofs.Common.{unwrap_or, ap, ◌∙◌, rules, tests}
+use Rattle.std.proofs.lemmas.Iterator.{YieldsList-from_slice, YieldsList-from_map}
+use Rattle.std.proofs.lemmas.Iterator.Consumers.{reduce_from_yields_List}
+use Rattle.std.proofs.lemmas.List.Folds.{max_of_map}
+use Rattle.node_net.specs.Behind.{frames_behind}
+use Rattle.node_net.proofs.writers.most_behind.Goals as goal
+
+pub returns : goal.returns
+returns c =
+    let waiting = frames_behind c.args.core.now in
+    c.unwrap_or.ensures
+    ∙ ap (λ o. unwrap_or o 0)
+    (reduce_from_yields_List _ c.map.result _ c.max.ensures.ran
+    (YieldsList-from_map _ waiting (YieldsList-from_slice c.args.writers.now cc)
+    c.map.ensures.closure (λ x b q k. search (rules, tests, k))))
+    ∙ max_of_map waiting c.args.writers.now
