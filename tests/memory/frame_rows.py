@@ -20,10 +20,32 @@ def fed(used, body=None):
     return f'Fed(Fed {{ used: {used}, body: {found} }})'
 
 
-def join_read(scope, group, pid_text):
-    text = 'Text {{ bytes: {} }}'.format
-    row = f'Row {{ group: Group {{ text: {text(bytes_text(group))} }}, pid: {pid_text} }}'
-    return f'Read(Join(Scope {{ text: {text(bytes_text(scope))} }}, Items {{ items: [{row}] }}))'
+def scope_text(scope):
+    return f'Scope {{ text: Text {{ bytes: {bytes_text(scope)} }} }}'
+
+
+def rows_text(group, pid_text):
+    """The text of one row as a list."""
+    row = f'Row {{ group: Group {{ text: Text {{ bytes: {bytes_text(group)} }} }}, pid: {pid_text} }}'
+    return f'Items {{ items: [{row}] }}'
+
+
+def join_read(scope, rows):
+    return f'Read(Join({scope_text(scope)}, {rows}))'
+
+
+def part_read(kind, scope, number, last, rows):
+    return f'ReadPart(Part {{ kind: {kind}, scope: {scope_text(scope)}, number: {number}, last: {last}, rows: {rows} }})'
+
+
+def row_body(number):
+    """A row of the group g, behind the count of 1."""
+    return b'\0\0\0\1\1g\0\3a@h\0\0\0\1' + number.to_bytes(8, 'big')
+
+
+LEAVE = b'L\2pg' + row_body(7)
+LEAVE_PART = b'L\2pg\0\0\0\1\1' + row_body(7)
+NEXT_PART = b'J\2pg\0\0\0\2\1' + row_body(8)
 
 
 # The answer to each deed; and what has been written behind the last ones.
@@ -35,10 +57,12 @@ ANSWERS = [
     fed(1), fed(3), fed(1, b'sok'), fed(3, b'x'), fed(0),
     # Lengths of 4 bytes, with ticks between bodies; after one that is too long there are no more.
     fed(7), fed(3), fed(2, b'D\2pg'), fed(5), fed(7, b'X\2pg'), 'NotFed(TooLong)', 'NotFed(TooLong)',
-    'NotRead(BadFrame)', join_read(b'pg', b'g', pid(b'a@h', 7)),
-    DONE, DONE, DONE, DONE]
-LEAVE = b'L\2pg\0\0\0\1\1g\0\3a@h\0\0\0\1' + (7).to_bytes(8, 'big')
-WRITTEN = [b'D\2pg', LEAVE, b'snot_allowed', b'\0\0\0\4D\2pg']
+    'NotRead(BadFrame)', join_read(b'pg', rows_text(b'g', pid(b'a@h', 7))),
+    # Parts: each is taken back to what was kept before it.
+    part_read('Join', b'pg', 2, 'true', rows_text(b'g', pid(b'a@h', 8))), 'NotRead(BadFrame)',
+    'Gathered(1)', 'TakenBack(2, 1)', 'Gathered(2)', 'TakenBack(1, 2)', f'Cut([Body {{ bytes: {bytes_text(LEAVE_PART)} }}])',
+    DONE, DONE, DONE, DONE, DONE]
+WRITTEN = [b'D\2pg', LEAVE, b'snot_allowed', b'\0\0\0\4D\2pg', NEXT_PART]
 
 
 def written_at(number):

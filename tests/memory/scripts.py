@@ -1,7 +1,18 @@
 """The scripts that are played without memory. They are written with the model of tests/model, which knows links and digests."""
 
+from functools import cache
+
 from frames import Discover, Down, RowsJoin, RowsLeave, Sync, name_body
+from owed import MOST_WAITING
 from story import FLAGS, Story, row
+
+# Behind this line of a script allocations are refused, or in a script without it everywhere.
+FROM_HERE = '# from here on without memory'
+
+
+def begin_of(script):
+    """How many lines of a script come before those whose allocations are refused."""
+    return script.lines.index(FROM_HERE) if FROM_HERE in script.lines else 0
 
 
 def replaced_link():
@@ -69,6 +80,36 @@ def every_event():
     story.message(first, Down('pg'))
     story.tell('stop s', 'updates 12', 'stop pg', 'restart', 'spawn', 'start pg', 'join pg g b@h/2/1', 'members pg g', 'audit 1', 'size')
     return story.script('every_event')
+
+
+def fill(story, link, scopes, pids):
+    """Lets processes exit that are in all scopes, and join, until no more frames may wait for a link."""
+    while (free := MOST_WAITING - len(story.model.waiting(story.h, link))) > 0:
+        story.say('exit', pids.pop()) if free >= len(scopes) else story.say('join', 's0', 'own', pids[0])
+
+
+@cache
+def slow_ends():
+    """Six links of peers with rows that take nothing: one more frame is too many for two of them at a leave, for one at a start, for one
+    at a stop, and for two at an exit."""
+    story, scopes = Story(), [f's{number}' for number in range(16)]
+    pids = [f'b@h/1/{number}' for number in range(1, 65)]
+    story.tell(*(f'start {scope}' for scope in scopes), *('spawn' for _ in pids), 'monitor_scope s0')
+    monitor, links = story.h.number, [story.accepted(f'p{number}@h') for number in range(6)]
+    for number, link in enumerate(links):
+        for scope in scopes:
+            story.message(link, Discover(scope))
+        story.message(link, Sync('s0', (row('g', f'p{number}@h', 1), row('h', f'p{number}@h', 1))))
+    story.tell(*(f'join {scope} g {" ".join(pids)}' for scope in scopes))
+    for ending in links[:2], links[2:3], links[3:4], links[4:]:
+        # (each of these is a frame behind those before it)
+        story.tell(*(f'take {link}' for link in ending), f'join s0 own {pids[0]}')
+    fill(story, links[0], scopes, pids)
+    story.tell(f'updates {monitor}', FROM_HERE)
+    for call in f'leave s0 own {pids[0]}', 'start t', 'stop t', f'exit {pids[0]}':
+        story.tell(call, 'members s0 h', f'updates {monitor}')
+    story.tell(*(f'take {link}' for link in links), 'members s0 g', 'size')
+    return story.script('slow_ends')
 
 
 SCRIPTS = (replaced_link, monitors, told_peers, every_event)

@@ -3,7 +3,7 @@
 from random import Random
 
 from frames import (VERSION_2, Discover, Down, RowsJoin, RowsLeave, Sync, ack_body, challenge_body, message_body, name_body,
-                    part_body, reply_body, status_body)
+                    part_body, read_part, reply_body, status_body)
 from records import record
 from story import FLAGS, Story, row
 
@@ -28,6 +28,12 @@ def with_a_byte_behind(body):
 def with_another_byte(body):
     return [body[:place] + bytes([value]) + body[place + 1:] for place, old in enumerate(body)
             for value in sorted({0, 255, (old + 1) % 256, (old - 1) % 256} - {old})]
+
+
+def changed_parts(body):
+    """How many bodies that differ from a part in one byte are messages of version 2. crates/link_tests has these counts of its parts, since
+    no link of the node is of that version."""
+    return sum(read_part(changed) is not None for changed in with_another_byte(body))
 
 
 def with_any_first_byte(body):

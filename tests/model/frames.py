@@ -16,6 +16,8 @@ Sync = record('Sync', 'scope rows')
 RowsJoin = record('RowsJoin', 'scope rows')
 RowsLeave = record('RowsLeave', 'scope rows')
 Down = record('Down', 'scope')
+# A message of version 2 with rows: the kind is that of the message that the parts make.
+Part = record('Part', 'kind scope number last rows')
 
 STATUSES = ('ok', 'ok_simultaneous', 'nok', 'not_allowed', 'alive', 'true', 'false')
 PUBLISHED, HANDSHAKE_23, DYNAMIC = 1 << 0, 1 << 24, 1 << 33
@@ -129,6 +131,29 @@ def read_message(reader):
         case b'L': message = RowsLeave(scope, read_rows(reader, 1))
         case b'X': message = Down(scope)
         case _: raise Short
+    reader.end()
+    return message
+
+
+def read_last(reader):
+    last = reader.number(1)
+    if last > 1:
+        raise Short
+    return bool(last)
+
+
+@reads
+def read_part(reader):
+    """A message of version 2."""
+    octet = reader.take(1)
+    scope = reader.limited(1, is_text)
+    kind = next((kind for kind, of_kind in KINDS.items() if of_kind == octet), None)
+    if kind in (Discover, Down):
+        message = kind(scope)
+    elif kind and (number := reader.number(4)):
+        message = Part(kind, scope, number, read_last(reader), read_rows(reader, 0 if kind is Sync else 1))
+    else:
+        raise Short
     reader.end()
     return message
 

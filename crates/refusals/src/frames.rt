@@ -6,7 +6,7 @@ use dist_types::{
     Body, Cookie, Group, NodeName, OutOfMemory, Pid, Scope, Shared, TextFault, TryClone,
 };
 use handshake_frames::{Fed, HsFrame, HsReader, StatusWord};
-use link_frames::{FeedFault, LinkReader, Message, MessageFault};
+use link_frames::{FeedFault, LinkReader, Message, Message2, MessageFault, Parts, Undo};
 use policy_audit::{Event, OutFrame};
 use std::alloc::Global;
 use std::io::Write;
@@ -33,15 +33,30 @@ enum Deed {
     /// A piece of the stream behind it.
     Messages(Bytes),
     Read(Bytes),
+    ReadPart(Bytes),
+    /// Keeps the part that these bytes are.
+    Gather(Bytes),
+    /// Keeps it, and takes it back.
+    TakeBack(Bytes),
+    /// Cuts the message that these bytes are into parts.
+    Cut(Bytes),
     /// Appends the message that these bytes are.
     Write(Bytes),
     /// Appends a status.
     WriteStatus,
     /// Appends a frame with its length, of 4 bytes where it is wide.
     Wire(bool, Bytes),
+    /// Appends the part that these bytes are.
+    WritePart(Bytes),
 }
 
-static DEEDS: [Deed; 29] = [
+const FIRST_PART: Bytes =
+    b"J\x02pg\x00\x00\x00\x01\x00\x00\x00\x00\x01\x01g\x00\x03a@h\x00\x00\x00\x01\x00\x00\x00\x00\x00\x00\x00\x07";
+
+const NEXT_PART: Bytes =
+    b"J\x02pg\x00\x00\x00\x02\x01\x00\x00\x00\x01\x01g\x00\x03a@h\x00\x00\x00\x01\x00\x00\x00\x00\x00\x00\x00\x08";
+
+static DEEDS: [Deed; 37] = [
     Deed::Name(b"a@h"),
     Deed::Name(b"a"),
     Deed::Cookie(b"password"),
@@ -69,12 +84,22 @@ static DEEDS: [Deed; 29] = [
     Deed::Read(
         b"J\x02pg\x00\x00\x00\x01\x01g\x00\x03a@h\x00\x00\x00\x01\x00\x00\x00\x00\x00\x00\x00\x07",
     ),
+    Deed::ReadPart(NEXT_PART),
+    Deed::ReadPart(b"S\x02pg\x00\x00\x00\x00\x01\x00\x00\x00\x00"),
+    Deed::Gather(FIRST_PART),
+    Deed::TakeBack(NEXT_PART),
+    Deed::Gather(NEXT_PART),
+    Deed::TakeBack(FIRST_PART),
+    Deed::Cut(
+        b"L\x02pg\x00\x00\x00\x01\x01g\x00\x03a@h\x00\x00\x00\x01\x00\x00\x00\x00\x00\x00\x00\x07",
+    ),
     Deed::Write(b"D\x02pg"),
     Deed::Write(
         b"L\x02pg\x00\x00\x00\x01\x01g\x00\x03a@h\x00\x00\x00\x01\x00\x00\x00\x00\x00\x00\x00\x07",
     ),
     Deed::WriteStatus,
     Deed::Wire(true, b"D\x02pg"),
+    Deed::WritePart(NEXT_PART),
 ];
 
 /// What was answered.
@@ -87,15 +112,22 @@ enum Answer {
     Fed(Fed),
     NotFed(FeedFault),
     Read(Message),
+    ReadPart(Message2),
     NotRead(MessageFault),
+    /// How many rows are kept.
+    Gathered(usize),
+    /// How many rows were kept with the part, and without it.
+    TakenBack(usize, usize),
+    Cut(Vec<Body>),
 }
 
-/// The readers of two streams, what was written, and what was answered last.
+/// The readers of two streams, the parts that were gathered, what was written, and what was answered last.
 #[derive(Drop)]
 struct Desk {
     alloc: Global,
     handshake: HsReader,
     messages: LinkReader,
+    parts: Parts,
     written: Vec<u8>,
     answer: Answer,
 }
@@ -105,6 +137,7 @@ pub fn play<R: Print + Eprint + Wait>(rt: &R, alloc: Global, log: &mut Log) -> R
         alloc,
         handshake: HsReader::new(alloc),
         messages: LinkReader::new(alloc),
+        parts: Parts::new(),
         written: Vec::new(alloc),
         answer: Answer::Done,
     };
@@ -127,7 +160,11 @@ impl Subject for Desk {
     }
 
     fn show<R: Wait>(&self, _rt: &R, out: &mut Vec<u8>) -> Result<(), OutOfMemory> {
-        match write!(out, "{:?} {:?} ", self.handshake, self.messages) {
+        match write!(
+            out,
+            "{:?} {:?} {:?} ",
+            self.handshake, self.messages, self.parts
+        ) {
             Ok(()) => put_hex(self.written.as_slice(), out),
             Err(_) => Err(OutOfMemory),
         }
@@ -195,6 +232,22 @@ fn read(alloc: Global, body: &[u8]) -> Result<Answer, OutOfMemory> {
     }
 }
 
+fn read_part(alloc: Global, body: &[u8]) -> Result<Answer, OutOfMemory> {
+    match link_frames::decode_v2(alloc, body) {
+        Ok(part) => Ok(Answer::ReadPart(part)),
+        Err(MessageFault::OutOfMemory) => Err(OutOfMemory),
+        Err(fault) => Ok(Answer::NotRead(fault)),
+    }
+}
+
+fn cut(alloc: Global, body: &[u8]) -> Result<Answer, OutOfMemory> {
+    match link_frames::decode(alloc, body) {
+        Ok(message) => Ok(Answer::Cut(link_frames::encode_parts(alloc, &message)?)),
+        Err(MessageFault::OutOfMemory) => Err(OutOfMemory),
+        Err(fault) => Ok(Answer::NotRead(fault)),
+    }
+}
+
 impl Desk {
     fn answer_to(&mut self, deed: Deed) -> Result<Answer, OutOfMemory> {
         match deed {
@@ -207,9 +260,14 @@ impl Desk {
             Deed::Handshake(piece) => self.shake(piece),
             Deed::Messages(piece) => self.feed(piece),
             Deed::Read(body) => read(self.alloc, body),
+            Deed::ReadPart(body) => read_part(self.alloc, body),
+            Deed::Gather(body) => self.gather(body),
+            Deed::TakeBack(body) => self.take_back(body),
+            Deed::Cut(body) => cut(self.alloc, body),
             Deed::Write(body) => self.write(body),
             Deed::WriteStatus => self.write_status(),
             Deed::Wire(wide, body) => self.wire(wide, body),
+            Deed::WritePart(body) => self.write_part(body),
         }
     }
 
@@ -232,6 +290,46 @@ impl Desk {
             Err(fault) => return Ok(Answer::NotRead(fault)),
         }
         Ok(Answer::Done)
+    }
+
+    fn write_part(&mut self, body: &[u8]) -> Result<Answer, OutOfMemory> {
+        match link_frames::decode_v2(self.alloc, body) {
+            Ok(part) => link_frames::encode_v2(&part, &mut self.written)?,
+            Err(MessageFault::OutOfMemory) => return Err(OutOfMemory),
+            Err(fault) => return Ok(Answer::NotRead(fault)),
+        }
+        Ok(Answer::Done)
+    }
+
+    fn gather(&mut self, body: &[u8]) -> Result<Answer, OutOfMemory> {
+        self.gathered(body)?;
+        Ok(Answer::Gathered(self.parts.rows().len()))
+    }
+
+    fn take_back(&mut self, body: &[u8]) -> Result<Answer, OutOfMemory> {
+        let undo = self.gathered(body)?;
+        let with = self.parts.rows().len();
+        if let Some(undo) = undo {
+            self.parts.undo(undo);
+        }
+        Ok(Answer::TakenBack(with, self.parts.rows().len()))
+    }
+
+    /// What takes the part back; none where these bytes are no part.
+    fn gathered(&mut self, body: &[u8]) -> Result<Option<Undo>, OutOfMemory> {
+        match link_frames::decode_v2(self.alloc, body) {
+            Ok(
+                Message2::Part {
+                    kind,
+                    scope,
+                    number,
+                    last: _,
+                    rows,
+                },
+            ) => Ok(Some(self.parts.gather(kind, scope, number, rows)?)),
+            Err(MessageFault::OutOfMemory) => Err(OutOfMemory),
+            _ => Ok(None),
+        }
     }
 
     fn write_status(&mut self) -> Result<Answer, OutOfMemory> {
