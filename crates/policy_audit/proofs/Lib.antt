@@ -36,7 +36,6 @@ pub mod LinksLeft
 pub mod HeardNow
 pub mod HeardSaid
 pub mod OldTold
-pub mod OldLinks
 pub mod ScopeFrames
 pub mod Untouched
 pub mod LostWords

@@ -102,6 +102,11 @@ module _ (h : History) (legal : IsPlayed h) (e : Entry) (made : IsStep h e)
       → (t f : List ℕ) (p : Pid) → listed (just h e) t f p ≡ listed h t f p
   discovered_rows s says t f p = inner_rows h legal e made yes l body is (ap is_last awaited) t f p (grind (arith, says))
 
+  -- a part that completes no message
+  pub unsaid_rows : said_at h.opening l es body ≡ None
+      → (t f : List ℕ) (p : Pid) → listed (just h e) t f p ≡ listed h t f p
+  unsaid_rows says t f p = inner_rows h legal e made yes l body is (ap is_last awaited) t f p (grind (arith, says))
+
   -- what the link says of itself in a scope that runs
   running_as : (s t : List ℕ) → same s t ≡ true → not (is_running h s) ≡ false → is_running h t ≡ true
   running_as s t q runs = ap (is_running h) (sym ((same_decides s t).0 q)) ∙ unbroken (is_running h s) runs
