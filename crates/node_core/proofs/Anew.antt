@@ -4,20 +4,21 @@ use Rattle.node_core.proofs.Words.{first_broken, History, creation, listed, IsAl
 use Rattle.node_core.proofs.Words.{Change, Accepted, Follows, Parts, ArePartings, Opening}
 use Rattle.node_core.proofs.Words.{audit_of, subst, follows_cleared, own_pid, Event, Reply, Rule}
 use Rattle.node_core.proofs.Words.{◌<◌, leb-true, same, past, ◌^◌, follows_start}
+use Rattle.handshake_frames.specs.Spelling.{IsVersion}
 use Rattle.group_monitors.specs.Follows.{FollowsPolicy}
 use Rattle.policy_audit.proofs.LivesNow.{lives_restarted}
 use Rattle.node_core.proofs.Entered.{audit_more, made, accepted_next, answered_by, sound_now}
 use Rattle.node_core.proofs.Partings.{partings_change}
 use Rattle.node_core.proofs.Found.{not_so}
 
-pub begun : (o : Opening) → o.entries < 2 ^ 32 → o.links ≡ 1 → Follows (past o []) (record { admission = record { own = o.name; cookie = o.cookie; hidden = o.hidden; creation = o.creation; links = o.links; peers = []; allowed = [] }; processes = record { spawned = 0; live = [] }; scopes = []; links = []; monitors = [] })
-begun o fits one = record {
+pub begun : (o : Opening) → o.entries < 2 ^ 32 → IsVersion o.links → Follows (past o []) (record { admission = record { own = o.name; cookie = o.cookie; hidden = o.hidden; creation = o.creation; links = o.links; peers = []; allowed = [] }; processes = record { spawned = 0; live = [] }; scopes = []; links = []; monitors = [] })
+begun o fits known = record {
   sound = record {
     played = tt;
     fits = fits;
     few = omega arith;
     few_spawned = omega arith;
-    links = one;
+    links = known;
   };
   admission = record {
     own = refl;

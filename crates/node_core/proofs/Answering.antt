@@ -111,7 +111,7 @@ module _ {call : Call} {kept : Kept} (called : IsCalled call kept) (e : Event) w
       wanted result is = let failed = err_from_is_err_and result is in rw (failed.1, failed.2) wants
 
       -- that, or a refusal that ends no link
-      fails : (f : CoreFault) → IsCalmFault call.past call.seat e f → Answers call e new (Err f)
+      pub fails : (f : CoreFault) → IsCalmFault call.past call.seat e f → Answers call e new (Err f)
       fails (CoreFault.Refused r) calm =
           refuses (record { keeps = still; space = called.space }) e r calm.0 calm.1
       fails CoreFault.OutOfMemory calm = wants

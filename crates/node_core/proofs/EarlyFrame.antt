@@ -18,7 +18,7 @@ use Rattle.policy_audit.proofs.RowsAfter.{unfinished_rows}
 use Rattle.node_core.proofs.EarlyMoves.{answer_moves, status_moves, challenge_moves, Goes, name_goes}
 use Rattle.node_core.proofs.Entered.{made, accepted_now, answered_now, next_now, step_follows}
 use Rattle.node_core.proofs.Found.{some_is}
-use Rattle.node_core.proofs.MovedOn.{moved_follow}
+use Rattle.node_core.proofs.MovedOn.{moved_follow, still_unbegun}
 use Rattle.node_core.proofs.HeardFrames.{is_early, early_state, is_there, heard_leads, by_all}
 use Rattle.node_core.proofs.HeldLink.{IsHeld, held_state, held_moved, beside_same, held_broke}
 use Rattle.node_core.proofs.HeldLink.{ups_beside, dials_beside}
@@ -149,8 +149,9 @@ module _ {h : History} {parts : Parts} (t : Follows h parts) (seat : ℕ) (body 
                 (sym (early_scopes h seat j body answered t.sound.played inner unlike)) t.scopes)
                 (subst (LinksFollow _) (sym (held_moved t held now (narrow_frames frames) (cond gives_up (dial_beside now left) None) new on))
                 (moved_follow h _ t.sound.played j now (narrow_frames frames)
-                (cond gives_up (dial_beside now left) None) moves parts.links t.links p v there.0
-                there.1 on.room)),
+                (cond gives_up (dial_beside now left) None)
+                (still_unbegun h t.sound.played (e h seat j body) j body refl unwhole) moves
+                parts.links t.links p v there.0 there.1 on.room)),
           )
 
     module _ (r : Rule) (frames : List (List ℕ)) (hears : Hears parts.admission pending s body (Heard.Ended r frames)) where

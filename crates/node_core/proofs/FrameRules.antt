@@ -18,7 +18,7 @@ use Rattle.node_core.proofs.LinkTests.{allowed_by}
 use Rattle.policy_audit.proofs.Onward.{frame_open}
 use Rattle.policy_audit.proofs.LinkFrames.{handshake_links, refused_links}
 use Rattle.node_core.proofs.KeptOn.{facts_same, filter_all, version_with}
-use Rattle.node_core.proofs.MovedOn.{AreMoves, stays_but, moved_follow}
+use Rattle.node_core.proofs.MovedOn.{AreMoves, stays_but, moved_follow, still_unbegun}
 use Rattle.policy_audit.proofs.HeardNow.{refused_heard}
 use Rattle.policy_audit.proofs.LinksLeft.{refused_numbers}
 use Rattle.node_core.proofs.Entered.{step_follows, made, next_now, refused_now}
@@ -171,5 +171,6 @@ module _ (h : History) (seat j : ℕ) (body : List ℕ) (r : Rule) where
       refused_follows next room new is_so = step_follows t next refl t.admission t.processes
           (subst (λ w. ScopesFollow w parts.scopes) (sym refused_scopes) t.scopes)
           (subst (LinksFollow (link_words (just h e))) (sym is_so)
-          (moved_follow h _ t.sound.played j LinkState.Ended more gone refused_moves parts.links
+          (moved_follow h _ t.sound.played j LinkState.Ended more gone
+          (still_unbegun h t.sound.played e j body refl unwhole) refused_moves parts.links
           t.links p d less is room))

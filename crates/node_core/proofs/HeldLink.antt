@@ -9,7 +9,9 @@ use Rattle.node_core.proofs.Words.{IsState, facts, KeptLink, StatelessLink, in_s
 use Rattle.node_core.proofs.Words.{without_link, waiting, Climbs, eq-eqb, eqb-true, filter, list_all, ltb-true, map, nat_lt, not, narrow_frames}
 use Rattle.node_core.proofs.Words.{HaveEnded, dial_beside, dialled_peer, up_peer, older_of}
 use Rattle.node_core.proofs.Words.{beside, is_dialled, is_dialling, is_name_up, is_some, list_any}
-use Rattle.node_core.proofs.Words.{link_place, without_number}
+use Rattle.node_core.proofs.Words.{link_place, without_number, begun, none_begun}
+use Rattle.node_core.proofs.Words.{Entry, awaits, is_last, lie, opened, taken}
+use Rattle.policy_audit.proofs.Finished.{whole_awaits}
 use Rattle.std.specs.List.{insert, remove}
 use Rattle.link_states.specs.Pending.{is_up}
 use Rattle.node_core.proofs.Found.{any_found}
@@ -77,6 +79,28 @@ pub room_follows : {h : History} {parts : Parts} → Follows h parts
     ≡ get_or parts.links p v → w ≡ with_room v w.room
     → Follows h (record parts { links = set parts.links p w })
 room_follows {h} {parts} t j {p} {v} {w} at is roomy = alike_again h parts t (set parts.links p w) (alike_there parts.links p v w (ap unroomed (roomy ∙ ap (λ (x : KeptLink). with_room x w.room) is)))
+
+-- a side that awaits its last frame isn't whole
+pub last_unwhole : (j : ℕ) (es : List Entry) → is_last (awaits j es) ≡ true → is_whole j es ≡ false
+last_unwhole j es last = by (is_whole j es) refl
+  where
+    by : (b : Bool) → is_whole j es ≡ b → is_whole j es ≡ false
+    by false w = w
+    by true w = lie (sym last ∙ ap is_last (whole_awaits (opened j es) (taken j es) w))
+
+-- before its side is whole a link that is taken out has begun no message
+pub taken_unbegun : {h : History} {parts : Parts} → Follows h parts → (j : ℕ) {p : ℕ}
+    {v w out : KeptLink} → link_place j parts.links ≡ Some p → is_whole j h.entries ≡ false
+    → v ≡ get_or parts.links p v → w ≡ with_room v w.room
+    → out ≡ get_or (set parts.links p w) p out → out.begun ≡ None
+taken_unbegun {h} {parts} t j {p} {v} {w} {out} at unwhole is roomy seen =
+    let there = is_there h parts t j p at v in
+    ap (λ (x : KeptLink). x.begun)
+    (seen ∙ get_or-set_same parts.links p w out there.0 ∙ roomy
+    ∙ ap (λ (x : KeptLink). with_room x w.room) is)
+    ∙ (link_there h parts t j p at v).begun
+    ∙ ap (λ n. begun h.opening n h.entries) there.1
+    ∙ none_begun h.opening h.entries t.sound.played j unwhole
 
 module _ {h : History} {parts : Parts} (t : Follows h parts) {j p : ℕ} {v w out : KeptLink} {s : LinkState} {link : StatelessLink} {left : List KeptLink} (held : IsHeld h parts.links j p v w out s link left) where
   here : p < length parts.links

@@ -3,7 +3,8 @@ use Rattle.node_core.proofs.Words.{IsState, Bool, List, Some, ap, arith, cond, f
 use Rattle.node_core.proofs.Words.{true, zero, ℕ, [], ◌<◌, ◌∙◌, ◌∷◌, ◌≡◌, AllByRecursion, filter, list_all, option_map_or, eqb-true, ltb-true, position-Some}
 use Rattle.node_core.proofs.Words.{History, is_open, challenge_in, IsLinkOf, LinkWords, LinksFollow, facts, KeptLink, IsSameLink, Climbs, None, is_some}
 use Rattle.node_core.proofs.Words.{list_any, kept_among, is_kept, IsPlayed, link_words, map-id}
-use Rattle.node_core.proofs.Words.{Name, Option, ◌&&◌, ◌==◌}
+use Rattle.policy_audit.specs.Hearing.{begun}
+use Rattle.node_core.proofs.Words.{LinkFacts, Name, Option, ◌&&◌, ◌==◌}
 use Rattle.std.proofs.Math.Seq.{map-set_same}
 use Rattle.std.proofs.lemmas.List.Folds.{list_all-map, list_all_at}
 use Rattle.std.proofs.lemmas.List.Elements.{All-from_recursion}
@@ -26,11 +27,17 @@ facts_same h k opening l it opens = λ i. record {
   said = it.given i;
   version = version_with (opening i).links (it.given i);
   challenge = option_map_or (λ o. challenge_in o.start) (it.opened i) 0;
+  begun = (ap (λ o. begun o l k.entries) opening ∙ it.begun h.opening) i;
 }
 
 -- and so is the link
 pub same_link : {w v : LinkWords} (x : KeptLink) → v.facts x.number ≡ w.facts x.number → v.waiting x.number ≡ w.waiting x.number → IsLinkOf w x → IsLinkOf v x
-same_link x facts waits it = record { state = subst (λ f. IsState f x.state) (sym facts) it.state; frames = it.frames ∙ sym waits; idle = it.idle }
+same_link x facts waits it = record {
+  state = subst (λ f. IsState f x.state) (sym facts) it.state;
+  begun = it.begun ∙ sym (ap (λ (f : LinkFacts). f.begun) facts);
+  frames = it.frames ∙ sym waits;
+  idle = it.idle;
+}
 
 -- ---- all links
 

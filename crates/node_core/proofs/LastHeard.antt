@@ -18,7 +18,7 @@ use Rattle.node_core.proofs.HeldLink.{IsHeld, held_number, held_seen, held_state
 use Rattle.node_core.proofs.CameUp.{ComesUp, answered_up, comes, visible_now, but_replaced, came_up_moves, older_present}
 use Rattle.policy_audit.proofs.HeardNow.{proved_heard}
 use Rattle.policy_audit.proofs.RowsAfter.{up_rows}
-use Rattle.node_core.proofs.MovedOn.{moved_follow}
+use Rattle.node_core.proofs.MovedOn.{moved_follow, still_unbegun}
 use Rattle.node_core.proofs.Partings.{partings_change}
 use Rattle.node_core.proofs.ScopesCutOff.{AreCutOff, cut_off_follow}
 use Rattle.node_core.proofs.FrameRules.{last_rules}
@@ -100,6 +100,7 @@ module _ (h : History) (seat j : ℕ) (body : List ℕ) (up : Linked) (frames : 
             room (get_or parts.links p d))))))
             (moved_follow h k t.sound.played j (LinkState.Up up)
             (narrow_frames frames ++ discovers h j) (present_link up.peer h.entries)
+            (still_unbegun h t.sound.played e j body refl c.unwhole)
             (came_up_moves h t.sound.played j body up frames c e up_answered refl refl) parts.links
             t.links p d less there room))
 

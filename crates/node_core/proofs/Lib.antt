@@ -30,9 +30,11 @@ pub mod CameUp
 pub mod LastHeard
 -- messages
 pub mod MessagePlaces
+pub mod PeerRows
 pub mod MessageKept
 pub mod MessageRefused
 pub mod MessageScopes
+pub mod MessageParts
 pub mod MessageRoom
 pub mod MessageSlow
 -- scopes

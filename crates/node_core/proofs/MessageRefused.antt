@@ -1,18 +1,27 @@
 -- The rules that a message breaks, by what a node keeps of its link and of its scope.
 use Rattle.node_core.proofs.Words.{lt-leb, All, Bool, List, None, Some, ap, arith, cond, false, length, nat_le, not, refl, subst, sym, true, ℕ, [], ◌&&◌, ◌+◌}
 use Rattle.node_core.proofs.Words.{◌<◌, ◌==◌, ◌||◌, ◌∙◌, ◌≡◌, ◌≤◌, filter, flat_map, list_all, option_map_or, le-leb, same_decides, same_sym, is_empty}
-use Rattle.node_core.proofs.Words.{IsPidListing, same, Pid, Row, Message, all_hold, no_value, unbroken, flip, always, checks, first_broken}
-use Rattle.node_core.proofs.Words.{old_checks, heard, read_message, History, IsSound, is_open}
+use Rattle.node_core.proofs.Words.{IsPidListing, same, Pid, Row, all_hold, no_value, unbroken, flip, always, checks, first_broken}
+use Rattle.node_core.proofs.Words.{heard, History, is_open, Message2, PartKind, begun, frame_taken}
+use Rattle.node_core.proofs.Words.{message_checks, peer_limit, so_far, link_version, takes_parts}
 use Rattle.node_core.proofs.Words.{is_up, listed, refusal_owes, is_running, AwaitMessage, awaits}
 use Rattle.node_core.proofs.Words.{is_whole, peer_of, Rule, IsCalmFault, refuses_calmly, KeptLink, up_peer, IsRunningOf, is_number, scope_words, IsGroupListing}
 use Rattle.node_core.proofs.Words.{node_total, max_rows, are_counted, rows_of, is_from, members, groups, peer_rows, CoreFault, Running, is_shown, are_of_peer}
-use Rattle.node_core.proofs.Words.{and_parts, scope_in, early_checks, IsAddRefusal, IsTakeRefusal, Event, IsBrief, get_or}
+use Rattle.node_core.proofs.Words.{and_parts, scope_in, early_checks, Event, get_or, ◌++◌, ◌∷◌, lie}
+use Rattle.node_core.proofs.Words.{says_in, message_taken, row_limit, Check, IsRowFault, Option}
+use Rattle.node_core.proofs.Words.{table_refusal, Table, rows_so_far, rows_before, Begun, Entry}
+use Rattle.node_core.proofs.Words.{IsPlayed, begun_with, begun_after}
 use Rattle.std.proofs.lemmas.List.Folds.{list_all_at}
 use Rattle.scope_core.proofs.Members.{length-members}
+use Rattle.std.proofs.lemmas.List.Folds.{list_all-append}
+use Rattle.link_frames.specs.Parts.{is_next}
 use Rattle.policy_audit.specs.Sides.{is_visible}
+use Rattle.policy_audit.specs.Checks.{has_row_room, are_from, are_listed, can_be_told, hears_in}
+use Rattle.policy_audit.specs.Checks.{is_in_order, unless}
+use Rattle.policy_audit.proofs.Begun.{are_peers, kept_peers}
+use Rattle.policy_audit.specs.Hearing.{rows_kept}
 use Rattle.policy_audit.proofs.Onward.{whole_is_message}
-use Rattle.link_frames.specs.Spelling.{IsMessage}
-use Rattle.node_core.specs.Messages.{refusal}
+use Rattle.node_core.specs.Messages.{refusal, row_refusal}
 use Rattle.node_core.proofs.Found.{some_is}
 use Rattle.node_core.proofs.Scopes.{counts_listed, members_listing, groups_listing}
 use Rattle.node_core.proofs.MessagePlaces.{IsUpHere}
@@ -20,40 +29,79 @@ use Rattle.node_core.proofs.MessageKept.{message_rules}
 
 -- ---- checks
 
+-- what breaks the first checks, breaks all of them
+earlier : (cs more : List Check) (r : Rule) → first_broken cs ≡ Some r
+    → first_broken (cs ++ more) ≡ Some r
+earlier [] more r q = no_value (sym q)
+earlier (c ∷ cs) more r q = by (earlier cs more r) c.broken refl
+  where
+    by : (first_broken cs ≡ Some r → first_broken (cs ++ more) ≡ Some r) → (x : Bool)
+        → c.broken ≡ x → first_broken ((c ∷ cs) ++ more) ≡ Some r
+    by others true is =
+        ap (λ x. cond x (Some c.rule) (first_broken (cs ++ more))) is
+        ∙ sym (ap (λ x. cond x (Some c.rule) (first_broken cs)) is) ∙ q
+    by others false is =
+        ap (λ x. cond x (Some c.rule) (first_broken (cs ++ more))) is
+        ∙ others (sym (ap (λ x. cond x (Some c.rule) (first_broken cs)) is) ∙ q)
+
 -- what a message breaks early, it breaks first
-pub early_broken : (h : History) (l : ℕ) (m : Message) (r : Rule)
-    → first_broken (early_checks h l m) ≡ Some r → first_broken (old_checks h l m) ≡ Some r
-early_broken h l (Message.Discover s) r q = q
-early_broken h l m r q = grind arith
+pub early_broken : (h : History) (l : ℕ) (m : Message2) (r : Rule)
+    → first_broken (early_checks h l m) ≡ Some r → first_broken (message_checks h l m) ≡ Some r
+early_broken h l (Message2.Discover s) r q =
+    earlier (early_checks h l (Message2.Discover s)) (can_be_told h l s ∷ []) r q
+early_broken h l (Message2.Part PartKind.Sync s number last rows) r q =
+    earlier (early_checks h l (Message2.Part PartKind.Sync s number last rows))
+    (has_row_room h l (length (so_far h l PartKind.Sync s number rows)) ∷ []) r q
+early_broken h l (Message2.Part PartKind.Join s number last rows) r q =
+    earlier (early_checks h l (Message2.Part PartKind.Join s number last rows))
+    (has_row_room h l (peer_rows h l s + length (so_far h l PartKind.Join s number rows)) ∷ []) r q
+early_broken h l (Message2.Part PartKind.Leave s number last rows) r q =
+    earlier (early_checks h l (Message2.Part PartKind.Leave s number last rows))
+    (are_listed h s (so_far h l PartKind.Leave s number rows) ∷ []) r q
+early_broken h l (Message2.Down s) r q = q
 
 -- a frame that is a message breaks what the message does
-pub says_broken : (h : History) → IsSound h → (seat l : ℕ) (body : List ℕ) (m : Message) (r : Rule)
-    → is_up l h.entries ≡ true → awaits l h.entries ≡ AwaitMessage → read_message body ≡ Some m
-    → first_broken (old_checks h l m) ≡ Some r
+pub says_broken : (h : History) (seat l : ℕ) (body : List ℕ) (m : Message2) (r : Rule)
+    → is_up l h.entries ≡ true → awaits l h.entries ≡ AwaitMessage
+    → frame_taken h.opening l h.entries body ≡ Some m
+    → first_broken (message_checks h l m) ≡ Some r
     → first_broken (checks h seat (Event.Frame l body)) ≡ Some r
-says_broken h sound seat l body m r up awaited says q =
-    message_rules h sound seat l body up awaited
-    ∙ ap (λ o. first_broken (option_map_or (old_checks h l) o (always Rule.BadFrame))) says ∙ q
+says_broken h seat l body m r up awaited says q =
+    message_rules h seat l body up awaited
+    ∙ ap (λ o. first_broken (option_map_or (message_checks h l) o (always Rule.BadFrame))) says ∙ q
 
 -- the link is not visible
-pub hidden_first : (h : History) (l : ℕ) (m : Message) → is_visible h l ≡ false → first_broken (early_checks h l m) ≡ Some Rule.HiddenLink
-hidden_first h l (Message.Discover s) q = rw q refl
-hidden_first h l m q = rw q refl
+pub hidden_first : (h : History) (l : ℕ) (m : Message2) → is_visible h l ≡ false
+    → first_broken (early_checks h l m) ≡ Some Rule.HiddenLink
+hidden_first h l (Message2.Discover s) q = rw q refl
+hidden_first h l (Message2.Part kind s number last rows) q = rw q refl
+hidden_first h l (Message2.Down s) q = rw q refl
 
 -- or the scope doesn't run
-pub stopped_first : (h : History) (l : ℕ) (m : Message) → is_visible h l ≡ true → is_running h (scope_in m) ≡ false → first_broken (early_checks h l m) ≡ Some Rule.NoScope
-stopped_first h l (Message.Discover s) v q = rw (v, q) refl
-stopped_first h l m v q = rw (v, q) refl
+pub stopped_first : (h : History) (l : ℕ) (m : Message2) → is_visible h l ≡ true
+    → is_running h (scope_in m) ≡ false → first_broken (early_checks h l m) ≡ Some Rule.NoScope
+stopped_first h l (Message2.Discover s) v q = rw (v, q) refl
+stopped_first h l (Message2.Part kind s number last rows) v q = rw (v, q) refl
+stopped_first h l (Message2.Down s) v q = rw (v, q) refl
 
 -- and each row is of its link's peer
-pub rows_from : (h : History) (l : ℕ) (s : List ℕ) (rows : List Row) → first_broken (early_checks h l (Message.Sync s rows)) ≡ None → list_all (λ r. is_from l h.entries r.pid) rows ≡ true
-rows_from h l s rows q = unbroken (list_all (λ r. is_from l h.entries r.pid) rows) (all_hold (early_checks h l (Message.Sync s rows)) q).1.1.0
+pub rows_from : (h : History) (l : ℕ) (kind : PartKind) (s : List ℕ) (number : ℕ) (last : Bool)
+    (rows : List Row)
+    → first_broken (early_checks h l (Message2.Part kind s number last rows)) ≡ None
+    → list_all (λ r. is_from l h.entries r.pid) rows ≡ true
+rows_from h l PartKind.Sync s number last rows q =
+    unbroken (list_all (λ r. is_from l h.entries r.pid) rows)
+    (all_hold (early_checks h l (Message2.Part PartKind.Sync s number last rows)) q).1.1.1.0
+rows_from h l PartKind.Join s number last rows q =
+    unbroken (list_all (λ r. is_from l h.entries r.pid) rows)
+    (all_hold (early_checks h l (Message2.Part PartKind.Join s number last rows)) q).1.1.1.1.0
+rows_from h l PartKind.Leave s number last rows q =
+    unbroken (list_all (λ r. is_from l h.entries r.pid) rows)
+    (all_hold (early_checks h l (Message2.Part PartKind.Leave s number last rows)) q).1.1.1.1.0
 
-pub joined_from : (h : History) (l : ℕ) (s : List ℕ) (rows : List Row) → first_broken (early_checks h l (Message.Join s rows)) ≡ None → list_all (λ r. is_from l h.entries r.pid) rows ≡ true
-joined_from h l s rows q = unbroken (list_all (λ r. is_from l h.entries r.pid) rows) (all_hold (early_checks h l (Message.Join s rows)) q).1.1.1.0
-
-pub left_from : (h : History) (l : ℕ) (s : List ℕ) (rows : List Row) → first_broken (early_checks h l (Message.Leave s rows)) ≡ None → list_all (λ r. is_from l h.entries r.pid) rows ≡ true
-left_from h l s rows q = unbroken (list_all (λ r. is_from l h.entries r.pid) rows) (all_hold (early_checks h l (Message.Leave s rows)) q).1.1.1.0
+turned : {A : Type 0} (b : Bool) (x y : A) → cond (not b) x y ≡ cond b y x
+turned true x y = refl
+turned false x y = refl
 
 module _ {h : History} {l : ℕ} {x : KeptLink} (here : IsUpHere h l x) where
   -- whether the link is visible
@@ -71,12 +119,62 @@ module _ {h : History} {l : ℕ} {x : KeptLink} (here : IsUpHere h l x) where
   pub all_of_peer : (rows : List Row) → list_all (λ r. is_from l h.entries r.pid) rows ≡ true → All (λ r. r.pid.node ≡ here.far.peer) rows
   all_of_peer rows q k d within = grind (arith, list_all_at (λ r. is_from l h.entries r.pid) rows k d, from_is (get_or rows k d).pid, same_decides (get_or rows k d).pid.node here.far.peer)
 
+  -- what is kept of its message
+  pub begun_is : x.begun ≡ begun h.opening l h.entries
+  begun_is = here.link.begun ∙ ap (λ n. begun h.opening n h.entries) here.number
+
+  -- which message a body says on it
+  pub taken_is : (body : List ℕ)
+      → says_in (takes_parts x.state) body ≡ frame_taken h.opening l h.entries body
+  taken_is body =
+      ap (λ s. says_in (takes_parts s) body) here.is
+      ∙ ap (λ v. message_taken v body) here.introduced.said.1.version_is
+
+  -- how many rows its peer may have
+  pub limit_is : row_limit x.state ≡ peer_limit h l
+  limit_is =
+      ap row_limit here.is
+      ∙ ap (λ v. cond (v == 2) 65536 max_rows) here.introduced.said.1.version_is
+
+  next_is : (kind : PartKind) (s : List ℕ) (number : ℕ)
+      → is_next x.begun kind s number ≡ is_next (begun h.opening l h.entries) kind s number
+  next_is kind s number = ap (λ b. is_next b kind s number) begun_is
+
+  -- the first rule that a part breaks, of its order and of its rows
+  rows_refused : (kind : PartKind) (s : List ℕ) (number : ℕ) (rows : List Row)
+      → first_broken (is_in_order h l kind s number ∷ are_from h l rows ∷ [])
+      ≡ row_refusal x kind s number rows
+  rows_refused kind s number rows =
+      let own = turned (list_all (λ r. is_from l h.entries r.pid) rows) (Some Rule.ForeignPid) None
+      ∙ ap (λ b. cond b None (Some Rule.ForeignPid)) (sym (of_peer_is rows)) in
+      turned (is_next (begun h.opening l h.entries) kind s number) (Some Rule.PartOrder)
+      (first_broken (are_from h l rows ∷ []))
+      ∙ (λ i. cond (sym (next_is kind s number) i) (own i) (Some Rule.PartOrder))
+
+  -- and of further rows
+  further_refused : (hs : List ℕ) (kind : PartKind) (s : List ℕ) (number : ℕ) (rows : List Row)
+      → is_number l hs ≡ heard h.opening l s h.entries
+      → first_broken (hears_in h l s ∷ is_in_order h l kind s number ∷ are_from h l rows ∷ [])
+      ≡ cond (is_number x.number hs) (row_refusal x kind s number rows) (Some Rule.NotHeard)
+  further_refused hs kind s number rows hears =
+      turned (heard h.opening l s h.entries) (Some Rule.NotHeard)
+      (first_broken (is_in_order h l kind s number ∷ are_from h l rows ∷ []))
+      ∙ (λ i. cond (sym hears i) (rows_refused kind s number rows i) (Some Rule.NotHeard))
+      ∙ ap (λ n. cond (is_number n hs) (row_refusal x kind s number rows) (Some Rule.NotHeard))
+      (sym here.number)
+
   -- the first rule that is broken, but for those that the table tells
-  pub refusal_is : (hs : List ℕ) (m : Message) → is_visible h l ≡ true
+  pub refusal_is : (hs : List ℕ) (m : Message2) → is_visible h l ≡ true
       → is_running h (scope_in m) ≡ true → is_number l hs ≡ heard h.opening l (scope_in m) h.entries
       → first_broken (early_checks h l m) ≡ refusal x hs m
-  refusal_is hs (Message.Discover s) v q hears = rw (v, q) refl
-  refusal_is hs m v q hears = grind (arith, here.number, of_peer_is)
+  refusal_is hs (Message2.Discover s) v q hears = rw (v, q) refl
+  refusal_is hs (Message2.Part PartKind.Sync s number last rows) v q hears =
+      rw (v, q) (rows_refused PartKind.Sync s number rows)
+  refusal_is hs (Message2.Part PartKind.Join s number last rows) v q hears =
+      rw (v, q) (further_refused hs PartKind.Join s number rows hears)
+  refusal_is hs (Message2.Part PartKind.Leave s number last rows) v q hears =
+      rw (v, q) (further_refused hs PartKind.Leave s number rows hears)
+  refusal_is hs (Message2.Down s) v q hears = rw (v, q) refl
 
 -- ---- refusals end no link
 
@@ -84,12 +182,92 @@ module _ (h : History) (l : ℕ) (body : List ℕ) (up : is_up l h.entries ≡ t
   pub calm : (r : Rule) → refusal_owes r ≡ [] → refuses_calmly h (Event.Frame l body) r ≡ true
   calm r nothing = λ i. (not ((and_parts (is_open l h.entries) (is_whole l h.entries) up).0 i) || (and_parts (is_open l h.entries) (is_whole l h.entries) up).1 i) && is_empty (nothing i)
 
+row_silent : (a b : Bool) (r : Rule)
+    → cond a (cond b None (Some Rule.ForeignPid)) (Some Rule.PartOrder) ≡ Some r
+    → refusal_owes r ≡ []
+row_silent true true r q = no_value (sym q)
+row_silent true false r q = ap refusal_owes (sym (some_is q))
+row_silent false b r q = ap refusal_owes (sym (some_is q))
+
+further_silent : (c a b : Bool) (r : Rule)
+    → cond c (cond a (cond b None (Some Rule.ForeignPid)) (Some Rule.PartOrder))
+    (Some Rule.NotHeard) ≡ Some r
+    → refusal_owes r ≡ []
+further_silent true a b r q = row_silent a b r q
+further_silent false a b r q = ap refusal_owes (sym (some_is q))
+
 -- what a message breaks early is owed nothing
-pub refusal_silent : (x : KeptLink) (hs : List ℕ) (m : Message) (r : Rule) → refusal x hs m ≡ Some r → refusal_owes r ≡ []
-refusal_silent x hs (Message.Discover s) r q = grind arith
-refusal_silent x hs m r q = grind arith
+pub refusal_silent : (x : KeptLink) (hs : List ℕ) (m : Message2) (r : Rule) → refusal x hs m ≡ Some r → refusal_owes r ≡ []
+refusal_silent x hs (Message2.Discover s) r q = no_value (sym q)
+refusal_silent x hs (Message2.Part PartKind.Sync s number last rows) r q =
+    row_silent (is_next x.begun PartKind.Sync s number) (are_of_peer x.state rows) r q
+refusal_silent x hs (Message2.Part PartKind.Join s number last rows) r q =
+    further_silent (is_number x.number hs) (is_next x.begun PartKind.Join s number)
+    (are_of_peer x.state rows) r q
+refusal_silent x hs (Message2.Part PartKind.Leave s number last rows) r q =
+    further_silent (is_number x.number hs) (is_next x.begun PartKind.Leave s number)
+    (are_of_peer x.state rows) r q
+refusal_silent x hs (Message2.Down s) r q = no_value (sym q)
+
+-- ---- all rows of a message so far are of the peer
+
+before_from : (l : ℕ) (es : List Entry) (b : Option Begun) (kind : PartKind) (s : List ℕ)
+    (number : ℕ) → are_peers l es (rows_kept b) ≡ true
+    → are_peers l es (rows_before b kind s number) ≡ true
+before_from l es None kind s number q = grind arith
+before_from l es (Some b) kind s number q = grind arith
+
+pub all_from : (h : History) → IsPlayed h → (l : ℕ) (kind : PartKind) (s : List ℕ) (number : ℕ)
+    (last : Bool) (rows : List Row)
+    → first_broken (early_checks h l (Message2.Part kind s number last rows)) ≡ None
+    → list_all (λ r. is_from l h.entries r.pid) (so_far h l kind s number rows) ≡ true
+all_from h legal l kind s number last rows q =
+    let b = begun h.opening l h.entries in
+    let kept = before_from l h.entries b kind s number (kept_peers h.opening h.entries legal l) in
+    let own = rows_from h l kind s number last rows q in
+    list_all-append (λ r. is_from l h.entries r.pid) (rows_before b kind s number) rows
+    ∙ (λ i. kept i && own i)
+
+module _ {h : History} {l : ℕ} {x : KeptLink} (here : IsUpHere h l x) (legal : IsPlayed h)
+    (kind : PartKind) (s : List ℕ) (number : ℕ) (last : Bool) (rows : List Row)
+    (early : first_broken (early_checks h l (Message2.Part kind s number last rows)) ≡ None) where
+  pub its_rows : All (λ r. r.pid.node ≡ here.far.peer) rows
+  its_rows = all_of_peer here rows (rows_from h l kind s number last rows early)
+
+  -- so are all of the message that the link keeps with the part
+  pub gathered_rows : {a : KeptLink} {n : List ℕ}
+      → a ≡ begun_with x (begun_after x.begun (Message2.Part kind s number false rows))
+      → Some n ≡ up_peer a.state → All (λ r. r.pid.node ≡ n) (rows_kept a.begun)
+  gathered_rows {a} {n} is far =
+      let one : n ≡ here.far.peer =
+      some_is (far ∙ ap (λ (z : KeptLink). up_peer z.state) is ∙ ap up_peer here.is) in
+      let all = all_of_peer here (rows_so_far x.begun kind s number rows)
+      (ap (λ b. list_all (λ r. is_from l h.entries r.pid) (rows_so_far b kind s number rows))
+      (begun_is here)
+      ∙ all_from h legal l kind s number last rows early) in
+      subst (λ m. All (λ r. r.pid.node ≡ m) (rows_kept a.begun)) (sym one)
+      (subst (λ rs. All (λ r. r.pid.node ≡ here.far.peer) rs)
+      (sym (ap (λ (z : KeptLink). rows_kept z.begun) is)) all)
 
 -- ---- what the table tells
+
+-- behind checks that hold the next decides
+behind : (cs : List Check) (c : Check) → first_broken cs ≡ None
+    → first_broken (cs ++ c ∷ []) ≡ cond c.broken (Some c.rule) None
+behind [] c q = refl
+behind (b ∷ cs) c q = by (behind cs c) b.broken refl
+  where
+    by : (first_broken cs ≡ None → first_broken (cs ++ c ∷ []) ≡ cond c.broken (Some c.rule) None)
+        → (x : Bool) → b.broken ≡ x
+        → first_broken ((b ∷ cs) ++ c ∷ []) ≡ cond c.broken (Some c.rule) None
+    by others true is = no_value (sym (ap (λ x. cond x (Some b.rule) (first_broken cs)) is) ∙ q)
+    by others false is =
+        ap (λ x. cond x (Some b.rule) (first_broken (cs ++ c ∷ []))) is
+        ∙ others (sym (ap (λ x. cond x (Some b.rule) (first_broken cs)) is) ∙ q)
+
+pub behind_early : (early : List Check) (b : Bool) (r : Rule) → first_broken early ≡ None
+    → first_broken (early ++ unless b r ∷ []) ≡ cond b None (Some r)
+behind_early early b r q = behind early (unless b r) q ∙ turned b (Some r) None
 
 module _ (h : History) (l : ℕ) (s : List ℕ) (r : Running) (named : r.scope ≡ s) (t : IsRunningOf (scope_words h) r) where
   pub total_is : (n : List ℕ) → peer_of l h.entries ≡ Some n → peer_rows h l s ≡ node_total r.table n
@@ -100,55 +278,55 @@ module _ (h : History) (l : ℕ) (s : List ℕ) (r : Running) (named : r.scope �
   pub counted_is : (rows : List Row) → are_counted r.table rows ≡ list_all (λ w. nat_le (rows_of w.group w.pid rows) (listed h s w.group w.pid)) rows
   counted_is rows = λ i. list_all (λ w. nat_le (rows_of w.group w.pid rows) (counts_listed h s r named t i w.group w.pid)) rows
 
-  -- a Join that makes too many rows or not, and a Leave of rows that are listed or not
-  join_full : (rows : List Row) (n : List ℕ) → peer_of l h.entries ≡ Some n
-      → max_rows < node_total r.table n + length rows
-      → first_broken (early_checks h l (Message.Join s rows)) ≡ None
-      → first_broken (old_checks h l (Message.Join s rows)) ≡ Some Rule.RowsFull
-  join_full rows n of many q = (let is = total_is n of in let out = lt-leb (peer_rows h l s + length rows) max_rows (omega (arith, is, many)) in grind (arith, out))
+  -- a part that breaks no rule early breaks what its rows so far break by the table
+  pub table_is : (n : List ℕ) → peer_of l h.entries ≡ Some n → (kind : PartKind) (number : ℕ)
+      (last : Bool) (rows : List Row)
+      → first_broken (early_checks h l (Message2.Part kind s number last rows)) ≡ None
+      → first_broken (message_checks h l (Message2.Part kind s number last rows))
+      ≡ table_refusal r.table n kind (so_far h l kind s number rows) (peer_limit h l)
+  table_is n of PartKind.Sync number last rows q =
+      behind_early (early_checks h l (Message2.Part PartKind.Sync s number last rows))
+      (nat_le (length (so_far h l PartKind.Sync s number rows)) (peer_limit h l)) Rule.RowsFull q
+  table_is n of PartKind.Join number last rows q =
+      let all = so_far h l PartKind.Join s number rows in
+      behind_early (early_checks h l (Message2.Part PartKind.Join s number last rows))
+      (nat_le (peer_rows h l s + length all) (peer_limit h l)) Rule.RowsFull q
+      ∙ ap (λ m. cond (nat_le (m + length all) (peer_limit h l)) None (Some Rule.RowsFull))
+      (total_is n of)
+  table_is n of PartKind.Leave number last rows q =
+      let all = so_far h l PartKind.Leave s number rows in
+      behind_early (early_checks h l (Message2.Part PartKind.Leave s number last rows))
+      (list_all (λ w. nat_le (rows_of w.group w.pid all) (listed h s w.group w.pid)) all)
+      Rule.NotListed q
+      ∙ ap (λ b. cond b None (Some Rule.NotListed)) (sym (counted_is all))
 
-  pub join_fits : (rows : List Row) (n : List ℕ) → peer_of l h.entries ≡ Some n
-      → node_total r.table n + length rows ≤ max_rows
-      → first_broken (early_checks h l (Message.Join s rows)) ≡ None
-      → first_broken (old_checks h l (Message.Join s rows)) ≡ None
-  join_fits rows n of few q = (let is = total_is n of in let fits = le-leb (peer_rows h l s + length rows) max_rows (omega (arith, is, few)) in grind (arith, fits))
+-- what the table tells is owed nothing
+one_silent : (b : Bool) (x r : Rule) → refusal_owes x ≡ [] → cond b None (Some x) ≡ Some r
+    → refusal_owes r ≡ []
+one_silent true x r nothing q = no_value (sym q)
+one_silent false x r nothing q = ap refusal_owes (sym (some_is q)) ∙ nothing
 
-  leave_rules : (rows : List Row) → first_broken (early_checks h l (Message.Leave s rows)) ≡ None
-      → first_broken (old_checks h l (Message.Leave s rows))
-      ≡ cond (are_counted r.table rows) None (Some Rule.NotListed)
-  leave_rules rows q = grind (arith, counted_is rows)
-
-  pub leave_listed : (rows : List Row) → are_counted r.table rows ≡ true
-      → first_broken (early_checks h l (Message.Leave s rows)) ≡ None
-      → first_broken (old_checks h l (Message.Leave s rows)) ≡ None
-  leave_listed rows all q = leave_rules rows q ∙ ap (λ b. cond b None (Some Rule.NotListed)) all
+pub table_silent : (t : Table) (n : List ℕ) (kind : PartKind) (rows : List Row) (limit : ℕ)
+    (r : Rule) → table_refusal t n kind rows limit ≡ Some r → refusal_owes r ≡ []
+table_silent t n PartKind.Sync rows limit r q =
+    one_silent (nat_le (length rows) limit) Rule.RowsFull r refl q
+table_silent t n PartKind.Join rows limit r q =
+    one_silent (nat_le (node_total t n + length rows) limit) Rule.RowsFull r refl q
+table_silent t n PartKind.Leave rows limit r q =
+    one_silent (are_counted t rows) Rule.NotListed r refl q
 
 -- what the table refuses is the first rule that is broken, and ends no link
-module _ (h : History) (sound : IsSound h) (seat l : ℕ) (body : List ℕ)
-    (up : is_up l h.entries ≡ true) (awaited : awaits l h.entries ≡ AwaitMessage) (s : List ℕ)
-    (r : Running) (named : r.scope ≡ s) (t : IsRunningOf (scope_words h) r) (rows : List Row) where
-  pub add_calm : (n : List ℕ) → peer_of l h.entries ≡ Some n
-      → read_message body ≡ Some (Message.Join s rows)
-      → first_broken (early_checks h l (Message.Join s rows)) ≡ None → (f : CoreFault)
-      → IsAddRefusal r.table n rows f → IsCalmFault h seat (Event.Frame l body) f
-  add_calm n of says early (CoreFault.Refused x) q = (
-    says_broken h sound seat l body (Message.Join s rows) x up awaited says
-        (join_full h l s r named t rows n of q.1 early ∙ ap Some (sym q.0)),
-    calm h l body up x
-        (ap refusal_owes q.0),
-  )
-  add_calm n of says early CoreFault.OutOfMemory q = tt
-
-  pub take_calm : read_message body ≡ Some (Message.Leave s rows)
-      → first_broken (early_checks h l (Message.Leave s rows)) ≡ None → (f : CoreFault)
-      → IsTakeRefusal r.table rows f → IsCalmFault h seat (Event.Frame l body) f
-  take_calm says early (CoreFault.Refused x) q = (
-    says_broken h sound seat l body (Message.Leave s rows) x up awaited says
-        (leave_rules h l s r named t rows early ∙ ap (λ b. cond b None (Some Rule.NotListed)) q.1
-        ∙ ap Some (sym q.0)),
-    calm h l body up x (ap refusal_owes q.0),
-  )
-  take_calm says early CoreFault.OutOfMemory q = tt
+pub rows_calm : (h : History) (seat l : ℕ) (body : List ℕ) → is_up l h.entries ≡ true
+    → awaits l h.entries ≡ AwaitMessage → (m : Message2)
+    → frame_taken h.opening l h.entries body ≡ Some m → (broken : Option Rule)
+    → first_broken (message_checks h l m) ≡ broken
+    → ((r : Rule) → broken ≡ Some r → refusal_owes r ≡ []) → (f : CoreFault)
+    → IsRowFault broken f → IsCalmFault h seat (Event.Frame l body) f
+rows_calm h seat l body up awaited m says broken q silent (CoreFault.Refused r) is = (
+  says_broken h seat l body m r up awaited says (q ∙ is),
+  calm h l body up r (silent r is),
+)
+rows_calm h seat l body up awaited m says broken q silent CoreFault.OutOfMemory is = tt
 
 -- ---- the peer of a link that is up
 
@@ -163,15 +341,9 @@ pub up_awaits : (h : History) (l : ℕ) → is_up l h.entries ≡ true → await
 up_awaits h l up = (whole_is_message l h.entries (and_parts (is_open l h.entries) (is_whole l h.entries) up).0).0 (and_parts (is_open l h.entries) (is_whole l h.entries) up).1
 
 -- a body that is no message
-pub frame_unread : (h : History) → IsSound h → (seat l : ℕ) (body : List ℕ)
-    → is_up l h.entries ≡ true → read_message body ≡ None
+pub frame_unread : (h : History) (seat l : ℕ) (body : List ℕ) → is_up l h.entries ≡ true
+    → frame_taken h.opening l h.entries body ≡ None
     → first_broken (checks h seat (Event.Frame l body)) ≡ Some Rule.BadFrame
-frame_unread h sound seat l body up none =
-    message_rules h sound seat l body up (up_awaits h l up)
-    ∙ ap (λ o. first_broken (option_map_or (old_checks h l) o (always Rule.BadFrame))) none
-
--- what a body spells brings no more rows than a scope has of one node
-pub is_brief : (m : Message) → IsMessage m → IsBrief max_rows m
-is_brief (Message.Discover s) it = tt
-is_brief (Message.Down s) it = tt
-is_brief m it = it.1.count
+frame_unread h seat l body up none =
+    message_rules h seat l body up (up_awaits h l up)
+    ∙ ap (λ o. first_broken (option_map_or (message_checks h l) o (always Rule.BadFrame))) none

@@ -2,10 +2,14 @@
 use Rattle.node_core.proofs.Words.{Follows, Parts, same, early_checks, List, None, Some, ap, cond}
 use Rattle.node_core.proofs.Words.{false, get_or, refl, set, subst, sym, true}
 use Rattle.node_core.proofs.Words.{ℕ, [], ◌++◌, ◌∙◌, ◌∷◌, ◌≡◌, IsRowListing, count_of, kept_climbs}
-use Rattle.node_core.proofs.Words.{running_rises, first_broken, local_rows, read_message}
+use Rattle.node_core.proofs.Words.{running_rises, first_broken, local_rows}
+use Rattle.node_core.proofs.Words.{begun_with, can_be_told, checks, frame_taken, link_version}
+use Rattle.node_core.proofs.Words.{message_checks, message_owes, Message2, takes_parts, nat_le}
+use Rattle.node_core.proofs.Words.{length, max_rows, said_in, Rule, ◌==◌, ◌||◌, ◌≤◌, Bool}
+use Rattle.node_core.proofs.Words.{leb-true, local_total, get_or_default}
 use Rattle.node_core.proofs.Words.{History, is_up, OutFrame, wide, is_full, just, Accepted}
 use Rattle.node_core.proofs.Words.{IsLinkOf, LinksFollow, link_words, KeptLink, with_frames}
-use Rattle.node_core.proofs.Words.{with_room, ScopesFollow, scope_words, old_owes, Running}
+use Rattle.node_core.proofs.Words.{with_room, ScopesFollow, scope_words, Running}
 use Rattle.node_core.proofs.Words.{with_number, HasBecome, AnswersDiscover, Message, Event, Reply}
 use Rattle.node_core.proofs.Words.{IsAlone}
 use Rattle.policy_audit.proofs.OwnRows.{sync_listing}
@@ -13,8 +17,10 @@ use Rattle.node_core.proofs.Entered.{made}
 use Rattle.node_core.proofs.KeptOn.{one_follows, place_is}
 use Rattle.node_core.proofs.OneScope.{one_scope_follows}
 use Rattle.node_core.proofs.Scopes.{own_counts}
-use Rattle.node_core.proofs.MessagePlaces.{IsUpHere, up_here, scope_here, same_there}
-use Rattle.node_core.proofs.MessageKept.{owed_links}
+use Rattle.node_core.proofs.MessagePlaces.{IsUpHere, IsScopeHere, up_here, scope_here, same_there}
+use Rattle.node_core.proofs.MessageKept.{its_links}
+use Rattle.node_core.proofs.MessageRefused.{behind_early, says_broken}
+use Rattle.node_core.proofs.RowsGone.{rows_total}
 use Rattle.node_core.proofs.MessageScopes.{counted, heard_there, told_there, becomes_running, discovered_next, discovered_follows}
 use Rattle.node_core.proofs.Words.{link_place, scope_place}
 
@@ -27,9 +33,21 @@ roomed_links {h} {parts} t l up {p} {x} {a} q is same =
     let here = up_here t l up q is in
     let place = place_is parts.links l p x q in
     one_follows (link_words h) (link_words h) a
-    (subst (IsLinkOf (link_words h)) (sym same) (record { state = here.link.state; frames = here.link.frames; idle = here.link.idle }))
+    (subst (IsLinkOf (link_words h)) (sym same) (record {
+      state = here.link.state;
+      begun = here.link.begun;
+      frames = here.link.frames;
+      idle = here.link.idle;
+    }))
     (λ z apart u. u) parts.links p x t.links (kept_climbs h t.sound.played) refl place.0
     (ap (λ z. z.number) same ∙ here.number ∙ sym place.1)
+
+-- nor has anything at all
+pub same_links : {h : History} {parts : Parts} → Follows h parts → (l : ℕ) → is_up l h.entries
+    ≡ true → {p : ℕ} {x a : KeptLink} → link_place l parts.links ≡ Some p
+    → x ≡ get_or parts.links p x → a ≡ x → LinksFollow (link_words h) (set parts.links p a)
+same_links t l up {p} {x} {a} q is same =
+    roomed_links t l up q is (same ∙ ap (λ (z : KeptLink). with_room x z.room) (sym same))
 
 pub same_scope : {h : History} {parts : Parts} → Follows h parts
     → (s : List ℕ) {p : ℕ} {r y : Running} → scope_place s parts.scopes ≡ Some p → r
@@ -42,46 +60,113 @@ same_scope {h} {parts} t s {p} {r} {y} q is b =
     (counted h s r there.named there.running) (heard_there h s r there.named there.running) (told_there h s r there.named there.running))
     (b.scope ∙ there.named) (λ z apart u. u) parts.scopes p r t.scopes (running_rises h) refl there.within (ap (λ z. z.scope) (sym there.is) ∙ there.named)
 
+pub still_scope : {h : History} {parts : Parts} → Follows h parts → (s : List ℕ) {p : ℕ}
+    {r : Running} → scope_place s parts.scopes ≡ Some p → r ≡ get_or parts.scopes p r
+    → ScopesFollow (scope_words h) (set parts.scopes p r)
+still_scope t s q is =
+    same_scope t s q is (record {
+      scope = refl;
+      rows = record { own = refl; counts = λ g x. refl };
+      heard = refl;
+      told = refl;
+    })
+
 pub follows_with : {h : History} {parts : Parts} → Follows h parts → {rs : List Running} {kept : List KeptLink} → ScopesFollow (scope_words h) rs → LinksFollow (link_words h) kept
     → Follows h (record parts { scopes = rs; links = kept })
 follows_with t scopes links = record { sound = t.sound; admission = t.admission; processes = t.processes; scopes = scopes; links = links; monitors = t.monitors }
 
 -- ---- the answer to a Discover
 
+-- own rows that can be said are few, or go in parts
+pub few_told : {h : History} {parts : Parts} → Follows h parts → (s : List ℕ) {p : ℕ}
+    {r o : Running} → scope_place s parts.scopes ≡ Some p → r ≡ get_or parts.scopes p r
+    → o ≡ get_or parts.scopes p o → (parted : Bool) → can_be_told r.table parted ≡ true
+    → parted ≡ false → local_total o.table ≤ max_rows
+few_told {h} {parts} t s {p} {r} {o} at r_is o_is parted fits none =
+    leb-true (local_total o.table) max_rows
+    (sym (ap (can_be_told o.table) none)
+    ∙ ap (λ (w : Running). can_be_told w.table parted)
+    (same_there h parts.scopes s p r o (scope_here t s at r_is) o_is)
+    ∙ fits)
+
 module _ {h : History} {parts : Parts} (t : Follows h parts) (seat l : ℕ) (body : List ℕ) (space : is_full h ≡ false) (up : is_up l h.entries ≡ true)
     {pl : ℕ} {x : KeptLink} (placed : link_place l parts.links ≡ Some pl)
     (x_is : x ≡ get_or parts.links pl x)
-    (s : List ℕ) {p : ℕ} {r : Running} (y : Running) (at : scope_place s parts.scopes ≡ Some p)
+    (s : List ℕ) {p : ℕ} {r : Running} (at : scope_place s parts.scopes ≡ Some p)
     (r_is : r ≡ get_or parts.scopes p r)
-    (says : read_message body ≡ Some (Message.Discover s))
-    (early : first_broken (early_checks h l (Message.Discover s)) ≡ None) where
-  here : IsUpHere h l x
-  here = up_here t l up placed x_is
+    (early : first_broken (early_checks h l (Message2.Discover s)) ≡ None) where
+  its_link : IsUpHere h l x
+  its_link = up_here t l up placed x_is
 
-  answer_is : {frames : List OutFrame} → AnswersDiscover r l s frames
-      → frames ≡ old_owes h l (Message.Discover s)
-  answer_is a =
-      let there = scope_here t s at r_is in
-      let rows_are : a.rows ≡ local_rows h s =
-      sync_listing h s a.rows
-      (subst (λ f. IsRowListing f a.rows)
-      (own_counts h s r there.named there.running t.sound.played) a.own) in
-      let heard_is = heard_there h s r there.named there.running l in
-      a.frames_are ∙ (λ i. wide (Message.Sync s (rows_are i)) ∷ cond (heard_is i) [] (wide (Message.Discover s) ∷ []))
+  its_scope : IsScopeHere h parts.scopes s p r
+  its_scope = scope_here t s at r_is
 
-  -- the link has been given room and then the frames
-  pub answered_now : HasBecome r y (count_of r.table) r.heard.items (with_number l r.told.items) → {o : Running} {a z : KeptLink} {frames : List OutFrame} → o ≡ get_or parts.scopes p o → AnswersDiscover o l s frames
-      → a ≡ with_room x a.room → z ≡ with_room (with_frames a frames) z.room
-      → IsAlone h (made h seat (Event.Frame l body) (Accepted Reply.Done) [])
-      × Follows (just h (made h seat (Event.Frame l body) (Accepted Reply.Done) []))
-      (record parts { scopes = set parts.scopes p y; links = set parts.links pl z })
-  answered_now becomes {o} {a} {z} {frames} o_is answers same owed =
-      let is : z ≡ with_room (with_frames x frames) z.room = owed ∙ ap (λ w. with_room (with_frames w frames) z.room) same in
-      let answer = answer_is (subst (λ w. AnswersDiscover w l s frames) (same_there h parts.scopes s p r o (scope_here t s at r_is) o_is) answers) in (
-        discovered_next t seat l body space up placed x_is s y at r_is says early,
-        discovered_follows t seat l body space up placed x_is s y at r_is says early becomes (set parts.links pl z)
-            (owed_links h t.sound seat l body (Message.Discover s) space up here.awaited says early
-            []
-            parts.links t.sound.played t.links pl x z placed here
-            (ap (λ w. w.number) is) (ap (λ w. w.state) is) (ap (λ w. w.prepared) is ∙ here.link.idle) (ap (λ w. w.frames) is ∙ ap (λ fs. x.frames ++ fs) answer)),
-      )
+  -- whether its rules hold: whether all own rows can be said on the link
+  pub asked_is : first_broken (message_checks h l (Message2.Discover s))
+      ≡ cond (can_be_told r.table (takes_parts x.state)) None (Some Rule.RowsFull)
+  asked_is =
+      let version = its_link.introduced.said.1.version_is in
+      let total = rows_total h s r its_scope.named its_scope.running t.sound.played in
+      behind_early (early_checks h l (Message2.Discover s))
+      (link_version h.opening l h.entries == 2 || nat_le (length (local_rows h s)) max_rows)
+      Rule.RowsFull early
+      ∙ (λ i. cond (sym version i == 2 || nat_le (total i) max_rows) None (Some Rule.RowsFull))
+      ∙ ap (λ u. cond (can_be_told r.table (takes_parts u)) None (Some Rule.RowsFull))
+      (sym its_link.is)
+
+  -- they can't
+  pub asked_calm : frame_taken h.opening l h.entries body ≡ Some (Message2.Discover s)
+      → can_be_told r.table (takes_parts x.state) ≡ false
+      → first_broken (checks h seat (Event.Frame l body)) ≡ Some Rule.RowsFull
+  asked_calm says full =
+      says_broken h seat l body (Message2.Discover s) Rule.RowsFull up its_link.awaited says
+      (asked_is ∙ ap (λ b. cond b None (Some Rule.RowsFull)) full)
+
+  module _ (says : frame_taken h.opening l h.entries body ≡ Some (Message2.Discover s))
+      (told : can_be_told r.table (takes_parts x.state) ≡ true) where
+    pub holds : first_broken (message_checks h l (Message2.Discover s)) ≡ None
+    holds = asked_is ∙ ap (λ b. cond b None (Some Rule.RowsFull)) told
+
+    answer_is : {frames : List OutFrame} → AnswersDiscover r (takes_parts x.state) l s frames
+        → frames ≡ message_owes h l (Message2.Discover s)
+    answer_is a =
+        let rows_are : a.rows ≡ local_rows h s =
+        sync_listing h s a.rows
+        (subst (λ f. IsRowListing f a.rows)
+        (own_counts h s r its_scope.named its_scope.running t.sound.played) a.own) in
+        let heard_is = heard_there h s r its_scope.named its_scope.running l in
+        let parted : takes_parts x.state ≡ (link_version h.opening l h.entries == 2) =
+        ap takes_parts its_link.is ∙ ap (λ v. v == 2) its_link.introduced.said.1.version_is in
+        a.frames_are
+        ∙ (λ i. said_in (Message.Sync s (rows_are i)) (parted i)
+        ++ cond (heard_is i) [] (wide (Message.Discover s) ∷ []))
+
+    -- seen again at its place
+    again : {v : KeptLink} → v ≡ get_or parts.links pl v → v ≡ x
+    again {v} v_is =
+        v_is ∙ get_or_default parts.links pl v x (place_is parts.links l pl x placed).0 ∙ sym x_is
+
+    -- the link has been given room and then the frames
+    pub answered_now : {o y : Running} {v a z : KeptLink} {frames : List OutFrame}
+        → o ≡ get_or parts.scopes p o → v ≡ get_or parts.links pl v
+        → HasBecome o y (count_of o.table) o.heard.items (with_number l o.told.items)
+        → AnswersDiscover o (takes_parts x.state) l s frames
+        → a ≡ with_room v a.room → z ≡ with_room (begun_with (with_frames a frames) None) z.room
+        → IsAlone h (made h seat (Event.Frame l body) (Accepted Reply.Done) [])
+        × Follows (just h (made h seat (Event.Frame l body) (Accepted Reply.Done) []))
+        (record parts { scopes = set parts.scopes p y; links = set parts.links pl z })
+    answered_now {o} {y} {v} {a} {z} {frames} o_is v_is became answered same owed =
+        let one = same_there h parts.scopes s p r o its_scope o_is in
+        let becomes = subst (λ w. HasBecome w y (count_of w.table) w.heard.items (with_number l w.told.items)) one became in
+        let answer = answer_is (subst (λ w. AnswersDiscover w (takes_parts x.state) l s frames) one answered) in
+        let is : z ≡ with_room (begun_with (with_frames x frames) None) z.room =
+        owed
+        ∙ ap (λ w. with_room (begun_with (with_frames w frames) None) z.room)
+        (same ∙ ap (λ w. with_room w a.room) (again v_is)) in (
+          discovered_next t seat l body space up placed x_is s y at r_is says holds,
+          discovered_follows t seat l body space up placed x_is s y at r_is says holds becomes (set parts.links pl z)
+              (its_links h seat l body (Message2.Discover s) space up its_link.awaited says holds []
+              parts.links t.sound.played t.links pl x z placed its_link
+              (ap (λ w. w.number) is) (ap (λ w. w.state) is) (ap (λ w. w.begun) is)
+              (ap (λ w. w.prepared) is ∙ its_link.link.idle) (ap (λ w. w.frames) is ∙ ap (λ fs. x.frames ++ fs) answer)),
+        )

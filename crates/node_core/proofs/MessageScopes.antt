@@ -1,12 +1,15 @@
 -- What each accepted message makes of its scope and of its link.
-use Rattle.node_core.proofs.Words.{said_is, said_at}
-use Rattle.node_core.proofs.Words.{Bool, List, arith, old_owes, length, ◌≤◌, early_checks}
+use Rattle.node_core.proofs.Words.{said_at, begun, frame_taken, Message2, PartKind, message_checks}
+use Rattle.node_core.proofs.Words.{message_owes, peer_limit, rows_so_far, completed, append-nil}
+use Rattle.node_core.proofs.Words.{Bool, List, arith, length, ◌≤◌, ◌++◌, early_checks}
 use Rattle.node_core.proofs.Words.{up_peer, node_total, max_rows, are_counted, CoreFault}
-use Rattle.node_core.proofs.Words.{IsAddRefusal, IsTakeRefusal, IsCalmFault, None, Some, ap, cond, false, get_or, nat_eq, not, refl, set, subst, sym, true, ℕ}
+use Rattle.node_core.proofs.Words.{IsCalmFault, None, Some, ap, cond, false, get_or, nat_eq, not, refl, set, subst, sym, true, ℕ}
 use Rattle.node_core.proofs.Words.{[], ◌&&◌, ◌+◌, ◌-◌, ◌==◌, ◌||◌, ◌∙◌, ◌∷◌, ◌≡◌, and-true, eqb-true, same_decides, same_sym, IsDifference, occurrences, same}
 use Rattle.node_core.proofs.Words.{same_row, GroupChange, Pid, Row, count_after_drop, count_of}
-use Rattle.node_core.proofs.Words.{no_change, flip, if_some, first_broken, old_checks, row}
-use Rattle.node_core.proofs.Words.{heard, read_message, told, History, is_up, listed, IsStep}
+use Rattle.node_core.proofs.Words.{no_change, flip, if_some, first_broken, row}
+use Rattle.node_core.proofs.Words.{heard, told, History, is_up, listed, IsStep}
+use Rattle.node_core.proofs.Words.{begun_after, count_with, heard_with, IsRowFault, row_limit}
+use Rattle.node_core.proofs.Words.{table_refusal, Option, option_and_then}
 use Rattle.node_core.proofs.Words.{IsAlone}
 use Rattle.node_core.proofs.Words.{is_full, just, peer_of, Entry, Accepted}
 use Rattle.node_core.proofs.Words.{Follows, Parts, LinksFollow, link_words, KeptLink, IsCutOff, IsRunningOf, is_number, scope_words, count_after_sync}
@@ -15,13 +18,16 @@ use Rattle.node_core.proofs.Words.{Reply}
 use Rattle.node_core.proofs.Words.{link_place, scope_place}
 use Rattle.std.proofs.lemmas.List.Folds.{list_any-append}
 use Rattle.policy_audit.proofs.HeardSaid.{synced_heard, discovered_heard, downed_heard, joined_heard, left_heard}
-use Rattle.policy_audit.proofs.MessageRows.{discovered_rows, synced_rows, added_rows, taken_rows, downed_rows}
+use Rattle.policy_audit.proofs.MessageRows.{discovered_rows, synced_rows, added_rows, taken_rows}
+use Rattle.policy_audit.proofs.MessageRows.{downed_rows, unsaid_rows}
+use Rattle.policy_audit.proofs.HeardNow.{unsaid_heard}
 use Rattle.node_core.proofs.Entered.{made, step_follows}
 use Rattle.node_core.proofs.MessagePlaces.{IsUpHere, IsScopeHere, up_here, scope_here, same_there}
-use Rattle.node_core.proofs.MessageRefused.{peer_is, join_fits, leave_listed, add_calm, take_calm}
+use Rattle.node_core.proofs.MessageRefused.{begun_is, limit_is, peer_is, rows_calm, table_is}
+use Rattle.node_core.proofs.MessageRefused.{table_silent}
 use Rattle.node_core.proofs.OneScope.{one_scope_follows, scope_change}
 use Rattle.node_core.proofs.ScopesCutOff.{number_left}
-use Rattle.node_core.proofs.MessageKept.{its_answered, its_next, silent_links}
+use Rattle.node_core.proofs.MessageKept.{its_answered, its_next, its_links}
 
 -- ---- numbers
 
@@ -70,9 +76,23 @@ module _ {h : History} {parts : Parts} (t : Follows h parts) (seat l : ℕ) (bod
   there : IsScopeHere h parts.scopes s p r
   there = scope_here t s at r_is
 
-  -- what a body says is said on the link
-  on_link : {m : Message} → read_message body ≡ Some m → said_at h.opening l h.entries body ≡ Some m
-  on_link says = said_is h.opening t.sound.links l h.entries body ∙ says
+  -- what a body completes is said on the link
+  on_link : {m : Message2} {o : Option Message} → frame_taken h.opening l h.entries body ≡ Some m
+      → completed (begun h.opening l h.entries) m ≡ o → said_at h.opening l h.entries body ≡ o
+  on_link says done =
+      ap (option_and_then (completed (begun h.opening l h.entries))) says ∙ done
+
+  -- all that is kept of the link's message, with these rows
+  abbrev pub all_rows : PartKind → ℕ → List Row → List Row
+  all_rows kind number rows = rows_so_far x.begun kind s number rows
+
+  all_are : (kind : PartKind) (number : ℕ) (rows : List Row)
+      → rows_so_far (begun h.opening l h.entries) kind s number rows ≡ all_rows kind number rows
+  all_are kind number rows = ap (λ b. rows_so_far b kind s number rows) (sym (begun_is here))
+
+  -- the link after the message: nothing is owed to it
+  abbrev pub IsLinkAfter : Message2 → KeptLink → Type 0
+  IsLinkAfter m z = z ≡ record x { begun = begun_after x.begun m; room = z.room }
 
   abbrev entry : List GroupChange → Entry
   entry gs = made h seat (Event.Frame l body) (Accepted Reply.Done) (if_some s gs)
@@ -81,13 +101,15 @@ module _ {h : History} {parts : Parts} (t : Follows h parts) (seat l : ℕ) (bod
   after_it gs = just h (entry gs)
 
   -- the message is the next entry, and what is kept then follows
-  abbrev pub IsKept : List GroupChange → Type 0
-  IsKept gs =
-      IsAlone h (entry gs) × Follows (after_it gs) (record parts { scopes = set parts.scopes p y })
+  abbrev pub IsKept : List GroupChange → KeptLink → Type 0
+  IsKept gs z =
+      IsAlone h (entry gs)
+      × Follows (after_it gs)
+      (record parts { scopes = set parts.scopes p y; links = set parts.links pl z })
 
   -- a message of which is known what it makes of a count, and of whether a link is heard and told, here and at other scopes
-  module _ (m : Message) (says : read_message body ≡ Some m)
-      (holds : first_broken (old_checks h l m) ≡ None) (gs : List GroupChange)
+  module _ (m : Message2) (says : frame_taken h.opening l h.entries body ≡ Some m)
+      (holds : first_broken (message_checks h l m) ≡ None) (gs : List GroupChange)
       (counts : ℕ → List ℕ → Pid → ℕ) (hears tells : Bool → Bool → Bool) (plain : (b : Bool) → (hears b false ≡ b) × (tells b false ≡ b))
       (rows : IsStep h (entry gs) → (u g : List ℕ) (q : Pid)
       → listed (after_it gs) u g q
@@ -98,7 +120,7 @@ module _ {h : History} {parts : Parts} (t : Follows h parts) (seat l : ℕ) (bod
       (hs ts : List ℕ) (b : HasBecome r y (λ g q. counts (count_of r.table g q) g q) hs ts)
       (heard_so : (j : ℕ) → is_number j hs ≡ hears (is_number j r.heard.items) (l == j)) (told_so : (j : ℕ) → is_number j ts ≡ tells (is_number j r.told.items) (l == j)) where
     so : IsStep h (entry gs)
-    so = its_answered h t.sound seat l body m space up here.awaited says holds (if_some s gs)
+    so = its_answered h seat l body m space up here.awaited says holds (if_some s gs)
 
     itself : same s s ≡ true
     itself = (same_decides s s).1 refl
@@ -140,39 +162,48 @@ module _ {h : History} {parts : Parts} (t : Follows h parts) (seat l : ℕ) (bod
         (b.scope ∙ there.named) still parts.scopes p r t.scopes (running_rises h) refl there.within (ap (λ z. z.scope) (sym there.is) ∙ there.named))
         links
 
-    -- nothing is owed to it
-    silent : ((j : ℕ) → old_owes h j m ≡ []) → IsDifference (count_of r.table) (count_of y.table) gs
-        → IsKept gs
-    silent nothing differ =
-        let next = its_next h t.sound seat l body m space up here.awaited says holds (if_some s gs)
-        (scope_change h (after_it gs) s gs (difference_is h s r there.named there.running (after_it gs) refl y (λ g q. counts (count_of r.table g q) g q) hs ts b rows_here gs differ) (λ u g q apart. sym (rows_apart u apart g q))) in (
-          next,
-          follows next parts.links
-              (silent_links h t.sound seat l body m space up here.awaited says holds (if_some s gs)
-              nothing parts.links t.links),
-        )
+    -- its change is the difference of the scope
+    changed_next : IsDifference (count_of r.table) (count_of y.table) gs → IsAlone h (entry gs)
+    changed_next differ =
+        its_next h seat l body m space up here.awaited says holds (if_some s gs)
+        (scope_change h (after_it gs) s gs (difference_is h s r there.named there.running (after_it gs) refl y (λ g q. counts (count_of r.table g q) g q) hs ts b rows_here gs differ) (λ u g q apart. sym (rows_apart u apart g q)))
 
-  module _ (says : read_message body ≡ Some (Message.Discover s))
-      (early : first_broken (early_checks h l (Message.Discover s)) ≡ None) where
+    -- nothing is owed to it
+    silent : message_owes h l m ≡ [] → {z : KeptLink} → IsLinkAfter m z
+        → IsDifference (count_of r.table) (count_of y.table) gs → IsKept gs z
+    silent nothing {z} is differ = (
+      changed_next differ,
+      follows (changed_next differ) (set parts.links pl z)
+          (its_links h seat l body m space up here.awaited says holds (if_some s gs) parts.links
+          t.sound.played t.links pl x z placed here (ap (λ w. w.number) is)
+          (ap (λ w. w.state) is) (ap (λ w. w.begun) is) (ap (λ w. w.prepared) is ∙ here.link.idle)
+          (ap (λ w. w.frames) is ∙ sym (append-nil x.frames)
+          ∙ ap (λ fs. x.frames ++ fs) (sym nothing))),
+    )
+
+  -- ---- a Discover
+
+  module _ (says : frame_taken h.opening l h.entries body ≡ Some (Message2.Discover s))
+      (holds : first_broken (message_checks h l (Message2.Discover s)) ≡ None) where
     listed_so : IsStep h (entry []) → (u g : List ℕ) (q : Pid)
         → listed (after_it []) u g q ≡ listed h u g q
     listed_so so =
         discovered_rows h t.sound.played (entry []) so refl l body refl here.far.peer here.awaited
-        here.introduced.peer.peer here.introduced.peer.other s (on_link says)
+        here.introduced.peer.peer here.introduced.peer.other s (on_link says refl)
 
     pub discovered_next : IsAlone h (entry [])
     discovered_next =
-        its_next h t.sound seat l body (Message.Discover s) space up here.awaited says early []
+        its_next h seat l body (Message2.Discover s) space up here.awaited says holds []
         (no_change h (after_it [])
         (λ u g q. sym
-        (listed_so (its_answered h t.sound seat l body (Message.Discover s) space up here.awaited
-        says early []) u g q)))
+        (listed_so (its_answered h seat l body (Message2.Discover s) space up here.awaited
+        says holds []) u g q)))
 
     pub discovered_follows : HasBecome r y (count_of r.table) r.heard.items (with_number l r.told.items) → (kept : List KeptLink) → LinksFollow (link_words (after_it [])) kept
         → Follows (after_it []) (record parts { scopes = set parts.scopes p y; links = kept })
-    discovered_follows b = follows (Message.Discover s) says early [] (λ n g q. n) (λ b c. b) (λ b c. c || b) (λ b. (refl, refl)) (λ so u g q. listed_so so u g q ∙ grind arith)
+    discovered_follows b = follows (Message2.Discover s) says holds [] (λ n g q. n) (λ b c. b) (λ b c. c || b) (λ b. (refl, refl)) (λ so u g q. listed_so so u g q ∙ grind arith)
         (λ so j u. discovered_heard h t.sound.played (entry []) so refl l body refl here.awaited j
-        u s (on_link says))
+        u s (on_link says refl))
         r.heard.items (with_number l r.told.items) b (λ j. refl) (λ j. number_on j l r.told.items) discovered_next
 
   -- the peer of the link is n
@@ -183,62 +214,134 @@ module _ {h : History} {parts : Parts} (t : Follows h parts) (seat l : ℕ) (bod
     other : same n h.opening.name ≡ false
     other = ap (λ m. same m h.opening.name) (peer_is here far) ∙ here.introduced.peer.other
 
-    pub synced : (rows : List Row) → read_message body ≡ Some (Message.Sync s rows)
-        → first_broken (early_checks h l (Message.Sync s rows)) ≡ None → (gs : List GroupChange)
-        → HasBecome r y (count_after_sync r.table n rows) (with_number l r.heard.items) r.told.items → IsDifference (count_of r.table) (count_of y.table) gs → IsKept gs
-    synced rows says early gs b = silent (Message.Sync s rows) says early gs (λ k g q. cond (same q.node n) (occurrences same_row (row g q) rows) k) (λ b c. c || b) (λ b c. b) (λ b. (refl, refl))
-        (λ so. synced_rows h t.sound.played (entry gs) so refl l body refl n here.awaited of other s
-        rows (on_link says))
-        (λ so j u. synced_heard h t.sound.played (entry gs) so refl l body refl here.awaited j u s
-        rows (on_link says))
-        (with_number l r.heard.items) r.told.items b (λ j. number_on j l r.heard.items) (λ j. refl) (λ j. refl)
+    -- ---- rows
 
-    pub added : (rows : List Row) → read_message body ≡ Some (Message.Join s rows)
-        → first_broken (early_checks h l (Message.Join s rows)) ≡ None
-        → node_total r.table n + length rows ≤ max_rows → (gs : List GroupChange)
-        → HasBecome r y (count_after_add r.table rows) r.heard.items r.told.items → IsDifference (count_of r.table) (count_of y.table) gs → IsKept gs
-    added rows says early few gs b = silent (Message.Join s rows) says (join_fits h l s r there.named there.running rows n of few early) gs
-        (λ k g q. k + occurrences same_row (row g q) rows) (λ b c. b) (λ b c. b) (λ b. (refl, refl))
-        (λ so. added_rows h t.sound.played (entry gs) so refl l body refl n here.awaited of other s
-        rows (on_link says))
-        (λ so j u. joined_heard h t.sound.played (entry gs) so refl l body refl here.awaited j u s
-        rows (on_link says))
-        r.heard.items r.told.items b (λ j. refl) (λ j. refl) (λ j. refl)
+    -- a part that breaks no rule early breaks what its rows so far break by the table
+    pub table_here : (kind : PartKind) (number : ℕ) (last : Bool) (rows : List Row)
+        → first_broken (early_checks h l (Message2.Part kind s number last rows)) ≡ None
+        → first_broken (message_checks h l (Message2.Part kind s number last rows))
+        ≡ table_refusal r.table n kind (all_rows kind number rows) (row_limit x.state)
+    table_here kind number last rows early =
+        table_is h l s r there.named there.running n of kind number last rows early
+        ∙ (λ i. table_refusal r.table n kind (all_are kind number rows i) (sym (limit_is here) i))
 
-    pub added_calm : (rows : List Row) → read_message body ≡ Some (Message.Join s rows)
-        → first_broken (early_checks h l (Message.Join s rows)) ≡ None → (f : CoreFault)
-        → IsAddRefusal r.table n rows f → IsCalmFault h seat (Event.Frame l body) f
-    added_calm rows says early =
-        add_calm h t.sound seat l body up here.awaited s r there.named there.running rows n of says
-        early
+    pub refused_calm : (kind : PartKind) (number : ℕ) (last : Bool) (rows : List Row)
+        → frame_taken h.opening l h.entries body ≡ Some (Message2.Part kind s number last rows)
+        → first_broken (early_checks h l (Message2.Part kind s number last rows)) ≡ None
+        → (f : CoreFault)
+        → IsRowFault (table_refusal r.table n kind (all_rows kind number rows) (row_limit x.state)) f
+        → IsCalmFault h seat (Event.Frame l body) f
+    refused_calm kind number last rows says early =
+        rows_calm h seat l body up here.awaited (Message2.Part kind s number last rows) says
+        (table_refusal r.table n kind (all_rows kind number rows) (row_limit x.state))
+        (table_here kind number last rows early)
+        (table_silent r.table n kind (all_rows kind number rows) (row_limit x.state))
 
-    pub downed : read_message body ≡ Some (Message.Down s)
-        → first_broken (early_checks h l (Message.Down s)) ≡ None → (gs : List GroupChange)
-        → IsCutOff l n r y → {z : Running} → z ≡ get_or parts.scopes p z → IsDifference (count_of z.table) (count_after_drop z.table n) gs → IsKept gs
-    downed says early gs cut {z} z_is differ = silent (Message.Down s) says early gs (λ k g q. cond (same q.node n) 0 k) (λ b c. b && not c) (λ b c. b && not c) (λ b. (and-true b, and-true b))
+    module _ (number : ℕ) (rows : List Row) where
+      abbrev last_part : PartKind → Message2
+      last_part kind = Message2.Part kind s number true rows
+
+      synced : frame_taken h.opening l h.entries body ≡ Some (last_part PartKind.Sync)
+          → first_broken (message_checks h l (last_part PartKind.Sync)) ≡ None
+          → (gs : List GroupChange)
+          → HasBecome r y (count_after_sync r.table n (all_rows PartKind.Sync number rows))
+          (with_number l r.heard.items) r.told.items
+          → IsDifference (count_of r.table) (count_of y.table) gs → {z : KeptLink}
+          → IsLinkAfter (last_part PartKind.Sync) z → IsKept gs z
+      synced says holds gs b differ {z} is =
+          let all = all_rows PartKind.Sync number rows in
+          let said = on_link says (ap (λ rs. Some (Message.Sync s rs)) (all_are PartKind.Sync number rows)) in
+          silent (last_part PartKind.Sync) says holds gs
+          (λ k g q. cond (same q.node n) (occurrences same_row (row g q) all) k) (λ b c. c || b) (λ b c. b) (λ b. (refl, refl))
+          (λ so. synced_rows h t.sound.played (entry gs) so refl l body refl n here.awaited of other s
+          all said)
+          (λ so j u. synced_heard h t.sound.played (entry gs) so refl l body refl here.awaited j u s
+          all said)
+          (with_number l r.heard.items) r.told.items b (λ j. number_on j l r.heard.items) (λ j. refl) refl is differ
+
+      added : frame_taken h.opening l h.entries body ≡ Some (last_part PartKind.Join)
+          → first_broken (message_checks h l (last_part PartKind.Join)) ≡ None
+          → (gs : List GroupChange)
+          → HasBecome r y (count_after_add r.table (all_rows PartKind.Join number rows))
+          r.heard.items r.told.items
+          → IsDifference (count_of r.table) (count_of y.table) gs → {z : KeptLink}
+          → IsLinkAfter (last_part PartKind.Join) z → IsKept gs z
+      added says holds gs b differ {z} is =
+          let all = all_rows PartKind.Join number rows in
+          let said = on_link says (ap (λ rs. Some (Message.Join s rs)) (all_are PartKind.Join number rows)) in
+          silent (last_part PartKind.Join) says holds gs
+          (λ k g q. k + occurrences same_row (row g q) all) (λ b c. b) (λ b c. b) (λ b. (refl, refl))
+          (λ so. added_rows h t.sound.played (entry gs) so refl l body refl n here.awaited of other s
+          all said)
+          (λ so j u. joined_heard h t.sound.played (entry gs) so refl l body refl here.awaited j u s
+          all said)
+          r.heard.items r.told.items b (λ j. refl) (λ j. refl) refl is differ
+
+      taken : frame_taken h.opening l h.entries body ≡ Some (last_part PartKind.Leave)
+          → first_broken (message_checks h l (last_part PartKind.Leave)) ≡ None
+          → (gs : List GroupChange)
+          → HasBecome r y (count_after_take r.table (all_rows PartKind.Leave number rows))
+          r.heard.items r.told.items
+          → IsDifference (count_of r.table) (count_of y.table) gs → {z : KeptLink}
+          → IsLinkAfter (last_part PartKind.Leave) z → IsKept gs z
+      taken says holds gs b differ {z} is =
+          let all = all_rows PartKind.Leave number rows in
+          let said = on_link says (ap (λ rs. Some (Message.Leave s rs)) (all_are PartKind.Leave number rows)) in
+          silent (last_part PartKind.Leave) says holds gs
+          (λ k g q. k - occurrences same_row (row g q) all) (λ b c. b) (λ b c. b) (λ b. (refl, refl))
+          (λ so. taken_rows h t.sound.played (entry gs) so refl l body refl n here.awaited of other s
+          all said)
+          (λ so j u. left_heard h t.sound.played (entry gs) so refl l body refl here.awaited j u s
+          all said)
+          r.heard.items r.told.items b (λ j. refl) (λ j. refl) refl is differ
+
+      -- a part that isn't last leaves the scope as it was
+      unfinished : (kind : PartKind)
+          → frame_taken h.opening l h.entries body ≡ Some (Message2.Part kind s number false rows)
+          → first_broken (message_checks h l (Message2.Part kind s number false rows)) ≡ None
+          → (gs : List GroupChange)
+          → HasBecome r y (count_of r.table) r.heard.items r.told.items
+          → IsDifference (count_of r.table) (count_of y.table) gs → {z : KeptLink}
+          → IsLinkAfter (Message2.Part kind s number false rows) z → IsKept gs z
+      unfinished kind says holds gs b differ {z} is =
+          silent (Message2.Part kind s number false rows) says holds gs (λ k g q. k) (λ b c. b) (λ b c. b) (λ b. (refl, refl))
+          (λ so u g q. unsaid_rows h t.sound.played (entry gs) so refl l body refl n here.awaited of
+          other (on_link says refl) u g q ∙ grind arith)
+          (λ so j u. unsaid_heard h t.sound.played (entry gs) so refl l body refl here.awaited
+          (on_link says refl) j u)
+          r.heard.items r.told.items b (λ j. refl) (λ j. refl) refl is differ
+
+      -- what a part makes, the last or another
+      pub went_on : (last : Bool) (kind : PartKind)
+          → frame_taken h.opening l h.entries body ≡ Some (Message2.Part kind s number last rows)
+          → first_broken (early_checks h l (Message2.Part kind s number last rows)) ≡ None
+          → table_refusal r.table n kind (all_rows kind number rows) (row_limit x.state) ≡ None
+          → (gs : List GroupChange)
+          → HasBecome r y (count_with last kind r.table n (all_rows kind number rows))
+          (heard_with last kind l r.heard.items) r.told.items
+          → IsDifference (count_of r.table) (count_of y.table) gs → {z : KeptLink}
+          → IsLinkAfter (Message2.Part kind s number last rows) z → IsKept gs z
+      went_on true PartKind.Sync says early fits =
+          synced says (table_here PartKind.Sync number true rows early ∙ fits)
+      went_on true PartKind.Join says early fits =
+          added says (table_here PartKind.Join number true rows early ∙ fits)
+      went_on true PartKind.Leave says early fits =
+          taken says (table_here PartKind.Leave number true rows early ∙ fits)
+      went_on false kind says early fits =
+          unfinished kind says (table_here kind number false rows early ∙ fits)
+
+    -- ---- a Down
+
+    pub downed : frame_taken h.opening l h.entries body ≡ Some (Message2.Down s)
+        → first_broken (early_checks h l (Message2.Down s)) ≡ None → (gs : List GroupChange)
+        → IsCutOff l n r y → {o : Running} → o ≡ get_or parts.scopes p o → IsDifference (count_of o.table) (count_after_drop o.table n) gs → {z : KeptLink}
+        → IsLinkAfter (Message2.Down s) z → IsKept gs z
+    downed says early gs cut {o} o_is differ {z} is = silent (Message2.Down s) says early gs (λ k g q. cond (same q.node n) 0 k) (λ b c. b && not c) (λ b c. b && not c) (λ b. (and-true b, and-true b))
         (λ so. downed_rows h t.sound.played (entry gs) so refl l body refl n here.awaited of
-        other s (on_link says))
+        other s (on_link says refl))
         (λ so j u. downed_heard h t.sound.played (entry gs) so refl l body refl here.awaited j
-        u s (on_link says))
+        u s (on_link says refl))
         (without l r.heard.items) (without l r.told.items) (record { scope = cut.scope; rows = cut.rows; heard = cut.heard; told = cut.told })
-        (λ j. number_left j l r.heard.items) (λ j. number_left j l r.told.items) (λ j. refl)
+        (λ j. number_left j l r.heard.items) (λ j. number_left j l r.told.items) refl is
         (subst (λ f. IsDifference (count_of r.table) f gs) (λ i g q. sym (cut.rows.counts g q) i)
-        (subst (λ w. IsDifference (count_of w.table) (count_after_drop w.table n) gs) (same_there h parts.scopes s p r z there z_is) differ))
-
-    pub taken : (rows : List Row) → read_message body ≡ Some (Message.Leave s rows)
-        → first_broken (early_checks h l (Message.Leave s rows)) ≡ None
-        → are_counted r.table rows ≡ true → (gs : List GroupChange)
-        → HasBecome r y (count_after_take r.table rows) r.heard.items r.told.items → IsDifference (count_of r.table) (count_of y.table) gs → IsKept gs
-    taken rows says early listed gs b = silent (Message.Leave s rows) says (leave_listed h l s r there.named there.running rows listed early) gs
-        (λ k g q. k - occurrences same_row (row g q) rows) (λ b c. b) (λ b c. b) (λ b. (refl, refl))
-        (λ so. taken_rows h t.sound.played (entry gs) so refl l body refl n here.awaited of other s
-        rows (on_link says))
-        (λ so j u. left_heard h t.sound.played (entry gs) so refl l body refl here.awaited j u s
-        rows (on_link says))
-        r.heard.items r.told.items b (λ j. refl) (λ j. refl) (λ j. refl)
-
-  pub taken_calm : (rows : List Row) → read_message body ≡ Some (Message.Leave s rows)
-      → first_broken (early_checks h l (Message.Leave s rows)) ≡ None → (f : CoreFault)
-      → IsTakeRefusal r.table rows f → IsCalmFault h seat (Event.Frame l body) f
-  taken_calm rows says early =
-      take_calm h t.sound seat l body up here.awaited s r there.named there.running rows says early
+        (subst (λ w. IsDifference (count_of w.table) (count_after_drop w.table n) gs) (same_there h parts.scopes s p r o there o_is) differ))

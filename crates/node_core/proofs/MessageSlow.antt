@@ -1,11 +1,14 @@
 -- A Discover that ends its link: too many frames would wait for it.
-use Rattle.node_core.proofs.Words.{said_is, said_at}
+use Rattle.node_core.proofs.Words.{begun, begun_with, completed, frame_taken, message_checks, said_at}
+use Rattle.node_core.proofs.Words.{frames_to, link_version, local_total, message_owes, Message2}
+use Rattle.node_core.proofs.Words.{option_and_then, said_frames, said_in, suc, sync_frames, zero}
+use Rattle.node_core.proofs.Words.{takes_parts, Row, PartKind, length-map, max_rows, drop}
 use Rattle.node_core.proofs.Words.{arith, ap, refl, subst, sym, ◌∙◌, Bool, List, None, Some, []}
 use Rattle.node_core.proofs.Words.{◌∷◌, ◌≡◌, ◌&&◌, ◌++◌, ◌+◌, ◌==◌, cond, false, true, not, ℕ}
 use Rattle.node_core.proofs.Words.{length}
 use Rattle.node_core.proofs.Words.{map, nat_lt, reverse, filter, set, get_or, and_both, and_parts}
 use Rattle.node_core.proofs.Words.{History, past, is_open, is_up, is_whole, named_by, is_last}
-use Rattle.node_core.proofs.Words.{read_message, heard, is_full}
+use Rattle.node_core.proofs.Words.{heard, is_full}
 use Rattle.node_core.proofs.Words.{IsLegal, IsStep, IsNext, with_entry, just, lose, loss, audit_of}
 use Rattle.node_core.proofs.Words.{max_waiting}
 use Rattle.node_core.proofs.Words.{Entry, Accepted, Event, Reply, Message, Change, same, IsChange}
@@ -13,7 +16,7 @@ use Rattle.node_core.proofs.Words.{entry_link, framed_numbers, Follows, Parts, I
 use Rattle.node_core.proofs.Words.{LinksFollow, link_words, KeptLink, Running, up_peer}
 use Rattle.node_core.proofs.Words.{without_number}
 use Rattle.node_core.proofs.Words.{AreCut, AreLost, OutFrame, and-true, is_some, get_or_default}
-use Rattle.node_core.proofs.Words.{with_frames, old_owes, first_broken, early_checks, is_number}
+use Rattle.node_core.proofs.Words.{with_frames, first_broken, is_number}
 use Rattle.node_core.proofs.Words.{link_place, scope_place, waiting, frame_owes, AwaitMessage}
 use Rattle.node_core.proofs.Words.{is_kept}
 use Rattle.node_core.proofs.Words.{no_value, le-ltb, lt-ltb, local_rows, wide, ◌≤◌, ◌<◌}
@@ -33,8 +36,25 @@ use Rattle.node_core.proofs.Losing.{gone_scopes}
 use Rattle.node_core.proofs.SlowLinks.{is_slow_link, slow_are, none_kept_slow, none_lost, one_slow}
 use Rattle.node_core.proofs.SlowLinks.{lost_opens, monitors_still}
 use Rattle.node_core.proofs.MessagePlaces.{IsUpHere, IsScopeHere, up_here, scope_here}
-use Rattle.node_core.proofs.MessageKept.{its_answered, its_verdict, owed_links}
+use Rattle.node_core.proofs.MessageKept.{its_answered, its_verdict, its_links}
+use Rattle.node_core.proofs.RowsGone.{rows_total}
+use Rattle.link_frames.specs.Parts.{before_last, message2_bytes, parts as parts_of, parts_from}
 use Rattle.node_core.proofs.MessageScopes.{heard_there, discovered_next}
+
+-- how many parts there are
+parts_count : (kind : PartKind) (s : List ℕ) (number more : ℕ) (rows : List Row)
+    → length (parts_from kind s number more rows) ≡ suc more
+parts_count kind s number zero rows = refl
+parts_count kind s number (suc more) rows =
+    ap suc (parts_count kind s (suc number) more (drop max_rows rows))
+
+sync_count : (parted : Bool) (s : List ℕ) (rows : List Row)
+    → length (said_in (Message.Sync s rows) parted) ≡ sync_frames parted (length rows)
+sync_count false s rows = refl
+sync_count true s rows =
+    length-map (parts_of (Message.Sync s rows))
+    (λ part. record { wide = true; body = message2_bytes part })
+    ∙ parts_count PartKind.Sync s 1 (before_last rows) rows ∙ omega arith
 
 module _ {h : History} {parts : Parts} (t : Follows h parts) (legal : IsLegal h) (seat l : ℕ)
     (body : List ℕ) (space : is_full h ≡ false) (up : is_up l h.entries ≡ true)
@@ -42,33 +62,33 @@ module _ {h : History} {parts : Parts} (t : Follows h parts) (legal : IsLegal h)
     (x_is : x ≡ get_or parts.links pl x)
     (s : List ℕ) {p : ℕ} {r : Running} (at : scope_place s parts.scopes ≡ Some p)
     (r_is : r ≡ get_or parts.scopes p r)
-    (says : read_message body ≡ Some (Message.Discover s))
-    (early : first_broken (early_checks h l (Message.Discover s)) ≡ None) where
+    (says : frame_taken h.opening l h.entries body ≡ Some (Message2.Discover s))
+    (holds : first_broken (message_checks h l (Message2.Discover s)) ≡ None) where
   here : IsUpHere h l x
   here = up_here t l up placed x_is
 
   there : IsScopeHere h parts.scopes s p r
   there = scope_here t s at r_is
 
-  on_link : {m : Message} → read_message body ≡ Some m → said_at h.opening l h.entries body ≡ Some m
-  on_link says = said_is h.opening t.sound.links l h.entries body ∙ says
+  on_link : said_at h.opening l h.entries body ≡ Some (Message.Discover s)
+  on_link = ap (option_and_then (completed (begun h.opening l h.entries))) says
 
   abbrev e : List Change → Entry
   e cs = made h seat (Event.Frame l body) (Accepted Reply.Done) cs
 
   so : (cs : List Change) → IsStep h (e cs)
-  so = its_answered h t.sound seat l body (Message.Discover s) space up here.awaited says early
+  so = its_answered h seat l body (Message2.Discover s) space up here.awaited says holds
 
   -- the link with all that would wait for it
   abbrev full : KeptLink
-  full = with_frames x (old_owes h l (Message.Discover s))
+  full = begun_with (with_frames x (message_owes h l (Message2.Discover s))) None
 
   full_links : (cs : List Change)
       → LinksFollow (link_words (just h (e cs))) (set parts.links pl full)
   full_links cs =
-      owed_links h t.sound seat l body (Message.Discover s) space up here.awaited says early cs
+      its_links h seat l body (Message2.Discover s) space up here.awaited says holds cs
       parts.links
-      t.sound.played t.links pl x full placed here refl refl here.link.idle refl
+      t.sound.played t.links pl x full placed here refl refl refl here.link.idle refl
 
   full_alone : filter is_slow_link (set parts.links pl full)
       ≡ cond (is_slow_link full) (full ∷ []) []
@@ -78,24 +98,40 @@ module _ {h : History} {parts : Parts} (t : Follows h parts) (legal : IsLegal h)
 
   -- how many frames would wait
   abbrev many_now : ℕ
-  many_now = length x.frames + cond (is_number l r.heard.items) 1 2
+  many_now =
+      length x.frames
+      + (sync_frames (takes_parts x.state) (local_total r.table)
+      + cond (is_number l r.heard.items) 0 1)
 
   full_is : is_slow_link full ≡ nat_lt max_waiting many_now
   full_is =
       (λ i. nat_lt max_waiting (long i) && is_some (up_peer (here.is i)))
       ∙ and-true (nat_lt max_waiting many_now)
     where
-      two : (b : Bool) (f g : OutFrame) → length (f ∷ cond b [] (g ∷ [])) ≡ cond b 1 2
-      two true f g = refl
-      two false f g = refl
+      asks : Bool → List OutFrame
+      asks b = cond b [] (wide (Message.Discover s) ∷ [])
 
-      long : length (x.frames ++ old_owes h l (Message.Discover s)) ≡ many_now
+      one : (b : Bool) → length (asks b) ≡ cond b 0 1
+      one true = refl
+      one false = refl
+
+      sync : List OutFrame
+      sync = frames_to h l (Message.Sync s (local_rows h s))
+
+      parted : (link_version h.opening l h.entries == 2) ≡ takes_parts x.state
+      parted =
+          ap (λ v. v == 2) (sym here.introduced.said.1.version_is) ∙ ap takes_parts (sym here.is)
+
+      long : length (x.frames ++ message_owes h l (Message2.Discover s)) ≡ many_now
       long =
-          length-append x.frames (old_owes h l (Message.Discover s))
+          length-append x.frames (message_owes h l (Message2.Discover s))
           ∙ ap (λ n. length x.frames + n)
-          (two (heard h.opening l s h.entries) (wide (Message.Sync s (local_rows h s)))
-          (wide (Message.Discover s))
-          ∙ ap (λ b. cond b 1 2) (sym (heard_there h s r there.named there.running l)))
+          (length-append sync (asks (heard h.opening l s h.entries))
+          ∙ (λ i. sync_count (link_version h.opening l h.entries == 2) s (local_rows h s) i
+          + one (heard h.opening l s h.entries) i)
+          ∙ (λ i. sync_frames (parted i)
+          (rows_total h s r there.named there.running t.sound.played i)
+          + cond (sym (heard_there h s r there.named there.running l) i) 0 1))
 
   -- where they are few enough, the entry has no losses
   pub few_enough : many_now ≤ max_waiting → with_entry h (e []) ≡ just h (e [])
@@ -155,7 +191,7 @@ module _ {h : History} {parts : Parts} (t : Follows h parts) (legal : IsLegal h)
       heard = λ j u.
           let was =
           discovered_heard h t.sound.played (e cs) (so cs) refl l body refl here.awaited
-          j u s (on_link says) in
+          j u s on_link in
           let now = lost_heard k (loss l) refl l refl j u in
           grind (arith, was.heard_is, was.told_is, now.heard_is, now.told_is);
     }
@@ -182,10 +218,10 @@ module _ {h : History} {parts : Parts} (t : Follows h parts) (legal : IsLegal h)
         still_up.up still_up.peer still_up.other u g q
         ∙ ap (cond (same q.node n) 0)
         (discovered_rows h t.sound.played (e cs) (so cs) refl l body refl n here.awaited
-        of.peer of.other s (on_link says) u g q))
+        of.peer of.other s on_link u g q))
 
     alone : IsAlone h (e [])
-    alone = discovered_next t seat l body space up placed x_is s r at r_is says early
+    alone = discovered_next t seat l body space up placed x_is s r at r_is says holds
 
     monitors : FollowsPolicy (audit_of after) parts.monitors
     monitors =
@@ -207,8 +243,8 @@ module _ {h : History} {parts : Parts} (t : Follows h parts) (legal : IsLegal h)
     lost_next lost = record {
       room = alone.room;
       number = refl;
-      verdict = its_verdict h t.sound seat l body (Message.Discover s) space up here.awaited says
-          early cs;
+      verdict = its_verdict h seat l body (Message2.Discover s) space up here.awaited says
+          holds cs;
       change =
           subst (λ k. IsChange h k cs) (sym with_loss)
           (gone_change h after l gone (up_peer x.state) rows parts.scopes cs lost t.scopes);

@@ -5,7 +5,10 @@ use Rattle.node_core.proofs.Words.{History, OutFrame, waiting, IsPlayed, moved_o
 use Rattle.node_core.proofs.Words.{without_link, IsLinkOf, IsState, LinkWords, LinksFollow, facts, kept_numbers, link_words, KeptLink, LinkState}
 use Rattle.node_core.proofs.Words.{arith, [], ◌∷◌, eqb-true, is_empty, StatelessLink, in_state, with_frames, with_room, HaveMoved, HaveEnded}
 use Rattle.node_core.proofs.Words.{narrow_frames}
-use Rattle.node_core.proofs.KeptOn.{one_follows, each_at, filter_all, stay_follow}
+use Rattle.node_core.proofs.Words.{begun, none_begun, unmoved_begun, Entry, Event, is_whole}
+use Rattle.node_core.proofs.Words.{is_accepted, LinkFacts, ◌&&◌}
+use Rattle.policy_audit.specs.Parted.{moves_parts}
+use Rattle.node_core.proofs.KeptOn.{one_follows, each_at, filter_all, same_link, stay_follow}
 use Rattle.std.specs.List.{insert}
 
 -- a link stays unless it has this number
@@ -26,10 +29,11 @@ pub record AreMoves (h k : History) (j : ℕ) (now : LinkState) (more : List Out
   pub numbers : kept_numbers k ≡ filter stays (kept_numbers h)
 
 with_words : (w v : LinkWords) (x : KeptLink) → v.facts x.number ≡ w.facts x.number → v.waiting x.number ≡ w.waiting x.number → IsLinkOf w x → IsLinkOf v x
-with_words w v x same_facts same_frames a = record { state = subst (λ f. IsState f x.state) (sym same_facts) a.state; frames = a.frames ∙ sym same_frames; idle = a.idle }
+with_words w v x same_facts same_frames a = same_link x same_facts same_frames a
 
 module _ (h k : History) (legal : IsPlayed h) (j : ℕ) (state : LinkState) (frames : List OutFrame)
-    (gone : Option ℕ) (moves : AreMoves h k j state frames (stays_but gone))
+    (gone : Option ℕ) (unbegun : begun k.opening j k.entries ≡ None)
+    (moves : AreMoves h k j state frames (stays_but gone))
     (kept : List KeptLink) (t : LinksFollow (link_words h) kept) (p : ℕ) (d : KeptLink) (less : p < length kept) (is : (get_or kept p d).number ≡ j) (room : ℕ) where
   -- new words for those that stay, and the old ones for the others
   abbrev pick : {A : Type 0} → (ℕ → A) → (ℕ → A) → ℕ → A
@@ -46,6 +50,9 @@ module _ (h k : History) (legal : IsPlayed h) (j : ℕ) (state : LinkState) (fra
 
   here : IsLinkOf between moved
   here = record {
+    begun = sym (ap (λ (f : LinkFacts). f.begun)
+        (picked (facts k) (facts h) (get_or kept p d).number (sym is) ∙ ap (facts k) is)
+        ∙ unbegun);
     state = subst (λ f. IsState f state) (sym (picked (facts k) (facts h) (get_or kept p d).number (sym is) ∙ ap (facts k) is)) moves.state;
     frames =
         let was = each_at (IsLinkOf (link_words h)) kept p d t.each less in
@@ -72,6 +79,16 @@ module _ (h k : History) (legal : IsPlayed h) (j : ℕ) (state : LinkState) (fra
   moved_follow = subst (LinksFollow (link_words k)) (without_is gone (set kept p moved))
       (stay_follow between (link_words k) (stays_but gone) (set kept p moved) (one_follows (link_words h) between moved here other kept p d t (kept_climbs h legal) refl less refl) moves.numbers stayed)
 
+-- before its side is whole a link has begun no message, and so it is behind a frame of it
+pub still_unbegun : (h : History) → IsPlayed h → (e : Entry) (j : ℕ) (body : List ℕ)
+    → e.event ≡ Event.Frame j body → is_whole j h.entries ≡ false
+    → begun h.opening j (e ∷ h.entries) ≡ None
+still_unbegun h legal e j body is unwhole =
+    unmoved_begun h.opening h.entries e j quiet ∙ none_begun h.opening h.entries legal j unwhole
+  where
+    quiet : (is_accepted e.verdict && moves_parts j h.entries e.event) ≡ false
+    quiet = grind (arith, is, unwhole)
+
 -- ---- a link that moves on, and is put in at its place
 
 -- no element is as many as none
@@ -81,7 +98,7 @@ none_is_empty (x ∷ xs) b q = grind (arith, eqb-true (length (x ∷ xs)) 0)
 
 -- a link in a new state, with further frames
 pub stated : {link : StatelessLink} {state : LinkState} {v w : KeptLink} (frames : List OutFrame) → v ≡ in_state state link → link.prepared ≡ [] → w ≡ with_room (with_frames v frames) w.room → w ≡ moved_on state frames w.room (in_state state link)
-stated {w = w} frames is idle owed = owed ∙ λ i. record { number = (is i).number; state = (is i).state; frames = (is i).frames ++ frames; prepared = (ap (λ (x : KeptLink). x.prepared) is ∙ idle) i; room = w.room }
+stated {w = w} frames is idle owed = owed ∙ λ i. record { number = (is i).number; state = (is i).state; begun = (is i).begun; frames = (is i).frames ++ frames; prepared = (ap (λ (x : KeptLink). x.prepared) is ∙ idle) i; room = w.room }
 
 module _ (link : StatelessLink) (xs : List KeptLink) (p : ℕ) (w : KeptLink) where
   -- a link is put in, and another goes

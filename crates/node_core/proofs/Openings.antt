@@ -1,4 +1,5 @@
 -- Links that open: the new link follows its opening, and all others are as before.
+use Rattle.node_core.proofs.Words.{begun, none_begun}
 use Rattle.node_core.proofs.Words.{not-true, List, None, Some, ap, arith, false, length, map, nat_le, not, refl, subst, sym, true, ℕ, [], ◌++◌, ◌<◌, ◌==◌, ◌||◌}
 use Rattle.node_core.proofs.Words.{◌∙◌, ◌∷◌, ◌≡◌, AllByRecursion, list_all, option_map_or, eq-eqb, eqb-true, leb-true, lt-ltb, same, all_hold, unbroken}
 use Rattle.node_core.proofs.Words.{no_change, dial_checks, first_broken, History, is_accepted}
@@ -64,6 +65,10 @@ module _ (h : History) (legal : IsPlayed h) (e : Entry) (is_made : IsStep h e)
       opened_new h.entries e e.number st yes begins h.opening legal
       (fresh h.opening h.entries legal e is_made) (eq-eqb e.number e.number refl)
 
+  -- of which no message has begun
+  unbegun : begun h.opening e.number k.entries ≡ None
+  unbegun = none_begun h.opening k.entries (is_made, legal) e.number its.whole
+
   awaits_first : Awaits (facts k e.number) (awaited_in st []) false
   awaits_first = record {
     open_now = opened_open h.entries e e.number st yes begins ∙ ap (λ b. b || is_open e.number h.entries) (eq-eqb e.number e.number refl);
@@ -93,6 +98,7 @@ module _ {h : History} {parts : Parts} (t : Follows h parts) (seat c : ℕ) wher
         links = parts.links ++ record {
           number = next_number h;
           state = LinkState.Name challenge;
+          begun = None;
           frames = [];
           prepared = [];
           room = room;
@@ -109,6 +115,7 @@ module _ {h : History} {parts : Parts} (t : Follows h parts) (seat c : ℕ) wher
             (subst (λ w. ScopesFollow w parts.scopes) (sym (new_scopes h legal opening is refl (ByPeer c) refl (opened_rows h legal opening is refl c refl) refl)) t.scopes)
             (new_follows h legal opening is refl (ByPeer c) refl parts.links _ t.links refl (record {
               state = (awaits_first h legal opening is refl (ByPeer c) refl, same ∙ sym (ap (λ o. option_map_or (λ x. challenge_in x.start) o 0) (its h legal opening is refl (ByPeer c) refl).opened));
+              begun = sym (unbegun h legal opening is refl (ByPeer c) refl);
               frames = sym (opened_waiting h opening is refl legal c refl);
               idle = refl;
             })),
@@ -143,6 +150,7 @@ module _ {h : History} {parts : Parts} (t : Follows h parts) (seat : ℕ) (peer 
                   challenge = sym (ap (λ o. option_map_or (λ x. challenge_in x.start) o 0) new.opened);
                 },
               );
+              begun = sym (unbegun h legal dial is refl (ByDial peer c) refl);
               frames = (λ i. narrow (name_bytes (record { flags = own_flags (t.admission.hidden i); creation = t.admission.creation i; name = t.admission.own i; version = t.admission.links i })) ∷ []) ∙ sym (dialled_waiting h dial is refl legal peer c refl);
               idle = refl;
             }))),

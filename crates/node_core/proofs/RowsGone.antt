@@ -1,16 +1,14 @@
 -- The rows that leave with a process.
-use Rattle.node_core.proofs.Words.{IsSound}
 use Rattle.node_core.proofs.Words.{List, ap, arith, cond, false, length, map, refl, ℕ, [], ◌++◌, ◌+◌, ◌∙◌, ◌∷◌, ◌≡◌, ◌≤◌, AllByRecursion, filter, Less}
 use Rattle.node_core.proofs.Words.{same_decides, same_pid_decides, IsDifference, Rises, occurrences, same_pid, same_row, pid_cmp, row_cmp, text_cmp}
 use Rattle.node_core.proofs.Words.{GroupChange, Pid, Row, count_after_exit, Table, count_of}
 use Rattle.node_core.proofs.Words.{local_count, local_total, local_rows, row, History, IsPlayed}
 use Rattle.node_core.proofs.Words.{rows_left, IsRunningOf, scope_words, Ordering, is_gt, IsProper, times_left, Ascends, count_in_group, Running, sym, IsListing}
-use Rattle.node_core.proofs.Words.{max_rows, spread, total, same_length, same_row_decides, is_of_node}
+use Rattle.node_core.proofs.Words.{spread, total, same_length, same_row_decides, is_of_node}
 use Rattle.std.specs.Ordering.{ordering_then}
 use Rattle.dist_types.proofs.Listings.{all_append, fewer_length, length-spread, spread_counts}
 use Rattle.dist_types.proofs.Totals.{how_many_append}
 use Rattle.policy_audit.proofs.Lists.{rows_of_group}
-use Rattle.policy_audit.proofs.OldLinks.{few_own}
 use Rattle.policy_audit.proofs.OwnRows.{exit_listing, local_rows_are}
 use Rattle.node_core.proofs.Scopes.{own_counts}
 use Rattle.scope_core.specs.declared.counted.Counted.{Counted}
@@ -43,14 +41,6 @@ rows_total h s r named t legal =
     same_length same_row same_row_decides (local_rows h s) (own_rows r.table)
     (λ x. IsListing.counts (local_rows_are h s) x ∙ sym (ap (λ f. f x.group x.pid) (own_counts h s r named t legal)) ∙ sym (own_occurs r.table x))
     ∙ own_length r.table
-
--- so they are no more than a message brings
-pub few_total : (h : History) (r : Running) → IsRunningOf (scope_words h) r → IsSound h
-    → local_total r.table ≤ max_rows
-few_total h r t sound =
-    let is = rows_total h r.scope r refl t sound.played in
-    let few = few_own h sound.links sound.played r.scope in
-    omega (arith, is, few)
 
 -- each row leaves as often as the changes say
 left_occurs : (r : Row) (gs : List GroupChange) → occurrences same_row r (rows_left gs) ≡ times_left r.group r.pid gs

@@ -1,10 +1,11 @@
 -- Messages of own rows, and the links that are told them.
 use Rattle.node_core.proofs.Words.{List, OnErr, ap, arith, cond, length, map, not, refl, subst, sym, true, ℕ, [], ◌<◌, ◌∙◌, ◌∷◌, ◌≡◌, same_pid_decides}
 use Rattle.node_core.proofs.Words.{is_empty, IsListing, IsPidListing, IsRowListing, listing, mentions, same, same_pid, pid_cmp, Pid, Row, Message, Table, lie}
-use Rattle.node_core.proofs.Words.{Bool, false, ◌≤◌, ◌^◌, MayBeSaid, is_any_in, told_limit}
+use Rattle.node_core.proofs.Words.{Bool, false, ◌≤◌, ◌^◌, CanBeSaid, MayBeSaid, is_any_in, told_limit}
 use Rattle.node_core.proofs.Words.{row, KeptLink, Alike, min, stands_in, exact_pids, pids_total, IsJoinFault, IsLeaveFault, occurs_stands, Running, IsBrief}
 use Rattle.node_core.proofs.Words.{is_said, fault_of, IsJoinRefusal, IsLeaveRefusal, length-map, same_sym, occurrences, same_row, row_cmp, same_row_decides}
-use Rattle.node_core.proofs.Words.{same_length, count_in_group, max_rows}
+use Rattle.node_core.proofs.Words.{same_length, count_in_group, max_rows, append-nil, ◌++◌}
+use Rattle.node_core.proofs.Words.{OutFrame}
 use Rattle.std.proofs.Common.{Result}
 use Rattle.dist_types.proofs.Listings.{listing_counts}
 use Rattle.link_frames.specs.Parts.{HasParts}
@@ -46,6 +47,23 @@ may_be_said numbers links m b q true some =
     in_parts (told_limit numbers links) (within (is_any_in false numbers links)) m b q
 may_be_said numbers links m b q false some =
     spelled m (subst (λ old. IsBrief (cond old max_rows 65536) m) some b) q
+
+-- so can a Sync of few rows, or in parts
+pub sync_said : (parted : Bool) (s : List ℕ) (rows : List Row) (total : ℕ)
+    → length rows ≤ total → (parted ≡ false → total ≤ max_rows) → total < 2 ^ 32
+    → CanBeSaid parted (Message.Sync s rows)
+sync_said true s rows total within few fits = omega (arith, within, fits)
+sync_said false s rows total within few fits = (let most = few refl in omega (arith, within, most))
+
+-- behind a Sync a Discover stands, or nothing
+pub heard_alone : (is_heard : Bool) (fs sync asks : List OutFrame) → is_heard ≡ true → fs ≡ sync
+    → fs ≡ sync ++ cond is_heard [] asks
+heard_alone is_heard fs sync asks q e =
+    e ∙ sym (append-nil sync) ∙ ap (λ b. sync ++ cond b [] asks) (sym q)
+
+pub asked_too : (is_heard : Bool) (fs sync asks : List OutFrame) → is_heard ≡ false
+    → fs ≡ sync ++ asks → fs ≡ sync ++ cond is_heard [] asks
+asked_too is_heard fs sync asks q e = e ∙ ap (λ b. sync ++ cond b [] asks) (sym q)
 
 -- ---- rows of one group
 

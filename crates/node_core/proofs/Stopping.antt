@@ -1,4 +1,6 @@
 -- A scope that stops.
+use Rattle.node_core.proofs.Words.{broken_off, committed, map}
+use Rattle.node_core.specs.Ending.{ends_of}
 use Rattle.node_core.proofs.Words.{List, ap, cond, false, not, refl, subst, sym, true, ℕ, [], ◌++◌, ◌∙◌, ◌∷◌, ◌≡◌, AllByRecursion, filter, same_decides}
 use Rattle.node_core.proofs.Words.{same_sym, IsDifference, same, GroupChange, no_count, told_numbers, if_some, History, listed, waiting, said_in, is_running}
 use Rattle.node_core.proofs.Words.{IsStep, is_full, just, Entry, Accepted, Follows, Parts}
@@ -13,7 +15,19 @@ use Rattle.node_core.proofs.PeersKept.{stop_leaves, monitors_drop}
 use Rattle.node_core.proofs.Entered.{made, accepted_next, answered_by, sound_now}
 use Rattle.node_core.proofs.OneScope.{scope_change}
 use Rattle.node_core.proofs.Starting.{names}
-use Rattle.node_core.proofs.Told.{down_alike, told_follow, visible_told}
+use Rattle.node_core.proofs.Told.{down_alike, map_map, stopped_follow, visible_told}
+
+-- ---- links where nothing is kept of messages of one scope
+
+pub both_ways : (s : List ℕ) (xs : List KeptLink)
+    → map (broken_off s) (map committed xs) ≡ map committed (map (broken_off s) xs)
+both_ways s xs = map_map (broken_off s) committed xs ∙ sym (map_map committed (broken_off s) xs)
+
+-- the same links end
+pub ends_unbroken : (s : List ℕ) (xs : List KeptLink)
+    → ends_of (map (broken_off s) xs) ≡ ends_of xs
+ends_unbroken s [] = refl
+ends_unbroken s (x ∷ xs) = grind (arith, ends_unbroken s xs)
 
 -- ---- scopes but one
 
@@ -54,7 +68,7 @@ module _ (h : History) (seat : ℕ) (s : List ℕ) (gs : List GroupChange) where
         → Turns h seat (Event.StopScope s) (if_some s gs)
         (record parts {
           scopes = all_but s parts.scopes;
-          links = links;
+          links = map (broken_off s) links;
           monitors = without_scope s parts.monitors;
         }) (λ u. same s u) (λ x. x ≡ if_some s gs)
     stop_now space links tells =
@@ -75,7 +89,8 @@ module _ (h : History) (seat : ℕ) (s : List ℕ) (gs : List GroupChange) where
               running = names_left s parts.scopes ∙ ap (filter (λ u. not (same u s))) t.scopes.running ∙ sym (running_stopped h e refl s refl);
               each = all_still its parts.scopes t.scopes.each;
             };
-            links = told_follow (link_words h) (link_words stopped) (if_among (shown_numbers parts.links) (said_in (Message.Down s))) (λ l. refl)
+            links = stopped_follow (link_words h) (link_words stopped)
+                (if_among (shown_numbers parts.links) (said_in (Message.Down s))) s (λ l. refl)
                 (told_numbers h e its refl refl (λ l. (stopped_links h e its refl s refl l).kept_is)) parts.links links
                 (λ l parted way. ap (λ fs. waiting h l ++ fs)
                 (visible_told h parts.links t.sound.played t.links (Message.Down s) (down_alike s) l

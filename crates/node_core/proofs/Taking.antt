@@ -20,7 +20,14 @@ open_by h l s t = t.0.open_now
 
 -- a link for which nothing waits any more
 abbrev pub emptied : KeptLink → ℕ → KeptLink
-emptied x room = record { number = x.number; state = x.state; frames = []; prepared = []; room = room }
+emptied x room = record {
+  number = x.number;
+  state = x.state;
+  begun = x.begun;
+  frames = [];
+  prepared = [];
+  room = room;
+}
 
 module _ (h : History) (seat j : ℕ) (frames : List OutFrame) (parts : Parts) (t : Follows h parts)
     (p : ℕ) (d : KeptLink) (found : link_place j parts.links ≡ Some p) where
@@ -48,7 +55,12 @@ module _ (h : History) (seat j : ℕ) (frames : List OutFrame) (parts : Parts) (
 
   -- an open link is kept
   open_taken : (room : ℕ) → is_ended link.state ≡ false → LinksFollow words (set parts.links p (emptied link room))
-  open_taken room opened = one_follows (link_words h) words (emptied link room) (record { state = it.0.state; frames = sym (its_frames link.number it.1); idle = refl })
+  open_taken room opened = one_follows (link_words h) words (emptied link room) (record {
+    state = it.0.state;
+    begun = it.0.begun;
+    frames = sym (its_frames link.number it.1);
+    idle = refl;
+  })
       (λ x other y. other_link x (flip j x.number ∙ ap (λ l. nat_eq x.number l) (sym it.1) ∙ other)
       y) parts.links p d t.links (kept_climbs h t.sound.played)
       (taken_numbers h take refl j refl ∙ filter_all (λ l. not (j == l && not (is_open l h.entries))) (λ l. grind (arith, eqb-true j l, opens false opened)) (link_words h).numbers) it.2 refl

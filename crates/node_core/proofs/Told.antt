@@ -7,6 +7,8 @@ use Rattle.node_core.proofs.Words.{committed, prepared_for, unroomed, with_frame
 use Rattle.node_core.proofs.Words.{shown_numbers, LinkState, is_shown, bare, ArePrepared}
 use Rattle.node_core.proofs.Words.{cond, lie, takes_parts, ◌==◌, IsSpelled, said_in, takes, Message}
 use Rattle.node_core.proofs.Words.{is_any_in, wide, if_visible}
+use Rattle.node_core.proofs.Words.{None, Option, Begun, broken_off, same, Name, Awaited, Dialled}
+use Rattle.node_core.proofs.Words.{Awaits, IsGiven, IsIntroduced, IsDialled}
 use Rattle.scope_core.proofs.Rising.{all_map, all_mapped, all_unmapped}
 use Rattle.node_core.proofs.Zipped.{SoFar}
 
@@ -32,9 +34,19 @@ module _ (w v : LinkWords) (g : KeptLink → KeptLink) (on : (x : KeptLink) → 
   changed_follow numbers old new same q t = record {
     numbers = through (λ z. z.number) unroomed (λ x. unroomed (g x)) old new q ∙ same ∙ t.numbers ∙ sym numbers;
     each =
-        let roomless = all_map (IsLinkOf w) (λ x. IsLinkOf v (unroomed (g x))) (λ x it. let new = on x it in record { state = new.state; frames = new.frames; idle = new.idle }) old t.each in
+        let roomless = all_map (IsLinkOf w) (λ x. IsLinkOf v (unroomed (g x))) (λ x it. let new = on x it in record {
+          state = new.state;
+          begun = new.begun;
+          frames = new.frames;
+          idle = new.idle;
+        }) old t.each in
         let moved = subst (AllByRecursion (IsLinkOf v)) (sym q) (all_mapped (IsLinkOf v) (λ x. unroomed (g x)) old roomless) in
-        all_map (λ x. IsLinkOf v (unroomed x)) (IsLinkOf v) (λ x it. record { state = it.state; frames = it.frames; idle = it.idle }) new (all_unmapped (IsLinkOf v) unroomed new moved);
+        all_map (λ x. IsLinkOf v (unroomed x)) (IsLinkOf v) (λ x it. record {
+          state = it.state;
+          begun = it.begun;
+          frames = it.frames;
+          idle = it.idle;
+        }) new (all_unmapped (IsLinkOf v) unroomed new moved);
   }
 
 -- a link of which this is said takes messages so, where it is up
@@ -56,12 +68,86 @@ told_follow w v more facts numbers old new waits q t =
     changed_follow w v (λ x. with_frames x (more x.number (takes_parts x.state)))
     (λ x it. record {
       state = subst (λ f. IsState f x.state) (sym (facts x.number)) it.state;
+      begun = it.begun ∙ sym (ap (λ (f : LinkFacts). f.begun) (facts x.number));
       frames = ap (λ f. f ++ more x.number (takes_parts x.state)) it.frames
           ∙ sym (waits x.number (takes_parts x.state)
           (its_way (w.facts x.number) x.state it.state));
       idle = it.idle;
     })
     numbers old new refl q t
+
+-- what is kept of a message doesn't matter to a state
+still_given : (f : LinkFacts) (b : Option Begun) {n : Name} {name : List ℕ} {creation : ℕ}
+    {visible : Bool} {version : ℕ} → IsGiven f n name creation visible version
+    → IsGiven (record f { begun = b }) n name creation visible version
+still_given f b it = record {
+  said = it.said;
+  name_is = it.name_is;
+  creation_is = it.creation_is;
+  visible_is = it.visible_is;
+  version_is = it.version_is;
+}
+
+still_awaits : (f : LinkFacts) (b : Option Begun) {frame : Awaited} {is_done : Bool}
+    → Awaits f frame is_done → Awaits (record f { begun = b }) frame is_done
+still_awaits f b it = record { open_now = it.open_now; whole = it.whole; awaited = it.awaited }
+
+still_introduced : (f : LinkFacts) (b : Option Begun) {name : List ℕ} {creation : ℕ}
+    {visible : Bool} {version number : ℕ} → IsIntroduced f name creation visible version number
+    → IsIntroduced (record f { begun = b }) name creation visible version number
+still_introduced f b it = record {
+  peer = record { peer = it.peer.peer; other = it.peer.other };
+  said = (it.said.0, still_given f b it.said.1);
+  challenge = it.challenge;
+}
+
+still_dialled : (f : LinkFacts) (b : Option Begun) {dial : Dialled} → IsDialled f dial
+    → IsDialled (record f { begun = b }) dial
+still_dialled f b it = record {
+  peer = record { peer = it.peer.peer; other = it.peer.other };
+  challenge = it.challenge;
+}
+
+pub still_state : (f : LinkFacts) (b : Option Begun) (s : LinkState) → IsState f s
+    → IsState (record f { begun = b }) s
+still_state f b (LinkState.Name c) it = (still_awaits f b it.0, it.1)
+still_state f b (LinkState.Answer s) it = (still_awaits f b it.0, still_introduced f b it.1)
+still_state f b (LinkState.Reply s) it = (still_awaits f b it.0, still_introduced f b it.1)
+still_state f b (LinkState.Status d) it = (still_awaits f b it.0, still_dialled f b it.1)
+still_state f b (LinkState.Challenge d) it = (still_awaits f b it.0, still_dialled f b it.1)
+still_state f b (LinkState.Ack s) it = (still_awaits f b it.0, still_introduced f b it.1)
+still_state f b (LinkState.Up s) it = (still_awaits f b it.0, still_introduced f b it.1)
+still_state f b LinkState.Ended it = it
+
+-- links for which further frames wait, where nothing is kept of messages of one scope any more
+pub stopped_follow : (w v : LinkWords) (more : ℕ → Bool → List OutFrame) (s : List ℕ)
+    → ((l : ℕ) → v.facts l ≡ record (w.facts l) {
+      begun = cond (option_map_or (λ b. same b.scope s) (w.facts l).begun false) None
+          (w.facts l).begun;
+    })
+    → v.numbers ≡ w.numbers → (old new : List KeptLink)
+    → ((l : ℕ) (parted : Bool) → IsItsWay (w.facts l) parted
+    → v.waiting l ≡ w.waiting l ++ more l parted)
+    → AreTold more old new → LinksFollow w old → LinksFollow v (map (broken_off s) new)
+stopped_follow w v more s facts numbers old new waits q t =
+    changed_follow w v (λ x. broken_off s (told x))
+    (λ x it. record {
+      state = subst (λ f. IsState f x.state) (sym (facts x.number)) (still_state (w.facts x.number) _ x.state it.state);
+      begun =
+          ap (λ b. cond (option_map_or (λ y. same y.scope s) b false) None b) it.begun
+          ∙ sym (ap (λ (f : LinkFacts). f.begun) (facts x.number));
+      frames = ap (λ f. f ++ more x.number (takes_parts x.state)) it.frames
+          ∙ sym (waits x.number (takes_parts x.state)
+          (its_way (w.facts x.number) x.state it.state));
+      idle = it.idle;
+    })
+    numbers old (map (broken_off s) new) refl
+    (map_map unroomed (broken_off s) new
+    ∙ through (λ z. unroomed (broken_off s z)) unroomed (λ x. unroomed (told x)) old new q)
+    t
+  where
+    told : KeptLink → KeptLink
+    told x = with_frames x (more x.number (takes_parts x.state))
 
 -- all that a node keeps is as before where its links are the same but for their room
 pub alike_again : (h : History) (parts : Parts) → Follows h parts → (links : List KeptLink) → Alike parts.links links → Follows h (record parts { links = links })

@@ -4,7 +4,8 @@ pub use Rattle.std.proofs.Common.{map, nat_eq, nat_le, nat_lt, not, position, re
 pub use Rattle.std.proofs.Common.{[], ◌&&◌, ◌++◌, ◌+◌, ◌-◌, ◌<◌, ◌==◌, ◌||◌, ◌∙◌, ◌∷◌, ◌≡◌, ◌≤◌, IfNone, IfSome, IsSome, OnOk, append_assoc}
 pub use Rattle.std.proofs.Common.{if◌then◌else◌, inl, inr, min, reverse, ◌^◌, ◌⊎◌}
 pub use Rattle.std.specs.List.{AllByRecursion, AllZip, filter, flat_map, list_all, list_any, insert}
-pub use Rattle.std.specs.Option.{option_map, option_map_or, option_to_list, unwrap_or}
+pub use Rattle.std.specs.Option.{option_and_then, option_map, option_map_or, option_to_list}
+pub use Rattle.std.specs.Option.{unwrap_or}
 pub use Rattle.std.specs.declared.cmp.Ordering.TheVariants.{Less}
 pub use Rattle.std.specs.declared.result.Result.{Result}
 pub use Rattle.std.proofs.Math.Bool.{and-true}
@@ -64,9 +65,6 @@ pub use Rattle.policy_audit.specs.Checks.{challenge_checks, digest_checks, is_pe
 pub use Rattle.policy_audit.specs.Checks.{peer_rows, status_checks}
 pub use Rattle.policy_audit.specs.Contents.{local_rows, row, contents, groups, groups_named, local_groups, local_members, members, pids_named}
 pub use Rattle.link_frames.specs.Reading.{message as read_message}
-pub use Rattle.policy_audit.proofs.OldLinks.{completes, few_own, frames_checked, old_checks}
-pub use Rattle.policy_audit.proofs.OldLinks.{old_owes}
-pub use Rattle.policy_audit.proofs.OldLinks.{owes_are, said_is, taken_is}
 pub use Rattle.policy_audit.specs.Owed.{frames_to, if_visible}
 pub use Rattle.policy_audit.specs.Hearing.{link_version}
 pub use Rattle.link_frames.specs.Parts.{whole}
@@ -126,10 +124,13 @@ pub use Rattle.node_core.specs.Handshakes.{HaveEnded, moved_on, older_of, withou
 pub use Rattle.node_core.specs.Hearing.{Hears, heard_named, is_handshake, rule_of, accepted_as}
 pub use Rattle.node_core.specs.Hearing.{beside, state_checks}
 pub use Rattle.node_core.specs.LinkFacts.{IsIntroduced, IsLinkOf, IsState, LinkFacts, LinkWords, LinksFollow, facts, kept_numbers, link_words, Awaits}
-pub use Rattle.node_core.specs.LinkFacts.{IsGiven, IsPeer}
+pub use Rattle.node_core.specs.LinkFacts.{IsDialled, IsGiven, IsPeer}
 pub use Rattle.node_core.specs.Links.{KeptLink, StatelessLink, in_state, committed, dial_beside, dialled_peer, known_peer, narrow_frames, prepared_for, unroomed, up_peer}
 pub use Rattle.node_core.specs.Links.{with_frames, with_prepared, with_room, are_of_peer, dial_to}
-pub use Rattle.node_core.specs.Links.{takes, takes_parts, is_any_in}
+pub use Rattle.node_core.specs.Links.{broken_off, takes, takes_parts, is_any_in}
+pub use Rattle.link_frames.specs.Parts.{Begun}
+pub use Rattle.policy_audit.specs.Hearing.{begun}
+pub use Rattle.policy_audit.proofs.Begun.{none_begun, others as unmoved_begun}
 pub use Rattle.node_core.specs.Links.{dialled_link, is_ended, is_shown, link_place, without_number}
 pub use Rattle.node_core.specs.Moving.{IsMovedBy, IsOwnChange, IsJoinRefusal, IsLeaveRefusal}
 pub use Rattle.node_core.specs.Moving.{fault_of, join_of, leave_of, own_checks}
@@ -144,10 +145,20 @@ pub use Rattle.policy_audit.proofs.OldTold.{few_local}
 pub use Rattle.policy_audit.specs.Checks.{is_old_told}
 pub use Rattle.node_core.specs.Telling.{said_in, wide_frames, CanBeSaid, IsSpelled, MayBeSaid}
 pub use Rattle.node_core.specs.Telling.{Alike, AreIdle, AreTold, if_among, said_to, shown_numbers, IsBrief, is_said, put_scope}
-pub use Rattle.node_core.specs.MessageRules.{AnswersDiscover, HasBecome, IsAddRefusal, IsTakeRefusal, early_checks}
+pub use Rattle.node_core.specs.MessageRules.{AnswersDiscover, HasBecome, early_checks}
+pub use Rattle.node_core.specs.MessageRules.{IsRowFault, table_refusal, count_after, count_with}
+pub use Rattle.node_core.specs.MessageRules.{heard_after, heard_with, sync_frames, IsChangeIn}
+pub use Rattle.node_core.specs.MessageRules.{can_be_told}
+pub use Rattle.link_frames.specs.declared.part.Message2.{Message2}
+pub use Rattle.link_frames.specs.declared.part.PartKind.{PartKind}
+pub use Rattle.link_frames.specs.Parts.{begun_after, completed, rows_so_far, rows_before, is_next}
+pub use Rattle.policy_audit.specs.Checks.{message_checks, peer_limit, so_far, Check}
+pub use Rattle.policy_audit.specs.Owed.{message_owes, said_frames}
+pub use Rattle.policy_audit.specs.Hearing.{kept_after, message_taken, rows_kept}
+pub use Rattle.node_core.specs.Links.{begun_with, row_limit}
 pub use Rattle.node_core.specs.declared.fault.CoreFault.{CoreFault}
 pub use Rattle.node_core.specs.declared.hearing.Heard.{Heard}
 pub use Rattle.node_core.specs.declared.link_state.LinkState.{LinkState}
 pub use Rattle.node_core.specs.declared.running.Running.{Running}
 pub use Rattle.node_core.specs.Reading.{frame_awaited}
-pub use Rattle.node_core.specs.Messages.{scope_in}
+pub use Rattle.node_core.specs.Messages.{scope_in, says_in}

@@ -1,5 +1,6 @@
 -- What a node keeps is what its history says.
 use Rattle.std.specs.Prelude.{◌≡◌, ℕ, ◌≤◌, ◌<◌, ◌^◌, List}
+use Rattle.handshake_frames.specs.Spelling.{IsVersion}
 use Rattle.admission_rules.specs.Admission.{AdmissionRules}
 use Rattle.group_monitors.specs.declared.monitor.Monitor.{Monitor}
 use Rattle.group_monitors.specs.Follows.{FollowsPolicy}
@@ -18,13 +19,13 @@ use Rattle.node_core.specs.ProcessFacts.{process_words, ProcessesFollow}
 use Rattle.node_core.specs.AdmissionFacts.{admission_words, AdmissionFollows}
 
 -- each step of the history is the policy's, within its limit,
--- and the node knows version 1 of link messages alone
+-- and the node knows version 1 of link messages, or 2 as well
 pub record IsSound (h : History) : Type 0 where
   pub played : IsPlayed h
   pub fits : h.opening.entries < 2 ^ 32
   pub few : entered h.entries ≤ h.opening.entries
   pub few_spawned : spawned h ≤ entered h.entries
-  pub links : h.opening.links ≡ 1
+  pub links : IsVersion h.opening.links
 
 -- what a node keeps that changes
 pub record Parts : Type 0 where

@@ -1,7 +1,6 @@
 -- What is known of a frame and its link, where it is handed to what hears it.
 use Rattle.std.specs.Prelude.{◌≡◌, ℕ, true, false, None, Some}
-use Rattle.dist_types.specs.Listing.{max_rows}
-use Rattle.link_frames.specs.declared.message.Message.{Message}
+use Rattle.link_frames.specs.declared.part.Message2.{Message2}
 use Rattle.policy_audit.specs.Checks.{first_broken}
 use Rattle.policy_audit.specs.Links.{is_open, is_up}
 use Rattle.policy_audit.specs.Sides.{awaits, is_last, is_whole}
@@ -11,7 +10,6 @@ use Rattle.node_core.specs.ScopeFacts.{scope_place}
 use Rattle.node_core.specs.Messages.{scope_in}
 use Rattle.node_core.specs.MessageRules.{early_checks}
 use Rattle.node_core.specs.Step.{Call, IsCalled}
-use Rattle.node_core.specs.Telling.{IsBrief}
 
 -- the link of this number is kept at this place
 pub record IsLinkHere (call : Call) (kept : Kept) (place number : ℕ) : Type 0 where
@@ -37,8 +35,7 @@ pub record IsUpLink (call : Call) (kept : Kept) (place number : ℕ) : Type 0 wh
   pub up : is_up number call.past.entries ≡ true
 
 -- the message, for the scope that is kept at this place, breaks no rule but those that the table tells
-pub record IsSoundMessage (call : Call) (kept : Kept) (place at number : ℕ) (message : Message) : Type 0 where
+pub record IsSoundMessage (call : Call) (kept : Kept) (place at number : ℕ) (message : Message2) : Type 0 where
   pub on : IsUpLink call kept place number
   pub there : scope_place (scope_in message) kept.scopes.items ≡ Some at
   pub holds : first_broken (early_checks call.past number message) ≡ None
-  pub brief : IsBrief max_rows message

@@ -17,9 +17,16 @@ pub record IsReady (link : StatelessLink) (frames : ℕ) : Type 0 where
   pub idle : link.prepared ≡ []
   pub room : frames ≤ link.room
 
--- the link in this state, with further frames that wait, and with this room
+-- the link in this state, with further frames that wait, and with this room; it has begun no message
 abbrev pub moved_on : LinkState → List OutFrame → ℕ → KeptLink → KeptLink
-moved_on state frames room link = record { number = link.number; state = state; frames = link.frames ++ frames; prepared = []; room = room }
+moved_on state frames room link = record {
+  number = link.number;
+  state = state;
+  begun = None;
+  frames = link.frames ++ frames;
+  prepared = [];
+  room = room;
+}
 
 -- the links but the one of this number, if there is one
 abbrev pub without_link : Option ℕ → List KeptLink → List KeptLink

@@ -4,12 +4,13 @@ use Rattle.std.specs.List.{filter, AllByRecursion}
 use Rattle.dist_types.specs.Flags.{has_bit}
 use Rattle.dist_types.specs.Listing.{same}
 use Rattle.handshake_frames.specs.Frame.{Name}
+use Rattle.link_frames.specs.Parts.{Begun}
 use Rattle.link_states.specs.States.{Dialled}
 use Rattle.policy_audit.specs.OutFrame.{OutFrame}
 use Rattle.policy_audit.specs.History.{History}
 use Rattle.policy_audit.specs.Sides.{peer_of, given, is_whole, Awaited, AwaitName, AwaitAnswer, AwaitReply, AwaitStatus, AwaitChallenge, AwaitAck, AwaitMessage, awaits}
 use Rattle.policy_audit.specs.Links.{is_open, links}
-use Rattle.policy_audit.specs.Hearing.{link_version}
+use Rattle.policy_audit.specs.Hearing.{begun, link_version}
 use Rattle.policy_audit.specs.Owed.{own_challenge, waiting, is_kept}
 use Rattle.node_core.specs.declared.link_state.LinkState.{LinkState}
 use Rattle.node_core.specs.declared.link_state.LinkState.TheVariants as state
@@ -26,6 +27,7 @@ pub record LinkFacts : Type 0 where
   pub said : Option Name
   pub version : ℕ
   pub challenge : ℕ
+  pub begun : Option Begun
 
 -- these words of link l
 abbrev pub facts : History → ℕ → LinkFacts
@@ -39,6 +41,7 @@ facts h l = record {
   said = given l h.entries;
   version = link_version h.opening l h.entries;
   challenge = own_challenge l h.entries;
+  begun = begun h.opening l h.entries;
 }
 
 -- the link is open, and awaits this
@@ -96,9 +99,11 @@ kept_numbers h = reverse (filter (is_kept h) (links h.entries))
 abbrev pub link_words : History → LinkWords
 link_words h = record { numbers = kept_numbers h; facts = facts h; waiting = waiting h }
 
--- a kept link: its state, and the frames that wait for it; none is prepared
+-- a kept link: its state, what is kept of a message begun there, and the frames that wait for it;
+-- none is prepared
 pub record IsLinkOf (w : LinkWords) (link : KeptLink) : Type 0 where
   pub state : IsState (w.facts link.number) link.state
+  pub begun : link.begun ≡ (w.facts link.number).begun
   pub frames : link.frames ≡ w.waiting link.number
   pub idle : link.prepared ≡ []
 

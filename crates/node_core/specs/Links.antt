@@ -3,9 +3,10 @@ use Rattle.std.specs.Prelude.{ℕ, Bool, true, false, cond, find, position, not,
 use Rattle.std.specs.Prelude.{List, ◌++◌, ◌∷◌, [], map, Option, Some, None}
 use Rattle.std.specs.List.{list_any, list_all, filter}
 use Rattle.dist_types.specs.declared.row.Row.{Row}
-use Rattle.dist_types.specs.Listing.{same, Rises}
+use Rattle.dist_types.specs.Listing.{same, max_rows, Rises}
 use Rattle.std.specs.Ordering.{nat_cmp}
 use Rattle.admission_rules.specs.Admission.{AdmissionRules}
+use Rattle.link_frames.specs.Parts.{Begun}
 use Rattle.link_states.specs.Frames.{own_name}
 use Rattle.policy_audit.specs.OutFrame.{OutFrame}
 use Rattle.std.specs.Option.{option_map, option_map_or}
@@ -13,16 +14,18 @@ use Rattle.policy_audit.specs.Owed.{narrow}
 use Rattle.node_core.specs.declared.link_state.LinkState.{LinkState}
 use Rattle.node_core.specs.declared.link_state.LinkState.TheVariants as state
 
--- the number of the entry that opened it, its state, the frames that wait for it, those that are prepared for it,
--- and how many more it can take without memory
+-- the number of the entry that opened it, its state, what is kept of a message of which parts came,
+-- the frames that wait for it, those that are prepared for it, and how many more it can take without
+-- memory
 pub record KeptLink : Type 0 where
   pub number : ℕ
   pub state : LinkState
+  pub begun : Option Begun
   pub frames : List OutFrame
   pub prepared : List OutFrame
   pub room : ℕ
 
--- a link without its state
+-- a link without its state, of no message begun
 pub record StatelessLink : Type 0 where
   pub number : ℕ
   pub frames : List OutFrame
@@ -31,7 +34,14 @@ pub record StatelessLink : Type 0 where
 
 -- the link in this state
 abbrev pub in_state : LinkState → StatelessLink → KeptLink
-in_state state link = record { number = link.number; state = state; frames = link.frames; prepared = link.prepared; room = link.room }
+in_state state link = record {
+  number = link.number;
+  state = state;
+  begun = None;
+  frames = link.frames;
+  prepared = link.prepared;
+  room = link.room;
+}
 
 -- links in the order in which they were opened
 abbrev pub AreInOrder : List KeptLink → Type 0
@@ -51,7 +61,23 @@ with_room link room = record link { room = room }
 
 -- a link that was dialled to a peer: the first frame waits for it
 abbrev pub dialled_link : AdmissionRules → ℕ → List ℕ → ℕ → ℕ → KeptLink
-dialled_link rules number peer challenge room = record { number = number; state = state.Status (record { peer = peer; challenge = challenge }); frames = narrow (own_name rules) ∷ []; prepared = []; room = room }
+dialled_link rules number peer challenge room = record {
+  number = number;
+  state = state.Status (record { peer = peer; challenge = challenge });
+  begun = None;
+  frames = narrow (own_name rules) ∷ [];
+  prepared = [];
+  room = room;
+}
+
+-- the link, where nothing is kept of a message of this scope
+abbrev pub broken_off : List ℕ → KeptLink → KeptLink
+broken_off s link =
+    record link { begun = cond (option_map_or (λ b. same b.scope s) link.begun false) None link.begun }
+
+-- the link, where this is kept of a message
+abbrev pub begun_with : KeptLink → Option Begun → KeptLink
+begun_with link begun = record link { begun = begun }
 
 -- bodies of the handshake as frames
 abbrev pub narrow_frames : List (List ℕ) → List OutFrame
@@ -78,6 +104,10 @@ is_shown s = false
 abbrev pub takes_parts : LinkState → Bool
 takes_parts (state.Up up) = up.version == 2
 takes_parts s = false
+
+-- how many rows its peer may have in a scope
+abbrev pub row_limit : LinkState → ℕ
+row_limit s = cond (takes_parts s) 65536 max_rows
 
 -- messages go over it in parts, or whole, as asked
 abbrev pub takes : Bool → LinkState → Bool

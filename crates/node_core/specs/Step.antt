@@ -1,6 +1,7 @@
 -- What one event makes of a node.
-use Rattle.std.specs.Prelude.{◌≡◌, ◌≢◌, ℕ, ◌<◌, ◌+◌, false, List, [], ◌∷◌, length, Ok, Err}
+use Rattle.std.specs.Prelude.{◌≡◌, ℕ, ◌<◌, ◌+◌, false, List, [], ◌∷◌, length, Ok, Err}
 use Rattle.std.specs.declared.result.Result.{Result}
+use Rattle.handshake_frames.specs.Spelling.{IsVersion}
 use Rattle.policy_audit.specs.declared.opening.Opening.{Opening}
 use Rattle.policy_audit.specs.declared.event.Event.{Event}
 use Rattle.policy_audit.specs.declared.reply.Reply.{Reply}
@@ -25,11 +26,11 @@ IsStepped old seat e new (Ok reply) = (verdict old seat e ≡ verdicts.Accepted 
 IsStepped old seat e new (Err (faults.Refused rule)) = (verdict old seat e ≡ verdicts.Refused rule) × (new ≡ after old seat e)
 IsStepped old seat e new (Err faults.OutOfMemory) = (is_full old ≡ false) × (new ≡ old)
 
--- why there is no node: the limit comes first, and then the version, of which 1 alone is taken
+-- why there is no node: the limit comes first, and then the version, which is 1 or 2
 abbrev pub IsOpenFault : OpenFault → Opening → Type 0
 IsOpenFault open_faults.BadLimit opening = opening.entries ≡ 0
-IsOpenFault open_faults.BadLinks opening = (0 < opening.entries) × (opening.links ≢ 1)
-IsOpenFault open_faults.OutOfMemory opening = (0 < opening.entries) × (opening.links ≡ 1)
+IsOpenFault open_faults.BadLinks opening = (0 < opening.entries) × (IsVersion opening.links → ⊥)
+IsOpenFault open_faults.OutOfMemory opening = (0 < opening.entries) × IsVersion opening.links
 
 -- ---- what is kept, event by event
 

@@ -25,7 +25,7 @@ pub enum CoreFault {
 pub enum OpenFault {
     #[error("an audit needs room for one entry at least")]
     BadLimit,
-    #[error("the version of link messages must be 1")]
+    #[error("the version of link messages must be 1 or 2")]
     BadLinks,
     #[error("out of memory")]
     OutOfMemory,

@@ -244,6 +244,7 @@ fn put(links: &mut Vec<Link>, place: usize, link: Link)
 fn owe_all(link: &mut Link, frames: Bodies, visible: bool, discovers: Vec<OutFrame>)
     requires room { length frames + length discovers.items ≤ link.old.room }
     requires idle { link.old.prepared ≡ [] }
+    requires unbegun { link.old.begun ≡ None }
     ensures { link.new ≡ moved_on link.old.state (narrow_frames frames ++ cond visible discovers.items []) link.new.room link.old }
 {
     link.owe_bodies(frames);

@@ -1,15 +1,21 @@
 //! A link that is kept.
-ghost use Rattle.std.specs.Prelude.{◌≡◌, ◌++◌, vec_len, vec_capacity, [], ◌≤◌, ◌+◌, ◌==◌, false, ℕ, List, length, OnOk, OnErr, IfOk};
+ghost use Rattle.std.specs.Prelude.{◌≡◌, ◌++◌, vec_len, vec_capacity, [], ◌≤◌, ◌+◌, ◌==◌, false, cond, ℕ, length, None, OnOk, OnErr, IfOk};
 ghost use Rattle.std.specs.Option.{option_map, option_map_or};
 ghost use Rattle.dist_types.specs.Listing.{same};
-ghost use Rattle.policy_audit.specs.OutFrame.{OutFrame};
+ghost use Rattle.link_frames.specs.declared.part.Message2.TheVariants as messages;
+ghost use Rattle.link_frames.specs.Parts.{is_next, begun_after};
+ghost use Rattle.link_frames.specs.Undoing.{undone};
+ghost use Rattle.policy_audit.specs.Hearing.{rows_kept};
 ghost use Rattle.node_core.specs.Ending.{is_overfull};
-ghost use Rattle.node_core.specs.Links.{KeptLink, with_frames, with_prepared, with_room, narrow_frames, up_peer, dialled_peer, known_peer, is_shown, is_ended, in_state, takes, takes_parts};
+ghost use Rattle.node_core.specs.Links.{KeptLink, broken_off, with_frames, with_prepared, with_room, narrow_frames, is_shown, is_ended, in_state, takes, takes_parts, begun_with, row_limit};
 
 use crate::link_state::LinkState;
+use crate::running::{ROWS_OF_VERSION_1, ROWS_OF_VERSION_2};
 use crate::slow::MAX_WAITING;
-use dist_types::{NodeName, OutOfMemory, TryClone};
-use link_states::{Bodies, HandshakeBody};
+use crate::waiting::{put_bodies, put_copies, put_frames};
+use dist_types::{OutOfMemory, Row, Scope};
+use link_frames::{PartKind, Parts, Rows, Undo};
+use link_states::Bodies;
 use policy_audit::{OutFrame, OutFrames};
 use std::alloc::Global;
 use std::marker::Model;
@@ -20,6 +26,8 @@ use std::mem;
 pub struct Link {
     number: u32,
     state: LinkState,
+    /// What is kept of a message of which parts came.
+    begun: Parts,
     /// The frames that are owed, and behind them those that are prepared.
     waiting: Vec<OutFrame>,
     /// How many are owed.
@@ -35,6 +43,7 @@ impl Model for Link {
     ghost view = { λ link. record {
       number = link.number;
       state = link.state;
+      begun = link.begun;
       frames = take link.owed link.waiting.items;
       prepared = drop link.owed link.waiting.items;
       room = vec_capacity link.waiting - vec_len link.waiting;
@@ -43,7 +52,7 @@ impl Model for Link {
     ghost invariant = { λ link. link.owed ≤ vec_len link.waiting };
 }
 
-/// A link without its state, which hears a frame.
+/// A link without its state, which hears a frame of the handshake: it has begun no message.
 #[derive(Drop)]
 pub struct Stateless {
     number: u32,
@@ -80,6 +89,7 @@ impl Stateless {
         Link {
             number,
             state,
+            begun: Parts::new(),
             waiting,
             owed,
         }
@@ -95,12 +105,20 @@ impl Stateless {
 impl Link {
     /// A link for which these frames wait.
     pub fn new(number: u32, state: LinkState, waiting: Vec<OutFrame>) -> Link
-        ensures { result ≡ record { number = number; state = state; frames = waiting.items; prepared = []; room = result.room } }
+        ensures { result ≡ record {
+          number = number;
+          state = state;
+          begun = None;
+          frames = waiting.items;
+          prepared = [];
+          room = result.room;
+        } }
     {
         let owed = waiting.len();
         Link {
             number,
             state,
+            begun: Parts::new(),
             waiting,
             owed,
         }
@@ -190,7 +208,14 @@ impl Link {
     pub fn hand_over(&mut self, alloc: Global) -> OutFrames
         requires { self.old.prepared ≡ [] }
         ensures frames { result ≡ self.old.frames }
-        ensures left { self.new ≡ record { number = self.old.number; state = self.old.state; frames = []; prepared = []; room = self.new.room } }
+        ensures left { self.new ≡ record {
+          number = self.old.number;
+          state = self.old.state;
+          begun = self.old.begun;
+          frames = [];
+          prepared = [];
+          room = self.new.room;
+        } }
     {
         self.owed = 0;
         OutFrames::of(mem::replace(&mut self.waiting, Vec::new(alloc)))
@@ -198,11 +223,13 @@ impl Link {
 
     /// Takes the state out, for a frame to be heard in it.
     pub fn into_parts(self) -> (LinkState, Stateless)
+        requires { self.begun ≡ None }
         ensures { in_state result.0 result.1 ≡ self }
     {
         let Link {
             number,
             state,
+            begun: _,
             waiting,
             owed,
         } = self;
@@ -214,26 +241,76 @@ impl Link {
         (state, rest)
     }
 
-    /// Whether the link is up with this peer.
-    pub fn is_up_with(&self, peer: &NodeName) -> bool
-        ensures { result ≡ option_map_or (λ n. same n peer.now) (up_peer self.now.state) false }
+    /// Whether a part may come: it is the first of its message, or follows those that are kept.
+    pub fn is_next(&self, kind: PartKind, scope: &Scope, number: u32) -> bool
+        ensures { result ≡ is_next self.now.begun kind scope.now number }
     {
-        match &self.state {
-            LinkState::Up(up) => up.peer() == peer,
-            _ => false,
+        self.begun.is_next(kind, scope, number)
+    }
+
+    /// Keeps a part. What takes it back is handed out.
+    pub fn gather(
+        &mut self,
+        kind: PartKind,
+        scope: Scope,
+        number: u32,
+        rows: Rows,
+    ) -> Result<Undo, OutOfMemory>
+        ensures ok { OnOk result (self.new ≡ begun_with self.old
+            (begun_after self.old.begun (messages.Part kind scope number false rows))) }
+        ensures undo { IfOk result (λ undo. undone undo self.new.begun ≡ self.old.begun) }
+        ensures same { OnErr result (self.new ≡ self.old) }
+    {
+        self.begun.gather(kind, scope, number, rows)
+    }
+
+    /// Takes the latest part back.
+    pub fn undo(&mut self, undo: Undo)
+        ensures { self.new ≡ begun_with self.old (undone undo self.old.begun) }
+    {
+        self.begun.undo(undo);
+    }
+
+    /// Nothing is kept of a message.
+    pub fn clear(&mut self)
+        ensures { self.new ≡ begun_with self.old None }
+    {
+        self.begun.clear();
+    }
+
+    /// Nothing is kept of a message whose last part has come.
+    pub fn settle(&mut self, last: bool)
+        ensures { self.new ≡ begun_with self.old (cond last None self.old.begun) }
+    {
+        if last {
+            self.clear();
         }
     }
 
-    /// Whether the link is an own dial to this peer that is unfinished.
-    pub fn is_dial_to(&self, peer: &NodeName) -> bool
-        ensures { result ≡ option_map_or (λ n. same n peer.now) (dialled_peer self.now.state) false }
+    /// The rows that are kept of a message of which parts came.
+    pub fn begun_rows(&self) -> &[Row]
+        ensures { result.now ≡ rows_kept self.now.begun }
     {
-        match &self.state {
-            LinkState::Status(state) => state.peer() == peer,
-            LinkState::Challenge(state) => state.peer() == peer,
-            LinkState::Ack(state) => state.peer() == peer,
-            _ => false,
-        }
+        self.begun.rows()
+    }
+
+    /// The answer to a Discover, for which there is room, waits from now on; and nothing is kept of
+    /// a message.
+    pub fn answer(&mut self, frames: Vec<OutFrame>)
+        requires room { length frames.items ≤ self.old.room }
+        requires idle { self.old.prepared ≡ [] }
+        ensures { self.new
+            ≡ with_room (begun_with (with_frames self.old frames.items) None) self.new.room }
+    {
+        self.owe(frames);
+        self.clear();
+    }
+
+    /// Nothing is kept of a message of this scope.
+    pub fn break_off(&mut self, scope: &Scope)
+        ensures { self.new ≡ broken_off scope.now self.old }
+    {
+        self.begun.break_off(scope);
     }
 
     /// Whether too many frames wait for it, with those that are prepared.
@@ -263,6 +340,17 @@ impl Link {
         }
     }
 
+    /// How many rows its peer may have in a scope.
+    pub fn row_limit(&self) -> u32
+        ensures { result ≡ row_limit self.now.state }
+    {
+        if self.takes_parts() {
+            ROWS_OF_VERSION_2
+        } else {
+            ROWS_OF_VERSION_1
+        }
+    }
+
     /// Whether messages go over it in parts, or whole, as asked.
     pub fn takes(&self, parted: bool) -> bool
         ensures { result ≡ takes parted self.now.state }
@@ -275,84 +363,5 @@ impl Link {
         ensures { result ≡ is_ended self.now.state }
     {
         matches!(self.state, LinkState::Ended)
-    }
-
-    /// The peer, where it is known.
-    pub fn peer(&self) -> Option<&NodeName>
-        ensures { option_map (λ n. n.now) result ≡ known_peer self.now.state }
-    {
-        match &self.state {
-            LinkState::Name(_) | LinkState::Ended => None,
-            LinkState::Answer(state) => Some(state.peer()),
-            LinkState::Reply(state) => Some(state.peer()),
-            LinkState::Status(state) => Some(state.peer()),
-            LinkState::Challenge(state) => Some(state.peer()),
-            LinkState::Ack(state) => Some(state.peer()),
-            LinkState::Up(up) => Some(up.peer()),
-        }
-    }
-
-    /// The peer, if the link is up.
-    pub fn up_peer(&self) -> Option<&NodeName>
-        ensures { option_map (λ n. n.now) result ≡ up_peer self.now.state }
-    {
-        match &self.state {
-            LinkState::Up(up) => Some(up.peer()),
-            _ => None,
-        }
-    }
-
-    /// The peer, if the link is an own dial that is unfinished.
-    pub fn dialled_peer(&self) -> Option<&NodeName>
-        ensures { option_map (λ n. n.now) result ≡ dialled_peer self.now.state }
-    {
-        match &self.state {
-            LinkState::Status(state) => Some(state.peer()),
-            LinkState::Challenge(state) => Some(state.peer()),
-            LinkState::Ack(state) => Some(state.peer()),
-            _ => None,
-        }
-    }
-}
-
-/// Puts frames behind the others, in the room that there is.
-fn put_frames(waiting: &mut Vec<OutFrame>, frames: Vec<OutFrame>)
-    requires { vec_len waiting.old + length frames.items ≤ vec_capacity waiting.old }
-    ensures items { waiting.new.items ≡ waiting.old.items ++ frames.items }
-    ensures room { vec_capacity waiting.old ≤ vec_capacity waiting.new }
-{
-    for frame in frames {
-        waiting.push_reserved(frame);
-    }
-}
-
-/// Puts copies of frames behind the others. Where memory is wanting, some may stand there.
-fn put_copies(
-    alloc: Global,
-    waiting: &mut Vec<OutFrame>,
-    frames: &[OutFrame],
-) -> Result<(), OutOfMemory>
-    ensures ok { OnOk result (waiting.new.items ≡ waiting.old.items ++ frames.now) }
-    ensures grown { OnErr result
-        ((rest : List OutFrame) × (waiting.new.items ≡ waiting.old.items ++ rest)) }
-{
-    waiting.reserve(frames.len())?;
-    for frame in frames {
-        waiting.push(frame.try_clone(alloc)?)?;
-    }
-    Ok(())
-}
-
-/// Puts bodies behind the frames, in the room that there is.
-fn put_bodies(waiting: &mut Vec<OutFrame>, bodies: Vec<HandshakeBody>)
-    requires { vec_len waiting.old + length bodies.items ≤ vec_capacity waiting.old }
-    ensures items { waiting.new.items ≡ waiting.old.items ++ narrow_frames bodies.items }
-    ensures room { vec_capacity waiting.old ≤ vec_capacity waiting.new }
-{
-    for body in bodies {
-        waiting.push_reserved(OutFrame {
-            wide: false,
-            body: body.into_body(),
-        });
     }
 }

@@ -4,14 +4,14 @@ ghost use Rattle.std.specs.List.{list_any, filter, flat_map, AllByRecursion};
 ghost use Rattle.std.specs.Option.{option_map, option_map_or, option_to_list};
 ghost use Rattle.dist_types.specs.Listing.{same};
 ghost use Rattle.node_core.specs.Links.{KeptLink, AreInOrder, up_peer, dialled_peer, dial_to, is_shown, with_prepared, unroomed, committed, prepared_for, link_place, without_number};
-ghost use Rattle.node_core.specs.Links.{is_any_in};
+ghost use Rattle.node_core.specs.Links.{broken_off, is_any_in};
 ghost use Rattle.node_core.specs.Telling.{said_in, CanBeSaid, IsSpelled, MayBeSaid};
 ghost use Rattle.node_core.specs.Gone.{without_ended};
 ghost use Rattle.node_core.specs.ScopeFacts.{is_number};
 
 use crate::frames::frames_of;
 use crate::link::Link;
-use dist_types::{NodeName, OutOfMemory, TryClone};
+use dist_types::{NodeName, OutOfMemory, Scope, TryClone};
 use link_frames::Message;
 use policy_audit::OutFrame;
 use std::alloc::Global;
@@ -207,6 +207,15 @@ pub fn commit(links: &mut Vec<Link>)
 {
     for link in links.iter_mut() {
         link.commit();
+    }
+}
+
+/// Nothing is kept of messages of this scope.
+pub fn break_off(links: &mut Vec<Link>, scope: &Scope)
+    ensures { links.new.items ≡ map (broken_off scope.now) links.old.items }
+{
+    for link in links.iter_mut() {
+        link.break_off(scope);
     }
 }
 

@@ -13,48 +13,45 @@
 //! So what a receiver lists of a node is what that node had itself a while ago: a Sync has all rows
 //! up to then, each later change follows behind it, and a link keeps their order and loses none.
 //! Where the link ends, the peer's rows go, heard and told with them. The next one begins anew.
-ghost use Rattle.std.specs.Prelude.{◌≡◌, ◌<◌, ◌≤◌, ◌+◌, ◌==◌, ◌&&◌, [], List, ℕ, true, cond, Some, None, vec_len, vec_capacity, nat_eq, length, position, All, IsTrue, IfOk, IfErr, OnOk, OnErr};
+//!
+//! A link of version 2 brings the rows of a Sync, a Join or a Leave in parts. They are kept with the
+//! link, and count once the last has come. On a link of version 1 a message is one part.
+ghost use Rattle.std.specs.Prelude.{◌≡◌, ◌==◌, ◌&&◌, List, ℕ, true, cond, Some, None, MatchResult};
 ghost use Rattle.std.specs.List.{list_all};
-ghost use Rattle.dist_types.specs.Listing.{max_rows, same};
-ghost use Rattle.scope_core.specs.Table.{count_of, local_total, node_total};
-ghost use Rattle.scope_core.specs.Calls.{count_after_sync, count_after_add, count_after_take, count_after_drop, are_counted};
-ghost use Rattle.link_frames.specs.Reading.{message as read_message};
+ghost use Rattle.dist_types.specs.Listing.{same};
+ghost use Rattle.link_frames.specs.declared.part.Message2.TheVariants as messages;
+ghost use Rattle.link_frames.specs.declared.fault.MessageFault.TheVariants as unread;
+ghost use Rattle.link_frames.specs.Parts.{whole};
 ghost use Rattle.policy_audit.specs.declared.event.Event.TheVariants as events;
-ghost use Rattle.link_frames.specs.declared.message.Message.TheVariants as said;
+ghost use Rattle.policy_audit.specs.Hearing.{frame_taken};
 ghost use Rattle.node_core.specs.FramesHere.{IsUpLink, IsSoundMessage};
 ghost use Rattle.node_core.specs.Step.{Call, Answers};
-ghost use Rattle.node_core.specs.Links.{are_of_peer, with_room};
-ghost use Rattle.node_core.specs.Messages.{scope_in, refusal};
-ghost use Rattle.node_core.specs.MessageRules.{HasBecome, IsChangeIn, IsAddRefusal, IsTakeRefusal, AnswersDiscover, IsSyncFrame};
-ghost use Rattle.node_core.specs.ScopeFacts.{is_number, with_number};
+ghost use Rattle.node_core.specs.Links.{are_of_peer, takes_parts};
+ghost use Rattle.node_core.specs.Messages.{scope_in, says_in, refusal, part_refusal, further_refusal, row_refusal};
 
-use crate::changes::{ChangeRoom, cut_off};
+use crate::changes::cut_off;
 use crate::entering::Answered;
 use crate::fault::CoreFault;
-use crate::frames::{discover_frame, into_frame};
 use crate::kept::Kept;
 use crate::link::Link;
 use crate::link_state::LinkState;
-use crate::linking::{changes_without, cut_link};
-use crate::links::remove;
-use crate::membership::fault_of;
-use crate::running::{ROWS_OF_VERSION_1, Running, place_of};
-use crate::slow::MAX_WAITING;
-use dist_types::{Body, NodeName, OutOfMemory, Scope, TryClone};
-use link_frames::{Message, MessageFault, Rows, decode};
+use crate::peer_rows::{drop_change, hear, hear_or_test};
+use crate::running::{Running, place_of};
+use dist_types::{Body, Scope};
+use link_frames::{Message, Message2, MessageFault, PartKind, Rows, decode, decode_v2};
 use link_states::Up;
-use policy_audit::{Change, OutFrame, Rule};
+use policy_audit::Rule;
 use std::alloc::Global;
 
 impl Kept {
-    /// A message that came on the link at a place, which is up.
+    /// A message, or a part of one, that came on the link at a place, which is up.
     #[tactic(auto, unfolding(crate::specs::Step::Answers))]
     pub fn message(&mut self, place: usize, number: u32, body: &Body) -> Result<Answered, CoreFault>
         ghost call: { Call }
         requires { IsUpLink call self.old place number }
         ensures { Answers call (events.Frame number body.now) self.new result }
     {
-        let message = match decode(self.alloc, body.as_slice()) {
+        let message = match read(self.alloc, &self.links[place], body.as_slice()) {
             Ok(message) => message,
             Err(MessageFault::BadFrame) => return Err(CoreFault::Refused(Rule::BadFrame)),
             Err(MessageFault::OutOfMemory) => return Err(CoreFault::OutOfMemory),
@@ -81,261 +78,251 @@ impl Kept {
         place: usize,
         at: usize,
         number: u32,
-        message: Message,
+        message: Message2,
     ) -> Result<Answered, CoreFault>
         ghost call: { Call }
         requires { IsSoundMessage call self.old place at number message }
-        ensures { (body : List ℕ) → read_message body ≡ Some message
+        ensures { (body : List ℕ)
+            → frame_taken call.past.opening number call.past.entries body ≡ Some message
             → Answers call (events.Frame number body) self.new result }
     {
-        let Some(peer) = self.links[place].up_peer() else {
-            unreachable!()
-        };
         match message {
-            Message::Discover(scope) => self.discovered(place, at, number, &scope),
-            Message::Sync(scope, rows) => {
-                let running = &mut self.scopes[at];
-                let changes = hear_rows(self.alloc, running, number, scope, peer, rows)?;
-                Ok(Answered::changed(changes))
+            Message2::Discover(scope) => self.discovered(place, at, number, &scope),
+            Message2::Part {
+                kind,
+                scope,
+                number: count,
+                last,
+                rows,
+            } => {
+                if is_only(count, last) {
+                    return self.whole(place, at, number, kind, scope, &rows);
+                }
+                self.part(place, at, number, kind, scope, count, last, rows)
             }
-            Message::Join(scope, rows) => {
-                let running = &mut self.scopes[at];
-                let changes = add_rows(self.alloc, running, scope, peer, rows)?;
-                Ok(Answered::changed(changes))
-            }
-            Message::Leave(scope, rows) => {
-                let running = &mut self.scopes[at];
-                let changes = take_rows(self.alloc, running, scope, peer, rows)?;
-                Ok(Answered::changed(changes))
-            }
-            Message::Down(scope) => {
-                let running = &mut self.scopes[at];
-                let changes = drop_change(self.alloc, running, scope, peer)?;
-                cut_off(running, number, peer);
-                Ok(Answered::changed(changes))
-            }
+            Message2::Down(scope) => self.downed(place, at, number, scope),
         }
     }
 
-    /// A Discover for the scope at a place. The link ends where too many frames would wait for it.
+    /// A message that is one part, for the scope at a place.
     #[tactic(auto, unfolding(crate::specs::Step::Answers))]
-    fn discovered(
+    fn whole(
         &mut self,
         place: usize,
         at: usize,
         number: u32,
-        scope: &Scope,
+        kind: PartKind,
+        scope: Scope,
+        rows: &Rows,
     ) -> Result<Answered, CoreFault>
         ghost call: { Call }
-        requires { IsSoundMessage call self.old place at number (said.Discover scope.now) }
+        requires { IsSoundMessage call self.old place at number (messages.Part kind scope 1 true rows.now) }
         ensures { (body : List ℕ)
-            → read_message body ≡ Some (said.Discover scope.now)
+            → frame_taken call.past.opening number call.past.entries body
+            ≡ Some (messages.Part kind scope 1 true rows.now)
             → Answers call (events.Frame number body) self.new result }
     {
-        let owed = discover_owes(&self.scopes[at], number);
-        if self.links[place].frames().len() + owed > MAX_WAITING {
-            let changes = changes_without(self.alloc, &self.scopes, &self.links[place])?;
-            cut_link(&mut self.scopes, &self.links[place]);
-            remove(&mut self.links, number);
-            return Ok(Answered::changed(changes));
-        }
         let link = &mut self.links[place];
         let running = &mut self.scopes[at];
-        let frames = ready_to_answer(self.alloc, link, running, number, scope)?;
-        link.owe(frames);
-        Ok(Answered::done(self.alloc))
+        let limit = link.row_limit();
+        let Some(peer) = link.up_peer() else {
+            unreachable!()
+        };
+        let rows = rows.as_slice();
+        let changes = hear(self.alloc, running, number, kind, scope, peer, rows, limit)?;
+        link.clear();
+        Ok(Answered::changed(changes))
     }
-}
 
-/// How many frames a Discover owes: one where the link of this number is heard, else two.
-fn discover_owes(running: &Running, number: u32) -> usize
-    ensures { result ≡ cond (is_number number running.now.heard.items) 1 2 }
-{
-    if running.heard.contains(&number) {
-        1
-    } else {
-        2
-    }
-}
-
-/// What answers a Discover, with room for it on the link. The link of this number is told from now on.
-fn ready_to_answer(
-    alloc: Global,
-    link: &mut Link,
-    running: &mut Running,
-    number: u32,
-    scope: &Scope,
-) -> Result<Vec<OutFrame>, OutOfMemory>
-    requires idle { link.old.prepared ≡ [] }
-    requires few { local_total running.old.table ≤ max_rows }
-    ensures frames { IfOk result (λ frames. AnswersDiscover running.old number scope.now frames.items) }
-    ensures fits { IfOk result (λ frames. length frames.items ≤ link.new.room) }
-    ensures roomy { link.new ≡ with_room link.old link.new.room }
-    ensures told { OnOk result (HasBecome running.old running.new (count_of running.old.table) running.old.heard.items (with_number number running.old.told.items)) }
-    ensures same { OnErr result (HasBecome running.old running.new (count_of running.old.table) running.old.heard.items running.old.told.items) }
-{
-    let frames = answer_to_discover(alloc, running, number, scope)?;
-    link.make_room(frames.len())?;
-    tell(running, number)?;
-    Ok(frames)
-}
-
-/// All own rows, and a Discover where the link of this number isn't heard.
-fn answer_to_discover(
-    alloc: Global,
-    running: &Running,
-    number: u32,
-    scope: &Scope,
-) -> Result<Vec<OutFrame>, OutOfMemory>
-    requires { local_total running.now.table ≤ max_rows }
-    ensures { IfOk result (λ frames. AnswersDiscover running.now number scope.now frames.items) }
-{
-    let mut frames = Vec::new(alloc);
-    frames.push(sync_frame(alloc, running, scope)?)?;
-    if !running.heard.contains(&number) {
-        frames.push(discover_frame(alloc, scope)?)?;
-    }
-    Ok(frames)
-}
-
-/// A Sync of all own rows.
-fn sync_frame(alloc: Global, running: &Running, scope: &Scope) -> Result<OutFrame, OutOfMemory>
-    requires { local_total running.now.table ≤ max_rows }
-    ensures { IfOk result (IsSyncFrame running.now scope.now) }
-{
-    let rows = Rows::of(running.table.local_rows()?);
-    let scope = scope.try_clone(alloc)?;
-    into_frame(alloc, Message::Sync(scope, rows))
-}
-
-/// The peer of this link is told from now on.
-fn tell(running: &mut Running, number: u32) -> Result<(), OutOfMemory>
-    ensures ok { OnOk result (HasBecome running.old running.new (count_of running.old.table) running.old.heard.items (with_number number running.old.told.items)) }
-    ensures same { OnErr result (HasBecome running.old running.new (count_of running.old.table) running.old.heard.items running.old.told.items) }
-{
-    running.told.reserve(1)?;
-    note(&mut running.told, number);
-    Ok(())
-}
-
-/// The peer's rows are replaced, and it is heard over the link of this number from now on.
-fn hear_rows(
-    alloc: Global,
-    running: &mut Running,
-    number: u32,
-    scope: Scope,
-    peer: &NodeName,
-    rows: Rows,
-) -> Result<Vec<Change>, OutOfMemory>
-    requires of_peer { All (λ r. r.pid.node ≡ peer.now) rows }
-    requires few { length rows ≤ max_rows }
-    ensures ok { OnOk result (HasBecome running.old running.new (count_after_sync running.old.table peer.now rows) (with_number number running.old.heard.items) running.old.told.items) }
-    ensures change { IfOk result (λ changes. IsChangeIn scope (count_of running.old.table) (count_of running.new.table) changes.items) }
-    ensures same { OnErr result (HasBecome running.old running.new (count_of running.old.table) running.old.heard.items running.old.told.items) }
-{
-    let room = ChangeRoom::new(alloc, scope)?;
-    running.heard.reserve(1)?;
-    let Ok(groups) = running.table.sync(peer, rows.as_slice(), ROWS_OF_VERSION_1) else {
-        return Err(OutOfMemory);
-    };
-    note(&mut running.heard, number);
-    Ok(room.filled(groups))
-}
-
-/// Rows are added to the peer's.
-fn add_rows(
-    alloc: Global,
-    running: &mut Running,
-    scope: Scope,
-    peer: &NodeName,
-    rows: Rows,
-) -> Result<Vec<Change>, CoreFault>
-    requires { All (λ r. r.pid.node ≡ peer.now) rows }
-    ensures ok { OnOk result (HasBecome running.old running.new (count_after_add running.old.table rows) running.old.heard.items running.old.told.items) }
-    ensures change { IfOk result (λ changes. IsChangeIn scope (count_of running.old.table) (count_of running.new.table) changes.items) }
-    ensures refused { IfErr result (IsAddRefusal running.old.table peer.now rows) }
-    ensures limits { OnOk result (node_total running.old.table peer.now + length rows ≤ max_rows) }
-    ensures same { OnErr result (running.new ≡ running.old) }
-{
-    let room = ChangeRoom::new(alloc, scope)?;
-    match running
-        .table
-        .join_remote(peer, rows.as_slice(), ROWS_OF_VERSION_1)
+    /// A part for the scope at a place, of a message that has others. Where it is refused, all that
+    /// was kept of the link's message stays.
+    #[tactic(auto, unfolding(crate::specs::Step::Answers))]
+    fn part(
+        &mut self,
+        place: usize,
+        at: usize,
+        number: u32,
+        kind: PartKind,
+        scope: Scope,
+        count: u32,
+        last: bool,
+        rows: Rows,
+    ) -> Result<Answered, CoreFault>
+        ghost call: { Call }
+        requires { IsSoundMessage call self.old place at number (messages.Part kind scope count last rows) }
+        ensures { (body : List ℕ)
+            → frame_taken call.past.opening number call.past.entries body
+            ≡ Some (messages.Part kind scope count last rows)
+            → Answers call (events.Frame number body) self.new result }
     {
-        Ok(groups) => Ok(room.filled(groups)),
-        Err(fault) => Err(fault_of(fault)),
+        let link = &mut self.links[place];
+        let running = &mut self.scopes[at];
+        let undo = link.gather(kind, scope, count, rows)?;
+        let limit = link.row_limit();
+        let Some(peer) = link.up_peer() else {
+            unreachable!()
+        };
+        let rows = link.begun_rows();
+        match hear_or_test(self.alloc, running, number, kind, peer, rows, limit, last) {
+            Ok(changes) => {
+                link.settle(last);
+                Ok(Answered::changed(changes))
+            }
+            Err(fault) => {
+                link.undo(undo);
+                Err(fault)
+            }
+        }
+    }
+
+    /// A Down of the scope at a place.
+    #[tactic(auto, unfolding(crate::specs::Step::Answers))]
+    fn downed(
+        &mut self,
+        place: usize,
+        at: usize,
+        number: u32,
+        scope: Scope,
+    ) -> Result<Answered, CoreFault>
+        ghost call: { Call }
+        requires { IsSoundMessage call self.old place at number (messages.Down scope) }
+        ensures { (body : List ℕ)
+            → frame_taken call.past.opening number call.past.entries body ≡ Some (messages.Down scope)
+            → Answers call (events.Frame number body) self.new result }
+    {
+        let link = &mut self.links[place];
+        let running = &mut self.scopes[at];
+        let Some(peer) = link.up_peer() else {
+            unreachable!()
+        };
+        let changes = drop_change(self.alloc, running, scope, peer)?;
+        cut_off(running, number, peer);
+        link.clear();
+        Ok(Answered::changed(changes))
     }
 }
 
-/// Rows are taken from the peer's.
-fn take_rows(
-    alloc: Global,
-    running: &mut Running,
-    scope: Scope,
-    peer: &NodeName,
-    rows: Rows,
-) -> Result<Vec<Change>, CoreFault>
-    requires { All (λ r. r.pid.node ≡ peer.now) rows }
-    ensures ok { OnOk result (HasBecome running.old running.new (count_after_take running.old.table rows) running.old.heard.items running.old.told.items) }
-    ensures change { IfOk result (λ changes. IsChangeIn scope (count_of running.old.table) (count_of running.new.table) changes.items) }
-    ensures refused { IfErr result (IsTakeRefusal running.old.table rows) }
-    ensures only { OnOk result (IsTrue (are_counted running.old.table rows)) }
-    ensures same { OnErr result (running.new ≡ running.old) }
+/// Whether a part is the only one of its message.
+fn is_only(number: u32, last: bool) -> bool
+    ensures { result ≡ (last && number == 1) }
 {
-    let room = ChangeRoom::new(alloc, scope)?;
-    match running.table.leave_remote(peer, rows.as_slice()) {
-        Ok(groups) => Ok(room.filled(groups)),
-        Err(fault) => Err(fault_of(fault)),
+    last && number == 1
+}
+
+/// The message that a body says on a link.
+fn read(alloc: Global, link: &Link, body: &[u8]) -> Result<Message2, MessageFault>
+    ensures { MatchResult result
+        (λ m. says_in (takes_parts link.now.state) body.now ≡ Some m)
+        (λ fault. fault ≡ unread.BadFrame
+        → says_in (takes_parts link.now.state) body.now ≡ None) }
+{
+    if link.takes_parts() {
+        return decode_v2(alloc, body);
+    }
+    match decode(alloc, body) {
+        Ok(message) => Ok(in_one(message)),
+        Err(fault) => Err(fault),
     }
 }
 
-/// What the scope loses with all rows of a peer.
-fn drop_change(
-    alloc: Global,
-    running: &Running,
-    scope: Scope,
-    peer: &NodeName,
-) -> Result<Vec<Change>, OutOfMemory>
-    ensures { IfOk result (λ changes. IsChangeIn scope (count_of running.now.table) (count_after_drop running.now.table peer.now) changes.items) }
+/// A message as one part, the first and the last.
+fn in_one(message: Message) -> Message2
+    ensures { result ≡ whole message }
 {
-    let room = ChangeRoom::new(alloc, scope)?;
-    let groups = running.table.drop_change(peer)?;
-    Ok(room.filled(groups))
+    match message {
+        Message::Discover(scope) => Message2::Discover(scope),
+        Message::Sync(scope, rows) => one_part(PartKind::Sync, scope, rows),
+        Message::Join(scope, rows) => one_part(PartKind::Join, scope, rows),
+        Message::Leave(scope, rows) => one_part(PartKind::Leave, scope, rows),
+        Message::Down(scope) => Message2::Down(scope),
+    }
+}
+
+/// Rows as one part.
+fn one_part(kind: PartKind, scope: Scope, rows: Rows) -> Message2
+    ensures { result ≡ messages.Part kind scope 1 true rows }
+{
+    Message2::Part {
+        kind,
+        scope,
+        number: 1,
+        last: true,
+        rows,
+    }
 }
 
 /// The scope that a message is about.
-fn scope_in(message: &Message) -> &Scope
+fn scope_in(message: &Message2) -> &Scope
     ensures { result.now ≡ scope_in message.now }
 {
     match message {
-        Message::Discover(scope) => scope,
-        Message::Sync(scope, _) => scope,
-        Message::Join(scope, _) => scope,
-        Message::Leave(scope, _) => scope,
-        Message::Down(scope) => scope,
+        Message2::Discover(scope) => scope,
+        Message2::Part { scope, .. } => scope,
+        Message2::Down(scope) => scope,
     }
 }
 
 /// The first rule that a message on this link breaks, but for those that the table of the scope tells.
-fn refusal(link: &Link, running: &Running, message: &Message) -> Option<Rule>
+fn refusal(link: &Link, running: &Running, message: &Message2) -> Option<Rule>
     ensures { result ≡ refusal link.now running.now.heard.items message.now }
 {
     match message {
-        Message::Discover(_) | Message::Down(_) => None,
-        Message::Sync(_, rows) => foreign(link, rows),
-        Message::Join(_, rows) => unheard(link, running, rows),
-        Message::Leave(_, rows) => unheard(link, running, rows),
+        Message2::Discover(_) | Message2::Down(_) => None,
+        Message2::Part {
+            kind,
+            scope,
+            number,
+            rows,
+            ..
+        } => part_refusal(link, running, *kind, scope, *number, rows),
     }
 }
 
-/// The first rule that further rows break, where only a heard link may have any.
-fn unheard(link: &Link, running: &Running, rows: &Rows) -> Option<Rule>
-    ensures { result ≡ cond (is_number link.now.number running.now.heard.items) (cond (are_of_peer link.now.state rows.now) None (Some Rule.ForeignPid)) (Some Rule.NotHeard) }
+/// The same of a part.
+fn part_refusal(
+    link: &Link,
+    running: &Running,
+    kind: PartKind,
+    scope: &Scope,
+    number: u32,
+    rows: &Rows,
+) -> Option<Rule>
+    ensures { result ≡ part_refusal link.now running.now.heard.items kind scope.now number rows.now }
 {
-    if !running.heard.contains(&link.number()) {
-        return Some(Rule::NotHeard);
+    match kind {
+        PartKind::Sync => row_refusal(link, PartKind::Sync, scope, number, rows),
+        PartKind::Join => further_refusal(link, running, PartKind::Join, scope, number, rows),
+        PartKind::Leave => further_refusal(link, running, PartKind::Leave, scope, number, rows),
     }
-    foreign(link, rows)
+}
+
+/// The same of further rows, which only a heard link may have.
+fn further_refusal(
+    link: &Link,
+    running: &Running,
+    kind: PartKind,
+    scope: &Scope,
+    number: u32,
+    rows: &Rows,
+) -> Option<Rule>
+    ensures { result ≡ further_refusal link.now running.now.heard.items kind scope.now number rows.now }
+{
+    if running.heard.contains(&link.number()) {
+        row_refusal(link, kind, scope, number, rows)
+    } else {
+        Some(Rule::NotHeard)
+    }
+}
+
+/// `PartOrder`, where the part may not come, and then what its rows break.
+fn row_refusal(link: &Link, kind: PartKind, scope: &Scope, number: u32, rows: &Rows) -> Option<Rule>
+    ensures { result ≡ row_refusal link.now kind scope.now number rows.now }
+{
+    if link.is_next(kind, scope, number) {
+        foreign(link, rows)
+    } else {
+        Some(Rule::PartOrder)
+    }
 }
 
 /// `ForeignPid`, where a row's process isn't of the link's peer, or has another creation than the peer gave.
@@ -357,14 +344,4 @@ fn are_from(up: &Up, rows: &Rows) -> bool
 {
     rows.as_slice().iter().all(|row| row.pid.node == *up.peer()
         && row.pid.creation == up.creation())
-}
-
-/// The number is one of these from now on. There is room for it.
-fn note(numbers: &mut Vec<u32>, number: u32)
-    requires { vec_len numbers.old < vec_capacity numbers.old }
-    ensures { numbers.new.items ≡ with_number number numbers.old.items }
-{
-    if !numbers.contains(&number) {
-        numbers.push_reserved(number);
-    }
 }

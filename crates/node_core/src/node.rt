@@ -61,18 +61,18 @@ impl Model for NodeCore {
 }
 
 impl NodeCore {
-    /// A node that has seen nothing. `BadLimit` where the opening allows no entry, and else `BadLinks` where its version of link
-    /// messages isn't 1.
+    /// A node that has seen nothing. `BadLimit` where the opening allows no entry, and else
+    /// `BadLinks` where its version of link messages is neither 1 nor 2.
     pub fn new(alloc: Global, opening: Opening) -> Result<NodeCore, OpenFault>
         ensures ok { IfOk result (λ core. core ≡ past opening []) }
         ensures refused { IfErr result (λ fault. IsOpenFault fault opening) }
         ensures limit { OnOk result (0 < opening.entries) }
-        ensures links { OnOk result (opening.links ≡ 1) }
+        ensures links { OnOk result (IsVersion opening.links) }
     {
         if opening.entries == 0 {
             return Err(OpenFault::BadLimit);
         }
-        if opening.links != 1 {
+        if opening.links == 0 || opening.links > 2 {
             return Err(OpenFault::BadLinks);
         }
         let admission = admission_of(alloc, &opening, opening.creation)?;
@@ -97,7 +97,7 @@ impl NodeCore {
         ensures legal { IsLegal self.now }
         ensures few { entered self.now.entries ≤ self.now.opening.entries }
         ensures fits { self.now.opening.entries < 2 ^ 32 }
-        ensures links { self.now.opening.links ≡ 1 }
+        ensures links { IsVersion self.now.opening.links }
     {
         &self.audit
     }

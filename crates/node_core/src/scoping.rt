@@ -15,7 +15,7 @@ use crate::entering::Answered;
 use crate::fault::CoreFault;
 use crate::kept::Kept;
 use crate::link::Link;
-use crate::links::{commit, or_forget, prepare, shown};
+use crate::links::{break_off, commit, or_forget, prepare, shown};
 use crate::node::admission_of;
 use crate::processes::Processes;
 use crate::running::{Running, place_of};
@@ -88,6 +88,7 @@ impl Kept {
         let ending = ending_with(self.alloc, &self.links, &self.scopes, &own, Some(scope));
         let ending = or_forget(&mut self.links, ending)?;
         commit(&mut self.links);
+        break_off(&mut self.links, scope);
         take_out(&mut self.scopes, scope);
         self.monitors.drop_scope(scope);
         Ok(settled(&mut self.scopes, &mut self.links, own, ending))

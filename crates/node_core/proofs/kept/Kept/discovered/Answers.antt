@@ -1,17 +1,26 @@
-use Rattle.node_core.proofs.Words.{refl}
-use Rattle.node_core.proofs.Answering.{accepts_alone, accepts_ending, wanted}
-use Rattle.node_core.proofs.MessagePlaces.{scope_here}
+use Rattle.node_core.proofs.Words.{refl, ◌∙◌, can_be_told, Rule, false, true, sym}
+use Rattle.node_core.proofs.Answering.{accepts_alone, accepts_ending, refuses, wanted}
+use Rattle.node_core.proofs.MessageRefused.{calm}
 use Rattle.node_core.proofs.MessageRoom.{roomed_links, same_scope, follows_with, answered_now}
+use Rattle.node_core.proofs.MessageRoom.{asked_calm, few_told, holds}
 use Rattle.node_core.proofs.MessageSlow.{few_enough, fell_behind}
-use Rattle.node_core.proofs.RowsGone.{few_total}
 use Rattle.node_core.proofs.kept.Kept.discovered.Goals as goal
+
+pub returns-then-not-can_be_told : goal.returns-then-not-can_be_told
+returns-then-not-can_be_told g c = λ body says.
+    let on = c.requires.on in
+    refuses on.link.called _ Rule.RowsFull
+    (asked_calm on.link.called.keeps.follows g.call.seat c.args.number body on.link.called.space
+    on.up on.link.here c.index-link.ensures c.args.scope.now c.requires.there
+    c.index-running.ensures c.requires.holds says
+    (rw c.takes_parts-parted.ensures at (sym c.can_be_told.ensures ∙ c.if-not-can_be_told.true)))
+    (calm g.call.past c.args.number body on.up Rule.RowsFull refl)
 
 pub ready_to_answer-requires-clause-few : goal.ready_to_answer-requires-clause-few
 ready_to_answer-requires-clause-few g c =
-    let t = c.requires.on.link.called.keeps.follows in
-    let r_is = c.index_mut-running.ensures.value in
-    let here = scope_here t c.args.scope.now c.requires.there r_is in
-    few_total g.call.past c.index_mut-running.result.now here.running t.sound
+    few_told c.requires.on.link.called.keeps.follows c.args.scope.now c.requires.there
+    c.index-running.ensures c.index_mut-running.ensures.value c.takes_parts-parted.result
+    (sym c.can_be_told.ensures ∙ c.if-not-can_be_told.false)
 
 pub returns-in_err-frames : goal.returns-in_err-frames
 returns-in_err-frames g c = λ body says.
@@ -29,33 +38,45 @@ pub returns-then-frames-owed-gt-MAX_WAITING : goal.returns-then-frames-owed-gt-M
 returns-then-frames-owed-gt-MAX_WAITING g c = λ body says.
     let on = c.requires.on in
     let keeps = on.link.called.keeps in
+    let told = rw c.takes_parts-parted.ensures at
+    (sym c.can_be_told.ensures ∙ c.if-not-can_be_told.false) in
     let many = rw (
       c.frames.ensures,
-      c.discover_owes-owed.ensures,
+      c.discover_owes-owed.ensures.owed,
+      c.takes_parts-parted.ensures,
     ) at c.if-frames-owed-gt-MAX_WAITING.true in
     accepts_ending on.link.called _ _ refl _ _ _ c.changed.ensures (rw c.remove.ensures
     (fell_behind keeps.follows keeps.legal g.call.seat c.args.number body on.link.called.space
-    on.up on.link.here c.index-2.ensures c.args.scope.now c.requires.there c.index.ensures
-    says c.requires.holds many c.in_ok-changes.changes.items
-    c.index-then-frames-owed-gt-MAX_WAITING.ensures
-    c.index-then-frames-owed-gt-MAX_WAITING-2.ensures
+    on.up on.link.here c.index-link.ensures c.args.scope.now c.requires.there
+    c.index-running.ensures says
+    (holds keeps.follows g.call.seat c.args.number body on.link.called.space on.up on.link.here
+    c.index-link.ensures c.args.scope.now c.requires.there c.index-running.ensures
+    c.requires.holds says told)
+    many c.in_ok-changes.changes.items
+    c.index.ensures c.index-then-frames-owed-gt-MAX_WAITING.ensures
     (rw c.deref.ensures.value at c.in_ok-changes.ensures) c.cut_link.ensures))
 
 pub returns : goal.returns
 returns g c = λ body says.
     let on = c.requires.on in
     let keeps = on.link.called.keeps in
+    let told = rw c.takes_parts-parted.ensures at
+    (sym c.can_be_told.ensures ∙ c.if-not-can_be_told.false) in
     let few = rw (
       c.frames.ensures,
-      c.discover_owes-owed.ensures,
+      c.discover_owes-owed.ensures.owed,
+      c.takes_parts-parted.ensures,
     ) at c.if-frames-owed-gt-MAX_WAITING.false in
     let ready = c.in_ok-frames.ensures in
-    let r_is = c.index_mut-running.ensures.value in
     accepts_alone on.link.called _ _ refl _ _ _ c.done.ensures
     (few_enough keeps.follows keeps.legal g.call.seat c.args.number body on.link.called.space
-    on.up on.link.here c.index-2.ensures c.args.scope.now c.requires.there c.index.ensures
-    says c.requires.holds few)
+    on.up on.link.here c.index-link.ensures c.args.scope.now c.requires.there
+    c.index-running.ensures says
+    (holds keeps.follows g.call.seat c.args.number body on.link.called.space on.up on.link.here
+    c.index-link.ensures c.args.scope.now c.requires.there c.index-running.ensures
+    c.requires.holds says told)
+    few)
     (answered_now keeps.follows g.call.seat c.args.number body on.link.called.space on.up
-    on.link.here c.index_mut-link.ensures.value c.args.scope.now c.ready_to_answer.new.running
-    c.requires.there r_is says c.requires.holds ready.told r_is ready.frames ready.roomy
-    c.owe.ensures.owed)
+    on.link.here c.index-link.ensures c.args.scope.now c.requires.there c.index-running.ensures
+    c.requires.holds says told c.index_mut-running.ensures.value c.index_mut-link.ensures.value
+    ready.told (rw c.takes_parts-parted.ensures at ready.frames) ready.roomy c.answer.ensures)

@@ -3,7 +3,7 @@ use Rattle.std.specs.List.{insert}
 use Rattle.node_core.proofs.Answering.{accepts, ends, wanted, wants}
 use Rattle.node_core.proofs.EarlyFrame.{handshakes, early_never_up, early_few, early_went_on, early_broke}
 use Rattle.node_core.proofs.HeardFrames.{unwhole_quiet}
-use Rattle.node_core.proofs.HeldLink.{IsHeld, held_ready, held_restored, room_follows}
+use Rattle.node_core.proofs.HeldLink.{IsHeld, held_ready, held_restored, room_follows, taken_unbegun}
 use Rattle.node_core.proofs.kept.Kept.early_frame.Given.{Over}
 use Rattle.node_core.proofs.kept.Kept.early_frame.Goals.{After-into_parts-state}
 use Rattle.node_core.proofs.kept.Kept.early_frame.Goals as goal
@@ -12,6 +12,12 @@ use Rattle.node_core.proofs.kept.Kept.early_frame.Goals as goal
 held : (g : Over) (c : After-into_parts-state g) → IsHeld g.call.past c.args.self.now.links.items c.args.number c.args.place
     c.index_mut.result.now c.make_room.new.self c.remove.result c.into_parts-state.result.0 c.into_parts-state.result.1 c.remove.new.self.items
 held g c = search rules
+
+pub into_parts-state-requires : goal.into_parts-state-requires
+into_parts-state-requires g c =
+    taken_unbegun c.requires.link.called.keeps.follows c.args.number {out = c.remove.result}
+    c.requires.link.here
+    c.requires.unwhole c.index_mut.ensures.value c.make_room.ensures.same (search rules)
 
 pub returns-in_err-make_room : goal.returns-in_err-make_room
 returns-in_err-make_room g c =

@@ -6,7 +6,8 @@ use Rattle.node_core.proofs.MessagePlaces.{runs_here, scope_here, stopped_here}
 use Rattle.node_core.proofs.OwnChanges.{one_proper}
 use Rattle.node_core.proofs.Scopes.{counts_listed}
 use Rattle.node_core.proofs.Told.{alike_again, dropped_again, follow_idle, prepared_told}
-use Rattle.node_core.proofs.Stopping.{stop_now}
+use Rattle.node_core.proofs.Stopping.{both_ways, ends_unbroken, stop_now}
+use Rattle.node_core.proofs.Words.{broken_off}
 use Rattle.node_core.proofs.Searched.{scopes_ascend}
 use Rattle.node_core.proofs.kept.Kept.stop_scope.Goals as goal
 
@@ -50,20 +51,23 @@ returns g c =
     let prepared = c.tell_stop.new.links.items in
     let told = prepared_told (shown_numbers old) (said_in (Message.Down scope)) old prepared
     (follow_idle (link_words h) old t.links.each) c.in_ok-own.ensures.told in
+    let broken = map (broken_off scope) prepared in
     let turns = stop_now h g.call.seat scope c.in_ok-groups.groups.items _ t runs groups
     c.requires.space (map committed prepared) told in
     accepts_ending c.requires _ _ refl _ Reply.Done _ c.settled.ensures.done
     (rw c.drop_scope.ensures.dropped
-    (turns_on t g.call.seat _ turns prepared refl c.in_ok-ending.ending
+    (turns_on t g.call.seat _ turns broken (both_ways scope prepared) c.in_ok-ending.ending
     (rw (
       c.deref-2.ensures.value,
       c.deref-3.ensures.value,
       c.deref-4.ensures.value,
       c.in_ok-own.ensures.change,
       sym c.in_ok-ending.ensures.result,
+      sym (ends_unbroken scope prepared),
     ) at c.ending_with-ending.ensures)
     (rw (
       c.in_ok-own.ensures.change,
+      c.break_off.ensures,
       c.commit.ensures,
       ap (λ x. x.items) c.in_ok-ending.ensures.same,
       c.take_out.ensures,

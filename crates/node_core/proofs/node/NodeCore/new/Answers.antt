@@ -6,7 +6,7 @@ pub invariant_of-result : goal.invariant_of-result
 invariant_of-result c = record {
   within = c.new-audit.ensures.limit;
   legal = rw c.new-audit.ensures.empty tt;
-  follows = rw (c.new-audit.ensures.empty, c.in_ok-admission.ensures, c.new.ensures, c.new-2.ensures.items, c.new-3.ensures.items, c.new-4.ensures) (begun c.args.opening (search rules) c.if-opening-ne1.false);
+  follows = rw (c.new-audit.ensures.empty, c.in_ok-admission.ensures, c.new.ensures, c.new-2.ensures.items, c.new-3.ensures.items, c.new-4.ensures) (begun c.args.opening (search rules) (search rules));
 }
 
 pub returns-clause-ok : goal.returns-clause-ok

@@ -1,5 +1,5 @@
 use Rattle.node_core.proofs.Words.{◌≡◌, ◌++◌, ◌+◌, ◌≤◌, length, vec_capacity, into_iter_items, narrow_frames, vec_len}
-use Rattle.node_core.proofs.link.put_bodies.Given as goal
+use Rattle.node_core.proofs.waiting.put_bodies.Given as goal
 
 -- the bodies so far wait as frames, and there is room for the others
 abbrev pub invariant-loop-body : goal.invariant-loop-body

@@ -1,5 +1,5 @@
 use Rattle.node_core.proofs.Words.{◌≡◌, ◌++◌, take}
-use Rattle.node_core.proofs.link.put_copies.Given as goal
+use Rattle.node_core.proofs.waiting.put_copies.Given as goal
 
 -- copies of those so far stand behind the others
 abbrev pub invariant-loop-frame : goal.invariant-loop-frame

@@ -1,5 +1,5 @@
 use Rattle.node_core.proofs.Words.{◌≡◌, ◌++◌, ◌+◌, ◌≤◌, length, vec_capacity, into_iter_items, vec_len}
-use Rattle.node_core.proofs.link.put_frames.Given as goal
+use Rattle.node_core.proofs.waiting.put_frames.Given as goal
 
 -- the frames so far wait, and there is room for the others
 abbrev pub invariant-loop-frame : goal.invariant-loop-frame

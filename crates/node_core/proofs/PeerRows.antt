@@ -1,0 +1,51 @@
+-- Rows of a peer that a table follows, or refuses.
+use Rattle.node_core.proofs.Words.{Bool, List, None, Some, ap, arith, cond, false, length, nat_le}
+use Rattle.node_core.proofs.Words.{refl, true, ℕ, [], ◌+◌, ◌<◌, ◌≡◌, ◌≤◌, lt-leb, le-leb, Pid, Row}
+use Rattle.node_core.proofs.Words.{Table, are_counted, fault_of, node_total, IsChangeIn, IsRowFault}
+use Rattle.node_core.proofs.Words.{Rule}
+use Rattle.scope_core.specs.Calls.{IsAddFault, IsSyncFault, IsTakeFault}
+use Rattle.scope_core.specs.declared.fault.TableFault.{TableFault}
+
+-- where there are few, no rule is broken
+pub within : (rows limit : ℕ) → rows ≤ limit
+    → cond (nat_le rows limit) None (Some Rule.RowsFull) ≡ None
+within rows limit few = ap (λ b. cond b None (Some Rule.RowsFull)) (le-leb rows limit few)
+
+pub counted : (b : Bool) → b ≡ true → cond b None (Some Rule.NotListed) ≡ None
+counted b q = ap (λ x. cond x None (Some Rule.NotListed)) q
+
+-- what a table refuses
+pub sync_fault : (rows : List Row) (limit : ℕ) (f : TableFault) → IsSyncFault rows limit f
+    → IsRowFault (cond (nat_le (length rows) limit) None (Some Rule.RowsFull)) (fault_of f)
+sync_fault rows limit TableFault.RowsFull q =
+    ap (λ b. cond b None (Some Rule.RowsFull)) (lt-leb (length rows) limit q)
+sync_fault rows limit TableFault.OutOfMemory q = tt
+sync_fault rows limit f q = absurd q
+
+pub add_fault : (t : Table) (n : List ℕ) (rows : List Row) (limit : ℕ) (f : TableFault)
+    → IsAddFault t n rows limit f
+    → IsRowFault (cond (nat_le (node_total t n + length rows) limit) None (Some Rule.RowsFull))
+    (fault_of f)
+add_fault t n rows limit TableFault.RowsFull q =
+    ap (λ b. cond b None (Some Rule.RowsFull)) (lt-leb (node_total t n + length rows) limit q)
+add_fault t n rows limit TableFault.OutOfMemory q = tt
+add_fault t n rows limit f q = absurd q
+
+pub take_fault : (t : Table) (rows : List Row) (f : TableFault) → IsTakeFault t rows f
+    → IsRowFault (cond (are_counted t rows) None (Some Rule.NotListed)) (fault_of f)
+take_fault t rows TableFault.NotListed q = ap (λ b. cond b None (Some Rule.NotListed)) q
+take_fault t rows TableFault.OutOfMemory q = tt
+take_fault t rows f q = absurd q
+
+-- where counts stay, nothing changes
+pub unchanged : (s : List ℕ) (count : List ℕ → Pid → ℕ) → IsChangeIn s count count []
+unchanged s count = record {
+  groups = [];
+  difference = record {
+    groups = tt;
+    proper = tt;
+    left = λ g p. omega arith;
+    joined = λ g p. omega arith;
+  };
+  changes = refl;
+}
