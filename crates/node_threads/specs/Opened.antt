@@ -1,5 +1,6 @@
 -- A new node, and why there is none.
-use Rattle.std.specs.Prelude.{◌≡◌, ◌≢◌, ℕ, ◌<◌, ◌≤◌, List, [], length, replicate, slice_get, Some}
+use Rattle.std.specs.Prelude.{◌≡◌, ℕ, ◌<◌, ◌≤◌, List, [], length, replicate, slice_get, Some}
+use Rattle.handshake_frames.specs.Spelling.{IsVersion}
 use Rattle.policy_audit.specs.declared.opening.Opening.{Opening}
 use Rattle.node_threads.specs.declared.fault.NewFault.{NewFault}
 use Rattle.node_threads.specs.declared.fault.NewFault.TheVariants.{BadSeats, BadLimit, BadLinks, OutOfMemory}
@@ -20,9 +21,11 @@ pub record IsOpened (seats : ℕ) (passes : List Record) : Type 0 where
 abbrev pub HasBounds : ℕ → Type 0
 HasBounds seats = (0 < seats) × (seats ≤ 256)
 
--- why there is no node: the seats come first, then the limit, and then the version, of which 1 alone is taken
+-- why there is no node: the seats come first, then the limit, and then the version, which is 1 or 2
 abbrev pub IsNewFault : NewFault → Opening → ℕ → Type 0
 IsNewFault BadSeats opening seats = HasBounds seats → ⊥
 IsNewFault BadLimit opening seats = HasBounds seats × (opening.entries ≡ 0)
-IsNewFault BadLinks opening seats = HasBounds seats × (0 < opening.entries) × (opening.links ≢ 1)
-IsNewFault OutOfMemory opening seats = HasBounds seats × (0 < opening.entries) × (opening.links ≡ 1)
+IsNewFault BadLinks opening seats =
+    HasBounds seats × (0 < opening.entries) × (IsVersion opening.links → ⊥)
+IsNewFault OutOfMemory opening seats =
+    HasBounds seats × (0 < opening.entries) × IsVersion opening.links

@@ -9,7 +9,7 @@ pub enum NewFault {
     BadSeats,
     #[error("an audit needs room for one entry at least")]
     BadLimit,
-    #[error("the version of link messages must be 1")]
+    #[error("the version of link messages must be 1 or 2")]
     BadLinks,
     #[error("out of memory")]
     OutOfMemory,

@@ -1,5 +1,6 @@
 //! A node for many threads.
 ghost use Rattle.std.specs.Prelude.{◌≡◌, ◌<◌, ◌≤◌, IfOk, IfErr, OnOk};
+ghost use Rattle.handshake_frames.specs.Spelling.{IsVersion};
 ghost use Rattle.node_threads.specs.Opened.{new_room, IsOpened, IsNewFault, HasBounds};
 
 use crate::fault::NewFault;
@@ -26,8 +27,8 @@ pub struct Node {
 
 impl Shared {
     /// What a new node has behind its lock, where it has seen nothing, with a pass for each seat, in the order of the seats.
-    /// `BadSeats` where there are none or more than 256, then `BadLimit` where the opening allows no entry, and then `BadLinks` where
-    /// its version of link messages isn't 1.
+    /// `BadSeats` where there are none or more than 256, then `BadLimit` where the opening allows no
+    /// entry, and then `BadLinks` where its version of link messages is neither 1 nor 2.
     pub fn open(
         alloc: Global,
         opening: Opening,
@@ -35,7 +36,7 @@ impl Shared {
     ) -> Result<(Shared, Vec<Pass>), NewFault>
         ensures ok { IfOk result (λ made. (made.0 ≡ new_room opening seats) × IsOpened seats made.1.items) }
         ensures bounds { OnOk result (HasBounds seats × (0 < opening.entries)) }
-        ensures links { OnOk result (opening.links ≡ 1) }
+        ensures links { OnOk result (IsVersion opening.links) }
         ensures refused { IfErr result (λ fault. IsNewFault fault opening seats) }
     {
         if seats == 0 || seats > Node::MAX_SEATS {
@@ -64,7 +65,7 @@ impl Node {
     pub fn new(alloc: Global, opening: Opening, seats: u32) -> Result<(Node, Vec<Pass>), NewFault>
         ensures ok { IfOk result (λ made. IsOpened seats made.1.items) }
         ensures bounds { OnOk result (HasBounds seats × (0 < opening.entries)) }
-        ensures links { OnOk result (opening.links ≡ 1) }
+        ensures links { OnOk result (IsVersion opening.links) }
         ensures refused { IfErr result (λ fault. IsNewFault fault opening seats) }
     {
         let (shared, passes) = Shared::open(alloc, opening, seats)?;

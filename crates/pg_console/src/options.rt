@@ -7,6 +7,9 @@ use std::alloc::Global;
 /// The most entries of an audit, where none are given.
 const ENTRIES: u32 = 1_000_000;
 
+/// The version of link messages that a node knows, where none is given.
+const LINKS: u8 = 1;
+
 /// The commands of a script and the statuses, behind the help of the parser.
 const SCRIPTS: &str = "\
 Commands of a script, one a line; a word with .. may come any number of times:
@@ -27,7 +30,8 @@ Status: 0 at the end of the script; 1 at a line that is no command, at a fault o
 /// The lines of a script of world steps, behind the help of the parser.
 const WORLDS: &str = "\
 Lines of a script; the nodes come first, and a word in brackets may be left out:
-  nodes  node NAME COOKIE [hidden] [creation N] [entries N] | at NAME COMMAND.. | restart NAME | seat SEAT | show SCOPE GROUP
+  nodes  node NAME COOKIE [hidden] [creation N] [entries N] [links N]
+         at NAME COMMAND.. | restart NAME | seat SEAT | show SCOPE GROUP
   wires  dial FROM TO CHALLENGE | accept WIRE CHALLENGE | hand WIRE SIDE | deliver WIRE SIDE | cut WIRE SIDE | settle
 COMMAND is one of `run`, and SIDE is dialler or acceptor.
 
@@ -93,6 +97,7 @@ fn run_command<'a>(alloc: Global) -> Result<Command<'a>, Error> {
             .arg(cookie(alloc))?
             .arg(creation(alloc))?
             .arg(entries(alloc))?
+            .arg(links(alloc))?
             .arg(hidden(alloc))?,
     )
 }
@@ -127,6 +132,15 @@ fn entries<'a>(alloc: Global) -> Arg<'a> {
         .default_value("1000000")
 }
 
+fn links<'a>(alloc: Global) -> Arg<'a> {
+    Arg::new(alloc, "links")
+        .long("links")
+        .value_name("N")
+        .help("The highest version of link messages that the node knows, 1 or 2")
+        .value_parser(value_parser!(u8).range(1..3))
+        .default_value("1")
+}
+
 fn hidden<'a>(alloc: Global) -> Arg<'a> {
     Arg::new(alloc, "hidden")
         .long("hidden")
@@ -144,6 +158,6 @@ pub fn opening(alloc: Global, run: &ArgMatches<'_>) -> Result<Opening, OptionsFa
         hidden: run.get_flag("hidden"),
         creation: run.get_one::<u32>("creation").unwrap_or(1),
         entries: run.get_one::<u32>("entries").unwrap_or(ENTRIES),
-        links: 1,
+        links: run.get_one::<u8>("links").unwrap_or(LINKS),
     })
 }

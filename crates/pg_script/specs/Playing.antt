@@ -1,5 +1,6 @@
 -- What a script is played on.
-use Rattle.std.specs.Prelude.{◌≡◌, ◌≢◌, ◌<◌, ◌⊎◌, ℕ, []}
+use Rattle.std.specs.Prelude.{◌≡◌, ◌<◌, ◌⊎◌, ℕ, []}
+use Rattle.handshake_frames.specs.Spelling.{IsVersion}
 use Rattle.policy_audit.specs.declared.opening.Opening.{Opening}
 use Rattle.policy_audit.specs.History.{History, past}
 
@@ -12,10 +13,10 @@ pub record Playing : Type 0 where
 abbrev pub opened_with : Opening → Playing
 opened_with o = record { history = past o []; seat = 0 }
 
--- a node may open so: its audit has room for an entry, and it knows version 1 of link messages alone
+-- a node may open so: its audit has room for an entry, and its version of link messages is 1 or 2
 abbrev pub MayOpen : Opening → Type 0
-MayOpen o = (0 < o.entries) × (o.links ≡ 1)
+MayOpen o = (0 < o.entries) × IsVersion o.links
 
--- no node opens so: its audit would have no entry, or it would know another version
+-- no node opens so: its audit would have no entry, or its version is another one
 abbrev pub IsBadOpening : Opening → Type 0
-IsBadOpening o = (o.entries ≡ 0) ⊎ (o.links ≢ 1)
+IsBadOpening o = (o.entries ≡ 0) ⊎ (IsVersion o.links → ⊥)

@@ -99,7 +99,7 @@ fn opening(alloc: Global) -> Result<Opening, OutOfMemory> {
         hidden: false,
         creation: 1,
         entries: 1_000_000,
-        links: 1,
+        links: 2,
     })
 }
 

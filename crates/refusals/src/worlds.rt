@@ -119,7 +119,7 @@ fn node(alloc: Global, name: &[u8]) -> Result<NodeCore, OutOfMemory> {
         hidden: false,
         creation: 1,
         entries: 1_000,
-        links: 1,
+        links: 2,
     };
     match NodeCore::new(alloc, opening) {
         Ok(core) => Ok(core),

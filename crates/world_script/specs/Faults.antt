@@ -1,5 +1,6 @@
 -- Why a line has no answer.
-use Rattle.std.specs.Prelude.{◌≡◌, ◌≢◌, Option, Some, None, IsSome, ◌⊎◌}
+use Rattle.std.specs.Prelude.{◌≡◌, Option, Some, None, IsSome, ◌⊎◌}
+use Rattle.handshake_frames.specs.Spelling.{IsVersion}
 use Rattle.policy_audit.specs.declared.opening.Opening.{Opening}
 use Rattle.node_core.specs.declared.fault.OpenFault.{OpenFault}
 use Rattle.node_core.specs.declared.fault.OpenFault.TheVariants as open_faults
@@ -22,9 +23,10 @@ open_fault open_faults.BadLimit = faults.Script
 open_fault open_faults.BadLinks = faults.Script
 open_fault open_faults.OutOfMemory = faults.Memory
 
--- a node behind other lines, one with room for no entry, or one that knows another version of link messages than 1
+-- a node behind other lines, one with room for no entry, or one whose version of link messages is
+-- neither 1 nor 2
 abbrev pub IsNoNode : Playing → Opening → Type 0
-IsNoNode p o = IsSome p.world ⊎ (o.entries ≡ 0) ⊎ (o.links ≢ 1)
+IsNoNode p o = IsSome p.world ⊎ (o.entries ≡ 0) ⊎ (IsVersion o.links → ⊥)
 
 -- a line that asks for nothing, or for such a node
 abbrev pub IsMisplaced : Playing → Option WorldLine → Type 0

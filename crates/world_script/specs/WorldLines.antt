@@ -1,5 +1,6 @@
 -- What a line of a world's script asks for.
-use Rattle.std.specs.Prelude.{ℕ, Bool, false, cond, List, [], ◌∷◌, Option, Some, None, codes, ◌==◌}
+use Rattle.std.specs.Prelude.{ℕ, Bool, false, cond, List, [], ◌∷◌, Option, Some, None, codes}
+use Rattle.std.specs.Prelude.{◌==◌, ◌||◌}
 use Rattle.std.specs.Option.{option_map, option_and_then}
 use Rattle.std.specs.Str.{bytes_eq}
 use Rattle.dist_types.specs.Difference.{is_empty}
@@ -41,17 +42,36 @@ without word words = cond (is_next word words) (behind words) words
 abbrev pub number_behind : List ℕ → ℕ → List (List ℕ) → Option (ℕ × List (List ℕ))
 number_behind word default words = cond (is_next word words) (first number_of (behind words)) (Some (default, words))
 
--- `[hidden] [creation N] [entries N]`, with one entry at least
+-- a number that is a version of link messages
+abbrev pub version_of : ℕ → Option ℕ
+version_of n = cond (n == 1 || n == 2) (Some n) None
+
+-- settings with one entry at least, and a version of link messages
+abbrev pub settings_with : Bool → ℕ → ℕ → ℕ → Option Settings
+settings_with hidden creation entries links =
+    cond (entries == 0) None
+    (option_map (λ v. record { hidden = hidden; creation = creation; entries = entries; links = v })
+    (version_of links))
+
+-- `[hidden] [creation N] [entries N] [links N]`
 abbrev pub settings_of : List (List ℕ) → Option Settings
 settings_of words =
-    option_and_then (λ c. option_and_then (λ n.
-    cond (is_empty n.1) (cond (n.0 == 0) None (Some (record { hidden = is_next (codes "hidden") words; creation = c.0; entries = n.0 }))) None)
+    option_and_then (λ c. option_and_then (λ n. option_and_then (λ v.
+    cond (is_empty v.1) (settings_with (is_next (codes "hidden") words) c.0 n.0 v.0) None)
+    (number_behind (codes "links") 1 n.1))
     (number_behind (codes "entries") 1000000 c.1))
     (number_behind (codes "creation") 1 (without (codes "hidden") words))
 
 -- what a node starts with
 abbrev pub opened_with : List ℕ → List ℕ → Settings → Opening
-opened_with name cookie s = record { name = name; cookie = cookie; hidden = s.hidden; creation = s.creation; entries = s.entries; links = 1 }
+opened_with name cookie s = record {
+  name = name;
+  cookie = cookie;
+  hidden = s.hidden;
+  creation = s.creation;
+  entries = s.entries;
+  links = s.links;
+}
 
 -- `NAME COOKIE`, and settings
 abbrev pub opening_of : List (List ℕ) → Option Opening

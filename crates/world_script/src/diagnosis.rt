@@ -16,7 +16,7 @@ pub enum Unread {
 
 /// The lines with the words that they take. What stands in brackets may be left out, and a word with `..` comes any number of times.
 pub const FORMS: [&str; 11] = [
-    "node NAME COOKIE [hidden] [creation N] [entries N]",
+    "node NAME COOKIE [hidden] [creation N] [entries N] [links N]",
     "at NAME COMMAND..",
     "seat SEAT",
     "dial FROM TO CHALLENGE",

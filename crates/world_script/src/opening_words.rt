@@ -2,7 +2,8 @@
 ghost use Rattle.std.specs.Prelude.{◌≡◌, IfOk, IfErr, Some};
 ghost use Rattle.pg_text.specs.Faults.{IsUnread};
 ghost use Rattle.pg_text.specs.WordsLeft.{words_left};
-ghost use Rattle.world_script.specs.WorldLines.{opening_of, settings_of, is_next, without, number_behind};
+ghost use Rattle.world_script.specs.WorldLines.{opening_of, settings_of, version_of};
+ghost use Rattle.world_script.specs.WorldLines.{is_next, without, number_behind};
 
 use crate::reading::is;
 use pg_text::{LineFault, first, next_word, nothing};
@@ -15,14 +16,19 @@ const CREATION: u32 = 1;
 /// The most entries of a node's audit, where it says none.
 const ENTRIES: u32 = 1_000_000;
 
+/// The version of link messages that a node knows, where it says none.
+const LINKS: u32 = 1;
+
 /// What follows the name and the cookie of a node.
 struct Settings {
     hidden: bool,
     creation: u32,
     entries: u32,
+    links: u8,
 }
 
-/// `NAME COOKIE [hidden] [creation N] [entries N]`, with one entry at least.
+/// `NAME COOKIE [hidden] [creation N] [entries N] [links N]`, with one entry at least and a version
+/// of link messages.
 pub fn opening(alloc: Global, words: Option<&[u8]>) -> Result<Opening, LineFault>
     ensures ok { IfOk result (λ said. opening_of (words_left words.entry) ≡ Some said) }
     ensures fault { IfErr result (λ fault. IsUnread fault (opening_of (words_left words.entry))) }
@@ -33,6 +39,7 @@ pub fn opening(alloc: Global, words: Option<&[u8]>) -> Result<Opening, LineFault
         hidden,
         creation,
         entries,
+        links,
     } = read_settings(alloc, rest)?;
     Ok(Opening {
         name,
@@ -40,11 +47,11 @@ pub fn opening(alloc: Global, words: Option<&[u8]>) -> Result<Opening, LineFault
         hidden,
         creation,
         entries,
-        links: 1,
+        links,
     })
 }
 
-/// `[hidden] [creation N] [entries N]`, and nothing behind.
+/// `[hidden] [creation N] [entries N] [links N]`, and nothing behind.
 fn read_settings(alloc: Global, words: Option<&[u8]>) -> Result<Settings, LineFault>
     ensures ok { IfOk result (λ said. settings_of (words_left words.entry) ≡ Some said) }
     ensures fault { IfErr result (λ fault. IsUnread fault (settings_of (words_left words.entry))) }
@@ -52,6 +59,7 @@ fn read_settings(alloc: Global, words: Option<&[u8]>) -> Result<Settings, LineFa
     let (hidden, rest) = flag("hidden", words);
     let (creation, rest) = number_behind(alloc, "creation", CREATION, rest)?;
     let (entries, rest) = number_behind(alloc, "entries", ENTRIES, rest)?;
+    let (links, rest) = number_behind(alloc, "links", LINKS, rest)?;
     nothing(rest)?;
     if entries == 0 {
         return Err(LineFault::Script);
@@ -60,7 +68,20 @@ fn read_settings(alloc: Global, words: Option<&[u8]>) -> Result<Settings, LineFa
         hidden,
         creation,
         entries,
+        links: version(links)?,
     })
+}
+
+/// The version of link messages that a number names.
+fn version(number: u32) -> Result<u8, LineFault>
+    ensures ok { IfOk result (λ said. version_of number ≡ Some said) }
+    ensures fault { IfErr result (λ fault. IsUnread fault (version_of number)) }
+{
+    match number {
+        1 => Ok(1),
+        2 => Ok(2),
+        _ => Err(LineFault::Script),
+    }
 }
 
 /// Whether this word is next, and the words behind it.

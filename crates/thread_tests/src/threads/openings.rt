@@ -21,7 +21,7 @@ const WELL: Refused = Refused {
     fault: NewFault::OutOfMemory,
 };
 
-const REFUSED: [Refused; 8] = [
+const REFUSED: [Refused; 7] = [
     Refused {
         seats: 0,
         fault: NewFault::BadSeats,
@@ -55,11 +55,6 @@ const REFUSED: [Refused; 8] = [
         ..WELL
     },
     Refused {
-        links: 2,
-        fault: NewFault::BadLinks,
-        ..WELL
-    },
-    Refused {
         links: 3,
         fault: NewFault::BadLinks,
         ..WELL
@@ -67,11 +62,10 @@ const REFUSED: [Refused; 8] = [
 ];
 
 /// Of a core: entries, the version that it knows, and why there is none.
-const REFUSED_CORES: [(u32, u8, OpenFault); 5] = [
+const REFUSED_CORES: [(u32, u8, OpenFault); 4] = [
     (0, 1, OpenFault::BadLimit),
     (0, 3, OpenFault::BadLimit),
     (100, 0, OpenFault::BadLinks),
-    (100, 2, OpenFault::BadLinks),
     (100, 3, OpenFault::BadLinks),
 ];
 
@@ -94,6 +88,11 @@ fn opens(alloc: Global, seats: u32) -> bool {
     new_node(alloc, 1, seats).is_some()
 }
 
+/// Whether a node opens that knows version 2.
+fn opens_with_version_2(alloc: Global) -> Option<bool> {
+    Some(Node::new(alloc, opening_of(alloc, 1, 2)?, 1).is_ok())
+}
+
 #[test]
 fn refuses_seats_limits_and_versions(rt: HostRuntime) {
     let alloc: Global = rt.alloc();
@@ -109,6 +108,7 @@ fn refuses_seats_limits_and_versions(rt: HostRuntime) {
         );
     }
     assert!(rt; opens(alloc, 256));
+    assert_eq!(rt; opens_with_version_2(alloc), Some(true));
 }
 
 #[test]
