@@ -52,7 +52,7 @@ pub fn take_connections<'a, R: Threads + Wait + Clock + Sync>(
         };
         if take_in(&host, stream) {
             rest.reset();
-        } else if lanes.pause(rt, rest.grow()) {
+        } else if lanes.rest(rt, rest.grow()) {
             return;
         }
     }

@@ -10,6 +10,12 @@ use std::time::{Clock, Duration};
 /// The milliseconds of rest after a connection that couldn't be taken.
 const REST: u64 = 100;
 
+/// Who is told that no connection can be taken.
+pub trait TakingFaults {
+    /// No connection could be taken, for the first time since one was.
+    fn note(&self, error: &io::Error);
+}
+
 /// What lies behind the lock.
 #[derive(Drop)]
 struct Hall {
@@ -51,17 +57,31 @@ impl Arrivals {
     }
 
     /// Takes one connection after another, each once a thread waits for one, until the end. The others wait in the system.
-    pub fn take_all<R: Wait + Clock>(&self, rt: &R) {
+    pub fn take_all<R: Wait + Clock, F: TakingFaults>(&self, rt: &R, faults: &F) {
+        let mut has_failed = false;
         for _ in rt.forever() {
             if self.has_ended(rt) {
                 return;
             }
             match self.listener.accept() {
-                Ok((stream, _)) => self.hand_over(rt, stream),
-                Err(_) => self.rest(rt),
+                Ok((stream, _)) => {
+                    has_failed = false;
+                    self.hand_over(rt, stream);
+                }
+                Err(error) => {
+                    if !has_failed && !self.is_shut(rt) {
+                        faults.note(&error);
+                    }
+                    has_failed = true;
+                    self.rest(rt);
+                }
             }
         }
         unreachable!()
+    }
+
+    fn is_shut<R: Wait>(&self, rt: &R) -> bool {
+        self.hall.lock(rt).is_shut
     }
 
     /// Waits until a thread waits for a connection, or the end has come: whether it has.
@@ -121,10 +141,11 @@ impl Arrivals {
 }
 
 /// Starts the thread that takes connections: whether it could be made.
-pub fn start_taking<'s, E: 's, R: Threads + Wait + Clock + Sync + 's>(
+pub fn start_taking<'s, E: 's, R: Threads + Wait + Clock + Sync + 's, F: TakingFaults + Sync>(
     scope: &'s Scope<'s, E>,
     rt: &'s R,
     arrivals: &'s Arrivals,
+    faults: &'s F,
 ) -> bool {
-    scope.spawn(move || arrivals.take_all(rt)).is_ok()
+    scope.spawn(move || arrivals.take_all(rt, faults)).is_ok()
 }

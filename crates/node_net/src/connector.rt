@@ -1,4 +1,5 @@
 //! Connects to a peer. Nothing can end a look-up of a name or a connect, so a thread of its own makes them, and may outlive the links.
+use crate::dial_fault::DialFault;
 use crate::lanes::Lanes;
 use std::net::{Net, TcpListener, TcpStream, ToSocketAddrs};
 use std::sync::{Condvar, CondvarTimeouts, Mutex, Wait};
@@ -12,37 +13,40 @@ const LOOK: u64 = 50;
 struct State {
     /// How long a connect may take, while one is wanted.
     wanted: Option<Duration>,
-    /// The connection that was made, or none where that failed.
-    made: Option<Option<TcpStream>>,
+    /// The connection that was made, or why there is none.
+    made: Option<Result<TcpStream, DialFault>>,
+    has_ended: bool,
 }
 
 /// Connects to one place, HOST:PORT, which is looked up each time.
 #[derive(Drop)]
-pub struct Connector {
-    place: String,
+pub(crate) struct Connector {
     state: Mutex<State>,
     moved: Condvar,
 }
 
 impl Connector {
-    pub(crate) fn new(place: String) -> Connector {
+    pub(crate) fn new() -> Connector {
         Connector {
-            place,
             state: Mutex::new(State {
                 wanted: None,
                 made: None,
+                has_ended: false,
             }),
             moved: Condvar::new(),
         }
     }
 
-    /// Connects whenever that is wanted. It never ends.
-    pub fn connect_all<R>(&self, rt: &R)
+    /// Connects to the place whenever that is wanted, until the end.
+    pub(crate) fn connect_all<R>(&self, rt: &R, place: &str)
     where
         R: Net<Listener = TcpListener, Stream = TcpStream> + Wait,
     {
         for _ in rt.forever() {
-            let made = connect(rt, self.place.as_str(), self.wait_for_wish(rt));
+            let Some(time) = self.wait_for_wish(rt) else {
+                return;
+            };
+            let made = connect(rt, place, time);
             let mut state = self.state.lock(rt);
             state.wanted = None;
             state.made = Some(made);
@@ -51,15 +55,30 @@ impl Connector {
         }
     }
 
-    fn wait_for_wish<R: Wait>(&self, rt: &R) -> Duration {
-        let state = self
-            .moved
-            .wait_while(rt, self.state.lock(rt), |state| state.wanted.is_none());
-        state.wanted.unwrap_or(Duration::ZERO)
+    /// How long a connect may take, once one is wanted; none after the end.
+    fn wait_for_wish<R: Wait>(&self, rt: &R) -> Option<Duration> {
+        let state = self.moved.wait_while(rt, self.state.lock(rt), |state| {
+            state.wanted.is_none() && !state.has_ended
+        });
+        if state.has_ended {
+            return None;
+        }
+        state.wanted
     }
 
-    /// A connection, within the time of a handshake for each address; none where no address answers, and after the stop.
-    pub(crate) fn connect<R: Wait + Clock>(&self, rt: &R, lanes: &Lanes<'_>) -> Option<TcpStream> {
+    /// Nothing is connected any more.
+    pub(crate) fn end<R: Wait>(&self, rt: &R) {
+        self.state.lock(rt).has_ended = true;
+        self.moved.notify_all();
+    }
+
+    /// A connection, within the time of a handshake for each address, or why no address answers;
+    /// none after the stop, and after the end.
+    pub(crate) fn connect<R: Wait + Clock>(
+        &self,
+        rt: &R,
+        lanes: &Lanes<'_>,
+    ) -> Option<Result<TcpStream, DialFault>> {
         self.wish(rt, lanes.limits().setup);
         let look = Duration::from_millis(LOOK);
         for _ in rt.forever() {
@@ -70,8 +89,11 @@ impl Connector {
             let (mut state, _) = self
                 .moved
                 .wait_timeout_while(rt, state, look, |state| state.made.is_none());
+            if state.has_ended {
+                return None;
+            }
             if let Some(made) = state.made.take() {
-                return made;
+                return Some(made);
             }
         }
         unreachable!()
@@ -87,15 +109,20 @@ impl Connector {
     }
 }
 
-/// Connects to the first address of the place that answers.
-fn connect<R>(rt: &R, place: &str, time: Duration) -> Option<TcpStream>
+/// Connects to the first address of the place that answers. Else it is told what the last one said.
+fn connect<R>(rt: &R, place: &str, time: Duration) -> Result<TcpStream, DialFault>
 where
     R: Net<Listener = TcpListener, Stream = TcpStream>,
 {
-    for addr in place.to_socket_addrs(rt).ok()? {
-        if let Ok(stream) = TcpStream::connect_timeout(rt, &addr, time) {
-            return Some(stream);
+    let mut fault = DialFault::NoHost;
+    let Ok(addrs) = place.to_socket_addrs(rt) else {
+        return Err(fault);
+    };
+    for addr in addrs {
+        match TcpStream::connect_timeout(rt, &addr, time) {
+            Ok(stream) => return Ok(stream),
+            Err(error) => fault = DialFault::of(error.kind()),
         }
     }
-    None
+    Err(fault)
 }

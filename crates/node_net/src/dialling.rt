@@ -1,15 +1,15 @@
 //! Connections that this node opens.
-use crate::connector::Connector;
+use crate::dial_fault::DialFault;
 use crate::host::Host;
 use crate::lanes::Lanes;
 use crate::serving::{Opener, serve_stream};
+use crate::target::Target;
 use crate::tries::{Dialled, Tries};
 use dist_types::NodeName;
 use node_threads::Node;
 use policy_audit::{Entry, Reply, Verdict};
-use std::alloc::{AllocError, Global};
+use std::alloc::Global;
 use std::net::{Net, TcpListener, TcpStream};
-use std::sync::atomic::{AtomicBool, Ordering};
 use std::sync::{Arc, Wait};
 use std::thread::{Scope, Threads};
 use std::time::{Clock, Duration, Instant};
@@ -21,51 +21,6 @@ const LOOK: u64 = 1_000;
 /// nodes of one name, which end each other's link to a peer, dial it no more often than that.
 const EARLY: u64 = 60;
 
-/// Whom to dial, and where.
-pub struct Target {
-    peer: NodeName,
-    connector: Arc<Connector>,
-    is_unsteady: AtomicBool,
-    is_told: AtomicBool,
-}
-
-impl Drop for Target {
-    fn drop(self) {
-        let Target {
-            peer: _,
-            connector: _,
-            is_unsteady: _,
-            is_told: _,
-        } = self;
-    }
-}
-
-impl Target {
-    /// The place is HOST:PORT.
-    pub fn new(alloc: Global, peer: NodeName, place: String) -> Result<Target, AllocError> {
-        Ok(Target {
-            peer,
-            connector: Arc::new(alloc, Connector::new(place))?,
-            is_unsteady: AtomicBool::new(false),
-            is_told: AtomicBool::new(false),
-        })
-    }
-
-    /// What connects to the place, for the thread that does so.
-    pub fn connector(&self) -> Result<Arc<Connector>, AllocError> {
-        Arc::try_clone(&self.connector)
-    }
-
-    pub fn peer(&self) -> &NodeName {
-        &self.peer
-    }
-
-    /// Whether links to the peer ended early, one after the other, though it lived on, and this wasn't asked since.
-    pub fn has_news(&self) -> bool {
-        self.is_unsteady.load(Ordering::SeqCst) && !self.is_told.swap(true, Ordering::SeqCst)
-    }
-}
-
 /// Starts a thread that keeps a link to a peer: whether one could be made.
 pub fn start_dialling<'s, E: 's, R>(
     scope: &'s Scope<'s, E>,
@@ -73,17 +28,18 @@ pub fn start_dialling<'s, E: 's, R>(
     alloc: Global,
     node: &'s Node,
     lanes: &'s Lanes<'s>,
-    target: &'s Target,
+    target: Arc<Target>,
 ) -> bool
 where
     R: Net<Listener = TcpListener, Stream = TcpStream> + Threads + Wait + Clock + Sync + 's,
 {
     scope
-        .spawn(move || keep_dialling(rt, alloc, node, lanes, target))
+        .spawn(move || keep_dialling(rt, alloc, node, lanes, &target))
         .is_ok()
 }
 
-/// Dials a peer whenever no link to it is up, until the stop.
+/// Dials a peer whenever no link to it is up, until the stop, or the end of the target: then no
+/// lane is kept for it any more.
 pub fn keep_dialling<'a, R>(
     rt: &'a R,
     alloc: Global,
@@ -103,32 +59,81 @@ where
     let mut tries = Tries::new();
     for _ in rt.forever() {
         // A dial that the node refuses is an entry, too.
-        if wait_while_up(rt, node, lanes, target) {
-            return;
-        }
-        let dialled = dial(&host, target);
-        if lanes.is_stopping(rt) {
-            return;
-        }
-        if tries.count(dialled) {
-            tell_unsteady(rt, node, lanes, target);
-        }
-        if lanes.pause(rt, tries.pause(rt)) {
+        if wait_while_up(rt, node, lanes, target) || !dial_once(&host, target, &mut tries) {
+            lanes.keep_one_less(rt);
             return;
         }
     }
     unreachable!()
 }
 
-fn is_up<R: Wait>(rt: &R, node: &Node, target: &Target) -> bool {
-    node.shared.lock(rt).core().is_peer_up(&target.peer)
+/// Dials once, and rests behind it: whether to go on.
+fn dial_once<R>(host: &Host<'_, R>, target: &Target, tries: &mut Tries) -> bool
+where
+    R: Net<Listener = TcpListener, Stream = TcpStream> + Threads + Wait + Clock + Sync,
+{
+    let Host {
+        rt,
+        node,
+        lanes,
+        ..
+    } = *host;
+    target.begin(rt);
+    let dialled = dial(host, target);
+    if lanes.is_stopping(rt) || target.has_ended() {
+        return false;
+    }
+    if tries.count(dialled) {
+        tell_unsteady(rt, node, lanes, target);
+    }
+    let pause = tries.pause(rt);
+    note(host, target, dialled, pause);
+    !lanes.pause(rt, pause, target)
 }
 
-/// Waits while a link to the peer is up that it has opened itself; no lane is kept meanwhile. Whether the stop has come.
-fn wait_while_up<R: Wait + Clock>(rt: &R, node: &Node, lanes: &Lanes<'_>, target: &Target) -> bool {
-    if !is_up(rt, node, target) {
-        return lanes.is_stopping(rt);
+/// Notes how a dial has ended, behind which there is a pause, and wakes who waits for the node
+/// where it has failed.
+fn note<R: Wait + Clock>(host: &Host<'_, R>, target: &Target, dialled: Dialled, pause: Duration) {
+    let Host {
+        rt,
+        node,
+        lanes,
+        ..
+    } = *host;
+    let next = match Instant::now(rt) {
+        Ok(now) => now.checked_add(pause),
+        Err(_) => None,
+    };
+    // Where both ends dial each other one dial comes to nothing.
+    let fault = if is_up(rt, node, target) {
+        None
+    } else {
+        dialled.fault()
+    };
+    target.rest(rt, fault, next);
+    if fault.is_some() {
+        lanes.count_failed_dial();
+        node.wake(rt);
     }
+}
+
+fn is_up<R: Wait>(rt: &R, node: &Node, target: &Target) -> bool {
+    node.shared.lock(rt).core().is_peer_up(target.peer())
+}
+
+/// Waits while a link to the peer is up that it has opened itself; no lane is kept meanwhile.
+/// Whether the stop has come, or the end of the target.
+fn wait_while_up<R: Wait + Clock>(rt: &R, node: &Node, lanes: &Lanes<'_>, target: &Target) -> bool {
+    if lanes.is_draining(rt) {
+        lanes.wait_for_stop(rt);
+    }
+    if lanes.is_stopping(rt) || target.has_ended() {
+        return true;
+    }
+    if !is_up(rt, node, target) {
+        return false;
+    }
+    target.come_up(rt);
     lanes.keep_one_less(rt);
     let is_stopping = look_until_down(rt, node, lanes, target);
     lanes.keep_one_more(rt);
@@ -142,7 +147,7 @@ fn look_until_down<R: Wait + Clock>(
     target: &Target,
 ) -> bool {
     for _ in rt.forever() {
-        if lanes.pause(rt, Duration::from_millis(LOOK)) {
+        if lanes.pause(rt, Duration::from_millis(LOOK), target) {
             return true;
         }
         if !is_up(rt, node, target) {
@@ -163,20 +168,22 @@ where
         lanes,
         ..
     } = *host;
-    let Some(stream) = target.connector.connect(rt, lanes) else {
-        return Dialled::Failed;
+    let stream = match target.connector().connect(rt, lanes) {
+        Some(Ok(stream)) => stream,
+        Some(Err(fault)) => return Dialled::Failed(fault),
+        None => return Dialled::Stopped,
     };
     let Some(lane) = lanes.take_for_dial(rt) else {
-        return Dialled::Failed;
+        return Dialled::Stopped;
     };
     let begun = Begun::now(rt, node);
-    let opener = Opener::Own(&target.peer);
+    let opener = Opener::Own(target.peer());
     let (lane, came_up) = serve_stream(host, lane, stream, opener);
     lanes.give_back_from_dial(rt, lane);
     if came_up {
         begun.end(rt, node, target)
     } else {
-        Dialled::Failed
+        Dialled::Failed(DialFault::Handshake)
     }
 }
 
@@ -200,7 +207,7 @@ impl Begun {
         if self.is_long_ago(rt) {
             return Dialled::Steady;
         }
-        Dialled::Early(creation_behind(rt, node, &target.peer, self.entries))
+        Dialled::Early(creation_behind(rt, node, target.peer(), self.entries))
     }
 
     fn is_long_ago<R: Clock>(&self, rt: &R) -> bool {
@@ -236,7 +243,7 @@ fn creation_in(entry: &Entry, wanted: &NodeName) -> Option<u32> {
 
 /// Says that links to the peer end early, and wakes who waits for the node, so that it is looked at.
 fn tell_unsteady<R: Wait>(rt: &R, node: &Node, lanes: &Lanes<'_>, target: &Target) {
-    target.is_unsteady.store(true, Ordering::SeqCst);
+    target.note_unsteady();
     lanes.count_early_end();
     node.wake(rt);
 }

@@ -1,10 +1,11 @@
 //! The lanes of a node, shared by all threads that serve its links.
 ghost use Rattle.std.specs.Prelude.{◌≡◌, IfOk};
 
-use crate::endings::{Ending, Endings};
+use crate::endings::Ending;
 use crate::lane::Lane;
 use crate::limits::Limits;
-use crate::writers::Writers;
+use crate::notes::Notes;
+use crate::target::Target;
 use std::alloc::Global;
 use std::io::{self, ErrorKind};
 use std::net::{Shutdown, TcpStream};
@@ -39,6 +40,8 @@ struct State {
     dials: usize,
     /// Somebody waits for a lane, or none is left for a further peer; that is said once until one is free again.
     is_full: bool,
+    /// No further link is served.
+    is_draining: bool,
     is_stopping: bool,
 }
 
@@ -58,6 +61,8 @@ pub struct Met {
     pub fillings: u64,
     /// A link to a peer that is dialled ended early again, while the peer lived on.
     pub early_ends: u64,
+    /// A dial has failed.
+    pub failed_dials: u64,
 }
 
 impl Met {
@@ -65,6 +70,7 @@ impl Met {
         reflections: 0,
         fillings: 0,
         early_ends: 0,
+        failed_dials: 0,
     };
 }
 
@@ -76,11 +82,11 @@ pub struct Lanes<'a> {
     /// Told of the stop.
     stopped: Condvar,
     limits: Limits,
-    endings: &'a Endings,
-    writers: &'a Writers,
+    notes: &'a Notes,
     reflections: AtomicU64,
     fillings: AtomicU64,
     early_ends: AtomicU64,
+    failed_dials: AtomicU64,
 }
 
 impl Drop for Lanes<'_> {
@@ -90,33 +96,25 @@ impl Drop for Lanes<'_> {
             freed: _,
             stopped: _,
             limits: _,
-            endings: _,
-            writers: _,
+            notes: _,
             reflections: _,
             fillings: _,
             early_ends: _,
+            failed_dials: _,
         } = self;
     }
 }
 
 impl<'a> Lanes<'a> {
-    /// For so many dials, each of one thread that keeps dialling. While no link to its peer is up, one free lane is kept for it
-    /// that no connection takes which a peer has opened; for all together at most 32 are. Why links
-    /// end is noted in `endings`, and how their writers get on in `writers`.
-    pub fn new(
-        alloc: Global,
-        lanes: Vec<Lane>,
-        dials: usize,
-        limits: Limits,
-        endings: &'a Endings,
-        writers: &'a Writers,
-    ) -> Lanes<'a> {
+    /// What their links tell beside the node is noted in `notes`.
+    pub fn new(alloc: Global, lanes: Vec<Lane>, limits: Limits, notes: &'a Notes) -> Lanes<'a> {
         let state = State {
             free: lanes,
             served: Vec::new(alloc),
             next: 0,
-            dials,
+            dials: 0,
             is_full: false,
+            is_draining: false,
             is_stopping: false,
         };
         Lanes {
@@ -124,11 +122,11 @@ impl<'a> Lanes<'a> {
             freed: Condvar::new(),
             stopped: Condvar::new(),
             limits,
-            endings,
-            writers,
+            notes,
             reflections: AtomicU64::new(0),
             fillings: AtomicU64::new(0),
             early_ends: AtomicU64::new(0),
+            failed_dials: AtomicU64::new(0),
         }
     }
 
@@ -139,11 +137,11 @@ impl<'a> Lanes<'a> {
             freed: _,
             stopped: _,
             limits: _,
-            endings: _,
-            writers: _,
+            notes: _,
             reflections: _,
             fillings: _,
             early_ends: _,
+            failed_dials: _,
         } = self;
         let State { free, .. } = state.into_inner();
         free
@@ -155,20 +153,27 @@ impl<'a> Lanes<'a> {
 
     /// Notes why a link ends, before its worker says that it is lost.
     pub(crate) fn note<R: Wait>(&self, rt: &R, link: u32, ending: Ending) {
-        self.endings.note(rt, link, ending);
+        self.notes.endings.note(rt, link, ending);
+    }
+
+    /// Notes where the other end of a link is.
+    pub(crate) fn note_address<R: Wait>(&self, rt: &R, link: u32, stream: &TcpStream) {
+        if let Ok(address) = stream.peer_addr() {
+            self.notes.addresses.note(rt, link, address);
+        }
     }
 
     pub(crate) fn enter_writer<R: Wait>(&self, rt: &R, link: u32) {
-        self.writers.enter(rt, link);
+        self.notes.writers.enter(rt, link);
     }
 
     pub(crate) fn leave_writer<R: Wait>(&self, rt: &R, link: u32) {
-        self.writers.leave(rt, link);
+        self.notes.writers.leave(rt, link);
     }
 
     /// Notes whether the writer of a link stands still.
     pub(crate) fn note_writer<R: Wait>(&self, rt: &R, link: u32, stands_still: bool) {
-        self.writers.note(rt, link, stands_still);
+        self.notes.writers.note(rt, link, stands_still);
     }
 
     /// What was met up to now.
@@ -177,6 +182,7 @@ impl<'a> Lanes<'a> {
             reflections: self.reflections.load(Ordering::SeqCst),
             fillings: self.fillings.load(Ordering::SeqCst),
             early_ends: self.early_ends.load(Ordering::SeqCst),
+            failed_dials: self.failed_dials.load(Ordering::SeqCst),
         }
     }
 
@@ -186,6 +192,32 @@ impl<'a> Lanes<'a> {
 
     pub(crate) fn count_early_end(&self) {
         self.early_ends.fetch_add(1, Ordering::SeqCst);
+    }
+
+    pub(crate) fn count_failed_dial(&self) {
+        self.failed_dials.fetch_add(1, Ordering::SeqCst);
+    }
+
+    /// No link is served from now on but those that are by now.
+    pub fn drain<R: Wait>(&self, rt: &R) {
+        self.state.lock(rt).is_draining = true;
+    }
+
+    pub(crate) fn is_draining<R: Wait>(&self, rt: &R) -> bool {
+        self.state.lock(rt).is_draining
+    }
+
+    pub(crate) fn wait_for_stop<R: Wait>(&self, rt: &R) {
+        let state = self
+            .stopped
+            .wait_while(rt, self.state.lock(rt), |state| !state.is_stopping);
+        drop(state);
+    }
+
+    /// Those who dial look whether their targets have ended.
+    pub fn wake_dials<R: Wait>(&self, rt: &R) {
+        drop(self.state.lock(rt));
+        self.stopped.notify_all();
     }
 
     /// All links are hung up, and no other one is served from now on.
@@ -206,7 +238,7 @@ impl<'a> Lanes<'a> {
     }
 
     /// Waits so long, or until the stop: whether that has come.
-    pub(crate) fn pause<R: Wait + Clock>(&self, rt: &R, time: Duration) -> bool {
+    pub(crate) fn rest<R: Wait + Clock>(&self, rt: &R, time: Duration) -> bool {
         let state = self.state.lock(rt);
         let (state, _) = self
             .stopped
@@ -214,12 +246,21 @@ impl<'a> Lanes<'a> {
         state.is_stopping
     }
 
+    /// Waits so long, or until the stop, or the end of the target: whether one of these has come.
+    pub(crate) fn pause<R: Wait + Clock>(&self, rt: &R, time: Duration, target: &Target) -> bool {
+        let state = self.state.lock(rt);
+        let (state, _) = self.stopped.wait_timeout_while(rt, state, time, |state| {
+            !state.is_stopping && !target.has_ended()
+        });
+        state.is_stopping || target.has_ended()
+    }
+
     /// A lane for a connection that a peer has opened, once there is one; none after the stop.
     pub(crate) fn take_for_peer<R: Wait>(&self, rt: &R) -> Option<Lane> {
         let mut state = self.state.lock(rt);
         self.look_whether_full(&mut state);
         let mut state = self.freed.wait_while(rt, state, |state| {
-            !state.is_stopping && state.free.len() <= state.kept()
+            !state.is_stopping && (state.is_draining || state.free.len() <= state.kept())
         });
         let lane = take_free(&mut state);
         self.look_whether_full(&mut state);
@@ -241,7 +282,7 @@ impl<'a> Lanes<'a> {
             self.look_whether_full(&mut state);
         }
         let mut state = self.freed.wait_while(rt, state, |state| {
-            !state.is_stopping && state.free.is_empty()
+            !state.is_stopping && (state.is_draining || state.free.is_empty())
         });
         let lane = take_free(&mut state)?;
         state.dials = state.dials.saturating_sub(1);
@@ -270,8 +311,9 @@ impl<'a> Lanes<'a> {
         self.free_some(state);
     }
 
-    /// A lane is kept for that dial again.
-    pub(crate) fn keep_one_more<R: Wait>(&self, rt: &R) {
+    /// A lane is kept for that dial again, or for a further one: while no link to its peer is up,
+    /// no connection takes it that a peer has opened. For all dials together at most 32 are kept.
+    pub fn keep_one_more<R: Wait>(&self, rt: &R) {
         let mut state = self.state.lock(rt);
         state.dials = state.dials.saturating_add(1);
     }

@@ -2,9 +2,11 @@
 #![tactic(auto)]
 
 mod accepting;
+mod addresses;
 mod arrivals;
 mod backoff;
 mod connector;
+mod dial_fault;
 mod dialling;
 mod endings;
 mod guard;
@@ -13,19 +15,26 @@ mod input;
 mod lane;
 mod lanes;
 mod limits;
+mod notes;
 mod output;
 mod patience;
 mod progress;
 mod serving;
+mod target;
+mod targets;
 mod tries;
 mod writers;
 
 pub use accepting::{start_accepting, take_connections};
-pub use arrivals::{Arrivals, start_taking};
-pub use connector::Connector;
-pub use dialling::{Target, keep_dialling, start_dialling};
+pub use addresses::Addresses;
+pub use arrivals::{Arrivals, TakingFaults, start_taking};
+pub use dial_fault::DialFault;
+pub use dialling::{keep_dialling, start_dialling};
 pub use endings::{Ending, Endings};
 pub use lane::{Lane, UsedPass};
 pub use lanes::{Lanes, Met};
 pub use limits::Limits;
+pub use notes::Notes;
+pub use target::{Target, TargetFault, Tried, is_place};
+pub use targets::{FullTargets, Targets};
 pub use writers::Writers;

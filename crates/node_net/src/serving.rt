@@ -91,6 +91,7 @@ fn serve_entered<R: Threads + Wait + Clock + Sync>(
     let Some(link) = lane.open(rt, node, event) else {
         return (lane, false);
     };
+    lanes.note_address(rt, link, stream);
     let at = HostedLink {
         rt,
         node,

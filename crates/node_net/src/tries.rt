@@ -1,5 +1,6 @@
 //! How often a peer is dialled.
 use crate::backoff::Backoff;
+use crate::dial_fault::DialFault;
 use std::time::{Clock, Duration, SystemTime, UNIX_EPOCH};
 
 /// The milliseconds before the next dial: at once, then, and at most.
@@ -15,12 +16,24 @@ const PARTS: u32 = 256;
 /// How a dial has ended.
 #[derive(Clone, Copy, Debug, PartialEq, Eq)]
 pub(crate) enum Dialled {
+    /// The stop has come, or the end of the target.
+    Stopped,
     /// No link came up.
-    Failed,
+    Failed(DialFault),
     /// One that came up has ended soon; with this creation of the peer.
     Early(Option<u32>),
     /// One that was up for long has ended.
     Steady,
+}
+
+impl Dialled {
+    /// Why no link came up, where none did.
+    pub(crate) fn fault(&self) -> Option<DialFault> {
+        match self {
+            Dialled::Failed(fault) => Some(*fault),
+            _ => None,
+        }
+    }
 }
 
 /// What is known of the last dials of a peer.
@@ -43,7 +56,7 @@ impl Tries {
     /// dialled at once. One that hangs up again and again may have another peer of this node's name, and is left in peace for longer.
     pub(crate) fn count(&mut self, dialled: Dialled) -> bool {
         let early = match dialled {
-            Dialled::Failed => return false,
+            Dialled::Stopped | Dialled::Failed(_) => return false,
             Dialled::Early(creation) => creation,
             Dialled::Steady => None,
         };

@@ -1,5 +1,5 @@
 //! One connection: a thread answers its lines, and another tells its news.
-use pg_hub::{Hub, Promise};
+use pg_hub::Hub;
 use pg_session::{Next, Seen};
 use pg_streams::{self, Lines, is_too_long};
 use pg_text::put_word;
@@ -59,6 +59,9 @@ impl<'a> Desk<'a> {
                     pg_streams::Next::LostLine => None,
                     pg_streams::Next::End => return Ok(()),
                 };
+                if self.hub.is_draining() {
+                    return Ok(());
+                }
                 self.answer_one(rt, asked, &mut out, writer)?;
                 trim(&mut line);
                 trim(&mut out);
@@ -80,7 +83,7 @@ impl<'a> Desk<'a> {
         hub.wait_for_room(rt);
         let printing = self.printing.lock(rt);
         out.clear();
-        let promise = Promise::of_line(line.unwrap_or(&[]));
+        let promise = hub.promise_of_line(rt, self.seat, line.unwrap_or(&[]));
         let call = hub.let_through(rt, promise);
         // From here to its answer a line waits for no client.
         hub.crowd.enter();
@@ -88,16 +91,24 @@ impl<'a> Desk<'a> {
         hub.crowd.leave(rt);
         hub.has_called(rt, call);
         let next = next?;
-        send(writer, out.as_slice())?;
+        if next == Next::Drain {
+            hub.drain(rt, self.seat);
+        }
+        let sent = send(writer, out.as_slice());
         drop(printing);
-        if next == Next::Quit {
+        if next == Next::Drain || (next == Next::Quit && sent.is_ok()) {
             hub.quit(rt);
         }
-        Ok(())
+        sent
     }
 
     /// Adds the answer to a line. Without memory for it that is the answer, and then the call may have been made.
-    fn answer<R: Wait>(&self, rt: &R, line: Option<&[u8]>, out: &mut Vec<u8>) -> io::Result<Next> {
+    fn answer<R: Wait + Clock>(
+        &self,
+        rt: &R,
+        line: Option<&[u8]>,
+        out: &mut Vec<u8>,
+    ) -> io::Result<Next> {
         let fault = match line {
             Some(line) if is_too_long(line) => "fault the line is too long\n",
             Some(line) => {
@@ -119,7 +130,7 @@ impl<'a> Desk<'a> {
     }
 
     /// Tells news until the connection or the program ends.
-    pub fn tell_all<R: Wait, W: Write>(
+    pub fn tell_all<R: Wait + Clock, W: Write>(
         &self,
         rt: &R,
         mut seen: Seen,

@@ -5,9 +5,9 @@ use crate::refusing::{refuse, refuse_here};
 use pg_hub::{Hub, Stream};
 use pg_session::Seen;
 use pg_streams::ReadLines;
-use std::io::{self, BufReader};
+use std::io::BufReader;
 use std::net::Shutdown;
-use std::os::unix::net::{SocketAddr, UnixStream};
+use std::os::unix::net::UnixStream;
 use std::sync::{Arc, Wait};
 use std::thread;
 use std::thread::{Scope, Threads};
@@ -39,33 +39,43 @@ fn serve_control<R: Threads + Wait + Clock + Sync>(rt: &R, hub: &Hub, door: &Doo
     });
 }
 
-/// Takes connections until the program is to end.
+/// Takes connections until the program is to end. Where none can be taken it rests, and says so for
+/// the first time.
 fn take_all<'s, E: 's, R: Threads + Wait + Clock + Sync + 's>(
     scope: &'s Scope<'s, E>,
     rt: &'s R,
     hub: &'s Hub,
     door: &Door<'_>,
 ) {
+    let mut has_failed = false;
     for _ in rt.forever() {
         let accepted = door.listener.accept();
         if hub.is_quitting() {
             return;
         }
-        take_in(scope, rt, hub, accepted);
+        match accepted {
+            Ok((stream, _)) => {
+                has_failed = false;
+                take_in(scope, rt, hub, stream);
+            }
+            Err(error) => {
+                if !has_failed {
+                    hub.log_untaken(rt, "client", &error);
+                }
+                has_failed = true;
+                thread::sleep(rt, Duration::from_millis(REST));
+            }
+        }
     }
 }
 
-/// Serves a connection, or tells it that there is no room. Where there is no connection it rests.
+/// Serves a connection, or tells it that there is no room.
 fn take_in<'s, E: 's, R: Threads + Wait + Clock + Sync + 's>(
     scope: &'s Scope<'s, E>,
     rt: &'s R,
     hub: &'s Hub,
-    accepted: io::Result<(UnixStream, SocketAddr)>,
+    stream: UnixStream,
 ) {
-    let Ok((stream, _)) = accepted else {
-        thread::sleep(rt, Duration::from_millis(REST));
-        return;
-    };
     match Arc::new(hub.alloc, stream) {
         Ok(stream) => {
             if !is_served(scope, rt, hub, &stream) {
@@ -157,7 +167,7 @@ fn is_answered<R: Threads + Wait + Clock + Sync>(
 }
 
 /// Tells news until the connection or the program ends, and hangs up.
-fn tell<R: Wait>(rt: &R, desk: &Desk<'_>, seen: Seen, stream: &UnixStream) {
+fn tell<R: Wait + Clock>(rt: &R, desk: &Desk<'_>, seen: Seen, stream: &UnixStream) {
     let mut writer = stream;
     desk.tell_all(rt, seen, &mut writer).ok();
     stream.shutdown(Shutdown::Both).ok();

@@ -38,14 +38,14 @@ impl<'a> Operator<'a> {
                 Err(_) => hub.want_memory(rt),
             }
         }
-        if self.is_alone && !hub.is_quitting() {
+        if self.is_alone && !hub.is_quitting() && !hub.is_draining() {
             output.be_patient(rt);
             hub.quit(rt);
         }
     }
 
     /// Tells news on standard output until the program ends.
-    fn tell<R: Wait>(&self, rt: &R, seen: Seen) {
+    fn tell<R: Wait + Clock>(&self, rt: &R, seen: Seen) {
         let Streams { lines, output } = self.streams;
         let hub = self.desk.hub;
         let mut writer = QueuedOutput { rt, output };
@@ -63,7 +63,7 @@ impl<'a> Operator<'a> {
     }
 
     /// Waits for a fault of standard output, which is told, or ends the program that is nothing without it.
-    fn watch<R: Wait>(&self, rt: &R) {
+    fn watch<R: Wait + Clock>(&self, rt: &R) {
         let hub = self.desk.hub;
         let output = self.streams.output;
         let Some(fault) = output.wait_for_fault(rt) else {
@@ -71,10 +71,8 @@ impl<'a> Operator<'a> {
         };
         if output.is_needed {
             hub.quit(rt);
-        } else if let Ok(line) = format!(in hub.alloc;
-            "warning: {fault}; nothing more is written there"
-        ) {
-            hub.warn(rt, line.as_str());
+        } else if let Ok(reason) = format!(in hub.alloc; "{fault}; nothing more is written there") {
+            hub.log.warn(rt, "output", reason.as_str());
         }
     }
 }

@@ -2,12 +2,12 @@
 //! ends no link of a peer that reads. What is let through counts as if it waited until the next look
 //! at the links, so that all that find room have it, and few calls need a look.
 ghost use Rattle.std.specs.Prelude.{◌≡◌};
-ghost use Rattle.pg_text.specs.Lines.{words_of};
 ghost use Rattle.std.specs.Str.{bytes_eq};
-ghost use Rattle.pg_hub.specs.Brake.{frames_of, tells};
+ghost use Rattle.pg_hub.specs.Brake.{frames_of, frames_for, frames_of_an_exit, named_in};
+ghost use Rattle.pg_hub.specs.Brake.{moves, announces};
 
 use crate::hub::Hub;
-use crate::promises::Promises;
+use crate::promises::{MOST, Promises};
 use node_threads::Shared;
 use pg_session::Session;
 use pg_text::first_word;
@@ -18,6 +18,9 @@ use std::time::Clock;
 
 /// How many scopes there are at most, for each of which an exit may owe a link a frame.
 const EACH_SCOPE: usize = 64;
+
+/// How many rows a frame has at most.
+const EACH_PART: usize = 4_096;
 
 /// What lets calls through.
 #[derive(Drop)]
@@ -67,12 +70,13 @@ impl Model for LetThrough {
 }
 
 impl Promise {
-    /// That of the call of a line.
-    pub fn of_line(line: &[u8]) -> Promise
-        ensures { result ≡ frames_of (words_of line.now) }
+    /// That of the call of a line, where the processes of its connection have so many rows at most.
+    pub fn of_line(line: &[u8], rows: usize) -> Promise
+        ensures { result ≡ frames_of line.now rows }
     {
+        let (word, _) = first_word(line);
         Promise {
-            frames: frames_of(line),
+            frames: frames_for(word, named_in(line), rows).min(MOST),
         }
     }
 
@@ -80,7 +84,7 @@ impl Promise {
     pub(crate) fn of_an_end(session: &Session) -> Promise {
         Promise {
             frames: if session.has_processes() {
-                EACH_SCOPE
+                frames_of_an_exit(session.rows()).min(MOST)
             } else {
                 0
             },
@@ -88,25 +92,48 @@ impl Promise {
     }
 }
 
-/// How many frames the call of a line may owe to a link.
-fn frames_of(line: &[u8]) -> usize
-    ensures { result ≡ frames_of (words_of line.now) }
+/// How many frames a command may owe to a link whose line names so many processes.
+fn frames_for(word: &[u8], named: usize, rows: usize) -> usize
+    ensures { result ≡ frames_for word.now named rows }
 {
-    let (word, _) = first_word(line);
     if is(word, "exit") {
-        EACH_SCOPE
-    } else if tells(word) {
+        frames_of_an_exit(rows)
+    } else if moves(word) {
+        1 + named / EACH_PART
+    } else if announces(word) {
         1
     } else {
         0
     }
 }
 
-/// Whether a command may owe each link a frame.
-fn tells(word: &[u8]) -> bool
-    ensures { result ≡ tells word.now }
+/// How many an exit may owe: those of a process have a last part in each scope.
+fn frames_of_an_exit(rows: usize) -> usize
+    ensures { result ≡ frames_of_an_exit rows }
 {
-    is(word, "join") || is(word, "leave") || is(word, "start") || is(word, "stop")
+    EACH_SCOPE + rows / EACH_PART
+}
+
+/// How many processes a line may name.
+fn named_in(line: &[u8]) -> usize
+    ensures { result ≡ named_in line.now }
+{
+    let spaces = line.iter().filter(|byte| **byte == b' ').count();
+    spaces.saturating_sub(2)
+}
+
+/// Whether a command moves processes.
+fn moves(word: &[u8]) -> bool
+    ensures { result ≡ moves word.now }
+{
+    is(word, "join") || is(word, "leave")
+}
+
+/// Whether a command may owe each link one frame.
+fn announces(word: &[u8]) -> bool
+    ensures { result ≡ announces word.now }
+{
+    is(word, "start") || is(word, "stop")
 }
 
 fn is(word: &[u8], text: &str) -> bool
@@ -116,6 +143,26 @@ fn is(word: &[u8], text: &str) -> bool
 }
 
 impl Hub {
+    /// What the call of a line of this seat may owe.
+    pub fn promise_of_line<R: Wait>(&self, rt: &R, seat: usize, line: &[u8]) -> Promise {
+        let (word, _) = first_word(line);
+        let rows = if is(word, "exit") {
+            self.rows_of(rt, seat)
+        } else {
+            0
+        };
+        Promise::of_line(line, rows)
+    }
+
+    /// How many rows the processes of a seat have at most.
+    fn rows_of<R: Wait>(&self, rt: &R, seat: usize) -> usize {
+        let house = self.house.read(rt);
+        match house.sessions.get(seat) {
+            Some(session) => session.lock(rt).rows(),
+            None => 0,
+        }
+    }
+
     /// Lets a call through: at once, or when so few frames wait for each link whose writer gets on
     /// that the call can't end it; after the time for which a writer may stand still in any case.
     pub fn let_through<R: Wait + Clock>(&self, rt: &R, promise: Promise) -> LetThrough
@@ -143,7 +190,7 @@ impl Hub {
 
     /// Lets a call through for which the last look at the links found room: whether it did.
     fn has_room<R: Wait>(&self, rt: &R, frames: usize) -> bool {
-        !self.writers.are_more() && self.brake.promises.lock(rt).let_through(frames)
+        !self.notes.writers.are_more() && self.brake.promises.lock(rt).let_through(frames)
     }
 
     /// Looks at the links until the call is let through. The node's lock is free meanwhile.
@@ -153,7 +200,7 @@ impl Hub {
             return;
         }
         self.brake.held.fetch_add(1, Ordering::SeqCst);
-        let patience = self.writers.patience(rt);
+        let patience = self.notes.writers.patience(rt);
         let (shared, wait) = self
             .node
             .moved
@@ -171,7 +218,7 @@ impl Hub {
     /// where this life or the program ends: there are no links then.
     fn finds_room<R: Wait>(&self, rt: &R, shared: &Shared, frames: usize) -> bool {
         let mut promises = self.brake.promises.lock(rt);
-        promises.look(self.writers.most_behind(rt, shared.core()));
+        promises.look(self.notes.writers.most_behind(rt, shared.core()));
         if self.is_quitting() || self.is_ending(shared) {
             promises.add(frames);
             return true;

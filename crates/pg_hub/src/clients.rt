@@ -1,5 +1,5 @@
 //! The clients of the control socket, as whoever ends the program has them.
-use std::alloc::Global;
+use std::alloc::{AllocError, Global};
 use std::net::Shutdown;
 use std::os::unix::net::UnixStream;
 use std::sync::atomic::{AtomicUsize, Ordering};
@@ -49,6 +49,18 @@ impl Clients {
         streams.open.retain(|(taken, _)| *taken != seat);
     }
 
+    /// The seats of all clients that are served, ascending.
+    pub fn seats<R: Wait>(&self, rt: &R, alloc: Global) -> Result<Vec<usize>, AllocError> {
+        let streams = self.streams.lock(rt);
+        let mut seats = Vec::with_capacity(alloc, streams.open.len())?;
+        for (seat, _) in streams.open.iter() {
+            seats.push(*seat)?;
+        }
+        drop(streams);
+        seats.sort_unstable();
+        Ok(seats)
+    }
+
     /// Ends all connections, whatever their own threads wait for.
     pub fn end_all<R: Wait>(&self, rt: &R) {
         let mut streams = self.streams.lock(rt);
@@ -56,6 +68,17 @@ impl Clients {
         for (_, stream) in streams.open.iter() {
             // One that can't be shut has ended already.
             stream.shutdown(Shutdown::Both).ok();
+        }
+    }
+
+    /// Ends all connections but that of a seat, whatever their own threads wait for.
+    pub fn end_others<R: Wait>(&self, rt: &R, seat: usize) {
+        let streams = self.streams.lock(rt);
+        for (taken, stream) in streams.open.iter() {
+            if *taken != seat {
+                // One that can't be shut has ended already.
+                stream.shutdown(Shutdown::Both).ok();
+            }
         }
     }
 

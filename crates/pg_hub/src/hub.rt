@@ -3,17 +3,20 @@
 use crate::brake::{Brake, Promise};
 use crate::clients::Clients;
 use crate::crowd::Crowd;
+use crate::ledger::Ledger;
+use crate::lost::Lost;
+use crate::reporting::Reporting;
 use crate::twins::Twins;
-use dist_types::{NodeName, OutOfMemory};
+use dist_types::OutOfMemory;
 use node_core::NodeCore;
-use node_net::{Ending, Endings, Writers};
+use node_net::{Notes, Targets};
 use node_threads::{Node, Pass, Shared};
-use pg_session::{DownReason, Lack, LostLinks, Next, Roster, Seen, Session};
-use pg_streams::Warnings;
+use pg_log::Log;
+use pg_session::{Lack, Next, Roster, Seen, Session};
 use std::alloc::Global;
 use std::sync::atomic::{AtomicBool, AtomicU32, Ordering};
 use std::sync::{Arc, Mutex, RwLock, Wait};
-use std::time::Clock;
+use std::time::{Clock, Instant};
 
 /// The passes that no lane has.
 #[derive(Drop)]
@@ -24,8 +27,23 @@ pub struct House {
     pub sessions: Vec<Mutex<Session>>,
 }
 
+/// What a hub is made with beside its node and its house.
+#[derive(Drop)]
+pub struct HubSettings {
+    /// How many seats of connections there are: that of standard input, and those of clients.
+    pub seats: u32,
+    /// The most entries of an audit.
+    pub entries: u32,
+    /// That of the program.
+    pub version: &'static str,
+    /// Where decisions are logged.
+    pub log: Arc<Log>,
+    /// The peers to dial.
+    pub targets: Arc<Targets>,
+}
+
 /// What all threads share. Whoever takes several locks takes the house first, for its own seat or for all, then a seat, then the
-/// roster, then the node.
+/// roster, then the ledger, then the node.
 #[derive(Drop)]
 pub struct Hub {
     pub alloc: Global,
@@ -36,18 +54,25 @@ pub struct Hub {
     /// How many seats of connections there are: that of standard input, and those of clients.
     pub seats: u32,
     /// Who is up, for connections that are still to come.
-    roster: Mutex<Roster>,
-    twins: Mutex<Twins>,
-    /// What the program says on standard error.
-    pub warnings: Arc<Warnings>,
-    /// Why links of this life have ended.
-    pub endings: Endings,
-    /// How the writers of its links get on.
-    pub writers: Writers,
+    pub(crate) roster: Mutex<Roster>,
+    pub(crate) twins: Mutex<Twins>,
+    pub(crate) ledger: Mutex<Ledger>,
+    /// Where decisions are logged.
+    pub log: Arc<Log>,
+    /// The peers to dial.
+    pub targets: Arc<Targets>,
+    /// What the links of this life tell beside the node.
+    pub notes: Notes,
     pub(crate) brake: Brake,
     /// The most entries of an audit.
-    entries: u32,
+    pub(crate) entries: u32,
+    pub(crate) version: &'static str,
+    /// When the program has begun, and how many lives the node has had.
+    pub(crate) begun: Option<Instant>,
+    lives: AtomicU32,
     is_quitting: AtomicBool,
+    /// Nobody is let in any more.
+    pub(crate) is_draining: AtomicBool,
     /// A line couldn't be made for want of memory.
     is_wanting: AtomicBool,
     /// How many lines in a row couldn't be read for want of memory.
@@ -57,14 +82,21 @@ pub struct Hub {
 }
 
 impl Hub {
-    pub fn new(
+    /// Of a program that begins now.
+    pub fn new<R: Clock>(
+        rt: &R,
         alloc: Global,
         node: Node,
         house: House,
-        seats: u32,
-        entries: u32,
-        warnings: Arc<Warnings>,
+        settings: HubSettings,
     ) -> Hub {
+        let HubSettings {
+            seats,
+            entries,
+            version,
+            log,
+            targets,
+        } = settings;
         Hub {
             alloc,
             node,
@@ -74,12 +106,17 @@ impl Hub {
             seats,
             roster: Mutex::new(Roster::new(alloc)),
             twins: Mutex::new(Twins::new(alloc)),
-            warnings,
-            endings: Endings::new(),
-            writers: Writers::new(),
+            ledger: Mutex::new(Ledger::new(alloc)),
+            log,
+            targets,
+            notes: Notes::new(),
             brake: Brake::new(),
             entries,
+            version,
+            begun: Instant::now(rt).ok(),
+            lives: AtomicU32::new(1),
             is_quitting: AtomicBool::new(false),
+            is_draining: AtomicBool::new(false),
             is_wanting: AtomicBool::new(false),
             lost_lines: AtomicU32::new(0),
             is_turning: AtomicBool::new(false),
@@ -102,11 +139,6 @@ impl Hub {
         self.wake(rt);
     }
 
-    /// Says a line on standard error.
-    pub fn warn<R: Wait>(&self, rt: &R, line: &str) {
-        self.warnings.say(rt, line);
-    }
-
     /// A line couldn't be read for want of memory. The next life begins where the next one can't be read either.
     pub fn lose_line<R: Wait>(&self, rt: &R) {
         self.node.shared.lock(rt).let_go();
@@ -122,9 +154,20 @@ impl Hub {
 
     /// The next life has begun.
     pub fn begin_anew(&self) {
+        self.lives.fetch_add(1, Ordering::SeqCst);
         self.is_turning.store(false, Ordering::SeqCst);
         self.is_wanting.store(false, Ordering::SeqCst);
         self.lost_lines.store(0, Ordering::SeqCst);
+    }
+
+    /// How many lives the node has had.
+    pub(crate) fn lives(&self) -> u32 {
+        self.lives.load(Ordering::SeqCst)
+    }
+
+    /// Whether the links of this life are being ended.
+    pub(crate) fn is_turning(&self) -> bool {
+        self.is_turning.load(Ordering::SeqCst)
     }
 
     /// Whether the audit has come to its last sixteenth.
@@ -153,8 +196,12 @@ impl Hub {
         self.node.wake(rt);
     }
 
-    /// Takes a seat that nobody has, if there is one, and memory for it.
+    /// Takes a seat that nobody has, if there is one, and memory for it, and somebody may be let
+    /// in.
     pub fn enter<R: Wait>(&self, rt: &R) -> Option<(usize, Seen)> {
+        if self.is_draining() {
+            return None;
+        }
         for _ in 0..2 {
             if let Ok(entered) = self.try_enter(rt) {
                 return entered;
@@ -223,7 +270,7 @@ impl Hub {
 
     /// Adds the answer to a line of a seat, for which there is room. A call that meets a full audit,
     /// or no memory, is answered by the next life.
-    pub fn answer<R: Wait>(
+    pub fn answer<R: Wait + Clock>(
         &self,
         rt: &R,
         seat: usize,
@@ -252,7 +299,7 @@ impl Hub {
     }
 
     /// The same in this life, unless something is wanting for the call of the line: then nothing is added.
-    fn try_answer<R: Wait>(
+    fn try_answer<R: Wait + Clock>(
         &self,
         rt: &R,
         seat: usize,
@@ -267,7 +314,12 @@ impl Hub {
         let mut session = session.lock(rt);
         session.put_restart(out)?;
         let start = out.len();
-        let next = session.answer(rt, self.alloc, &self.node, line, out)?;
+        let surroundings = Reporting {
+            rt,
+            hub: self,
+            line,
+        };
+        let next = session.answer(rt, self.alloc, &self.node, &surroundings, line, out)?;
         let lack = session.lack();
         if lack.is_none() || self.is_quitting() {
             return Ok((next, None));
@@ -277,7 +329,7 @@ impl Hub {
     }
 
     /// Adds the news for a seat.
-    pub fn tell<R: Wait>(
+    pub fn tell<R: Wait + Clock>(
         &self,
         rt: &R,
         seat: usize,
@@ -298,28 +350,6 @@ impl Hub {
                 self.want_memory(rt);
                 Err(OutOfMemory)
             }
-        }
-    }
-
-    /// Lets the roster follow the node, so that who connects later needn't look far back, and says which names two nodes have.
-    fn follow<R: Wait>(&self, rt: &R) {
-        let mut roster = self.roster.lock(rt);
-        let mut twins = self.twins.lock(rt);
-        let shared = self.node.shared.lock(rt);
-        // Where memory is wanting, it follows at the next time.
-        roster.follow(self.alloc, shared.core()).ok();
-        if let Some(name) = twins.follow(self.alloc, shared.core()) {
-            self.warn_of_twins(rt, &name);
-        }
-    }
-
-    fn warn_of_twins<R: Wait>(&self, rt: &R, name: &NodeName) {
-        if let Ok(name) = str::from_utf8(name.as_bytes())
-            && let Ok(line) = format!(in self.alloc;
-                "warning: two nodes have the name {name}: each ends the link of the other"
-            )
-        {
-            self.warn(rt, line.as_str());
         }
     }
 
@@ -344,26 +374,5 @@ impl Hub {
             });
         drop(shared);
         !self.is_quitting() && !has_ended.load(Ordering::SeqCst)
-    }
-}
-
-/// The links of a node that were lost.
-#[derive(Drop)]
-struct Lost<'a, R: Wait> {
-    rt: &'a R,
-    hub: &'a Hub,
-}
-
-impl<R: Wait> LostLinks for Lost<'_, R> {
-    /// Those that are lost at the end of a life are so because the node begins anew.
-    fn reason(&self, _core: &NodeCore, link: u32) -> DownReason {
-        if self.hub.is_turning.load(Ordering::SeqCst) {
-            return DownReason::Restarted;
-        }
-        match self.hub.endings.of(self.rt, link) {
-            Ending::Closed => DownReason::Closed,
-            Ending::Silent => DownReason::Silent,
-            Ending::Slow => DownReason::Slow,
-        }
     }
 }

@@ -5,7 +5,7 @@ use std::marker::Model;
 
 /// The most frames that may wait for a link behind a call of a client: half of what ends the link.
 /// The other half is for what the readers of links owe, who wait for nobody.
-const MOST: usize = 512;
+pub(crate) const MOST: usize = 512;
 
 /// What the calls may owe to a link that were let through, as far as they are known of.
 #[derive(Debug, Drop)]

@@ -1,6 +1,6 @@
 //! Audits that have ended, as lines of a file.
 use anyhow::{Error, Result, anyhow, bail};
-use pg_streams::Warnings;
+use pg_log::Log;
 use pg_text::put_entry;
 use policy_audit::Audit;
 use std::alloc::Global;
@@ -9,6 +9,7 @@ use std::io::{self, ErrorKind, Write};
 use std::rt::HostRuntime;
 use std::sync::Wait;
 use std::sync::atomic::{AtomicU64, Ordering};
+use std::time::Clock;
 
 /// How many bytes are gathered for one write.
 const PIECE: usize = 65_536;
@@ -40,12 +41,12 @@ impl<'a> AuditFile<'a> {
     }
 
     /// Adds a line for each entry. Where that fails, none of them is in the file, and a warning says so.
-    pub fn add<R: Wait>(&self, rt: &R, alloc: Global, audit: &Audit, warnings: &Warnings) {
+    pub fn add<R: Wait + Clock>(&self, rt: &R, alloc: Global, audit: &Audit, log: &Log) {
         if let Err(error) = self.try_add(alloc, audit) {
             self.lost.fetch_add(1, Ordering::SeqCst);
             let fault = fault(self.path, &error);
-            if let Ok(line) = format!(in alloc; "warning: {fault}; the audit is not in the file") {
-                warnings.say(rt, line.as_str());
+            if let Ok(reason) = format!(in alloc; "{fault}; the audit is not in the file") {
+                log.warn(rt, "audit_lost", reason.as_str());
             }
         }
     }

@@ -4,10 +4,11 @@ use crate::reserve::Reserve;
 use anyhow::{Error, Result, anyhow};
 use node_threads::{CloseRule, Node, Pass};
 use pg_hub::Hub;
-use pg_streams::Warnings;
+use pg_log::Log;
 use std::alloc::Global;
 use std::rt::HostRuntime;
 use std::sync::{Condvar, Mutex, Wait};
+use std::time::Clock;
 
 /// A life that has ended, with all its passes.
 #[derive(Drop)]
@@ -105,12 +106,12 @@ impl<'a> Closer<'a> {
     }
 
     /// Closes what is put in, until the end. A life that isn't closed ends the program.
-    pub fn close_all<R: Wait>(&self, rt: &R, hub: &Hub) {
+    pub fn close_all<R: Wait + Clock>(&self, rt: &R, hub: &Hub) {
         for _ in rt.forever() {
             let Some(life) = self.take(rt) else {
                 return;
             };
-            let closed = close(rt, hub.alloc, life, self.file.as_ref(), &hub.warnings);
+            let closed = close(rt, hub.alloc, life, self.file.as_ref(), &hub.log);
             let has_failed = closed.is_err();
             self.reserve.take(rt);
             self.note(rt, closed);
@@ -131,18 +132,18 @@ impl<'a> Closer<'a> {
 }
 
 /// Settles all passes of a life that has ended, and writes its audit.
-pub fn close<R: Wait>(
+pub fn close<R: Wait + Clock>(
     rt: &R,
     alloc: Global,
     life: EndedLife,
     file: Option<&AuditFile<'_>>,
-    warnings: &Warnings,
+    log: &Log,
 ) -> Result<(), CloseRule> {
     let EndedLife { node, passes } = life;
     match node.close(passes) {
         Ok(closed) => {
             if let Some(file) = file {
-                file.add(rt, alloc, closed.core.audit(), warnings);
+                file.add(rt, alloc, closed.core.audit(), log);
             }
             Ok(())
         }

@@ -11,7 +11,7 @@ mod settings;
 mod turn;
 
 pub use closing::Closer;
-pub use life::{LinkSettings, Site};
+pub use life::Site;
 pub use lives::{finish, live_on};
 pub use settings::given;
 pub use turn::LifeMaker;

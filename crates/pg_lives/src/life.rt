@@ -1,25 +1,28 @@
 //! One life of the node: its links are served until its audit is nearly full, or memory is wanting.
 use node_net::{Arrivals, Lane, Lanes, Limits, Met, Target, start_accepting, start_dialling};
 use pg_hub::{Host, Hub};
+use pg_log::{Level, text};
 use std::sync::Wait;
 use std::thread;
 use std::thread::Scope;
+use std::time::Clock;
 
 /// How many links the node keeps at most, and so how many threads serve connections.
 pub const LANES: usize = 64;
 
-/// How the links of a node are made.
-#[derive(Drop)]
-pub struct LinkSettings {
-    pub targets: Vec<Target>,
-    pub limits: Limits,
-}
+/// What is said where all lanes are taken.
+const FULL: &str = "all 64 links are up, begun or kept for peers to dial; further ones wait";
+
+const REFLECTED: &str =
+    "a peer asked for a digest of a challenge of this node's own; the link is lost";
+
+const UNSTEADY: &str = "the peer ends the links to it soon: has another node the name of this one?";
 
 /// Where and how the links of a node are made, over all its lives.
 #[derive(Clone, Copy, Drop)]
 pub struct Site<'a> {
     pub hub: &'a Hub,
-    pub links: &'a LinkSettings,
+    pub limits: Limits,
     pub arrivals: Option<&'a Arrivals>,
 }
 
@@ -27,25 +30,19 @@ pub struct Site<'a> {
 pub fn live<R: Host>(rt: &R, site: Site<'_>, lanes: Vec<Lane>) -> Vec<Lane> {
     let Site {
         hub,
-        links,
+        limits,
         arrivals,
     } = site;
-    hub.endings.clear(rt);
-    hub.writers.begin_life(rt, links.limits);
-    let dials = links.targets.len();
-    let lanes = Lanes::new(
-        hub.alloc,
-        lanes,
-        dials,
-        links.limits,
-        &hub.endings,
-        &hub.writers,
-    );
+    hub.notes.begin_life(rt, limits);
+    let lanes = Lanes::new(hub.alloc, lanes, limits, &hub.notes);
     thread::scope(thread::scope_env(), rt, |scope| {
-        if !start_all(scope, rt, site, &lanes) {
-            hub.warn(rt, "warning: no thread can be made for a link");
+        let mut dialled = 0;
+        let mut are_made = start_dials(scope, rt, hub, &lanes, &mut dialled);
+        are_made &= start_takers(scope, rt, site, &lanes);
+        if !are_made {
+            warn_of_threads(rt, hub);
         }
-        wait_for_end(rt, site, &lanes);
+        wait_for_end(scope, rt, site, &lanes, dialled);
         hub.end_links();
         lanes.stop(rt);
         if let Some(arrivals) = arrivals {
@@ -55,81 +52,142 @@ pub fn live<R: Host>(rt: &R, site: Site<'_>, lanes: Vec<Lane>) -> Vec<Lane> {
     lanes.into_lanes()
 }
 
-/// Starts the threads of all links: whether all could be made.
-fn start_all<'s, E: 's, R: Host + 's>(
+/// Starts the threads that take connections of peers: whether all could be made.
+fn start_takers<'s, E: 's, R: Host + 's>(
     scope: &'s Scope<'s, E>,
     rt: &'s R,
     site: Site<'s>,
     lanes: &'s Lanes<'s>,
 ) -> bool {
-    let Site {
-        hub,
-        links,
-        arrivals,
-    } = site;
+    let Some(arrivals) = site.arrivals else {
+        return true;
+    };
+    let hub = site.hub;
     let mut are_made = true;
-    if let Some(arrivals) = arrivals {
-        for _ in 0..LANES {
-            are_made &= start_accepting(scope, rt, hub.alloc, &hub.node, lanes, arrivals);
-        }
+    for _ in 0..LANES {
+        are_made &= start_accepting(scope, rt, hub.alloc, &hub.node, lanes, arrivals);
     }
-    for target in links.targets.as_slice() {
+    are_made
+}
+
+/// Starts a thread for each peer to dial from this number on, which becomes that of the next one:
+/// whether all could be made.
+fn start_dials<'s, E: 's, R: Host + 's>(
+    scope: &'s Scope<'s, E>,
+    rt: &'s R,
+    hub: &'s Hub,
+    lanes: &'s Lanes<'s>,
+    dialled: &mut u64,
+) -> bool {
+    let Ok((targets, next)) = hub.targets.from(rt, hub.alloc, *dialled) else {
+        return false;
+    };
+    *dialled = next;
+    let mut are_made = true;
+    for target in targets {
+        lanes.keep_one_more(rt);
         are_made &= start_dialling(scope, rt, hub.alloc, &hub.node, lanes, target);
     }
     are_made
 }
 
-/// Waits for the end of this life, and says meanwhile what an operator should know of its links.
-fn wait_for_end<R: Wait>(rt: &R, site: Site<'_>, lanes: &Lanes<'_>) {
+/// What a life was last looked at for beside its node.
+#[derive(Clone, Copy, PartialEq, Eq)]
+struct Seen {
+    met: Met,
+    /// How often the peers to dial have changed.
+    changes: u64,
+    is_draining: bool,
+}
+
+impl Seen {
+    fn now(hub: &Hub, lanes: &Lanes<'_>) -> Seen {
+        Seen {
+            met: lanes.met(),
+            changes: hub.targets.changes(),
+            is_draining: hub.is_draining(),
+        }
+    }
+}
+
+/// Waits for the end of this life. Meanwhile it dials the peers that are added, from this number
+/// on, and says what an operator should know of the links.
+fn wait_for_end<'s, E: 's, R: Host + 's>(
+    scope: &'s Scope<'s, E>,
+    rt: &'s R,
+    site: Site<'s>,
+    lanes: &'s Lanes<'s>,
+    mut dialled: u64,
+) {
     let hub = site.hub;
-    let mut told = Met::NOTHING;
+    let mut seen = Seen {
+        met: Met::NOTHING,
+        changes: 0,
+        is_draining: false,
+    };
     for _ in rt.forever() {
         let shared = hub.node.shared.lock(rt);
         let shared = hub.node.moved.wait_while(rt, shared, |shared| {
-            !hub.is_quitting() && !hub.is_ending(shared) && lanes.met() == told
+            !hub.is_quitting() && !hub.is_ending(shared) && Seen::now(hub, lanes) == seen
         });
         drop(shared);
-        let met = lanes.met();
-        if met == told {
+        let now = Seen::now(hub, lanes);
+        if now == seen {
             return;
         }
-        warn(rt, site, told, met);
-        told = met;
+        if now.is_draining {
+            lanes.drain(rt);
+        }
+        if !start_dials(scope, rt, hub, lanes, &mut dialled) {
+            warn_of_threads(rt, hub);
+        }
+        lanes.wake_dials(rt);
+        warn(rt, hub, seen.met, now.met);
+        seen = now;
     }
+}
+
+fn warn_of_threads<R: Wait + Clock>(rt: &R, hub: &Hub) {
+    hub.log
+        .warn(rt, "no_thread", "no thread can be made for a link");
 }
 
 /// Says what was met since the last time.
-fn warn<R: Wait>(rt: &R, site: Site<'_>, told: Met, met: Met) {
-    let hub = site.hub;
+fn warn<R: Wait + Clock>(rt: &R, hub: &Hub, told: Met, met: Met) {
     if met.reflections != told.reflections {
-        hub.warn(
-            rt,
-            "warning: a peer asked for a digest of a challenge of this node's own; the link is lost",
-        );
+        hub.log.warn(rt, "reflected", REFLECTED);
     }
     if met.fillings != told.fillings {
-        hub.warn(
-            rt,
-            "warning: full: all 64 links are up, begun or kept for peers to dial; further ones wait",
-        );
+        hub.log.warn(rt, "full", FULL);
     }
-    if met.early_ends != told.early_ends {
-        for target in site.links.targets.as_slice() {
-            warn_of(rt, hub, target);
-        }
+    if met.early_ends != told.early_ends || met.failed_dials != told.failed_dials {
+        warn_of_dials(rt, hub);
     }
 }
 
-/// Says it once of a peer that its links end early.
-fn warn_of<R: Wait>(rt: &R, hub: &Hub, target: &Target) {
-    if !target.has_news() {
+fn warn_of_dials<R: Wait + Clock>(rt: &R, hub: &Hub) {
+    let Ok(targets) = hub.targets.all(rt, hub.alloc) else {
         return;
+    };
+    for target in &targets {
+        warn_of_dial(rt, hub, target);
     }
-    if let Ok(peer) = str::from_utf8(target.peer().as_bytes())
-        && let Ok(line) = format!(in hub.alloc;
-            "warning: {peer} ends the links to it soon: has another node the name of this one?"
-        )
-    {
-        hub.warn(rt, line.as_str());
+}
+
+/// Says why a peer isn't up, and once that its links end early.
+fn warn_of_dial<R: Wait + Clock>(rt: &R, hub: &Hub, target: &Target) {
+    let peer = str::from_utf8(target.peer().as_bytes()).unwrap_or("");
+    if let Some(fault) = target.take_fault(rt) {
+        let fields = [
+            text("peer", peer),
+            text("at", target.place()),
+            text("fault", fault.name()),
+            text("reason", fault.reason()),
+        ];
+        hub.log.tell(rt, Level::Warn, "dial_failed", &fields);
+    }
+    if target.has_news() {
+        let fields = [text("peer", peer), text("reason", UNSTEADY)];
+        hub.log.tell(rt, Level::Warn, "unsteady", &fields);
     }
 }

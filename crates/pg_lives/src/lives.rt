@@ -5,7 +5,9 @@ use crate::turn::{LifeMaker, last};
 use anyhow::{Result, bail};
 use node_net::Lane;
 use pg_hub::{Host, Hub};
+use pg_log::{Level, number};
 use std::sync::{Arc, Wait};
+use std::time::{Clock, Instant};
 
 /// The fewest entries of a life that ends for want of memory, if another one is to follow: less than they take would be won by it.
 const FEWEST: usize = 1_000;
@@ -24,26 +26,32 @@ pub fn live_on<R: Host>(
     }
     let mut lanes = lanes;
     for _ in rt.forever() {
+        let begun = Instant::now(rt).ok();
         let ended = live(rt, site, lanes);
         if site.hub.is_quitting() {
             return Ok(ended);
         }
-        lanes = begin_anew(rt, site.hub, maker, closer, ended)?;
+        lanes = begin_anew(rt, site.hub, maker, closer, ended, begun)?;
     }
     unreachable!()
 }
 
-/// The lanes of the next life. The last one is closed behind it, unless it has to give its memory first.
-fn begin_anew<R: Wait>(
+/// The lanes of the next life. The last one, which has begun then, is closed behind it, unless it
+/// has to give its memory first.
+fn begin_anew<R: Wait + Clock>(
     rt: &R,
     hub: &Hub,
     maker: &mut LifeMaker,
     closer: &Closer<'_>,
     ended: Vec<Lane>,
+    begun: Option<Instant>,
 ) -> Result<Vec<Lane>> {
     let wants_memory = check_memory(rt, hub, closer)?;
+    hub.log_links(rt);
+    let entries = hub.node.shared.lock(rt).core().audit().len();
     closer.reserve.release(rt);
     let (lanes, life) = maker.turn(rt, hub, ended)?;
+    log_life(rt, hub, entries, begun);
     closer.put(rt, life);
     if wants_memory {
         closer.wait_until_idle(rt);
@@ -51,8 +59,26 @@ fn begin_anew<R: Wait>(
     Ok(lanes)
 }
 
+/// Logs a new life, behind one of so many entries that has begun then.
+fn log_life<R: Wait + Clock>(rt: &R, hub: &Hub, entries: usize, begun: Option<Instant>) {
+    let creation = hub.node.shared.lock(rt).core().creation();
+    let fields = [
+        number("creation", u64::from(creation)),
+        number("entries", entries as u64),
+        number("seconds", seconds_since(rt, begun)),
+    ];
+    hub.log.tell(rt, Level::Info, "new_life", &fields);
+}
+
+fn seconds_since<R: Clock>(rt: &R, begun: Option<Instant>) -> u64 {
+    match begun.map(|begun| begun.elapsed(rt)) {
+        Some(Ok(passed)) => passed.as_secs(),
+        _ => 0,
+    }
+}
+
 /// Whether the life ends for want of memory, which is told. An error where another life would have no more.
-fn check_memory<R: Wait>(rt: &R, hub: &Hub, closer: &Closer<'_>) -> Result<bool> {
+fn check_memory<R: Wait + Clock>(rt: &R, hub: &Hub, closer: &Closer<'_>) -> Result<bool> {
     let shared_memory = closer.wait_until_idle(rt);
     let shared = hub.node.shared.lock(rt);
     let entries = shared.core().audit().len();
@@ -62,18 +88,24 @@ fn check_memory<R: Wait>(rt: &R, hub: &Hub, closer: &Closer<'_>) -> Result<bool>
         bail!("out of memory");
     }
     if wants_memory {
-        hub.warn(rt, "warning: out of memory: the node begins anew");
+        hub.log
+            .warn(rt, "no_memory", "out of memory: the node begins anew");
     }
     Ok(wants_memory)
 }
 
 /// Closes the last life. An error where that, the life before, or the audit of one in the file has failed.
-pub fn finish<R: Wait>(rt: &R, hub: Hub, closer: &Closer<'_>, lanes: Vec<Lane>) -> Result<()> {
+pub fn finish<R: Wait + Clock>(
+    rt: &R,
+    hub: Hub,
+    closer: &Closer<'_>,
+    lanes: Vec<Lane>,
+) -> Result<()> {
     closer.check(rt)?;
     closer.reserve.release(rt);
-    let (alloc, warnings) = (hub.alloc, Arc::try_clone(&hub.warnings)?);
+    let (alloc, log) = (hub.alloc, Arc::try_clone(&hub.log)?);
     let life = last(hub, lanes)?;
-    if let Err(rule) = close(rt, alloc, life, closer.file.as_ref(), &warnings) {
+    if let Err(rule) = close(rt, alloc, life, closer.file.as_ref(), &log) {
         return Err(not_closed(rule));
     }
     match &closer.file {

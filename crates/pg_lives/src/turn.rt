@@ -8,14 +8,14 @@ use dist_types::TryClone;
 use node_core::NodeCore;
 use node_net::Lane;
 use node_threads::{Node, Pass};
-use pg_hub::{House, Hub};
+use pg_hub::{House, Hub, HubSettings};
 use pg_session::{Caller, Session};
-use pg_streams::Warnings;
 use policy_audit::{Event, Opening};
 use rand_chacha::ChaCha20Rng;
 use std::alloc::Global;
 use std::mem::{replace, swap};
-use std::sync::{Arc, Mutex, Wait};
+use std::sync::{Mutex, Wait};
+use std::time::Clock;
 use std::vec;
 
 /// The passes of a node with this many seats of connections: that of the keeper, one for each seat, and two for each lane.
@@ -91,23 +91,24 @@ impl LifeMaker {
         }
     }
 
-    /// The first life, which is told these settings.
-    pub fn begin<R: Wait>(
+    /// The first life, whose hub is made with these settings, and whose node is told these events
+    /// first.
+    pub fn begin<R: Wait + Clock>(
         &mut self,
         rt: &R,
         alloc: Global,
-        seats: u32,
-        settings: Vec<Event>,
-        warnings: Arc<Warnings>,
+        settings: HubSettings,
+        told: Vec<Event>,
     ) -> Result<(Hub, Vec<Lane>)> {
+        let seats = settings.seats;
         let opening = copy(alloc, &self.opening)?;
         let (node, passes) = Node::new(alloc, opening, passes_for(seats))?;
         let mut passes = passes.into_iter();
-        let keeper = new_keeper(rt, &node, &mut passes, settings)?;
+        let keeper = new_keeper(rt, &node, &mut passes, told)?;
         let sessions = new_sessions(alloc, &mut passes, seats)?;
         let lanes = self.lanes.make_all(alloc, &mut passes)?;
         let house = House { keeper, sessions };
-        let hub = Hub::new(alloc, node, house, seats, self.opening.entries, warnings);
+        let hub = Hub::new(rt, alloc, node, house, settings);
         check_room(rt, &hub, &hub.node)?;
         Ok((hub, lanes))
     }

@@ -111,7 +111,7 @@ where
         source,
         queues,
     } = ready;
-    if !(are_served && start_connecting(rt, options.targets.as_slice())) {
+    if !(are_served && start_connecting(rt, &options.targets)) {
         return failed(&rt, 1, "error: no thread can be made");
     }
     let ended = run(&rt, files, alloc, options, source, &queues);

@@ -4,6 +4,7 @@ use anyhow::{Error, Result, anyhow};
 use node_net::Arrivals;
 use pg_control::Door;
 use pg_hub::Host;
+use pg_log::Log;
 use std::alloc::Global;
 use std::fs::{File, Files};
 use std::io;
@@ -44,9 +45,10 @@ pub fn open_places<'a, R: Host + Files<File = File>>(
     listen: Option<&str>,
     control: Option<&'a str>,
     queues: &Queues,
+    log: &Log,
 ) -> Result<Places<'a>> {
     let arrivals = match listen {
-        Some(place) => Some(listen_at(rt, alloc, place, queues)?),
+        Some(place) => Some(listen_at(rt, alloc, place, queues, log)?),
         None => None,
     };
     let door = match control {
@@ -56,12 +58,12 @@ pub fn open_places<'a, R: Host + Files<File = File>>(
     Ok(Places { arrivals, door })
 }
 
-fn listen_at<R>(rt: &R, alloc: Global, place: &str, queues: &Queues) -> Result<Arrivals>
+fn listen_at<R>(rt: &R, alloc: Global, place: &str, queues: &Queues, log: &Log) -> Result<Arrivals>
 where
-    R: Net<Listener = TcpListener, Stream = TcpStream> + Wait,
+    R: Net<Listener = TcpListener, Stream = TcpStream> + Wait + Clock,
 {
     let listener = TcpListener::bind(rt, place).map_err(|error| unbound(place, error))?;
-    announce(rt, alloc, &listener, queues)?;
+    announce(rt, alloc, &listener, queues, log)?;
     Arrivals::new(listener).map_err(|error| unbound(place, error))
 }
 
@@ -70,14 +72,21 @@ fn unbound(place: &str, error: io::Error) -> Error {
 }
 
 /// Prints where peers connect.
-fn announce<R: Wait>(rt: &R, alloc: Global, listener: &TcpListener, queues: &Queues) -> Result<()> {
+fn announce<R: Wait + Clock>(
+    rt: &R,
+    alloc: Global,
+    listener: &TcpListener,
+    queues: &Queues,
+    log: &Log,
+) -> Result<()> {
     let addr = listener.local_addr()?;
     let line = format!(in alloc; "listening {addr}\n")?;
     queues.streams().output.put(rt, line.as_bytes())?;
     if addr.ip().is_unspecified() {
-        queues.warnings.say(
+        log.warn(
             rt,
-            "warning: all networks can reach the node, and names and rows cross them in plain",
+            "open",
+            "all networks can reach the node, and names and rows cross them in plain",
         );
     }
     Ok(())

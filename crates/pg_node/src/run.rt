@@ -4,9 +4,10 @@ use crate::threads::Queues;
 use anyhow::{Result, bail};
 use node_net::{Arrivals, Lane, start_taking};
 use pg_control::{Operator, start_control, start_operator};
-use pg_hub::{Host, Hub};
-use pg_lives::{Closer, LifeMaker, LinkSettings, Site, finish, given, live_on};
-use pg_options::Options;
+use pg_hub::{Host, Hub, HubSettings, UntakenPeers};
+use pg_lives::{Closer, LifeMaker, Site, finish, given, live_on};
+use pg_log::{Field, Level, Log, number, text};
+use pg_options::{LogOptions, Options, VERSION};
 use pg_session::Seen;
 use pg_streams::Streams;
 use rand_chacha::ChaCha20Rng;
@@ -46,18 +47,27 @@ pub fn run<R: Host + Files<File = File>>(
         control,
         clients,
         audit,
+        log,
     } = options;
+    let LogOptions { format, level } = log;
+    let log = Log::new(alloc, format, level, Arc::try_clone(&queues.warnings)?)?;
+    let log = Arc::new(alloc, log)?;
     let closer = Closer::new(rt, files, alloc, audit)?;
     let settings = given(alloc, allowed, cookies)?;
-    let warnings = Arc::try_clone(&queues.warnings)?;
+    let hub_settings = HubSettings {
+        seats: clients.saturating_add(1),
+        entries: opening.entries,
+        version: VERSION,
+        log: Arc::try_clone(&log)?,
+        targets,
+    };
     let mut maker = LifeMaker::new(opening, words);
-    let seats = clients.saturating_add(1);
-    let (hub, lanes) = maker.begin(rt, alloc, seats, settings, warnings)?;
-    let places = open_places(rt, alloc, listen, control, queues)?;
-    let links = LinkSettings { targets, limits };
+    let (hub, lanes) = maker.begin(rt, alloc, hub_settings, settings)?;
+    let places = open_places(rt, alloc, listen, control, queues, &log)?;
+    log_begin(rt, &hub);
     let site = Site {
         hub: &hub,
-        links: &links,
+        limits,
         arrivals: places.arrivals.as_ref(),
     };
     let program = Program {
@@ -69,6 +79,23 @@ pub fn run<R: Host + Files<File = File>>(
     let ended = serve(rt, program, &mut maker, lanes);
     places.remove(rt, alloc);
     finish(rt, hub, &closer, ended?)
+}
+
+/// Logs which node has begun.
+fn log_begin<R: Wait + Clock>(rt: &R, hub: &Hub) {
+    let shared = hub.node.shared.lock(rt);
+    let core = shared.core();
+    let name = str::from_utf8(core.name().as_bytes()).unwrap_or("");
+    let fields = begun_fields(name, core.creation());
+    hub.log.tell(rt, Level::Info, "begun", &fields);
+}
+
+fn begun_fields<'a>(name: &'a str, creation: u32) -> [Field<'a>; 3] {
+    [
+        text("name", name),
+        number("creation", u64::from(creation)),
+        text("version", VERSION),
+    ]
 }
 
 /// Serves all connections and links until the end. The lanes come back.
@@ -88,10 +115,13 @@ fn serve<R: Host>(
         bail!("out of memory");
     };
     let operator = Operator::new(site.hub, seat, streams, places.door.is_none());
+    let untaken = UntakenPeers { rt, hub: site.hub };
     thread::scope(thread::scope_env(), rt, |scope| {
-        let are_made = start_all(scope, rt, program, &operator, seen);
+        let are_made = start_all(scope, rt, program, &operator, seen)
+            && start_arrivals(scope, rt, site.arrivals, &untaken);
         let ended = live_on(rt, site, maker, closer, lanes, are_made);
         site.hub.quit(rt);
+        site.hub.log.tell(rt, Level::Info, "ending", &[]);
         streams.end(rt);
         closer.end(rt);
         places.shut(rt);
@@ -113,14 +143,14 @@ fn start_all<'s, E: 's, R: Host + 's>(
         closer,
         ..
     } = program;
+    let are_logged = scope.spawn(move || site.hub.log_all(rt)).is_ok();
     let are_served = start_operator(scope, rt, operator, seen);
     let are_let_in = start_control(scope, rt, site.hub, places.door.as_ref());
     let are_closed = start_closing(scope, rt, site.hub, closer);
-    let are_taken = start_arrivals(scope, rt, site.arrivals);
-    are_served && are_let_in && are_closed && are_taken
+    are_logged && are_served && are_let_in && are_closed
 }
 
-fn start_closing<'s, E: 's, R: Threads + Wait + Sync + 's>(
+fn start_closing<'s, E: 's, R: Threads + Wait + Clock + Sync + 's>(
     scope: &'s Scope<'s, E>,
     rt: &'s R,
     hub: &'s Hub,
@@ -134,9 +164,10 @@ fn start_arrivals<'s, E: 's, R: Threads + Wait + Clock + Sync + 's>(
     scope: &'s Scope<'s, E>,
     rt: &'s R,
     arrivals: Option<&'s Arrivals>,
+    untaken: &'s UntakenPeers<'_, R>,
 ) -> bool {
     match arrivals {
-        Some(arrivals) => start_taking(scope, rt, arrivals),
+        Some(arrivals) => start_taking(scope, rt, arrivals, untaken),
         None => true,
     }
 }

@@ -2,7 +2,7 @@
 //! of a name or a connect, so these may outlive the run, and aren't joined.
 use anyhow::{Error, Result};
 use command_line::OUT_OF_MEMORY;
-use node_net::Target;
+use node_net::Targets;
 use pg_streams::{LineQueue, OutputQueue, Streams, Warnings};
 use std::alloc::{AllocError, Global};
 use std::net::{Net, TcpListener, TcpStream};
@@ -10,7 +10,10 @@ use std::process::ExitCode;
 use std::sync::{Arc, Wait};
 use std::thread;
 use std::thread::Threads;
-use std::time::Clock;
+use std::time::{Clock, Duration};
+
+/// The milliseconds before a thread that couldn't be made is tried again.
+const REST: u64 = 1_000;
 
 /// What the run shares with the threads of the standard streams.
 #[derive(Drop)]
@@ -70,19 +73,45 @@ impl Queues {
     }
 }
 
-/// Starts a thread for each peer to dial that connects to it: whether all could be made.
-pub fn start_connecting<R>(rt: R, targets: &[Target]) -> bool
+/// Starts the thread that starts one for each peer to dial, which connects to it: whether it could
+/// be made.
+pub fn start_connecting<R>(rt: R, targets: &Arc<Targets>) -> bool
 where
-    R: Threads + Wait + Net<Listener = TcpListener, Stream = TcpStream> + Copy + Send + 'static,
+    R: Threads
+        + Wait
+        + Clock
+        + Net<Listener = TcpListener, Stream = TcpStream>
+        + Copy
+        + Send
+        + 'static,
 {
-    for target in targets {
-        let Ok(connector) = target.connector() else {
-            return false;
+    let Ok(targets) = Arc::try_clone(targets) else {
+        return false;
+    };
+    let starter = rt;
+    thread::spawn(&rt, move || connect_for_all(starter, &targets)).is_ok()
+}
+
+/// Starts a thread for each peer to dial, those that are added later, too. It never ends.
+fn connect_for_all<R>(rt: R, targets: &Targets)
+where
+    R: Threads
+        + Wait
+        + Clock
+        + Net<Listener = TcpListener, Stream = TcpStream>
+        + Copy
+        + Send
+        + 'static,
+{
+    for _ in rt.forever() {
+        let Some(target) = targets.next_unserved(&rt) else {
+            thread::sleep(&rt, Duration::from_millis(REST));
+            continue;
         };
         let dialler = rt;
-        if thread::spawn(&rt, move || connector.connect_all(&dialler)).is_err() {
-            return false;
+        if thread::spawn(&rt, move || target.connect_all(&dialler)).is_err() {
+            targets.leave_unserved(&rt);
+            thread::sleep(&rt, Duration::from_millis(REST));
         }
     }
-    true
 }

@@ -2,20 +2,25 @@
 use clap::{Arg, ArgAction, Command, Error as ClapError, value_parser};
 use std::alloc::Global;
 
+/// The version of the program.
+pub const VERSION: &str = "0.1.0";
+
 /// What stands behind the help of the parser.
 const COMMANDS: &str = "\
 Commands, one a line, on standard input and on each control connection; a word with .. may come any number of times:
-  node       cookie COOKIE | cookie_for NAME COOKIE | allow NAME.. | disconnect NAME | nodes
+  node       cookie COOKIE | cookie_for NAME COOKIE | allow NAME.. | disconnect NAME | dial NAME=HOST:PORT |
+             undial NAME | nodes
   scopes     start SCOPE | stop SCOPE
   processes  spawn | exit PROCESS | join SCOPE GROUP PROCESS.. | leave SCOPE GROUP PROCESS..
   queries    members SCOPE GROUP | local_members SCOPE GROUP | groups SCOPE | local_groups SCOPE
   monitors   monitor SCOPE GROUP | monitor_scope SCOPE | demonitor REF
-  others     size | audit ENTRY | help | quit
+  reports    self | status | links | dials | scopes | allowed | clients | refusals
+  others     size | audit ENTRY | help | quit | drain
 
 Example:
   pg_node b@h --cookie-file cookie --listen 127.0.0.1:4369 --control node.sock
 
-Status: 0 at the end of standard input or at quit; 1 at a fault of a file, a socket or standard output, or for want of memory;
+Status: 0 at the end of standard input, at quit or at drain; 1 at a fault of a file, a socket or standard output, or for want of memory;
 2 at a fault of the command line. docs/FORMATS.md has the answers.";
 
 /// The arguments of the program.
@@ -24,7 +29,7 @@ pub fn command<'a>(alloc: Global) -> Result<Command<'a>, ClapError> {
         .help("The node's own name, as b@h")
         .required(true);
     let command = Command::new(alloc, "pg_node")
-        .version("0.1.0")
+        .version(VERSION)
         .about("A node of process groups, linked with others over TCP")
         .after_help(COMMANDS)
         .arg(name)?;
@@ -54,7 +59,19 @@ fn node_arguments<'a>(alloc: Global, command: Command<'a>) -> Result<Command<'a>
     let command = with(command, creation(alloc))?;
     let command = with(command, entries(alloc))?;
     let audit = "Where audits that have ended are written";
-    with(command, text(alloc, "audit", "FILE", audit))
+    let command = with(command, text(alloc, "audit", "FILE", audit))?;
+    log_arguments(alloc, command)
+}
+
+fn log_arguments<'a>(alloc: Global, command: Command<'a>) -> Result<Command<'a>, ClapError> {
+    let format = "How the node logs what it decides, on standard error: text, json or none";
+    let format = text(alloc, "log", "FORMAT", format).default_value("text");
+    let command = with(command, format)?;
+    let level = "The least level that is logged: error, warn or info";
+    with(
+        command,
+        text(alloc, "log-level", "LEVEL", level).default_value("info"),
+    )
 }
 
 fn hidden<'a>(alloc: Global) -> Arg<'a> {
@@ -81,6 +98,15 @@ fn entries<'a>(alloc: Global) -> Arg<'a> {
         .default_value("1000000")
 }
 
+fn links<'a>(alloc: Global) -> Arg<'a> {
+    Arg::new(alloc, "links")
+        .long("links")
+        .value_name("N")
+        .help("The highest version of link messages that the node knows, 1 or 2")
+        .value_parser(value_parser!(u8).range(1..3))
+        .default_value("1")
+}
+
 fn clients<'a>(alloc: Global) -> Arg<'a> {
     Arg::new(alloc, "clients")
         .long("clients")
@@ -98,6 +124,7 @@ fn link_arguments<'a>(alloc: Global, command: Command<'a>) -> Result<Command<'a>
     let control = "A Unix socket for commands";
     let command = with(command, text(alloc, "control", "PATH", control))?;
     let command = with(command, clients(alloc))?;
+    let command = with(command, links(alloc))?;
     let setup = "For a whole handshake";
     let command = with(command, millis(alloc, "setuptime", "7000", setup))?;
     let tick = "A link is lost that is silent for so long";

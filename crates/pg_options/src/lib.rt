@@ -6,6 +6,6 @@ mod cookies;
 mod fault;
 mod options;
 
-pub use arguments::command;
+pub use arguments::{VERSION, command};
 pub use fault::Fault;
-pub use options::{Options, read_options};
+pub use options::{LogOptions, Options, read_options};

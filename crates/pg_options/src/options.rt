@@ -4,11 +4,13 @@ use crate::fault::{Fault, misused};
 use anyhow::anyhow;
 use clap::ArgMatches;
 use dist_types::{Cookie, NodeName};
-use node_net::{Limits, Target};
+use node_net::{Limits, Target, TargetFault, Targets, is_place};
+use pg_log::{Format, LevelFilter};
 use policy_audit::Opening;
 use rand::Rng;
 use std::alloc::Global;
 use std::fs::Files;
+use std::sync::Arc;
 use std::time::Duration;
 
 /// The most entries of an audit, where none are given.
@@ -16,6 +18,9 @@ const ENTRIES: u32 = 1_000_000;
 
 /// The fewest: room for what a new life of the node says first, and for its last sixteenth.
 const FEWEST: u32 = 64;
+
+/// The version of link messages that a node knows, where none is given.
+const LINKS: u8 = 1;
 
 /// The most clients of the control socket at once, where no number is given.
 const CLIENTS: u32 = 100;
@@ -26,7 +31,7 @@ pub struct Options<'a> {
     pub opening: Opening,
     /// HOST:PORT.
     pub listen: Option<&'a str>,
-    pub targets: Vec<Target>,
+    pub targets: Arc<Targets>,
     pub limits: Limits,
     pub allowed: Vec<NodeName>,
     pub cookies: Vec<(NodeName, Cookie)>,
@@ -36,6 +41,14 @@ pub struct Options<'a> {
     pub clients: u32,
     /// The path of the file for audits that have ended.
     pub audit: Option<&'a str>,
+    pub log: LogOptions,
+}
+
+/// How decisions are logged, and from which level on.
+#[derive(Clone, Copy, Debug, Drop)]
+pub struct LogOptions {
+    pub format: Format,
+    pub level: LevelFilter,
 }
 
 /// What the program runs with. Files with cookies are read.
@@ -57,6 +70,7 @@ pub fn read_options<'a, R: Files>(
         control: matches.get_str("control"),
         clients: matches.get_one::<u32>("clients").unwrap_or(CLIENTS),
         audit: matches.get_str("audit"),
+        log: log_options(matches)?,
     })
 }
 
@@ -74,7 +88,7 @@ fn peer_options<R: Files>(
     rt: &R,
     alloc: Global,
     matches: &ArgMatches<'_>,
-) -> Result<(Vec<Target>, Vec<NodeName>, Vec<(NodeName, Cookie)>), Fault> {
+) -> Result<(Arc<Targets>, Vec<NodeName>, Vec<(NodeName, Cookie)>), Fault> {
     let targets = targets(alloc, matches)?;
     let allowed = allowed(alloc, matches)?;
     Ok((targets, allowed, cookies(rt, alloc, matches)?))
@@ -97,7 +111,24 @@ fn opening<R: Files>(
             .get_one::<u32>("entries")
             .unwrap_or(ENTRIES)
             .max(FEWEST),
-        links: 1,
+        links: matches.get_one::<u8>("links").unwrap_or(LINKS),
+    })
+}
+
+fn log_options(matches: &ArgMatches<'_>) -> Result<LogOptions, Fault> {
+    let format = matches.get_str("log").unwrap_or("text");
+    let level = matches.get_str("log-level").unwrap_or("info");
+    Ok(LogOptions {
+        format: match format.parse() {
+            Ok(format) => format,
+            Err(_) => {
+                return Err(misused(anyhow!("--log: not text, json or none: {format:.60}")));
+            }
+        },
+        level: match level.parse() {
+            Ok(level) => level,
+            Err(_) => return Err(misused(anyhow!("--log-level: no level: {level:.60}"))),
+        },
     })
 }
 
@@ -118,45 +149,26 @@ fn listen<'a>(matches: &ArgMatches<'a>) -> Result<Option<&'a str>, Fault> {
     }
 }
 
-/// Whether the word is a host, by name or number, and a port.
-fn is_place(word: &str) -> bool {
-    match word.rsplit_once(':') {
-        Some((host, port)) => !host.is_empty() && port.parse::<u16>().is_ok(),
-        None => false,
-    }
-}
-
-fn targets(alloc: Global, matches: &ArgMatches<'_>) -> Result<Vec<Target>, Fault> {
+fn targets(alloc: Global, matches: &ArgMatches<'_>) -> Result<Arc<Targets>, Fault> {
     let mut targets = Vec::new(alloc);
     let own = matches.get_str("NAME");
     for word in matches.get_strs("dial").unwrap_or(&[]) {
         targets.push(target(alloc, own, word)?)?;
     }
-    Ok(targets)
+    match Targets::of(alloc, targets) {
+        Ok(targets) => Ok(Arc::new(alloc, targets)?),
+        Err(_) => Err(Fault::of_memory()),
+    }
 }
 
 fn target(alloc: Global, own: Option<&str>, word: &str) -> Result<Target, Fault> {
-    let Some((peer, place)) = word.split_once('=') else {
-        return Err(misused(anyhow!("--dial: no NAME=HOST:PORT: {word:.60}")));
-    };
-    if Some(peer) == own {
-        return Err(misused(anyhow!("--dial: the node's own name: {word:.60}")));
-    }
-    let peer = name(alloc, "--dial", peer)?;
-    if !is_place(place) {
-        return Err(misused(anyhow!("--dial: no HOST:PORT: {place:.60}")));
-    }
-    match Target::new(alloc, peer, copy(alloc, place)?) {
+    match Target::parse(alloc, word) {
+        Ok(target) if own.map(str::as_bytes) == Some(target.peer().as_bytes()) => Err(misused(
+            anyhow!("--dial: the node's own name: {word:.60}"),
+        )),
         Ok(target) => Ok(target),
-        Err(_) => Err(Fault::of_memory()),
-    }
-}
-
-fn copy(alloc: Global, text: &str) -> Result<String, Fault> {
-    let mut copied = String::new(alloc);
-    match copied.push_str(text) {
-        Ok(()) => Ok(copied),
-        Err(_) => Err(Fault::of_memory()),
+        Err(TargetFault::OutOfMemory) => Err(Fault::of_memory()),
+        Err(fault) => Err(misused(anyhow!("--dial: {fault}: {word:.60}"))),
     }
 }
 

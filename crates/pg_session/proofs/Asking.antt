@@ -28,8 +28,11 @@ makes_none (Some (request.Query e)) p p' same = same
 makes_none (Some request.Size) p p' same = same
 makes_none (Some (request.Audit k)) p p' same = same
 makes_none (Some request.Nodes) p p' same = same
+makes_none (Some (request.Report report)) p p' same = same
+makes_none (Some (request.Change change)) p p' same = same
 makes_none (Some request.Help) p p' same = same
 makes_none (Some request.Quit) p p' same = same
+makes_none (Some request.Drain) p p' same = same
 
 pub makes_as : (asked said : Option Request) → (p p' : Seat) → asked ≡ said → Makes said p p'
     → Makes asked p p'

@@ -45,7 +45,10 @@ abbrev pub Answers : Option Request → Seat → List ℕ → Seat → List ℕ 
 Answers None seat out seat' out' = (seat' ≡ seat) × (reason : List ℕ) × (out' ≡ out ++ codes "fault " ++ reason)
 Answers (Some (request.Call e)) seat out seat' out' = ((moves_only seat.own e ≡ true) × AnswersCall seat e out seat' out') ⊎ ((moves_only seat.own e ≡ false) × (seat' ≡ seat) × (out' ≡ out ++ strange_line))
 Answers (Some request.Help) seat out seat' out' = (seat' ≡ seat) × (text : List ℕ) × (out' ≡ out ++ text)
+Answers (Some (request.Report report)) seat out seat' out' = (seat' ≡ seat) × (text : List ℕ) × (out' ≡ out ++ text)
+Answers (Some (request.Change change)) seat out seat' out' = (seat' ≡ seat) × (text : List ℕ) × (out' ≡ out ++ text)
 Answers (Some request.Quit) seat out seat' out' = (seat' ≡ seat) × (out' ≡ out ++ codes "ok\n")
+Answers (Some request.Drain) seat out seat' out' = (seat' ≡ seat) × (out' ≡ out ++ codes "ok\n")
 Answers (Some r) seat out seat' out' = (seat' ≡ seat) × AnswersRead r seat.pass out out'
 
 -- at most one call, of the event that the line says

@@ -1,5 +1,5 @@
 -- What a line asks of a node.
-use Rattle.std.specs.Prelude.{◌≡◌, ℕ, Bool, true, false, ◌||◌, cond, List, Option, Some, None, codes}
+use Rattle.std.specs.Prelude.{◌≡◌, ℕ, Bool, true, false, ◌||◌, cond, List, [], ◌∷◌, Option, Some, None, codes}
 use Rattle.std.specs.Option.{option_and_then}
 use Rattle.std.specs.Str.{bytes_eq}
 use Rattle.policy_audit.specs.declared.event.Event.{Event}
@@ -10,9 +10,13 @@ use Rattle.pg_text.specs.declared.command.Command.TheVariants as command
 use Rattle.pg_text.specs.Commands.{said_by}
 use Rattle.pg_session.specs.declared.request.Request.{Request}
 use Rattle.pg_session.specs.declared.request.Request.TheVariants as request
+use Rattle.pg_session.specs.declared.surroundings.Report.{Report}
+use Rattle.pg_session.specs.declared.surroundings.Report.TheVariants as reports
+use Rattle.pg_session.specs.declared.surroundings.Change.{Change}
+use Rattle.pg_session.specs.declared.surroundings.Change.TheVariants as changes
 use Rattle.pg_session.specs.declared.session.Next.{Next}
 use Rattle.pg_session.specs.declared.session.Next.TheVariants as next
-use Rattle.pg_text.specs.Lines.{is_quiet}
+use Rattle.pg_text.specs.Lines.{is_quiet, words_of}
 
 -- a connection may make this call by a line: it speaks for no link, ends no life of the node, and isn't asked unasked or without an entry
 abbrev pub is_call : Event → Bool
@@ -53,17 +57,50 @@ asked_of command.Size = Some request.Size
 asked_of (command.Audit k) = Some (request.Audit k)
 asked_of (command.Seat k) = None
 
--- `nodes`, `help`, `quit`, or a command of the console that asks for nothing else than a connection may
+-- what a line asks to be told of the node beside its rows
+abbrev pub report_of : List ℕ → Option Report
+report_of line =
+    cond (bytes_eq line (codes "self")) (Some reports.Own)
+    (cond (bytes_eq line (codes "status")) (Some reports.Status)
+    (cond (bytes_eq line (codes "links")) (Some reports.Links)
+    (cond (bytes_eq line (codes "dials")) (Some reports.Dials)
+    (cond (bytes_eq line (codes "scopes")) (Some reports.Scopes)
+    (cond (bytes_eq line (codes "allowed")) (Some reports.Allowed)
+    (cond (bytes_eq line (codes "clients")) (Some reports.Clients)
+    (cond (bytes_eq line (codes "refusals")) (Some reports.Refusals)
+    None)))))))
+
+-- which change of the peers to dial a line of these words asks for, whatever stands behind the first
+abbrev pub change_of : List (List ℕ) → Option Change
+change_of [] = None
+change_of (name ∷ words) =
+    cond (bytes_eq name (codes "dial")) (Some changes.Dial)
+    (cond (bytes_eq name (codes "undial")) (Some changes.Undial)
+    None)
+
+-- that, or a command of the console that asks for nothing else than a connection may
+abbrev pub asked_changing : Option Change → List ℕ → Option Request
+asked_changing (Some change) line = Some (request.Change change)
+asked_changing None line = option_and_then asked_of (said_by line)
+
+-- a report, or one of these
+abbrev pub asked_beside : Option Report → List ℕ → Option Request
+asked_beside (Some report) line = Some (request.Report report)
+asked_beside None line = asked_changing (change_of (words_of line)) line
+
+-- `nodes`, `help`, `quit`, `drain`, or one of these
 abbrev pub asked_by : List ℕ → Option Request
 asked_by line =
     cond (bytes_eq line (codes "nodes")) (Some request.Nodes)
     (cond (bytes_eq line (codes "help")) (Some request.Help)
     (cond (bytes_eq line (codes "quit")) (Some request.Quit)
-    (option_and_then asked_of (said_by line))))
+    (cond (bytes_eq line (codes "drain")) (Some request.Drain)
+    (asked_beside (report_of line) line))))
 
--- the program ends behind `quit`, and goes on behind each other request
+-- the program ends behind `quit` and `drain`, and goes on behind each other request
 abbrev pub next_after : Option Request → Next
 next_after (Some request.Quit) = next.Quit
+next_after (Some request.Drain) = next.Drain
 next_after r = next.Line
 
 -- and behind an empty line or a comment

@@ -10,9 +10,11 @@ mod processes;
 mod reading;
 mod request;
 mod roster;
+mod rows;
 mod session;
 mod stake;
 mod stops;
+mod surroundings;
 mod watch;
 
 pub use caller::{Caller, Lack};
@@ -20,3 +22,4 @@ pub use news::{LostLinks, Seen};
 pub use notice::DownReason;
 pub use roster::Roster;
 pub use session::{Next, Session};
+pub use surroundings::{Change, Report, Surroundings};

@@ -16,9 +16,10 @@ use std::sync::Wait;
 
 /// The commands, as `help` answers them.
 pub const HELP: &str =
-    "help cookie COOKIE | cookie_for NAME COOKIE | allow NAME.. | disconnect NAME | nodes | start SCOPE | stop SCOPE | \
+    "help cookie COOKIE | cookie_for NAME COOKIE | allow NAME.. | disconnect NAME | dial NAME=HOST:PORT | undial NAME | nodes | start SCOPE | stop SCOPE | \
 spawn | exit PROCESS | join SCOPE GROUP PROCESS.. | leave SCOPE GROUP PROCESS.. | members SCOPE GROUP | local_members SCOPE GROUP | \
-groups SCOPE | local_groups SCOPE | monitor SCOPE GROUP | monitor_scope SCOPE | demonitor REF | size | audit ENTRY | help | quit\n";
+groups SCOPE | local_groups SCOPE | monitor SCOPE GROUP | monitor_scope SCOPE | demonitor REF | size | audit ENTRY | self | status | \
+links | dials | scopes | allowed | clients | refusals | help | quit | drain\n";
 
 /// Adds the answer to a query. The lock is free again while it is printed.
 pub fn put_query<R: Wait>(

@@ -1,9 +1,13 @@
 //! What a line asks for.
 ghost use Rattle.std.specs.Prelude.{◌≡◌, ◌++◌, List, ℕ, IfOk, IfErr, OnOk, Some, codes};
 ghost use Rattle.pg_text.specs.Faults.{IsUnread};
-ghost use Rattle.pg_session.specs.Asked.{asked_by, asked_of_event, IsAsked};
+ghost use Rattle.std.specs.Option.{option_and_then};
+ghost use Rattle.pg_text.specs.Commands.{said_by};
+ghost use Rattle.pg_text.specs.Lines.{words_of};
+ghost use Rattle.pg_session.specs.Asked.{asked_by, asked_changing, asked_of, asked_of_event, change_of, IsAsked};
 
 use crate::kind::Kind;
+use crate::surroundings::{Change, Report};
 use dist_types::OutOfMemory;
 use pg_text::{Command, LineFault, Reason, diagnose, first_word, parse, put_bytes, put_word};
 use policy_audit::Event;
@@ -14,6 +18,8 @@ const NODES: &str = "nodes";
 const HELP: &str = "help";
 
 const QUIT: &str = "quit";
+
+const DRAIN: &str = "drain";
 
 /// What a line asks for.
 #[derive(Drop)]
@@ -28,9 +34,13 @@ pub enum Request {
     Audit(u32),
     /// Which peers are up.
     Nodes,
+    Report(Report),
+    Change(Change),
     Help,
     /// The end of the program.
     Quit,
+    /// The same, once what connections have has ended and peers are told.
+    Drain,
 }
 
 /// What a line that is not quiet asks for.
@@ -48,6 +58,33 @@ pub fn read_request(alloc: Global, line: &[u8]) -> Result<Request, LineFault>
     if line == QUIT.as_bytes() {
         return Ok(Request::Quit);
     }
+    if line == DRAIN.as_bytes() {
+        return Ok(Request::Drain);
+    }
+    match Report::of(line) {
+        Some(report) => Ok(Request::Report(report)),
+        None => read_other(alloc, line),
+    }
+}
+
+/// What a line asks for that may be a change, or a command of the console.
+fn read_other(alloc: Global, line: &[u8]) -> Result<Request, LineFault>
+    ensures ok { IfOk result (λ request. asked_changing (change_of (words_of line.now)) line.now ≡ Some request) }
+    ensures call { IfOk result IsAsked }
+    ensures fault { IfErr result (λ fault. IsUnread fault (asked_changing (change_of (words_of line.now)) line.now)) }
+{
+    match Change::of(line) {
+        Some(change) => Ok(Request::Change(change)),
+        None => read_command(alloc, line),
+    }
+}
+
+/// What a line asks for that may be a command of the console.
+fn read_command(alloc: Global, line: &[u8]) -> Result<Request, LineFault>
+    ensures ok { IfOk result (λ request. option_and_then asked_of (said_by line.now) ≡ Some request) }
+    ensures call { IfOk result IsAsked }
+    ensures fault { IfErr result (λ fault. IsUnread fault (option_and_then asked_of (said_by line.now))) }
+{
     match parse(alloc, line)? {
         Command::Step(event) => request_of(event),
         Command::Size => Ok(Request::Size),
@@ -107,5 +144,9 @@ fn reason(alloc: Global, line: &[u8]) -> Result<Vec<u8>, OutOfMemory> {
 
 /// Whether this is a command of the program that the console lacks. None of them takes a word.
 fn is_bare(name: &[u8]) -> bool {
-    name == NODES.as_bytes() || name == HELP.as_bytes() || name == QUIT.as_bytes()
+    name == NODES.as_bytes()
+        || name == HELP.as_bytes()
+        || name == QUIT.as_bytes()
+        || name == DRAIN.as_bytes()
+        || Report::of(name).is_some()
 }

@@ -18,8 +18,10 @@ use crate::processes::Processes;
 use crate::reading::{HELP, put_found, put_peers, put_query, put_size};
 use crate::request::{Request, put_fault, read_request};
 use crate::roster::Roster;
+use crate::rows::{MoreOrFewer, rows_of};
 use crate::stake::{keep, prepare};
 use crate::stops::put_stops;
+use crate::surroundings::{Surroundings, put_change, put_report};
 use crate::watch::{Watch, note_all, tell_all};
 use dist_types::OutOfMemory;
 use node_core::NodeCore;
@@ -38,6 +40,8 @@ pub struct Session {
     watches: Vec<Watch>,
     news: News,
     is_open: bool,
+    /// How many rows its processes have at most. No contract rests on it.
+    rows: usize,
     /// What was wanting for the call of the last line. No contract rests on it.
     lack: Option<Lack>,
 }
@@ -50,6 +54,7 @@ impl Drop for Session {
             watches: _,
             news: _,
             is_open: _,
+            rows: _,
             lack: _,
         } = self;
     }
@@ -70,6 +75,7 @@ impl Model for Session {
 pub enum Next {
     Line,
     Quit,
+    Drain,
 }
 
 impl Session {
@@ -83,6 +89,7 @@ impl Session {
             watches: Vec::new(alloc),
             news: News::new(alloc),
             is_open: false,
+            rows: 0,
             lack: None,
         }
     }
@@ -97,6 +104,11 @@ impl Session {
     /// Whether the connection has processes that live.
     pub fn has_processes(&self) -> bool {
         !self.processes.is_empty()
+    }
+
+    /// How many rows its processes have at most, repeats included.
+    pub fn rows(&self) -> usize {
+        rows_of(&self.processes, self.rows)
     }
 
     /// How many calls the seat has made that are entries.
@@ -149,6 +161,7 @@ impl Session {
             watches: _,
             news: _,
             is_open: _,
+            rows: _,
             lack: _,
         } = self;
         caller
@@ -167,11 +180,12 @@ impl Session {
     /// Adds the answer to a line: one line, unless the line is quiet. For want of memory there is none, and then the call may have
     /// been made.
     #[tactic(auto, using(crate::proofs::Asking::makes_none, crate::proofs::Asking::makes_as, crate::proofs::Asking::answers_as))]
-    pub fn answer<R: Wait>(
+    pub fn answer<R: Wait, E: Surroundings>(
         &mut self,
         rt: &R,
         alloc: Global,
         node: &Node,
+        surroundings: &E,
         line: &[u8],
         out: &mut Vec<u8>,
     ) -> Result<Next, OutOfMemory>
@@ -187,7 +201,7 @@ impl Session {
             return Ok(Next::Line);
         }
         match read_request(alloc, line) {
-            Ok(request) => self.follow(rt, alloc, node, request, out),
+            Ok(request) => self.follow(rt, alloc, node, surroundings, request, out),
             Err(LineFault::Script) => {
                 put_fault(alloc, line, out)?;
                 Ok(Next::Line)
@@ -196,11 +210,12 @@ impl Session {
         }
     }
 
-    fn follow<R: Wait>(
+    fn follow<R: Wait, E: Surroundings>(
         &mut self,
         rt: &R,
         alloc: Global,
         node: &Node,
+        surroundings: &E,
         request: Request,
         out: &mut Vec<u8>,
     ) -> Result<Next, OutOfMemory>
@@ -217,10 +232,16 @@ impl Session {
             Request::Size => put_size(rt, node, &self.caller, out)?,
             Request::Audit(number) => put_found(rt, node, &self.caller, number, out)?,
             Request::Nodes => put_peers(rt, node, &self.caller, out)?,
+            Request::Report(report) => put_report(surroundings, report, out)?,
+            Request::Change(change) => put_change(surroundings, change, out)?,
             Request::Help => put_word(HELP, out)?,
             Request::Quit => {
                 put_word("ok\n", out)?;
                 return Ok(Next::Quit);
+            }
+            Request::Drain => {
+                put_word("ok\n", out)?;
+                return Ok(Next::Drain);
             }
         }
         Ok(Next::Line)
@@ -251,9 +272,11 @@ impl Session {
             drop(event);
             return Err(OutOfMemory);
         };
+        let rows = MoreOrFewer::of(rows_of(&self.processes, self.rows), &event);
         let mut outcome = Outcome::Refused(None);
         let answered = self.caller.call(rt, alloc, node, event, &mut outcome, out);
         self.lack = outcome.lack();
+        self.rows = rows.behind(&outcome);
         keep(&mut self.processes, &mut self.watches, outcome, stake)?;
         answered
     }

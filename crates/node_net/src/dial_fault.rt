@@ -1,0 +1,59 @@
+//! Why a dial has failed.
+use std::io::ErrorKind;
+
+/// Why a dial has failed.
+#[derive(Clone, Copy, Debug, PartialEq, Eq)]
+pub enum DialFault {
+    /// The place has no address.
+    NoHost,
+    /// No program takes connections there.
+    Refused,
+    /// Nobody answers there in time.
+    Timeout,
+    /// No way leads there.
+    Unreachable,
+    /// Any other fault of the system.
+    System,
+    /// A connection was made, and no link came up over it: one end has refused the other, or said
+    /// nothing.
+    Handshake,
+}
+
+impl DialFault {
+    /// That of a connect that failed so.
+    pub(crate) fn of(kind: ErrorKind) -> DialFault {
+        match kind {
+            ErrorKind::ConnectionRefused => DialFault::Refused,
+            ErrorKind::TimedOut | ErrorKind::WouldBlock => DialFault::Timeout,
+            ErrorKind::HostUnreachable
+            | ErrorKind::NetworkUnreachable
+            | ErrorKind::AddrNotAvailable => DialFault::Unreachable,
+            _ => DialFault::System,
+        }
+    }
+
+    /// As one word.
+    pub fn name(&self) -> &'static str {
+        match self {
+            DialFault::NoHost => "no_host",
+            DialFault::Refused => "refused",
+            DialFault::Timeout => "timeout",
+            DialFault::Unreachable => "unreachable",
+            DialFault::System => "system",
+            DialFault::Handshake => "handshake",
+        }
+    }
+
+    /// As a sentence.
+    pub fn reason(&self) -> &'static str {
+        match self {
+            DialFault::NoHost => "the host has no address",
+            DialFault::Refused => "no program takes connections at that port",
+            DialFault::Timeout => "nobody answers there in time",
+            DialFault::Unreachable => "no way leads there",
+            DialFault::System => "the system makes no connection",
+            DialFault::Handshake =>
+                "no link came up: one end has refused the other, or said nothing",
+        }
+    }
+}

@@ -1,0 +1,201 @@
+//! A peer to dial, and how its dials go.
+use crate::connector::Connector;
+use crate::dial_fault::DialFault;
+use dist_types::{NodeName, OutOfMemory, TextFault};
+use std::alloc::Global;
+use std::net::{Net, TcpListener, TcpStream};
+use std::sync::atomic::{AtomicBool, Ordering};
+use std::sync::{Mutex, Wait};
+use std::time::Instant;
+use thiserror::Error;
+
+/// Why a word names no peer to dial.
+#[derive(Clone, Copy, Debug, PartialEq, Eq, Drop, Error)]
+pub enum TargetFault {
+    #[error("no NAME=HOST:PORT")]
+    NoPlace,
+    #[error("{0}")]
+    Name(TextFault),
+    #[error("out of memory")]
+    OutOfMemory,
+}
+
+/// How the dials of a peer go.
+#[derive(Clone, Copy, Debug)]
+pub struct Tried {
+    /// How often it was dialled.
+    pub times: u32,
+    /// Why the last dial has failed, if it has.
+    pub fault: Option<DialFault>,
+    /// When the next one is due, while that is waited for.
+    pub next: Option<Instant>,
+}
+
+/// What lies behind the lock.
+#[derive(Clone, Copy, Debug)]
+struct State {
+    tried: Tried,
+    /// Nobody was told of the last fault.
+    is_fault_news: bool,
+}
+
+/// A peer to dial.
+pub struct Target {
+    peer: NodeName,
+    /// HOST:PORT.
+    place: String,
+    connector: Connector,
+    state: Mutex<State>,
+    is_unsteady: AtomicBool,
+    is_told: AtomicBool,
+    has_ended: AtomicBool,
+}
+
+impl Drop for Target {
+    fn drop(self) {
+        let Target {
+            peer: _,
+            place: _,
+            connector: _,
+            state: _,
+            is_unsteady: _,
+            is_told: _,
+            has_ended: _,
+        } = self;
+    }
+}
+
+impl Target {
+    pub fn new(peer: NodeName, place: String) -> Target {
+        Target {
+            peer,
+            place,
+            connector: Connector::new(),
+            state: Mutex::new(State {
+                tried: Tried {
+                    times: 0,
+                    fault: None,
+                    next: None,
+                },
+                is_fault_news: false,
+            }),
+            is_unsteady: AtomicBool::new(false),
+            is_told: AtomicBool::new(false),
+            has_ended: AtomicBool::new(false),
+        }
+    }
+
+    /// The target that a word NAME=HOST:PORT names.
+    pub fn parse(alloc: Global, word: &str) -> Result<Target, TargetFault> {
+        let Some((name, place)) = word.split_once('=') else {
+            return Err(TargetFault::NoPlace);
+        };
+        let peer = match NodeName::parse(alloc, name.as_bytes()) {
+            Ok(peer) => peer,
+            Err(fault) => return Err(TargetFault::Name(fault)),
+        };
+        if !is_place(place) {
+            return Err(TargetFault::NoPlace);
+        }
+        match copied(alloc, place) {
+            Ok(place) => Ok(Target::new(peer, place)),
+            Err(_) => Err(TargetFault::OutOfMemory),
+        }
+    }
+
+    pub fn peer(&self) -> &NodeName {
+        &self.peer
+    }
+
+    /// HOST:PORT.
+    pub fn place(&self) -> &str {
+        self.place.as_str()
+    }
+
+    pub(crate) fn connector(&self) -> &Connector {
+        &self.connector
+    }
+
+    /// Connects to the place whenever that is wanted, until the target's end.
+    pub fn connect_all<R>(&self, rt: &R)
+    where
+        R: Net<Listener = TcpListener, Stream = TcpStream> + Wait,
+    {
+        self.connector.connect_all(rt, self.place.as_str());
+    }
+
+    /// It is dialled no more.
+    pub(crate) fn end<R: Wait>(&self, rt: &R) {
+        self.has_ended.store(true, Ordering::SeqCst);
+        self.connector.end(rt);
+    }
+
+    pub(crate) fn has_ended(&self) -> bool {
+        self.has_ended.load(Ordering::SeqCst)
+    }
+
+    /// Links to the peer ended early, one after the other, though it lived on.
+    pub(crate) fn note_unsteady(&self) {
+        self.is_unsteady.store(true, Ordering::SeqCst);
+    }
+
+    /// Whether they did, and this wasn't asked since.
+    pub fn has_news(&self) -> bool {
+        self.is_unsteady.load(Ordering::SeqCst) && !self.is_told.swap(true, Ordering::SeqCst)
+    }
+
+    pub fn tried<R: Wait>(&self, rt: &R) -> Tried {
+        self.state.lock(rt).tried
+    }
+
+    /// Why the last dial has failed, if it has, and this wasn't asked since.
+    pub fn take_fault<R: Wait>(&self, rt: &R) -> Option<DialFault> {
+        let mut state = self.state.lock(rt);
+        if !state.is_fault_news {
+            return None;
+        }
+        state.is_fault_news = false;
+        state.tried.fault
+    }
+
+    /// A dial is begun.
+    pub(crate) fn begin<R: Wait>(&self, rt: &R) {
+        let mut state = self.state.lock(rt);
+        state.tried.times = state.tried.times.saturating_add(1);
+        state.tried.next = None;
+    }
+
+    /// A link to the peer is up.
+    pub(crate) fn come_up<R: Wait>(&self, rt: &R) {
+        let mut state = self.state.lock(rt);
+        state.tried.fault = None;
+        state.tried.next = None;
+    }
+
+    /// A dial has ended so. The next one is due then.
+    pub(crate) fn rest<R: Wait>(&self, rt: &R, fault: Option<DialFault>, next: Option<Instant>) {
+        let mut state = self.state.lock(rt);
+        state.tried.fault = fault;
+        state.tried.next = next;
+        state.is_fault_news = fault.is_some();
+    }
+}
+
+/// Whether the word is a host, by name or number, and a port.
+pub fn is_place(word: &str) -> bool {
+    match word.rsplit_once(':') {
+        Some((host, port)) => !host.is_empty() && is_printable(host) && port.parse::<u16>().is_ok(),
+        None => false,
+    }
+}
+
+/// Whether the text has no byte but those that can be seen.
+fn is_printable(text: &str) -> bool {
+    text.as_bytes().iter().all(|byte| byte.is_ascii_graphic())
+}
+
+fn copied(alloc: Global, text: &str) -> Result<String, OutOfMemory> {
+    let mut copy = String::new(alloc);
+    copy.push_str(text)?;
+    Ok(copy)
+}

@@ -1,0 +1,137 @@
+//! Changes of the peers to dial, as lines ask for them.
+use crate::hub::Hub;
+use crate::logging::text_of;
+use dist_types::{NodeName, OutOfMemory, TextFault};
+use node_net::{FullTargets, Target, TargetFault};
+use pg_log::{Level, text};
+use pg_session::Change;
+use pg_text::{first_word, put_bytes, put_word};
+use std::alloc::Global;
+use std::sync::Wait;
+use std::time::Clock;
+use thiserror::Error;
+
+/// Why a change isn't made, and the word at fault, if there is one.
+#[derive(Clone, Copy, Debug, Drop)]
+pub(crate) struct Unchanged<'a> {
+    reason: Reason,
+    word: Option<&'a [u8]>,
+}
+
+#[derive(Clone, Copy, Debug, Drop, Error)]
+enum Reason {
+    #[error("a word is missing: dial NAME=HOST:PORT")]
+    NoTarget,
+    #[error("a word is missing: undial NAME")]
+    NoName,
+    #[error("no NAME=HOST:PORT")]
+    NoPlace,
+    #[error("{0}")]
+    Name(TextFault),
+    #[error("the node's own name")]
+    OwnName,
+    #[error("not dialled")]
+    NotDialled,
+    #[error("256 peers are dialled already")]
+    Full,
+    #[error("out of memory")]
+    OutOfMemory,
+}
+
+impl Reason {
+    fn about(self, word: &[u8]) -> Unchanged<'_> {
+        Unchanged {
+            reason: self,
+            word: Some(word),
+        }
+    }
+
+    fn alone<'a>(self) -> Unchanged<'a> {
+        Unchanged {
+            reason: self,
+            word: None,
+        }
+    }
+
+    fn of_target(fault: TargetFault) -> Reason {
+        match fault {
+            TargetFault::NoPlace => Reason::NoPlace,
+            TargetFault::Name(fault) => Reason::Name(fault),
+            TargetFault::OutOfMemory => Reason::OutOfMemory,
+        }
+    }
+}
+
+impl Hub {
+    /// Makes the change that a line asks for.
+    pub(crate) fn change<'a, R: Wait + Clock>(
+        &self,
+        rt: &R,
+        change: Change,
+        line: &'a [u8],
+    ) -> Result<(), Unchanged<'a>> {
+        let (_, word) = first_word(line);
+        match (change, word) {
+            (Change::Dial, Some(word)) => self.dial(rt, word),
+            (Change::Dial, None) => Err(Reason::NoTarget.alone()),
+            (Change::Undial, Some(word)) => self.undial(rt, word),
+            (Change::Undial, None) => Err(Reason::NoName.alone()),
+        }
+    }
+
+    fn dial<'a, R: Wait + Clock>(&self, rt: &R, word: &'a [u8]) -> Result<(), Unchanged<'a>> {
+        let Ok(as_text) = str::from_utf8(word) else {
+            return Err(Reason::NoPlace.about(word));
+        };
+        let target = match Target::parse(self.alloc, as_text) {
+            Ok(target) => target,
+            Err(fault) => return Err(Reason::of_target(fault).about(word)),
+        };
+        if self.has_name(rt, target.peer()) {
+            return Err(Reason::OwnName.about(word));
+        }
+        match self.targets.add(rt, self.alloc, target) {
+            Ok(()) => {
+                self.log
+                    .tell(rt, Level::Info, "dial", &[text("target", as_text)]);
+                self.wake(rt);
+                Ok(())
+            }
+            Err(FullTargets::Full) => Err(Reason::Full.alone()),
+            Err(FullTargets::OutOfMemory) => Err(Reason::OutOfMemory.alone()),
+        }
+    }
+
+    fn has_name<R: Wait>(&self, rt: &R, name: &NodeName) -> bool {
+        self.node.shared.lock(rt).core().name() == name
+    }
+
+    fn undial<'a, R: Wait + Clock>(&self, rt: &R, word: &'a [u8]) -> Result<(), Unchanged<'a>> {
+        let peer = match NodeName::parse(self.alloc, word) {
+            Ok(peer) => peer,
+            Err(fault) => return Err(Reason::Name(fault).about(word)),
+        };
+        if !self.targets.remove(rt, &peer) {
+            return Err(Reason::NotDialled.about(word));
+        }
+        self.log
+            .tell(rt, Level::Info, "undial", &[text("peer", text_of(&peer))]);
+        self.wake(rt);
+        Ok(())
+    }
+}
+
+/// Adds the answer to a line whose change isn't made.
+pub(crate) fn put_fault(
+    alloc: Global,
+    fault: &Unchanged<'_>,
+    out: &mut Vec<u8>,
+) -> Result<(), OutOfMemory> {
+    let reason = fault.reason;
+    put_word(format!(in alloc; "fault {reason}")?.as_str(), out)?;
+    if let Some(word) = fault.word {
+        put_word(": ", out)?;
+        put_bytes(word, out)?;
+    }
+    put_word("\n", out)
+}

@@ -1,0 +1,235 @@
+//! What the audit of a life has said so far that is reported.
+use crate::chronicle::Chronicle;
+use crate::hub::Hub;
+use crate::refusals::Refusals;
+use dist_types::{NodeName, OutOfMemory, Scope, TryClone};
+use node_core::NodeCore;
+use pg_session::DownReason;
+use policy_audit::{Entry, Event, Reply, Verdict};
+use std::alloc::Global;
+use std::net::SocketAddr;
+use std::sync::Wait;
+use std::time::Instant;
+
+/// A link that is up.
+#[derive(Drop)]
+pub(crate) struct UpLink {
+    /// The number of the entry that opened it.
+    pub(crate) number: u32,
+    pub(crate) peer: NodeName,
+    pub(crate) creation: u32,
+    pub(crate) is_visible: bool,
+    pub(crate) address: Option<SocketAddr>,
+    /// When it was seen up first.
+    pub(crate) since: Option<Instant>,
+}
+
+/// When the audit is looked at, and who knows of links what the node doesn't.
+#[derive(Drop)]
+pub(crate) struct Look<'a, 'b, R: Wait> {
+    pub(crate) rt: &'a R,
+    pub(crate) hub: &'b Hub,
+    pub(crate) now: Option<Instant>,
+}
+
+impl<R: Wait> Look<'_, '_, R> {
+    fn address(&self, link: u32) -> Option<SocketAddr> {
+        self.hub.notes.addresses.of(self.rt, link)
+    }
+}
+
+/// What the audit of a life has said so far.
+#[derive(Drop)]
+pub(crate) struct Ledger {
+    /// In the order in which they came up.
+    pub(crate) links: Vec<UpLink>,
+    /// The scopes that run, ascending.
+    pub(crate) scopes: Vec<Scope>,
+    /// The names that may connect, ascending; all may, where there are none.
+    pub(crate) allowed: Vec<NodeName>,
+    pub(crate) refusals: Refusals,
+    /// What has happened to links, for the log.
+    pub(crate) chronicle: Chronicle,
+    /// How many events were refused.
+    pub(crate) refused: usize,
+    /// How much of the audit was looked at, and of which life.
+    entries: usize,
+    creation: u32,
+}
+
+impl Ledger {
+    pub(crate) fn new(alloc: Global) -> Ledger {
+        Ledger {
+            links: Vec::new(alloc),
+            scopes: Vec::new(alloc),
+            allowed: Vec::new(alloc),
+            refusals: Refusals::new(alloc),
+            chronicle: Chronicle::new(alloc),
+            refused: 0,
+            entries: 0,
+            creation: 0,
+        }
+    }
+
+    /// Whether a link of this peer is up.
+    pub(crate) fn is_up(&self, peer: &NodeName) -> bool {
+        self.links.iter().any(|link| link.peer == *peer)
+    }
+
+    /// Follows the node up to now, in a new life from its beginning. Where memory is wanting it
+    /// goes on there the next time.
+    pub(crate) fn follow<R: Wait>(
+        &mut self,
+        look: &Look<'_, '_, R>,
+        core: &NodeCore,
+    ) -> Result<(), OutOfMemory> {
+        if self.creation != core.creation() {
+            *self = Ledger::new(look.hub.alloc);
+            self.creation = core.creation();
+        }
+        let seen = self.entries;
+        for entry in core.audit().after(seen) {
+            self.note(look, entry)?;
+            self.entries = self.entries.saturating_add(1);
+        }
+        if self.entries > seen {
+            self.end_slow(core);
+        }
+        Ok(())
+    }
+
+    /// Notes links that are gone with an entry that isn't about them: too many frames waited.
+    fn end_slow(&mut self, core: &NodeCore) {
+        for place in (0..self.links.len()).rev() {
+            let is_up = match self.links.get(place) {
+                Some(link) => core.is_up(link.number),
+                None => true,
+            };
+            if !is_up {
+                self.end(place, DownReason::Slow);
+            }
+        }
+    }
+
+    /// The link at this place isn't up any more.
+    fn end(&mut self, place: usize, reason: DownReason) {
+        if place < self.links.len() {
+            let link = self.links.remove(place);
+            self.chronicle.note_down(link, reason);
+        }
+    }
+
+    /// The link of this peer isn't up any more, if one was: there is one at most.
+    fn end_of(&mut self, peer: &NodeName, reason: DownReason) {
+        if let Some(place) = self.links.iter().position(|link| link.peer == *peer) {
+            self.end(place, reason);
+        }
+    }
+
+    fn note<R: Wait>(&mut self, look: &Look<'_, '_, R>, entry: &Entry) -> Result<(), OutOfMemory> {
+        match &entry.verdict {
+            Verdict::Accepted(reply) => {
+                self.refusals.note(look.hub.alloc, &entry.event, reply)?;
+                self.note_accepted(look, &entry.event, reply)
+            }
+            Verdict::Refused(rule) => {
+                let address = match &entry.event {
+                    Event::Frame(link, _) => look.address(*link),
+                    _ => None,
+                };
+                let links = self.links.as_slice();
+                self.refusals
+                    .refuse(look.hub.alloc, entry, *rule, address, links)?;
+                if let Some(last) = self.refusals.last.back()
+                    && last.entry == entry.number
+                {
+                    self.chronicle.note_refused(look.hub.alloc, last);
+                }
+                self.refused = self.refused.saturating_add(1);
+                Ok(())
+            }
+        }
+    }
+
+    fn note_accepted<R: Wait>(
+        &mut self,
+        look: &Look<'_, '_, R>,
+        event: &Event,
+        reply: &Reply,
+    ) -> Result<(), OutOfMemory> {
+        match event {
+            Event::Frame(link, _) => self.note_up(look, *link, reply),
+            Event::Lost(link) => {
+                self.note_lost(look, *link);
+                Ok(())
+            }
+            Event::Disconnect(peer) => {
+                self.end_of(peer, DownReason::Disconnected);
+                Ok(())
+            }
+            Event::Allow(names) => self.note_allowed(look.hub.alloc, names.as_slice()),
+            Event::StartScope(scope) => insert(look.hub.alloc, &mut self.scopes, scope),
+            Event::StopScope(scope) => {
+                self.scopes.retain(|running| running != scope);
+                Ok(())
+            }
+            _ => Ok(()),
+        }
+    }
+
+    fn note_lost<R: Wait>(&mut self, look: &Look<'_, '_, R>, link: u32) {
+        if let Some(place) = self.links.iter().position(|known| known.number == link) {
+            let reason = look.hub.reason_of(look.rt, link);
+            self.end(place, reason);
+        }
+    }
+
+    fn note_allowed(&mut self, alloc: Global, names: &[NodeName]) -> Result<(), OutOfMemory> {
+        for name in names {
+            insert(alloc, &mut self.allowed, name)?;
+        }
+        Ok(())
+    }
+
+    /// Notes a link that has come up, if the reply says so.
+    fn note_up<R: Wait>(
+        &mut self,
+        look: &Look<'_, '_, R>,
+        number: u32,
+        reply: &Reply,
+    ) -> Result<(), OutOfMemory> {
+        let Reply::Up {
+            peer,
+            creation,
+            visible,
+        } = reply
+        else {
+            return Ok(());
+        };
+        let link = UpLink {
+            number,
+            peer: peer.try_clone(look.hub.alloc)?,
+            creation: *creation,
+            is_visible: *visible,
+            address: look.address(number),
+            since: look.now,
+        };
+        self.links.reserve(1)?;
+        self.end_of(&link.peer, DownReason::Replaced);
+        self.chronicle.note_up(look.hub.alloc, &link);
+        self.links.push(link)?;
+        Ok(())
+    }
+}
+
+/// Puts a copy of an item in its place among ascending ones, unless it is there.
+fn insert<T: TryClone + Ord + Drop>(
+    alloc: Global,
+    items: &mut Vec<T>,
+    item: &T,
+) -> Result<(), OutOfMemory> {
+    if let Err(place) = items.binary_search(item) {
+        items.insert(place, item.try_clone(alloc)?)?;
+    }
+    Ok(())
+}
