@@ -1,10 +1,9 @@
 -- Which text a term has, and which terms can have a text.
-use Rattle.otp_edge.proofs.Words.{◌≡◌, ◌≢◌, ℕ, ◌+◌, ◌*◌, ◌<◌, ◌≤◌, ◌^◌, List, [], ◌∷◌, length, drop}
+use Rattle.otp_edge.proofs.Words.{◌≡◌, ◌≢◌, ℕ, ◌<◌, ◌≤◌, ◌^◌, List, length, drop}
 use Rattle.otp_edge.proofs.Words.{Bool, true, false, Option, Some, None, refl, sym, ap, ◌∙◌, arith}
-use Rattle.otp_edge.proofs.Words.{cond, subst}
-use Rattle.std.specs.Prelude.{not, ◌&&◌, ◌||◌, bytes_eq, get_or}
-use Rattle.std.proofs.Common.{◌⊎◌, inl, inr}
-use Rattle.std.proofs.lemmas.Bool.{and_parts, and_from, cond-true}
+use Rattle.otp_edge.proofs.Words.{cond}
+use Rattle.std.specs.Prelude.{not, ◌&&◌, bytes_eq}
+use Rattle.std.proofs.lemmas.Bool.{and_from, cond-true}
 use Rattle.std.proofs.lemmas.Option.{cond_some}
 use Rattle.std.proofs.lemmas.Slice.Eq.{bytes_eq-Decides}
 use Rattle.dist_types.proofs.LimitLemmas.{texts_compute}
@@ -13,9 +12,8 @@ use Rattle.dist_types.specs.Fault.{IsTextFault}
 use Rattle.dist_types.specs.declared.fault.TextFault.{TextFault}
 use Rattle.dist_types.specs.declared.fault.TextFault.TheVariants as faults
 use Rattle.external_terms.specs.Values.{atom_bytes, binary_bytes}
-use Rattle.hex.specs.Hex.{IsBytes, decode_of, encode_lower, lower_digits}
-use Rattle.hex.proofs.HexLemmas.{decode_of-encode_lower, length-encode_with}
-use Rattle.otp_edge.proofs.Words.{Ok}
+use Rattle.hex.specs.Hex.{encode_lower, lower_digits}
+use Rattle.hex.proofs.HexLemmas.{length-encode_with}
 use Rattle.otp_edge.specs.Groups.{marked, has_mark, is_marked, text_or_none, atom_text, binary_text}
 use Rattle.otp_edge.specs.Groups.{hex_text, or_else, group_text}
 

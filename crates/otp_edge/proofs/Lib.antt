@@ -7,3 +7,8 @@ pub mod FirstLemmas
 pub mod ProcessLemmas
 pub mod LackLemmas
 pub mod RowLemmas
+pub mod BodyLemmas
+pub mod NamedLemmas
+pub mod TallyLemmas
+pub mod SignalLemmas
+pub mod WordLemmas

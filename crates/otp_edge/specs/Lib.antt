@@ -5,3 +5,10 @@ pub mod Lists
 pub mod PgMessages
 pub mod Meaning
 pub mod Telling
+pub mod Bodies
+pub mod GroupTerms
+pub mod Tallies
+pub mod Asked
+pub mod ScopeEdges
+pub mod Signals
+pub mod HeardWords

@@ -1,5 +1,5 @@
 -- Processes. A process of Erlang has an id and a serial of 32 bits each; here it has one number.
-use Rattle.std.specs.Prelude.{◌≡◌, ℕ, ◌/◌, ◌%◌, ◌^◌, ◌<◌, List}
+use Rattle.std.specs.Prelude.{ℕ, ◌/◌, ◌%◌, ◌^◌, ◌<◌, List}
 use Rattle.dist_types.specs.Text.{IsNodeName}
 use Rattle.dist_types.specs.declared.pid.Pid.{Pid}
 use Rattle.external_terms.specs.Values.{Process, process_bytes}

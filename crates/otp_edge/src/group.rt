@@ -80,7 +80,7 @@ fn group_named(alloc: Global, text: &[u8]) -> Result<Option<Group>, OutOfMemory>
 }
 
 /// The text, where the term is an atom.
-fn only_atom(term: &[u8]) -> Option<&[u8]>
+pub fn only_atom(term: &[u8]) -> Option<&[u8]>
     ensures found { IfSome result (λ text. term.now ≡ atom_bytes text.now) }
     ensures only { (text : List ℕ) → term.now ≡ atom_bytes text →
         IsSomeAnd result (λ read. read.now ≡ text) }
@@ -117,7 +117,7 @@ fn begins_with(letter: u8, text: &[u8]) -> bool
 }
 
 /// What stands behind `#`, the letter and `:`.
-fn after_mark(letter: u8, text: &[u8]) -> Option<&[u8]>
+pub fn after_mark(letter: u8, text: &[u8]) -> Option<&[u8]>
     ensures found { IfSome result (λ rest. text.now ≡ marked letter rest.now) }
     ensures only { (rest : List ℕ) → text.now ≡ marked letter rest →
         IsSomeAnd result (λ read. read.now ≡ rest) }

@@ -1,5 +1,5 @@
 //! Processes as terms.
-ghost use Rattle.std.specs.Prelude.{◌≡◌, ◌≢◌, ◌<◌, ◌^◌, ◌++◌, ℕ, List, length, IfOk, IfErr};
+ghost use Rattle.std.specs.Prelude.{◌≡◌, ◌≢◌, ◌<◌, ◌^◌, ◌++◌, ℕ, List, length, IfOk, IfErr, IfSome};
 ghost use Rattle.dist_types.specs.declared.pid.Pid.{Pid};
 ghost use Rattle.dist_types.specs.Text.{IsNodeName};
 ghost use Rattle.external_terms.specs.Values.{process_said, ProcessFits};
@@ -53,6 +53,20 @@ pub fn member_at<'a>(
     };
     let pid = pid_of(alloc, &term, before)?;
     Ok((pid, rest))
+}
+
+/// The process that a term is.
+pub fn only_member(alloc: Global, term: &[u8]) -> Result<Option<Pid>, HearFault>
+    ensures found { IfOk result (λ read. IfSome read (λ pid. IsPid pid ×
+        (term.now ≡ pid_bytes pid))) }
+    ensures refused { IfErr result (λ fault. fault ≢ faults.NoMessage) }
+{
+    match member_at(alloc, term, None) {
+        Ok((pid, rest)) if rest.is_empty() => Ok(Some(pid)),
+        Ok(_) => Ok(None),
+        Err(HearFault::NoMessage) => Ok(None),
+        Err(fault) => Err(fault),
+    }
 }
 
 /// The process of a term.

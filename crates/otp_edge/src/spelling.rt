@@ -115,7 +115,7 @@ fn put_front(count: usize, out: &mut Vec<u8>) -> Result<(), OutOfMemory>
     put_list(count as u32, out)
 }
 
-fn put_head(arity: u8, word: &[u8], out: &mut Vec<u8>) -> Result<(), OutOfMemory>
+pub fn put_head(arity: u8, word: &[u8], out: &mut Vec<u8>) -> Result<(), OutOfMemory>
     requires { length word.now < 2 ^ 8 }
     ensures { OnOk result (out.new.items ≡ out.old.items ++ (tuple_head arity ++
         atom_bytes word.now)) }
