@@ -2,15 +2,17 @@
 
 from collections import Counter
 
-from frames import DYNAMIC, HANDSHAKE_23, MOST_ROWS, RowsJoin, RowsLeave, Sync
+from frames import DYNAMIC, HANDSHAKE_23, MOST_ROWS, Discover, Part, RowsJoin, RowsLeave, Sync
 from history import (Allow, Demonitor, Dial, Disconnect, Done, Entry, Exit, Frame, GroupList, Groups, History, Join, Leave,
                      LocalGroups, LocalMembers, Lost, Members, Monitor, MonitorScope, NewLink, NewPid, Opened, Out, Pids, Ref,
                      Restart, ScopeRef, SetCookieFor, Spawn, StartScope, StopScope, Take, Up, UpdateList, Updates, looks_back)
-from links import READERS, Awaited
+from links import Awaited
 from own import in_group
 from texts import is_name
 
 MOST_LINKS, MOST_SCOPES, MOST_NAMES, MOST_PIDS, LAST_CREATION = 64, 64, 1024, 65_536, 4_294_967_295
+# How many rows a node may have in a scope where messages come in parts.
+MOST_ROWS_IN_PARTS = 65_536
 
 
 class FrameChecks:
@@ -48,29 +50,45 @@ class FrameChecks:
     def digest_checks(self, h, link, frame):
         yield 'BadDigest', frame.digest != self.digest_for(h, link, self.own_challenge(h, link))
 
-    def message_checks(self, h, link, message):
+    def message_checks(self, h, link, said):
         yield 'HiddenLink', not self.is_visible(h, link)
-        yield 'NoScope', not self.is_running(h, message.scope)
-        if isinstance(message, (RowsJoin, RowsLeave)):
-            yield 'NotHeard', not self.hears(h, link, message.scope)
-        if isinstance(message, (Sync, RowsJoin, RowsLeave)):
-            yield 'ForeignPid', not all(self.is_from(h, link, pid) for _, pid in message.rows)
-        if isinstance(message, RowsJoin):
-            yield 'RowsFull', self.peer_rows(h, link, message.scope) + len(message.rows) > MOST_ROWS
-        if isinstance(message, RowsLeave):
-            yield 'NotListed', self.names_more_than_listed(h, message)
+        yield 'NoScope', not self.is_running(h, said.scope)
+        match said:
+            case Discover(scope): yield 'RowsFull', sum(self.own(h, scope).values()) > self.link_limit(h, link)
+            case Part(): yield from self.part_checks(h, link, said)
+
+    def part_checks(self, h, link, part):
+        if part.kind in (RowsJoin, RowsLeave):
+            yield 'NotHeard', not self.hears(h, link, part.scope)
+        yield 'PartOrder', part.number != 1 and not self.is_next(h, link, part)
+        yield 'ForeignPid', not all(self.is_from(h, link, pid) for _, pid in part.rows)
+        rows = self.rows_so_far(h, link, part)
+        match part.kind.__name__:
+            case 'Sync': yield 'RowsFull', len(rows) > self.link_limit(h, link)
+            case 'RowsJoin': yield 'RowsFull', self.peer_rows(h, link, part.scope) + len(rows) > self.link_limit(h, link)
+            case 'RowsLeave': yield 'NotListed', self.names_more_than_listed(h, part.scope, rows)
 
     def peer_rows(self, h, link, scope):
         return sum(self.stated(h, link, scope).values())
 
-    def names_more_than_listed(self, h, message):
-        listed = self.listed(h, message.scope)
-        return any(count > listed.get(row, 0) for row, count in Counter(message.rows).items())
+    def link_limit(self, h, link):
+        """How many rows in a scope each end of a link may state to the other."""
+        return MOST_ROWS_IN_PARTS if self.version(h, link) == 2 else MOST_ROWS
+
+    def own_limit(self, h, scope):
+        """How many own rows a scope may have: those that each link can be told."""
+        if h.opening.links == 1:
+            return MOST_ROWS
+        return min([self.link_limit(h, link) for link in self.up_links(h) if self.tells(h, link, scope)], default=MOST_ROWS_IN_PARTS)
+
+    def names_more_than_listed(self, h, scope, rows):
+        listed = self.listed(h, scope)
+        return any(count > listed.get(row, 0) for row, count in Counter(rows).items())
 
     def frame_checks(self, h, link, body):
         yield 'NoSuchLink', not self.is_open(h, link)
         awaited = self.awaits(h, link)
-        frame = READERS[awaited](body)
+        frame = self.read(h, link, body)
         yield 'BadFrame', frame is None
         checks = {Awaited.NAME: self.name_checks, Awaited.ANSWER: self.answer_checks, Awaited.REPLY: self.digest_checks,
                   Awaited.STATUS: self.status_checks, Awaited.CHALLENGE: self.challenge_checks, Awaited.ACK: self.digest_checks,
@@ -92,7 +110,7 @@ class Checks(FrameChecks):
         yield 'NoScope', not self.is_running(h, scope)
         yield 'NotLocal', not all(self.is_local(h, pid) for pid in pids)
         yield 'NoProcess', not all(self.lives(h, pid) for pid in pids)
-        yield 'RowsFull', sum(self.own(h, scope).values()) + len(pids) > MOST_ROWS
+        yield 'RowsFull', sum(self.own(h, scope).values()) + len(pids) > self.own_limit(h, scope)
 
     def leave_checks(self, h, scope, group, pids):
         yield 'NoScope', not self.is_running(h, scope)

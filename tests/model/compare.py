@@ -4,7 +4,7 @@ import subprocess
 from collections import Counter
 
 from console import Console
-from frames import STATUSES
+from frames import STATUSES, Part
 from history import Exit, Out
 from model import Model
 from records import record
@@ -14,7 +14,7 @@ REFERRING = ('lost', 'take', 'frame', 'demonitor', 'updates', 'audit')
 MOST_TRIES = 400
 SECONDS = 600
 FRAMES = {'N': 'Name or Challenge', 'r': 'Reply', 'a': 'Ack', 'D': 'Discover', 'S': 'Sync', 'J': 'Join', 'L': 'Leave', 'X': 'Down'}
-EXITS = 'exit told in several scopes'
+EXITS, IN_PARTS, BROKEN_OFF = 'exit told in several scopes', 'message of several parts', 'message broken off'
 
 Played = record('Played', 'transcript status')
 
@@ -127,7 +127,7 @@ def coverage(console):
             seen[f'accepted {type(entry.event).__name__}'] += 1
         if isinstance(entry.answer, Out):
             seen.update(f'owed {frame_kind(body)}' for body in entry.answer.bodies)
-    return seen + Counter({EXITS: exits_in_several_scopes(console)})
+    return seen + Counter({EXITS: exits_in_several_scopes(console)}) + messages_in_parts(console)
 
 
 def exits_in_several_scopes(console):
@@ -137,6 +137,27 @@ def exits_in_several_scopes(console):
         count += isinstance(h.said, Exit) and any(len(console.model.exit_owes(h, link)) > 1 for link in console.model.links(h))
         h = h.past
     return count
+
+
+def messages_in_parts(console):
+    """How many messages were complete with a part behind the first, and how many that had begun were broken off."""
+    seen, h, model = Counter(), console.history, console.model
+    while h.past is not None:
+        link, said = model.said_on(h)
+        seen[IN_PARTS] += completes(said)
+        seen[BROKEN_OFF] += sum(is_broken_off(model, h, other, other == link and completes(said)) for other in model.open_links(h.past))
+        h = h.past
+    return seen
+
+
+def completes(said):
+    return isinstance(said, Part) and said.last and said.number > 1
+
+
+def is_broken_off(model, h, link, is_complete):
+    """Whether the newest entry breaks off a message that has begun on a link, or ends the link."""
+    begun = model.begun(h.past, link)
+    return bool(begun) and not is_complete and not (model.is_open(h, link) and model.begun(h, link)[:len(begun)] == begun)
 
 
 def frame_kind(body):

@@ -1,6 +1,7 @@
 """Wrong models, each named for its wrong deed: a run must notice every one of them."""
 
-from frames import RowsJoin, RowsLeave, read_message
+import part_edits
+from frames import Part, RowsJoin, RowsLeave
 from history import Allow, Begin, Frame, Join, Leave, Lost, Restart, Take, Updates, looks_back
 from links import Awaited
 from listed import groups_of, members_of
@@ -54,8 +55,8 @@ class lists_over_a_hidden_link(Model):
 
 class names_not_listed_before_no_scope(Model):
     def message_checks(self, h, link, message):
-        if isinstance(message, RowsLeave):
-            yield 'NotListed', self.names_more_than_listed(h, message)
+        if isinstance(message, Part) and message.kind is RowsLeave:
+            yield 'NotListed', self.names_more_than_listed(h, message.scope, message.rows)
         yield from super().message_checks(h, link, message)
 
 
@@ -140,8 +141,8 @@ class removes_before_the_missing_row(Model):
         rows = super().said_rows(h, link, scope)
         if h.past is None or h.entry.rule != 'NotListed' or h.entry.event.link != link:
             return rows
-        message = read_message(h.entry.event.body)
-        return {row: count for row, count in rows.items() if row not in message.rows} if message.scope == scope else rows
+        part = self.read(h.past, link, h.entry.event.body)
+        return {row: count for row, count in rows.items() if row not in part.rows} if part.scope == scope else rows
 
 
 class drops_frames_at_a_refusal(Model):
@@ -204,4 +205,5 @@ class lets_one_frame_more_wait(Model):
     most_waiting = 1025
 
 
-EDITS = {name: edit for name, edit in list(globals().items()) if isinstance(edit, type) and issubclass(edit, Model) and edit is not Model}
+EDITS = part_edits.EDITS | {
+    name: edit for name, edit in list(globals().items()) if isinstance(edit, type) and issubclass(edit, Model) and edit is not Model}

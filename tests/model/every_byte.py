@@ -2,10 +2,10 @@
 
 from random import Random
 
-from frames import (VERSION_2, Discover, Down, RowsJoin, RowsLeave, Sync, ack_body, challenge_body, message_body, name_body,
+from frames import (VERSION_2, Discover, Down, Part, RowsJoin, RowsLeave, Sync, ack_body, challenge_body, message_body, name_body,
                     part_body, read_part, reply_body, status_body)
 from records import record
-from story import FLAGS, Story, row
+from story import FLAGS, NODE, Story, row
 
 MOST_TRIES = 60
 PEER = 'a@h'
@@ -13,8 +13,9 @@ BASE = Sync('pg', (row('g', PEER, 1), row('g', PEER, 1), row('h', PEER, 2)))
 
 RANDOM_TRIES = 40
 
-# A place where bodies are tried: what goes before all tries, what goes before each and answers the link, and the body that is right.
-Place = record('Place', 'title before ready body')
+# A place where bodies are tried: what goes before all tries, what goes before each and answers the link, and the body that is right, or
+# would be on a link of the other version; and the version that the node knows.
+Place = record('Place', 'title before ready body is_other links', defaults=[False, 1])
 
 
 def beginnings(body):
@@ -31,8 +32,7 @@ def with_another_byte(body):
 
 
 def changed_parts(body):
-    """How many bodies that differ from a part in one byte are messages of version 2. crates/link_tests has these counts of its parts, since
-    no link of the node is of that version."""
+    """How many bodies that differ from a part in one byte are messages of version 2. crates/link_tests has these counts of its parts."""
     return sum(read_part(changed) is not None for changed in with_another_byte(body))
 
 
@@ -58,10 +58,10 @@ def tries_of(rng, place):
 
 def must_be_bad(place):
     """The bodies that spell nothing, whatever the rest is: each beginning, and the whole with a byte behind it, but for frames that
-    end with any bytes, which may say a version. One beginning of a status is another status. A part is no message of version 1."""
+    end with any bytes, which may say a version. One beginning of a status is another status. A message of the other version is none."""
     if place.title.startswith(('Name', 'Challenge')):
         return set(beginnings(place.body.removesuffix(VERSION_2)))
-    whole = [place.body] if place.title in PARTS else []
+    whole = [place.body] if place.is_other else []
     return set(beginnings(place.body) + whole + [place.body + b'\0']) - {status_body('ok')}
 
 
@@ -78,16 +78,16 @@ def allowed_peer_is_up(story):
     peer_is_up(story)
 
 
-def rows_are_heard(story, behind=b''):
+def rows_are_heard(story, version=1):
     story.tell('start pg', 'spawn', 'join pg g b@h/1/1', 'monitor_scope pg')
-    link = story.accepted(PEER, behind=behind)
+    link = story.accepted(PEER, version=version)
     story.message(link, Discover('pg'))
     story.say('take', link)
 
 
 def rows_are_heard_of_version_2(story):
-    """The link is of version 1 all the same, since the node knows no other."""
-    rows_are_heard(story, VERSION_2)
+    """The link is of version 2 where the node knows it."""
+    rows_are_heard(story, 2)
 
 
 def awaits_name(story):
@@ -132,17 +132,30 @@ def heard(story):
     return link
 
 
+def begun(part):
+    """Rows are heard, and this part of a message has come."""
+    def ready(story):
+        link = heard(story)
+        story.send(link, part_body(part))
+        return link
+    return ready
+
+
 def right_digest(awaited):
     story = Story()
     return story.own_digest(awaited(story))
 
 
-# Each would be right on a link of version 2.
+MESSAGES = (Discover('pg'), Down('pg'), Sync('pg', ()), BASE, RowsJoin('pg', (row('w', PEER, 3), row('g', PEER, 1))),
+            RowsLeave('pg', (row('g', PEER, 1), row('h', PEER, 2))))
+# Parts of messages, by a title; those that aren't the first one stand behind the part that they go on with.
 PARTS = {
-    'part of no rows': part_body(Sync('pg', ())),
-    'part of a Sync': part_body(Sync('pg', (row('g', PEER, 1), row('h', PEER, 2))), last=False),
-    'part of a Join': part_body(RowsJoin('pg', (row('w', PEER, 3),)), number=2),
-    'part of a Leave': part_body(RowsLeave('pg', (row('g', PEER, 1),))),
+    'part of no rows': Part(Sync, 'pg', 1, True, ()),
+    'part of a Sync': Part(Sync, 'pg', 1, False, (row('g', PEER, 1), row('h', PEER, 2))),
+    'part of a Join': Part(RowsJoin, 'pg', 2, True, (row('w', PEER, 3),)),
+    'part of a Leave': Part(RowsLeave, 'pg', 1, True, (row('g', PEER, 1),)),
+    'second part of a Sync': Part(Sync, 'pg', 2, True, ()),
+    'second part of a Leave': Part(RowsLeave, 'pg', 2, True, (row('g', PEER, 1),)),
 }
 
 PLACES = [
@@ -159,15 +172,25 @@ PLACES = [
     Place('Challenge', nothing, awaits_challenge, challenge_body(FLAGS, 3, 1, PEER)),
     Place('Challenge of version 2', nothing, awaits_challenge, challenge_body(FLAGS, 3, 1, PEER) + VERSION_2),
     Place('Ack', nothing, awaits_ack, ack_body(right_digest(awaits_ack))),
-] + [Place(type(message).__name__, rows_are_heard, heard, message_body(message)) for message in (
-    Discover('pg'), Down('pg'), Sync('pg', ()), BASE, RowsJoin('pg', (row('w', PEER, 3), row('g', PEER, 1))),
-    RowsLeave('pg', (row('g', PEER, 1), row('h', PEER, 2))))
-] + [Place(title, rows_are_heard_of_version_2, heard, body) for title, body in PARTS.items()]
+    Place('Name to a node of version 2', nothing, awaits_name, name_body(FLAGS, 1, PEER, 2), links=2),
+    Place('Challenge to a node of version 2', nothing, awaits_challenge, challenge_body(FLAGS, 3, 1, PEER, 2), links=2),
+] + [Place(type(message).__name__, rows_are_heard, heard, message_body(message)) for message in MESSAGES
+] + [Place(f'{title} in version 1', rows_are_heard_of_version_2, heard, part_body(part), is_other=True) for title, part in PARTS.items()
+] + [Place(title, rows_are_heard_of_version_2, heard if part.number == 1 else begun(part._replace(number=1, last=False)),
+           part_body(part), links=2) for title, part in PARTS.items()
+] + [Place(f'{type(message).__name__} of version 1', rows_are_heard_of_version_2, heard, message_body(message),
+           is_other=not isinstance(message, (Discover, Down)), links=2) for message in MESSAGES]
 
 
-def long_row(name_length):
+def long_row(name_length, place=b''):
     name = 'n@' + 'h' * (name_length - 2)
-    return b'S\x02pg\0\0\0\1\x01g' + name_length.to_bytes(2, 'big') + name.encode() + bytes(12)
+    return b'S\x02pg' + place + b'\0\0\0\1\x01g' + name_length.to_bytes(2, 'big') + name.encode() + bytes(12)
+
+
+def strange_rows(place):
+    """Syncs with rows that are too long or too many, behind this place of a part."""
+    return [long_row(length, place) for length in (255, 256, 257)] + [b'S\x02pg' + place + count + rows for count in (
+        b'\0\0\x10\x01', b'\0\0\x10\0', b'\xff\xff\xff\xff', b'\0\0\0\1') for rows in (b'', b'\x01g\0\x03a@h' + bytes(12))]
 
 
 # Bodies that no small change of the right one gives.
@@ -178,9 +201,11 @@ STRANGE = {
     'Challenge': [challenge_body(flags, 3, 1, name) for flags in (FLAGS, 0, (1 << 64) - 1) for name in (
         'n@' + 'h' * 254, 'n@' + 'h' * 65_533, '', 'b@h', PEER)] + [challenge_body(FLAGS, 3, 1, PEER) + bytes(70_000)],
     'Discover': with_any_first_byte(b'D\x02pg') + [b'D\xff' + b's' * 255, b'D\xff' + b's' * 254, b'D\x03p\x80g', b'D\x03p g', b'D\0'],
-    'Sync': [long_row(255), long_row(256), long_row(257)] + [b'S\x02pg' + count + rows for count in (
-        b'\0\0\x10\x01', b'\0\0\x10\0', b'\xff\xff\xff\xff', b'\0\0\0\1') for rows in (b'', b'\x01g\0\x03a@h' + bytes(12))],
+    'Sync': strange_rows(b''),
     'RowsJoin': [b'J\x02pg' + bytes(4), b'L\x02pg' + bytes(4)],
+    'part of a Sync': strange_rows(b'\0\0\0\1\1') + [
+        b'S\x02pg' + number + last + bytes(4) for number in (bytes(4), b'\0\0\0\1', b'\xff' * 4) for last in (b'\0', b'\1', b'\2', b'')],
+    'part of a Leave': [kind + b'\x02pg\0\0\0\1\1' + bytes(4) for kind in (b'J', b'L')],
 }
 
 
@@ -198,7 +223,7 @@ Tries = record('Tries', 'script bodies not_bad')
 
 
 def script_of(place, part, bodies):
-    story, must, not_bad = Story(), must_be_bad(place), []
+    story, must, not_bad = Story(NODE._replace(links=place.links)), must_be_bad(place), []
     place.before(story)
     for body in bodies:
         link = place.ready(story)

@@ -32,7 +32,8 @@ REFUSED_WORDS = (
     ['b h@h', 'password'], ['', 'password'], ['b@h', ''], ['b@h', 'pass word'], ['a@' + 'h' * 254, 'password'], ['b@h', 'c' * 256],
     ['b\u00e9@h', 'password'], ['b@h', 'p\x7f'], ['b@h', 'password', '--creation', '4294967296'], ['b@h', 'password', '--creation', '-1'],
     ['b@h', 'password', '--creation', 'x'], ['b@h', 'password', '--creation', ''], ['b@h', 'password', '--creation'],
-    ['b@h', 'password', '--entries', '0'], ['b@h', 'password', '--entries', '4294967296'], ['b@h', 'password', '--entries'],
+    ['b@h', 'password', '--entries', '0'], ['b@h', 'password', '--entries', '4294967296'], ['b@h', 'password', '--entries'], ['b@h', 'password', '--links', '0'],
+    ['b@h', 'password', '--links', '3'], ['b@h', 'password', '--links', '258'], ['b@h', 'password', '--links', ''], ['b@h', 'password', '--links'],
     ['b@h', 'password', '--unknown'], ['-b@h', 'password'], ['b@h', '-password'],
 )
 
@@ -43,6 +44,8 @@ TAKEN_WORDS = (
     (['b@h', 'k', '--hidden'], Opening('b@h', 'k', True, 1, MOST_ENTRIES)),
     (['b@h', 'k', '--entries', '1'], Opening('b@h', 'k', False, 1, 1)),
     (['b@h', 'k', '--entries', '4294967295'], Opening('b@h', 'k', False, 1, 4_294_967_295)),
+    (['b@h', 'k', '--links', '1'], Opening('b@h', 'k', False, 1, MOST_ENTRIES)),
+    (['--links', '2', 'b@h', 'k'], Opening('b@h', 'k', False, 1, MOST_ENTRIES, 2)),
     (['--creation', '7', '--', '-b@h', '-k'], Opening('-b@h', '-k', False, 7, MOST_ENTRIES)),
     (['a@' + 'h' * 253, '~' * 255], Opening('a@' + 'h' * 253, '~' * 255, False, 1, MOST_ENTRIES)),
 )

@@ -3,7 +3,7 @@
 from random import Random
 
 from faults import FAULTS
-from frames import Discover, Sync, message_body
+from frames import Discover, Down, Sync, bodies_of, message_body, part_body
 from history import Monitor, MonitorScope, Opening
 from limits import LIMITS
 from peers import COOKIES, GROUPS, PEERS, SCOPES, Peers
@@ -18,7 +18,7 @@ LINKS = {
 ROWS = {
     'handshake': 2, 'message': 24, 'wrong_message': 6, 'exchange': 8, 'take': 9, 'members': 5, 'groups': 3, 'start': 4, 'stop': 1,
     'spawn': 4, 'join': 8, 'leave': 6, 'exit': 2, 'lost': 1, 'disconnect': 1, 'monitor': 2, 'updates': 3, 'opened': 1, 'dial': 1,
-    'advance': 3, 'broken': 2, 'told_scopes': 3,
+    'advance': 3, 'broken': 2, 'told_scopes': 3, 'parts': 8,
 }
 OWN = {
     'start': 4, 'stop': 2, 'spawn': 6, 'exit': 3, 'join': 16, 'leave': 12, 'members': 8, 'groups': 5, 'monitor': 5, 'updates': 9,
@@ -27,10 +27,15 @@ OWN = {
 }
 MONITORS = {
     'monitor': 8, 'updates': 18, 'updates_of_another': 2, 'demonitor': 3, 'seat': 4, 'start': 3, 'stop': 1, 'spawn': 3, 'join': 8,
-    'leave': 7, 'exit': 2, 'handshake': 2, 'message': 18, 'exchange': 3, 'lost': 1, 'disconnect': 1, 'restart': 1, 'wrong_message': 2,
+    'leave': 7, 'exit': 2, 'handshake': 2, 'message': 18, 'exchange': 3, 'lost': 1, 'disconnect': 1, 'restart': 1, 'wrong_message': 2, 'parts': 4,
 }
 EVERYTHING = {action: 3 for theme in (LINKS, ROWS, OWN, MONITORS) for action in theme} | {'restart': 1, 'advance': 12, 'message': 12}
 THEMES = (LINKS, ROWS, OWN, MONITORS, EVERYTHING)
+# What comes between two parts of a message: some of it breaks the message off.
+BETWEEN_PARTS = (
+    'discover', 'down', 'stopped', 'another_part', 'refused_part', 'wrong_message', 'message', 'handshake', 'start', 'lost', 'disconnect',
+    'join', 'take', 'members', 'updates',
+)
 BEHIND_A_BURST = (
     'join', 'leave', 'exit', 'start', 'stop', 'exchange', 'exchange', 'message', 'take', 'lost',
     'disconnect', 'members', 'groups', 'updates', 'updates', 'handshake', 'dial',
@@ -218,9 +223,43 @@ class Generator(Peers):
         """Tells and hears a peer in a scope at once."""
         if (link := self.link(is_up=True)) is None:
             return self.handshake()
-        scope = self.scope(95).encode()
-        self.frame(link, b'D' + bytes([len(scope)]) + scope)
-        self.frame(link, b'S' + bytes([len(scope)]) + scope + b'\0\0\0\0')
+        scope = self.scope(95)
+        self.send(link, Discover(scope))
+        self.send(link, Sync(scope, ()))
+
+    def send(self, link, message):
+        for body in bodies_of(self.model.version(self.h, link), message):
+            self.frame(link, body)
+
+    def parts(self):
+        """A message in parts, and at times something else between two of them."""
+        if (link := self.link(is_up=True)) is None:
+            return self.handshake()
+        if self.model.version(self.h, link) == 1:
+            return self.message()
+        for part in self.cut_message(link):
+            self.frame(link, part_body(part))
+            if not part.last and self.chance(40):
+                self.between_parts(link, part)
+
+    def between_parts(self, link, part):
+        match self.one_of(BETWEEN_PARTS):
+            case 'discover': self.frame(link, message_body(Discover(self.one_of((part.scope, self.scope())))))
+            case 'down': self.frame(link, message_body(Down(self.one_of((part.scope, self.scope())))))
+            case 'stopped': self.stop_between(self.one_of((part.scope, self.scope())))
+            case 'another_part': self.frame(link, part_body(self.changed_part(part)))
+            case 'refused_part': self.frame(link, part_body(part._replace(rows=(self.foreign_row(link),))))
+            case action: getattr(self, action)()
+
+    def stop_between(self, scope):
+        self.say('stop', scope)
+        if self.chance(70):
+            self.say('start', scope)
+
+    def changed_part(self, part):
+        """A part of another message, or another place of the same one."""
+        return self.one_of((part._replace(kind=Sync), part._replace(scope=self.scope()), part._replace(number=1), part._replace(last=True),
+                            part._replace(number=part.number + 2)))
 
     def told_scopes(self):
         """Tells a peer of some scopes, and joins one process in each of them, in any order; mostly it exits."""
@@ -249,7 +288,7 @@ class Generator(Peers):
         link = self.handshake()
         if self.model.is_up(self.h, link):
             self.tell_of(link, scope)
-            self.frame(link, message_body(Sync(scope, self.peer_rows(link, 0, 3))))
+            self.send(link, Sync(scope, self.peer_rows(link, 0, 3)))
         if self.chance(60):
             self.say('take', link)
 
@@ -285,7 +324,8 @@ class Generator(Peers):
 def opening_of(rng):
     creation = rng.choice((1, 1, 4, 7, 0, 4_294_967_294, 4_294_967_295))
     entries = rng.choice((10, 25, 60)) if rng.random() < 0.06 else MOST_ENTRIES
-    return Opening(rng.choice(('b@h', 'm@h', 'b@h')), rng.choice(('password', 'secret')), rng.random() < 0.06, creation, entries)
+    links = 1 if rng.random() < 0.4 else 2
+    return Opening(rng.choice(('b@h', 'm@h', 'b@h')), rng.choice(('password', 'secret')), rng.random() < 0.06, creation, entries, links)
 
 
 def write(writer, rng, length):

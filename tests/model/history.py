@@ -2,7 +2,8 @@
 
 from records import record
 
-Opening = record('Opening', 'name cookie hidden creation most_entries')
+# `links` is the version of the link messages that the node knows, 1 or 2.
+Opening = record('Opening', 'name cookie hidden creation most_entries links', defaults=[1])
 
 # What stands before the first entry, and the 24 kinds of events.
 Begin = record('Begin')
@@ -34,7 +35,7 @@ Frame = record('Frame', 'link body')
 RULES = (
     'EntriesFull NoSuchLink BadFrame NoHandshake23 DynamicName BadName OwnName WrongName NotAllowed Simultaneous PeerSaid '
     'BadDigest HiddenLink NoScope NotHeard ForeignPid NotListed RowsFull NotLocal NoProcess NotJoined ScopeRunning NoMonitor '
-    'LinkUp LinkPending NoLinkTo LinksFull ScopesFull PidsFull AllowFull CookiesFull CreationSpent').split()
+    'LinkUp LinkPending NoLinkTo LinksFull ScopesFull PidsFull AllowFull CookiesFull CreationSpent PartOrder').split()
 
 # The answers to accepted events.
 Done = record('Done')

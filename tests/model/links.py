@@ -2,7 +2,7 @@
 
 from enum import Enum, auto
 
-from frames import (PUBLISHED, read_ack, read_challenge, read_message, read_name, read_reply, read_status)
+from frames import PUBLISHED, READ_SAID, read_ack, read_challenge, read_name, read_reply, read_status
 from history import Begin, Dial, Disconnect, Frame, Lost, Opened, Restart, Up, looks_back
 
 
@@ -12,7 +12,7 @@ class Awaited(Enum):
 
 READERS = {
     Awaited.NAME: read_name, Awaited.ANSWER: read_status, Awaited.REPLY: read_reply, Awaited.STATUS: read_status,
-    Awaited.CHALLENGE: read_challenge, Awaited.ACK: read_ack, Awaited.MESSAGE: read_message,
+    Awaited.CHALLENGE: read_challenge, Awaited.ACK: read_ack,
 }
 
 
@@ -71,6 +71,10 @@ class Sides:
     def is_visible(self, h, link):
         return not h.opening.hidden and bool(self.given(h, link).flags & PUBLISHED)
 
+    def version(self, h, link):
+        """The version of the messages on a link whose side is whole: 2 where both nodes know it."""
+        return 2 if h.opening.links == 2 and self.given(h, link).version == 2 else 1
+
     def was_up(self, h, link):
         """Whether a link of that name was up when the Name came."""
         before, _ = self.taken(h, link)[0]
@@ -92,6 +96,11 @@ class Sides:
 
     def is_whole(self, h, link):
         return self.awaits(h, link) is Awaited.MESSAGE
+
+    def read(self, h, link, body):
+        """What a body says to a link that awaits a frame of the handshake, or a message; None where it isn't that."""
+        reader = READ_SAID[self.version(h, link)] if self.is_whole(h, link) else READERS[self.awaits(h, link)]
+        return reader(body)
 
 
 class Links:

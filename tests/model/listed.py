@@ -1,17 +1,51 @@
 """What peers have said of their rows, what is listed, what an entry changes of it, and what monitors are told."""
 
-from frames import Discover, Down, RowsJoin, RowsLeave, Sync, read_message
+from frames import Discover, Down, Part, RowsJoin, RowsLeave, Sync
 from history import (Begin, Demonitor, Frame, Monitor, MonitorScope, Restart, StopScope, Updates, looks_back)
 from own import less, more, spelled, taken_away
+
+
+class Parts:
+    @looks_back
+    def said_on(self, h):
+        """The link and what is said there by the newest entry, where that is an accepted frame of an up link."""
+        match h.said:
+            case Frame(link, body) if self.is_whole(h.past, link): return link, self.read(h.past, link, body)
+            case _: return None, None
+
+    @looks_back
+    def begun(self, h, link):
+        """The parts of a message that the link has begun, and that is neither complete nor broken off: the last that it said is one of
+        its parts, and the scope wasn't stopped since."""
+        if isinstance(h.said, (Begin, Restart)):
+            return ()
+        of, said = self.said_on(h)
+        if of == link:
+            return self.parts_up_to(h.past, link, said) if isinstance(said, Part) and not said.last else ()
+        parts = self.begun(h.past, link)
+        return () if parts and h.said == StopScope(parts[0].scope) else parts
+
+    def parts_up_to(self, h, link, part):
+        """The parts of a message up to this one. A first part begins anew, whatever had begun."""
+        return (part,) if part.number == 1 else self.begun(h, link) + (part,)
+
+    def rows_so_far(self, h, link, part):
+        return tuple(row for some in self.parts_up_to(h, link, part) for row in some.rows)
+
+    def is_next(self, h, link, part):
+        """Whether a part that isn't the first one goes on with the message that has begun."""
+        parts = self.begun(h, link)
+        return bool(parts) and (part.kind, part.scope, part.number) == (parts[-1].kind, parts[-1].scope, parts[-1].number + 1)
 
 
 class Hearing:
     @looks_back
     def message(self, h):
-        """The link and the message of the newest entry, where that is an accepted message."""
-        match h.said:
-            case Frame(link, body) if self.is_whole(h.past, link): return link, read_message(body)
-            case _: return None, None
+        """The link and the message that the newest entry says, or completes."""
+        link, said = self.said_on(h)
+        if not isinstance(said, Part):
+            return link, said
+        return (link, said.kind(said.scope, self.rows_so_far(h.past, link, said))) if said.last else (None, None)
 
     @looks_back
     def told(self, h, link, scope):

@@ -3,10 +3,10 @@ back over the events before it. The program keeps a state instead, so the two ha
 
 from checks import Checks
 from links import Links, Sides
-from listed import Hearing, Listed, Monitors
+from listed import Hearing, Listed, Monitors, Parts
 from owed import Owed
 from own import Admission, Own
 
 
-class Model(Admission, Own, Sides, Links, Hearing, Listed, Monitors, Owed, Checks):
+class Model(Admission, Own, Sides, Links, Parts, Hearing, Listed, Monitors, Owed, Checks):
     """The definitions of the policy, each a method of the same name where it has one."""

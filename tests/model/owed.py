@@ -1,7 +1,7 @@
 """The frames that an entry owes to links, and those that wait for a link."""
 
-from frames import (HANDSHAKE_23, PUBLISHED, Discover, Down, RowsJoin, RowsLeave, Sync, ack_body, challenge_body, message_body,
-                    name_body, read_challenge, read_name, read_reply, read_status, reply_body, status_body)
+from frames import (HANDSHAKE_23, PUBLISHED, Discover, Down, RowsJoin, RowsLeave, Sync, ack_body, bodies_of, challenge_body,
+                    message_body, name_body, read_challenge, read_name, read_reply, read_status, reply_body, status_body)
 from history import Dial, Exit, Frame, Join, Leave, Lost, StartScope, StopScope, Take, looks_back
 from links import Awaited
 from own import in_group, spelled, taken_away
@@ -19,13 +19,13 @@ class Owed:
         return HANDSHAKE_23 | (0 if h.opening.hidden else PUBLISHED)
 
     def own_name_frame(self, h):
-        return name_body(self.own_flags(h), self.creation(h), h.opening.name)
+        return name_body(self.own_flags(h), self.creation(h), h.opening.name, h.opening.links)
 
     def own_challenge(self, h, link):
         return self.links(h)[link].challenge
 
     def own_challenge_frame(self, h, link):
-        return challenge_body(self.own_flags(h), self.own_challenge(h, link), self.creation(h), h.opening.name)
+        return challenge_body(self.own_flags(h), self.own_challenge(h, link), self.creation(h), h.opening.name, h.opening.links)
 
     def digest_for(self, h, link, challenge):
         return digest_of(self.cookie(h, self.peer_of(h, link)), challenge)
@@ -43,12 +43,15 @@ class Owed:
         scopes = sorted(self.running_scopes(h)) if self.is_visible(h, link) else []
         return [message_body(Discover(scope)) for scope in scopes]
 
+    def bodies(self, h, link, message):
+        return bodies_of(self.version(h, link), message)
+
     def message_owes(self, h, link):
         _, message = self.message(h)
         if not isinstance(message, Discover):
             return []
         scope = message.scope
-        rows = [message_body(Sync(scope, spelled(self.own(h, scope))))]
+        rows = self.bodies(h, link, Sync(scope, spelled(self.own(h, scope))))
         return rows if self.hears(h.past, link, scope) else rows + [message_body(message)]
 
     def frame_owes(self, h, link):
@@ -77,7 +80,7 @@ class Owed:
         return [message_body(message)] if self.is_up(h.past, link) and self.is_visible(h, link) else []
 
     def if_told(self, h, link, kind, scope, rows):
-        return [message_body(kind(scope, rows))] if rows and self.tells(h.past, link, scope) else []
+        return self.bodies(h, link, kind(scope, rows)) if rows and self.tells(h.past, link, scope) else []
 
     def rows_that_left(self, h, scope):
         return spelled(taken_away(self.own(h.past, scope), self.own(h, scope)))

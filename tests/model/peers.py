@@ -1,7 +1,7 @@
 """What peers send, right and wrong: the frame that a link awaits, its variations, and messages."""
 
-from frames import (DYNAMIC, HANDSHAKE_23, PUBLISHED, STATUSES, Discover, Down, RowsJoin, RowsLeave, Sync, ack_body, challenge_body,
-                    message_body, name_body, reply_body, status_body)
+from frames import (DYNAMIC, HANDSHAKE_23, PUBLISHED, STATUSES, Discover, Down, Part, RowsJoin, RowsLeave, Sync, ack_body,
+                    challenge_body, message_body, name_body, part_body, reply_body, status_body)
 from history import Dial
 from links import Awaited
 from own import spelled
@@ -44,14 +44,19 @@ class Peers(Writer):
                    if isinstance(start, Dial) and self.model.is_open(self.h, link)]
         return self.one_of(dialled) if dialled and self.chance(30) else self.peer()
 
+    def peer_version(self):
+        """The version of link messages that a peer says. Most know the node's own."""
+        return self.opening.links if self.chance(75) else self.one_of((1, 2))
+
     def name_frame(self, name=None, flags=None):
-        extra = bytes(self.rng.randrange(256) for _ in range(3)) if self.chance(5) else b''
+        extra = self.one_of((b'\x02\x02', b'\x01', b'\x03', self.rng.randbytes(3))) if self.chance(5) else b''
         flags = self.flags() if flags is None else flags
-        return name_body(flags, self.peer_creation(), name if name is not None else self.name_of_name()) + extra
+        name = name if name is not None else self.name_of_name()
+        return name_body(flags, self.peer_creation(), name, self.peer_version()) + extra
 
     def challenge_frame(self, name, flags=None):
         flags = self.flags() if flags is None else flags
-        return challenge_body(flags, self.challenge(), self.peer_creation(), name)
+        return challenge_body(flags, self.challenge(), self.peer_creation(), name, self.peer_version())
 
     def right_frame(self, link):
         """The frame that an open link awaits."""
@@ -62,7 +67,7 @@ class Peers(Writer):
             case Awaited.STATUS: return status_body(self.one_of(('ok', 'ok', 'ok_simultaneous', 'alive')))
             case Awaited.CHALLENGE: return self.challenge_frame(self.model.peer_of(self.h, link))
             case Awaited.ACK: return ack_body(self.own_digest(link))
-            case Awaited.MESSAGE: return message_body(self.good_message(link))
+            case Awaited.MESSAGE: return self.good_body(link)
 
     def wrong_name(self, link):
         return self.one_of((
@@ -86,10 +91,12 @@ class Peers(Writer):
             case Awaited.REPLY: return reply_body(self.challenge(), self.wrong_digest(link))
             case Awaited.CHALLENGE: return self.wrong_challenge(link)
             case Awaited.ACK: return ack_body(self.wrong_digest(link))
-            case Awaited.MESSAGE: return message_body(self.bad_message(link))
+            case Awaited.MESSAGE: return self.bad_body(link)
 
     def broken_frame(self, link):
         """A frame that is spelled wrongly, or one that comes at the wrong time."""
+        if self.model.is_whole(self.h, link) and self.chance(20):
+            return self.of_another_version(link)
         body = self.right_frame(link)
         place = self.rng.randrange(len(body))
         return self.one_of((
@@ -131,6 +138,54 @@ class Peers(Writer):
             case 'Sync': return Sync(scope, self.peer_rows(link, 0, 5))
             case 'RowsJoin': return RowsJoin(scope, self.peer_rows(link, 1, 3))
             case 'RowsLeave': return RowsLeave(scope, self.stated_rows(link, scope))
+
+    def good_body(self, link):
+        """A message, or a part of one: mostly the next part of one that has begun."""
+        if self.model.version(self.h, link) == 1:
+            return message_body(self.good_message(link))
+        parts = self.model.begun(self.h, link)
+        if parts and self.chance(75):
+            return part_body(self.next_part(link, parts[-1]))
+        message = self.good_message(link)
+        is_whole = isinstance(message, (Discover, Down))
+        return message_body(message) if is_whole else part_body(Part(type(message), message.scope, 1, self.chance(55), message.rows))
+
+    def next_part(self, link, part):
+        """A part that goes on behind this one, mostly with rows that may come."""
+        rows = self.stated_rows(link, part.scope) if part.kind is RowsLeave else self.peer_rows(link, part.kind is not Sync, 3)
+        return Part(part.kind, part.scope, part.number + 1, self.chance(50), rows)
+
+    def cut_message(self, link):
+        """A message with rows, as a list of up to three parts."""
+        message = self.good_message(link)
+        while isinstance(message, (Discover, Down)):
+            message = self.good_message(link)
+        places = range(1, len(message.rows))
+        cuts = sorted(self.rng.sample(places, min(2, len(places))))
+        return [Part(type(message), message.scope, number, number == len(cuts) + 1, message.rows[start:end])
+                for number, (start, end) in enumerate(zip([0] + cuts, cuts + [len(message.rows)]), 1)]
+
+    def bad_body(self, link):
+        message = self.bad_message(link)
+        if self.model.version(self.h, link) == 1:
+            return message_body(message)
+        parts, place = self.model.begun(self.h, link), (1, self.chance(60))
+        if parts and self.chance(60):
+            message = message._replace(scope=parts[-1].scope) if self.chance(60) else message
+            place = parts[-1].number + self.one_of((1, 1, 1, 0, 2)), self.chance(60)
+        elif self.chance(30):
+            place = self.one_of((2, 3, 4_294_967_295)), self.chance(60)
+        kind = parts[-1].kind if parts and self.chance(60) else type(message)
+        return part_body(Part(kind, message.scope, *place, message.rows))
+
+    def of_another_version(self, link):
+        """A body that says something in the other version alone."""
+        message = self.good_message(link)
+        if isinstance(message, (Discover, Down)):
+            message = Sync(message.scope, ())
+        if self.model.version(self.h, link) == 2:
+            return message_body(message)
+        return part_body(Part(type(message), message.scope, 1, True, message.rows))
 
     def foreign_row(self, link):
         """A row that isn't the peer's."""

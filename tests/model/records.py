@@ -4,7 +4,7 @@ import sys
 from collections import namedtuple
 
 
-def record(name, fields=''):
+def record(name, fields='', defaults=()):
     def equals(self, other):
         return type(self) is type(other) and tuple.__eq__(self, other)
 
@@ -14,4 +14,4 @@ def record(name, fields=''):
     # (where the class stands, so that a value can be handed to another process)
     module = sys._getframe(1).f_globals['__name__']
     words = {'__slots__': (), '__module__': module, '__eq__': equals, '__ne__': differs, '__hash__': tuple.__hash__}
-    return type(name, (namedtuple(name, fields),), words)
+    return type(name, (namedtuple(name, fields, defaults=defaults),), words)

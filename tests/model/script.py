@@ -12,9 +12,10 @@ class Script(record('Script', 'title opening lines is_cut')):
     """`is_cut` where the last line lacks its line feed."""
 
     def arguments(self):
-        name, cookie, hidden, creation, entries = self.opening
+        name, cookie, hidden, creation, entries, links = self.opening
         words = [name, cookie, '--creation', str(creation)] + (['--hidden'] if hidden else [])
-        return words + (['--entries', str(entries)] if entries != MOST_ENTRIES else [])
+        words += ['--entries', str(entries)] if entries != MOST_ENTRIES else []
+        return words + (['--links', str(links)] if links != 1 else [])
 
     def text(self):
         return octets_of('\n'.join(self.lines) + ('' if self.is_cut else '\n'))

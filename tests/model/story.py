@@ -1,6 +1,6 @@
 """Scripts that are told by hand: lines, and handshakes of both ends with the right digests."""
 
-from frames import (HANDSHAKE_23, PUBLISHED, ack_body, challenge_body, message_body, name_body, reply_body, status_body)
+from frames import HANDSHAKE_23, PUBLISHED, ack_body, bodies_of, challenge_body, name_body, reply_body, status_body
 from history import Opening
 from peers import Peers
 from script import MOST_ENTRIES
@@ -26,7 +26,8 @@ class Story(Peers):
         return self.say('frame', link, body.hex())
 
     def message(self, link, message):
-        self.send(link, message_body(message))
+        for body in bodies_of(self.model.version(self.h, link), message):
+            self.send(link, body)
 
     def opens(self, challenge=7):
         self.say('opened', challenge)
@@ -36,10 +37,10 @@ class Story(Peers):
         self.say('dial', name, challenge)
         return self.h.number
 
-    def accepted(self, name, challenge=7, creation=1, behind=b''):
-        """A link that a peer opens, and that comes up where the peer is allowed; answers its number. These bytes stand behind its name."""
+    def accepted(self, name, challenge=7, creation=1, version=1):
+        """A link that a peer opens, and that comes up where the peer is allowed; answers its number. The peer knows that version."""
         link = self.opens(challenge)
-        self.send(link, name_body(FLAGS, creation, name) + behind)
+        self.send(link, name_body(FLAGS, creation, name, version))
         if self.model.is_open(self.h, link):
             self.prove(link)
         return link
@@ -50,11 +51,11 @@ class Story(Peers):
             self.send(link, status_body('true'))
         self.send(link, reply_body(1, self.own_digest(link)))
 
-    def dialled(self, name, challenge=8, creation=1):
-        """A link that the node dials, and that comes up; answers its number."""
+    def dialled(self, name, challenge=8, creation=1, version=1):
+        """A link that the node dials, and that comes up; answers its number. The peer knows that version."""
         link = self.dials(name, challenge)
         self.say('take', link)
         self.send(link, status_body('ok'))
-        self.send(link, challenge_body(FLAGS, 9, creation, name))
+        self.send(link, challenge_body(FLAGS, 9, creation, name, version))
         self.send(link, ack_body(self.own_digest(link)))
         return link
