@@ -48,7 +48,8 @@ MORE_NO_COMMANDS = (
 # A line that asks for no step of a world, behind `node a@h x`.
 NO_STEPS = (
     'node', 'node a@h', 'node a x', 'node a@h x entries 0', 'node a@h x entries 1 creation 1', 'node a@h x creation',
-    'node a@h x hidden hidden', 'at a@h', 'at a@h size', 'at a@h seat 1', 'at a@h spwan', 'seat 01', 'dial a@h b@h', 'accept 0', 'hand 0 left',
+    'node a@h x hidden hidden', 'node a@h x links', 'node a@h x links 0', 'node a@h x links 3', 'node a@h x links 257',
+    'node a@h x links 2 entries 9', 'node a@h x links 2 links 2', 'at a@h', 'at a@h size', 'at a@h seat 1', 'at a@h spwan', 'seat 01', 'dial a@h b@h', 'accept 0', 'hand 0 left',
     'deliver 0', 'cut acceptor 0', 'restart', 'settle 1', 'show pg', 'spawn',
 )
 
