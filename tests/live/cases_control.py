@@ -1,6 +1,7 @@
 """The control socket, the standard streams, the command line, and how a node ends."""
 
 import os
+import re
 import socket
 import stat
 import subprocess
@@ -185,6 +186,76 @@ def reads_without_entries(field):
 
 
 @case
+def reports_without_entries(field):
+    """`self`, `status`, `links`, `dials`, `scopes`, `allowed`, `clients` and `refusals` tell what is so now, and make no entry; in a
+    new life, too."""
+    a = field.node("a@h", "--creation", "41", "--entries", "200", "--allow", "c@h", "--allow", "b@h", "--clients", "7")
+    b = field.node("b@h", "--creation", "5", "--hidden", dial=[a])
+    await_nodes(a, ["b@h"])
+    for scope in ("pg", "jobs", "old"):
+        start(a, scope)
+    asked(a, "stop old")
+    one, other = field.control(a), field.control(a)
+    asked(one, "size", a.ask("size"))
+    asked(other, "clients", "clients 2 3")
+    before = size(a)
+    for line, answer in (("self", "self a@h 41"), ("scopes", "scopes jobs pg"), ("allowed", "allowed b@h c@h"), ("clients", "clients 2 3"),
+                         ("refusals", "refusals")):
+        asked(a, line, answer)
+    links = a.ask("links")
+    expect_that(re.fullmatch(r"links \d+ b@h 5 hidden 127\.0\.0\.1:\d+ \d+ 0", links), "one link", links)
+    asked(a, "dials", "dials")
+    status = a.ask("status")
+    wanted = rf"status name=a@h creation=41 version=0.1.0 seconds=\d+ lives=1 links=1/64 clients=2/7 entries={before}/200 refused=0"
+    expect_that(re.fullmatch(wanted, status), wanted, status)
+    links = b.ask("links")
+    expect_that(re.fullmatch(rf"links \d+ a@h 41 hidden 127\.0\.0\.1:{a.port} \d+ 0", links), "one link", links)
+    asked(b, "dials", f"dials a@h 127.0.0.1:{a.port} 1 - up")
+    for line in ("status now", "links 1", "selfish", "clients "):
+        expect_that(a.ask(line).startswith("fault "), f"a fault for {line!r}", "none")
+    expect("the size of the audit", before, size(a))
+    asked(a, "start pg", "refused 22 ScopeRunning")
+    expect_that(a.ask("status").endswith(f" entries={before + 1}/200 refused=1"), "a refusal that is counted", a.ask("status"))
+    other.close()
+    until("one client", lambda: a.ask("clients"), lambda came: came == "clients 2")
+    while not a.untold("! restarted .*"):
+        a.ask("spawn")
+    for line, answer in (("self", "self a@h 42"), ("scopes", "scopes jobs pg"), ("allowed", "allowed b@h c@h"), ("clients", "clients 2")):
+        asked(a, line, answer)
+    expect_that(" lives=2 " in a.ask("status"), "a second life", a.ask("status"))
+
+
+@case
+def dials_say_why(field):
+    """`dials` says of each peer that isn't up why its last dial has failed, and when it is dialled again."""
+    a = field.node("a@h", cookie="another")
+    dials = {"a@h": f"127.0.0.1:{a.port}", "c@h": "127.0.0.1:1", "d@h": "nohost.invalid:1"}
+    b = field.node("b@h", *(word for name, place in dials.items() for word in ("--dial", f"{name}={place}")))
+    wanted = [f"{name} {place} \\d+ \\d+ {fault}" for (name, place), fault in zip(dials.items(), ("handshake", "refused", "no_host"))]
+    until("why no peer is up", lambda: b.ask("dials"), lambda came: re.fullmatch(" ".join(["dials", *wanted]), came))
+
+
+@case
+def refusals_say_why(field):
+    """`refusals` says of a wrong cookie, of a name that isn't allowed at either end, and of a wrong name in --dial, which rule it was,
+    which peer, and its address; of strangers that say no name a dash; and no more than the last 16."""
+    a = field.node("a@h", "--allow", "b@h", "--allow", "d@h")
+    b = field.node("b@h", "--dial", f"a@h=127.0.0.1:{a.port}", cookie="another")
+    field.node("c@h", dial=[a])
+    d = field.node("d@h", "--dial", f"x@h=127.0.0.1:{a.port}", "--dial", f"y@h=127.0.0.1:{a.port}", "--allow", "a@h", "--allow", "y@h")
+    for node, wanted in ((a, "Frame 12 BadDigest b@h"), (a, "Frame 9 NotAllowed c@h"), (d, "Dial 9 NotAllowed x@h"),
+                         (d, "Frame 8 WrongName y@h")):
+        until(f"{wanted} at {node.name}", lambda: node.ask("refusals"), lambda came: f" {wanted}" in came)
+    asked(b, "refusals", "refusals")
+    for _ in range(17):
+        with socket.create_connection(("127.0.0.1", a.port)) as stranger:
+            stranger.sendall(b"\x00\x01?")
+            stranger.settimeout(LIMIT)
+            stranger.recv(1)
+    until("16 refusals of strangers", lambda: a.ask("refusals").split()[1:], lambda came: came[4::6].count("-") >= 8 and len(came) == 96)
+
+
+@case
 def monitors_end(field):
     """A monitor that ended is told nothing more, and another seat's number is no monitor of this one."""
     a = field.node("a@h")
@@ -323,7 +394,7 @@ def faults_of_the_command_line(field):
     readable = field.cookie_file(mode=0o644)
     cases = [["a@h"], ["nobody", "--cookie", "c"], ["a@h", "--cookie", ""], ["a@h", "--cookie", "c", "--dial", "b@h"],
              ["a@h", "--cookie", "c", "--listen", "nowhere"], ["a@h", "--cookie", "c", "--creation", "0"],
-             ["a@h", "--cookie", "c", "--ticktime", "soon"], ["a@h", "--cookie-file", readable],
+             ["a@h", "--cookie", "c", "--ticktime", "soon"], ["a@h", "--cookie", "c", "--links", "3"], ["a@h", "--cookie-file", readable],
              ["a@h", "--cookie-file", os.path.join(field.folder, "none")], ["a@h", "--cookie", "c", "--unknown"]]
     for words in cases:
         done = subprocess.run([field.program, *words], stdin=subprocess.DEVNULL, capture_output=True, timeout=LIMIT, check=False)

@@ -89,7 +89,7 @@ def audit_file_full(field):
     for turn in (1, 2):
         use_up(control)
         until(f"warning {turn}", a.errors, lambda lines, turn=turn: len(lines) == turn)
-    fault = "warning: --audit: /dev/full: No space left on device"
+    fault = 'warn audit_lost reason="--audit: /dev/full: No space left on device'
     expect_that(a.errors()[0].startswith(fault), "a warning with the path", a.errors())
     asked(control, "start pg")
     expect("the status after quit", 1, a.quit())
@@ -127,7 +127,7 @@ def stdout_breaks(field):
             alone = Silent(field, "--listen", "127.0.0.1:0", stdout=broken, control=False)
         control = node.control()
         until("a warning", node.errors)
-        expect_one("its standard error", node.errors(), "warning: standard output: ", fault)
+        expect_one("its standard error", node.errors(), 'warn output reason="standard output: ', fault)
         node.process.stdin.write(b"start pg\n" * 3)
         node.process.stdin.flush()
         until("the scope to run", lambda: control.ask("start pg"),
@@ -292,7 +292,7 @@ def memory_at_its_end(field):
     leaving.close()
     await_members(b, [], limit=4)
     busy.told("! restarted [0-9]+")
-    expect_one("its standard error", a.errors(), "warning: out of memory: the node begins anew")
+    expect_one("its standard error", a.log("warn no_memory"), 'warn no_memory reason="out of memory: the node begins anew"')
     again = member(busy)
     await_members(b, [again], limit=10)
     await_members(a, [again])

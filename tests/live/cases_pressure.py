@@ -21,7 +21,8 @@ SOON = 2
 @case
 def spare_room_is_let_go(field):
     """Room that long lines and their answers took is let go once these are answered: five clients
-    that have sent some take no more than one."""
+    that have sent some take no more than one. (The C library keeps two such lines at most for what
+    comes, and threads take some KiB.)"""
     with one_arena():
         a = field.node("a@h", port=None)
     say_much(field.control(a))
@@ -29,7 +30,7 @@ def spare_room_is_let_go(field):
     for _ in range(4):
         say_much(field.control(a))
     grown = a.memory()[0] - before
-    expect_that(grown < 8_192, "8 MiB more at most", f"{grown} KiB")
+    expect_that(grown < 9_216, "9 MiB more at most", f"{grown} KiB")
 
 
 def say_much(control):
@@ -138,12 +139,12 @@ def twins_at_the_acceptor(field):
         await_nodes(a, [])
     for creation in ("1", "2"):
         field.node("c@h", "--creation", creation, dial=[a], control=False, port=None)
-    warning = until("a warning", a.errors)
-    expect("the warning", ["warning: two nodes have the name c@h: each ends the link of the other"],
-           warning)
+    warning = until("a warning", lambda: a.log("warn twins "))
+    expect("the warning",
+           ['warn twins peer=c@h reason="two nodes have this name: each ends the link of the other"'], warning)
     a.told("! down c@h [0-9]+ replaced")
     a.told("! down c@h [0-9]+ replaced", limit=20)
-    expect("lines on standard error", warning, a.errors())
+    expect("such warnings", warning, a.log("warn twins "))
 
 
 class Mute:

@@ -7,6 +7,9 @@ import subprocess
 from talk import Control, Talk
 from waiting import LIMIT, expect, expect_that, until
 
+# How a line of the log begins, up to its level.
+TIME = re.compile(r"\d{4}-\d\d-\d\dT\d\d:\d\d:\d\d\.\d{3}Z ")
+
 # What bin/pg_node and bin/pg_ask themselves say on standard error, where the program isn't proved yet.
 WRAPPER = re.compile(r"pg_(node|ask): (this build isn't proved|building without proofs)")
 
@@ -49,8 +52,12 @@ class Node(Talk):
         return Control(self.control_path)
 
     def errors(self):
-        """Its lines on standard error."""
+        """Its lines on standard error, those of its log that are no warnings left out, each without its time."""
         return plain_lines(self.errors_path)
+
+    def log(self, begin=""):
+        """Its lines on standard error that begin so, each without its time."""
+        return [line for line in log_lines(self.errors_path) if line.startswith(begin)]
 
     def status(self, limit=LIMIT):
         """The status with which it ends."""
@@ -76,9 +83,14 @@ class Node(Talk):
 
 
 def plain_lines(path):
-    """What a program said on standard error, into this file."""
+    """What a program said on standard error, into this file, but for what its log has that is no warning."""
+    return [line for line in log_lines(path) if not line.startswith("info ")]
+
+
+def log_lines(path):
+    """What a program said on standard error, into this file, each line without its time."""
     with open(path, encoding="ascii", errors="replace") as errors:
-        return [line for line in errors.read().splitlines() if not WRAPPER.match(line)]
+        return [TIME.sub("", line, count=1) for line in errors.read().splitlines() if not WRAPPER.match(line)]
 
 
 def new_pid(talk):

@@ -10,6 +10,10 @@ from waiting import LIMIT, expect, expect_that
 PUBLISHED, HANDSHAKE_23 = 1 << 0, 1 << 24
 TICK = bytes(4)
 TICK_BODY = b""
+# Behind its name a node says so that it knows version 2 of link messages.
+VERSION_2 = b"\x02"
+# How many rows a message of version 1, or a part, has at most.
+MOST_ROWS = 4_096
 
 
 def digest(cookie, challenge):
@@ -22,13 +26,14 @@ def text(width, words):
 
 
 class Peer:
-    """One end of a stream to a node. Bodies go behind lengths of 2 bytes, and once the link is up of 4."""
+    """One end of a stream to a node. Bodies go behind lengths of 2 bytes, and once the link is up of 4. Where it knows version 2 of link
+    messages it has to meet a node that does, too."""
 
-    def __init__(self, stream, name="peer@h", cookie="password", creation=7, hidden=False):
+    def __init__(self, stream, name="peer@h", cookie="password", creation=7, hidden=False, version=1):
         self.stream = stream
         self.stream.settimeout(LIMIT)
         self.stream.setsockopt(socket.IPPROTO_TCP, socket.TCP_NODELAY, 1)
-        self.name, self.cookie, self.creation = name, cookie, creation
+        self.name, self.cookie, self.creation, self.version = name, cookie, creation, version
         self.flags = HANDSHAKE_23 | (0 if hidden else PUBLISHED)
         self.width = 2
         self._sending = threading.Lock()
@@ -85,10 +90,13 @@ class Peer:
     # The handshake
 
     def name_frame(self):
-        return b"N" + struct.pack(">QI", self.flags, self.creation) + text(2, self.name)
+        return b"N" + struct.pack(">QI", self.flags, self.creation) + text(2, self.name) + self.behind_the_name()
 
     def challenge_frame(self, challenge):
-        return b"N" + struct.pack(">QII", self.flags, challenge, self.creation) + text(2, self.name)
+        return b"N" + struct.pack(">QII", self.flags, challenge, self.creation) + text(2, self.name) + self.behind_the_name()
+
+    def behind_the_name(self):
+        return VERSION_2 if self.version == 2 else b""
 
     def send_status(self, word):
         self.send(b"s" + word.encode())
@@ -102,15 +110,15 @@ class Peer:
         """The node's challenge, creation and name."""
         frame = self.receive()
         expect_that(frame is not None and frame[:1] == b"N", "a challenge", frame)
-        _flags, challenge, creation, _length = struct.unpack(">QIIH", frame[1:19])
-        return challenge, creation, frame[19:].decode()
+        _flags, challenge, creation = struct.unpack(">QII", frame[1:17])
+        return challenge, creation, cut(frame, 17, 2)[0]
 
     def receive_name(self):
         """The node's flags, creation and name."""
         frame = self.receive()
         expect_that(frame is not None and frame[:1] == b"N", "a name", frame)
-        flags, creation, _length = struct.unpack(">QIH", frame[1:15])
-        return flags, creation, frame[15:].decode()
+        flags, creation = struct.unpack(">QI", frame[1:13])
+        return flags, creation, cut(frame, 13, 2)[0]
 
     def reply(self, challenge, own=4711):
         self.send(b"r" + struct.pack(">I", own) + digest(self.cookie, challenge))
@@ -149,7 +157,18 @@ class Peer:
         self.send(b"D" + text(1, scope))
 
     def rows_message(self, kind, rows, scope="pg"):
-        self.send(kind + text(1, scope) + struct.pack(">I", len(rows)) + b"".join(self._row(*row) for row in rows))
+        """A message with rows; where the link is of version 2, in parts."""
+        if self.version == 1:
+            return self.send(kind + text(1, scope) + self._rows(rows))
+        starts = range(0, max(1, len(rows)), MOST_ROWS)
+        for number, start in enumerate(starts, 1):
+            self.part(kind, number, number == len(starts), rows[start:start + MOST_ROWS], scope)
+
+    def part(self, kind, number, is_last, rows, scope="pg"):
+        self.send(kind + text(1, scope) + struct.pack(">IB", number, is_last) + self._rows(rows))
+
+    def _rows(self, rows):
+        return struct.pack(">I", len(rows)) + b"".join(self._row(*row) for row in rows)
 
     def _row(self, group, number, name=None, creation=None):
         return text(1, group) + text(2, name or self.name) + struct.pack(">IQ", creation or self.creation, number)
@@ -163,10 +182,18 @@ class Peer:
 
     def await_message(self, kind, limit=LIMIT):
         """The next message of this kind, those before it dropped: the texts of its processes, by group."""
+        return [row for rows in self.await_parts(kind, limit) for row in rows]
+
+    def await_parts(self, kind, limit=LIMIT):
+        """The same, part by part. A message of version 1 is one."""
         self.stream.settimeout(limit)
+        parts = []
         while (body := self.receive()) is not None:
             if body[:1] == kind:
-                return rows_of(body)
+                is_last, rows = part_of(body, self.version)
+                parts.append(rows)
+                if is_last:
+                    return parts
         raise AssertionError(f"expected a message {kind} for {self.name}, came the end of the stream")
 
     def await_ticks(self, count):
@@ -189,11 +216,16 @@ class Peer:
         return stopped
 
 
-def rows_of(body):
-    """The rows of a Sync, Join or Leave: (group, process)."""
+def part_of(body, version=1):
+    """Whether a body is the last of its message, and its rows, if it is a Sync, Join or Leave."""
     place = 2 + body[1]
     if place == len(body):
-        return []
+        return True, []
+    return version == 1 or body[place + 4] == 1, rows_of(body, place + (5 if version == 2 else 0))
+
+
+def rows_of(body, place):
+    """The rows behind their count: (group, process)."""
     count, place = int.from_bytes(body[place:place + 4], "big"), place + 4
     rows = []
     for _ in range(count):

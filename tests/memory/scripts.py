@@ -2,10 +2,12 @@
 
 from functools import cache
 
-from frames import Discover, Down, RowsJoin, RowsLeave, Sync, name_body
+from frames import Discover, Down, Part, RowsJoin, RowsLeave, Sync, name_body, part_body
 from owed import MOST_WAITING
-from story import FLAGS, Story, row
+from story import FLAGS, NODE, Story, row
 
+# The node of `refusals`, which plays the same scripts.
+NODE_2 = NODE._replace(links=2)
 # Behind this line of a script allocations are refused, or in a script without it everywhere.
 FROM_HERE = '# from here on without memory'
 
@@ -55,6 +57,40 @@ def told_peers():
     story.tell('join pg h b@h/1/2', 'exit b@h/1/2', 'start t', *(f'take {link}' for link in links), 'stop pg', 'stop s',
                *(f'take {link}' for link in links), 'disconnect a@h', f'take {links[0]}')
     return story.script('told_peers')
+
+
+def rows_in_parts():
+    """Messages of a peer of version 2 in parts, some of them refused or broken off, beside a peer of version 1; both are told."""
+    story = Story(NODE_2)
+    story.tell('start pg', 'start s', 'spawn', 'spawn', 'join pg g b@h/1/1 b@h/1/2', 'monitor_scope pg')
+    new, old = story.accepted('a@h', version=2), story.dialled('c@h')
+    for link in new, old:
+        story.message(link, Discover('pg'))
+    one, two, three = (row('g', 'a@h', number) for number in (1, 2, 3))
+    say_parts(story, new, Sync, (one,), (two, two), (), (three,))
+    story.message(old, Sync('pg', (row('g', 'c@h', 1),)))
+    story.tell('updates 6', 'members pg g')
+    say_parts(story, new, RowsJoin, (one,), (row('g', 'z@h', 1),), (two,))
+    say_parts(story, new, RowsJoin, (one, one), (two,))
+    say_parts(story, new, RowsLeave, (one, two), (three, three), (three,))
+    story.send(new, part_body(Part(Sync, 'pg', 1, False, (three,))))
+    story.message(new, Down('s'))
+    say_parts(story, new, Sync, (two,), (one, one))
+    story.send(new, part_body(Part(Sync, 'pg', 1, False, (three,))))
+    story.tell('updates 6', 'leave pg g b@h/1/1', 'stop pg', 'start pg', 'join pg h b@h/1/2', f'take {new}', f'take {old}')
+    story.message(new, Discover('pg'))
+    story.send(new, part_body(Part(Sync, 'pg', 1, False, (three,))))
+    again = story.accepted('a@h', 5, 2, version=2)
+    say_parts(story, again, Sync, (row('g', 'a@h', 1, 2),), (row('h', 'a@h', 1, 2),))
+    story.tell('members pg g', 'exit b@h/1/2', f'take {again}', f'lost {again}', 'groups pg', 'size')
+    return story.script('rows_in_parts')
+
+
+def say_parts(story, link, kind, *rows):
+    """A message of these parts, each of which is said at the place behind the last that was accepted."""
+    number = 1
+    for place, some in enumerate(rows, 1):
+        number += story.send(link, part_body(Part(kind, 'pg', number, place == len(rows), some))) == 'ok'
 
 
 def every_event():
@@ -112,4 +148,4 @@ def slow_ends():
     return story.script('slow_ends')
 
 
-SCRIPTS = (replaced_link, monitors, told_peers, every_event)
+SCRIPTS = (replaced_link, monitors, told_peers, every_event, rows_in_parts)

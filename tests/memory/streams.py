@@ -2,8 +2,10 @@
 node_threads. What each frame is answered is asked of the model of tests/model."""
 
 from console import is_silent
-from frames import (Discover, Down, RowsJoin, RowsLeave, Sync, challenge_body, message_body, name_body, reply_body, status_body)
+from frames import (Discover, Down, Part, RowsJoin, RowsLeave, Sync, challenge_body, message_body, name_body, part_body, reply_body,
+                    status_body)
 from records import record
+from scripts import NODE_2
 from story import FLAGS, Story, row
 from texts import digest_of
 
@@ -21,13 +23,13 @@ def narrow(body):
 
 
 def opened(*lines):
-    story = Story()
+    story = Story(NODE_2)
     story.tell('start pg', *lines)
     return story, story.opens()
 
 
-def handshake(name='a@h', cookie='password'):
-    return narrow(name_body(FLAGS, 1, name)) + narrow(reply_body(1, digest_of(cookie, 7)))
+def handshake(name='a@h', cookie='password', version=1):
+    return narrow(name_body(FLAGS, 1, name, version)) + narrow(reply_body(1, digest_of(cookie, 7)))
 
 
 def exchange():
@@ -39,6 +41,18 @@ def exchange():
 def whole_link():
     story, link = opened()
     return Scene('whole_link', story, link, handshake() + exchange())
+
+
+def parts():
+    """A Sync, a Join and a Leave in two parts each, one of them broken off."""
+    rows = [(row('g', 'a@h', number),) for number in (1, 2)]
+    said = [Part(kind, 'pg', number, number == 2, rows[number - 1]) for kind in (Sync, RowsJoin, RowsLeave) for number in (1, 2)]
+    return b''.join(wide(part_body(part)) for part in said + said[:1]) + wide(message_body(Discover('pg'))) + wide(part_body(said[1]))
+
+
+def link_of_version_2():
+    story, link = opened()
+    return Scene('link_of_version_2', story, link, handshake(version=2) + parts())
 
 
 def wrong_digest():
@@ -57,7 +71,7 @@ def lost_before():
     return Scene('lost_before', story, link, handshake())
 
 
-READS = (whole_link, wrong_digest, too_long, lost_before)
+READS = (whole_link, link_of_version_2, wrong_digest, too_long, lost_before)
 
 
 def told_link():
@@ -71,7 +85,7 @@ def told_link():
 
 def refused_dial():
     """A dialled link that a wrong digest has ended. Behind its last byte the link is gone, which one byte more shows."""
-    story = Story()
+    story = Story(NODE_2)
     link = story.dials('a@h')
     for body in (status_body('ok'), challenge_body(FLAGS, 9, 1, 'a@h'), b'a' + bytes(16)):
         story.send(link, body)

@@ -18,7 +18,7 @@ class Wire:
 
 class World:
     def __init__(self):
-        self.nodes = [Console(Model(), Opening(name, 'password', False, 1, 1000)) for name in NAMES]
+        self.nodes = [Console(Model(), Opening(name, 'password', False, 1, 1000, 2)) for name in NAMES]
         self.wires = []
 
     def answer(self, move):
