@@ -1,26 +1,35 @@
 #!/usr/bin/env python3
-"""What a call of one row costs on a node with one peer of 64 rows, and on a full one: 60 peers, each with 4,096 rows in 4,096 groups of one scope.
+"""What a call of one row costs on a node with one peer of 64 rows, and on a full one: 60 peers, each
+with 4,096 rows in 4,096 groups of one scope, or with as many as `--rows` says, to 65,536 over links
+of version 2.
 
-bench/full_node.py [PROGRAM]. Processor time of `pg_console run`, the reading of lines and the writing of answers in it, in microseconds an
-operation: the least of 15 rounds, in which both nodes take turns, of 1,000 changes, 20 lists of groups and 200 of members."""
+bench/full_node.py [PROGRAM] [--rows N]. Processor time of `pg_console run`, the reading of lines
+and the writing of answers in it, in microseconds an operation: the least of 15 rounds, in which
+both nodes take turns, of 1,000 changes, 20 lists of groups and 200 of members."""
 
+import argparse
 import os
 import struct
 import subprocess
-import sys
 import threading
 
 HERE = os.path.dirname(os.path.realpath(__file__))
 DIGEST = "482c811da5d5b4bc6d497ffa98491e38"  # MD5 of `password123`
 ROUNDS, TIMES = 15, 1000
+# The most rows of a message of version 1, and of a part.
+PART = 4096
 
 
 def name_frame(peer):
-    return b"N" + struct.pack(">QIH", 1 << 24 | 1, 5, len(peer)) + peer
+    """The name frame of a peer that knows version 2 of link messages."""
+    return b"N" + struct.pack(">QIH", 1 << 24 | 1, 5, len(peer)) + peer + b"\x02"
 
 
-def message(kind, *rows):
-    return kind + b"\x02pg" + struct.pack(">I", len(rows)) + b"".join(rows)
+def messages(kind, rows):
+    """The parts that say these rows."""
+    cut = [rows[place:place + PART] for place in range(0, len(rows), PART)]
+    for number, part in enumerate(cut, 1):
+        yield kind + b"\x02pg" + struct.pack(">IBI", number, number == len(cut), len(part)) + b"".join(part)
 
 
 def row(group, peer):
@@ -38,7 +47,7 @@ class Console:
     """The node `b@h` behind lines, with the scope `pg`."""
 
     def __init__(self, program):
-        words = [program, "run", "b@h", "password", "--entries", "3000000"]
+        words = [program, "run", "b@h", "password", "--entries", "3000000", "--links", "2"]
         self.process = subprocess.Popen(words, stdin=subprocess.PIPE, stdout=subprocess.PIPE, preexec_fn=pin)
         self.ask("start pg")
 
@@ -72,10 +81,10 @@ class Console:
     def link(self, peer, rows):
         """A link up with this peer, which has a process in so many groups."""
         link = self.ask("opened 123").split()[1]
-        reply = "7200000001" + DIGEST
-        sync = message(b"S", *(row(group, peer) for group in range(rows)))
-        for body in (name_frame(peer).hex(), reply, sync.hex()):
-            self.ask(f"frame {link} {body}")
+        reply = bytes.fromhex("7200000001" + DIGEST)
+        sync = messages(b"S", [row(group, peer) for group in range(rows)])
+        for body in (name_frame(peer), reply, *sync):
+            self.ask(f"frame {link} {body.hex()}")
         return link
 
 
@@ -99,8 +108,8 @@ class Node:
 
     def change(self, part):
         """A Leave and a Join of the row that stands behind this part of the first peer's list."""
-        group = self.groups[int(part * (len(self.groups) - 1))]
-        return [f"frame {self.link} {message(kind, row(group, b'p0@h')).hex()}" for kind in (b"L", b"J")] * TIMES
+        one = row(self.groups[int(part * (len(self.groups) - 1))], b"p0@h")
+        return [f"frame {self.link} {body.hex()}" for kind in (b"L", b"J") for body in messages(kind, [one])] * TIMES
 
 
 # What is measured: its title, how many times it is done in a round, and its lines.
@@ -116,15 +125,22 @@ MEASURES = [
 ]
 
 
+def words():
+    reader = argparse.ArgumentParser(description=__doc__, formatter_class=argparse.RawDescriptionHelpFormatter)
+    reader.add_argument("program", nargs="?", default=os.path.join(HERE, "../crates/pg_console/out/pg_console"))
+    reader.add_argument("--rows", type=int, default=PART)
+    return reader.parse_args()
+
+
 def main():
-    program = sys.argv[1] if len(sys.argv) > 1 else os.path.join(HERE, "../crates/pg_console/out/pg_console")
-    nodes = [Node(program, 1, 64), Node(program, 60, 4096)]
-    print(f"{'microseconds':<38} {'1 peer, 64 rows':>16} {'60 peers, 4,096 rows each':>26} {'ratio':>6}")
+    said = words()
+    nodes = [Node(said.program, 1, 64), Node(said.program, 60, said.rows)]
+    print(f"{'microseconds':<38} {'1 peer, 64 rows':>16} {f'60 peers, {said.rows:,} rows each':>27} {'ratio':>6}")
     for title, times, lines in MEASURES:
         # The nodes take turns, so that both have a processor of the same speed.
         rounds = [[node.console.time(lines(node)) / times for node in nodes] for _ in range(ROUNDS)]
         small, full = map(min, zip(*rounds))
-        print(f"{title:<38} {small:>16.1f} {full:>26.1f} {full / small:>6.2f}")
+        print(f"{title:<38} {small:>16.1f} {full:>27.1f} {full / small:>6.2f}")
     for node in nodes:
         node.console.process.stdin.close()
 

@@ -39,6 +39,8 @@ measure(Folder) ->
     handshakes(200),
     sync(sync_one_group, [{<<"g">>, pids(4096)}], Script),
     sync(sync_groups, [{group(I), [Pid]} || {I, Pid} <- lists:zip(lists:seq(1, 4096), pids(4096))], Script),
+    bare_sync(parts_one_group, [{<<"g">>, pids(65536)}]),
+    bare_sync(parts_groups, [{group(I), [Pid]} || {I, Pid} <- lists:zip(lists:seq(1, 65536), pids(65536))]),
     loss(64),
     told(63, 2000),
     watched(group_monitor, 1, fun(Scope) -> pg:monitor(Scope, g) end, 20000),
@@ -206,13 +208,26 @@ handshakes(Count) ->
 sync(Key, Groups, Script) ->
     Rows = term_to_binary(Groups),
     Line = [<<"frame 1 ">>, binary:encode_hex(Rows), $\n],
+    with_rows(Groups, fun(Give) ->
+        Answer = fun([<<"frame">>, _, Hex]) -> Give(binary_to_term(binary:decode_hex(Hex))), <<"ok\n">> end,
+        bare_sync_of(Key, Rows, Give),
+        least(Key, 1, fun() -> Give([]), played(Script, 1, Line, Answer) end)
+    end).
+
+%% The same without lines.
+bare_sync(Key, Groups) ->
+    Rows = term_to_binary(Groups),
+    with_rows(Groups, fun(Give) -> bare_sync_of(Key, Rows, Give) end).
+
+bare_sync_of(Key, Rows, Give) ->
+    least(bare(Key), 1, fun() -> Give([]), elapsed(fun() -> Give(binary_to_term(Rows)) end) end).
+
+%% Work with a peer's rows, which are given to a scope, and taken by it.
+with_rows(Groups, Work) ->
     with_scope(bench, fun(Scope) ->
         Peer = sink(),
         Scope ! {discover, Peer},
-        Give = fun(Term) -> gen_server:cast(Scope, {sync, Peer, Term}), taken(Scope) end,
-        Answer = fun([<<"frame">>, _, Hex]) -> Give(binary_to_term(binary:decode_hex(Hex))), <<"ok\n">> end,
-        least(bare(Key), 1, fun() -> Give([]), elapsed(fun() -> Give(binary_to_term(Rows)) end) end),
-        least(Key, 1, fun() -> Give([]), played(Script, 1, Line, Answer) end),
+        Work(fun(Term) -> gen_server:cast(Scope, {sync, Peer, Term}), taken(Scope) end),
         stop([Peer])
     end),
     stop(lists:append([Pids || {_, Pids} <- Groups])).

@@ -1,9 +1,14 @@
 #!/usr/bin/env python3
-"""What the table of a scope keeps of a row of a peer, its places in all indexes among that, in bytes: by the blocks that `pg_console run` has from the allocator.
+"""What a row of a peer takes, in bytes: in the table of its scope, its places in all indexes among
+that; in the change of the entry that brings it; and where it is kept of a message in parts whose
+last one hasn't come. By the blocks that `pg_console run` has from the allocator.
 
-bench/row_bytes.py [PROGRAM]. A Sync brings 4,096 rows: the node then keeps the table, the bytes of the frame and the change of the listings. A loss of the
-link takes the table away again, and adds a change as large. So half of the difference of both growths, less the bytes of the frame, is the table's. A library that
-cc makes, loaded before the program, adds up the blocks with what the allocator keeps beside each, and tells the sum on standard error at the signal USR1."""
+bench/row_bytes.py [PROGRAM]. A Sync of 65,536 rows comes in 16 parts. Behind all but the last the
+node keeps the rows so far and the bytes of the frames; behind the last the table, those bytes and
+the change of the listings. A loss of the link takes the table away again, and adds a change as
+large: so half of the difference of both growths, less the bytes, is the table's, and half of their
+sum the change's. A library that cc makes, loaded before the program, adds up the blocks with what
+the allocator keeps beside each, and tells the sum on standard error at the signal USR1."""
 
 import os
 import signal
@@ -14,7 +19,9 @@ import tempfile
 
 HERE = os.path.dirname(os.path.realpath(__file__))
 DIGEST = "482c811da5d5b4bc6d497ffa98491e38"  # MD5 of `password123`
-ROWS = 4096
+ROWS = 65536
+# The most rows of a part.
+PART = 4096
 
 COUNTING = r"""
 #include <malloc.h>
@@ -55,16 +62,24 @@ class Console:
     """The node `b@h` behind lines, with the scope `pg` and the link 2, which is up and heard with no rows."""
 
     def __init__(self, program, counting):
-        words = [program, "run", "b@h", "password", "--entries", "1000"]
+        words = [program, "run", "b@h", "password", "--links", "2", "--entries", "1000"]
         loaded = dict(os.environ, LD_PRELOAD=counting)
         self.process = subprocess.Popen(words, stdin=subprocess.PIPE, stdout=subprocess.PIPE, stderr=subprocess.PIPE, env=loaded)
-        name = b"N" + struct.pack(">QIH3s", 1 << 24 | 1, 5, 3, b"p@h")
-        for line in ("start pg", "opened 123", f"frame 2 {name.hex()}", f"frame 2 7200000001{DIGEST}", f"frame 2 {self.sync([])}"):
+        name = b"N" + struct.pack(">QIH3s", 1 << 24 | 1, 5, 3, b"p@h") + b"\x02"
+        for line in ("start pg", "opened 123", f"frame 2 {name.hex()}", f"frame 2 7200000001{DIGEST}"):
             self.ask(line)
+        self.hear(self.parts([]))
 
     @staticmethod
-    def sync(rows):
-        return (b"S\x02pg" + struct.pack(">I", len(rows)) + b"".join(rows)).hex()
+    def parts(rows):
+        """The bodies that say all rows of a Sync."""
+        cut = [rows[place:place + PART] for place in range(0, max(len(rows), 1), PART)]
+        return [b"S\x02pg" + struct.pack(">IBI", number, number == len(cut), len(part)) + b"".join(part)
+                for number, part in enumerate(cut, 1)]
+
+    def hear(self, bodies):
+        for body in bodies:
+            self.ask(f"frame 2 {body.hex()}")
 
     def ask(self, line):
         self.process.stdin.write(f"{line}\n".encode())
@@ -77,14 +92,17 @@ class Console:
         return int(self.process.stderr.readline())
 
     def kept(self, rows):
-        """The bytes that the table keeps of these rows."""
-        frame = self.sync(rows)
+        """The bytes that the table keeps of these rows, the change, and, of each row, what is kept
+        before the last part has come."""
+        *others, last = self.parts(rows)
         at_first = self.live()
-        self.ask(f"frame 2 {frame}")
-        with_rows = self.live()
+        self.hear(others)
+        begun = self.live() - at_first - sum(map(len, others))
+        self.hear([last])
+        brought = self.live() - at_first - len(last) - sum(map(len, others))
         self.ask("lost 2")
-        without = self.live()
-        return ((with_rows - at_first) - (without - with_rows) - len(frame) // 2) / 2
+        gone = self.live() - at_first - len(last) - sum(map(len, others)) - brought
+        return (brought - gone) / 2, (brought + gone) / 2, begun * len(rows) / (len(rows) - PART)
 
 
 def main():
@@ -95,7 +113,9 @@ def main():
             source.write(COUNTING)
         subprocess.run(["cc", "-shared", "-fPIC", "-O2", "-o", counting, source.name], check=True)
         for title, rows in (("of a group of its own", [row(number, 1) for number in range(ROWS)]), ("of one large group", [row(0, number) for number in range(ROWS)])):
-            print(f"a row {title}: {Console(program, counting).kept(rows) / ROWS:.0f} bytes")
+            table, change, begun = (taken / ROWS for taken in Console(program, counting).kept(rows))
+            print(f"a row {title}: {table:.0f} bytes in the table, {change:.0f} in the change, "
+                  f"{begun:.0f} of a message begun")
 
 
 if __name__ == "__main__":
