@@ -5,7 +5,7 @@ use std::sync::{Condvar, CondvarTimeouts, Mutex, Wait};
 use std::time::{Clock, Duration};
 
 /// How many bytes of lines may wait. Further lines are left out.
-const ROOM: usize = 4_096;
+const ROOM: usize = 65_536;
 
 /// The milliseconds at the end for what isn't written yet.
 const PATIENCE: u64 = 500;
