@@ -26,11 +26,17 @@ pub fn hear(
     limit: u32,
 ) -> Result<Vec<Change>, CoreFault>
     requires { All (λ r. r.pid.node ≡ peer.now) rows.now }
-    ensures ok { OnOk result (HasBecome running.old running.new (count_after kind running.old.table peer.now rows.now) (heard_after kind number running.old.heard.items) running.old.told.items) }
-    ensures change { IfOk result (λ changes. IsChangeIn scope (count_of running.old.table) (count_of running.new.table) changes.items) }
-    ensures refused { IfErr result (IsRowFault (table_refusal running.old.table peer.now kind rows.now limit)) }
-    ensures holds { OnOk result (table_refusal running.old.table peer.now kind rows.now limit ≡ None) }
-    ensures same { OnErr result (HasBecome running.old running.new (count_of running.old.table) running.old.heard.items running.old.told.items) }
+    ensures ok { OnOk result (HasBecome running.old running.new (count_after kind
+        running.old.table peer.now rows.now) (heard_after kind number running.old.heard.items)
+        running.old.told.items) }
+    ensures change { IfOk result (λ changes. IsChangeIn scope (count_of running.old.table)
+        (count_of running.new.table) changes.items) }
+    ensures refused { IfErr result (IsRowFault (table_refusal running.old.table peer.now kind
+        rows.now limit)) }
+    ensures holds { OnOk result (table_refusal running.old.table peer.now kind rows.now limit ≡
+        None) }
+    ensures same { OnErr result (HasBecome running.old running.new (count_of running.old.table)
+        running.old.heard.items running.old.told.items) }
 {
     match kind {
         PartKind::Sync => hear_rows(alloc, running, number, scope, peer, rows, limit),
@@ -51,11 +57,17 @@ fn hear_rows(
     limit: u32,
 ) -> Result<Vec<Change>, CoreFault>
     requires { All (λ r. r.pid.node ≡ peer.now) rows.now }
-    ensures ok { OnOk result (HasBecome running.old running.new (count_after_sync running.old.table peer.now rows.now) (with_number number running.old.heard.items) running.old.told.items) }
-    ensures change { IfOk result (λ changes. IsChangeIn scope (count_of running.old.table) (count_of running.new.table) changes.items) }
-    ensures refused { IfErr result (IsRowFault (cond (nat_le (length rows.now) limit) None (Some Rule.RowsFull))) }
-    ensures holds { OnOk result (cond (nat_le (length rows.now) limit) None (Some Rule.RowsFull) ≡ None) }
-    ensures same { OnErr result (HasBecome running.old running.new (count_of running.old.table) running.old.heard.items running.old.told.items) }
+    ensures ok { OnOk result (HasBecome running.old running.new (count_after_sync
+        running.old.table peer.now rows.now) (with_number number running.old.heard.items)
+        running.old.told.items) }
+    ensures change { IfOk result (λ changes. IsChangeIn scope (count_of running.old.table)
+        (count_of running.new.table) changes.items) }
+    ensures refused { IfErr result (IsRowFault (cond (nat_le (length rows.now) limit) None (Some
+        Rule.RowsFull))) }
+    ensures holds { OnOk result (cond (nat_le (length rows.now) limit) None (Some Rule.RowsFull) ≡
+        None) }
+    ensures same { OnErr result (HasBecome running.old running.new (count_of running.old.table)
+        running.old.heard.items running.old.told.items) }
 {
     let room = ChangeRoom::new(alloc, scope)?;
     running.heard.reserve(1)?;
@@ -79,11 +91,16 @@ fn add_rows(
     limit: u32,
 ) -> Result<Vec<Change>, CoreFault>
     requires { All (λ r. r.pid.node ≡ peer.now) rows.now }
-    ensures ok { OnOk result (HasBecome running.old running.new (count_after_add running.old.table rows.now) running.old.heard.items running.old.told.items) }
-    ensures change { IfOk result (λ changes. IsChangeIn scope (count_of running.old.table) (count_of running.new.table) changes.items) }
-    ensures refused { IfErr result (IsRowFault (cond (nat_le (node_total running.old.table peer.now + length rows.now) limit) None (Some Rule.RowsFull))) }
-    ensures holds { OnOk result (cond (nat_le (node_total running.old.table peer.now + length rows.now) limit) None (Some Rule.RowsFull) ≡ None) }
-    ensures same { OnErr result (HasBecome running.old running.new (count_of running.old.table) running.old.heard.items running.old.told.items) }
+    ensures ok { OnOk result (HasBecome running.old running.new (count_after_add running.old.table
+        rows.now) running.old.heard.items running.old.told.items) }
+    ensures change { IfOk result (λ changes. IsChangeIn scope (count_of running.old.table)
+        (count_of running.new.table) changes.items) }
+    ensures refused { IfErr result (IsRowFault (cond (nat_le (node_total running.old.table
+        peer.now + length rows.now) limit) None (Some Rule.RowsFull))) }
+    ensures holds { OnOk result (cond (nat_le (node_total running.old.table peer.now + length
+        rows.now) limit) None (Some Rule.RowsFull) ≡ None) }
+    ensures same { OnErr result (HasBecome running.old running.new (count_of running.old.table)
+        running.old.heard.items running.old.told.items) }
 {
     let room = ChangeRoom::new(alloc, scope)?;
     match running.table.join_remote(peer, rows, limit) {
@@ -102,11 +119,16 @@ fn take_rows(
     rows: &[Row],
 ) -> Result<Vec<Change>, CoreFault>
     requires { All (λ r. r.pid.node ≡ peer.now) rows.now }
-    ensures ok { OnOk result (HasBecome running.old running.new (count_after_take running.old.table rows.now) running.old.heard.items running.old.told.items) }
-    ensures change { IfOk result (λ changes. IsChangeIn scope (count_of running.old.table) (count_of running.new.table) changes.items) }
-    ensures refused { IfErr result (IsRowFault (cond (are_counted running.old.table rows.now) None (Some Rule.NotListed))) }
-    ensures holds { OnOk result (cond (are_counted running.old.table rows.now) None (Some Rule.NotListed) ≡ None) }
-    ensures same { OnErr result (HasBecome running.old running.new (count_of running.old.table) running.old.heard.items running.old.told.items) }
+    ensures ok { OnOk result (HasBecome running.old running.new (count_after_take
+        running.old.table rows.now) running.old.heard.items running.old.told.items) }
+    ensures change { IfOk result (λ changes. IsChangeIn scope (count_of running.old.table)
+        (count_of running.new.table) changes.items) }
+    ensures refused { IfErr result (IsRowFault (cond (are_counted running.old.table rows.now) None
+        (Some Rule.NotListed))) }
+    ensures holds { OnOk result (cond (are_counted running.old.table rows.now) None (Some
+        Rule.NotListed) ≡ None) }
+    ensures same { OnErr result (HasBecome running.old running.new (count_of running.old.table)
+        running.old.heard.items running.old.told.items) }
 {
     let room = ChangeRoom::new(alloc, scope)?;
     match running.table.leave_remote(peer, rows) {
@@ -122,7 +144,8 @@ pub fn drop_change(
     scope: Scope,
     peer: &NodeName,
 ) -> Result<Vec<Change>, OutOfMemory>
-    ensures { IfOk result (λ changes. IsChangeIn scope (count_of running.now.table) (count_after_drop running.now.table peer.now) changes.items) }
+    ensures { IfOk result (λ changes. IsChangeIn scope (count_of running.now.table)
+        (count_after_drop running.now.table peer.now) changes.items) }
 {
     let room = ChangeRoom::new(alloc, scope)?;
     let groups = running.table.drop_change(peer)?;
@@ -142,11 +165,17 @@ pub fn hear_or_test(
     last: bool,
 ) -> Result<Vec<Change>, CoreFault>
     requires { All (λ r. r.pid.node ≡ peer.now) rows.now }
-    ensures ok { OnOk result (HasBecome running.old running.new (count_with last kind running.old.table peer.now rows.now) (heard_with last kind number running.old.heard.items) running.old.told.items) }
-    ensures change { IfOk result (λ changes. IsChangeIn running.old.scope (count_of running.old.table) (count_of running.new.table) changes.items) }
-    ensures refused { IfErr result (IsRowFault (table_refusal running.old.table peer.now kind rows.now limit)) }
-    ensures holds { OnOk result (table_refusal running.old.table peer.now kind rows.now limit ≡ None) }
-    ensures same { OnErr result (HasBecome running.old running.new (count_of running.old.table) running.old.heard.items running.old.told.items) }
+    ensures ok { OnOk result (HasBecome running.old running.new (count_with last kind
+        running.old.table peer.now rows.now) (heard_with last kind number running.old.heard.items)
+        running.old.told.items) }
+    ensures change { IfOk result (λ changes. IsChangeIn running.old.scope (count_of
+        running.old.table) (count_of running.new.table) changes.items) }
+    ensures refused { IfErr result (IsRowFault (table_refusal running.old.table peer.now kind
+        rows.now limit)) }
+    ensures holds { OnOk result (table_refusal running.old.table peer.now kind rows.now limit ≡
+        None) }
+    ensures same { OnErr result (HasBecome running.old running.new (count_of running.old.table)
+        running.old.heard.items running.old.told.items) }
 {
     if last {
         let scope = running.scope.try_clone(alloc)?;
@@ -167,10 +196,14 @@ fn tested(
     limit: u32,
 ) -> Result<Vec<Change>, CoreFault>
     requires { All (λ r. r.pid.node ≡ peer.now) rows.now }
-    ensures became { HasBecome running.old running.new (count_of running.old.table) running.old.heard.items running.old.told.items }
-    ensures change { IfOk result (λ changes. IsChangeIn running.old.scope (count_of running.old.table) (count_of running.new.table) changes.items) }
-    ensures refused { IfErr result (IsRowFault (table_refusal running.old.table peer.now kind rows.now limit)) }
-    ensures holds { OnOk result (table_refusal running.old.table peer.now kind rows.now limit ≡ None) }
+    ensures became { HasBecome running.old running.new (count_of running.old.table)
+        running.old.heard.items running.old.told.items }
+    ensures change { IfOk result (λ changes. IsChangeIn running.old.scope (count_of
+        running.old.table) (count_of running.new.table) changes.items) }
+    ensures refused { IfErr result (IsRowFault (table_refusal running.old.table peer.now kind
+        rows.now limit)) }
+    ensures holds { OnOk result (table_refusal running.old.table peer.now kind rows.now limit ≡
+        None) }
 {
     match table_refusal(running, kind, peer, rows, limit) {
         Some(rule) => Err(CoreFault::Refused(rule)),
