@@ -1,5 +1,5 @@
 -- Where the entries of pages stand.
-use Rattle.std.proofs.Common.{◌≡◌, refl, arith, ℕ, zero, suc, ◌+◌, ◌*◌, ◌<◌, ◌≤◌, List, reverse, true, false, [], ◌∷◌, ◌++◌, length, get_or, set, drop, ◌/◌, ◌%◌, None}
+use Rattle.std.proofs.Common.{◌≡◌, refl, arith, ℕ, zero, suc, ◌+◌, ◌*◌, ◌<◌, ◌≤◌, List, true, false, [], ◌∷◌, ◌++◌, length, get_or, set, drop, ◌/◌, ◌%◌, None}
 use Rattle.std.proofs.lemmas.Grind.{common_steps}
 use Rattle.std.proofs.lemmas.Option.{slice_get_past}
 use Rattle.std.proofs.lemmas.List.{length-append, length-set, append-nil, drop-append-le, drop_all}
@@ -17,7 +17,8 @@ get_front [] ys n lt = grind arith
 get_front (x ∷ xs) ys zero lt = refl
 get_front (x ∷ xs) ys (suc n) lt = grind (arith, get_front xs ys n)
 
-get_behind : {X : Type 0} (xs ys : List X) (n : ℕ) → slice_get (xs ++ ys) (length xs + n) ≡ slice_get ys n
+pub get_behind : {X : Type 0} (xs ys : List X) (n : ℕ)
+    → slice_get (xs ++ ys) (length xs + n) ≡ slice_get ys n
 get_behind [] ys n = grind arith
 get_behind (x ∷ xs) ys n = grind (arith, get_behind xs ys n)
 
@@ -112,9 +113,9 @@ new_page (page ∷ next ∷ later) paged full =
     (paged.0, new_page (next ∷ later) paged.1 (grind (arith, length-append page (entries_in (next ∷ later)), paged.0)))
 
 -- a page behind the others makes room
-pub with_page : (limit : ℕ) (pages : List (List Entry)) → IsPaged pages
-    → log_of limit (pages ++ [] ∷ []) ≡ record { limit = limit; entries = reverse (entries_in pages); has_room = true }
-with_page limit pages paged = grind (arith, common_steps, at_most pages paged)
+pub with_page : (limit : ℕ) (past pages : List (List Entry)) → IsPaged pages
+    → (log_of limit past (pages ++ [] ∷ [])).has_room ≡ true
+with_page limit past pages paged = grind (arith, common_steps, at_most pages paged)
 
 -- ---- changes
 

@@ -1,5 +1,6 @@
 pub mod Words
 pub mod InPages
+pub mod Handed
 pub mod Lines
 mod Played
 pub mod Accepted

@@ -2,18 +2,15 @@
 use Rattle.policy_audit.proofs.Words.{ap, arith, refl, subst, sym, ◌∙◌, append-nil, filter}
 use Rattle.policy_audit.proofs.Words.{and_parts, is_empty, list_all, option_map_or, Check}
 use Rattle.policy_audit.proofs.Words.{Bool, List, None, Option, Some, [], cond, false, length}
-use Rattle.policy_audit.proofs.Words.{nat_lt, not, true, ℕ}
+use Rattle.policy_audit.proofs.Words.{nat_lt, not, true, ℕ, present_link, opened, taken, PartKind}
 use Rattle.policy_audit.proofs.Words.{◌&&◌, ◌==◌, ◌∷◌, ◌≡◌, ◌≤◌, ◌↔◌, eqb-true, lt-ltb, ltb-true}
 use Rattle.policy_audit.proofs.Words.{Pid, History, past, is_accepted, is_open, is_whole, links}
-use Rattle.policy_audit.proofs.Words.{present_link, opened, taken}
 use Rattle.policy_audit.proofs.Words.{waiting_in, listed, listed_by, own, is_running, is_local}
 use Rattle.policy_audit.proofs.Words.{audited, entered, is_entered, just, lose, loss, is_slow}
-use Rattle.policy_audit.proofs.Words.{max_waiting, slow_links, with_entry}
+use Rattle.policy_audit.proofs.Words.{max_waiting, slow_links, with_entry, IsStep, history, is_full, judgement}
 use Rattle.policy_audit.proofs.Words.{IsLegal, IsLegalIn, IsNext, IsNumbered, IsPlayed, IsPlayedIn}
-use Rattle.policy_audit.proofs.Words.{IsStep, history, is_full, judgement}
 use Rattle.policy_audit.proofs.Words.{checks, first_broken, frame_checks, message_checks, always}
 use Rattle.policy_audit.proofs.Words.{refusal_owes, frame_taken, awaits, judged, waiting, Message2}
-use Rattle.policy_audit.proofs.Words.{PartKind}
 use Rattle.policy_audit.proofs.Finished.{whole_awaits}
 use Rattle.policy_audit.proofs.Walked.{but}
 use Rattle.policy_audit.proofs.Words.{Rule, ◌<◌, Entry, Verdict, Accepted, Refused, Event, Opening}
@@ -21,8 +18,8 @@ use Rattle.policy_audit.proofs.Accepted.{lie}
 use Rattle.policy_audit.proofs.KeptLinks.{Falls, links_fall, opened_linked}
 use Rattle.policy_audit.proofs.Walked.{open_opened}
 use Rattle.policy_audit.proofs.KeptNumbers.{falls_left}
-use Rattle.policy_audit.proofs.LostWords.{is_one, left_link, lost_audited, lost_open, lost_waiting}
-use Rattle.policy_audit.proofs.LostWords.{lost_listed}
+use Rattle.policy_audit.proofs.LostWords.{is_one, left_link, lost_audited, lost_listed, lost_open}
+use Rattle.policy_audit.proofs.LostWords.{lost_waiting}
 
 -- ---- losses of different links are steps of a history
 

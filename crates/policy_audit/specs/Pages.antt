@@ -1,8 +1,8 @@
 -- The pages that hold the entries of an audit.
-use Rattle.std.specs.Prelude.{◌≡◌, ℕ, ◌*◌, ◌≤◌, ⊤, List, [], ◌∷◌, length, nat_lt, reverse}
+use Rattle.std.specs.Prelude.{◌≡◌, ℕ, ◌*◌, ◌≤◌, ⊤, List, [], ◌∷◌, ◌++◌, length, nat_lt, reverse, take}
 use Rattle.std.specs.List.{flat_map}
 use Rattle.policy_audit.specs.declared.entry.Entry.{Entry}
-use Rattle.policy_audit.specs.Log.{Log}
+use Rattle.policy_audit.specs.Log.{Log, later_than}
 
 -- how many entries a page has room for
 abbrev pub page_size : ℕ
@@ -18,10 +18,20 @@ IsPaged [] = ⊤
 IsPaged (page ∷ []) = length page ≤ page_size
 IsPaged (page ∷ next ∷ later) = (length page ≡ page_size) × IsPaged (next ∷ later)
 
--- the audit that these pages hold
-abbrev pub log_of : ℕ → List (List Entry) → Log
-log_of limit pages = record {
+-- the entries of the pages that were handed out, the newest of both first
+abbrev pub entries_past : List (List Entry) → List Entry
+entries_past pages = flat_map (λ page. reverse page) pages
+
+-- the audit that these pages hold, behind those that were handed out
+abbrev pub log_of : ℕ → List (List Entry) → List (List Entry) → Log
+log_of limit past pages = record {
   limit = limit;
-  entries = reverse (entries_in pages);
+  entries = reverse (entries_in pages) ++ entries_past past;
+  forgotten = length (entries_past past);
   has_room = nat_lt (length (entries_in pages)) (length pages * page_size);
 }
+
+-- a full page of the entries behind that number
+abbrev pub IsPageBehind : ℕ → List Entry → List Entry → Type 0
+IsPageBehind number entries page =
+    (length page ≡ page_size) × (page ≡ take page_size (later_than number entries))

@@ -27,6 +27,7 @@ pub use laws::{
 };
 pub use opening::Opening;
 pub use out_frame::{OutFrame, OutFrames};
+pub use page::{PAGE_SIZE, Page};
 pub use place::Place;
 pub use reply::{Contents, GroupPids, Groups, Members, Reply, Update, Updates};
 pub use rule::Rule;

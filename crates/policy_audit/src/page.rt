@@ -34,7 +34,7 @@ impl Model for Page {
 }
 
 impl Page {
-    pub fn new(alloc: Global) -> Result<Page, AllocError>
+    pub(crate) fn new(alloc: Global) -> Result<Page, AllocError>
         ensures { IfOk result (λ page. page ≡ []) }
     {
         let entries = Vec::with_capacity(alloc, PAGE_SIZE)?;
@@ -51,14 +51,14 @@ impl Page {
     }
 
     /// Whether one of its entries changed rows.
-    pub fn has_changes(&self) -> bool
+    pub(crate) fn has_changes(&self) -> bool
         ensures { result ≡ list_any changes_rows self.now }
     {
         self.changed
     }
 
     /// Appends an entry. It takes no memory.
-    pub fn push(&mut self, entry: Entry)
+    pub(crate) fn push(&mut self, entry: Entry)
         requires { length self.old < page_size }
         ensures { self.new ≡ self.old ++ entry ∷ [] }
     {

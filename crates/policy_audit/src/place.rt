@@ -1,5 +1,5 @@
 //! Places in an audit.
-ghost use Rattle.std.specs.Prelude.{◌≡◌, ◌/◌, ◌%◌};
+ghost use Rattle.std.specs.Prelude.{◌≡◌, ◌-◌, ◌*◌, ◌/◌, ◌%◌, nat_le};
 ghost use Rattle.policy_audit.specs.Pages.{page_size};
 
 use crate::page::PAGE_SIZE;
@@ -32,6 +32,28 @@ impl Place {
         Place {
             page: number / PAGE_SIZE,
             entries: number % PAGE_SIZE,
+        }
+    }
+
+    /// Whether so many entries lie before it, or more.
+    pub fn is_behind(&self, number: usize) -> bool
+        ensures { result ≡ nat_le number self.now }
+    {
+        let (page, entries) = (number / PAGE_SIZE, number % PAGE_SIZE);
+        page < self.page || (page == self.page && entries <= self.entries)
+    }
+
+    /// The same place among the entries from that page on; the first of them, where it is before
+    /// that page.
+    pub(crate) fn counted_from(&self, page: usize) -> Place
+        ensures { result ≡ self.now - page * page_size }
+    {
+        match self.page.checked_sub(page) {
+            Some(page) => Place {
+                page,
+                entries: self.entries,
+            },
+            None => Place::behind(0),
         }
     }
 

@@ -1,17 +1,32 @@
-use Rattle.std.proofs.Common.{arith}
+use Rattle.std.proofs.Common.{arith, suc, length, ◌≡◌, ◌+◌}
 use Rattle.std.proofs.lemmas.Grind.{common_steps}
 use Rattle.std.proofs.lemmas.Option.{gets}
-use Rattle.std.proofs.lemmas.List.{reverse-reverse}
-use Rattle.policy_audit.specs.Pages.{entries_in}
+use Rattle.policy_audit.specs.Pages.{entries_past}
 use Rattle.policy_audit.proofs.InPages.{found, past}
+use Rattle.policy_audit.proofs.Handed.{at_kept}
 use Rattle.policy_audit.proofs.audit.Audit.get.Goals as goal
 
 pub returns-in_err-page : goal.returns-in_err-page
 returns-in_err-page c =
-    rw (← c.self.view_is)
-    (grind (arith, common_steps, past c.self.inside.pages.items c.self.invariant.0 c.in_ok-place.field-0, reverse-reverse (entries_in c.self.inside.pages.items)))
+    let audit = c.self.inside in
+    let place = c.in_ok-place.field-0 in
+    let number : c.args.number ≡ suc (length (entries_past audit.past.items) + place) =
+    grind (arith, common_steps) in
+    let kept = at_kept audit.limit audit.past.items audit.pages.items c.args.number place number in
+    rw (← c.self.view_is, kept)
+    (grind (arith, common_steps, past audit.pages.items c.self.invariant.0 place))
 
 pub returns : goal.returns
 returns c =
-    rw (← c.self.view_is)
-    (grind (arith, common_steps, gets, found c.self.inside.pages.items c.self.invariant.0 c.in_ok-place.field-0 c.in_ok-page.page.now, reverse-reverse (entries_in c.self.inside.pages.items)))
+    let audit = c.self.inside in
+    let place = c.in_ok-place.field-0 in
+    let number : c.args.number ≡ suc (length (entries_past audit.past.items) + place) =
+    grind (arith, common_steps) in
+    let kept = at_kept audit.limit audit.past.items audit.pages.items c.args.number place number in
+    rw (← c.self.view_is, kept)
+    (grind (
+      arith,
+      common_steps,
+      gets,
+      found audit.pages.items c.self.invariant.0 place c.in_ok-page.page.now,
+    ))
