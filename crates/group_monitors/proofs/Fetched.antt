@@ -1,4 +1,5 @@
 -- The entries behind the last fetch are those that the policy looks back over.
+use Rattle.std.proofs.Common.{zero, suc, subst, slice_get}
 use Rattle.group_monitors.proofs.Words.{◌≡◌, ◌∙◌, sym, ap, refl, ℕ, ◌+◌, ◌-◌, ◌<◌, ◌≤◌, false, ◌++◌}
 use Rattle.group_monitors.proofs.Words.{List, [], ◌∷◌, Some, length, arith, IsTrue, reverse, drop}
 use Rattle.group_monitors.proofs.Words.{length-append, append-nil, inl, inr, AllByRecursion}
@@ -57,6 +58,17 @@ entry_new e es = rw (reverse-append (e ∷ []) es) (
       get_or-append_seam (reverse es) e [] e,
     ))
 
+get_later : (xs : List Entry) (n i : ℕ) → slice_get (drop n xs) i ≡ slice_get xs (n + i)
+get_later xs zero i = grind arith
+get_later [] (suc n) i = grind arith
+get_later (x ∷ xs) (suc n) i = grind (arith, get_later xs n i)
+
+all_at : (P : Entry → Type 0) (xs : List Entry) (i : ℕ) (x : Entry) → AllByRecursion P xs
+    → slice_get xs i ≡ Some x → P x
+all_at P [] i x all at = absurd cc
+all_at P (y ∷ ys) zero x all at = subst P (cc at) all.0
+all_at P (y ∷ ys) (suc i) x all at = all_at P ys i x all.1 at
+
 module _ (seat k : ℕ) where
   pub seen_all : (place : ℕ) (es : List Entry) → IsLastFetch seat k place es → place ≤ length es
   seen_all place es last = (within place es last.fetch.0 last.fetch.1).1
@@ -81,6 +93,37 @@ module _ (seat k : ℕ) where
         later = rw (none_later (length es + 1) (e ∷ es) (omega arith)) tt;
       }
 
+  -- the last fetch of some entries with one more is that one, or the last of the others
+  pub last_before : (place : ℕ) (e : Entry) (es : List Entry) → IsLastFetch seat k place (e ∷ es)
+      → place ≤ length es → IsLastFetch seat k place es × (is_fetch seat k e ≡ false)
+  last_before place e es last le =
+      let at = within place (e ∷ es) last.fetch.0 last.fetch.1 in
+      let later = last_of_two (λ e. is_fetch seat k e ≡ false) (later_than place es) e
+      (rw (one_later place e es le) at last.later) in (
+        record {
+          fetch = (last.fetch.0, sym (entry_stays place e es at.0 le) ∙ last.fetch.1, last.fetch.2);
+          later = later.0;
+        },
+        later.1,
+      )
+
+  -- no later place is one
+  pub last_once : (a b : ℕ) (es : List Entry) → IsLastFetch seat k a es → IsLastFetch seat k b es
+      → a ≤ b
+  last_once a b es x y = elim (cases_lt b a) [
+    | inl less ↦
+        let at = within a es x.fetch.0 x.fetch.1 in
+        let there : slice_get (later_than b es) (a - 1 - b) ≡ Some x.fetch.0 =
+        grind (arith, nat_tests, x.fetch.1, get_later (reverse es) b (a - 1 - b)) in
+        absurd (grind (
+          arith,
+          x.fetch.2,
+          all_at (λ e. is_fetch seat k e ≡ false) (later_than b es)
+              (a - 1 - b) x.fetch.0 y.later there,
+        ))
+    | inr le ↦ le
+  ]
+
   -- so the policy looks back over the entries behind the place
   pub since : (place : ℕ) (t : Target) (es : List Entry) → IsLastFetch seat k place es
       → updates_since seat k t es ≡ flat_map (λ e. updates_of t e.change) (later_than place es)
@@ -90,14 +133,9 @@ module _ (seat k : ℕ) where
     | inl beyond ↦ let at = within place (e ∷ es) last.fetch.0 last.fetch.1 in
         let this : IsTrue (is_fetch seat k e) = grind (arith, beyond, entry_new e es) in
         rw (this, none_later place (e ∷ es) (omega (arith, beyond))) refl
-    | inr le ↦ let at = within place (e ∷ es) last.fetch.0 last.fetch.1 in let later = last_of_two
-        (λ e. is_fetch seat k e ≡ false) (later_than place es) e (rw (one_later place e es le) at
-        last.later) in let was : IsLastFetch seat k place es =
-        record {
-          fetch = (last.fetch.0, sym (entry_stays place e es at.0 le) ∙ last.fetch.1, last.fetch.2);
-          later = later.0;
-        } in rw
-        (later.1, one_later place e es le, flat_map-append, append-nil, since place t es was) refl
+    | inr le ↦ let was = last_before place e es last le in
+        rw
+        (was.1, one_later place e es le, flat_map-append, append-nil, since place t es was.0) refl
   ]
 
 pub answered : (h : History) (seat k : ℕ) (m : Monitor) → monitor h seat k ≡ Some (target m)

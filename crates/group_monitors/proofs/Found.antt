@@ -39,6 +39,12 @@ pub free_not_found : (n : ℕ) (ms : List (ℕ × Monitor)) → IsFree n ms → 
 free_not_found n [] free = refl
 free_not_found n (m ∷ ms) free = grind (arith, free_not_found n ms)
 
+-- one that is found behind another is found with it
+pub later_found : (seat n : ℕ) (x : Monitor) (m : ℕ × Monitor) (ms : List (ℕ × Monitor))
+    → IsNumbered (m ∷ ms) → monitor_of ms seat n ≡ Some x → monitor_of (m ∷ ms) seat n ≡ Some x
+later_found seat n x m ms apart at =
+    grind (arith, at, nobodys seat n ms, none_past_head nat_eq_equiv n m ms apart)
+
 -- one that is found is the seat's where it has that seat
 pub own_found : (seat n : ℕ) (x : Monitor) (ms : List (ℕ × Monitor)) → lookup (nat_eq n) ms ≡ Some x
     → x.seat ≡ seat → monitor_of ms seat n ≡ Some x

@@ -6,3 +6,4 @@ pub mod Found
 pub mod Followed
 pub mod FromPolicy
 pub mod Differences
+pub mod Reached

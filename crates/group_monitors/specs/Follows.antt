@@ -4,8 +4,9 @@ use Rattle.std.specs.List.{AllByRecursion}
 use Rattle.std.specs.Option.{option_map}
 use Rattle.policy_audit.specs.declared.event.Event.{Event}
 use Rattle.policy_audit.specs.declared.event.Event.TheVariants as event
-use Rattle.policy_audit.specs.History.{History}
-use Rattle.policy_audit.specs.Monitors.{monitor}
+use Rattle.policy_audit.specs.declared.entry.Entry.{Entry}
+use Rattle.policy_audit.specs.History.{History, present}
+use Rattle.policy_audit.specs.Monitors.{monitor, monitor_in, Target}
 use Rattle.group_monitors.specs.declared.monitor.Monitor.{Monitor}
 use Rattle.group_monitors.specs.Monitors.{target, monitor_of, IsNumbered}
 use Rattle.group_monitors.specs.Fetches.{IsLastFetch}
@@ -17,6 +18,13 @@ pub record FollowsPolicy (h : History) (ms : List (ℕ × Monitor)) : Type 0 whe
   pub places : (seat k : ℕ) (m : Monitor) → monitor_of ms seat k ≡ Some m → IsLastFetch seat k m.place h.entries
   pub numbered : IsNumbered ms
   pub past : AllByRecursion (λ m. m.0 ≤ length h.entries) ms
+
+-- the last fetch of each monitor is behind the first entries, as many as the number says: what it
+-- has still to be told is among the others
+abbrev pub Reaches : ℕ → List Entry → Type 0
+Reaches forgotten entries = (seat k place : ℕ) (t : Target)
+    → monitor_in seat k (present entries) ≡ Some t → IsLastFetch seat k place entries
+    → forgotten ≤ place
 
 -- the kinds of events that add, move or take away monitors
 abbrev pub concerns_monitors : Event → Bool

@@ -1,6 +1,6 @@
 //! Laws of monitors. Each function does nothing; its contract is the law.
-ghost use Rattle.std.specs.Prelude.{◌≡◌, ◌+◌, ◌≤◌, ◌==◌, ◌&&◌, ◌++◌, ℕ, true, false, cond, List, [], ◌∷◌, Some, None, length, IsTrue};
-ghost use Rattle.std.specs.List.{flat_map};
+ghost use Rattle.std.specs.Prelude.{◌≡◌, ◌+◌, ◌≤◌, nat_le, ◌==◌, ◌&&◌, ◌++◌, ℕ, true, false, cond, List, [], ◌∷◌, Some, None, length, IsTrue};
+ghost use Rattle.std.specs.List.{flat_map, list_all};
 ghost use Rattle.std.specs.Option.{IsSome, option_map, option_and_then};
 ghost use Rattle.dist_types.specs.declared.pid.Pid.{Pid};
 ghost use Rattle.dist_types.specs.Listing.{same, mentions};
@@ -22,7 +22,7 @@ ghost use Rattle.policy_audit.specs.Checks.{first_broken, checks};
 ghost use Rattle.group_monitors.specs.declared.monitor.Monitor.{Monitor as Watch};
 ghost use Rattle.group_monitors.specs.Monitors.{target, at_place, monitor_of, IsFree, IsNumbered, HasSeen, updates_behind, without, without_scope, with_place};
 ghost use Rattle.group_monitors.specs.Fetches.{IsLastFetch, fetched};
-ghost use Rattle.group_monitors.specs.Follows.{FollowsPolicy, concerns_monitors};
+ghost use Rattle.group_monitors.specs.Follows.{FollowsPolicy, Reaches, concerns_monitors};
 ghost use Rattle.group_monitors.specs.Counts.{counted, times_in, Watches};
 
 use policy_audit::{left_alone, lists_ascend, slow_links_end};
@@ -35,6 +35,22 @@ pub fn since_the_place()
     ensures seen { (seat k place : ℕ) (entries : List Entry) → IsLastFetch seat k place entries → place ≤ length entries }
     ensures stays { (seat k place : ℕ) (e : Entry) (entries : List Entry) → IsLastFetch seat k place entries → is_fetch seat k e ≡ false → IsLastFetch seat k place (e ∷ entries) }
     ensures moves { (seat k : ℕ) (e : Entry) (entries : List Entry) → IsTrue (is_fetch seat k e) → IsLastFetch seat k (length entries + 1) (e ∷ entries) }
+{}
+
+/// Of an audit whose first entries aren't kept, what a monitor has still to be told is among the
+/// others: that stays so with each further entry, and holds exactly where it holds of the place of
+/// each monitor that is kept.
+pub fn told_from_kept()
+    ensures start { Reaches 0 [] }
+    ensures stays { (e : Entry) (entries : List Entry) (forgotten : ℕ) → forgotten ≤ length entries
+        → Reaches forgotten entries → Reaches forgotten (e ∷ entries) }
+    ensures places { (h : History) (ms : List (ℕ × Watch)) → FollowsPolicy h ms → (forgotten : ℕ)
+        → Reaches forgotten h.entries
+        → (seat k : ℕ) (m : Watch) → monitor_of ms seat k ≡ Some m → forgotten ≤ m.place }
+    ensures all { (h : History) (ms : List (ℕ × Watch)) → FollowsPolicy h ms → (forgotten : ℕ)
+        → list_all (λ m. nat_le forgotten m.1.place) ms ≡ true → Reaches forgotten h.entries }
+    ensures only { (h : History) (ms : List (ℕ × Watch)) → FollowsPolicy h ms → (forgotten : ℕ)
+        → Reaches forgotten h.entries → list_all (λ m. nat_le forgotten m.1.place) ms ≡ true }
 {}
 
 /// Of each audit that the policy makes, with these entries behind those: how often a process was in

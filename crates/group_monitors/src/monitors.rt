@@ -1,5 +1,6 @@
 //! The monitors of a node (Kernel manual, `pg:monitor/2`, `pg:monitor_scope/1`, `pg:demonitor/2`).
-ghost use Rattle.std.specs.Prelude.{◌≡◌, ◌++◌, ◌∷◌, [], ◌≤◌, Some, None, length, not, IfOk, IfErr, OnOk, OnErr, IfSome, IsSome};
+ghost use Rattle.std.specs.Prelude.{◌≡◌, ◌++◌, ◌∷◌, [], ◌≤◌, nat_le, Some, None, length, not, IfOk, IfErr, OnOk, OnErr, IfSome, IsSome};
+ghost use Rattle.std.specs.List.{list_all};
 ghost use Rattle.std.specs.Option.{option_map, option_copied};
 ghost use Rattle.dist_types.specs.Listing.{same};
 ghost use Rattle.group_monitors.specs.Monitors.{monitor_of, IsFree, IsNumbered, HasSeen, updates_behind, with_place, without, without_scope, IsUpdatesFault};
@@ -83,7 +84,9 @@ impl Monitors {
 
     /// What the entries behind its place tell a monitor of the seat. It has the same to tell until `advance`.
     pub fn updates(&self, seat: u32, number: u32, audit: &Audit) -> Result<Updates, UpdatesFault>
-        requires { HasSeen (monitor_of self.now seat number) audit.now.entries }
+        requires seen { HasSeen (monitor_of self.now seat number) audit.now.entries }
+        requires kept { IfSome (monitor_of self.now seat number)
+            (λ m. audit.now.forgotten ≤ m.place) }
         ensures ok { IfOk result (λ updates. option_map (updates_behind audit.now.entries) (monitor_of self.now seat number) ≡ Some updates) }
         ensures refused { IfErr result (λ fault. IsUpdatesFault fault (monitor_of self.now seat number)) }
     {
@@ -91,6 +94,18 @@ impl Monitors {
         let later = audit.behind(&monitor.place);
         let updates = told_by(*self.monitors.allocator(), monitor, later)?;
         Ok(Updates::of(updates)?)
+    }
+
+    /// Whether none has still to be told of the first entries, as many as the number says.
+    pub fn are_behind(&self, number: usize) -> bool
+        ensures { result ≡ list_all (λ m. nat_le number m.1.place) self.now }
+    {
+        for monitor in self.monitors.values() {
+            if !monitor.place.is_behind(number) {
+                return false;
+            }
+        }
+        true
     }
 
     /// Moves the place of a monitor of the seat to the end of the audit.

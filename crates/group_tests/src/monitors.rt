@@ -1,5 +1,5 @@
 //! Monitors that are moved to the end of a short audit, as no program does: those of a node go to the entry that fetched.
-ghost use Rattle.std.specs.Prelude.{◌≡◌, ◌+◌, [], ◌∷◌, IfOk, OnOk, length, Some, None, codes};
+ghost use Rattle.std.specs.Prelude.{◌≡◌, ◌+◌, ◌≤◌, [], ◌∷◌, IfOk, OnOk, IfSome, length, Some, None, codes};
 ghost use Rattle.group_monitors.specs.Monitors.{monitor_of, HasSeen};
 
 use dist_types::{Group, GroupChange, Items, NodeName, Pid, Pids, Scope, TryClone};
@@ -40,7 +40,8 @@ fn group_change(alloc: Global, moves: Moves) -> Result<GroupChange, Fail> {
 
 /// Makes an entry with these changes in a scope.
 fn enter(alloc: Global, audit: &mut Audit, scope: &[u8], moves: &[Moves]) -> Result<(), Fail>
-    ensures { OnOk result (length audit.new.entries ≡ length audit.old.entries + 1) }
+    ensures count { OnOk result (length audit.new.entries ≡ length audit.old.entries + 1) }
+    ensures kept { OnOk result (audit.new.forgotten ≡ audit.old.forgotten) }
 {
     let mut groups = Vec::new(alloc);
     for moved in moves {
@@ -62,7 +63,8 @@ fn enter(alloc: Global, audit: &mut Audit, scope: &[u8], moves: &[Moves]) -> Res
 
 /// Five entries. The first and the fourth change nothing in pg.
 fn entries(alloc: Global) -> Result<Audit, Fail>
-    ensures { IfOk result (λ audit. length audit.entries ≡ 5) }
+    ensures count { IfOk result (λ audit. length audit.entries ≡ 5) }
+    ensures kept { IfOk result (λ audit. audit.forgotten ≡ 0) }
 {
     let mut audit = Audit::new(alloc, 100);
     let swap = Moves {
@@ -108,7 +110,9 @@ fn told(
     seat: u32,
     number: u32,
 ) -> Result<String, Fail>
-    requires { HasSeen (monitor_of monitors.now seat number) audit.now.entries }
+    requires seen { HasSeen (monitor_of monitors.now seat number) audit.now.entries }
+    requires kept { IfSome (monitor_of monitors.now seat number)
+        (λ m. audit.now.forgotten ≤ m.place) }
 {
     let mut text = String::new(alloc);
     match monitors.updates(seat, number, audit) {
@@ -163,6 +167,10 @@ fn told_both(
 ) -> Result<(String, String), Fail>
     requires first { HasSeen (monitor_of monitors.now first.0 first.1) audit.now.entries }
     requires second { HasSeen (monitor_of monitors.now second.0 second.1) audit.now.entries }
+    requires first_kept { IfSome (monitor_of monitors.now first.0 first.1)
+        (λ m. audit.now.forgotten ≤ m.place) }
+    requires second_kept { IfSome (monitor_of monitors.now second.0 second.1)
+        (λ m. audit.now.forgotten ≤ m.place) }
 {
     Ok((
         told(alloc, monitors, audit, first.0, first.1)?,
