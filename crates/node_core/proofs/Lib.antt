@@ -5,6 +5,7 @@ pub mod Calm
 pub mod Anew
 pub mod StepAnswers
 pub mod Answering
+pub mod HandedOut
 -- lists and places
 pub mod Zipped
 pub mod Found

@@ -1,7 +1,7 @@
 -- What a node keeps after a message, or a part of one, that is accepted.
-use Rattle.node_core.proofs.Words.{Bool, List, None, Some, ap, cond, false, nat_eq, position, refl}
+use Rattle.node_core.proofs.Words.{List, None, Some, ap, cond, false, nat_eq, position, refl}
 use Rattle.node_core.proofs.Words.{set, subst, sym, true, ℕ, [], ◌++◌, ◌==◌, ◌∙◌, ◌≡◌, ◌&&◌}
-use Rattle.node_core.proofs.Words.{option_map_or, eq-eqb, eqb-true, append-nil, kept_climbs, flip}
+use Rattle.node_core.proofs.Words.{option_map_or, eq-eqb, kept_climbs, flip}
 use Rattle.node_core.proofs.Words.{IsChange, always, checks, first_broken, frame_checks, History}
 use Rattle.node_core.proofs.Words.{message_checks, message_owes, Message2, frame_taken, begun}
 use Rattle.node_core.proofs.Words.{begun_after, kept_after}

@@ -1,6 +1,6 @@
 -- What a part makes of its link, which keeps it while its scope hears it.
-use Rattle.node_core.proofs.Words.{Bool, List, None, Some, ap, cond, false, get_or, set, subst, sym}
-use Rattle.node_core.proofs.Words.{true, ℕ, ◌∙◌, ◌≡◌, IsDifference, GroupChange, Pid, Row, count_of}
+use Rattle.node_core.proofs.Words.{Bool, List, None, Some, ap, cond, false, get_or, subst, sym}
+use Rattle.node_core.proofs.Words.{true, ℕ, ◌∙◌, ◌≡◌, IsDifference, GroupChange, Row, count_of}
 use Rattle.node_core.proofs.Words.{first_broken, History, is_full, is_up, frame_taken, early_checks}
 use Rattle.node_core.proofs.Words.{Message2, PartKind, Option, Begun, KeptLink, Running, HasBecome}
 use Rattle.node_core.proofs.Words.{begun_after, begun_with, count_with, heard_with, IsRowFault}

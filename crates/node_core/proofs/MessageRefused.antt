@@ -1,13 +1,13 @@
 -- The rules that a message breaks, by what a node keeps of its link and of its scope.
-use Rattle.node_core.proofs.Words.{lt-leb, All, Bool, List, None, Some, ap, arith, cond, false, length, nat_le, not, refl, subst, sym, true, ℕ, [], ◌&&◌, ◌+◌}
-use Rattle.node_core.proofs.Words.{◌<◌, ◌==◌, ◌||◌, ◌∙◌, ◌≡◌, ◌≤◌, filter, flat_map, list_all, option_map_or, le-leb, same_decides, same_sym, is_empty}
+use Rattle.node_core.proofs.Words.{All, Bool, List, None, Some, ap, arith, cond, false, length, nat_le, not, refl, subst, sym, true, ℕ, [], ◌&&◌, ◌+◌}
+use Rattle.node_core.proofs.Words.{◌==◌, ◌||◌, ◌∙◌, ◌≡◌, filter, flat_map, list_all, option_map_or, same_decides, same_sym, is_empty}
 use Rattle.node_core.proofs.Words.{IsPidListing, same, Pid, Row, all_hold, no_value, unbroken, flip, always, checks, first_broken}
 use Rattle.node_core.proofs.Words.{heard, History, is_open, Message2, PartKind, begun, frame_taken}
-use Rattle.node_core.proofs.Words.{message_checks, peer_limit, so_far, link_version, takes_parts}
+use Rattle.node_core.proofs.Words.{message_checks, peer_limit, so_far, takes_parts}
 use Rattle.node_core.proofs.Words.{is_up, listed, refusal_owes, is_running, AwaitMessage, awaits}
 use Rattle.node_core.proofs.Words.{is_whole, peer_of, Rule, IsCalmFault, refuses_calmly, KeptLink, up_peer, IsRunningOf, is_number, scope_words, IsGroupListing}
 use Rattle.node_core.proofs.Words.{node_total, max_rows, are_counted, rows_of, is_from, members, groups, peer_rows, CoreFault, Running, is_shown, are_of_peer}
-use Rattle.node_core.proofs.Words.{and_parts, scope_in, early_checks, Event, get_or, ◌++◌, ◌∷◌, lie}
+use Rattle.node_core.proofs.Words.{and_parts, scope_in, early_checks, Event, get_or, ◌++◌, ◌∷◌}
 use Rattle.node_core.proofs.Words.{says_in, message_taken, row_limit, Check, IsRowFault, Option}
 use Rattle.node_core.proofs.Words.{table_refusal, Table, rows_so_far, rows_before, Begun, Entry}
 use Rattle.node_core.proofs.Words.{IsPlayed, begun_with, begun_after}

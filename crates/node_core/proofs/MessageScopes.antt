@@ -1,8 +1,8 @@
 -- What each accepted message makes of its scope and of its link.
 use Rattle.node_core.proofs.Words.{said_at, begun, frame_taken, Message2, PartKind, message_checks}
-use Rattle.node_core.proofs.Words.{message_owes, peer_limit, rows_so_far, completed, append-nil}
-use Rattle.node_core.proofs.Words.{Bool, List, arith, length, ◌≤◌, ◌++◌, early_checks}
-use Rattle.node_core.proofs.Words.{up_peer, node_total, max_rows, are_counted, CoreFault}
+use Rattle.node_core.proofs.Words.{message_owes, rows_so_far, completed, append-nil}
+use Rattle.node_core.proofs.Words.{Bool, List, arith, ◌++◌, early_checks}
+use Rattle.node_core.proofs.Words.{up_peer, CoreFault}
 use Rattle.node_core.proofs.Words.{IsCalmFault, None, Some, ap, cond, false, get_or, nat_eq, not, refl, set, subst, sym, true, ℕ}
 use Rattle.node_core.proofs.Words.{[], ◌&&◌, ◌+◌, ◌-◌, ◌==◌, ◌||◌, ◌∙◌, ◌∷◌, ◌≡◌, and-true, eqb-true, same_decides, same_sym, IsDifference, occurrences, same}
 use Rattle.node_core.proofs.Words.{same_row, GroupChange, Pid, Row, count_after_drop, count_of}

@@ -1,7 +1,7 @@
 -- A Discover that ends its link: too many frames would wait for it.
 use Rattle.node_core.proofs.Words.{begun, begun_with, completed, frame_taken, message_checks, said_at}
 use Rattle.node_core.proofs.Words.{frames_to, link_version, local_total, message_owes, Message2}
-use Rattle.node_core.proofs.Words.{option_and_then, said_frames, said_in, suc, sync_frames, zero}
+use Rattle.node_core.proofs.Words.{option_and_then, said_in, suc, sync_frames, zero}
 use Rattle.node_core.proofs.Words.{takes_parts, Row, PartKind, length-map, max_rows, drop}
 use Rattle.node_core.proofs.Words.{arith, ap, refl, subst, sym, ◌∙◌, Bool, List, None, Some, []}
 use Rattle.node_core.proofs.Words.{◌∷◌, ◌≡◌, ◌&&◌, ◌++◌, ◌+◌, ◌==◌, cond, false, true, not, ℕ}

@@ -1,8 +1,8 @@
 -- One scope whose own rows have changed, and the links that are told of it.
-use Rattle.node_core.proofs.Words.{and_parts, facts, frames_to, is_open, is_up, is_whole, link_version}
-use Rattle.node_core.proofs.Words.{first_of, said_in, talk, tells as tells_it, true, unwrap_or, ◌&&◌, ◌==◌}
+use Rattle.node_core.proofs.Words.{and_parts, facts, is_open, is_up, is_whole, link_version}
+use Rattle.node_core.proofs.Words.{first_of, said_in, talk, tells as tells_it, true, unwrap_or, ◌==◌}
 use Rattle.node_core.proofs.Words.{arith, Bool, List, Some, ap, cond, false, get_or, refl, not, set}
-use Rattle.node_core.proofs.Words.{subst, sym, ℕ, [], ◌||◌, ◌∙◌, ◌∷◌, ◌≡◌}
+use Rattle.node_core.proofs.Words.{subst, sym, ℕ, [], ◌||◌, ◌∙◌, ◌≡◌}
 use Rattle.node_core.proofs.Words.{IsDifference, is_empty, same, Pid, Row, Message, count_of, IsChange, if_some, heard, told, History, listed}
 use Rattle.node_core.proofs.Words.{OutFrame, running_scopes, Change, Follows, Parts, KeptLink}
 use Rattle.node_core.proofs.Words.{AreTold, IsMovedBy, IsOwnChange, said_to, IsRunningOf}

@@ -5,7 +5,7 @@ use Rattle.node_core.proofs.Words.{list_any, and_parts, max_rows, local_total, H
 use Rattle.node_core.proofs.Words.{first_of, talk, tells, unwrap_or, is_open, is_up, is_whole}
 use Rattle.node_core.proofs.Words.{is_kept, is_old_told, links, link_version, own_limit, few_local}
 use Rattle.node_core.proofs.Words.{Follows, Parts, IsLinkOf, link_words, KeptLink, is_any_in}
-use Rattle.node_core.proofs.Words.{local_rows, takes, takes_parts, told_limit, own_most, is_number, Running}
+use Rattle.node_core.proofs.Words.{local_rows, takes, told_limit, own_most, is_number, Running}
 use Rattle.node_core.proofs.Words.{IsRunningOf, scope_words, bare, map, waiting, is_empty, ◌||◌}
 use Rattle.policy_audit.proofs.KeptNumbers.{any_reverse}
 use Rattle.node_core.proofs.Found.{any_map}

@@ -1,6 +1,6 @@
 -- Rows of a peer that a table follows, or refuses.
-use Rattle.node_core.proofs.Words.{Bool, List, None, Some, ap, arith, cond, false, length, nat_le}
-use Rattle.node_core.proofs.Words.{refl, true, ℕ, [], ◌+◌, ◌<◌, ◌≡◌, ◌≤◌, lt-leb, le-leb, Pid, Row}
+use Rattle.node_core.proofs.Words.{Bool, List, None, Some, ap, arith, cond, length, nat_le}
+use Rattle.node_core.proofs.Words.{refl, true, ℕ, [], ◌+◌, ◌≡◌, ◌≤◌, lt-leb, le-leb, Pid, Row}
 use Rattle.node_core.proofs.Words.{Table, are_counted, fault_of, node_total, IsChangeIn, IsRowFault}
 use Rattle.node_core.proofs.Words.{Rule}
 use Rattle.scope_core.specs.Calls.{IsAddFault, IsSyncFault, IsTakeFault}

@@ -1,6 +1,6 @@
 -- What a step answers, from what it enters.
 use Rattle.node_core.proofs.Words.{arith, Bool, Err, List, Ok, Result, ap, cond, false, length}
-use Rattle.node_core.proofs.Words.{refl, subst, sym, true, ℕ, [], ◌+◌, ◌∙◌, ◌∷◌, ◌≡◌, ◌<◌}
+use Rattle.node_core.proofs.Words.{refl, subst, sym, true, ℕ, [], ◌+◌, ◌≤◌, ◌∙◌, ◌∷◌, ◌≡◌, ◌<◌}
 use Rattle.node_core.proofs.Words.{checks, first_broken, History, is_full, verdict, with_entry}
 use Rattle.node_core.proofs.Words.{history, Verdict, Accepted, Refused, Event, Reply, judged, after}
 use Rattle.node_core.proofs.Words.{entry_of, CoreFault, Rule, next_is, Opening, Change, Entry}
@@ -10,34 +10,44 @@ use Rattle.node_core.proofs.Words.{is_local, entered, IsLegal, IsLegalIn, IsNext
 use Rattle.std.proofs.lemmas.Bool.Decides.{leb_tells}
 use Rattle.policy_audit.specs.Log.{Log, IsAuditFault}
 use Rattle.policy_audit.specs.declared.audit.AuditFault.{AuditFault}
+use Rattle.group_monitors.specs.Follows.{Reaches}
+use Rattle.group_monitors.proofs.Reached.{reach_after}
 use Rattle.policy_audit.proofs.ScopeChanges.{next_is_after}
 use Rattle.policy_audit.proofs.Losses.{history_opening, legal_next, made_entered, made_legal}
 use Rattle.policy_audit.proofs.Losses.{next_entered, same_opening}
 use Rattle.node_core.proofs.Entered.{seen}
 use Rattle.node_core.specs.Unentered.{unentered}
 use Rattle.node_core.specs.Core.{IsCore}
+use Rattle.node_core.specs.Recorded.{Recorded}
 use Rattle.node_core.specs.Step.{IsStepped, made, one_more, reply_of}
 
 -- ---- a node with these entries
 
+-- of a node's value the history
+pub its_history : {x y : Recorded} → x ≡ y → x.history ≡ y.history
+its_history is = ap (λ node. node.history) is
+
 -- its history has as many entries as its audit, and its opening
-pub core_keeps : {es : List Entry} {limit : ℕ} {kept : Kept} → IsCore kept.opening es limit kept
-    → Keeps (history kept.opening es) kept
-core_keeps {es} {limit} {kept} core = record {
-  opening = sym (history_opening kept.opening es);
-  legal = made_legal kept.opening es core.legal;
+pub core_keeps : {audit : Log} {kept : Kept} → IsCore kept.opening audit kept
+    → Keeps (history kept.opening audit.entries) kept
+core_keeps {audit} {kept} core = record {
+  opening = sym (history_opening kept.opening audit.entries);
+  legal = made_legal kept.opening audit.entries core.legal;
   follows = core.follows;
 }
 
-module _ {o : Opening} {es : List Entry} {limit : ℕ} {kept : Kept} (core : IsCore o es limit kept)
-    {now : History} (is : history o es ≡ now) where
+module _ {o : Opening} {audit : Log} {kept : Kept} (core : IsCore o audit kept)
+    {now : History} (is : history o audit.entries ≡ now) where
+  abbrev es : List Entry
+  es = audit.entries
+
   pub core_count : entered now.entries ≡ length es
   core_count = ap (λ h. entered h.entries) (sym is) ∙ made_entered o es core.legal
 
   pub core_opening : now.opening ≡ o
   core_opening = ap (λ h. h.opening) (sym is) ∙ history_opening o es
 
-  pub core_limit : limit ≡ now.opening.entries
+  pub core_limit : audit.limit ≡ now.opening.entries
   core_limit = core.within ∙ ap (λ x. x.entries) (sym core_opening)
 
   pub core_full : nat_le o.entries (length es) ≡ is_full now
@@ -111,6 +121,21 @@ module _ (o : Opening) (es : List Entry) (legal : IsLegalIn o es) (seat : ℕ) (
   legal_then kept (Err (CoreFault.Refused r)) t = (t.0, legal)
   legal_then kept (Err CoreFault.OutOfMemory) t = legal
 
+  had_then : (answered : Result Answered CoreFault) {forgotten : ℕ} → forgotten ≤ length es
+      → forgotten ≤ length (entries_then answered)
+  had_then (Ok a) had = omega (arith, had)
+  had_then (Err (CoreFault.Refused r)) had = omega (arith, had)
+  had_then (Err CoreFault.OutOfMemory) had = had
+
+  -- what monitors have still to be told stays kept
+  reach_then : (answered : Result Answered CoreFault) {forgotten : ℕ} → forgotten ≤ length es
+      → Reaches forgotten es → Reaches forgotten (entries_then answered)
+  reach_then (Ok a) {forgotten} had reach =
+      reach_after (made h seat e (Accepted a.reply) a.changes.items) es forgotten had reach
+  reach_then (Err (CoreFault.Refused r)) {forgotten} had reach =
+      reach_after (made h seat e (Refused r) []) es forgotten had reach
+  reach_then (Err CoreFault.OutOfMemory) had reach = reach
+
   follows_then : (kept : Kept) (answered : Result Answered CoreFault) → Answers call e kept answered
       → Follows (history o (entries_then answered)) (parts kept)
   unfolding Answers
@@ -147,10 +172,16 @@ module _ (o : Opening) (es : List Entry) (legal : IsLegalIn o es) (seat : ℕ) (
         (in_hand (λ x xs. IsStepped h seat e (history x xs) (reply_of answered))
         (step_then space kept answered t))
 
-    pub core_so : {limit : ℕ} → limit ≡ o.entries → IsCore kept.opening entries limit kept
-    core_so within = record {
+    pub core_so : {limit forgotten : ℕ} {room : Bool} → limit ≡ o.entries
+        → forgotten ≤ length es → Reaches forgotten es
+        → IsCore kept.opening
+        (record { limit = limit; entries = entries; forgotten = forgotten; has_room = room }) kept
+    core_so {limit} {forgotten} within had reach = record {
       within = within ∙ ap (λ x. x.entries) (sym (opening_is kept answered t));
       legal = in_hand IsLegalIn (legal_then kept answered t);
+      had = in_hand (λ x xs. forgotten ≤ length xs) (had_then answered had);
+      reach = in_hand (λ x xs. Reaches forgotten xs)
+          (reach_then answered had reach);
       follows =
           in_hand (λ x xs. Follows (history x xs) (parts kept)) (follows_then kept answered t);
     }

@@ -5,8 +5,8 @@ use Rattle.node_core.proofs.Words.{OutFrame, Follows, IsPlayed, Parts, IsLinkOf,
 use Rattle.node_core.proofs.Words.{LinkWords, LinksFollow, facts, link_words, KeptLink}
 use Rattle.node_core.proofs.Words.{committed, prepared_for, unroomed, with_frames, with_prepared, with_room, is_number, Alike, AreIdle, AreTold, if_among}
 use Rattle.node_core.proofs.Words.{shown_numbers, LinkState, is_shown, bare, ArePrepared}
-use Rattle.node_core.proofs.Words.{cond, lie, takes_parts, ◌==◌, IsSpelled, said_in, takes, Message}
-use Rattle.node_core.proofs.Words.{is_any_in, wide, if_visible}
+use Rattle.node_core.proofs.Words.{cond, lie, takes_parts, ◌==◌, IsSpelled, said_in, Message}
+use Rattle.node_core.proofs.Words.{wide, if_visible}
 use Rattle.node_core.proofs.Words.{None, Option, Begun, broken_off, same, Name, Awaited, Dialled}
 use Rattle.node_core.proofs.Words.{Awaits, IsGiven, IsIntroduced, IsDialled}
 use Rattle.scope_core.proofs.Rising.{all_map, all_mapped, all_unmapped}

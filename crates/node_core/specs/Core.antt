@@ -1,11 +1,11 @@
 -- What a node keeps is what its history says.
-use Rattle.std.specs.Prelude.{◌≡◌, ℕ, ◌≤◌, ◌<◌, ◌^◌, List}
+use Rattle.std.specs.Prelude.{◌≡◌, ℕ, ◌≤◌, ◌<◌, ◌^◌, List, length}
 use Rattle.handshake_frames.specs.Spelling.{IsVersion}
 use Rattle.admission_rules.specs.Admission.{AdmissionRules}
 use Rattle.group_monitors.specs.declared.monitor.Monitor.{Monitor}
-use Rattle.group_monitors.specs.Follows.{FollowsPolicy}
+use Rattle.group_monitors.specs.Follows.{FollowsPolicy, Reaches}
 use Rattle.policy_audit.specs.declared.opening.Opening.{Opening}
-use Rattle.policy_audit.specs.declared.entry.Entry.{Entry}
+use Rattle.policy_audit.specs.Log.{Log}
 use Rattle.policy_audit.specs.History.{History, audit_of, entered}
 use Rattle.policy_audit.specs.Own.{spawned}
 use Rattle.policy_audit.specs.Policy.{IsPlayed, IsLegal, IsLegalIn, history}
@@ -53,10 +53,11 @@ pub record Keeps (h : History) (kept : Kept) : Type 0 where
   pub legal : IsLegal h
   pub follows : Follows h (parts kept)
 
--- a node whose audit has these entries: they are the policy's, as many as it may have,
--- and what is kept follows
-pub record IsCore (opening : Opening) (entries : List Entry) (limit : ℕ)
-    (kept : Kept) : Type 0 where
-  pub within : limit ≡ opening.entries
-  pub legal : IsLegalIn opening entries
-  pub follows : Follows (history opening entries) (parts kept)
+-- a node whose audit has these entries: they are the policy's, as many as it may have, some of the
+-- oldest were handed out, no monitor has still to be told of one of those, and what is kept follows
+pub record IsCore (opening : Opening) (audit : Log) (kept : Kept) : Type 0 where
+  pub within : audit.limit ≡ opening.entries
+  pub legal : IsLegalIn opening audit.entries
+  pub had : audit.forgotten ≤ length audit.entries
+  pub reach : Reaches audit.forgotten audit.entries
+  pub follows : Follows (history opening audit.entries) (parts kept)

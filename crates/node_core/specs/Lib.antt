@@ -6,6 +6,7 @@ pub mod Processes
 pub mod ProcessFacts
 pub mod AdmissionFacts
 pub mod Core
+pub mod Recorded
 pub mod Step
 pub mod Unentered
 pub mod Parting

@@ -75,7 +75,8 @@ impl Answered {
         requires room { audit.old.has_room ≡ true }
         requires space { length audit.old.entries < audit.old.limit }
         ensures entries { audit.new.entries ≡ one_more audit.old.entries seat event (Ok self) }
-        ensures limit { audit.new.limit ≡ audit.old.limit }
+        ensures limit { (audit.new.limit ≡ audit.old.limit)
+            × (audit.new.forgotten ≡ audit.old.forgotten) }
         ensures reply { result ≡ self.reply }
     {
         let Answered {
@@ -102,7 +103,8 @@ pub fn enter(
     requires room { audit.old.has_room ≡ true }
     requires space { length audit.old.entries < audit.old.limit }
     ensures entries { audit.new.entries ≡ one_more audit.old.entries seat event answered }
-    ensures limit { audit.new.limit ≡ audit.old.limit }
+    ensures limit { (audit.new.limit ≡ audit.old.limit)
+        × (audit.new.forgotten ≡ audit.old.forgotten) }
     ensures reply { result ≡ reply_of answered }
 {
     match answered {
@@ -124,7 +126,8 @@ fn reject(alloc: Global, audit: &mut Audit, seat: u32, event: Event, rule: Rule)
     requires space { length audit.old.entries < audit.old.limit }
     ensures entries { audit.new.entries ≡ one_more audit.old.entries seat event
         (Err (faults.Refused rule)) }
-    ensures limit { audit.new.limit ≡ audit.old.limit }
+    ensures limit { (audit.new.limit ≡ audit.old.limit)
+        × (audit.new.forgotten ≡ audit.old.forgotten) }
 {
     let nothing = Changes::of(Vec::new(alloc));
     audit

@@ -1,5 +1,6 @@
 //! What a node keeps beside its audit.
 ghost use Rattle.std.specs.Prelude.{◌≡◌};
+ghost use Rattle.group_monitors.specs.Follows.{Reaches};
 ghost use Rattle.policy_audit.specs.History.{audited};
 ghost use Rattle.node_core.specs.Step.{Call, IsTurn, Answers};
 
@@ -53,6 +54,7 @@ impl Kept {
         ghost call: { Call }
         requires turn { IsTurn call seat number self.old }
         requires audit { audit.now.entries ≡ audited call.past.entries }
+        requires reach { Reaches audit.now.forgotten audit.now.entries }
         ensures { Answers call event.now self.new result }
     {
         match event {

@@ -8,6 +8,7 @@ mod changes;
 mod discovering;
 mod entering;
 mod fault;
+mod forgetting;
 mod frames;
 mod gathering;
 mod handshaking;

@@ -5,6 +5,7 @@ ghost use Rattle.dist_types.specs.Listing.{IsPidListing, IsGroupListing};
 ghost use Rattle.scope_core.specs.Table.{count_of};
 ghost use Rattle.policy_audit.specs.declared.event.Event.TheVariants as events;
 ghost use Rattle.policy_audit.specs.History.{audited};
+ghost use Rattle.group_monitors.specs.Follows.{Reaches};
 ghost use Rattle.node_core.specs.Step.{Call, IsCalled, IsTurn, Answers};
 
 use crate::entering::Answered;
@@ -88,6 +89,7 @@ impl Kept {
         ghost call: { Call }
         requires turn { IsTurn call seat place self.old }
         requires audit { audit.now.entries ≡ audited call.past.entries }
+        requires reach { Reaches audit.now.forgotten audit.now.entries }
         ensures { Answers call (events.Updates number) self.new result }
     {
         let updates = match self.monitors.updates(seat, number, audit) {

@@ -3,6 +3,7 @@ ghost use Rattle.std.specs.Prelude.{◌≡◌, ◌<◌, ◌≤◌, ◌^◌, ℕ,
 ghost use Rattle.dist_types.specs.declared.pid.Pid.{Pid};
 ghost use Rattle.handshake_frames.specs.Spelling.{IsVersion};
 ghost use Rattle.scope_core.specs.Table.{count_of};
+ghost use Rattle.group_monitors.specs.Follows.{Reaches};
 ghost use Rattle.policy_audit.specs.History.{past, creation, audited, entered};
 ghost use Rattle.policy_audit.specs.Own.{is_running};
 ghost use Rattle.policy_audit.specs.Listed.{listed};
@@ -48,23 +49,26 @@ impl fmt::Debug for NodeCore {
 }
 
 impl Model for NodeCore {
-    ghost use Rattle.policy_audit.specs.History.{History};
     ghost use Rattle.policy_audit.specs.Policy.{history};
     ghost use Rattle.node_core.specs.Core.{IsCore};
+    ghost use Rattle.node_core.specs.Recorded.{Recorded};
 
-    ghost Value = { History };
+    ghost Value = { Recorded };
 
-    ghost view = { λ core. history core.kept.opening core.audit.entries };
+    ghost view = { λ core. record {
+      history = history core.kept.opening core.audit.entries;
+      forgotten = core.audit.forgotten;
+    } };
 
-    ghost invariant = { λ core. IsCore core.kept.opening core.audit.entries core.audit.limit
-        core.kept };
+    ghost invariant = { λ core. IsCore core.kept.opening core.audit core.kept };
 }
 
 impl NodeCore {
     /// A node that has seen nothing. `BadLimit` where the opening allows no entry, and else
     /// `BadLinks` where its version of link messages is neither 1 nor 2.
     pub fn new(alloc: Global, opening: Opening) -> Result<NodeCore, OpenFault>
-        ensures ok { IfOk result (λ core. core ≡ past opening []) }
+        ensures ok { IfOk result (λ core.
+            core ≡ record { history = past opening []; forgotten = 0 }) }
         ensures refused { IfErr result (λ fault. IsOpenFault fault opening) }
         ensures limit { OnOk result (0 < opening.entries) }
         ensures links { OnOk result (IsVersion opening.links) }
@@ -89,53 +93,57 @@ impl NodeCore {
         Ok(NodeCore { audit, kept })
     }
 
-    /// All entries so far, refusals among them.
+    /// All entries so far, refusals among them. Those that were handed out are known to contracts
+    /// alone.
     pub fn audit(&self) -> &Audit
-        ensures entries { result.now.entries ≡ audited self.now.entries }
-        ensures count { length result.now.entries ≡ entered self.now.entries }
-        ensures limit { result.now.limit ≡ self.now.opening.entries }
-        ensures legal { IsLegal self.now }
-        ensures few { entered self.now.entries ≤ self.now.opening.entries }
-        ensures fits { self.now.opening.entries < 2 ^ 32 }
-        ensures links { IsVersion self.now.opening.links }
+        ensures entries { result.now.entries ≡ audited self.now.history.entries }
+        ensures count { length result.now.entries ≡ entered self.now.history.entries }
+        ensures limit { result.now.limit ≡ self.now.history.opening.entries }
+        ensures forgotten { result.now.forgotten ≡ self.now.forgotten }
+        ensures had { self.now.forgotten ≤ entered self.now.history.entries }
+        ensures reach { Reaches self.now.forgotten (audited self.now.history.entries) }
+        ensures legal { IsLegal self.now.history }
+        ensures few { entered self.now.history.entries ≤ self.now.history.opening.entries }
+        ensures fits { self.now.history.opening.entries < 2 ^ 32 }
+        ensures links { IsVersion self.now.history.opening.links }
     {
         &self.audit
     }
 
     /// Whether the audit has as many entries as it may have.
     pub fn is_full(&self) -> bool
-        ensures { result ≡ is_full self.now }
+        ensures { result ≡ is_full self.now.history }
     {
         self.audit.len() >= self.kept.opening.entries as usize
     }
 
     /// The number of the next entry.
     fn next_number(&self) -> u32
-        requires { is_full self.now ≡ false }
-        ensures { result ≡ next_number self.now }
+        requires { is_full self.now.history ≡ false }
+        ensures { result ≡ next_number self.now.history }
     {
         self.audit.len() as u32 + 1
     }
 
     /// The creation of the node, which its processes and its frames carry.
     pub fn creation(&self) -> u32
-        ensures { result ≡ creation self.now }
+        ensures { result ≡ creation self.now.history }
     {
         self.kept.admission.creation()
     }
 
     /// The node's own name.
     pub fn name(&self) -> &NodeName
-        ensures { result.now ≡ self.now.opening.name }
+        ensures { result.now ≡ self.now.history.opening.name }
     {
         &self.kept.opening.name
     }
 
     /// The table of a scope, if it runs. It is of this node, and counts what is listed.
     pub fn table(&self, scope: &Scope) -> Option<&ScopeTable>
-        ensures runs { is_some result ≡ is_running self.now scope.now }
-        ensures own { IfSome result (λ table. table.now.own ≡ self.now.opening.name) }
-        ensures listed { IfSome result (λ table. (g : List ℕ) (p : Pid) → count_of table.now g p ≡ listed self.now scope.now g p) }
+        ensures runs { is_some result ≡ is_running self.now.history scope.now }
+        ensures own { IfSome result (λ table. table.now.own ≡ self.now.history.opening.name) }
+        ensures listed { IfSome result (λ table. (g : List ℕ) (p : Pid) → count_of table.now g p ≡ listed self.now.history scope.now g p) }
     {
         Some(&self.running(scope)?.table)
     }
@@ -144,7 +152,7 @@ impl NodeCore {
     /// frames that waited when a refused frame of its own ended it.
     pub fn waiting(&self, link: u32) -> Option<usize>
         ensures waiting { result
-            ≡ cond (is_kept self.now link) (Some (length (waiting self.now link))) None }
+            ≡ cond (is_kept self.now.history link) (Some (length (waiting self.now.history link))) None }
         ensures few { IfSome result (λ n. n ≤ max_waiting) }
     {
         let place = place_of(&self.kept.links, link)?;
@@ -161,7 +169,8 @@ impl NodeCore {
     /// Answers an event of a seat by the written policy, and enters it with what it changed. `Refused` names the first rule
     /// that the event breaks; that is an entry, too, unless the audit is full. After `OutOfMemory` nothing has happened.
     pub fn step(&mut self, seat: u32, event: Event) -> Result<Reply, CoreFault>
-        ensures { IsStepped self.old seat event self.new result }
+        ensures stepped { IsStepped self.old.history seat event self.new.history result }
+        ensures forgotten { self.new.forgotten ≡ self.old.forgotten }
     {
         if let Err(fault) = self.audit.make_room() {
             // By name, so that a check follows the end of an event once, for its type.

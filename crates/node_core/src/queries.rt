@@ -31,16 +31,16 @@ pub enum Query<'a> {
 impl NodeCore {
     /// The scope, if it runs.
     pub(crate) fn running(&self, scope: &Scope) -> Option<&Running>
-        ensures found { IfSome result (λ r. (r.now.scope ≡ scope.now) × IsRunningOf (scope_words self.now) r.now × (is_running self.now scope.now ≡ true)) }
-        ensures none { IfNone result (is_running self.now scope.now ≡ false) }
-        ensures legal { IsLegal self.now }
+        ensures found { IfSome result (λ r. (r.now.scope ≡ scope.now) × IsRunningOf (scope_words self.now.history) r.now × (is_running self.now.history scope.now ≡ true)) }
+        ensures none { IfNone result (is_running self.now.history scope.now ≡ false) }
+        ensures legal { IsLegal self.now.history }
     {
         find(&self.kept.scopes, scope)
     }
 
     /// Answers a query as `step` would now, with no entry: a full audit doesn't stop it.
     pub fn look(&self, scope: &Scope, query: Query<'_>) -> Result<Reply, CoreFault>
-        ensures { IsAnswer self.now (event_of scope.now query.entry) result }
+        ensures { IsAnswer self.now.history (event_of scope.now query.entry) result }
     {
         let Some(running) = self.running(scope) else {
             return Err(CoreFault::Refused(Rule::NoScope));

@@ -1,4 +1,4 @@
-use Rattle.node_core.proofs.Words.{ap, arith, get_or_default, length, map, sym, [], ◌<◌, ◌∙◌}
+use Rattle.node_core.proofs.Words.{ap, arith, get_or_default, length, sym, [], ◌<◌, ◌∙◌}
 use Rattle.node_core.proofs.Words.{KeptLink, prepared_for, subst, takes_parts, unroomed, ◌++◌}
 use Rattle.node_core.proofs.Words.{with_prepared, with_room}
 use Rattle.std.proofs.Math.Seq.{map-set_same}

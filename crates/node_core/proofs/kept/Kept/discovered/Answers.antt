@@ -1,4 +1,4 @@
-use Rattle.node_core.proofs.Words.{refl, ◌∙◌, can_be_told, Rule, false, true, sym}
+use Rattle.node_core.proofs.Words.{refl, ◌∙◌, Rule, sym}
 use Rattle.node_core.proofs.Answering.{accepts_alone, accepts_ending, refuses, wanted}
 use Rattle.node_core.proofs.MessageRefused.{calm}
 use Rattle.node_core.proofs.MessageRoom.{roomed_links, same_scope, follows_with, answered_now}

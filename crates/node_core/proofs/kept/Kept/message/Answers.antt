@@ -1,4 +1,4 @@
-use Rattle.node_core.proofs.Words.{None, Some, refl, sym, ◌∙◌, ◌≡◌, checks, first_broken, early_checks}
+use Rattle.node_core.proofs.Words.{Some, refl, sym, ◌∙◌, ◌≡◌, checks, first_broken, early_checks}
 use Rattle.node_core.proofs.Words.{frame_taken, scope_in, Event, Rule}
 use Rattle.policy_audit.specs.Sides.{is_visible}
 use Rattle.node_core.specs.Messages.{refusal}

@@ -4,6 +4,7 @@ use Rattle.node_core.proofs.Words.{Event, Reply, Rule, with_place}
 use Rattle.group_monitors.specs.declared.monitor.Monitor.{Monitor}
 use Rattle.group_monitors.specs.Monitors.{monitor_of, updates_behind}
 use Rattle.group_monitors.proofs.FromPolicy.{follows_refused, follows_seen, follows_told}
+use Rattle.group_monitors.proofs.Reached.{reach_found}
 use Rattle.node_core.proofs.Answering.{accepts, refuses}
 use Rattle.node_core.proofs.Calm.{entered}
 use Rattle.node_core.proofs.Entered.{audit_next}
@@ -19,8 +20,18 @@ told_one : {A : Type 0} (f : Monitor → A) (found : Option Monitor) (a : A) →
 told_one f None a is = no_value (sym is)
 told_one f (Some m) a is = refl
 
-pub updates-requires : goal.updates-requires
-updates-requires g c = rw c.requires.1 (follows_seen g.call.past c.args.self.now.monitors c.requires.0.called.keeps.follows.monitors c.args.seat c.args.number)
+pub updates-requires-clause-kept : goal.updates-requires-clause-kept
+updates-requires-clause-kept g c =
+    let reached = reach_found (audit_of g.call.past) c.args.self.now.monitors
+    c.requires.0.called.keeps.follows.monitors c.args.audit.now.forgotten
+    (rw c.requires.1.0 at c.requires.1.1) c.args.seat c.args.number in
+    grind (arith, reached)
+
+pub updates-requires-clause-seen : goal.updates-requires-clause-seen
+updates-requires-clause-seen g c =
+    rw c.requires.1.0
+    (follows_seen g.call.past c.args.self.now.monitors
+    c.requires.0.called.keeps.follows.monitors c.args.seat c.args.number)
 
 pub returns-in-Err-NoMonitor : goal.returns-in-Err-NoMonitor
 returns-in-Err-NoMonitor g c = refuses c.requires.0.called _ Rule.NoMonitor
@@ -31,7 +42,7 @@ returns g c =
     let h = g.call.past in
     let t = c.requires.0.called.keeps.follows in
     let monitors = c.args.self.now.monitors in
-    let behind = rw (c.requires.1, c.requires.0.seat_is) at c.in-Ok.ensures.ok in
+    let behind = rw (c.requires.1.0, c.requires.0.seat_is) at c.in-Ok.ensures.ok in
     let told = follows_told h monitors t.monitors g.call.seat c.args.number c.in-Ok.updates behind in
     let some = told_one (updates_behind (audited h.entries))
     (monitor_of monitors g.call.seat c.args.number) c.in-Ok.updates behind in

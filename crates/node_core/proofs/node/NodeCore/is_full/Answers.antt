@@ -1,7 +1,7 @@
 use Rattle.node_core.proofs.Words.{ap, nat_le, ◌∙◌}
-use Rattle.node_core.proofs.StepAnswers.{core_full}
+use Rattle.node_core.proofs.StepAnswers.{core_full, its_history}
 use Rattle.node_core.proofs.node.NodeCore.is_full.Goals as goal
 
 pub returns : goal.returns
 returns c = ap (nat_le c.self.inside.kept.opening.entries) c.len.ensures
-    ∙ core_full c.self.invariant c.self.view_is
+    ∙ core_full c.self.invariant (its_history c.self.view_is)

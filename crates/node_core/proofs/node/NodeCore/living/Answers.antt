@@ -1,19 +1,20 @@
 use Rattle.node_core.proofs.Words.{arith, false, lives_of, sym, ◌∙◌, ◌≡◌, is_local}
 use Rattle.node_core.proofs.Entered.{seen}
-use Rattle.node_core.proofs.StepAnswers.{core_local}
+use Rattle.node_core.proofs.StepAnswers.{core_local, its_history}
 use Rattle.node_core.proofs.node.NodeCore.living.Goals as goal
 
 pub returns-then-is_local : goal.returns-then-is_local
 returns-then-is_local c =
-    let local = sym (core_local c.self.invariant c.self.view_is c.args.pid.now)
+    let local = sym (core_local c.self.invariant (its_history c.self.view_is) c.args.pid.now)
     ∙ sym c.is_local.ensures ∙ c.if-is_local.true in
+    let now = its_history c.self.view_is in
     c.is_live.ensures
-    ∙ (seen c.self.view_is c.self.invariant.follows).processes.live c.args.pid.now.number
-    ∙ sym (lives_of c.args.self.now c.args.pid.now local)
+    ∙ (seen now c.self.invariant.follows).processes.live c.args.pid.now.number
+    ∙ sym (lives_of c.args.self.now.history c.args.pid.now local)
 
 pub returns-else-is_local : goal.returns-else-is_local
 returns-else-is_local c =
-    let foreign : is_local c.args.self.now c.args.pid.now ≡ false =
-    sym (core_local c.self.invariant c.self.view_is c.args.pid.now) ∙ sym c.is_local.ensures
-    ∙ c.if-is_local.false in
+    let foreign : is_local c.args.self.now.history c.args.pid.now ≡ false =
+    sym (core_local c.self.invariant (its_history c.self.view_is) c.args.pid.now)
+    ∙ sym c.is_local.ensures ∙ c.if-is_local.false in
     grind (arith, foreign, c.if-is_local.false)

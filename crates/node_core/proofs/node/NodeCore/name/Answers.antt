@@ -1,6 +1,6 @@
 use Rattle.node_core.proofs.Words.{ap, sym}
-use Rattle.node_core.proofs.StepAnswers.{core_opening}
+use Rattle.node_core.proofs.StepAnswers.{core_opening, its_history}
 use Rattle.node_core.proofs.node.NodeCore.name.Goals as goal
 
 pub returns : goal.returns
-returns c = ap (λ o. o.name) (sym (core_opening c.self.invariant c.self.view_is))
+returns c = ap (λ o. o.name) (sym (core_opening c.self.invariant (its_history c.self.view_is)))

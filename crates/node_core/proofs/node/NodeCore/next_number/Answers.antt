@@ -1,10 +1,10 @@
 use Rattle.node_core.proofs.Words.{ap, arith, sym, ◌+◌, ◌<◌, ◌∙◌, ◌^◌}
-use Rattle.node_core.proofs.StepAnswers.{core_count, core_space}
+use Rattle.node_core.proofs.StepAnswers.{core_count, core_space, its_history}
 use Rattle.node_core.proofs.node.NodeCore.next_number.Goals as goal
 use Rattle.node_core.proofs.node.NodeCore.next_number.Goals.{After-len}
 
 few : (c : After-len) → c.len.result + 1 < 2 ^ 32
-few c = let space = core_space c.self.invariant c.self.view_is c.requires in
+few c = let space = core_space c.self.invariant (its_history c.self.view_is) c.requires in
     let is = c.len.ensures in omega (arith, space, is)
 
 pub overflow_cast-result : goal.overflow_cast-result
@@ -14,4 +14,6 @@ pub overflow_add-result : goal.overflow_add-result
 overflow_add-result c = let fits = few c in omega (arith, fits)
 
 pub returns : goal.returns
-returns c = ap (λ n. n + 1) (c.len.ensures ∙ sym (core_count c.self.invariant c.self.view_is))
+returns c =
+    let count = core_count c.self.invariant (its_history c.self.view_is) in
+    ap (λ n. n + 1) (c.len.ensures ∙ sym count)

@@ -1,20 +1,32 @@
-use Rattle.node_core.proofs.Words.{ap, refl, subst, sym, ◌∙◌, ◌≡◌, is_full, history, false}
+use Rattle.node_core.proofs.Words.{ap, refl, sym, ◌∙◌, ◌≡◌, is_full, history, false, Bool, Opening, Kept}
+use Rattle.policy_audit.specs.Log.{Log}
 use Rattle.policy_audit.proofs.Losses.{made_audited}
 use Rattle.node_core.specs.Core.{IsCore}
 use Rattle.node_core.proofs.StepAnswers.{core_count, core_keeps, core_limit, not_full}
-use Rattle.node_core.proofs.StepAnswers.{unentered_step, step_so, core_so}
+use Rattle.node_core.proofs.StepAnswers.{unentered_step, step_so, core_so, its_history}
 use Rattle.node_core.proofs.Searched.{scopes_ascend}
 use Rattle.node_core.proofs.node.NodeCore.step.Goals as goal
 use Rattle.node_core.proofs.node.NodeCore.step.Goals.{In_default}
 
+roomy : {o : Opening} {audit : Log} {kept : Kept} {room : Bool} → IsCore o audit kept
+    → IsCore o (record {
+      limit = audit.limit;
+      entries = audit.entries;
+      forgotten = audit.forgotten;
+      has_room = room;
+    }) kept
+roomy core = record {
+  within = core.within;
+  legal = core.legal;
+  had = core.had;
+  reach = core.reach;
+  follows = core.follows;
+}
+
 -- room leaves the entries as they are
 core : (c : In_default)
-    → IsCore c.self.inside.kept.opening c.make_room.new.self.entries c.self.inside.audit.limit
-    c.self.inside.kept
-core c =
-    subst (λ a. IsCore c.self.inside.kept.opening a.entries c.self.inside.audit.limit
-    c.self.inside.kept)
-    (sym c.in_default.ensures.ok.1) c.self.invariant
+    → IsCore c.self.inside.kept.opening c.make_room.new.self c.self.inside.kept
+core c = rw c.in_default.ensures.ok.1 (roomy c.self.invariant)
 
 -- so the history stays, which isn't full
 same : (c : In_default)
@@ -29,13 +41,17 @@ space c =
     (core_count c.self.invariant (same c)) (core_limit c.self.invariant (same c))
     c.in_default.ensures.ok.0
 
-pub returns-in-Err : goal.returns-in-Err
-returns-in-Err c =
-    let now = c.self.view_is in
+pub returns-in-Err-clause-stepped : goal.returns-in-Err-clause-stepped
+returns-in-Err-clause-stepped c =
+    let now = its_history c.self.view_is in
     rw c.from.ensures
     (unentered_step _ (core_count c.self.invariant now) (core_limit c.self.invariant now)
     (ap (λ a. history c.self.inside.kept.opening a.entries) c.in-Err.ensures.same ∙ now)
     c.args.seat c.args.event c.in-Err.fault c.in-Err.ensures.refused)
+
+pub returns-in-Err-clause-forgotten : goal.returns-in-Err-clause-forgotten
+returns-in-Err-clause-forgotten c =
+    ap (λ a. a.forgotten) c.in-Err.ensures.same ∙ ap (λ node. node.forgotten) c.self.view_is
 
 pub next_number-number-requires : goal.next_number-number-requires
 next_number-number-requires c = space c
@@ -51,8 +67,11 @@ answer-answered-requires c =
         seat_is = refl;
         number_is = c.next_number-number.ensures;
       },
-      sym (made_audited c.self.inside.kept.opening c.make_room.new.self.entries
-          (core entered).legal),
+      (
+        sym (made_audited c.self.inside.kept.opening c.make_room.new.self.entries
+            (core entered).legal),
+        (core entered).reach,
+      ),
     )
 
 pub invariant_of-self-3 : goal.invariant_of-self-3
@@ -61,13 +80,21 @@ invariant_of-self-3 c =
     core_so c.self.inside.kept.opening _ (core entered).legal c.args.seat c.shared-event.result
     c.answer-answered.new.self
     c.answer-answered.result c.answer-answered.ensures c.enter.ensures.entries
-    (c.enter.ensures.limit ∙ ap (λ a. a.limit) c.in_default.ensures.ok.1 ∙ c.self.invariant.within)
+    (c.enter.ensures.limit.0 ∙ ap (λ a. a.limit) c.in_default.ensures.ok.1
+    ∙ c.self.invariant.within)
+    (rw c.enter.ensures.limit.1 (core entered).had)
+    (rw c.enter.ensures.limit.1 (core entered).reach)
 
-pub returns : goal.returns
-returns c =
-    let entered = (goal.at.returns c).In_default in
+pub returns-clause-stepped : goal.returns-clause-stepped
+returns-clause-stepped c =
+    let entered = (goal.at.returns-clause-stepped c).In_default in
     step_so c.self.inside.kept.opening _ (core entered).legal c.args.seat c.shared-event.result
     c.answer-answered.new.self
     c.answer-answered.result c.answer-answered.ensures c.enter.ensures.entries
-    (space entered) (sym (same entered) ∙ c.self.view_is) c.shared-event.ensures
+    (space entered) (sym (same entered) ∙ its_history c.self.view_is) c.shared-event.ensures
     c.enter.ensures.reply
+
+pub returns-clause-forgotten : goal.returns-clause-forgotten
+returns-clause-forgotten c =
+    c.enter.ensures.limit.1 ∙ ap (λ a. a.forgotten) c.in_default.ensures.ok.1
+    ∙ ap (λ node. node.forgotten) c.self.view_is

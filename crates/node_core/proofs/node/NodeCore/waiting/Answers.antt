@@ -6,18 +6,19 @@ use Rattle.policy_audit.proofs.Silent.{all_few}
 use Rattle.node_core.proofs.Entered.{seen}
 use Rattle.node_core.proofs.MessagePlaces.{waits_none, waits_some}
 use Rattle.node_core.proofs.Searched.{links_in_order}
+use Rattle.node_core.proofs.StepAnswers.{its_history}
 use Rattle.node_core.proofs.node.NodeCore.waiting.Goals as goal
 
 pub returns-in_err-place-clause-waiting : goal.returns-in_err-place-clause-waiting
 returns-in_err-place-clause-waiting c =
     c.from_residual.ensures
-    ∙ waits_none (seen c.self.view_is c.self.invariant.follows) c.args.link
+    ∙ waits_none (seen (its_history c.self.view_is) c.self.invariant.follows) c.args.link
     (rw c.deref.ensures.value at (sym c.in_err-place.ensures))
 
 pub returns-clause-waiting : goal.returns-clause-waiting
 returns-clause-waiting c =
     ap (λ fs. Some (length fs)) c.frames.ensures
-    ∙ waits_some (seen c.self.view_is c.self.invariant.follows) c.args.link
+    ∙ waits_some (seen (its_history c.self.view_is) c.self.invariant.follows) c.args.link
     (rw c.deref.ensures.value at (sym c.in_ok-place.ensures)) c.index.ensures
 
 -- as many as wait
@@ -26,10 +27,11 @@ few b n m is most = grind (arith, is, most)
 
 pub returns-clause-few : goal.returns-clause-few
 returns-clause-few c =
-    few (is_kept c.args.self.now c.args.link) _ (length (waiting c.args.self.now c.args.link))
+    let h = c.args.self.now.history in
+    few (is_kept h c.args.link) _ (length (waiting h c.args.link))
     (returns-clause-waiting c)
-    (all_few c.args.self.now
-    (subst IsLegal c.self.view_is
+    (all_few c.args.self.now.history
+    (subst IsLegal (its_history c.self.view_is)
     (made_legal c.self.inside.kept.opening c.self.inside.audit.entries c.self.invariant.legal))
     c.args.link)
 
