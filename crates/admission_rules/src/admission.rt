@@ -1,6 +1,7 @@
 //! The rules by which a node admits its peers (Erlang manual, `erlang:set_cookie`; Kernel manual, `net_kernel:allow`).
 ghost use Rattle.std.specs.Prelude.{◌≡◌, ◌↔◌, ◌≤◌, length, slice_get, IsTrue, OnOk, IfErr, OnErr, IsBitSet, false, []};
-ghost use Rattle.std.specs.Option.{option_copied};
+ghost use Rattle.std.specs.Option.{option_copied, option_map};
+ghost use Rattle.std.specs.Map.Iter.{deref_pair};
 ghost use Rattle.handshake_frames.specs.Spelling.{IsVersion};
 ghost use Rattle.admission_rules.specs.Admission.{max_peers, max_allowed, cookie_of, with_cookie_for, with_allowed, IsAllowed};
 ghost use Rattle.admission_rules.specs.Fault.{IsCookieFault, IsAllowFault};
@@ -117,6 +118,15 @@ impl Admission {
         ensures { result.now ≡ cookie_of self.now node.now }
     {
         self.peers.get(node).unwrap_or(&self.cookie)
+    }
+
+    /// The peer at an index among those with a cookie of their own, and its cookie, in the order in
+    /// which they first got one.
+    pub fn peer(&self, index: usize) -> Option<(&NodeName, &Cookie)>
+        ensures value { option_map deref_pair result ≡ slice_get self.now.peers index }
+        ensures limits { length self.now.peers ≤ max_peers }
+    {
+        self.peers.get_index(index)
     }
 
     /// Whether a peer of this name may connect. The bytes may be any.

@@ -18,6 +18,13 @@ impl ScopeTable {
         Ok(pids)
     }
 
+    /// How often a process is in a group.
+    pub fn count(&self, group: &Group, pid: &Pid) -> usize
+        ensures { result ≡ count_of self.now group.now pid.now }
+    {
+        self.rows.count(group, pid) as usize
+    }
+
     /// The processes of a group, in a list that is made once for all who ask until the group changes.
     pub fn listing(&mut self, group: &Group) -> Result<Shared<Pid>, OutOfMemory>
         ensures value { IfOk result (λ pids. IsPidListing (count_of self.old group.now) pids) }
