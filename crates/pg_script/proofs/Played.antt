@@ -11,23 +11,29 @@ use Rattle.policy_audit.specs.declared.opening.Opening.{Opening}
 use Rattle.pg_script.specs.Playing.{Playing, opened_with}
 use Rattle.pg_text.specs.Answers.{fault_line}
 use Rattle.pg_text.specs.Lines.{lines_of}
-use Rattle.pg_script.specs.Transcript.{text_from, fault_in, fault_from, line_text, line_left}
-use Rattle.pg_script.specs.Transcript.{is_fault, owed_line}
+use Rattle.pg_script.specs.Transcript.{text_by, fault_in, fault_from, is_fault}
 use Rattle.pg_script.specs.declared.script.RunFault.{RunFault}
 use Rattle.pg_script.specs.declared.script.RunFault.TheVariants as faults
-use Rattle.pg_script.specs.Runs.{Writes, Begins, RunsAs}
+use Rattle.pg_script.specs.Runs.{Writes, Begins, Ends}
 use Rattle.pg_text.proofs.LineLemmas.{lines_step}
 
 -- the writer holds the answers to the lines before line k, and what is left of the script gives the
--- others
-pub record Played (o : Opening) (script : List ℕ) (old holds : Option (List ℕ)) (now : Playing)
-    (k : ℕ) (rest : List ℕ) : Type 0 where
-  pub past : List Bool
+-- others, where a line that is met so is answered by `text` and leaves what `left` says
+pub record Played {M : Type 0} (usual : M) (text : M → Playing → List ℕ → List ℕ)
+    (left : M → Playing → List ℕ → Playing) (o : Opening) (script : List ℕ)
+    (old holds : Option (List ℕ)) (now : Playing) (k : ℕ) (rest : List ℕ) : Type 0 where
+  pub past : List M
   pub written : List ℕ
   pub appended : Appends old holds written
-  pub whole : (later : List Bool) → text_from (past ++ later) (opened_with o) 1 (lines_of
-      script) ≡ written ++ text_from later now k (lines_of rest)
+  pub whole : (later : List M) → text_by usual text left (past ++ later) (opened_with o) 1 (lines_of
+      script) ≡ written ++ text_by usual text left later now k (lines_of rest)
   pub fault : fault_in script ≡ fault_from k (lines_of rest)
+
+-- the text of a script whose lines are met so
+abbrev pub whole_text : {M : Type 0} → M → (M → Playing → List ℕ → List ℕ)
+    → (M → Playing → List ℕ → Playing) → Opening → List ℕ → List M → List ℕ
+whole_text usual text left o script met =
+    text_by usual text left met (opened_with o) 1 (lines_of script)
 
 -- bytes that are added twice are added together
 appends_then : (u v w : Option (List ℕ)) (a b : List ℕ) → Appends u v a → Appends v w b
@@ -62,9 +68,10 @@ pub appends_none : (u : Option (List ℕ)) → Appends u u []
 appends_none None = tt
 appends_none (Some xs) = sym (append-nil xs)
 
-pub played_start : (o : Opening) (script : List ℕ) (old : Option (List ℕ))
-    → Played o script old old (opened_with o) 1 script
-played_start o script old = record {
+pub played_start : {M : Type 0} (usual : M) (text : M → Playing → List ℕ → List ℕ)
+    (left : M → Playing → List ℕ → Playing) (o : Opening) (script : List ℕ)
+    (old : Option (List ℕ)) → Played usual text left o script old old (opened_with o) 1 script
+played_start usual text left o script old = record {
   past = [];
   written = [];
   appended = appends_none old;
@@ -95,94 +102,101 @@ cond_append : (b : Bool) (x y z : List ℕ) → cond b x (y ++ z) ≡ cond b x y
 cond_append true x y z = sym (append-nil x)
 cond_append false x y z = refl
 
-module _ {o : Opening} {k : ℕ} {script rest line : List ℕ} {old holds : Option (List ℕ)}
-    {now : Playing} (p : Played o script old holds now k rest) where
+module _ {M : Type 0} {usual : M} {text : M → Playing → List ℕ → List ℕ}
+    {left : M → Playing → List ℕ → Playing} {o : Opening} {k : ℕ} {script rest line : List ℕ}
+    {old holds : Option (List ℕ)} {now : Playing}
+    (p : Played usual text left o script old holds now k rest) where
   -- a line that was answered
-  pub played_next : {next : Playing} {then : Option (List ℕ)} (bytes : List ℕ) (lacks : Bool)
+  pub played_next : {next : Playing} {then : Option (List ℕ)} (bytes : List ℕ) (m : M)
       → 0 < length rest → line ≡ strip_last 10 (take_through 10 rest) → is_fault line ≡ false
-      → bytes ≡ line_text lacks now line → next ≡ line_left lacks now line
-      → Appends holds then bytes → Played o script old then next (k + 1) (drop_through 10 rest)
-  played_next {next} {then} bytes lacks some is sound said left sent = record {
-    past = p.past ++ lacks ∷ [];
+      → bytes ≡ text m now line → next ≡ left m now line → Appends holds then bytes
+      → Played usual text left o script old then next (k + 1) (drop_through 10 rest)
+  played_next {next} {then} bytes m some is sound said leaves sent = record {
+    past = p.past ++ m ∷ [];
     written = p.written ++ bytes;
     appended = appends_then old holds then p.written bytes p.appended sent;
     whole = λ later.
-        ap (λ (l : List Bool). text_from l (opened_with o) 1 (lines_of script))
-        (append_assoc p.past (lacks ∷ []) later)
-        ∙ p.whole (lacks ∷ later)
+        ap (λ (l : List M). text_by usual text left l (opened_with o) 1 (lines_of script))
+        (append_assoc p.past (m ∷ []) later)
+        ∙ p.whole (m ∷ later)
         ∙ ap (λ (t : List ℕ). p.written ++ t) (step later)
         ∙ sym (append_assoc p.written bytes
-        (text_from later next (k + 1) (lines_of (drop_through 10 rest))));
+        (text_by usual text left later next (k + 1) (lines_of (drop_through 10 rest))));
     fault = p.fault ∙ ap (fault_from k) (first_line rest some is) ∙ rw sound refl;
   }
     where
-      step : (later : List Bool)
-          → text_from (lacks ∷ later) now k (lines_of rest) ≡ bytes ++ text_from later next (k + 1)
-          (lines_of (drop_through 10 rest))
-      step later = ap (text_from (lacks ∷ later) now k) (first_line rest some is)
-          ∙ rw (sound, said, left) refl
+      step : (later : List M)
+          → text_by usual text left (m ∷ later) now k (lines_of rest)
+          ≡ bytes ++ text_by usual text left later next (k + 1) (lines_of (drop_through 10 rest))
+      step later = ap (text_by usual text left (m ∷ later) now k) (first_line rest some is)
+          ∙ rw (sound, said, leaves) refl
 
   -- a line that can't be read ends the text
   pub played_fault : {then : Option (List ℕ)} → 0 < length rest
       → line ≡ strip_last 10 (take_through 10 rest) → is_fault line ≡ true
-      → Appends holds then (fault_line k) → (fault_in script ≡ Some k) × Writes o script old then
+      → Appends holds then (fault_line k)
+      → (fault_in script ≡ Some k) × Writes (whole_text usual text left o script) old then
   played_fault {then} some is bad sent = (
     p.fault ∙ ap (fault_from k) (first_line rest some is) ∙ rw bad refl,
     record {
-      lacking = p.past ++ [];
+      met = p.past ++ [];
       appended = rw (p.whole [] ∙ ap (λ (t : List ℕ). p.written ++ t) last)
           (appends_then old holds then p.written (fault_line k) p.appended sent);
     },
   )
     where
-      last : text_from [] now k (lines_of rest) ≡ fault_line k
-      last = ap (text_from [] now k) (first_line rest some is) ∙ rw bad refl
+      last : text_by usual text left [] now k (lines_of rest) ≡ fault_line k
+      last = ap (text_by usual text left [] now k) (first_line rest some is) ∙ rw bad refl
 
   -- a beginning of what the line is owed is a beginning of the text
-  pub played_begun : {then : Option (List ℕ)} (lacks : Bool) (n : ℕ) → 0 < length rest
+  pub played_begun : {then : Option (List ℕ)} (m : M) (n : ℕ) → 0 < length rest
       → line ≡ strip_last 10 (take_through 10 rest)
-      → Appends holds then (take n (owed_line lacks now k line)) → Begins o script old then
-  played_begun {then} lacks n some is sent = record {
-    lacking = p.past ++ lacks ∷ [];
+      → Appends holds then (take n (cond (is_fault line) (fault_line k) (text m now line)))
+      → Begins (whole_text usual text left o script) old then
+  played_begun {then} m n some is sent = record {
+    met = p.past ++ m ∷ [];
     written = p.written ++ take n owed;
     unwritten = drop n owed ++ others;
-    parts = p.whole (lacks ∷ []) ∙ ap (λ (t : List ℕ). p.written ++ t) step ∙ cut_second p.written
+    parts = p.whole (m ∷ []) ∙ ap (λ (t : List ℕ). p.written ++ t) step ∙ cut_second p.written
         owed others n;
     appended = appends_then old holds then p.written (take n owed) p.appended sent;
   }
     where
       owed : List ℕ
-      owed = owed_line lacks now k line
+      owed = cond (is_fault line) (fault_line k) (text m now line)
 
       behind : List ℕ
-      behind = text_from [] (line_left lacks now line) (k + 1) (lines_of (drop_through 10 rest))
+      behind = text_by usual text left [] (left m now line) (k + 1) (lines_of (drop_through 10 rest))
 
       others : List ℕ
       others = cond (is_fault line) [] behind
 
-      step : text_from (lacks ∷ []) now k (lines_of rest) ≡ owed ++ others
-      step = ap (text_from (lacks ∷ []) now k) (first_line rest some is)
-          ∙ cond_append (is_fault line) (fault_line k) (line_text lacks now line) behind
+      step : text_by usual text left (m ∷ []) now k (lines_of rest) ≡ owed ++ others
+      step = ap (text_by usual text left (m ∷ []) now k) (first_line rest some is)
+          ∙ cond_append (is_fault line) (fault_line k) (text m now line) behind
 
-module _ {o : Opening} {k : ℕ} {script rest : List ℕ} {old holds : Option (List ℕ)} {now : Playing}
-    (p : Played o script old holds now k rest) where
+module _ {M : Type 0} {usual : M} {text : M → Playing → List ℕ → List ℕ}
+    {left : M → Playing → List ℕ → Playing} {o : Opening} {k : ℕ} {script rest : List ℕ}
+    {old holds : Option (List ℕ)} {now : Playing}
+    (p : Played usual text left o script old holds now k rest) where
   -- nothing is left
-  pub played_end : rest ≡ [] → (fault_in script ≡ None) × Writes o script old holds
+  pub played_end : rest ≡ []
+      → (fault_in script ≡ None) × Writes (whole_text usual text left o script) old holds
   played_end none = (
     p.fault ∙ ap (λ (r : List ℕ). fault_from k (lines_of r)) none,
     record {
-      lacking = p.past ++ [];
-      appended = rw (p.whole [] ∙ ap (λ (r : List ℕ). p.written ++ text_from [] now k (lines_of r))
+      met = p.past ++ [];
+      appended = rw (p.whole [] ∙ ap (λ (r : List ℕ). p.written ++ text_by usual text left [] now k (lines_of r))
           none ∙ append-nil p.written) p.appended;
     },
   )
 
   -- something was written
-  pub played_part : Begins o script old holds
+  pub played_part : Begins (whole_text usual text left o script) old holds
   played_part = record {
-    lacking = p.past ++ [];
+    met = p.past ++ [];
     written = p.written;
-    unwritten = text_from [] now k (lines_of rest);
+    unwritten = text_by usual text left [] now k (lines_of rest);
     parts = p.whole [];
     appended = p.appended;
   }
@@ -194,20 +208,14 @@ module _ {o : Opening} {k : ℕ} {script rest : List ℕ} {old holds : Option (L
       → (fault ≡ faults.Script k) ⊎ (fault ≡ faults.Memory) ⊎ (fault ≡ faults.Write)
       → (fault ≡ faults.Script k → (is_fault line ≡ true) × Appends holds then (fault_line k))
       → (fault ≡ faults.Memory → then ≡ holds)
-      → (fault ≡ faults.Write → (lacks : Bool) × (n : ℕ) × Appends holds then
-      (take n (owed_line lacks now k line)))
-      → RunsAs {U = Unit {0}} o script old then (Err fault)
+      → (fault ≡ faults.Write → (m : M) × (n : ℕ) × Appends holds then
+      (take n (cond (is_fault line) (fault_line k) (text m now line))))
+      → Ends {U = Unit {0}} (whole_text usual text left o script) script old then (Err fault)
   played_told fault some is (inl e) told untold begun =
       rw e (played_fault p some is (told e).0 (told e).1)
   played_told fault some is (inr (inl e)) told untold begun = rw (e, untold e) played_part
   played_told fault some is (inr (inr e)) told untold begun =
       rw e (played_begun p (begun e).0 (begun e).1 some is (begun e).2)
-
--- what follows from what is known of known bytes
-pub weaken : (known : Option (List ℕ)) {P Q : List ℕ → Type 0} → ((xs : List ℕ) → P xs → Q xs)
-    → IfSome known P → IfSome known Q
-weaken None f h = tt
-weaken (Some xs) f h = f xs h
 
 -- a reader gave something
 pub came : (rest : List ℕ) → 0 < length (take_through 10 rest) → 0 < length rest

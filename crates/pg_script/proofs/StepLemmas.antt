@@ -11,36 +11,41 @@ use Rattle.node_core.specs.Step.{IsStepped}
 use Rattle.pg_text.specs.declared.command.Command.TheVariants as command
 use Rattle.pg_script.specs.Playing.{Playing, opened_with}
 use Rattle.pg_text.specs.Answers.{verdict_line, step_line, fault_line}
-use Rattle.pg_script.specs.Transcript.{answer_to, left_by, text, text_from, is_fault, line_text}
+use Rattle.pg_script.specs.Transcript.{answer_to, left_by, text, text_by, is_fault, line_text}
 use Rattle.pg_script.specs.Transcript.{line_left}
 use Rattle.std.specs.List.{list_any}
 use Rattle.policy_audit.specs.declared.opening.Opening.{Opening}
 use Rattle.pg_text.specs.Lines.{lines_of}
 
--- the same seat asks a node that has seen this
-abbrev pub seated : ℕ → History → Playing
-seated seat h = record { history = h; seat = seat }
+-- the same seat asks a node that has seen this, and has handed out so many entries
+abbrev pub seated : ℕ → ℕ → History → Playing
+seated seat forgotten h = record { history = h; seat = seat; forgotten = forgotten }
 
 -- what a step answers is the policy's line, or that memory lacked
-pub stepped_line : (h : History) (seat : ℕ) (e : Event) (new : History) (r : Result Reply CoreFault)
-    → IsStepped h seat e new r
-    → (lacks : Bool) × (step_line r ≡ answer_to lacks (seated seat h) (command.Step e))
-    × (seated seat new ≡ left_by lacks (seated seat h) (command.Step e))
+pub stepped_line : (h : History) (seat n : ℕ) (e : Event) (new : History)
+    (r : Result Reply CoreFault) → IsStepped h seat e new r
+    → (lacks : Bool) × (step_line r ≡ answer_to lacks (seated seat n h) (command.Step e))
+    × (seated seat n new ≡ left_by lacks (seated seat n h) (command.Step e))
 unfolding IsStepped
-stepped_line h seat e new (Ok reply) is = (false, ap verdict_line (sym is.0), ap (seated seat) is.1)
-stepped_line h seat e new (Err (faults.Refused rule)) is =
-    (false, ap verdict_line (sym is.0), ap (seated seat) is.1)
-stepped_line h seat e new (Err faults.OutOfMemory) is =
-    (true, rw is.0 refl, rw is.0 (ap (seated seat) is.1))
+stepped_line h seat n e new (Ok reply) is =
+    (false, ap verdict_line (sym is.0), ap (seated seat n) is.1)
+stepped_line h seat n e new (Err (faults.Refused rule)) is =
+    (false, ap verdict_line (sym is.0), ap (seated seat n) is.1)
+stepped_line h seat n e new (Err faults.OutOfMemory) is =
+    (true, rw is.0 refl, rw is.0 (ap (seated seat n) is.1))
 
 -- what follows where a call succeeded
 pub on_ok : {T E : Type 0} (r : Result T E) {P Q : Type 0} → (P → Q) → OnOk r P → OnOk r Q
 on_ok (Ok x) f p = f p
 on_ok (Err e) f p = tt
 
+-- the text of lines in whose steps memory lacks so
+abbrev lines_text : List Bool → Playing → ℕ → List (List ℕ) → List ℕ
+lines_text lacking p k lines = text_by false line_text line_left lacking p k lines
+
 unlacking : (lines : List (List ℕ)) (lacking : List Bool) (h : Playing) (k : ℕ)
     → list_any (λ lacks. lacks) lacking ≡ false
-    → text_from lacking h k lines ≡ text_from [] h k lines
+    → lines_text lacking h k lines ≡ lines_text [] h k lines
 unlacking [] lacking h k never = refl
 unlacking (line ∷ lines) [] h k never = refl
 unlacking (line ∷ lines) (true ∷ others) h k never = absurd (cc)

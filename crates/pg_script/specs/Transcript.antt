@@ -4,13 +4,12 @@ use Rattle.std.specs.Prelude.{is_none, not, ◌&&◌}
 use Rattle.policy_audit.specs.declared.opening.Opening.{Opening}
 use Rattle.policy_audit.specs.History.{History, audited, entered}
 use Rattle.policy_audit.specs.Policy.{verdict, after, is_full}
-use Rattle.policy_audit.specs.Log.{entry_at}
 use Rattle.pg_text.specs.declared.command.Command.{Command}
 use Rattle.pg_text.specs.declared.command.Command.TheVariants as command
-use Rattle.pg_script.specs.Playing.{Playing, opened_with}
+use Rattle.pg_script.specs.Playing.{Playing, opened_with, forgotten_to}
 use Rattle.pg_text.specs.Lines.{lines_of, is_quiet}
 use Rattle.pg_text.specs.Commands.{said_by}
-use Rattle.pg_text.specs.Answers.{verdict_line, memory_line, seat_line, size_line, entry_line, fault_line}
+use Rattle.pg_text.specs.Answers.{verdict_line, memory_line, seat_line, size_line, found_line, fault_line}
 
 -- memory lacks in a step, which a full audit never gets so far as to need
 abbrev pub finds_none : Bool → History → Bool
@@ -21,7 +20,7 @@ abbrev pub answer_to : Bool → Playing → Command → List ℕ
 answer_to lacks p (command.Step event) = cond (finds_none lacks p.history) memory_line (verdict_line (verdict p.history p.seat event))
 answer_to lacks p (command.Seat seat) = seat_line
 answer_to lacks p command.Size = size_line (entered p.history.entries)
-answer_to lacks p (command.Audit number) = entry_line (entry_at number (audited p.history.entries))
+answer_to lacks p (command.Audit number) = found_line p.forgotten (audited p.history.entries) number
 
 -- what a command leaves. A step where memory lacks leaves all as it was.
 abbrev pub left_by : Bool → Playing → Command → Playing
@@ -53,21 +52,24 @@ line_left lacks p line = cond (is_quiet line) p (left_of lacks p (said_by line))
 abbrev pub owed_line : Bool → Playing → ℕ → List ℕ → List ℕ
 owed_line lacks p k line = cond (is_fault line) (fault_line k) (line_text lacks p line)
 
--- whether memory lacks at the first of some lines, and at the others; past the end of the list it lacks nowhere
-abbrev pub at_first : List Bool → Bool
-at_first [] = false
-at_first (lacks ∷ others) = lacks
+-- how the first of some lines is met, and how the others are; past the end of the list as usual
+abbrev pub at_first : {M : Type 0} → M → List M → M
+at_first usual [] = usual
+at_first usual (met ∷ others) = met
 
-abbrev pub at_others : List Bool → List Bool
+abbrev pub at_others : {M : Type 0} → List M → List M
 at_others [] = []
-at_others (lacks ∷ others) = others
+at_others (met ∷ others) = others
 
--- the answers to lines in turn, of which the first is line k, up to the first fault
-abbrev pub text_from : List Bool → Playing → ℕ → List (List ℕ) → List ℕ
-text_from lacking p k [] = []
-text_from lacking p k (line ∷ lines) =
+-- the answers to lines in turn, of which the first is line k, up to the first fault, where a line
+-- that is met so is answered by `text` and leaves what `left` says
+abbrev pub text_by : {M : Type 0} → M → (M → Playing → List ℕ → List ℕ)
+    → (M → Playing → List ℕ → Playing) → List M → Playing → ℕ → List (List ℕ) → List ℕ
+text_by usual text left met p k [] = []
+text_by usual text left met p k (line ∷ lines) =
     cond (is_fault line) (fault_line k)
-    (line_text (at_first lacking) p line ++ text_from (at_others lacking) (line_left (at_first lacking) p line) (k + 1) lines)
+    (text (at_first usual met) p line
+    ++ text_by usual text left (at_others met) (left (at_first usual met) p line) (k + 1) lines)
 
 -- the number of the first line that has a fault
 abbrev pub fault_from : ℕ → List (List ℕ) → Option ℕ
@@ -76,8 +78,30 @@ fault_from k (line ∷ lines) = cond (is_fault line) (Some k) (fault_from (k + 1
 
 -- the text of a whole script, where memory lacks in the steps of these lines
 abbrev pub text : List Bool → Opening → List ℕ → List ℕ
-text lacking o script = text_from lacking (opened_with o) 1 (lines_of script)
+text lacking o script = text_by false line_text line_left lacking (opened_with o) 1 (lines_of script)
 
 -- the number of a script's first line with a fault
 abbrev pub fault_in : List ℕ → Option ℕ
 fault_in script = fault_from 1 (lines_of script)
+
+-- ---- on a node that forgets
+
+-- whether memory lacks in a line's step, and how many entries are handed out behind the line
+pub record Met : Type 0 where
+  pub lacks : Bool
+  pub handed : ℕ
+
+abbrev pub met_usually : Met
+met_usually = record { lacks = false; handed = 0 }
+
+abbrev pub met_text : Met → Playing → List ℕ → List ℕ
+met_text m p line = line_text m.lacks p line
+
+-- `keep` of the newest entries are never handed out
+abbrev pub met_left : ℕ → Met → Playing → List ℕ → Playing
+met_left keep m p line = forgotten_to keep m.handed (line_left m.lacks p line)
+
+-- the text of a whole script where lines are met so
+abbrev pub kept_text : ℕ → List Met → Opening → List ℕ → List ℕ
+kept_text keep met o script =
+    text_by met_usually met_text (met_left keep) met (opened_with o) 1 (lines_of script)

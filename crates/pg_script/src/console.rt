@@ -1,6 +1,8 @@
 //! A node as the lines of a script see it.
-ghost use Rattle.std.specs.Prelude.{◌≡◌, ◌++◌, ◌⊎◌, Bool, true, false, IfOk, IfErr, OnOk, Err};
-ghost use Rattle.pg_script.specs.Playing.{opened_with, MayOpen};
+ghost use Rattle.std.specs.Prelude.{◌≡◌, ◌++◌, ◌⊎◌, ℕ, Bool, true, false, IfOk, IfErr, IfSome, OnOk, Err};
+ghost use Rattle.policy_audit.specs.History.{audited};
+ghost use Rattle.policy_audit.specs.Pages.{IsPageBehind};
+ghost use Rattle.pg_script.specs.Playing.{opened_with, forgotten_to, MayOpen};
 ghost use Rattle.pg_script.specs.Transcript.{answer_to, left_by, line_text, line_left, is_fault};
 ghost use Rattle.pg_text.specs.declared.command.LineFault.TheVariants as faults;
 ghost use Rattle.node_core.specs.Step.{IsOpenFault};
@@ -8,9 +10,9 @@ ghost use Rattle.node_core.specs.Step.{IsOpenFault};
 use dist_types::OutOfMemory;
 use node_core::{NodeCore, OpenFault};
 use pg_text::{
-    Command, LineFault, is_quiet, parse, put_entry, put_numbered_line, put_step, put_word,
+    Command, LineFault, is_quiet, parse, put_found, put_numbered_line, put_step, put_word,
 };
-use policy_audit::{Event, Opening};
+use policy_audit::{Event, Opening, PAGE_SIZE, Page};
 use std::alloc::Global;
 use std::marker::Model;
 
@@ -25,7 +27,11 @@ impl Model for Console {
 
     ghost Value = { Playing };
 
-    ghost view = { λ console. record { history = console.core; seat = console.seat } };
+    ghost view = { λ console. record {
+      history = console.core.history;
+      seat = console.seat;
+      forgotten = console.core.forgotten;
+    } };
 }
 
 impl Console {
@@ -71,7 +77,7 @@ impl Console {
                 put_word("ok\n", out)
             }
             Command::Size => put_numbered_line("size ", self.core.audit().len() as u64, out),
-            Command::Audit(number) => put_entry(self.core.audit().get(number), out),
+            Command::Audit(number) => put_found(self.core.audit(), number, out),
         }
     }
 
@@ -84,6 +90,29 @@ impl Console {
         let added = put_step(alloc, &stepped, out);
         drop(stepped);
         added
+    }
+
+    /// Hands out the oldest page of entries, where `keep` newer ones stay, and no monitor has still to be told of one in it. That
+    /// is tried twice for each page of new ones, so that many are gone soon once no monitor waits for them.
+    pub fn forget(&mut self, keep: u32) -> Option<Page>
+        ensures left { (handed : ℕ) × (self.new ≡ forgotten_to keep handed self.old) }
+        ensures page { IfSome result (λ page.
+            IsPageBehind self.old.forgotten (audited self.old.history.entries) page) }
+    {
+        let audit = self.core.audit();
+        let handed = audit.forgotten() as usize + PAGE_SIZE;
+        if audit.len() % (PAGE_SIZE / 2) != 0 || audit.len() < handed + keep as usize {
+            return None;
+        }
+        self.core.forget()
+    }
+
+    /// The node, to read from.
+    pub fn core(&self) -> &NodeCore
+        ensures history { result.now.history ≡ self.now.history }
+        ensures forgotten { result.now.forgotten ≡ self.now.forgotten }
+    {
+        &self.core
     }
 }
 

@@ -113,7 +113,7 @@ pub fn read_line<R: BufRead>(line: &mut Vec<u8>, reader: &mut R) -> Result<bool,
 }
 
 /// Writes the answer to the line of this number, or that it can't be read.
-fn answer_line<W: Write>(
+pub(crate) fn answer_line<W: Write>(
     alloc: Global,
     number: u64,
     line: &[u8],

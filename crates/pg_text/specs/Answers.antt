@@ -1,5 +1,6 @@
 -- The line that an answer is printed as.
 use Rattle.std.specs.Prelude.{ℕ, Bool, List, ◌++◌, codes, decimal, length, if◌then◌else◌, Option, Some, None, Ok, Err}
+use Rattle.std.specs.Prelude.{nat_lt, nat_le, cond, ◌&&◌}
 use Rattle.std.specs.declared.result.Result.{Result}
 use Rattle.std.specs.List.{flat_map}
 use Rattle.hex.specs.Hex.{encode_lower}
@@ -14,6 +15,7 @@ use Rattle.policy_audit.specs.declared.entry.Entry.{Entry}
 use Rattle.policy_audit.specs.declared.entry.Verdict.{Verdict}
 use Rattle.policy_audit.specs.declared.entry.Verdict.TheVariants.{Accepted, Refused}
 use Rattle.policy_audit.specs.Rules.{rule_line}
+use Rattle.policy_audit.specs.Log.{entry_at}
 use Rattle.node_core.specs.declared.fault.CoreFault.{CoreFault}
 use Rattle.node_core.specs.declared.fault.CoreFault.TheVariants as faults
 use Rattle.pg_text.specs.Kinds.{kind_text}
@@ -99,6 +101,19 @@ judged_text (Refused rule) = refusal_text rule
 abbrev pub entry_line : Option Entry → List ℕ
 entry_line (Some e) = decimal e.number ++ codes " " ++ decimal e.seat ++ codes " " ++ kind_text e.event ++ codes " " ++ judged_text e.verdict ++ codes "\n"
 entry_line None = codes "none\n"
+
+-- the entry of that number was handed out, where so many are forgotten
+abbrev pub is_forgotten : ℕ → ℕ → Bool
+is_forgotten forgotten number = nat_lt 0 number && nat_le number forgotten
+
+-- the line for one that was handed out
+abbrev pub forgotten_line : List ℕ
+forgotten_line = codes "forgotten\n"
+
+-- the line for the entry of that number, where so many are forgotten
+abbrev pub found_line : ℕ → List Entry → ℕ → List ℕ
+found_line forgotten entries number =
+    cond (is_forgotten forgotten number) forgotten_line (entry_line (entry_at number entries))
 
 -- the last line of a script that has a fault in line k
 abbrev pub fault_line : ℕ → List ℕ

@@ -1,14 +1,14 @@
 //! Answers as lines of text.
 ghost use Rattle.std.specs.Prelude.{◌≡◌, ◌++◌, OnOk, Err, codes, decimal};
 ghost use Rattle.std.specs.Option.{option_copied};
-ghost use Rattle.pg_text.specs.Answers.{spaced, reply_text, refusal_text, judged_text, verdict_line, step_line, entry_line};
+ghost use Rattle.pg_text.specs.Answers.{spaced, reply_text, refusal_text, judged_text, verdict_line, step_line, entry_line, found_line};
 ghost use Rattle.policy_audit.specs.declared.entry.Verdict.TheVariants.{Accepted};
 
 use crate::event_kind::kind;
 use crate::printed::{Printed, put_bytes, put_each, put_number, put_word};
 use dist_types::{NodeName, OutOfMemory, Pid};
 use node_core::CoreFault;
-use policy_audit::{Entry, Reply, Rule, Verdict};
+use policy_audit::{Audit, Entry, Reply, Rule, Verdict};
 use std::alloc::Global;
 
 /// Adds the line for what a step answered.
@@ -58,6 +58,17 @@ pub fn put_entry(found: Option<&Entry>, out: &mut Vec<u8>) -> Result<(), OutOfMe
     put_word(" ", out)?;
     put_judged(&entry.verdict, out)?;
     put_word("\n", out)
+}
+
+/// Adds the line for the entry of that number, or that it was handed out: `forgotten`.
+pub fn put_found(audit: &Audit, number: u32, out: &mut Vec<u8>) -> Result<(), OutOfMemory>
+    ensures { OnOk result (out.new.items
+        ≡ out.old.items ++ found_line audit.now.forgotten audit.now.entries number) }
+{
+    if number > 0 && number <= audit.forgotten() {
+        return put_word("forgotten\n", out);
+    }
+    put_entry(audit.get(number), out)
 }
 
 /// Adds how an entry was judged, without its answer.

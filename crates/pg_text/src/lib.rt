@@ -15,7 +15,7 @@ mod query_commands;
 mod values;
 mod words;
 
-pub use answers::{put_accepted, put_entry, put_step, put_unanswered};
+pub use answers::{put_accepted, put_entry, put_found, put_step, put_unanswered};
 pub use argument::Argument;
 pub use arguments::{both, each, first, named, only};
 pub use asked::{moved_pids, query_of, speaks_for_link};

@@ -1,3 +1,5 @@
+use Rattle.std.proofs.Common.{false}
+use Rattle.pg_script.specs.Transcript.{line_text, line_left}
 use Rattle.pg_script.proofs.Played.{played_start, played_part, if_known}
 use Rattle.pg_script.proofs.script.play.Goals as goal
 
@@ -10,4 +12,4 @@ pub returns-in-Err-OutOfMemory-clause-text : goal.returns-in-Err-OutOfMemory-cla
 returns-in-Err-OutOfMemory-clause-text g c =
     λ good. if_known (g.R.Read.remaining c.args.reader.now)
     (λ script tells. played_part
-    (played_start c.args.opening script (g.W.Write.contents c.args.writer.now)))
+    (played_start false line_text line_left c.args.opening script (g.W.Write.contents c.args.writer.now)))

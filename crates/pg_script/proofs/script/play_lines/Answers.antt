@@ -1,35 +1,35 @@
-use Rattle.std.proofs.Common.{◌<◌, length, Err, refl, rules, ap, ◌∙◌, inl, inr}
+use Rattle.std.proofs.Common.{false, ◌<◌, length, Err, refl, rules, ap, ◌∙◌, inl, inr}
 use Rattle.std.specs.Io.BufRead.{drop_through, strip_last}
+use Rattle.std.proofs.lemmas.Option.{IfSome_then}
 use Rattle.std.proofs.lemmas.Result.{err_from_is_err_and}
-use Rattle.pg_script.specs.Transcript.{line_text}
+use Rattle.pg_script.specs.Transcript.{line_text, line_left}
 use Rattle.pg_script.proofs.Played.{played_start, played_next, played_told, played_end, played_part}
-use Rattle.pg_script.proofs.Played.{weaken, came, if_known}
+use Rattle.pg_script.proofs.Played.{came, if_known}
 use Rattle.pg_script.proofs.script.play_lines.Goals as goal
 
 pub loop-turn-init : goal.loop-turn-init
 loop-turn-init g c = λ o opened. if_known (g.R.Read.remaining c.args.reader.now)
     (λ script tells.
-    (script, tells, rw opened (played_start o script (g.W.Write.contents c.args.writer.now))))
+    (script, tells, rw opened (played_start false line_text line_left o script (g.W.Write.contents c.args.writer.now))))
 
 pub returns-in_err-read_line-clause-text : goal.returns-in_err-read_line-clause-text
-returns-in_err-read_line-clause-text g c = λ o opened. weaken (g.R.Read.remaining c.args.reader.now)
-    (λ script kept.
+returns-in_err-read_line-clause-text g c = λ o opened. IfSome_then (g.R.Read.remaining c.args.reader.now)
+    (c.loop-turn.invariant o opened) (λ script kept.
     let failed = err_from_is_err_and c.from_residual.result c.from_residual.ensures.1 in
     rw (failed.1, failed.2)
     (elim c.in_err-read_line.ensures.fault
     [ inl e ↦ rw e (played_part kept.2) | inr e ↦ rw e (played_part kept.2) ]))
-    (c.loop-turn.invariant o opened)
 
 -- the script is at its end
 pub returns-then-not-branch-clause-text : goal.returns-then-not-branch-clause-text
-returns-then-not-branch-clause-text g c = λ o opened. weaken (g.R.Read.remaining c.args.reader.now)
-    (λ script kept. played_end kept.2 (rw kept.1 at c.in_ok-read_line.ensures.ended (search rules)))
-    (c.loop-turn.invariant o opened)
+returns-then-not-branch-clause-text g c = λ o opened. IfSome_then (g.R.Read.remaining c.args.reader.now)
+    (c.loop-turn.invariant o opened) (λ script kept. played_end kept.2 (rw kept.1 at c.in_ok-read_line.ensures.ended (search rules)))
 
 -- a line that was not answered
 pub returns-in_err-answer_line-clause-text : goal.returns-in_err-answer_line-clause-text
 returns-in_err-answer_line-clause-text g c =
-    λ o opened. weaken (g.R.Read.remaining c.args.reader.now) (λ script kept.
+    λ o opened. IfSome_then (g.R.Read.remaining c.args.reader.now)
+    (c.loop-turn.invariant o opened) (λ script kept.
     let read = rw kept.1 at c.in_ok-read_line.ensures.read in
     let some : 0 < length c.read_line.new.line.items = search rules in
     let is = c.without_feed-said.ensures ∙ ap (strip_last 10) (c.as_slice.ensures.value ∙ read.0) in
@@ -39,11 +39,12 @@ returns-in_err-answer_line-clause-text g c =
     rw (failed.1, failed.2) (played_told kept.2 c.in_err-answer_line.field-0.0
     (came kept.0 (rw read.0 at some)) is faulty.fault
     (λ e. faulty.told (ap Err e)) (λ e. ap g.W.Write.contents (faulty.untold (ap Err e)))
-    (λ e. faulty.begun (ap Err e)))) (c.loop-turn.invariant o opened)
+    (λ e. faulty.begun (ap Err e))))
 
 -- a line that was answered
 pub loop-turn-preserved : goal.loop-turn-preserved
-loop-turn-preserved g c = λ o opened. weaken (g.R.Read.remaining c.args.reader.now) (λ script kept.
+loop-turn-preserved g c = λ o opened. IfSome_then (g.R.Read.remaining c.args.reader.now)
+    (c.loop-turn.invariant o opened) (λ script kept.
     let read = rw kept.1 at c.in_ok-read_line.ensures.read in
     let some : 0 < length c.read_line.new.line.items = search rules in
     let is = c.without_feed-said.ensures ∙ ap (strip_last 10) (c.as_slice.ensures.value ∙ read.0) in
@@ -53,8 +54,8 @@ loop-turn-preserved g c = λ o opened. weaken (g.R.Read.remaining c.args.reader.
       read.1,
       played_next kept.2 said answered.0 (came kept.0 (rw read.0 at some)) is answered.1 refl
           answered.3 answered.2,
-    )) (c.loop-turn.invariant o opened)
+    ))
 
 pub returns-clause-text : goal.returns-clause-text
-returns-clause-text g c = λ o opened. weaken (g.R.Read.remaining c.args.reader.now)
-    (λ script kept. played_part kept.2) (c.loop-turn.invariant o opened)
+returns-clause-text g c = λ o opened. IfSome_then (g.R.Read.remaining c.args.reader.now)
+    (c.loop-turn.invariant o opened) (λ script kept. played_part kept.2)

@@ -1,0 +1,5 @@
+pub mod Texts
+pub mod Events
+pub mod Verdicts
+pub mod Entries
+pub mod Following

@@ -1,0 +1,14 @@
+use Rattle.std.proofs.Common.{◌≡◌, ℕ, ◌+◌, List, Some, IfSome}
+use Rattle.policy_audit.specs.declared.opening.Opening.{Opening}
+use Rattle.pg_script.specs.Playing.{opened_with}
+use Rattle.pg_script.specs.Transcript.{met_usually, met_text, met_left}
+use Rattle.pg_script.proofs.Played.{Played}
+use Rattle.pg_script.proofs.keeping.keep_lines.Given as goal
+
+-- on a new node, where the reader tells its bytes, the lines so far are answered
+abbrev pub invariant-loop-turn : goal.invariant-loop-turn
+invariant-loop-turn g l = (o : Opening) → l.fn.console ≡ opened_with o
+    → IfSome (g.R.Read.remaining l.fn.reader) (λ script.
+    (rest : List ℕ) × (g.R.Read.remaining l.reader ≡ Some rest)
+    × Played met_usually met_text (met_left l.fn.keep) o script (g.W.Write.contents l.fn.writer)
+    (g.W.Write.contents l.writer) l.console (l.turn + 1) rest)
