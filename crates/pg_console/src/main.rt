@@ -1,20 +1,28 @@
 //! Plays scripts on a node of process groups.
 #![tactic(auto)]
 
+mod archive;
+mod cookies;
 mod options;
 mod pair;
+mod replaying;
 mod sockets;
 mod world;
 
+use anyhow::{Result, anyhow};
+use archive::Archive;
 use clap::ArgMatches;
 use command_line::{OUT_OF_MEMORY, failed, matched, told, words};
+use cookies::Cookies;
 use options::{command, opening};
 use pair::{PairEnd, pair};
-use pg_script::RunFault;
+use pg_script::{KeepFault, RunFault, play_keeping};
 use pg_text::{diagnose, without_feed};
 use policy_audit::Opening;
+use replaying::Player;
 use std::alloc::{AllocError, Global};
 use std::fmt::Display;
+use std::fs::{File, Files};
 use std::io::{self, BufReader};
 use std::net::{Net, TcpListener, TcpStream};
 use std::process::ExitCode;
@@ -43,6 +51,7 @@ where
         + Input
         + Print
         + Eprint
+        + Files<File = File>
         + Net<Listener = TcpListener, Stream = TcpStream>
         + Threads
         + Wait
@@ -55,11 +64,17 @@ where
     if matches.subcommand_matches("world").is_some() {
         return try_out(rt);
     }
+    if let Some(replay) = matches.subcommand_matches("replay") {
+        return play_again(rt, replay);
+    }
     let Some(run) = matches.subcommand_matches("run") else {
         return failed(rt, 2, "error: no command was given");
     };
     match opening(rt.alloc(), run) {
-        Ok(opening) => play(rt, opening),
+        Ok(opening) => match (run.get_one::<u32>("keep"), run.get_str("archive")) {
+            (None, None) => play(rt, opening),
+            (keep, path) => play_kept(rt, opening, keep.unwrap_or(u32::MAX), path),
+        },
         Err(fault) => match format!(in rt.alloc(); "{fault}") {
             Ok(text) => failed(rt, fault.status(), text.as_str()),
             Err(_) => failed(rt, 1, OUT_OF_MEMORY),
@@ -97,6 +112,93 @@ fn play<R: AllocGlobal + Input + Print + Eprint>(rt: &R, opening: Opening) -> Ex
         Err(RunFault::Script(number)) => misread(rt, number, without_feed(line.as_slice())),
         Err(fault) => told(rt, 1, &fault),
     }
+}
+
+/// Plays standard input on a node that hands out its old entries, never one of the `keep` newest, into the archive of this path.
+fn play_kept<R: AllocGlobal + Input + Print + Eprint + Files<File = File>>(
+    rt: &R,
+    opening: Opening,
+    keep: u32,
+    path: Option<&str>,
+) -> ExitCode {
+    let alloc = rt.alloc();
+    let file = match path.map(|path| File::create(rt, path)).transpose() {
+        Ok(file) => file,
+        Err(error) => return unwritten(rt, path, &error),
+    };
+    let (Ok(mut archive), Ok(mut reader)) = (
+        Archive::begin(alloc, file, &opening),
+        BufReader::new(alloc, rt.reader()),
+    ) else {
+        return failed(rt, 1, OUT_OF_MEMORY);
+    };
+    let mut line = Vec::new(alloc);
+    let mut writer = io::writer(rt);
+    let played = play_keeping(
+        alloc,
+        opening,
+        keep,
+        &mut reader,
+        &mut line,
+        &mut writer,
+        &mut archive,
+    );
+    if let Err(error) = archive.end() {
+        return unwritten(rt, path, &error);
+    }
+    match played {
+        Ok(()) => ExitCode::SUCCESS,
+        Err(KeepFault::Run(RunFault::Script(number))) => {
+            misread(rt, number, without_feed(line.as_slice()))
+        }
+        Err(fault) => told(rt, 1, &fault),
+    }
+}
+
+/// Ends a run whose archive can't be written. What was written of it stays.
+fn unwritten<R: AllocGlobal + Eprint>(rt: &R, path: Option<&str>, error: &io::Error) -> ExitCode {
+    let path = path.unwrap_or("");
+    match format!(in rt.alloc(); "error: --archive: {path:.60}: {error}") {
+        Ok(text) => failed(rt, 1, text.as_str()),
+        Err(_) => failed(rt, 1, OUT_OF_MEMORY),
+    }
+}
+
+/// Plays archives again, and prints how many of their lives and entries agreed.
+fn play_again<R: AllocGlobal + Print + Eprint + Files<File = File>>(
+    rt: &R,
+    matches: &ArgMatches<'_>,
+) -> ExitCode {
+    let mut cookies = match Cookies::shown(rt.alloc(), matches) {
+        Ok(cookies) => cookies,
+        Err(error) => return told(rt, 2, &error),
+    };
+    if let Err(error) = cookies.read(rt, rt.alloc(), matches) {
+        return told(rt, 1, &error);
+    }
+    let mut player = Player::new(rt.alloc(), cookies);
+    let played = play_files(rt, matches, &mut player);
+    let agreed = player.agreed();
+    let written = println!(rt; "lives {} entries {}", agreed.lives, agreed.entries);
+    match (played, written) {
+        (Err(error), _) => told(rt, 1, &error),
+        (Ok(()), Err(error)) => told(rt, 1, &error),
+        (Ok(()), Ok(())) => ExitCode::SUCCESS,
+    }
+}
+
+/// Plays the files that are named, one behind the other.
+fn play_files<R: AllocGlobal + Files<File = File>>(
+    rt: &R,
+    matches: &ArgMatches<'_>,
+    player: &mut Player,
+) -> Result<()> {
+    for path in matches.get_strs("ARCHIVE").unwrap_or(&[]) {
+        let file = File::open(rt, path).map_err(|error| anyhow!("{path:.60}: {error}"))?;
+        let mut reader = BufReader::new(rt.alloc(), file)?;
+        player.play(path, &mut reader)?;
+    }
+    Ok(())
 }
 
 /// Plays standard input on several nodes and their wires.

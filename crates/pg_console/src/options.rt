@@ -41,6 +41,17 @@ Example:
 Status: 0 at the end of the script; 1 at a line that can't be read, at a fault of a stream, or for want of memory outside a step;
 2 where two nodes have one name. docs/FORMATS.md has the lines and their answers.";
 
+/// What an archive is and needs, behind the help of the parser.
+const ARCHIVES: &str = "\
+An archive has no cookies, so they are given: that of the node itself, and for each peer that was given one of its own. Where one
+name is given several, they are taken in turn, anew with each life, and the last of them from then on.
+
+Example:
+  printf 'start pg\\nspawn\\n' | pg_console run --archive entries b@h password && pg_console replay --cookie b@h=password entries
+
+Status: 0 where all agree; 1 at the first line that doesn't, that can't be read, or for want of memory; 2 at a fault of the
+command line. docs/FORMATS.md has the lines.";
+
 /// Why NAME or COOKIE is refused.
 #[derive(Clone, Copy, Debug, thiserror::Error)]
 pub enum OptionsFault {
@@ -71,6 +82,7 @@ pub fn command<'a>(alloc: Global) -> Result<Command<'a>, Error> {
             .after_help(SCRIPTS)
             .subcommand_required(true)
             .subcommand(run)?
+            .subcommand(replay_command(alloc)?)?
             .subcommand(pair_command(alloc))?
             .subcommand(world_command(alloc))?,
     )
@@ -98,8 +110,60 @@ fn run_command<'a>(alloc: Global) -> Result<Command<'a>, Error> {
             .arg(creation(alloc))?
             .arg(entries(alloc))?
             .arg(links(alloc))?
-            .arg(hidden(alloc))?,
+            .arg(hidden(alloc))?
+            .arg(keep(alloc))?
+            .arg(archive(alloc))?,
     )
+}
+
+fn replay_command<'a>(alloc: Global) -> Result<Command<'a>, Error> {
+    Ok(
+        Command::new(alloc, "replay")
+            .about("Plays archives again, and compares each verdict and change with the policy's")
+            .after_help(ARCHIVES)
+            .arg(archives(alloc))?
+            .arg(shown_cookies(alloc))?
+            .arg(cookie_files(alloc))?,
+    )
+}
+
+fn archives<'a>(alloc: Global) -> Arg<'a> {
+    Arg::new(alloc, "ARCHIVE")
+        .help("The files, in the order in which they were written")
+        .num_args(1..)
+        .action(ArgAction::Append)
+        .required(true)
+}
+
+fn shown_cookies<'a>(alloc: Global) -> Arg<'a> {
+    Arg::new(alloc, "cookie")
+        .long("cookie")
+        .value_name("NAME=TEXT")
+        .help("The secret of the node of this name, or for this peer")
+        .action(ArgAction::Append)
+}
+
+fn cookie_files<'a>(alloc: Global) -> Arg<'a> {
+    Arg::new(alloc, "cookie-for")
+        .long("cookie-for")
+        .value_name("NAME=FILE")
+        .help("The same, in a file")
+        .action(ArgAction::Append)
+}
+
+fn keep<'a>(alloc: Global) -> Arg<'a> {
+    Arg::new(alloc, "keep")
+        .long("keep")
+        .value_name("N")
+        .help("How many entries are kept at least; older ones are forgotten, 256 at a time")
+        .value_parser(value_parser!(u32))
+}
+
+fn archive<'a>(alloc: Global) -> Arg<'a> {
+    Arg::new(alloc, "archive")
+        .long("archive")
+        .value_name("FILE")
+        .help("A file for a line of JSON for each entry, which is written anew")
 }
 
 fn name<'a>(alloc: Global) -> Arg<'a> {
