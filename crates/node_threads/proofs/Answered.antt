@@ -31,14 +31,30 @@ use Rattle.policy_audit.specs.declared.entry.Verdict.TheVariants as verdicts
 use Rattle.node_threads.specs.declared.ends.ReadEnd.TheVariants as ends
 use Rattle.node_threads.specs.declared.retreat.RetreatStep.TheVariants as steps
 
+-- where it let none go meanwhile
+gains_still : (p p' : Record) (more : List Call) →
+    p' ≡ record { seat = p.seat; calls = p.calls ++ more; gone = p.gone } → Gains p more p'
+gains_still p p' more is =
+    let same : p.gone ≡ p'.gone = sym (ap (λ (q : Record). q.gone) is) in
+    is ∙ ap (λ n. record { seat = p.seat; calls = p.calls ++ more; gone = n }) same
+
 pub gains_none : (p p' : Record) → p' ≡ p → Gains p [] p'
-gains_none p p' is = is ∙ ap (λ cs. record { seat = p.seat; calls = cs }) (sym (append-nil p.calls))
+gains_none p p' is =
+    gains_still p p' [] (is ∙ ap (λ cs. record { seat = p.seat; calls = cs; gone = p.gone })
+    (sym (append-nil p.calls)))
 
 pub gains_more : (p mid p' : Record) (xs ys : List Call) → Gains p xs mid → Gains mid ys p' →
     Gains p (xs ++ ys) p'
 gains_more p mid p' xs ys first then =
-    then ∙ ap (λ (q : Record). record { seat = q.seat; calls = q.calls ++ ys }) first
-    ∙ ap (λ cs. record { seat = p.seat; calls = cs }) (append_assoc p.calls xs ys)
+    then
+    ∙ ap (λ (q : Record). record { seat = q.seat; calls = q.calls ++ ys; gone = p'.gone }) first
+    ∙ ap (λ cs. record { seat = p.seat; calls = cs; gone = p'.gone }) (append_assoc p.calls xs ys)
+
+-- and then has let calls go
+pub gains_lighter : (p mid p' : Record) (xs : List Call) → Gains p xs mid → Gains mid [] p' →
+    Gains p xs p'
+gains_lighter p mid p' xs first then =
+    subst (λ cs. Gains p cs p') (append-nil xs) (gains_more p mid p' xs [] first then)
 
 -- the pass has gained a call of this event, with this verdict
 abbrev pub Adds : Record → Event → Verdict → Record → Type 0
@@ -89,7 +105,12 @@ module _ (p p' : Record) (e : Event) where
       ((p' ≡ p) × (is_entry v ≡ false)) ⊎ (Adds p e v p' × (is_entry v ≡ true))
   answered h v true policy is = inl (is, ap is_entry policy)
   answered h v false policy is = inr (
-    (record { number = next_number h; event = e; verdict = v }, refl, refl, is),
+    (
+      record { number = next_number h; event = e; verdict = v },
+      refl,
+      refl,
+      gains_still p p' (record { number = next_number h; event = e; verdict = v } ∷ []) is,
+    ),
     ap is_entry policy ∙ judged_entered h p.seat e (checks h p.seat e) (checks_entered h p.seat e),
   )
 

@@ -112,24 +112,25 @@ AreCounted_none n = record { seated = tt; each = λ seat below. zero_at n seat }
 
 -- ---- a room after an event
 
-abbrev pub room : History → List ℕ → Room
-room h counts = record { history = h; counts = counts }
+abbrev pub room : History → List ℕ → ℕ → Room
+room h counts forgotten = record { history = h; counts = counts; forgotten = forgotten }
 
-module _ (h new : History) (counts : List ℕ) (seat v : ℕ) (e : Event) (free : is_full h ≡ false)
+module _ (h new : History) (counts : List ℕ) (f g seat v : ℕ) (e : Event) (free : is_full h ≡ false)
     (is : new ≡ after h seat e) (within : seat < length counts)
     (value : v ≡ get_or counts seat v) where
   moved : slice_set counts seat (v + 1) ≡ one_more seat counts
   moved = ap (λ (n : ℕ). slice_set counts seat (n + 1))
       (value ∙ sym (get_or_default counts seat 0 v within))
 
-  pub room_moved : room new (slice_set counts seat (v + 1)) ≡ room_after (room h counts) seat e
-  room_moved = rw (moved, is, free) refl
+  pub room_moved : g ≡ f
+      → room new (slice_set counts seat (v + 1)) g ≡ room_after (room h counts f) seat e
+  room_moved same = rw (moved, is, free, same) refl
 
-  pub sound_moved : IsLegal new → IsSound (room h counts)
-      → IsSound (room new (slice_set counts seat (v + 1)))
+  pub sound_moved : IsLegal new → IsSound (room h counts f)
+      → IsSound (room new (slice_set counts seat (v + 1)) g)
   sound_moved legal sound =
       let same = length-set counts seat (slice_index counts seat + 1) in
-      subst (λ (ns : List ℕ). IsSound (room new ns)) (sym moved) (record {
+      subst (λ (ns : List ℕ). IsSound (room new ns g)) (sym moved) (record {
         legal = legal;
         counted = subst (AreCounted (one_more seat counts))
             (sym (audited_after h new seat e free is))

@@ -32,7 +32,7 @@ pub answered : (room room' : Room) (p : Record) (e : Event) (n : ℕ) (v : Verdi
     → n ≡ next_number room.history → v ≡ verdict room.history p.seat e
     → room' ≡ room_after room p.seat e
     → calls ≡ p.calls ++ record { number = n; event = e; verdict = v } ∷ []
-    → IsAnswered room p e v room' (record { seat = p.seat; calls = calls })
+    → IsAnswered room p e v room' (record { seat = p.seat; calls = calls; gone = p.gone })
 answered room room' p e n v calls fits free number policy room_is kept = record {
   fits = fits;
   policy = policy;

@@ -2,8 +2,11 @@ pub mod Answered
 pub mod Counted
 pub mod Drawn
 pub mod Kept
+pub mod LetGo
 pub mod Openings
 pub mod Pairs
 pub mod Settling
 pub mod Steps
+pub mod Walked
+pub mod Whole
 pub mod Written

@@ -1,19 +1,23 @@
 -- Passes whose calls are compared with the entries of their seats.
 use Rattle.std.proofs.Common.{◌≡◌, ◌==◌, ◌≢◌, ◌⊎◌, ℕ, zero, suc, ◌+◌, ◌<◌, ◌≤◌, Bool, true, false}
-use Rattle.std.proofs.Common.{cond, List, [], ◌∷◌, length, map, take, set, reverse, get_or, refl}
+use Rattle.std.proofs.Common.{cond, List, [], ◌∷◌, ◌++◌, length, map, take, set, reverse, get_or, refl}
 use Rattle.std.proofs.Common.{sym, ap, subst, ◌∙◌, inl, inr, arith}
 use Rattle.std.specs.List.{filter, All, AllByRecursion}
 use Rattle.std.specs.Borrow.{Bor}
 use Rattle.std.proofs.lemmas.Bool.Decides.{eqb_tells}
 use Rattle.std.proofs.lemmas.Grind.{get_or-set_at}
 use Rattle.std.proofs.lemmas.List.{get_or-set_other, get_or-take, get_or-map, length-map}
-use Rattle.std.proofs.lemmas.List.{length-take-le, map-set, reverse-append}
+use Rattle.std.proofs.lemmas.List.{length-take-le, map-set, reverse-append, reverse-reverse}
 use Rattle.std.proofs.lemmas.List.Elements.{All-nil, All-cons, All-append, All-more}
 use Rattle.std.proofs.lemmas.List.Elements.{recursion_from_All}
 use Rattle.policy_audit.specs.declared.entry.Entry.{Entry}
+use Rattle.policy_audit.specs.History.{audited}
 use Rattle.node_threads.specs.declared.pass.Call.{Call}
-use Rattle.node_threads.specs.Calls.{Record, of, call_of, calls_of}
-use Rattle.node_threads.specs.Closing.{passes_of, HaveEach, HaveOne, IsOwn, at_seat, AreLeft}
+use Rattle.node_threads.specs.Applied.{Fits}
+use Rattle.node_threads.specs.Calls.{Record, kept_calls, of, call_of}
+use Rattle.node_threads.specs.Room.{Room}
+use Rattle.node_threads.specs.Closing.{passes_of, HaveEach, HaveOne, IsOwn, AreOwn, at_seat}
+use Rattle.node_threads.specs.Closing.{Agree, MadeLast, AreLast, Precede, kept_entries}
 
 abbrev Calls : Type 0
 Calls = Bor (List Call)
@@ -27,9 +31,9 @@ calls_in calls = calls.now
 abbrev calls_made : ℕ → List Entry → List Call
 calls_made seat es = map call_of (filter (of seat) es)
 
--- the pass has the calls that stand in the table for its seat
+-- the pass keeps the calls that stand in the table for its seat
 abbrev pub StandsIn : Lists → Record → Type 0
-StandsIn lists p = at_seat p.seat lists ≡ p.calls
+StandsIn lists p = at_seat p.seat lists ≡ kept_calls p
 
 -- ---- a table of lists
 
@@ -131,7 +135,7 @@ module _ (seats : ℕ) (ps : List Record) (i : ℕ) (p : Record) (below : i < le
       absurd (omega (arith, two, one p.seat inside))
 
   -- so its calls are put in beside those of the passes before
-  pub stand_in_more : (lists : Lists) (new : Calls) → seats ≤ length lists → new.now ≡ p.calls →
+  pub stand_in_more : (lists : Lists) (new : Calls) → seats ≤ length lists → new.now ≡ kept_calls p →
       All (StandsIn lists) (take i ps) → All (StandsIn (set lists p.seat new)) (take (i + 1) ps)
   stand_in_more lists new long is stand =
       let others : All (StandsIn (set lists p.seat new)) (take i ps) = λ k e before.
@@ -145,24 +149,28 @@ module _ (seats : ℕ) (ps : List Record) (i : ℕ) (p : Record) (below : i < le
       let mine = subst (StandsIn (set lists p.seat new)) (sym here) put in
       All-more (StandsIn (set lists p.seat new)) ps i p below others mine
 
-module _ (seats : ℕ) (es : List Entry) (ps : List Record) (lists : Lists)
-    (stand : All (StandsIn lists) ps) where
-  -- passes are their seats' entries where what stands for each seat are the calls that made them
-  pub own_from_left : All (λ (p : Record). p.seat < seats) ps → AreLeft seats lists (reverse es) →
-      All (IsOwn seats es) ps
-  own_from_left inside left = λ k d below. record {
-    seat = inside k d below;
-    calls = sym (stand k d below) ∙ left (get_or ps k d).seat (inside k d below);
+module _ (room : Room) (ps : List Record) (lists : Lists) (stand : All (StandsIn lists) ps) where
+  abbrev kept : List Entry
+  kept = kept_entries room.forgotten (audited room.history.entries)
+
+  -- passes that fit are their seats' where what stands for each seat are the last calls of its entries
+  pub own_from_last : All (Fits room) ps → AreLast (length room.counts) lists kept → AreOwn room ps
+  own_from_last fit last = λ k d below. record {
+    fits = fit k d below;
+    last = subst (λ (cs : List Call). MadeLast (get_or ps k d).seat cs kept) (stand k d below)
+        (last (get_or ps k d).seat (fit k d below).seat);
   }
 
   abbrev IsBoth : Record → Type 0
-  IsBoth p = StandsIn lists p × IsOwn seats es p
+  IsBoth p = StandsIn lists p × IsOwn room p
 
-  pub left_from_own : HaveEach seats ps → All (IsOwn seats es) ps → AreLeft seats lists (reverse es)
-  left_from_own each own = λ seat below.
+  pub last_from_own : HaveEach (length room.counts) ps → AreOwn room ps →
+      AreLast (length room.counts) lists kept
+  last_from_own each own = λ seat below.
       let both = recursion_from_All IsBoth ps (λ k d within. (stand k d within, own k d within)) in
       let one = some_pass IsBoth seat ps (each seat below) both in
-      subst (λ (s : ℕ). at_seat s lists ≡ calls_of s es) one.1 (one.2.0 ∙ one.2.1.calls)
+      subst (λ (s : ℕ). MadeLast s (at_seat s lists) kept) one.1
+      (subst (λ (cs : List Call). MadeLast one.0.seat cs kept) (sym one.2.0) one.2.1.last)
 
 -- ---- an entry more
 
@@ -199,67 +207,118 @@ calls_before seat e es =
       | inr f ↦ inr (f.1, more ∙ ap (λ (b : Bool). cond b (call_of e ∷ calls) calls) f.0)
     ]
 
+-- ---- the last calls, one entry back
+
+reverse-push : (calls : List Call) (c : Call) → reverse (calls ++ c ∷ []) ≡ c ∷ reverse calls
+reverse-push calls c = reverse-append calls (c ∷ [])
+
+reverse-cons : (c : Call) (calls : List Call) → reverse (c ∷ calls) ≡ reverse calls ++ c ∷ []
+reverse-cons c calls = reverse-append (c ∷ []) calls
+
+module _ (calls : List Call) (e : Entry) (more : List Call) where
+  -- if they agree with the entry's, it is the last of these, or there are none
+  pub precede_some : Agree (reverse calls) (call_of e ∷ more) →
+      (earlier : List Call) × Precede calls e earlier
+  precede_some agree = by (reverse calls) (sym (reverse-reverse calls)) agree
+    where
+      by : (back : List Call) → calls ≡ reverse back → Agree back (call_of e ∷ more) →
+          (earlier : List Call) × Precede calls e earlier
+      by [] is agree = ([], inl (is, refl))
+      by (c ∷ back) is agree =
+          let last = ap (λ (x : Call). reverse back ++ x ∷ []) agree.0 in
+          (reverse back, inr (is ∙ reverse-cons c back ∙ last))
+
+  pub agree_before : (earlier : List Call) → Precede calls e earlier →
+      Agree (reverse calls) (call_of e ∷ more) → Agree (reverse earlier) more
+  agree_before earlier (inl none) agree =
+      subst (λ (cs : List Call). Agree (reverse cs) more) (sym none.1) tt
+  agree_before earlier (inr last) agree =
+      let back = ap reverse last ∙ reverse-push earlier (call_of e) in
+      let both : Agree (call_of e ∷ reverse earlier) (call_of e ∷ more) =
+      subst (λ (cs : List Call). Agree cs (call_of e ∷ more)) back agree in
+      both.1
+
+  pub agree_with : (earlier : List Call) → Precede calls e earlier →
+      Agree (reverse earlier) more → Agree (reverse calls) (call_of e ∷ more)
+  agree_with earlier (inl none) agree =
+      subst (λ (cs : List Call). Agree (reverse cs) (call_of e ∷ more)) (sym none.0) tt
+  agree_with earlier (inr last) agree =
+      let back = ap reverse last ∙ reverse-push earlier (call_of e) in
+      subst (λ (cs : List Call). Agree cs (call_of e ∷ more)) (sym back) (refl, agree)
+
 module _ (seats : ℕ) (lists : Lists) (e : Entry) (es : List Entry) (inside : e.seat < seats) where
-  -- the first call of an entry's seat has to be that of the entry
-  pub first_is_left : AreLeft seats lists (e ∷ es) →
-      at_seat e.seat lists ≡ call_of e ∷ calls_made e.seat es
-  first_is_left left = elim (calls_before e.seat e es) [
-    | inl t ↦ left e.seat inside ∙ t.1
+  -- the last call of an entry's seat has to be that of the entry, where there is one
+  pub precede_last : AreLast seats lists (e ∷ es) →
+      (earlier : List Call) × Precede (at_seat e.seat lists) e earlier
+  precede_last last = elim (calls_before e.seat e es) [
+    | inl t ↦
+        precede_some (at_seat e.seat lists) e (calls_made e.seat es)
+        (subst (Agree (reverse (at_seat e.seat lists))) t.1 (last e.seat inside))
     | inr f ↦ absurd (f.0 refl)
   ]
 
-  module _ (later : Calls) (long : seats ≤ length lists)
-      (first : at_seat e.seat lists ≡ call_of e ∷ later.now) where
-    here : (seat : ℕ) → e.seat ≡ seat → at_seat seat (set lists e.seat later) ≡ later.now
-    here seat is = put_here lists e.seat seat later (sym is) (omega (arith, inside, long))
+  module _ (earlier : Calls) (long : seats ≤ length lists)
+      (precede : Precede (at_seat e.seat lists) e earlier.now) where
+    here : (seat : ℕ) → e.seat ≡ seat → at_seat seat (set lists e.seat earlier) ≡ earlier.now
+    here seat is = put_here lists e.seat seat earlier (sym is) (omega (arith, inside, long))
 
-    there : (seat : ℕ) → e.seat ≢ seat → at_seat seat (set lists e.seat later) ≡ at_seat seat lists
-    there seat other = put_elsewhere lists e.seat seat later (λ q. other (sym q))
+    there : (seat : ℕ) → e.seat ≢ seat →
+        at_seat seat (set lists e.seat earlier) ≡ at_seat seat lists
+    there seat other = put_elsewhere lists e.seat seat earlier (λ q. other (sym q))
 
-    first_of : (seat : ℕ) → e.seat ≡ seat → at_seat seat lists ≡ call_of e ∷ later.now
-    first_of seat is = ap (λ (s : ℕ). at_seat s lists) (sym is) ∙ first
+    before_of : (seat : ℕ) → e.seat ≡ seat → Precede (at_seat seat lists) e earlier.now
+    before_of seat is = subst (λ (s : ℕ). Precede (at_seat s lists) e earlier.now) is precede
 
-    -- then the others are those of the other entries
-    pub left_later : AreLeft seats lists (e ∷ es) → AreLeft seats (set lists e.seat later) es
-    left_later left = λ seat below. elim (calls_before seat e es) [
+    -- then the earlier ones are those of the entries before
+    pub last_before : AreLast seats lists (e ∷ es) → AreLast seats (set lists e.seat earlier) es
+    last_before last = λ seat below. elim (calls_before seat e es) [
       | inl t ↦
-          let all : call_of e ∷ later.now ≡ call_of e ∷ calls_made seat es =
-          sym (first_of seat t.0) ∙ left seat below ∙ t.1 in
-          here seat t.0 ∙ cc
-      | inr f ↦ there seat f.0 ∙ left seat below ∙ f.1
+          let made = subst (Agree (reverse (at_seat seat lists))) t.1 (last seat below) in
+          let rest = agree_before (at_seat seat lists) e (calls_made seat es) earlier.now
+          (before_of seat t.0) made in
+          subst (λ (cs : List Call). MadeLast seat cs es) (sym (here seat t.0)) rest
+      | inr f ↦
+          let made = subst (Agree (reverse (at_seat seat lists))) f.1 (last seat below) in
+          subst (λ (cs : List Call). MadeLast seat cs es) (sym (there seat f.0)) made
     ]
 
-    pub later_left : AreLeft seats (set lists e.seat later) es → AreLeft seats lists (e ∷ es)
-    later_left left = λ seat below. elim (calls_before seat e es) [
+    pub before_last : AreLast seats (set lists e.seat earlier) es → AreLast seats lists (e ∷ es)
+    before_last last = λ seat below. elim (calls_before seat e es) [
       | inl t ↦
-          let rest = sym (here seat t.0) ∙ left seat below in
-          first_of seat t.0 ∙ ap (λ (cs : List Call). call_of e ∷ cs) rest ∙ sym t.1
-      | inr f ↦ sym (there seat f.0) ∙ left seat below ∙ sym f.1
+          let rest = subst (λ (cs : List Call). MadeLast seat cs es) (here seat t.0)
+          (last seat below) in
+          let made = agree_with (at_seat seat lists) e (calls_made seat es) earlier.now
+          (before_of seat t.0) rest in
+          subst (Agree (reverse (at_seat seat lists))) (sym t.1) made
+      | inr f ↦
+          let made = subst (λ (cs : List Call). MadeLast seat cs es) (there seat f.0)
+          (last seat below) in
+          subst (Agree (reverse (at_seat seat lists))) (sym f.1) made
     ]
 
--- ---- the end of the entries
+-- where there are no entries, there is nothing to agree on
+pub agree_none : (calls : List Call) → Agree calls []
+agree_none [] = tt
+agree_none (c ∷ calls) = tt
 
-list_at : (lists : Lists) (seat : ℕ) → seat < length lists →
-    (d : Calls) × (at_seat seat lists ≡ (get_or lists seat d).now)
-list_at [] seat below = absurd (omega (arith, below))
-list_at (calls ∷ lists) zero below = (calls, refl)
-list_at (calls ∷ lists) (suc seat) below = list_at lists seat (omega (arith, below))
+pub last_of_none : (seats : ℕ) (lists : Lists) → AreLast seats lists []
+last_of_none seats lists = λ seat below. agree_none (reverse (at_seat seat lists))
 
-abbrev AreNone : Lists → Type 0
-AreNone lists = All (λ (calls : Calls). calls.now ≡ []) lists
+-- ---- a call before which there are others
 
-pub left_of_none : (seats : ℕ) (lists : Lists) → seats ≤ length lists →
-    AreNone (take seats lists) → AreLeft seats lists []
-left_of_none seats lists long none = λ seat below.
-    let here = list_at lists seat (omega (arith, below, long)) in
-    let same = ap calls_in (get_or-take seats lists seat here.0 below) in
-    let within : seat < length (take seats lists) =
-    omega (arith, below, length-take-le seats lists long) in
-    here.1 ∙ sym same ∙ none seat here.0 within
+pub precede_one : (calls earlier : List Call) (c : Call) (e : Entry) →
+    calls ≡ earlier ++ c ∷ [] → c ≡ call_of e → Precede calls e earlier
+precede_one calls earlier c e is last =
+    inr (is ∙ ap (λ (x : Call). earlier ++ x ∷ []) last)
 
-pub none_is_left : (seats : ℕ) (lists : Lists) → seats ≤ length lists →
-    AreLeft seats lists [] → AreNone (take seats lists)
-none_is_left seats lists long left = λ seat d within.
-    let below : seat < seats = omega (arith, within, length-take-le seats lists long) in
-    let read = at_read lists seat d (omega (arith, below, long)) in
-    ap calls_in (get_or-take seats lists seat d below) ∙ sym read ∙ left seat below
+-- a last call that isn't that of the entry
+pub precede_none : (calls earlier others : List Call) (c : Call) (e : Entry) →
+    calls ≡ earlier ++ c ∷ [] → c ≢ call_of e → Precede calls e others → ⊥
+precede_none calls earlier others c e is other (inl none) =
+    let back : c ∷ reverse earlier ≡ [] =
+    sym (reverse-push earlier c) ∙ ap reverse (sym is ∙ none.0) in
+    cc
+precede_none calls earlier others c e is other (inr last) =
+    let back : c ∷ reverse earlier ≡ call_of e ∷ reverse others =
+    sym (reverse-push earlier c) ∙ ap reverse (sym is ∙ last) ∙ reverse-push others (call_of e) in
+    other cc

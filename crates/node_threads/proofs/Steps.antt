@@ -32,7 +32,7 @@ use Rattle.node_threads.specs.Ends.{end_of, reader_gives_up, read_end_of_feed}
 use Rattle.node_threads.specs.Entered.{verdict_in, IsEntry, Enters}
 use Rattle.node_threads.specs.Reading.{AreFrames, OfHandshake, IsRead, Moves, ReadsOn, HasReason}
 use Rattle.node_threads.specs.Reading.{Stops, Gave, Handed, ReadsTo}
-use Rattle.node_threads.proofs.Answered.{gains_none, gains_more, fault_refuses, ends_at, ends_then}
+use Rattle.node_threads.proofs.Answered.{gains_none, gains_more, gains_lighter, fault_refuses, ends_at, ends_then}
 
 abbrev Bytes : Type 0
 Bytes = List ℕ
@@ -135,12 +135,25 @@ module _ (link : ℕ) (piece : Bytes) (used : ℕ) where
 
 -- ---- one step after another
 
+reads_no_more : {link : ℕ} {p p' : Record} {cutter : Cutter} → Gains p [] p' →
+    ReadsOn link p cutter [] p' cutter
+reads_no_more gains = record {
+  more = [];
+  gains = gains;
+  moves = λ before calls was. rw (append-nil before, append-nil calls) was;
+}
+
 pub reads_none : {link : ℕ} {p p' : Record} {cutter : Cutter} → p' ≡ p →
     ReadsOn link p cutter [] p' cutter
-reads_none {p} {p'} is = record {
-  more = [];
-  gains = gains_none p p' is;
-  moves = λ before calls was. rw (append-nil before, append-nil calls) was;
+reads_none {p} {p'} is = reads_no_more (gains_none p p' is)
+
+-- the pass has then let calls go
+pub reads_lighter : {link : ℕ} {p mid p' : Record} {old new : Cutter} {bytes : Bytes} →
+    ReadsOn link p old bytes mid new → Gains mid [] p' → ReadsOn link p old bytes p' new
+reads_lighter {p} {mid} {p'} reads gains = record {
+  more = reads.more;
+  gains = gains_lighter p mid p' reads.more reads.gains gains;
+  moves = reads.moves;
 }
 
 pub reads_then : {link : ℕ} {p mid p' : Record} {old between new : Cutter} {xs ys : Bytes} →
@@ -177,19 +190,24 @@ stops_then {link} {p} {mid} {p'} {xs} {stop} is first stops = record {
 }
 
 -- nothing more was read
-pub stops_here : {link : ℕ} {p p' : Record} {cutter : Cutter} {bytes : Bytes} {stop : ReadEnd} →
-    p' ≡ p → HasReason link (is_done cutter) p [] stop p' → stop ≢ ends.Closed →
+stops_none : {link : ℕ} {p p' : Record} {cutter : Cutter} {bytes : Bytes} {stop : ReadEnd} →
+    Gains p [] p' → HasReason link (is_done cutter) p [] stop p' → stop ≢ ends.Closed →
     Stops link p cutter bytes stop p'
-unfolding reads_none
-stops_here {cutter} {bytes} is reason unclosed = record {
+unfolding reads_no_more
+stops_none {cutter} {bytes} gains reason unclosed = record {
   used = [];
   unused = bytes;
   cutter = cutter;
   whole = refl;
-  reads = reads_none is;
+  reads = reads_no_more gains;
   reason = reason;
   unclosed = unclosed;
 }
+
+pub stops_here : {link : ℕ} {p p' : Record} {cutter : Cutter} {bytes : Bytes} {stop : ReadEnd} →
+    p' ≡ p → HasReason link (is_done cutter) p [] stop p' → stop ≢ ends.Closed →
+    Stops link p cutter bytes stop p'
+stops_here {p} {p'} is reason unclosed = stops_none (gains_none p p' is) reason unclosed
 
 -- ---- a body that was cut off
 
@@ -274,9 +292,7 @@ module _ (link : ℕ) (piece : Bytes) (used : ℕ) (p p' : Record) (old mid : Cu
         none is =
             let entered = rw is at gave.2 in
             let before = rw (same_kind old piece used (Some body) mid cut) at ended in
-            let same : p' ≡ p =
-            entered.gains ∙ ap (λ cs. record { seat = p.seat; calls = cs }) (append-nil p.calls) in
-            stops_here same (inr (body, gave.0, ends_at entered, before)) still_open
+            stops_none entered.gains (inr (body, gave.0, ends_at entered, before)) still_open
 
         one : (c : Call) → gave.1 ≡ c ∷ [] → c.event ≡ Frame link body → is_up c ≡ false →
             Stops link p old piece stop p'

@@ -22,7 +22,7 @@ use Rattle.node_threads.specs.Ends.{take_end, writer_gives_up}
 use Rattle.node_threads.specs.Entered.{verdict_in, IsEntry}
 use Rattle.node_threads.specs.Writing.{AreTakes, frames_in, wires, IsSent, HasReason, Took}
 use Rattle.node_threads.specs.Writing.{WritesTo}
-use Rattle.node_threads.proofs.Answered.{gains_none, gains_more, accepted, enters, fault_refuses}
+use Rattle.node_threads.proofs.Answered.{gains_none, gains_more, gains_lighter, accepted, enters, fault_refuses}
 use Rattle.node_threads.proofs.Answered.{ends_at, ends_then}
 
 wires-append : (xs ys : List Call) → wires (xs ++ ys) ≡ wires xs ++ wires ys
@@ -81,6 +81,16 @@ module _ {link : ℕ} {p mid p' : Record} {known now later : Option (List ℕ)} 
     reason = reason_then link p mid p' was.takes took.0 known now later stop was.gains was.written
         took.3;
   }
+
+-- the pass has then let calls go
+pub written_lighter : {link : ℕ} {p mid p' : Record} {known now : Option (List ℕ)} →
+    HasWritten link p known now mid → Gains mid [] p' → HasWritten link p known now p'
+written_lighter {p} {mid} {p'} was gains = record {
+  takes = was.takes;
+  are_takes = was.are_takes;
+  gains = gains_lighter p mid p' was.takes was.gains gains;
+  written = was.written;
+}
 
 -- some link of the node is stuck
 pub writes_stuck : {link : ℕ} {p p' : Record} {known now : Option (List ℕ)} →

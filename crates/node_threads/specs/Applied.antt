@@ -14,18 +14,26 @@ use Rattle.node_threads.specs.Calls.{Record, entries_of}
 use Rattle.node_threads.specs.Room.{Room, IsSound, one_more}
 
 -- the seat of the pass is one of the room's, and has as many entries in the audit as the pass has
--- calls
+-- calls, those that it let go too
 pub record Fits (room : Room) (pass : Record) : Type 0 where
   pub seat : pass.seat < length room.counts
   pub calls : length pass.calls ≡ entries_of pass.seat (audited room.history.entries)
 
 -- the pass with one more call
 abbrev pub with_call : Record → ℕ → Event → Verdict → Record
-with_call pass n e v = record { seat = pass.seat; calls = pass.calls ++ record { number = n; event = e; verdict = v } ∷ [] }
+with_call pass n e v = record {
+  seat = pass.seat;
+  calls = pass.calls ++ record { number = n; event = e; verdict = v } ∷ [];
+  gone = pass.gone;
+}
 
 -- the room after an event of the seat: with the policy's entry and a count that is one more, unless the audit was full
 abbrev pub room_after : Room → ℕ → Event → Room
-room_after room seat e = record { history = after room.history seat e; counts = cond (is_full room.history) room.counts (one_more seat room.counts) }
+room_after room seat e = record {
+  history = after room.history seat e;
+  counts = cond (is_full room.history) room.counts (one_more seat room.counts);
+  forgotten = room.forgotten;
+}
 
 -- the pass after an event with this verdict: with the call that made the entry, unless the audit was full
 abbrev pub pass_after : History → Record → Event → Verdict → Record

@@ -1,5 +1,5 @@
 -- What a pass has recorded, and which entries of an audit are a seat's.
-use Rattle.std.specs.Prelude.{◌≡◌, ℕ, ◌-◌, ◌==◌, Bool, true, false, List, ◌++◌, length, map, reverse, Option, Some, None, slice_get}
+use Rattle.std.specs.Prelude.{◌≡◌, ℕ, ◌+◌, ◌-◌, ◌<◌, ◌^◌, ◌==◌, Bool, true, false, List, [], ◌∷◌, ◌++◌, length, map, reverse, drop, Option, Some, None, slice_get}
 use Rattle.std.specs.List.{filter}
 use Rattle.policy_audit.specs.declared.reply.Reply.{Reply}
 use Rattle.policy_audit.specs.declared.reply.Reply.TheVariants.{Up}
@@ -8,10 +8,16 @@ use Rattle.policy_audit.specs.declared.entry.Verdict.{Verdict}
 use Rattle.policy_audit.specs.declared.entry.Verdict.TheVariants.{Accepted, Refused}
 use Rattle.node_threads.specs.declared.pass.Call.{Call}
 
--- a seat, and its calls that made an entry, the oldest first
+-- a seat, all its calls that made an entry, the oldest first, and how many of the first of these
+-- were let go
 pub record Record : Type 0 where
   pub seat : ℕ
   pub calls : List Call
+  pub gone : ℕ
+
+-- the calls that are kept
+abbrev pub kept_calls : Record → List Call
+kept_calls pass = drop pass.gone pass.calls
 
 -- the entry is of this seat
 abbrev pub of : ℕ → Entry → Bool
@@ -45,9 +51,10 @@ last_reply calls = reply_of (slice_get calls (length calls - 1))
 
 -- ---- what a worker's calls add
 
--- the pass has gained these calls
+-- the pass has gained these calls, whichever it has let go
 abbrev pub Gains : Record → List Call → Record → Type 0
-Gains pass more pass' = pass' ≡ record { seat = pass.seat; calls = pass.calls ++ more }
+Gains pass more pass' =
+    pass' ≡ record { seat = pass.seat; calls = pass.calls ++ more; gone = pass'.gone }
 
 abbrev pub is_up_reply : Reply → Bool
 is_up_reply (Up peer creation visible) = true
@@ -60,3 +67,16 @@ is_up_answer (Refused rule) = false
 -- the call was answered that its link is up
 abbrev pub is_up : Call → Bool
 is_up call = is_up_answer call.verdict
+
+-- ---- calls that are let go
+
+-- the calls of some lists, of which the newest stands first
+abbrev pub gone_calls : {L : Type 0} → List L → (L → List Call) → List Call
+gone_calls [] calls = []
+gone_calls (last ∷ before) calls = gone_calls before calls ++ calls last
+
+-- so many were let go, and these are they; with those that are kept they are no more than an audit
+-- has entries
+pub record AreParted (gone : ℕ) (first : List Call) (kept : List Call) : Type 0 where
+  pub gone_are : gone ≡ length first
+  pub few : length first + length kept < 2 ^ 32

@@ -10,12 +10,14 @@ use Rattle.node_threads.specs.Room.{Room}
 
 -- a node with this opening that has seen nothing, and that many seats without an entry
 abbrev pub new_room : Opening → ℕ → Room
-new_room opening seats = record { history = past opening []; counts = replicate seats 0 }
+new_room opening seats =
+    record { history = past opening []; counts = replicate seats 0; forgotten = 0 }
 
 -- a pass for each seat, in the order of the seats, with no calls
 pub record IsOpened (seats : ℕ) (passes : List Record) : Type 0 where
   pub count : length passes ≡ seats
-  pub each : (seat : ℕ) → seat < seats → slice_get passes seat ≡ Some (record { seat = seat; calls = [] })
+  pub each : (seat : ℕ) → seat < seats
+      → slice_get passes seat ≡ Some (record { seat = seat; calls = []; gone = 0 })
 
 -- a node may have that many seats
 abbrev pub HasBounds : ℕ → Type 0

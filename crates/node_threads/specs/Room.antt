@@ -4,12 +4,23 @@ use Rattle.std.specs.List.{AllByRecursion}
 use Rattle.policy_audit.specs.declared.entry.Entry.{Entry}
 use Rattle.policy_audit.specs.History.{History, audited}
 use Rattle.policy_audit.specs.Policy.{IsLegal}
+use Rattle.node_core.specs.Recorded.{Recorded}
 use Rattle.node_threads.specs.Calls.{entries_of}
 
--- a node's history, and for each seat a count
+-- a node's history, for each seat a count, and how many of the oldest entries of the audit were
+-- handed out
 pub record Room : Type 0 where
   pub history : History
   pub counts : List ℕ
+  pub forgotten : ℕ
+
+-- the node alone
+abbrev pub recorded : Room → Recorded
+recorded room = record { history = room.history; forgotten = room.forgotten }
+
+-- the node, with these counts
+abbrev pub room_of : Recorded → List ℕ → Room
+room_of node counts = record { history = node.history; counts = counts; forgotten = node.forgotten }
 
 -- every entry is of a seat that has a count, and each count is the number of that seat's entries
 pub record AreCounted (counts : List ℕ) (es : List Entry) : Type 0 where

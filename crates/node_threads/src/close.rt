@@ -1,11 +1,12 @@
 //! The end of a node.
-ghost use Rattle.std.specs.Prelude.{◌≡◌, ◌≢◌, ◌∷◌, List, ◌<◌, ◌≤◌, ◌↔◌, [], reverse, IsTrue, IsFalse, IfOk, IfErr, OnOk};
+ghost use Rattle.std.specs.Prelude.{◌≡◌, List, ◌<◌, ◌≤◌, ◌^◌, ◌↔◌, length, IsTrue, IsFalse, IfOk, IfErr, OnOk};
 ghost use Rattle.std.specs.List.{All, AllByRecursion};
 ghost use Rattle.std.specs.Option.{MatchOption};
 ghost use Rattle.node_threads.specs.declared.pass.Call.{Call};
-ghost use Rattle.node_threads.specs.Calls.{call_of};
-ghost use Rattle.node_threads.specs.Room.{IsSound};
-ghost use Rattle.node_threads.specs.Closing.{passes_of, IsOwn, IsSettled, IsCloseFault, IsClosed, IsRefused, LacksOne, HasTwo, HaveEach, HaveOne, at_seat, AreLeft};
+ghost use Rattle.node_threads.specs.Applied.{Fits};
+ghost use Rattle.node_threads.specs.Calls.{call_of, kept_calls};
+ghost use Rattle.node_threads.specs.Room.{IsSound, recorded};
+ghost use Rattle.node_threads.specs.Closing.{passes_of, kept_entries, IsSettled, IsCloseFault, IsClosed, IsRefused, LacksOne, HasTwo, HaveEach, HaveOne, AreOwn, at_seat, AreLast, Precede};
 
 use crate::node::Node;
 use crate::pass::{Call, Pass};
@@ -51,13 +52,13 @@ pub struct Closed {
 }
 
 impl Shared {
-    /// Whether these are the passes of all seats, each once, and each has exactly the entries of its seat. It takes no memory.
+    /// Whether these are the passes of all seats, each once, each made as many calls as its seat has entries, and its calls are
+    /// these, as far as it keeps them, and the audit keeps those. It takes no memory.
     pub fn settles(&self, passes: &[Pass]) -> Result<(), CloseRule>
         ensures ok { OnOk result (IsSettled self.now passes.now) }
         ensures refused { IfErr result (λ rule. IsCloseFault rule self.now passes.now) }
         ensures sound { IsSound self.now }
     {
-        let core = self.core();
         let seats = self.seats();
         if !have_each(passes, seats) {
             return Err(CloseRule::MissingPass);
@@ -65,16 +66,33 @@ impl Shared {
         if !have_one(passes, seats) {
             return Err(CloseRule::DoublePass);
         }
-        if !are_own(core.audit(), seats, passes) {
+        if !self.are_own(passes) {
             return Err(CloseRule::Mismatch);
         }
         Ok(())
     }
 
-    /// Hands out the node, where these are the passes of all seats, each once, and each has exactly the entries of its seat.
+    /// Whether each pass is that of its seat. It goes over the audit once.
+    fn are_own(&self, passes: &[Pass]) -> bool
+        requires each { HaveEach (length self.now.counts) passes.now }
+        requires one { HaveOne (length self.now.counts) passes.now }
+        ensures { IsTrue result ↔ AreOwn self.now passes.now }
+    {
+        let seats = self.seats();
+        self.all_fit(passes) && are_last(self.core().audit(), seats, calls_by_seat(passes, seats))
+    }
+
+    /// Whether each pass is of one of the seats, and made as many calls as that seat has entries.
+    fn all_fit(&self, passes: &[Pass]) -> bool
+        ensures { IsTrue result ↔ All (Fits self.now) passes.now }
+    {
+        passes.iter().all(|pass| self.knows(pass))
+    }
+
+    /// Hands out the node, where these are the passes of all seats, each once, and each is that of its seat, as `settles` says.
     /// Else all comes back as it was. It takes no memory.
     pub fn close(self, passes: Vec<Pass>) -> Result<Closed, Unsettled>
-        ensures ok { IfOk result (λ closed. (closed.core ≡ self.history) × IsSettled self passes.items) }
+        ensures ok { IfOk result (λ closed. (closed.core ≡ recorded self) × IsSettled self passes.items) }
         ensures refused { IfErr result (λ fault. IsCloseFault fault.rule self passes.items) }
         ensures passes { IfOk result (λ closed. closed.passes ≡ passes) }
         ensures back { IfErr result (λ fault. (fault.shared ≡ self) × (fault.passes ≡ passes)) }
@@ -161,30 +179,12 @@ fn have_one(passes: &[Pass], seats: u32) -> bool
     true
 }
 
-/// Whether each pass is of one of the seats, and has exactly the entries of that seat. It goes over the audit once.
-fn are_own(audit: &Audit, seats: u32, passes: &[Pass]) -> bool
-    requires each { HaveEach seats passes.now }
-    requires one { HaveOne seats passes.now }
-    requires seated { AllByRecursion (λ e. e.seat < seats) audit.now.entries }
-    requires few { seats ≤ 256 }
-    ensures { IsTrue result ↔ All (IsOwn seats audit.now.entries) passes.now }
-{
-    are_seated(passes, seats) && are_entries(audit, seats, calls_by_seat(passes, seats))
-}
-
-/// Whether each pass is of one of the seats.
-fn are_seated(passes: &[Pass], seats: u32) -> bool
-    ensures { IsTrue result ↔ All (λ p. p.seat < seats) passes.now }
-{
-    passes.iter().all(|pass| pass.seat() < seats)
-}
-
-/// The calls of each seat's pass.
+/// The calls that each seat's pass keeps.
 fn calls_by_seat(passes: &[Pass], seats: u32) -> [&[Call]; 256]
     requires seated { All (λ p. p.seat < seats) passes.now }
     requires one { HaveOne seats passes.now }
     requires few { seats ≤ 256 }
-    ensures { All (λ p. at_seat p.seat result ≡ p.calls) passes.now }
+    ensures { All (λ p. at_seat p.seat result ≡ kept_calls p) passes.now }
 {
     let none: &[Call] = &[];
     let mut calls = [none; 256];
@@ -194,34 +194,33 @@ fn calls_by_seat(passes: &[Pass], seats: u32) -> [&[Call]; 256]
     calls
 }
 
-/// Whether these are, seat by seat, the calls that made the entries.
-fn are_entries(audit: &Audit, seats: u32, mut left: [&[Call]; 256]) -> bool
+/// Whether these are, seat by seat, the last calls that made the entries of the audit, as far as both are kept. It goes from the
+/// last entry back.
+fn are_last(audit: &Audit, seats: u32, mut left: [&[Call]; 256]) -> bool
     requires seated { AllByRecursion (λ e. e.seat < seats) audit.now.entries }
     requires few { seats ≤ 256 }
-    ensures { IsTrue result ↔ AreLeft seats left.entry (reverse audit.now.entries) }
+    requires fits { length audit.now.entries < 2 ^ 32 }
+    ensures { IsTrue result ↔ AreLast seats left.entry (kept_entries audit.now.forgotten audit.now.entries) }
 {
-    for entry in audit.after(0) {
-        match behind_call(left[entry.seat as usize], entry) {
-            Some(later) => left[entry.seat as usize] = later,
+    let mut number = audit.len() as u32;
+    while let Some(entry) = audit.get(number) {
+        match earlier_calls(left[entry.seat as usize], entry) {
+            Some(earlier) => left[entry.seat as usize] = earlier,
             None => return false,
         }
+        number -= 1;
     }
-    are_empty(&left[..seats as usize])
+    true
 }
 
-fn are_empty(left: &[&[Call]]) -> bool
-    ensures { IsTrue result ↔ All (λ calls. calls.now ≡ []) left.now }
+/// The calls before the one that made the entry, where it is the last of these, or there are none.
+fn earlier_calls<'a>(calls: &'a [Call], entry: &Entry) -> Option<&'a [Call]>
+    ensures { MatchOption result ((earlier : List Call) → Precede calls.now entry.now earlier → ⊥) (λ earlier. Precede calls.now entry.now earlier.now) }
 {
-    left.iter().all(|calls| calls.is_empty())
-}
-
-/// The calls behind the one that made the entry, if it is the first of these.
-fn behind_call<'a>(calls: &'a [Call], entry: &Entry) -> Option<&'a [Call]>
-    ensures { MatchOption result ((later : List Call) → calls.now ≢ call_of entry.now ∷ later) (λ later. calls.now ≡ call_of entry.now ∷ later.now) }
-{
-    match calls.split_first() {
-        Some((call, later)) if is_call_of(call, entry) => Some(later),
-        _ => None,
+    match calls.split_last() {
+        None => Some(calls),
+        Some((call, earlier)) if is_call_of(call, entry) => Some(earlier),
+        Some(_) => None,
     }
 }
 

@@ -1,10 +1,15 @@
 //! Passes.
-ghost use Rattle.std.specs.Prelude.{◌≡◌, [], Some, IsSome};
-ghost use Rattle.node_threads.specs.Calls.{last_reply};
+ghost use Rattle.std.specs.Prelude.{◌≡◌, ◌<◌, [], length, Some, IsSome};
+ghost use Rattle.node_threads.specs.Calls.{kept_calls, last_reply};
 
+use erased_past::Past;
 use policy_audit::{Event, Reply, Verdict};
 use std::alloc::Global;
+use std::fmt;
 use std::marker::Model;
+
+/// Room for so many calls stays with a pass that lets its calls go.
+const ROOM: usize = 16;
 
 /// A call that made an entry.
 #[derive(Debug)]
@@ -25,35 +30,60 @@ impl Drop for Call {
     }
 }
 
-/// The right to call a node for one seat, with all calls for that seat that made an entry. A node makes one for each seat, and
-/// there are no copies.
-#[derive(Debug)]
+/// The right to call a node for one seat, with the calls for that seat that made an entry: all of them, or those since the pass
+/// was last told to let its calls go. Contracts go on seeing all. A node makes one for each seat, and there are no copies.
 pub struct Pass {
     pub(crate) seat: u32,
+    /// How many calls it has let go.
+    pub(crate) gone: u32,
+    /// Those behind them.
     pub(crate) calls: Vec<Call>,
+    /// Those that it has let go, the newest of these lists first. It has no bytes.
+    pub(crate) past: Past<Vec<Call>>,
 }
 
 impl Drop for Pass {
     fn drop(self) {
-        let Pass { seat: _, calls: _ } = self;
+        let Pass {
+            seat: _,
+            gone: _,
+            calls: _,
+            past: _,
+        } = self;
+    }
+}
+
+/// Shows the seat, the calls that are kept, and how many aren't.
+impl fmt::Debug for Pass {
+    fn fmt<W: fmt::Write>(&self, f: &mut fmt::Formatter<W>) -> fmt::Result {
+        f.debug_struct("Pass")
+            .field("seat", &self.seat)
+            .field("gone", &self.gone)
+            .field("calls", &self.calls)
+            .finish_non_exhaustive()
     }
 }
 
 impl Model for Pass {
-    ghost use Rattle.node_threads.specs.Calls.{Record};
+    ghost use Rattle.std.specs.Prelude.{◌++◌};
+    ghost use Rattle.node_threads.specs.Calls.{Record, AreParted, gone_calls};
 
     ghost Value = { Record };
 
-    ghost view = { λ pass. record { seat = pass.seat; calls = pass.calls.items } };
+    ghost view = { λ pass. record { seat = pass.seat; calls = gone_calls pass.past.items (λ list. list.items) ++ pass.calls.items; gone = pass.gone } };
+
+    ghost invariant = { λ pass. AreParted pass.gone (gone_calls pass.past.items (λ list. list.items)) pass.calls.items };
 }
 
 impl Pass {
     pub(crate) fn new(alloc: Global, seat: u32) -> Pass
-        ensures { result ≡ record { seat = seat; calls = [] } }
+        ensures { result ≡ record { seat = seat; calls = []; gone = 0 } }
     {
         Pass {
             seat,
+            gone: 0,
             calls: Vec::new(alloc),
+            past: Past::new(),
         }
     }
 
@@ -63,16 +93,34 @@ impl Pass {
         self.seat
     }
 
-    /// The calls that made an entry, in their order.
+    /// The calls that made an entry, in their order, as far as they are kept.
     pub fn calls(&self) -> &[Call]
-        ensures { result.now ≡ self.now.calls }
+        ensures { result.now ≡ kept_calls self.now }
     {
         self.calls.as_slice()
     }
 
+    /// How many calls made an entry, with those that it let go.
+    pub fn count(&self) -> u32
+        ensures { result ≡ length self.now.calls }
+    {
+        self.gone + self.calls.len() as u32
+    }
+
+    /// Lets the calls go that it keeps, and their memory but for a little.
+    pub fn let_go(&mut self)
+        ensures { self.new ≡ record { seat = self.old.seat; calls = self.old.calls; gone = length self.old.calls } }
+    {
+        self.gone = self.count();
+        self.past = self.past.then(&self.calls);
+        self.calls.clear();
+        self.calls.shrink_to(ROOM);
+    }
+
     /// What the last call was answered.
     pub(crate) fn last_reply(&self) -> &Reply
-        requires { IsSome (last_reply self.now.calls) }
+        requires some { IsSome (last_reply self.now.calls) }
+        requires kept { self.now.gone < length self.now.calls }
         ensures { Some result.now ≡ last_reply self.now.calls }
     {
         match self.calls.last() {

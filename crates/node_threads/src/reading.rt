@@ -89,6 +89,7 @@ fn read_on<R: Wait, I: Read, G: Gate>(
         if let Err(end) = hand_in_all(work, pass, &mut cutter, &piece[..count], gate) {
             return end;
         }
+        work.lighten(pass);
     }
     ReadEnd::ReadFault
 }

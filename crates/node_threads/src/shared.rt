@@ -1,10 +1,13 @@
 //! What lies behind the lock.
-ghost use Rattle.std.specs.Prelude.{◌≡◌, ◌+◌, ◌<◌, ◌≤◌, ◌↔◌, ◌++◌, ◌∷◌, [], false, replicate, length, vec_len, vec_capacity, slice_index, slice_set, Some, IsTrue, IsSome, IfOk, IfErr, IfSome, OnOk, OnErr};
+ghost use Rattle.std.specs.Prelude.{◌≡◌, ◌+◌, ◌<◌, ◌≤◌, ◌↔◌, ◌^◌, ◌++◌, ◌∷◌, [], false, replicate, length, vec_len, vec_capacity, slice_index, slice_set, Some, IsTrue, IsSome, IfOk, IfErr, IfSome, IfNone, OnOk, OnErr, OnSome};
 ghost use Rattle.node_core.specs.declared.fault.CoreFault.TheVariants as core_faults;
 ghost use Rattle.node_threads.specs.declared.fault.CallFault.TheVariants as faults;
+ghost use Rattle.policy_audit.specs.History.{audited};
+ghost use Rattle.policy_audit.specs.Pages.{page_size, IsPageBehind};
 ghost use Rattle.policy_audit.specs.Policy.{verdict, after, is_full, next_number, IsLegal};
-ghost use Rattle.node_threads.specs.Calls.{last_reply};
-ghost use Rattle.node_threads.specs.Room.{IsSound, AreCounted, one_more};
+ghost use Rattle.node_core.specs.Recorded.{IsSpare};
+ghost use Rattle.node_threads.specs.Calls.{entries_of, last_reply};
+ghost use Rattle.node_threads.specs.Room.{IsSound, AreCounted, one_more, recorded, room_of};
 ghost use Rattle.node_threads.specs.Applied.{Fits, Applied, IsKept, room_after};
 
 use crate::fault::CallFault;
@@ -12,7 +15,7 @@ use crate::pass::{Call, Pass};
 use crate::resting::Resting;
 use dist_types::{OutOfMemory, TryClone};
 use node_core::{CoreFault, NodeCore};
-use policy_audit::{Entry, Event, Reply, Rule, Verdict};
+use policy_audit::{Entry, Event, Page, Reply, Rule, Verdict};
 use std::alloc::Global;
 use std::marker::Model;
 
@@ -49,22 +52,22 @@ impl Drop for Shared {
 }
 
 impl Model for Shared {
-    ghost use Rattle.node_threads.specs.Room.{Room, IsSound};
+    ghost use Rattle.node_threads.specs.Room.{Room, IsSound, room_of};
 
     ghost Value = { Room };
 
-    ghost view = { λ shared. record { history = shared.core; counts = shared.counts.items } };
+    ghost view = { λ shared. room_of shared.core shared.counts.items };
 
-    ghost invariant = { λ shared. IsSound (record { history = shared.core; counts = shared.counts.items }) };
+    ghost invariant = { λ shared. IsSound (room_of shared.core shared.counts.items) };
 }
 
 impl Shared {
     /// A node that has seen nothing, for that many seats.
     pub(crate) fn new(alloc: Global, core: NodeCore, seats: u32) -> Result<Shared, OutOfMemory>
-        requires unused { core.entries ≡ [] }
+        requires unused { core.history.entries ≡ [] }
         requires some { 0 < seats }
         requires few { seats ≤ 256 }
-        ensures { IfOk result (λ shared. shared ≡ record { history = core; counts = replicate seats 0 }) }
+        ensures { IfOk result (λ shared. shared ≡ room_of core (replicate seats 0)) }
     {
         let counts = vec![in alloc; 0u32; seats as usize]?;
         Ok(Shared {
@@ -80,10 +83,24 @@ impl Shared {
 
     /// The node, to be read while the lock is held.
     pub fn core(&self) -> &NodeCore
-        ensures history { result.now ≡ self.now.history }
+        ensures history { result.now.history ≡ self.now.history }
+        ensures forgotten { result.now.forgotten ≡ self.now.forgotten }
         ensures sound { IsSound self.now }
     {
         &self.core
+    }
+
+    /// Hands out the oldest page of the audit, under a lock that the caller has taken: the 256 entries behind those that were
+    /// handed out before. Nothing else changes. `None` for the last page, and while a monitor has still to be told of one of the
+    /// entries.
+    pub fn forget(&mut self) -> Option<Page>
+        ensures same { (self.new.history ≡ self.old.history) × (self.new.counts ≡ self.old.counts) }
+        ensures page { IfSome result (λ page. IsPageBehind self.old.forgotten (audited self.old.history.entries) page
+            × (self.new.forgotten ≡ self.old.forgotten + page_size)) }
+        ensures spare { OnSome result (IsSpare (recorded self.old)) }
+        ensures none { IfNone result ((self.new ≡ self.old) × (IsSpare (recorded self.old) → ⊥)) }
+    {
+        self.core.forget()
     }
 
     /// Whether memory was wanting for an event, and again for the next one, after the node had let go what it can.
@@ -130,6 +147,11 @@ impl Shared {
     /// Whether the writer of this link has something to do: frames to take, or to end.
     pub(crate) fn calls_writer(&self, link: u32) -> bool {
         self.stuck || self.core.is_full() || self.core.waiting(link) != Some(0)
+    }
+
+    /// Whether entries were handed out.
+    pub(crate) fn has_forgotten(&self) -> bool {
+        self.core.audit().forgotten() > 0
     }
 
     /// The writer of this link rests from now on, at a place of its own if there is one.
@@ -194,13 +216,14 @@ impl Shared {
 
     /// How many seats there are.
     pub(crate) fn seats(&self) -> u32
-        ensures { result ≡ length self.now.counts }
+        ensures count { result ≡ length self.now.counts }
+        ensures sound { IsSound self.now }
     {
         self.counts.len() as u32
     }
 
     pub(crate) fn into_core(self) -> NodeCore
-        ensures { result ≡ self.history }
+        ensures { result ≡ recorded self }
     {
         let Shared {
             alloc: _,
@@ -219,7 +242,7 @@ impl Shared {
         ensures { IsTrue result ↔ Fits self.now pass.now }
     {
         match self.counts.get(pass.seat as usize) {
-            Some(count) => *count as usize == pass.calls.len(),
+            Some(count) => *count == pass.count(),
             None => false,
         }
     }
@@ -235,6 +258,7 @@ impl Shared {
     pub(crate) fn enter(&mut self, pass: &mut Pass, event: Event) -> Result<(), CallFault>
         ensures ok { OnOk result (IfSome (last_reply pass.new.calls) (λ reply. Applied self.old pass.old event (Ok reply) self.new pass.new)) }
         ensures replied { OnOk result (IsSome (last_reply pass.new.calls)) }
+        ensures kept { OnOk result (pass.new.gone < length pass.new.calls) }
         ensures refused { IfErr result (λ fault. Applied self.old pass.old event (Err fault) self.new pass.new) }
         ensures found { IsSound self.old }
         ensures left { IsSound self.new }
@@ -270,6 +294,7 @@ impl Shared {
         requires free { is_full self.old.history ≡ false }
         ensures number { IfOk result (λ entry. entry.0 ≡ next_number self.old.history) }
         ensures verdict { IfOk result (λ entry. entry.1 ≡ verdict self.old.history seat event) }
+        ensures few { OnOk result (entries_of seat (audited self.old.history.entries) + 1 < 2 ^ 32) }
         ensures room { OnOk result (self.new ≡ room_after self.old seat event) }
         ensures memory { OnErr result (self.new ≡ self.old) }
         ensures left { IsSound self.new }
@@ -344,9 +369,10 @@ fn keep(calls: &mut Vec<Call>, call: Call) -> Result<(), CallFault>
 /// The verdict of one step.
 #[tactic(auto, unfolding(node_core::specs::Step::IsStepped))]
 fn judge(core: &mut NodeCore, seat: u32, event: Event) -> Result<Verdict, OutOfMemory>
-    ensures ok { IfOk result (λ v. v ≡ verdict core.old seat event) }
-    ensures entered { OnOk result (core.new ≡ after core.old seat event) }
-    ensures memory { OnErr result (core.new ≡ core.old) }
+    ensures ok { IfOk result (λ v. v ≡ verdict core.old.history seat event) }
+    ensures entered { OnOk result (core.new.history ≡ after core.old.history seat event) }
+    ensures memory { OnErr result (core.new.history ≡ core.old.history) }
+    ensures forgotten { core.new.forgotten ≡ core.old.forgotten }
 {
     match core.step(seat, event) {
         Ok(reply) => Ok(Verdict::Accepted(reply)),

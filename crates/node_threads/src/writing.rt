@@ -69,6 +69,7 @@ fn write_on<R: Wait, W: LinkOut>(
         if let Err(end) = write_once(work, pass, output) {
             return end;
         }
+        work.lighten(pass);
     }
     unreachable!()
 }

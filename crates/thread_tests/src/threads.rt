@@ -4,6 +4,7 @@ mod accepting;
 mod challenges;
 mod close;
 mod crowd;
+mod forgetting;
 mod news;
 mod openings;
 mod read_back;

@@ -1,7 +1,7 @@
 use Rattle.std.proofs.Common.{ℕ, [], ◌++◌, take, refl, append-nil}
 use Rattle.std.specs.Io.KnownBytes.{Consumes}
 use Rattle.std.proofs.KnownBytes.{Consumes-trans, Consumes-kept}
-use Rattle.node_threads.proofs.Steps.{reads_then, stops_then, reads_to_end, reads_to_stop}
+use Rattle.node_threads.proofs.Steps.{reads_lighter, reads_then, stops_then, reads_to_end, reads_to_stop}
 use Rattle.node_threads.proofs.reading.read_on.Goals as goal
 
 pub returns-in-Ok-eq0-clause-bytes : goal.returns-in-Ok-eq0-clause-bytes
@@ -41,7 +41,7 @@ loop-preserved g c =
     let piece = take c.in-Ok.count c.read.new.buf in (
       so_far.0 ++ piece,
       Consumes-trans _ mid _ so_far.0 piece so_far.1 c.in-Ok.ensures.bytes.0,
-      reads_then so_far.2 c.in_default.ensures.ok,
+      reads_lighter (reads_then so_far.2 c.in_default.ensures.ok) c.lighten.ensures,
     )
 
 pub returns-clause-bytes : goal.returns-clause-bytes

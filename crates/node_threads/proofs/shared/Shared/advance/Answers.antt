@@ -3,6 +3,7 @@ use Rattle.std.proofs.lemmas.List.{get_or_default}
 use Rattle.policy_audit.specs.declared.entry.Entry.{Entry}
 use Rattle.policy_audit.specs.History.{audited}
 use Rattle.policy_audit.specs.Policy.{is_full, next_number}
+use Rattle.node_threads.specs.Calls.{entries_of}
 use Rattle.node_threads.specs.Room.{Room, IsSound}
 use Rattle.node_threads.specs.Applied.{room_after}
 use Rattle.node_threads.proofs.Counted.{audited_after, number_after, entries_of_le, room_moved}
@@ -12,9 +13,9 @@ use Rattle.node_threads.proofs.shared.Shared.advance.Goals as goal
 -- a count is at most that of all entries before, and those are fewer than 2^32
 pub overflow_add-index_mut : goal.overflow_add-index_mut
 overflow_add-index_mut c =
-    let free : is_full c.self.inside.core ≡ false = ap (λ (r : Room). is_full r.history)
+    let free : is_full c.self.inside.core.history ≡ false = ap (λ (r : Room). is_full r.history)
     c.self.view_is ∙ c.requires.free in
-    let entries = audited_after c.self.inside.core c.judge.new.core c.args.seat c.args.event free
+    let entries = audited_after c.self.inside.core.history c.judge.new.core.history c.args.seat c.args.event free
     c.in_ok-verdict.ensures.entered in
     let within = subst (λ (r : Room). c.args.seat < length r.counts) (sym c.self.view_is)
     c.requires.seat in
@@ -25,7 +26,7 @@ overflow_add-index_mut c =
       here,
       c.index_mut.ensures.value,
       c.self.invariant.counted.each c.args.seat within,
-      entries_of_le c.args.seat (audited c.self.inside.core.entries),
+      entries_of_le c.args.seat (audited c.self.inside.core.history.entries),
       ap (λ (es : List Entry). length es) (c.audit.ensures.entries ∙ entries),
       c.audit.ensures.count,
       c.audit.ensures.few,
@@ -34,42 +35,62 @@ overflow_add-index_mut c =
 
 pub returns-clause-number : goal.returns-clause-number
 returns-clause-number c =
-    let free : is_full c.self.inside.core ≡ false = ap (λ (r : Room). is_full r.history)
+    let free : is_full c.self.inside.core.history ≡ false = ap (λ (r : Room). is_full r.history)
     c.self.view_is ∙ c.requires.free in
     c.len-number.ensures ∙ c.audit.ensures.count
-    ∙ number_after c.self.inside.core c.judge.new.core c.args.seat c.args.event free
+    ∙ number_after c.self.inside.core.history c.judge.new.core.history c.args.seat c.args.event free
     c.in_ok-verdict.ensures.entered
     ∙ ap (λ (r : Room). next_number r.history) c.self.view_is
 
 pub invariant_of-self-2 : goal.invariant_of-self-2
 invariant_of-self-2 c =
-    let free : is_full c.self.inside.core ≡ false = ap (λ (r : Room). is_full r.history)
+    let free : is_full c.self.inside.core.history ≡ false = ap (λ (r : Room). is_full r.history)
     c.self.view_is ∙ c.requires.free in
     let within = subst (λ (r : Room). c.args.seat < length r.counts) (sym c.self.view_is)
     c.requires.seat in
-    sound_moved c.self.inside.core c.judge.new.core c.self.inside.counts.items c.args.seat
-    c.index_mut.result.now c.args.event free c.in_ok-verdict.ensures.entered within
+    sound_moved c.self.inside.core.history c.judge.new.core.history c.self.inside.counts.items
+    c.self.inside.core.forgotten c.judge.new.core.forgotten c.args.seat c.index_mut.result.now
+    c.args.event free c.in_ok-verdict.ensures.entered within
     c.index_mut.ensures.value c.audit.ensures.legal c.self.invariant
 
 pub returns-clause-room : goal.returns-clause-room
 returns-clause-room c =
-    let free : is_full c.self.inside.core ≡ false = ap (λ (r : Room). is_full r.history)
+    let free : is_full c.self.inside.core.history ≡ false = ap (λ (r : Room). is_full r.history)
     c.self.view_is ∙ c.requires.free in
     let within = subst (λ (r : Room). c.args.seat < length r.counts) (sym c.self.view_is)
     c.requires.seat in
     c.note_news.ensures
-    ∙ room_moved c.self.inside.core c.judge.new.core c.self.inside.counts.items c.args.seat
-    c.index_mut.result.now c.args.event free c.in_ok-verdict.ensures.entered within
-    c.index_mut.ensures.value
+    ∙ room_moved c.self.inside.core.history c.judge.new.core.history c.self.inside.counts.items
+    c.self.inside.core.forgotten c.judge.new.core.forgotten c.args.seat c.index_mut.result.now
+    c.args.event free c.in_ok-verdict.ensures.entered within c.index_mut.ensures.value
+    c.judge.ensures.forgotten
     ∙ ap (λ (r : Room). room_after r c.args.seat c.args.event) c.self.view_is
 
 pub returns-clause-left : goal.returns-clause-left
 returns-clause-left c =
-    let free : is_full c.self.inside.core ≡ false = ap (λ (r : Room). is_full r.history)
+    let free : is_full c.self.inside.core.history ≡ false = ap (λ (r : Room). is_full r.history)
     c.self.view_is ∙ c.requires.free in
     let within = subst (λ (r : Room). c.args.seat < length r.counts) (sym c.self.view_is)
     c.requires.seat in
     subst IsSound (sym c.note_news.ensures)
-    (sound_moved c.self.inside.core c.judge.new.core c.self.inside.counts.items c.args.seat
-    c.index_mut.result.now c.args.event free c.in_ok-verdict.ensures.entered within
+    (sound_moved c.self.inside.core.history c.judge.new.core.history c.self.inside.counts.items
+    c.self.inside.core.forgotten c.judge.new.core.forgotten c.args.seat c.index_mut.result.now
+    c.args.event free c.in_ok-verdict.ensures.entered within
     c.index_mut.ensures.value c.audit.ensures.legal c.self.invariant)
+
+pub returns-clause-few : goal.returns-clause-few
+returns-clause-few c =
+    let free : is_full c.self.inside.core.history ≡ false = ap (λ (r : Room). is_full r.history)
+    c.self.view_is ∙ c.requires.free in
+    let entries = audited_after c.self.inside.core.history c.judge.new.core.history c.args.seat
+    c.args.event free
+    c.in_ok-verdict.ensures.entered in
+    omega (
+      arith,
+      ap (λ (r : Room). entries_of c.args.seat (audited r.history.entries)) c.self.view_is,
+      entries_of_le c.args.seat (audited c.self.inside.core.history.entries),
+      ap (λ (es : List Entry). length es) (c.audit.ensures.entries ∙ entries),
+      c.audit.ensures.count,
+      c.audit.ensures.few,
+      c.audit.ensures.fits,
+    )

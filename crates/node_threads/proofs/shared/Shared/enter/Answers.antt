@@ -1,13 +1,21 @@
-use Rattle.std.proofs.Common.{◌≡◌, ◌∙◌, ap, sym, refl, false}
+use Rattle.std.proofs.Common.{◌≡◌, ◌∙◌, List, ◌++◌, append_assoc, ap, sym, refl, false}
 use Rattle.policy_audit.specs.Policy.{is_full}
-use Rattle.node_threads.specs.Calls.{Record, last_reply}
+use Rattle.node_threads.specs.declared.pass.Call.{Call}
+use Rattle.node_threads.specs.Calls.{Record, gone_calls, last_reply}
 use Rattle.node_threads.specs.Room.{Room}
 use Rattle.node_threads.specs.Applied.{IsAnswered}
 use Rattle.node_threads.proofs.Kept.{answered, told_ok, told_refusal, last_reply_push}
 use Rattle.node_threads.proofs.shared.Shared.enter.Goals as goal
 
+abbrev first : goal.After-keep → List Call
+first c = gone_calls c.pass.inside.past.items (λ list. list.items)
+
 abbrev after : goal.After-keep → Record
-after c = record { seat = c.pass.inside.seat; calls = c.keep.new.calls.items }
+after c = record {
+  seat = c.pass.inside.seat;
+  calls = first c ++ c.keep.new.calls.items;
+  gone = c.pass.inside.gone;
+}
 
 is_answered : (c : goal.After-keep) → IsAnswered c.args.self.now c.args.pass.now c.args.event
     c.in-Ok-advance.verdict c.note_plenty.new.self (after c)
@@ -15,15 +23,19 @@ is_answered c =
     let free : is_full c.args.self.now.history ≡ false =
     ap (λ (r : Room). is_full r.history) (sym c.self.view_is) ∙ sym c.if-is_full.ensures in
     rw (← c.pass.view_is) (answered c.args.self.now c.note_plenty.new.self _
-    c.args.event c.in-Ok-advance.number c.in-Ok-advance.verdict c.keep.new.calls.items
+    c.args.event c.in-Ok-advance.number c.in-Ok-advance.verdict (first c ++ c.keep.new.calls.items)
     (rw c.pass.view_is (c.if-not-fits.ensures.0 refl)) free c.in-Ok-advance.ensures.number
     c.in-Ok-advance.ensures.verdict (c.note_plenty.ensures ∙ c.in-Ok-advance.ensures.room)
-    (rw (c.in-Ok.ensures.same, c.in-Ok.ensures.copy) at c.keep.ensures.calls))
+    (ap (λ (cs : List Call). first c ++ cs)
+    (rw (c.in-Ok.ensures.same, c.in-Ok.ensures.copy) at c.keep.ensures.calls)
+    ∙ sym (append_assoc (first c) c.pass.inside.calls.items _)))
 
 pub returns-clause-ok : goal.returns-clause-ok
 returns-clause-ok c = told_ok c.args.self.now c.note_plenty.new.self c.args.pass.now (after c)
     c.args.event c.keep.result c.in-Ok-advance.verdict
-    (ap last_reply c.keep.ensures.calls ∙ last_reply_push c.room_and_copy.new.calls.items _)
+    (ap (λ (cs : List Call). last_reply (first c ++ cs)) c.keep.ensures.calls
+    ∙ ap last_reply (sym (append_assoc (first c) c.room_and_copy.new.calls.items _))
+    ∙ last_reply_push (first c ++ c.room_and_copy.new.calls.items) _)
     c.keep.ensures.answer (is_answered c)
 
 pub returns-clause-refused : goal.returns-clause-refused

@@ -11,7 +11,7 @@ invariant_of-result c =
     let zeros : c.in_ok-counts.counts.items ≡ replicate c.args.seats 0 =
     c.in_ok-counts.ensures.items_if_clones_equal (λ y h. h) in
     record {
-      legal = subst (λ (es : List Entry). IsLegal (past c.args.core.opening es))
+      legal = subst (λ (es : List Entry). IsLegal (past c.args.core.history.opening es))
           (sym c.requires.unused) (record { entries = tt; whole = refl });
       counted = subst (λ (es : List Entry). AreCounted c.in_ok-counts.counts.items
           (audited es))

@@ -1,0 +1,12 @@
+use Rattle.std.proofs.Common.{◌≡◌, ◌∷◌, List, [], length, inl, refl, arith}
+use Rattle.node_threads.specs.declared.pass.Call.{Call}
+use Rattle.node_threads.proofs.Settling.{precede_one, precede_none}
+use Rattle.node_threads.proofs.close.earlier_calls.Goals as goal
+
+nothing : (calls : List Call) → length calls ≡ 0 → calls ≡ []
+nothing [] q = refl
+nothing (c ∷ calls) q = absurd (omega (arith, q))
+
+pub returns-in-None : goal.returns-in-None
+returns-in-None c =
+    let none = nothing c.args.calls.now c.in-None.ensures.cases in inl (none, none)

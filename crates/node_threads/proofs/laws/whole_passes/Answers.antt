@@ -1,0 +1,5 @@
+use Rattle.node_threads.proofs.Whole.{own_has_all, all_is_own}
+use Rattle.node_threads.proofs.laws.whole_passes.Goals as goal
+
+pub returns : goal.returns
+returns c = λ room p whole. (own_has_all room p whole, all_is_own room p whole)
