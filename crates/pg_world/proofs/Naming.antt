@@ -1,9 +1,17 @@
 -- Names that two nodes share.
 use Rattle.pg_world.proofs
-use proofs.Words.{ap, Bool, Decides, Decides-eqb, false, get_or, History, length, List, nat_eq}
+use proofs.Words.{ap, Bool, Decides, Decides-eqb, false, get_or, histories, History, length, List, nat_eq}
 use proofs.Words.{pointwise, refl, ShareAName, slice_eq-Decides, slice_get, slice_get_read, Some}
+use proofs.Words.{option_map, Recorded, slice_get-map}
 use proofs.Words.{sym, true, ℕ, ◌<◌, ◌∙◌, ◌≡◌, ◌≢◌}
 use proofs.Puts.{value_of}
+
+-- the history of the node that is read at a place stands there
+pub stands : (nodes : List Recorded) (i : ℕ) (node : Recorded) → i < length nodes
+    → node ≡ get_or nodes i node → slice_get (histories nodes) i ≡ Some node.history
+stands nodes i node within is = slice_get-map (λ n. n.history) nodes i
+    ∙ ap (option_map (λ n. n.history))
+    (slice_get_read nodes (length nodes) i node refl within is)
 
 -- the comparison of two names decides
 alike : (x y : List ℕ) → Decides (pointwise nat_eq x y) (x ≡ y)
@@ -12,10 +20,8 @@ alike x y = slice_eq-Decides {E = nat_eq} Decides-eqb x y (pointwise nat_eq x y)
 module _ (hs : List History) (i j : ℕ) (a b : History) (x y : List ℕ) where
   -- what is read at two places, and the names there
   pub record Read : Type 0 where
-    pub within : i < length hs
-    pub there : j < length hs
-    pub one : a ≡ get_or hs i a
-    pub another : b ≡ get_or hs j b
+    pub one : slice_get hs i ≡ Some a
+    pub another : slice_get hs j ≡ Some b
     pub name : x ≡ a.opening.name
     pub other : y ≡ b.opening.name
 
@@ -26,16 +32,16 @@ module _ (hs : List History) (i j : ℕ) (a b : History) (x y : List ℕ) where
     one = a;
     another = b;
     before = before;
-    first_stands = slice_get_read hs (length hs) i a refl t.within t.one;
-    second_stands = slice_get_read hs (length hs) j b refl t.there t.another;
+    first_stands = t.one;
+    second_stands = t.another;
     same = sym t.name ∙ (alike x y).0 (sym is ∙ holds) ∙ t.other;
   }
 
   pub apart : (r : Bool) → Read → r ≡ pointwise nat_eq x y → r ≡ false → (h k : History)
       → slice_get hs i ≡ Some h → slice_get hs j ≡ Some k → h.opening.name ≢ k.opening.name
   apart r t is fails h k one two same =
-      let h_is = value_of (sym (slice_get_read hs (length hs) i a refl t.within t.one) ∙ one) in
-      let k_is = value_of (sym (slice_get_read hs (length hs) j b refl t.there t.another) ∙ two) in
+      let h_is = value_of (sym t.one ∙ one) in
+      let k_is = value_of (sym t.another ∙ two) in
       let both = t.name ∙ ap (λ v. v.opening.name) h_is ∙ same ∙ sym (ap (λ v. v.opening.name) k_is)
       ∙ sym t.other in
       let holds = is ∙ (alike x y).1 both in

@@ -8,7 +8,7 @@ pub use Rattle.std.proofs.lemmas.Bool.Decides.{Decides-eqb}
 pub use Rattle.std.proofs.lemmas.List.{append-nil, append_assoc, length-set, map-append, set-get_or}
 pub use Rattle.std.proofs.lemmas.List.{set-set, take_at}
 pub use Rattle.std.proofs.lemmas.Option.{get_or_from_slice_get, slice_get-get_or, slice_get_past}
-pub use Rattle.std.proofs.lemmas.Option.{slice_get_read, slice_get_within}
+pub use Rattle.std.proofs.lemmas.Option.{slice_get-map, slice_get_read, slice_get_within}
 pub use Rattle.std.proofs.lemmas.Result.{err_from_is_err_and}
 pub use Rattle.std.proofs.lemmas.Slice.Eq.{slice_eq-Decides}
 pub use Rattle.std.specs.Bool.{Decides}
@@ -108,7 +108,8 @@ pub use Rattle.pg_world.specs.Steps.{turn_of, Turns, wire_end, wire_opener, wire
 pub use Rattle.pg_world.specs.Views.{AreEnds, hears_node, ListMoments, ListNow}
 pub use Rattle.pg_world.specs.World.{dialled, DifferInName, HaveNodes, link_at, node_at, Nodes}
 pub use Rattle.pg_world.specs.World.{other, ShareAName, under_way, Wire, with_link, with_queue}
-pub use Rattle.pg_world.specs.World.{world}
+pub use Rattle.pg_world.specs.World.{histories, world}
+pub use Rattle.node_core.specs.Recorded.{Recorded}
 pub use Rattle.pg_world.specs.declared.fault.WorldFault.{WorldFault}
 pub use Rattle.pg_world.specs.declared.side.End.{End}
 pub use Rattle.pg_world.specs.declared.side.Side.{Side}

@@ -4,6 +4,7 @@ pub mod Steps
 pub mod Refusals
 pub mod Sound
 pub mod Views
+pub mod HandedOut
 pub mod UnderWay
 pub mod Exchange
 pub mod Starting

@@ -26,3 +26,4 @@ pub record HaveEntries (hs : List History) : Type 0 where
 abbrev pub IsNodesFault : NodesFault → List History → Type 0
 IsNodesFault nodes_fault.SameName hs = ShareAName hs
 IsNodesFault nodes_fault.HasEntries hs = DifferInName hs × HaveEntries hs
+IsNodesFault nodes_fault.OutOfMemory hs = DifferInName hs × AreNew hs

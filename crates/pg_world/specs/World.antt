@@ -1,7 +1,8 @@
 -- Several nodes, and the wires between them.
-use Rattle.std.specs.Prelude.{◌≡◌, ◌≢◌, ℕ, ◌<◌, List, [], Option, Some, None, length, slice_get}
+use Rattle.std.specs.Prelude.{◌≡◌, ◌≢◌, ℕ, ◌<◌, List, [], Option, Some, None, length, map, slice_get}
 use Rattle.policy_audit.specs.OutFrame.{OutFrame}
 use Rattle.policy_audit.specs.History.{History}
+use Rattle.node_core.specs.Recorded.{Recorded}
 use Rattle.pg_world.specs.declared.side.Side.{Side}
 use Rattle.pg_world.specs.declared.side.Side.TheVariants as side
 
@@ -18,6 +19,10 @@ pub record Wire : Type 0 where
 pub record Nodes : Type 0 where
   pub nodes : List History
   pub wires : List Wire
+
+-- the histories of these nodes
+abbrev pub histories : List Recorded → List History
+histories nodes = map (λ node. node.history) nodes
 
 -- these nodes and wires
 abbrev pub world : List History → List Wire → Nodes

@@ -31,6 +31,8 @@ pub enum NodesFault {
     /// A world begins with nodes that have seen nothing.
     #[error("a node has entries already")]
     HasEntries,
+    #[error("out of memory")]
+    OutOfMemory,
 }
 
 /// There is no world. The nodes come back.

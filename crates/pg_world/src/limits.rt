@@ -10,8 +10,8 @@ use policy_audit::Event;
 
 /// Whether a node has seen something.
 pub(crate) fn has_entries(node: &NodeCore) -> bool
-    ensures yes { IsTrue result → node.now.entries ≢ [] }
-    ensures no { IsFalse result → IsNew node.now }
+    ensures yes { IsTrue result → node.now.history.entries ≢ [] }
+    ensures no { IsFalse result → IsNew node.now.history }
 {
     let _name = node.name().as_bytes();
     let _creation = node.creation();

@@ -6,19 +6,20 @@ ghost use Rattle.pg_world.specs.Queues.{place_dialled};
 ghost use Rattle.pg_world.specs.Steps.{new_wire, IsWorldStep, Turns, asks, is_wrong, end_at, opener_at};
 
 use crate::fault::WorldFault;
+use crate::node::Node;
 use crate::queue::{ENTRIES_FULL, OUT_OF_MEMORY, plain};
 use crate::side::{End, Side};
 use crate::wire::{Wire, link_opened};
 use crate::world_step::{WorldReply, WorldStep};
 use dist_types::{NodeName, OutOfMemory, TryClone};
-use node_core::{CoreFault, NodeCore};
+use node_core::CoreFault;
 use policy_audit::{Event, Reply};
 use std::alloc::Global;
 
 /// One step of one node, or the first fault, which changes nothing.
 pub(crate) fn make_step(
     alloc: Global,
-    nodes: &mut [NodeCore],
+    nodes: &mut [Node],
     wires: &mut Vec<Wire>,
     step: WorldStep,
 ) -> Result<WorldReply, WorldFault>
@@ -45,12 +46,7 @@ pub(crate) fn make_step(
 }
 
 /// A node answers a call.
-fn call(
-    nodes: &mut [NodeCore],
-    node: usize,
-    seat: u32,
-    event: Event,
-) -> Result<WorldReply, WorldFault>
+fn call(nodes: &mut [Node], node: usize, seat: u32, event: Event) -> Result<WorldReply, WorldFault>
     ensures { (xs : List Wire) → IsWorldStep (world nodes.old xs) (step.Call node seat event) (world nodes.new xs) result }
 {
     if is_wrong(&event) {
@@ -61,7 +57,7 @@ fn call(
 }
 
 /// A node begins anew.
-fn restart(nodes: &mut [NodeCore], node: usize, seat: u32) -> Result<WorldReply, WorldFault>
+fn restart(nodes: &mut [Node], node: usize, seat: u32) -> Result<WorldReply, WorldFault>
     ensures { (xs : List Wire) → IsWorldStep (world nodes.old xs) (step.Restart node seat) (world nodes.new xs) result }
 {
     ask(nodes, node, seat, Event::Restart)
@@ -70,7 +66,7 @@ fn restart(nodes: &mut [NodeCore], node: usize, seat: u32) -> Result<WorldReply,
 /// A node dials another. The name is copied and the wire has its room before the node's step.
 fn dial(
     alloc: Global,
-    nodes: &mut [NodeCore],
+    nodes: &mut [Node],
     wires: &mut Vec<Wire>,
     from: usize,
     to: usize,
@@ -96,7 +92,7 @@ fn dial(
 
 /// The other node of a wire opens its link.
 fn accept(
-    nodes: &mut [NodeCore],
+    nodes: &mut [Node],
     wires: &mut [Wire],
     wire: usize,
     seat: u32,
@@ -112,7 +108,7 @@ fn accept(
 
 /// The frames that wait at a side of a wire are under way to the other.
 fn hand(
-    nodes: &mut [NodeCore],
+    nodes: &mut [Node],
     wires: &mut [Wire],
     wire: usize,
     side: Side,
@@ -129,7 +125,7 @@ fn hand(
 /// The oldest frame under way to a side of a wire comes there.
 fn deliver(
     alloc: Global,
-    nodes: &mut [NodeCore],
+    nodes: &mut [Node],
     wires: &mut [Wire],
     wire: usize,
     side: Side,
@@ -148,7 +144,7 @@ fn deliver(
 
 /// The link at a side of a wire is lost, and what is under way to it.
 fn cut(
-    nodes: &mut [NodeCore],
+    nodes: &mut [Node],
     wires: &mut [Wire],
     wire: usize,
     side: Side,
@@ -163,12 +159,7 @@ fn cut(
 }
 
 /// A node answers an event, if it is there.
-fn ask(
-    nodes: &mut [NodeCore],
-    node: usize,
-    seat: u32,
-    event: Event,
-) -> Result<WorldReply, WorldFault>
+fn ask(nodes: &mut [Node], node: usize, seat: u32, event: Event) -> Result<WorldReply, WorldFault>
     ensures { (xs : List Wire) → Turns (world nodes.old xs) (step.Call node seat event) (asks nodes.old node seat event) (world nodes.new xs) result }
 {
     if node >= nodes.len() {
@@ -180,7 +171,7 @@ fn ask(
 }
 
 /// The link at a side of a wire, and the node there.
-fn end_of(nodes: &[NodeCore], wires: &[Wire], wire: usize, side: Side) -> Result<End, WorldFault>
+fn end_of(nodes: &[Node], wires: &[Wire], wire: usize, side: Side) -> Result<End, WorldFault>
     ensures exact { result ≡ end_at (world nodes.now wires.now) wire side }
     ensures within { IfOk result (λ end. (end.node < length nodes.now) × (wire < length wires.now)) }
 {
@@ -199,7 +190,7 @@ fn end_of(nodes: &[NodeCore], wires: &[Wire], wire: usize, side: Side) -> Result
 }
 
 /// The node that is to open its link of a wire.
-fn opener(nodes: &[NodeCore], wires: &[Wire], wire: usize) -> Result<usize, WorldFault>
+fn opener(nodes: &[Node], wires: &[Wire], wire: usize) -> Result<usize, WorldFault>
     ensures exact { result ≡ opener_at (world nodes.now wires.now) wire }
     ensures within { IfOk result (λ node. (node < length nodes.now) × (wire < length wires.now)) }
 {
@@ -218,11 +209,7 @@ fn opener(nodes: &[NodeCore], wires: &[Wire], wire: usize) -> Result<usize, Worl
 }
 
 /// A copy of a node's name, and room for one wire.
-fn name_and_room(
-    alloc: Global,
-    node: &NodeCore,
-    wires: &mut Vec<Wire>,
-) -> Result<NodeName, OutOfMemory>
+fn name_and_room(alloc: Global, node: &Node, wires: &mut Vec<Wire>) -> Result<NodeName, OutOfMemory>
     ensures name { IfOk result (λ name. name ≡ node.now.opening.name) }
     ensures room { OnOk result (vec_len wires.new < vec_capacity wires.new) }
     ensures same { wires.new.items ≡ wires.old.items }

@@ -5,9 +5,10 @@ ghost use Rattle.policy_audit.specs.Policy.{is_full};
 ghost use Rattle.pg_world.specs.Queues.{Answers, plain, frames_in, count_handed, joined_by, leaves, left_by, is_gone, cut_by, oldest};
 
 use crate::fault::WorldFault;
+use crate::node::Node;
 use crate::world_step::WorldReply;
 use dist_types::{Body, OutOfMemory, TryClone};
-use node_core::{CoreFault, NodeCore};
+use node_core::CoreFault;
 use policy_audit::{Event, OutFrame, Reply, Rule};
 use std::alloc::Global;
 
@@ -18,7 +19,7 @@ pub(crate) const OUT_OF_MEMORY: WorldFault = WorldFault::Core(CoreFault::OutOfMe
 
 /// The frames that wait for a link join a queue.
 pub(crate) fn hand_over(
-    core: &mut NodeCore,
+    core: &mut Node,
     seat: u32,
     link: u32,
     queue: &mut Vec<OutFrame>,
@@ -38,7 +39,7 @@ pub(crate) fn hand_over(
 }
 
 /// Makes room in a queue for the frames that wait for a link.
-fn make_room(core: &NodeCore, link: u32, queue: &mut Vec<OutFrame>) -> Result<(), OutOfMemory>
+fn make_room(core: &Node, link: u32, queue: &mut Vec<OutFrame>) -> Result<(), OutOfMemory>
     ensures room { OnOk result (IsTrue (is_kept core.now link) → vec_len queue.new + length (waiting core.now link) ≤ vec_capacity queue.new) }
     ensures same { queue.new.items ≡ queue.old.items }
 {
@@ -67,7 +68,7 @@ fn append(queue: &mut Vec<OutFrame>, reply: Reply) -> usize
 /// The oldest frame of a queue comes on a link.
 pub(crate) fn deliver_oldest(
     alloc: Global,
-    core: &mut NodeCore,
+    core: &mut Node,
     seat: u32,
     link: u32,
     queue: &mut Vec<OutFrame>,
@@ -99,7 +100,7 @@ fn copy_of_oldest(alloc: Global, queue: &[OutFrame]) -> Result<Body, OutOfMemory
 
 /// A link is lost, and what is under way to it with it.
 pub(crate) fn cut_off(
-    core: &mut NodeCore,
+    core: &mut Node,
     seat: u32,
     link: u32,
     queue: &mut Vec<OutFrame>,

@@ -5,10 +5,11 @@ ghost use Rattle.pg_world.specs.Queues.{Answers, plain, count_handed, link_opene
 ghost use Rattle.pg_world.specs.Steps.{changed_queue};
 
 use crate::fault::WorldFault;
+use crate::node::Node;
 use crate::queue::{cut_off, deliver_oldest, hand_over, plain};
 use crate::side::Side;
 use crate::world_step::WorldReply;
-use node_core::{CoreFault, NodeCore};
+use node_core::CoreFault;
 use policy_audit::{Event, OutFrame, Reply};
 use std::alloc::Global;
 use std::marker::Model;
@@ -89,7 +90,7 @@ impl Wire {
     /// The node at the acceptor's side opens its link.
     pub(crate) fn accept(
         &mut self,
-        core: &mut NodeCore,
+        core: &mut Node,
         seat: u32,
         challenge: u32,
     ) -> Result<WorldReply, WorldFault>
@@ -106,7 +107,7 @@ impl Wire {
     pub(crate) fn hand(
         &mut self,
         side: Side,
-        core: &mut NodeCore,
+        core: &mut Node,
         seat: u32,
         link: u32,
     ) -> Result<WorldReply, WorldFault>
@@ -123,7 +124,7 @@ impl Wire {
         &mut self,
         alloc: Global,
         side: Side,
-        core: &mut NodeCore,
+        core: &mut Node,
         seat: u32,
         link: u32,
     ) -> Result<WorldReply, WorldFault>
@@ -140,7 +141,7 @@ impl Wire {
     pub(crate) fn cut(
         &mut self,
         side: Side,
-        core: &mut NodeCore,
+        core: &mut Node,
         seat: u32,
         link: u32,
     ) -> Result<WorldReply, WorldFault>

@@ -1,26 +1,29 @@
 //! A world.
-ghost use Rattle.std.specs.Prelude.{◌≡◌, [], ◌<◌, IsTrue, IsFalse, IfOk, IfErr, OnOk, OnErr, length, ℕ, Some, slice_get, ◌≢◌};
+ghost use Rattle.std.specs.Prelude.{vec_capacity, ◌≡◌, [], ◌<◌, ◌≤◌, IsTrue, IsFalse, IfOk, IfErr, IfSome, OnOk, OnErr, length, ℕ, Some, slice_get, ◌≢◌};
 ghost use Rattle.std.specs.Option.{option_copied};
 ghost use Rattle.policy_audit.specs.History.{History};
-ghost use Rattle.pg_world.specs.World.{world, DifferInName, ShareAName};
+ghost use Rattle.pg_world.specs.World.{world, histories, DifferInName, ShareAName};
 ghost use Rattle.pg_world.specs.Steps.{IsWorldStep};
 ghost use Rattle.pg_world.specs.Sound.{IsWorld};
 ghost use Rattle.pg_world.specs.Starting.{AreNew, HaveEntries, IsNodesFault};
 ghost use Rattle.pg_world.specs.Views.{ListMoments, ListNow};
+ghost use Rattle.pg_world.specs.HandedOut.{IsPageOf};
 
 use crate::fault::{NoWorld, NodesFault, WorldFault};
 use crate::limits::{has_entries, step_is_written};
 use crate::moving::make_step;
+use crate::node::Node;
 use crate::wire::Wire;
 use crate::world_step::{WorldReply, WorldStep};
 use node_core::NodeCore;
+use policy_audit::Page;
 use std::alloc::Global;
 use std::marker::Model;
 
 /// Several nodes, and the wires between them.
 pub struct World {
     alloc: Global,
-    nodes: Vec<NodeCore>,
+    nodes: Vec<Node>,
     wires: Vec<Wire>,
 }
 
@@ -46,12 +49,13 @@ impl Model for World {
 }
 
 impl World {
-    /// A world of these nodes, without wires. They come back where two have one name, or one has seen something. It takes no memory.
+    /// A world of these nodes, without wires. They come back where two have one name, where one has
+    /// seen something, and then for want of memory.
     pub fn new(alloc: Global, nodes: Vec<NodeCore>) -> Result<World, NoWorld>
-        ensures ok { IfOk result (λ w. w ≡ world nodes.items []) }
-        ensures names { OnOk result (DifferInName nodes.items) }
-        ensures unused { OnOk result (AreNew nodes.items) }
-        ensures refused { IfErr result (λ no. IsNodesFault no.fault nodes.items) }
+        ensures ok { IfOk result (λ w. w ≡ world (histories nodes.items) []) }
+        ensures names { OnOk result (DifferInName (histories nodes.items)) }
+        ensures unused { OnOk result (AreNew (histories nodes.items)) }
+        ensures refused { IfErr result (λ no. IsNodesFault no.fault (histories nodes.items)) }
         ensures back { IfErr result (λ no. no.nodes ≡ nodes) }
     {
         if share_a_name(nodes.as_slice()) {
@@ -62,22 +66,36 @@ impl World {
             let fault = NodesFault::HasEntries;
             return Err(NoWorld { fault, nodes });
         }
+        let Ok(mut taken) = Vec::with_capacity(alloc, nodes.len()) else {
+            let fault = NodesFault::OutOfMemory;
+            return Err(NoWorld { fault, nodes });
+        };
+        take_all(&mut taken, nodes);
         Ok(World {
             alloc,
-            nodes,
+            nodes: taken,
             wires: Vec::new(alloc),
         })
     }
 
     /// The node at a place, counted from 0 in the order in which nodes were handed in. What it lists of another is that one's own rows of
     /// one moment, and where nothing is left to do, of now.
-    pub fn node(&self, place: usize) -> Option<&NodeCore>
+    pub fn node(&self, place: usize) -> Option<&Node>
         ensures found { option_copied result ≡ slice_get self.now.nodes place }
         ensures sound { IsWorld self.now }
         ensures moments { ListMoments self.now }
         ensures settled { ListNow self.now }
     {
         self.nodes.get(place)
+    }
+
+    /// Hands out the oldest page of entries of the node at a place, if that can do without it. The world stays what it is.
+    pub fn forget(&mut self, place: usize) -> Option<Page>
+        ensures same { self.new ≡ self.old }
+        ensures page { IfSome result (λ page. IsPageOf place self.old page) }
+    {
+        let node = self.nodes.get_mut(place)?;
+        node.forget()
     }
 
     /// How many wires there are. Their places are the numbers below it.
@@ -98,10 +116,20 @@ impl World {
     }
 }
 
+/// Puts nodes of which a world is made behind each other, in the room that there is.
+fn take_all(taken: &mut Vec<Node>, nodes: Vec<NodeCore>)
+    requires { (taken.old.items ≡ []) × (length nodes.items ≤ vec_capacity taken.old) }
+    ensures { taken.new.items ≡ histories nodes.items }
+{
+    for core in nodes {
+        taken.push_reserved(Node::of(core));
+    }
+}
+
 /// Whether two of the nodes have one name.
 fn share_a_name(nodes: &[NodeCore]) -> bool
-    ensures yes { IsTrue result → ShareAName nodes.now }
-    ensures no { IsFalse result → DifferInName nodes.now }
+    ensures yes { IsTrue result → ShareAName (histories nodes.now) }
+    ensures no { IsFalse result → DifferInName (histories nodes.now) }
 {
     for place in 0..nodes.len() {
         if is_named_before(nodes, place) {
@@ -114,8 +142,10 @@ fn share_a_name(nodes: &[NodeCore]) -> bool
 /// Whether a node before this place has the name of the node there.
 fn is_named_before(nodes: &[NodeCore], place: usize) -> bool
     requires { place < length nodes.now }
-    ensures yes { IsTrue result → ShareAName nodes.now }
-    ensures no { IsFalse result → (i : ℕ) (h k : History) → i < place → slice_get nodes.now i ≡ Some h → slice_get nodes.now place ≡ Some k → h.opening.name ≢ k.opening.name }
+    ensures yes { IsTrue result → ShareAName (histories nodes.now) }
+    ensures no { IsFalse result → (i : ℕ) (h k : History) → i < place
+        → slice_get (histories nodes.now) i ≡ Some h
+        → slice_get (histories nodes.now) place ≡ Some k → h.opening.name ≢ k.opening.name }
 {
     for earlier in 0..place {
         if nodes[earlier].name() == nodes[place].name() {
@@ -127,8 +157,8 @@ fn is_named_before(nodes: &[NodeCore], place: usize) -> bool
 
 /// Whether a node has seen something.
 fn have_entries(nodes: &[NodeCore]) -> bool
-    ensures yes { IsTrue result → HaveEntries nodes.now }
-    ensures no { IsFalse result → AreNew nodes.now }
+    ensures yes { IsTrue result → HaveEntries (histories nodes.now) }
+    ensures no { IsFalse result → AreNew (histories nodes.now) }
 {
     for place in 0..nodes.len() {
         if has_entries(&nodes[place]) {

@@ -1,7 +1,8 @@
 //! A world as the lines of a script see it.
-ghost use Rattle.std.specs.Prelude.{◌≡◌, ◌++◌, ◌∷◌, [], List, ℕ, None, Some, IsTrue, IsFalse, IfOk, IfErr, OnOk};
+ghost use Rattle.std.specs.Prelude.{◌≡◌, ◌≢◌, ◌++◌, ◌∷◌, [], List, ℕ, None, Some, IsTrue, IsFalse, IfOk, IfErr, OnOk};
 ghost use Rattle.policy_audit.specs.History.{past};
 ghost use Rattle.pg_text.specs.Lines.{is_quiet};
+ghost use Rattle.pg_world.specs.World.{histories, world};
 ghost use Rattle.world_script.specs.declared.world_line.WorldLine.{WorldLine as Line};
 ghost use Rattle.world_script.specs.declared.world_line.WorldLine.TheVariants as lines;
 ghost use Rattle.world_script.specs.declared.lab.LabFault.TheVariants as faults;
@@ -20,6 +21,7 @@ use crate::world_line::WorldLine;
 use dist_types::OutOfMemory;
 use node_core::{NodeCore, OpenFault};
 use pg_text::{LineFault, is_quiet, put_word};
+use pg_world::NodesFault;
 use policy_audit::Opening;
 use std::alloc::{AllocFailed, Global};
 use std::marker::Model;
@@ -103,11 +105,12 @@ impl Drop for Lab {
 }
 
 impl Model for Lab {
+    ghost use Rattle.pg_world.specs.World.{histories};
     ghost use Rattle.world_script.specs.Following.{Playing};
 
     ghost Value = { Playing };
 
-    ghost view = { λ lab. record { nodes = lab.nodes.items; world = lab.world; seat = lab.seat } };
+    ghost view = { λ lab. record { nodes = histories lab.nodes.items; world = lab.world; seat = lab.seat } };
 }
 
 impl Lab {
@@ -171,15 +174,27 @@ impl Lab {
     fn take_world(&mut self) -> Result<NamedWorld, LabFault>
         ensures world { IfOk result (λ w. w ≡ begun self.old) }
         ensures seat { self.new.seat ≡ self.old.seat }
-        ensures fault { IfErr result (λ fault. fault ≡ faults.SameName) }
+        ensures fault { IfErr result (λ fault. fault ≢ faults.Script) }
     {
         match self.world.take() {
             Some(world) => Ok(world),
             None => {
                 let nodes = mem::replace(&mut self.nodes, Vec::new(self.alloc));
-                NamedWorld::new(self.alloc, nodes).ok_or(LabFault::SameName)
+                begin(self.alloc, nodes)
             }
         }
+    }
+}
+
+/// The world of these nodes.
+fn begin(alloc: Global, nodes: Vec<NodeCore>) -> Result<NamedWorld, LabFault>
+    ensures world { IfOk result (λ w. w ≡ world (histories nodes.items) []) }
+    ensures fault { IfErr result (λ fault. fault ≢ faults.Script) }
+{
+    match NamedWorld::new(alloc, nodes) {
+        Ok(world) => Ok(world),
+        Err(NodesFault::SameName | NodesFault::HasEntries) => Err(LabFault::SameName),
+        Err(NodesFault::OutOfMemory) => Err(LabFault::Memory),
     }
 }
 

@@ -1,15 +1,15 @@
 //! A world whose nodes go by their names.
-ghost use Rattle.std.specs.Prelude.{◌≡◌, ◌⊎◌, ◌<◌, [], IfSome, OnSome, IfNone, length, slice_get};
+ghost use Rattle.std.specs.Prelude.{◌≡◌, ◌<◌, [], IfOk, IfErr, OnOk, length, slice_get};
 ghost use Rattle.std.specs.Option.{option_copied};
-ghost use Rattle.pg_world.specs.World.{world, DifferInName, ShareAName};
-ghost use Rattle.pg_world.specs.Starting.{AreNew, HaveEntries};
+ghost use Rattle.pg_world.specs.World.{world, histories, DifferInName};
+ghost use Rattle.pg_world.specs.Starting.{AreNew, IsNodesFault};
 ghost use Rattle.pg_world.specs.Steps.{IsWorldStep};
 ghost use Rattle.pg_world.specs.Views.{ListMoments, ListNow};
 ghost use Rattle.world_script.specs.Names.{is_named, place_of};
 
 use dist_types::NodeName;
 use node_core::NodeCore;
-use pg_world::{World, WorldFault, WorldReply, WorldStep};
+use pg_world::{Node, NodesFault, World, WorldFault, WorldReply, WorldStep};
 use std::alloc::Global;
 use std::marker::Model;
 
@@ -38,16 +38,16 @@ impl Model for NamedWorld {
 
 impl NamedWorld {
     /// The world of these nodes, which have seen nothing, unless two have one name.
-    pub fn new(alloc: Global, nodes: Vec<NodeCore>) -> Option<NamedWorld>
-        ensures ok { IfSome result (λ w. w ≡ world nodes.items []) }
-        ensures names { OnSome result (DifferInName nodes.items) }
-        ensures unused { OnSome result (AreNew nodes.items) }
-        ensures refused { IfNone result (ShareAName nodes.items ⊎ HaveEntries nodes.items) }
+    pub fn new(alloc: Global, nodes: Vec<NodeCore>) -> Result<NamedWorld, NodesFault>
+        ensures ok { IfOk result (λ w. w ≡ world (histories nodes.items) []) }
+        ensures names { OnOk result (DifferInName (histories nodes.items)) }
+        ensures unused { OnOk result (AreNew (histories nodes.items)) }
+        ensures refused { IfErr result (λ fault. IsNodesFault fault (histories nodes.items)) }
     {
         let count = nodes.len();
         match World::new(alloc, nodes) {
-            Ok(world) => Some(NamedWorld { world, count }),
-            Err(_refused) => None,
+            Ok(world) => Ok(NamedWorld { world, count }),
+            Err(none) => Err(none.fault),
         }
     }
 
@@ -59,7 +59,7 @@ impl NamedWorld {
     }
 
     /// The node at a place, in the order in which they were handed in.
-    pub fn node(&self, place: usize) -> Option<&NodeCore>
+    pub fn node(&self, place: usize) -> Option<&Node>
         ensures { option_copied result ≡ slice_get self.now.nodes place }
     {
         self.world.node(place)

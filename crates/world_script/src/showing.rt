@@ -5,8 +5,9 @@ ghost use Rattle.world_script.specs.Showing.{pids_in, node_text, shown_text, sho
 
 use crate::named_world::NamedWorld;
 use dist_types::{Group, OutOfMemory, Pid, Scope};
-use node_core::{CoreFault, NodeCore, Query};
+use node_core::{CoreFault, Query};
 use pg_text::{put_bytes, put_each, put_number, put_word};
+use pg_world::Node;
 use policy_audit::Reply;
 use std::alloc::Global;
 
@@ -30,7 +31,7 @@ pub fn put_shown(
 /// Adds the node at a place, if there is one.
 fn put_place(
     alloc: Global,
-    found: Option<&NodeCore>,
+    found: Option<&Node>,
     scope: &Scope,
     group: &Group,
     out: &mut Vec<u8>,
@@ -46,7 +47,7 @@ fn put_place(
 /// Adds a node, how many processes it lists, and each. Where the scope doesn't run it lists none.
 fn put_node(
     alloc: Global,
-    node: &NodeCore,
+    node: &Node,
     scope: &Scope,
     group: &Group,
     out: &mut Vec<u8>,
@@ -73,7 +74,7 @@ fn pids_in(reply: &Reply) -> &[Pid]
 /// Adds a node, how many processes these are, and each.
 fn put_listed(
     alloc: Global,
-    node: &NodeCore,
+    node: &Node,
     pids: &[Pid],
     out: &mut Vec<u8>,
 ) -> Result<(), OutOfMemory>

@@ -31,21 +31,18 @@ pub fn step_of(world: &NamedWorld, seat: u32, asked: WorldLine) -> Option<WorldS
             seat,
             challenge,
         },
-        WorldLine::Hand { wire, side } => WorldStep::Hand {
-            wire: wire as usize,
-            side,
-            seat,
-        },
-        WorldLine::Deliver { wire, side } => WorldStep::Deliver {
-            wire: wire as usize,
-            side,
-            seat,
-        },
-        WorldLine::Cut { wire, side } => WorldStep::Cut {
-            wire: wire as usize,
-            side,
-            seat,
-        },
+        WorldLine::Hand { wire, side } => {
+            let wire = wire as usize;
+            WorldStep::Hand { wire, side, seat }
+        }
+        WorldLine::Deliver { wire, side } => {
+            let wire = wire as usize;
+            WorldStep::Deliver { wire, side, seat }
+        }
+        WorldLine::Cut { wire, side } => {
+            let wire = wire as usize;
+            WorldStep::Cut { wire, side, seat }
+        }
         WorldLine::Restart(node) => WorldStep::Restart {
             node: world.place(&node),
             seat,
