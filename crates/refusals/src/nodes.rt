@@ -6,7 +6,7 @@ use dist_types::{Cookie, Group, NodeName, OutOfMemory, Scope};
 use node_core::{Awaiting, CoreFault, NodeCore, Query};
 use node_threads::{CallFault, CloseFault, Closed, Node, Pass};
 use pg_text::{
-    Command, is_quiet, put_accepted, put_bytes, put_entry, put_number, put_numbered_line, put_step,
+    Command, is_quiet, put_accepted, put_bytes, put_found, put_number, put_numbered_line, put_step,
     put_unanswered, put_word,
 };
 use policy_audit::{Event, Opening, Reply, Verdict};
@@ -194,7 +194,7 @@ impl<'t> Room<'t> {
         out: &mut Vec<u8>,
     ) -> Result<(), OutOfMemory> {
         let shared = self.node.shared.lock(rt);
-        put_entry(shared.core().audit().get(number), out)
+        put_found(shared.core().audit(), number, out)
     }
 
     fn put_reply(&self, out: &mut Vec<u8>) -> Result<(), OutOfMemory> {

@@ -122,7 +122,7 @@ fn node(alloc: Global, name: &[u8]) -> Result<NodeCore, OutOfMemory> {
         links: 2,
     };
     match NodeCore::new(alloc, opening) {
-        Ok(core) => Ok(core),
+        Ok(node) => Ok(node),
         Err(_) => Err(OutOfMemory),
     }
 }
