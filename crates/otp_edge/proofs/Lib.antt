@@ -12,3 +12,8 @@ pub mod NamedLemmas
 pub mod TallyLemmas
 pub mod SignalLemmas
 pub mod WordLemmas
+pub mod GroupedLemmas
+pub mod EdgeLemmas
+pub mod TellingLemmas
+pub mod GatherLemmas
+pub mod SayingLemmas

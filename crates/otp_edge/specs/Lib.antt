@@ -12,3 +12,10 @@ pub mod Asked
 pub mod ScopeEdges
 pub mod Signals
 pub mod HeardWords
+pub mod Lefts
+pub mod Grouped
+pub mod Opens
+pub mod Edges
+pub mod Sayings
+pub mod Endings
+pub mod Said

@@ -12,8 +12,8 @@ times row rows = count_by (λ r. same_row row r) rows
 abbrev pub once : Row → Row → ℕ
 once r row = cond (same_row r row) 1 0
 
--- rows that are taken out of others: each as often as it is asked for, and as it is there
-pub record IsTakenOut (asked before kept after : List Row) : Type 0 where
-  pub taken : (r : Row) → times r after + times r kept ≡ times r before
+-- of rows that are asked for each as often as it is asked for, and as it is listed
+pub record IsCutTo (asked kept : List Row) (listed : Row → ℕ) : Type 0 where
   pub fewer : (r : Row) → times r kept ≤ times r asked
-  pub all : (r : Row) → times r kept < times r asked → times r after ≡ 0
+  pub within : (r : Row) → times r kept ≤ listed r
+  pub all : (r : Row) → times r kept < times r asked → times r kept ≡ listed r

@@ -100,7 +100,7 @@ fn only_binary(term: &[u8]) -> Option<&[u8]>
     if rest.is_empty() { Some(bytes) } else { None }
 }
 
-fn begins_marked(text: &[u8]) -> bool
+pub fn begins_marked(text: &[u8]) -> bool
     ensures { result ≡ is_marked text.now }
 {
     begins_with(b'b', text) || begins_with(b'x', text)

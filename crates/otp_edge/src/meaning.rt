@@ -14,3 +14,19 @@ pub enum Said {
     /// Processes that were asked to leave: not all of them were members.
     Leave(Pid, Items<Row>),
 }
+
+/// The process that says it.
+pub fn speaker(said: &Said) -> &Pid {
+    match said {
+        Said::Discover(pid) => pid,
+        Said::Sync(pid, _) | Said::Join(pid, _) | Said::Leave(pid, _) => pid,
+    }
+}
+
+/// How many rows are handed in of it at most: of a leave those that are listed.
+pub fn row_count(said: &Said) -> usize {
+    match said {
+        Said::Sync(_, rows) | Said::Join(_, rows) => rows.as_slice().len(),
+        Said::Discover(_) | Said::Leave(..) => 0,
+    }
+}

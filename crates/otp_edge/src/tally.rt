@@ -1,11 +1,12 @@
-//! Rows that may be repeated, of which some are taken out.
-ghost use Rattle.std.specs.Prelude.{◌≡◌, ◌+◌, ◌<◌, ◌≤◌, cond, false, true, length, get_or, IfSome, IsNone};
-ghost use Rattle.std.specs.Prelude.{unwrap_or, []};
+//! Rows that may be repeated, counted.
+ghost use Rattle.std.specs.Prelude.{◌≡◌, ◌+◌, ◌<◌, ◌≤◌, ℕ, cond, false, true, length, get_or};
+ghost use Rattle.std.specs.Prelude.{IfOk, IfSome, IsNone, OnOk, slice_index, ◌++◌, ◌∷◌, []};
 ghost use Rattle.dist_types.specs.Listing.{same_row};
 ghost use Rattle.dist_types.specs.declared.row.Row.{Row};
-ghost use Rattle.otp_edge.specs.Tallies.{times, once, IsTakenOut};
+ghost use Rattle.otp_edge.specs.Tallies.{times, once, IsCutTo};
 
-use dist_types::{Items, Row};
+use dist_types::{OutOfMemory, Row, TryClone};
+use std::alloc::Global;
 
 /// Takes the row out once, where it stands there.
 pub fn take_out(rows: &mut Vec<Row>, row: &Row) -> bool
@@ -34,35 +35,51 @@ fn place_of(rows: &[Row], row: &Row) -> Option<usize>
     None
 }
 
-/// Which of these rows are taken out of others; none where none is.
-pub fn taken_out(rows: Items<Row>, from: &mut Vec<Row>) -> Option<Items<Row>>
-    ensures taken { IsTakenOut rows from.old.items (unwrap_or result []) from.new.items }
-    ensures some { IfSome result (λ kept. 0 < length kept) }
+/// How often the row stands there.
+pub fn times_in(rows: &[Row], row: &Row) -> usize
+    ensures { result ≡ times row.now rows.now }
 {
-    let mut rows = rows.into_vec();
-    cut(&mut rows, from);
-    if rows.is_empty() {
-        None
-    } else {
-        Some(Items::of(rows))
-    }
+    rows.iter().filter(|listed| row == *listed).count()
 }
 
-/// Takes rows out of others, and leaves in `rows` each as often as it was there.
-pub fn cut(rows: &mut Vec<Row>, from: &mut Vec<Row>)
-    ensures taken { (r : Row) → times r from.new.items + times r rows.new.items ≡
-        times r from.old.items }
-    ensures fewer { (r : Row) → times r rows.new.items ≤ times r rows.old.items }
-    // What is left out wasn't there any more.
-    ensures all { (r : Row) → times r rows.new.items < times r rows.old.items →
-        times r from.new.items ≡ 0 }
+/// How often each of these rows stands in others.
+pub fn counts_in(alloc: Global, rows: &[Row], others: &[Row]) -> Result<Vec<usize>, OutOfMemory>
+    ensures len { IfOk result (λ counts. length counts.items ≡ length rows.now) }
+    ensures each { IfOk result (λ counts. (place : ℕ) (d : Row) → place < length rows.now →
+        slice_index counts.items place ≡ times (get_or rows.now place d) others.now) }
 {
-    let mut place = 0;
-    while place < rows.len() {
-        if take_out(from, &rows[place]) {
-            place += 1;
-        } else {
-            rows.swap_remove(place);
-        }
+    let mut counts = Vec::new(alloc);
+    for row in rows {
+        counts.push(times_in(others, row))?;
     }
+    Ok(counts)
+}
+
+/// Of these rows each as often as it stands there, and as its count allows.
+pub fn cut_to(alloc: Global, rows: &[Row], counts: &[usize]) -> Result<Vec<Row>, OutOfMemory>
+    requires { length counts.now ≡ length rows.now }
+    ensures few { IfOk result (λ kept. length kept.items ≤ length rows.now) }
+    ensures cut { IfOk result (λ kept. (listed : Row → ℕ) → ((place : ℕ) (d : Row) →
+        place < length rows.now → slice_index counts.now place ≡ listed (get_or rows.now place d))
+        → IsCutTo rows.now kept.items listed) }
+{
+    let mut kept = Vec::new(alloc);
+    for (place, row) in rows.iter().enumerate() {
+        keep(alloc, row, counts[place], &mut kept)?;
+    }
+    Ok(kept)
+}
+
+/// Appends a copy of the row, unless it stands there that often.
+fn keep(alloc: Global, row: &Row, count: usize, kept: &mut Vec<Row>) -> Result<(), OutOfMemory>
+    ensures few { OnOk result (length kept.new.items ≤ length kept.old.items + 1) }
+    ensures more { OnOk result (times row.now kept.old.items < count →
+        kept.new.items ≡ kept.old.items ++ row.now ∷ []) }
+    ensures same { OnOk result (count ≤ times row.now kept.old.items →
+        kept.new.items ≡ kept.old.items) }
+{
+    if times_in(kept, row) < count {
+        kept.push(row.try_clone(alloc)?)?;
+    }
+    Ok(())
 }

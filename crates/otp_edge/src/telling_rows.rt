@@ -1,59 +1,52 @@
-//! What is told to the process of the peer's scope of what the node says: nothing that ends it.
-ghost use Rattle.std.specs.Prelude.{◌≡◌, ◌<◌, ◌++◌, [], cond, true, false, is_some, None, length};
-ghost use Rattle.std.specs.Prelude.{OnErr, OnOk, IfOk, IfSome, unwrap_or};
-ghost use Rattle.otp_edge.specs.ScopeEdges.{seen_of, with_told};
-ghost use Rattle.otp_edge.specs.Tallies.{IsTakenOut};
+//! What the process of the peer's scope was told.
+ghost use Rattle.std.specs.Prelude.{◌≡◌, ◌≤◌, ◌+◌, ◌++◌, OnErr, OnOk, IfOk, length};
+ghost use Rattle.dist_types.specs.declared.row.Row.{Row};
+ghost use Rattle.otp_edge.specs.ScopeEdges.{seen_of, with_told, now_told};
+ghost use Rattle.otp_edge.specs.Tallies.{times, IsCutTo};
 
 use crate::scope_edge::ScopeEdge;
-use crate::tally::taken_out;
-use dist_types::{Items, OutOfMemory, Row, TryClone};
+use crate::tally::{counts_in, cut_to, take_out};
+use dist_types::{OutOfMemory, Row};
 use std::alloc::Global;
 
 impl ScopeEdge {
-    /// Whether all rows here are told now: where the process is known.
-    pub fn tell_sync(&mut self, alloc: Global, rows: &Items<Row>) -> Result<bool, OutOfMemory>
-        ensures told { IfOk result (λ is. is ≡ is_some self.old.other) }
-        ensures seen { OnOk result (seen_of self.new ≡ cond (is_some self.old.other)
-            (with_told rows.now (seen_of self.old)) (seen_of self.old)) }
-        ensures same { OnErr result (seen_of self.new ≡ seen_of self.old) }
+    /// All rows here were told.
+    pub fn tell_sync(&mut self, rows: Vec<Row>)
+        ensures { seen_of self.new ≡ with_told rows.items (seen_of self.old) }
     {
-        if self.other.is_none() {
-            return Ok(false);
-        }
-        let copy = rows.try_clone(alloc)?;
         self.is_told = true;
-        self.told = copy.into_vec();
-        Ok(true)
+        self.told = rows;
     }
 
-    /// Whether further rows are told: where a Sync was.
-    pub fn tell_join(&mut self, alloc: Global, rows: &Items<Row>) -> Result<bool, OutOfMemory>
-        ensures told { IfOk result (λ is. is ≡ self.old.is_told) }
-        ensures seen { OnOk result (seen_of self.new ≡ cond self.old.is_told
-            (with_told (self.old.told.items ++ rows.now) (seen_of self.old)) (seen_of self.old)) }
+    /// Further rows were told.
+    pub fn tell_join(&mut self, mut rows: Vec<Row>) -> Result<(), OutOfMemory>
+        ensures seen { OnOk result (seen_of self.new ≡ now_told
+            (self.old.told.items ++ rows.items) (seen_of self.old)) }
         ensures same { OnErr result (seen_of self.new ≡ seen_of self.old) }
     {
-        if !self.is_told {
-            return Ok(false);
-        }
-        let mut copy = rows.try_clone(alloc)?.into_vec();
-        self.told.append(&mut copy)?;
-        Ok(true)
+        self.told.append(&mut rows)?;
+        Ok(())
     }
 
-    /// Which rows are told to have left: where a Sync was told, those that were told and didn't
-    /// leave since. It takes no memory.
-    pub fn tell_leave(&mut self, rows: Items<Row>) -> Option<Items<Row>>
-        ensures untold { self.old.is_told ≡ false → (result ≡ None) ×
-            (seen_of self.new ≡ seen_of self.old) }
-        ensures left { self.old.is_told ≡ true →
-            IsTakenOut rows self.old.told.items (unwrap_or result []) self.new.told.items ×
-            (seen_of self.new ≡ with_told self.new.told.items (seen_of self.old)) }
-        ensures some { IfSome result (λ kept. 0 < length kept) }
+    /// Which of these rows the process can be told to have left: each as often as it was told, and
+    /// didn't leave since.
+    pub fn leaving(&self, alloc: Global, rows: &[Row]) -> Result<Vec<Row>, OutOfMemory>
+        ensures few { IfOk result (λ kept. length kept.items ≤ length rows.now) }
+        ensures cut { IfOk result (λ kept. IsCutTo rows.now kept.items
+            (λ r. times r self.now.told.items)) }
     {
-        if !self.is_told {
-            return None;
+        let counts = counts_in(alloc, rows, &self.told)?;
+        cut_to(alloc, rows, &counts)
+    }
+
+    /// These rows were told to have left.
+    pub fn tell_leave(&mut self, rows: &[Row])
+        ensures seen { seen_of self.new ≡ now_told self.new.told.items (seen_of self.old) }
+        ensures left { (r : Row) → times r rows.now ≤ times r self.old.told.items →
+            times r self.new.told.items + times r rows.now ≡ times r self.old.told.items }
+    {
+        for row in rows {
+            take_out(&mut self.told, row);
         }
-        taken_out(rows, &mut self.told)
     }
 }

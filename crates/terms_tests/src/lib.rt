@@ -2,6 +2,14 @@
 #![tactic(auto)]
 
 #[cfg(test)]
+mod bodies;
+#[cfg(test)]
+mod edges;
+#[cfg(test)]
 mod said;
+#[cfg(test)]
+mod signals;
+#[cfg(test)]
+mod steps;
 #[cfg(test)]
 mod terms;

@@ -1,0 +1,9 @@
+use Rattle.otp_edge.proofs.Words.{length, ◌≤◌}
+use Rattle.otp_edge.proofs.TallyLemmas.{CutSoFar}
+use Rattle.otp_edge.proofs.tally.cut_to.Given as goal
+
+abbrev pub invariant-loop-place : goal.invariant-loop-place
+invariant-loop-place l = record {
+  so : CutSoFar l.place l.rows l.kept.items l.counts;
+  few : length l.kept.items ≤ l.place;
+}
