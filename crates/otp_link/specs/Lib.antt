@@ -1,0 +1,4 @@
+pub mod Offer
+pub mod Pieces
+pub mod Counted
+pub mod Sent

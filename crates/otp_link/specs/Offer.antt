@@ -1,0 +1,27 @@
+-- What passes of a handshake with a stock node (Distribution Protocol, "Distribution Handshake").
+use Rattle.std.specs.Prelude.{◌≡◌, ◌<◌, ◌^◌, ◌⊎◌, ◌==◌, ◌&&◌, ◌||◌, ℕ, Bool, true, false, List, [], ◌∷◌, ◌++◌, bit_and, not}
+use Rattle.std.specs.Int.{w64, to_be_bytes}
+use Rattle.dist_types.specs.Flags.{has_bit}
+
+-- the flags that are offered; bit 0 of a visible link alone
+abbrev pub offered_flags : Bool → ℕ
+offered_flags true = 0x407070FBD
+offered_flags false = 0x407070FBC
+
+-- the eleven flags that each stock node has, or bit 26, which stands for them
+abbrev pub has_stock : ℕ → Bool
+has_stock flags = (bit_and flags 0x1070F94 == 0x1070F94) || not (bit_and flags 0x4000000 == 0)
+
+-- a Name or a Challenge with these flags, and these bytes behind them
+abbrev pub named : ℕ → List ℕ → List ℕ
+named flags rest = 78 ∷ to_be_bytes w64 flags ++ rest
+
+-- a frame of the node here goes out unchanged, but for the flags of a Name or a Challenge
+abbrev pub IsOwnFrame : Bool → List ℕ → List ℕ → Type 0
+IsOwnFrame visible body sent = (sent ≡ body) ⊎ ((flags : ℕ) × (rest : List ℕ) ×
+    (body ≡ named flags rest) × (sent ≡ named (offered_flags (visible && has_bit 0 flags)) rest))
+
+-- a frame of the peer comes in unchanged; in parts 2 stands behind it
+abbrev pub IsPeerFrame : Bool → List ℕ → List ℕ → Type 0
+IsPeerFrame true body taken = taken ≡ body ++ 2 ∷ []
+IsPeerFrame false body taken = taken ≡ body

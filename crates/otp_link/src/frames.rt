@@ -1,0 +1,70 @@
+//! The frames of a handshake, as they pass between a stock node and the node here.
+ghost use Rattle.std.specs.Prelude.{◌≡◌, ◌++◌, ◌∷◌, IfOk, IfSome, OnOk};
+ghost use Rattle.std.specs.Int.{w16, w64, to_be_bytes};
+ghost use Rattle.handshake_frames.specs.Spelling.{counted};
+ghost use Rattle.otp_link.specs.Offer.{IsOwnFrame, IsPeerFrame};
+
+use crate::fault::LinkFault;
+use crate::flags::offered;
+use dist_types::{Flags, OutOfMemory, after_kind, u64_at};
+use std::alloc::Global;
+
+/// The byte that a Name and a Challenge begin with.
+const NAMED: u8 = b'N';
+
+/// Behind a name: its node takes messages in parts.
+const IN_PARTS: u8 = 2;
+
+/// The most bytes behind a length of two.
+const LONGEST_FRAME: usize = 65_535;
+
+/// A frame of the node here as the stock node gets it: unchanged but for the flags of a Name or a
+/// Challenge, which are those that are offered. Bit 0 stays clear where the node is hidden.
+pub fn own_frame(alloc: Global, body: &[u8], is_visible: bool) -> Result<Vec<u8>, OutOfMemory>
+    ensures { IfOk result (λ sent. IsOwnFrame is_visible body.now sent.items) }
+{
+    let mut sent = Vec::with_capacity(alloc, body.len())?;
+    match flags_at(body) {
+        Some((flags, rest)) => {
+            let flags = offered(is_visible && flags.published());
+            sent.push(NAMED)?;
+            sent.extend_from_slice(&flags.0.to_be_bytes())?;
+            sent.extend_from_slice(rest)?;
+        }
+        None => sent.extend_from_slice(body)?,
+    }
+    Ok(sent)
+}
+
+/// The flags of a Name or a Challenge, and what stands behind them.
+pub(crate) fn flags_at(body: &[u8]) -> Option<(Flags, &[u8])>
+    ensures { IfSome result (λ read. body.now ≡ 78 ∷ to_be_bytes w64 read.0.0 ++ read.1.now) }
+{
+    let rest = after_kind(NAMED, body)?;
+    let (flags, rest) = u64_at(rest)?;
+    Some((Flags(flags), rest))
+}
+
+/// A frame of the stock node as the node here gets it: unchanged, but for one byte behind its name
+/// where that says that it takes messages in parts, which are made of its own here.
+pub fn peer_frame(alloc: Global, body: &[u8], in_parts: bool) -> Result<Vec<u8>, OutOfMemory>
+    ensures { IfOk result (λ taken. IsPeerFrame in_parts body.now taken.items) }
+{
+    let mut taken = body.to_vec(alloc)?;
+    if in_parts {
+        taken.push(IN_PARTS)?;
+    }
+    Ok(taken)
+}
+
+/// Appends a frame behind its length.
+pub(crate) fn put_frame(frame: &[u8], out: &mut Vec<u8>) -> Result<(), LinkFault>
+    ensures { OnOk result (out.new.items ≡ out.old.items ++ counted w16 frame.now) }
+{
+    if frame.len() > LONGEST_FRAME {
+        return Err(LinkFault::TooLong);
+    }
+    out.extend_from_slice(&(frame.len() as u16).to_be_bytes())?;
+    out.extend_from_slice(frame)?;
+    Ok(())
+}

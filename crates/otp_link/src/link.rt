@@ -1,0 +1,96 @@
+//! One link with a stock node.
+ghost use Rattle.std.specs.Prelude.{◌≡◌};
+ghost use Rattle.otp_link.specs.Sent.{IsBegun};
+
+use crate::asking::Healing;
+use dist_types::OutOfMemory;
+use otp_edge::{Dropped, Edge, Run};
+use std::alloc::Global;
+use std::time::Duration;
+
+/// How a link with a stock node is made.
+#[derive(Clone, Copy, Debug)]
+pub struct LinkKind {
+    /// The node here is among the nodes of the stock node; else among its hidden ones.
+    pub is_visible: bool,
+    /// The node here has dialled.
+    pub is_dialled: bool,
+    /// The node here takes messages in parts.
+    pub in_parts: bool,
+}
+
+/// One link with a stock node: what passes between it and the node here.
+#[derive(Debug, Drop)]
+pub struct OtpLink {
+    pub(crate) alloc: Global,
+    pub(crate) kind: LinkKind,
+    /// That of the node here, and that of the peer, until both are known.
+    pub(crate) own: Option<Run>,
+    pub(crate) peer: Option<Run>,
+    /// Once both are.
+    pub(crate) edge: Option<Edge>,
+    /// The last frame of the handshake has come.
+    pub(crate) takes_bodies: bool,
+    /// The last one has gone out.
+    pub(crate) sends_bodies: bool,
+    pub(crate) healing: Healing,
+}
+
+impl OtpLink {
+    /// A link that has just been opened.
+    pub fn new(alloc: Global, kind: LinkKind) -> OtpLink {
+        OtpLink {
+            alloc,
+            kind,
+            own: None,
+            peer: None,
+            edge: None,
+            takes_bodies: false,
+            sends_bodies: false,
+            healing: Healing::new(),
+        }
+    }
+
+    /// The edge begins once both ends have said their names.
+    pub(crate) fn meet(&mut self)
+        ensures kind { self.new.kind ≡ self.old.kind }
+        ensures edge { IsBegun self.old.edge self.new.edge }
+    {
+        match (self.own.take(), self.peer.take()) {
+            (Some(own), Some(peer)) => {
+                self.edge = Some(Edge::new(self.alloc, own, peer, self.kind.in_parts));
+            }
+            (own, peer) => {
+                self.own = own;
+                self.peer = peer;
+            }
+        }
+    }
+
+    /// How often something was dropped for this reason.
+    pub fn dropped(&self, reason: Dropped) -> u64 {
+        match &self.edge {
+            Some(edge) => edge.drops.of(reason),
+            None => 0,
+        }
+    }
+
+    /// The bodies, behind their lengths, by which the peer is asked again: for all its rows, where
+    /// some lack here; over a hidden link for those of scopes that weren't shown yet.
+    pub fn ask(&mut self, now: Duration) -> Result<Vec<u8>, OutOfMemory> {
+        let none = Vec::new(self.alloc);
+        if !self.sends_bodies || !self.takes_bodies {
+            return Ok(none);
+        }
+        let Some(edge) = &self.edge else {
+            return Ok(none);
+        };
+        if self.healing.is_due(now) {
+            return edge.ask(self.alloc, true);
+        }
+        if !self.kind.is_visible && self.healing.is_seeking(now) {
+            return edge.ask(self.alloc, false);
+        }
+        Ok(none)
+    }
+}

@@ -1,0 +1,52 @@
+//! Whose frames of a handshake come.
+use dist_types::{Flags, NodeName, OutOfMemory, TextFault};
+use handshake_frames::{decode_challenge, decode_name};
+use otp_edge::Run;
+use std::alloc::Global;
+
+/// The bytes of a Name before its name, and of a Challenge.
+const NAME_HEAD: usize = 15;
+
+const CHALLENGE_HEAD: usize = 19;
+
+/// What a Name or a Challenge says of its node.
+#[derive(Clone, Copy, Debug)]
+pub(crate) struct Said<'a> {
+    pub(crate) flags: Flags,
+    pub(crate) creation: u32,
+    pub(crate) name: &'a [u8],
+    /// Nothing stands behind the name.
+    pub(crate) is_bare: bool,
+}
+
+/// Reads the frame in which an end says its name: a Challenge, or a Name.
+pub(crate) fn said_in(body: &[u8], is_challenge: bool) -> Option<Said<'_>> {
+    if is_challenge {
+        let frame = decode_challenge(body).ok()?;
+        return Some(Said {
+            flags: frame.flags,
+            creation: frame.creation,
+            name: frame.name,
+            is_bare: frame.name.len().saturating_add(CHALLENGE_HEAD) == body.len(),
+        });
+    }
+    let frame = decode_name(body).ok()?;
+    Some(Said {
+        flags: frame.flags,
+        creation: frame.creation,
+        name: frame.name,
+        is_bare: frame.name.len().saturating_add(NAME_HEAD) == body.len(),
+    })
+}
+
+/// The run of a node: none where its name is none, which is refused by the node here.
+pub(crate) fn run_of(alloc: Global, said: &Said<'_>) -> Result<Option<Run>, OutOfMemory> {
+    match NodeName::parse(alloc, said.name) {
+        Ok(node) => Ok(Some(Run {
+            node,
+            creation: said.creation,
+        })),
+        Err(TextFault::OutOfMemory) => Err(OutOfMemory),
+        Err(_) => Ok(None),
+    }
+}

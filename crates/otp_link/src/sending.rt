@@ -1,0 +1,107 @@
+//! What goes out to a stock node of what the node here says.
+ghost use Rattle.std.specs.Prelude.{◌≡◌, ◌++◌, List, ℕ, IfOk, MatchOption};
+ghost use Rattle.std.specs.Int.{w16};
+ghost use Rattle.handshake_frames.specs.Spelling.{counted};
+ghost use Rattle.otp_link.specs.Offer.{IsOwnFrame};
+ghost use Rattle.otp_link.specs.Sent.{IsBegun, SendsAll, SendsBody, SendsFront};
+
+use crate::fault::LinkFault;
+use crate::frames::{own_frame, put_frame};
+use crate::link::OtpLink;
+use crate::piece::{Piece, cut};
+use crate::runs::{run_of, said_in};
+use crate::taking::is_last;
+use link_frames::MessageFault;
+use otp_edge::Life;
+
+impl OtpLink {
+    /// The bytes that go out of whole frames and messages of the node here, each behind its length.
+    /// They may be none.
+    pub fn send(&mut self, batch: &[u8], life: &mut Life) -> Result<Vec<u8>, LinkFault>
+        ensures { IfOk result (λ out. (rest : List ℕ) × SendsAll self.old.kind.is_visible
+            self.old.edge self.new.edge life.old life.new batch.now rest out.items) }
+    {
+        let mut out = Vec::new(self.alloc);
+        let mut left = batch;
+        for _ in 0..batch.len() {
+            let Some(rest) = self.send_piece(left, life, &mut out)? else {
+                break;
+            };
+            left = rest;
+        }
+        Ok(out)
+    }
+
+    /// Appends what goes out of the piece at the front, and gives what stands behind it; none where
+    /// it isn't whole.
+    fn send_piece<'a>(
+        &mut self,
+        left: &'a [u8],
+        life: &mut Life,
+        out: &mut Vec<u8>,
+    ) -> Result<Option<&'a [u8]>, LinkFault>
+        ensures kind { self.new.kind ≡ self.old.kind }
+        ensures sent { IfOk result (λ read. MatchOption read ((self.new.edge ≡ self.old.edge) ×
+            (life.new ≡ life.old) × (out.new.items ≡ out.old.items)) (λ rest. SendsFront
+            self.old.kind.is_visible self.old.edge self.new.edge life.old life.new left.now
+            rest.now out.old.items out.new.items)) }
+    {
+        match cut(left, self.sends_bodies) {
+            Piece::Frame(body, rest) => {
+                let frame = self.frame_sent(body)?;
+                put_frame(&frame, out)?;
+                Ok(Some(rest))
+            }
+            Piece::Body(body, rest) => {
+                let bodies = self.bodies_sent(body, life)?;
+                out.extend_from_slice(&bodies)?;
+                Ok(Some(rest))
+            }
+            Piece::Tick(rest) => Ok(Some(rest)),
+            Piece::Long(..) | Piece::More => Ok(None),
+        }
+    }
+
+    /// A frame of the handshake, of which that with the own name is looked at. Behind a Reply and
+    /// an Ack go bodies.
+    fn frame_sent(&mut self, body: &[u8]) -> Result<Vec<u8>, LinkFault>
+        ensures kind { self.new.kind ≡ self.old.kind }
+        ensures frame { IfOk result (λ sent. IsOwnFrame self.old.kind.is_visible body.now
+            sent.items) }
+        ensures edge { IsBegun self.old.edge self.new.edge }
+    {
+        let frame = own_frame(self.alloc, body, self.kind.is_visible)?;
+        self.note_name(body)?;
+        self.sends_bodies = is_last(body);
+        Ok(frame)
+    }
+
+    /// A frame with the own name: from then on the edge may begin.
+    fn note_name(&mut self, body: &[u8]) -> Result<(), LinkFault>
+        ensures kind { self.new.kind ≡ self.old.kind }
+        ensures edge { IsBegun self.old.edge self.new.edge }
+    {
+        if let Some(said) = said_in(body, !self.kind.is_dialled) {
+            self.own = run_of(self.alloc, &said)?;
+            self.meet();
+        }
+        Ok(())
+    }
+
+    /// A message of the node here, as the edge says it.
+    fn bodies_sent(&mut self, body: &[u8], life: &mut Life) -> Result<Vec<u8>, LinkFault>
+        ensures kind { self.new.kind ≡ self.old.kind }
+        ensures said { IfOk result (λ out. SendsBody self.old.edge self.new.edge life.old life.new
+            body.now out.items) }
+    {
+        let Some(edge) = &mut self.edge else {
+            return Ok(Vec::new(self.alloc));
+        };
+        match edge.say_body(self.alloc, body, life) {
+            Ok(bodies) => Ok(bodies),
+            // No message of the node's own is so.
+            Err(MessageFault::BadFrame) => Ok(Vec::new(self.alloc)),
+            Err(MessageFault::OutOfMemory) => Err(LinkFault::OutOfMemory),
+        }
+    }
+}
