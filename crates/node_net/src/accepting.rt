@@ -2,6 +2,7 @@
 use crate::arrivals::Arrivals;
 use crate::backoff::Backoff;
 use crate::host::Host;
+use crate::kind::Kind;
 use crate::lanes::Lanes;
 use crate::serving::{Opener, serve_stream};
 use node_threads::Node;
@@ -50,7 +51,7 @@ pub fn take_connections<'a, R: Threads + Wait + Clock + Sync>(
         let Some(stream) = arrivals.next(rt, lanes) else {
             return;
         };
-        if take_in(&host, stream) {
+        if take_in(&host, stream, arrivals.kind()) {
             rest.reset();
         } else if lanes.rest(rt, rest.grow()) {
             return;
@@ -60,11 +61,15 @@ pub fn take_connections<'a, R: Threads + Wait + Clock + Sync>(
 }
 
 /// Serves the link of a connection: whether it came up.
-fn take_in<R: Threads + Wait + Clock + Sync>(host: &Host<'_, R>, stream: TcpStream) -> bool {
+fn take_in<R: Threads + Wait + Clock + Sync>(
+    host: &Host<'_, R>,
+    stream: TcpStream,
+    kind: Kind,
+) -> bool {
     let Some(lane) = host.lanes.take_for_peer(host.rt) else {
         return false;
     };
-    let (lane, came_up) = serve_stream(host, lane, stream, Opener::Peer);
+    let (lane, came_up) = serve_stream(host, lane, stream, Opener::Peer, kind);
     host.lanes.give_back(host.rt, lane);
     came_up
 }

@@ -1,4 +1,5 @@
 //! Where peers connect. One thread takes connections there, over all lives of the node, and hands each to one that serves links.
+use crate::kind::Kind;
 use crate::lanes::Lanes;
 use std::io;
 use std::net::{Shutdown, TcpListener, TcpStream};
@@ -29,6 +30,7 @@ struct Hall {
 /// The connections that peers open.
 #[derive(Drop)]
 pub struct Arrivals {
+    kind: Kind,
     listener: TcpListener,
     /// The same socket, held from the start: so the end needs no further descriptor.
     handle: TcpStream,
@@ -40,7 +42,13 @@ pub struct Arrivals {
 }
 
 impl Arrivals {
+    /// Those of nodes of this program.
     pub fn new(listener: TcpListener) -> io::Result<Arrivals> {
+        Arrivals::of_kind(listener, Kind::Native)
+    }
+
+    /// Those of nodes of this kind.
+    pub fn of_kind(listener: TcpListener, kind: Kind) -> io::Result<Arrivals> {
         let handle = TcpStream::from(OwnedFd::from(listener.try_clone()?));
         let hall = Hall {
             arrived: None,
@@ -48,12 +56,18 @@ impl Arrivals {
             is_shut: false,
         };
         Ok(Arrivals {
+            kind,
             listener,
             handle,
             hall: Mutex::new(hall),
             arrived: Condvar::new(),
             wanted: Condvar::new(),
         })
+    }
+
+    /// Which nodes connect here.
+    pub(crate) fn kind(&self) -> Kind {
+        self.kind
     }
 
     /// Takes one connection after another, each once a thread waits for one, until the end. The others wait in the system.

@@ -1,7 +1,8 @@
 //! Connects to a peer. Nothing can end a look-up of a name or a connect, so a thread of its own makes them, and may outlive the links.
 use crate::dial_fault::DialFault;
+use crate::epmd_place::{EpmdPlace, connect};
 use crate::lanes::Lanes;
-use std::net::{Net, TcpListener, TcpStream, ToSocketAddrs};
+use std::net::{Net, TcpListener, TcpStream};
 use std::sync::{Condvar, CondvarTimeouts, Mutex, Wait};
 use std::time::{Clock, Duration};
 
@@ -18,7 +19,28 @@ struct State {
     has_ended: bool,
 }
 
-/// Connects to one place, HOST:PORT, which is looked up each time.
+/// Where a connector connects to.
+#[derive(Clone, Copy)]
+pub(crate) enum Goal<'a> {
+    /// HOST:PORT.
+    Address(&'a str),
+    /// The port of a node that EPMD is asked for.
+    Epmd(&'a EpmdPlace),
+}
+
+impl Goal<'_> {
+    fn connect<R>(&self, rt: &R, time: Duration) -> Result<TcpStream, DialFault>
+    where
+        R: Net<Listener = TcpListener, Stream = TcpStream>,
+    {
+        match self {
+            Goal::Address(place) => connect(rt, place, time),
+            Goal::Epmd(place) => place.connect(rt, time),
+        }
+    }
+}
+
+/// Connects to one place, which is looked up each time.
 #[derive(Drop)]
 pub(crate) struct Connector {
     state: Mutex<State>,
@@ -38,7 +60,7 @@ impl Connector {
     }
 
     /// Connects to the place whenever that is wanted, until the end.
-    pub(crate) fn connect_all<R>(&self, rt: &R, place: &str)
+    pub(crate) fn connect_all<R>(&self, rt: &R, goal: Goal<'_>)
     where
         R: Net<Listener = TcpListener, Stream = TcpStream> + Wait,
     {
@@ -46,7 +68,7 @@ impl Connector {
             let Some(time) = self.wait_for_wish(rt) else {
                 return;
             };
-            let made = connect(rt, place, time);
+            let made = goal.connect(rt, time);
             let mut state = self.state.lock(rt);
             state.wanted = None;
             state.made = Some(made);
@@ -107,22 +129,4 @@ impl Connector {
         drop(state);
         self.moved.notify_all();
     }
-}
-
-/// Connects to the first address of the place that answers. Else it is told what the last one said.
-fn connect<R>(rt: &R, place: &str, time: Duration) -> Result<TcpStream, DialFault>
-where
-    R: Net<Listener = TcpListener, Stream = TcpStream>,
-{
-    let mut fault = DialFault::NoHost;
-    let Ok(addrs) = place.to_socket_addrs(rt) else {
-        return Err(fault);
-    };
-    for addr in addrs {
-        match TcpStream::connect_timeout(rt, &addr, time) {
-            Ok(stream) => return Ok(stream),
-            Err(error) => fault = DialFault::of(error.kind()),
-        }
-    }
-    Err(fault)
 }

@@ -14,6 +14,10 @@ pub enum DialFault {
     Unreachable,
     /// Any other fault of the system.
     System,
+    /// EPMD doesn't answer at the host, or says what isn't understood.
+    NoEpmd,
+    /// EPMD at the host doesn't have the name.
+    Unregistered,
     /// A connection was made, and no link came up over it: one end has refused the other, or said
     /// nothing.
     Handshake,
@@ -40,6 +44,8 @@ impl DialFault {
             DialFault::Timeout => "timeout",
             DialFault::Unreachable => "unreachable",
             DialFault::System => "system",
+            DialFault::NoEpmd => "no_epmd",
+            DialFault::Unregistered => "unregistered",
             DialFault::Handshake => "handshake",
         }
     }
@@ -52,6 +58,8 @@ impl DialFault {
             DialFault::Timeout => "nobody answers there in time",
             DialFault::Unreachable => "no way leads there",
             DialFault::System => "the system makes no connection",
+            DialFault::NoEpmd => "EPMD says nothing there that is understood",
+            DialFault::Unregistered => "EPMD there doesn't have the name",
             DialFault::Handshake =>
                 "no link came up: one end has refused the other, or said nothing",
         }

@@ -178,7 +178,7 @@ where
     };
     let begun = Begun::now(rt, node);
     let opener = Opener::Own(target.peer());
-    let (lane, came_up) = serve_stream(host, lane, stream, opener);
+    let (lane, came_up) = serve_stream(host, lane, stream, opener, target.kind());
     lanes.give_back_from_dial(rt, lane);
     if came_up {
         begun.end(rt, node, target)

@@ -2,10 +2,12 @@
 use crate::endings::Ending;
 use crate::guard::ReflectionGuard;
 use crate::lanes::Lanes;
-use crate::limits::PULSES;
+use crate::limits::Looks;
 use crate::output::{Outlet, has_stood_still};
 use crate::patience::HostedLink;
 use crate::progress::Progress;
+use handshake_frames::{counted_at, decode_name};
+use otp_link::is_stock;
 use std::io::{self, ErrorKind, Read};
 use std::net::TcpStream;
 use std::sync::Wait;
@@ -32,6 +34,9 @@ pub(crate) struct LinkInput<'a, R: Wait + Clock> {
     pub(crate) outlet: &'a Outlet<'a>,
     pub(crate) progress: &'a Progress,
     pub(crate) stage: Stage,
+    pub(crate) looks: Looks,
+    /// The peer has opened the link, where nodes of this program do.
+    pub(crate) is_native: bool,
 }
 
 impl<R: Wait + Clock> LinkInput<'_, R> {
@@ -45,9 +50,7 @@ impl<R: Wait + Clock> LinkInput<'_, R> {
                 self.outlet.has_come_up(self.at.rt)?;
             }
             self.stage = Stage::Up(0);
-            return self
-                .stream
-                .set_read_timeout(Some(self.at.lanes.limits().pulse()));
+            return self.stream.set_read_timeout(Some(self.looks.time));
         }
         if *heard > LONGEST_HANDSHAKE {
             return Err(io::Error::from(ErrorKind::InvalidData));
@@ -64,6 +67,9 @@ impl<R: Wait + Clock> LinkInput<'_, R> {
     fn look(&mut self, piece: &[u8]) -> io::Result<()> {
         match &mut self.stage {
             Stage::Handshake(_, heard, guard) => {
+                if self.is_native && *heard == 0 {
+                    look_for_stock(self.at, piece);
+                }
                 *heard = heard.saturating_add(piece.len());
                 look_for_reflection(self.at.rt, self.at.lanes, guard, piece)
             }
@@ -77,7 +83,7 @@ impl<R: Wait + Clock> LinkInput<'_, R> {
     /// Nothing has come in time: the read is to be tried again, until that is too often.
     fn wait_on(&mut self) -> ErrorKind {
         match &mut self.stage {
-            Stage::Up(silent) if *silent < PULSES - 1 => {
+            Stage::Up(silent) if *silent < self.looks.most.saturating_sub(1) => {
                 *silent += 1;
                 ErrorKind::Interrupted
             }
@@ -96,6 +102,17 @@ impl<R: Wait + Clock> LinkInput<'_, R> {
             self.at.note(Ending::Slow);
         }
         ticked
+    }
+}
+
+/// Counts a stock node that has connected where nodes of this program do: its Name tells it.
+fn look_for_stock<R: Wait + Clock>(at: &HostedLink<'_, R>, piece: &[u8]) {
+    if let Some((body, _)) = counted_at(piece)
+        && let Ok(frame) = decode_name(body)
+        && is_stock(frame.flags)
+    {
+        at.lanes.count_stock();
+        at.node.wake(at.rt);
     }
 }
 

@@ -71,7 +71,7 @@ impl Lane {
         ensures refused { IfErr result (λ _. IsUsed reader writer) }
         ensures back { IfErr result (λ used. (used.reader ≡ reader) × (used.writer ≡ writer)) }
     {
-        if !reader.calls().is_empty() || !writer.calls().is_empty() {
+        if reader.count() > 0 || writer.count() > 0 {
             return Err(UsedPass { reader, writer });
         }
         let challenge = source.draw();
@@ -109,9 +109,9 @@ impl Lane {
         requires opening { IsOpening self.old.challenge event }
         ensures { IfSome result (Contains (own_links self.new.reader.calls)) }
     {
-        let before = self.reader.calls().len();
+        let before = self.reader.count();
         let link = open_link(&mut self.reader, rt, node, event);
-        if self.reader.calls().len() > before {
+        if self.reader.count() > before {
             self.challenge = self.source.draw();
         }
         link

@@ -1,9 +1,12 @@
 //! The lanes of a node, shared by all threads that serve its links.
 ghost use Rattle.std.specs.Prelude.{◌≡◌, IfOk};
 
+use crate::edges::Edges;
 use crate::endings::Ending;
+use crate::kind::Kind;
 use crate::lane::Lane;
 use crate::limits::Limits;
+use crate::met::Met;
 use crate::notes::Notes;
 use crate::target::Target;
 use std::alloc::Global;
@@ -52,28 +55,6 @@ impl State {
     }
 }
 
-/// What an operator should know of the links of a node: how often it was met.
-#[derive(Clone, Copy, Debug, PartialEq, Eq)]
-pub struct Met {
-    /// A peer asked for a digest of a challenge of this node's own, and lost its link.
-    pub reflections: u64,
-    /// No lane was left for a further link.
-    pub fillings: u64,
-    /// A link to a peer that is dialled ended early again, while the peer lived on.
-    pub early_ends: u64,
-    /// A dial has failed.
-    pub failed_dials: u64,
-}
-
-impl Met {
-    pub const NOTHING: Met = Met {
-        reflections: 0,
-        fillings: 0,
-        early_ends: 0,
-        failed_dials: 0,
-    };
-}
-
 /// The lanes of a node. Each thread that serves a link takes one for that time.
 pub struct Lanes<'a> {
     state: Mutex<State>,
@@ -87,6 +68,8 @@ pub struct Lanes<'a> {
     fillings: AtomicU64,
     early_ends: AtomicU64,
     failed_dials: AtomicU64,
+    stock_nodes: AtomicU64,
+    native_nodes: AtomicU64,
 }
 
 impl Drop for Lanes<'_> {
@@ -101,6 +84,8 @@ impl Drop for Lanes<'_> {
             fillings: _,
             early_ends: _,
             failed_dials: _,
+            stock_nodes: _,
+            native_nodes: _,
         } = self;
     }
 }
@@ -127,6 +112,8 @@ impl<'a> Lanes<'a> {
             fillings: AtomicU64::new(0),
             early_ends: AtomicU64::new(0),
             failed_dials: AtomicU64::new(0),
+            stock_nodes: AtomicU64::new(0),
+            native_nodes: AtomicU64::new(0),
         }
     }
 
@@ -142,6 +129,8 @@ impl<'a> Lanes<'a> {
             fillings: _,
             early_ends: _,
             failed_dials: _,
+            stock_nodes: _,
+            native_nodes: _,
         } = self;
         let State { free, .. } = state.into_inner();
         free
@@ -183,7 +172,28 @@ impl<'a> Lanes<'a> {
             fillings: self.fillings.load(Ordering::SeqCst),
             early_ends: self.early_ends.load(Ordering::SeqCst),
             failed_dials: self.failed_dials.load(Ordering::SeqCst),
+            stock_nodes: self.stock_nodes.load(Ordering::SeqCst),
+            native_nodes: self.native_nodes.load(Ordering::SeqCst),
+            untold: self.notes.edges.untold(),
         }
+    }
+
+    /// What its links with stock nodes share with those of other lives.
+    pub(crate) fn edges(&self) -> &Edges {
+        &self.notes.edges
+    }
+
+    /// Notes which nodes a link leads to.
+    pub(crate) fn note_kind<R: Wait>(&self, rt: &R, link: u32, kind: Kind) {
+        self.notes.edges.note(rt, link, kind);
+    }
+
+    pub(crate) fn count_stock(&self) {
+        self.stock_nodes.fetch_add(1, Ordering::SeqCst);
+    }
+
+    pub(crate) fn count_native(&self) {
+        self.native_nodes.fetch_add(1, Ordering::SeqCst);
     }
 
     pub(crate) fn count_reflection(&self) {

@@ -1,8 +1,12 @@
 //! Limits of time.
+use crate::kind::Kind;
 use std::time::Duration;
 
 /// In how many parts the time is cut that a peer may be silent.
 pub(crate) const PULSES: u32 = 8;
+
+/// After so many milliseconds it is looked whether a stock node is to be asked again.
+const ASKING: u64 = 500;
 
 /// How long a link may take to come up, and how long it may be silent.
 #[derive(Clone, Copy, Debug)]
@@ -29,4 +33,28 @@ impl Limits {
     pub(crate) fn pulse(&self) -> Duration {
         self.tick / PULSES
     }
+
+    /// How often the reader of a link looks whether something has come.
+    pub(crate) fn looks(&self, kind: Kind) -> Looks {
+        let pulse = self.pulse();
+        if !kind.is_otp() {
+            return Looks {
+                time: pulse,
+                most: PULSES,
+            };
+        }
+        let time = pulse.min(Duration::from_millis(ASKING));
+        let parts = self.tick.as_millis() / time.as_millis().max(1);
+        Looks {
+            time,
+            most: parts.min(u128::from(u32::MAX)) as u32,
+        }
+    }
+}
+
+/// How long a reader waits at once, and how often in a row for nothing before the link is lost.
+#[derive(Clone, Copy, Debug)]
+pub(crate) struct Looks {
+    pub(crate) time: Duration,
+    pub(crate) most: u32,
 }

@@ -1,8 +1,10 @@
 //! What the links of a life tell beside the node.
 use crate::addresses::Addresses;
+use crate::edges::Edges;
 use crate::endings::Endings;
 use crate::limits::Limits;
 use crate::writers::Writers;
+use std::alloc::Global;
 use std::sync::Wait;
 
 /// What the links of a life tell beside the node.
@@ -14,14 +16,17 @@ pub struct Notes {
     pub writers: Writers,
     /// Where their other ends are.
     pub addresses: Addresses,
+    /// What those with stock nodes of Erlang/OTP share.
+    pub edges: Edges,
 }
 
 impl Notes {
-    pub fn new() -> Notes {
+    pub fn new(alloc: Global) -> Notes {
         Notes {
             endings: Endings::new(),
             writers: Writers::new(),
             addresses: Addresses::new(),
+            edges: Edges::new(alloc),
         }
     }
 
@@ -30,5 +35,6 @@ impl Notes {
         self.endings.clear(rt);
         self.writers.begin_life(rt, limits);
         self.addresses.clear(rt);
+        self.edges.clear(rt);
     }
 }

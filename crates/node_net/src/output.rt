@@ -16,49 +16,12 @@ const TICK: [u8; 4] = [0; 4];
 /// first one of its batch.
 const ACK: [u8; 3] = [0, 17, b'a'];
 
-/// For how many milliseconds a writer rests, so that messages gather.
-const GATHERING: u64 = 3;
-
-/// Where more frames than this wait, a writer doesn't rest.
-const MANY: usize = 64;
-
-/// In a write of less than so many milliseconds fewer come: the writer rests without a look at the
-/// node, whose lock others want.
-const SHORT: u64 = 1;
-
-/// How many messages may go out singly, one right behind the other, before a writer rests all the same.
-const SINGLES: u64 = 20;
-
-/// After how many milliseconds one more of them may.
-const RETURN: u64 = 2;
-
 /// What was written.
 #[derive(Clone, Copy, Debug)]
 struct Written {
     /// Whether messages may go out: nothing of the handshake is owed any more.
     is_up: bool,
     last: Instant,
-    /// The time that single messages may use up yet, of which each uses what it takes to return.
-    spare: Duration,
-}
-
-impl Written {
-    /// Something has gone out.
-    fn has_gone_out(&mut self, now: Instant) {
-        let most = Duration::from_millis(SINGLES * RETURN);
-        let passed = now.duration_since(self.last);
-        self.spare = self.spare.saturating_add(passed).min(most);
-        self.last = now;
-    }
-
-    /// Uses up a message that may go out singly: whether there was one.
-    fn has_one(&mut self) -> bool {
-        let Some(left) = self.spare.checked_sub(Duration::from_millis(RETURN)) else {
-            return false;
-        };
-        self.spare = left;
-        true
-    }
 }
 
 /// The way out of a link, shared by both directions. The lock is held for a whole batch of frames, or a tick.
@@ -81,7 +44,6 @@ impl<'a> Outlet<'a> {
         let written = Written {
             is_up: false,
             last: Instant::now(rt)?,
-            spare: Duration::from_millis(SINGLES * RETURN),
         };
         Ok(Outlet {
             stream,
@@ -94,7 +56,7 @@ impl<'a> Outlet<'a> {
     pub(crate) fn has_come_up<R: Wait + Clock>(&self, rt: &R) -> io::Result<()> {
         let mut written = self.written.lock(rt);
         written.is_up = true;
-        written.has_gone_out(Instant::now(rt)?);
+        written.last = Instant::now(rt)?;
         Ok(())
     }
 
@@ -103,16 +65,27 @@ impl<'a> Outlet<'a> {
         self.written.lock(rt).is_up
     }
 
-    /// Writes a batch of frames. Whether the writer is to rest: several messages had gathered, or too many have gone out singly.
-    fn send<R: Wait + Clock>(&self, at: &HostedLink<'_, R>, batch: &[u8]) -> io::Result<bool> {
+    /// Writes a batch of frames, and notes where nobody reads them.
+    pub(crate) fn send<R: Wait + Clock>(
+        &self,
+        at: &HostedLink<'_, R>,
+        batch: &[u8],
+    ) -> io::Result<()> {
+        let sent = self.write_batch(at, batch);
+        if has_stood_still(&sent) {
+            at.note(Ending::Slow);
+        }
+        sent
+    }
+
+    fn write_batch<R: Wait + Clock>(&self, at: &HostedLink<'_, R>, batch: &[u8]) -> io::Result<()> {
         let mut written = self.written.lock(at.rt);
         at.write_all(self.stream, batch)?;
-        written.has_gone_out(Instant::now(at.rt)?);
+        written.last = Instant::now(at.rt)?;
         if !written.is_up {
             written.is_up = batch.starts_with(&ACK);
-            return Ok(false);
         }
-        Ok(are_several(batch) || !written.has_one())
+        Ok(())
     }
 
     /// Writes a tick, where nothing has gone out for a pulse. During a write none is needed.
@@ -122,7 +95,7 @@ impl<'a> Outlet<'a> {
         };
         if written.is_up && written.last.elapsed(at.rt)? >= self.pulse {
             at.write_all(self.stream, &TICK)?;
-            written.has_gone_out(Instant::now(at.rt)?);
+            written.last = Instant::now(at.rt)?;
         }
         Ok(())
     }
@@ -147,7 +120,7 @@ fn are_several(batch: &[u8]) -> bool {
 /// What the writer of a link writes to.
 #[derive(Drop)]
 pub(crate) struct LinkOutput<'a, R: Wait + Clock> {
-    at: &'a HostedLink<'a, R>,
+    pub(crate) at: &'a HostedLink<'a, R>,
     outlet: &'a Outlet<'a>,
 }
 
@@ -156,28 +129,14 @@ impl<'a, R: Wait + Clock> LinkOutput<'a, R> {
         at.lanes.enter_writer(at.rt, at.link);
         LinkOutput { at, outlet }
     }
-
-    /// Rests behind a write that began then, so that messages gather, unless many wait already.
-    fn rest(&self, began: Instant) -> io::Result<()> {
-        let HostedLink { rt, .. } = *self.at;
-        let is_short = began.elapsed(rt)? < Duration::from_millis(SHORT);
-        if is_short || self.at.waiting().unwrap_or(0) <= MANY {
-            thread::sleep(rt, Duration::from_millis(GATHERING));
-        }
-        Ok(())
-    }
 }
 
 impl<R: Wait + Clock> Write for LinkOutput<'_, R> {
-    /// Writes all, and rests then where messages come so often that they are better taken together: each Take is an entry.
+    /// Writes all. Where several messages had gathered, others may run before the next write.
     fn write(&mut self, buf: &[u8]) -> io::Result<usize> {
-        let began = Instant::now(self.at.rt)?;
-        let sent = self.outlet.send(self.at, buf);
-        if has_stood_still(&sent) {
-            self.at.note(Ending::Slow);
-        }
-        if sent? {
-            self.rest(began)?;
+        self.outlet.send(self.at, buf)?;
+        if are_several(buf) {
+            thread::yield_now();
         }
         Ok(buf.len())
     }

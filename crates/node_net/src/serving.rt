@@ -1,21 +1,27 @@
 //! One link over a socket.
 ghost use Rattle.std.specs.Prelude.{◌≡◌, IfOk};
-ghost use Rattle.node_net.specs.LaneCalls.{IsOpening};
+ghost use Rattle.std.specs.List.{Contains};
+ghost use Rattle.node_net.specs.LaneCalls.{IsOpening, own_links};
 
 use crate::guard::ReflectionGuard;
 use crate::host::Host;
 use crate::input::{LinkInput, Stage};
+use crate::kind::Kind;
 use crate::lane::Lane;
 use crate::lanes::Ticket;
+use crate::otp_input::OtpInput;
+use crate::otp_output::OtpOutput;
+use crate::otp_side::OtpSide;
 use crate::output::{LinkOutput, Outlet};
 use crate::patience::HostedLink;
 use crate::progress::Progress;
 use dist_types::{NodeName, OutOfMemory, TryClone};
 use node_threads::Connection;
+use otp_link::{LinkKind, OtpLink};
 use policy_audit::Event;
 use std::alloc::Global;
 use std::net::TcpStream;
-use std::sync::{Arc, Wait};
+use std::sync::{Arc, Mutex, Wait};
 use std::thread::Threads;
 use std::time::{Clock, Instant};
 
@@ -28,6 +34,10 @@ pub(crate) enum Opener<'a> {
 }
 
 impl Opener<'_> {
+    fn is_own(&self) -> bool {
+        matches!(self, Opener::Own(_))
+    }
+
     fn event(&self, alloc: Global, challenge: u32) -> Result<Event, OutOfMemory>
         ensures { IfOk result (IsOpening challenge) }
     {
@@ -51,6 +61,7 @@ pub(crate) fn serve_stream<R: Threads + Wait + Clock + Sync>(
     lane: Lane,
     stream: TcpStream,
     opener: Opener<'_>,
+    kind: Kind,
 ) -> (Lane, bool) {
     let Ok(stream) = Arc::new(host.alloc, stream) else {
         return (lane, false);
@@ -58,9 +69,32 @@ pub(crate) fn serve_stream<R: Threads + Wait + Clock + Sync>(
     let Ok(ticket) = host.lanes.enter(host.rt, lane.challenge(), &stream) else {
         return (lane, false);
     };
-    let (lane, came_up) = serve_entered(host, lane, &stream, opener, ticket);
+    let (lane, came_up) = serve_entered(host, lane, &stream, Opening { opener, kind }, ticket);
     host.lanes.leave(host.rt, ticket);
     (lane, came_up)
+}
+
+/// Who has opened a connection, and which nodes it leads to.
+#[derive(Clone, Copy)]
+struct Opening<'a> {
+    opener: Opener<'a>,
+    kind: Kind,
+}
+
+impl Opening<'_> {
+    /// A peer has opened it where nodes of this program do.
+    fn is_from_native(&self) -> bool {
+        !self.kind.is_otp() && !self.opener.is_own()
+    }
+
+    /// How the link is made, to a stock node.
+    fn link_kind(&self, in_parts: bool) -> LinkKind {
+        LinkKind {
+            is_visible: self.kind == Kind::Visible,
+            is_dialled: self.opener.is_own(),
+            in_parts,
+        }
+    }
 }
 
 /// Opens the link with the challenge that it was entered with, and serves it.
@@ -68,7 +102,7 @@ fn serve_entered<R: Threads + Wait + Clock + Sync>(
     host: &Host<'_, R>,
     mut lane: Lane,
     stream: &TcpStream,
-    opener: Opener<'_>,
+    opening: Opening<'_>,
     ticket: Ticket,
 ) -> (Lane, bool)
     requires guarded { ticket.challenge ≡ lane.challenge }
@@ -85,13 +119,14 @@ fn serve_entered<R: Threads + Wait + Clock + Sync>(
     let Ok(start) = Instant::now(rt) else {
         return (lane, false);
     };
-    let Ok(event) = opener.event(alloc, ticket.challenge) else {
+    let Ok(event) = opening.opener.event(alloc, ticket.challenge) else {
         return (lane, false);
     };
     let Some(link) = lane.open(rt, node, event) else {
         return (lane, false);
     };
     lanes.note_address(rt, link, stream);
+    lanes.note_kind(rt, link, opening.kind);
     let at = HostedLink {
         rt,
         node,
@@ -99,18 +134,68 @@ fn serve_entered<R: Threads + Wait + Clock + Sync>(
         link,
     };
     let progress = Progress::new();
-    let connection = Connection {
-        link,
-        input: LinkInput {
-            at: &at,
-            stream,
-            outlet: &outlet,
-            progress: &progress,
-            stage: Stage::Handshake(start, 0, opener.guard(alloc)),
-        },
-        output: LinkOutput::begin(&at, &outlet),
+    let input = LinkInput {
+        at: &at,
+        stream,
+        outlet: &outlet,
+        progress: &progress,
+        stage: Stage::Handshake(start, 0, opening.opener.guard(alloc)),
+        looks: lanes.limits().looks(opening.kind),
+        is_native: opening.is_from_native(),
     };
-    let lane = lane.serve(rt, alloc, node, connection, &progress);
+    let lane = serve_opened(host, lane, input, opening, start);
     let came_up = outlet.was_up(rt);
     (lane, came_up)
+}
+
+/// Serves the link that was opened, by its kind.
+fn serve_opened<R: Threads + Wait + Clock + Sync>(
+    host: &Host<'_, R>,
+    lane: Lane,
+    input: LinkInput<'_, R>,
+    opening: Opening<'_>,
+    start: Instant,
+) -> Lane
+    requires own { Contains (own_links lane.reader.calls) input.at.now.link }
+{
+    let Host {
+        rt,
+        alloc,
+        node,
+        lanes,
+    } = *host;
+    if opening.kind.is_otp() {
+        let kind = opening.link_kind(lanes.edges().in_parts());
+        return serve_otp(host, lane, input, kind, start);
+    }
+    let (at, progress) = (input.at, input.progress);
+    let output = LinkOutput::begin(at, input.outlet);
+    let connection = Connection::new(at.link, input, output);
+    lane.serve(rt, alloc, node, connection, progress)
+}
+
+/// Serves the link that was opened with a stock node of Erlang/OTP.
+fn serve_otp<R: Threads + Wait + Clock + Sync>(
+    host: &Host<'_, R>,
+    lane: Lane,
+    input: LinkInput<'_, R>,
+    kind: LinkKind,
+    start: Instant,
+) -> Lane
+    requires own { Contains (own_links lane.reader.calls) input.at.now.link }
+{
+    let Host {
+        rt,
+        alloc,
+        node,
+        ..
+    } = *host;
+    let (at, outlet, progress) = (input.at, input.outlet, input.progress);
+    let link = at.link;
+    let between = Mutex::new(OtpLink::new(alloc, kind));
+    let side = OtpSide::new(alloc, &between);
+    let output = OtpOutput::begin(LinkOutput::begin(at, outlet), &side);
+    let input = OtpInput::begin(input, &side, start);
+    let connection = Connection::new(link, input, output);
+    lane.serve(rt, alloc, node, connection, progress)
 }

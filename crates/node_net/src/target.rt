@@ -1,6 +1,8 @@
 //! A peer to dial, and how its dials go.
-use crate::connector::Connector;
+use crate::connector::{Connector, Goal};
 use crate::dial_fault::DialFault;
+use crate::epmd_place::EpmdPlace;
+use crate::kind::Kind;
 use dist_types::{NodeName, OutOfMemory, TextFault};
 use std::alloc::Global;
 use std::net::{Net, TcpListener, TcpStream};
@@ -14,10 +16,20 @@ use thiserror::Error;
 pub enum TargetFault {
     #[error("no NAME=HOST:PORT")]
     NoPlace,
+    #[error("no NAME and no NAME=HOST:PORT")]
+    NoStockNode,
     #[error("{0}")]
     Name(TextFault),
     #[error("out of memory")]
     OutOfMemory,
+}
+
+/// How stock nodes of Erlang/OTP are dialled: as which kind of link, and at which port EPMD is
+/// asked for those that have no address.
+#[derive(Clone, Copy, Debug)]
+pub struct EpmdUse {
+    pub kind: Kind,
+    pub port: u16,
 }
 
 /// How the dials of a peer go.
@@ -42,8 +54,10 @@ struct State {
 /// A peer to dial.
 pub struct Target {
     peer: NodeName,
-    /// HOST:PORT.
+    kind: Kind,
+    /// HOST:PORT, or where EPMD is asked.
     place: String,
+    epmd: Option<EpmdPlace>,
     connector: Connector,
     state: Mutex<State>,
     is_unsteady: AtomicBool,
@@ -55,7 +69,9 @@ impl Drop for Target {
     fn drop(self) {
         let Target {
             peer: _,
+            kind: _,
             place: _,
+            epmd: _,
             connector: _,
             state: _,
             is_unsteady: _,
@@ -66,10 +82,17 @@ impl Drop for Target {
 }
 
 impl Target {
+    /// A node of this program, at HOST:PORT.
     pub fn new(peer: NodeName, place: String) -> Target {
+        Target::of(peer, Kind::Native, place, None)
+    }
+
+    fn of(peer: NodeName, kind: Kind, place: String, epmd: Option<EpmdPlace>) -> Target {
         Target {
             peer,
+            kind,
             place,
+            epmd,
             connector: Connector::new(),
             state: Mutex::new(State {
                 tried: Tried {
@@ -90,10 +113,7 @@ impl Target {
         let Some((name, place)) = word.split_once('=') else {
             return Err(TargetFault::NoPlace);
         };
-        let peer = match NodeName::parse(alloc, name.as_bytes()) {
-            Ok(peer) => peer,
-            Err(fault) => return Err(TargetFault::Name(fault)),
-        };
+        let peer = named(alloc, name)?;
         if !is_place(place) {
             return Err(TargetFault::NoPlace);
         }
@@ -103,11 +123,46 @@ impl Target {
         }
     }
 
+    /// The stock node that a word NAME or NAME=HOST:PORT names. The port of one without an address
+    /// is asked of EPMD at its host, each time that it is dialled.
+    pub fn parse_otp(alloc: Global, word: &str, epmd: EpmdUse) -> Result<Target, TargetFault> {
+        let Some((name, place)) = word.split_once('=') else {
+            return Target::asked(alloc, named(alloc, word)?, epmd);
+        };
+        let peer = named(alloc, name)?;
+        if !is_place(place) {
+            return Err(TargetFault::NoStockNode);
+        }
+        match copied(alloc, place) {
+            Ok(place) => Ok(Target::of(peer, epmd.kind, place, None)),
+            Err(_) => Err(TargetFault::OutOfMemory),
+        }
+    }
+
+    /// The stock node of that name, whose port EPMD is asked for.
+    fn asked(alloc: Global, peer: NodeName, epmd: EpmdUse) -> Result<Target, TargetFault> {
+        let Ok(found) = EpmdPlace::of(alloc, &peer, epmd.port) else {
+            return Err(TargetFault::OutOfMemory);
+        };
+        let Some(place) = found else {
+            return Err(TargetFault::NoStockNode);
+        };
+        match place.shown() {
+            Ok(shown) => Ok(Target::of(peer, epmd.kind, shown, Some(place))),
+            Err(_) => Err(TargetFault::OutOfMemory),
+        }
+    }
+
     pub fn peer(&self) -> &NodeName {
         &self.peer
     }
 
-    /// HOST:PORT.
+    /// Which nodes the link leads to.
+    pub fn kind(&self) -> Kind {
+        self.kind
+    }
+
+    /// HOST:PORT, or where EPMD is asked.
     pub fn place(&self) -> &str {
         self.place.as_str()
     }
@@ -121,7 +176,11 @@ impl Target {
     where
         R: Net<Listener = TcpListener, Stream = TcpStream> + Wait,
     {
-        self.connector.connect_all(rt, self.place.as_str());
+        let goal = match &self.epmd {
+            Some(place) => Goal::Epmd(place),
+            None => Goal::Address(self.place.as_str()),
+        };
+        self.connector.connect_all(rt, goal);
     }
 
     /// It is dialled no more.
@@ -192,6 +251,14 @@ pub fn is_place(word: &str) -> bool {
 /// Whether the text has no byte but those that can be seen.
 fn is_printable(text: &str) -> bool {
     text.as_bytes().iter().all(|byte| byte.is_ascii_graphic())
+}
+
+/// The name of a node.
+fn named(alloc: Global, name: &str) -> Result<NodeName, TargetFault> {
+    match NodeName::parse(alloc, name.as_bytes()) {
+        Ok(peer) => Ok(peer),
+        Err(fault) => Err(TargetFault::Name(fault)),
+    }
 }
 
 fn copied(alloc: Global, text: &str) -> Result<String, OutOfMemory> {

@@ -109,7 +109,7 @@ impl Writers {
 
 /// The most frames that wait for a link whose writer gets on.
 fn most_behind(writers: &[Option<Writer>], core: &NodeCore) -> usize
-    ensures { result ≡ most_behind core.now writers.now }
+    ensures { result ≡ most_behind core.now.history writers.now }
 {
     writers
         .iter()
@@ -120,7 +120,7 @@ fn most_behind(writers: &[Option<Writer>], core: &NodeCore) -> usize
 
 /// How many frames wait for the link of a writer that gets on.
 fn frames_behind(writer: &Option<Writer>, core: &NodeCore) -> usize
-    ensures { result ≡ frames_behind core.now writer.now }
+    ensures { result ≡ frames_behind core.now.history writer.now }
 {
     match writer {
         Some(writer) if !writer.stands_still => core.waiting(writer.link).unwrap_or(0),

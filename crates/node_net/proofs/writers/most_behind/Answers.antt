@@ -7,7 +7,7 @@ use Rattle.node_net.proofs.writers.most_behind.Goals as goal
 
 pub returns : goal.returns
 returns c =
-    let waiting = frames_behind c.args.core.now in
+    let waiting = frames_behind c.args.core.now.history in
     c.unwrap_or.ensures
     ∙ ap (λ o. unwrap_or o 0)
     (reduce_from_yields_List _ c.map.result _ c.max.ensures.ran

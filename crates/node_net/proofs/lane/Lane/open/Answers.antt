@@ -18,13 +18,13 @@ invariant_of-self g c =
       left = c.draw-self-inside.new.self;
     } in
     let many : length lane.reader.calls < length lane'.reader.calls =
-    grind (arith, c.if-calls-before.true, c.calls.ensures, c.calls-before.ensures) in
+    grind (arith, c.if-count-before.true, c.count.ensures, c.count-before.ensures) in
     opens_lane lane lane' c.args.event c.open_link-link.result c.open_link-link.ensures
     c.self.invariant refl
     (rw (← c.self.view_is) at c.requires.opening) many c.draw-self-inside.ensures
 
-pub invariant_of-self-else-calls-before : goal.invariant_of-self-else-calls-before
-invariant_of-self-else-calls-before g c =
+pub invariant_of-self-else-count-before : goal.invariant_of-self-else-count-before
+invariant_of-self-else-count-before g c =
     let lane : Pair = record {
       reader = c.self.inside.reader;
       writer = c.self.inside.writer;
@@ -33,16 +33,16 @@ invariant_of-self-else-calls-before g c =
     } in
     let lane' : Pair = record lane { reader = c.open_link-link.new.pass } in
     let few : length lane'.reader.calls ≤ length lane.reader.calls =
-    grind (arith, c.if-calls-before.false, c.calls.ensures, c.calls-before.ensures) in
+    grind (arith, c.if-count-before.false, c.count.ensures, c.count-before.ensures) in
     keeps_lane lane lane' c.args.event c.open_link-link.result c.open_link-link.ensures
     c.self.invariant refl few refl refl
 
-pub returns-then-calls-before : goal.returns-then-calls-before
-returns-then-calls-before g c =
+pub returns-then-count-before : goal.returns-then-count-before
+returns-then-count-before g c =
     opens_own c.args.event c.open_link-link.result c.self.inside.reader c.open_link-link.new.pass
     c.open_link-link.ensures
 
-pub returns-else-calls-before : goal.returns-else-calls-before
-returns-else-calls-before g c =
+pub returns-else-count-before : goal.returns-else-count-before
+returns-else-count-before g c =
     opens_own c.args.event c.open_link-link.result c.self.inside.reader c.open_link-link.new.pass
     c.open_link-link.ensures

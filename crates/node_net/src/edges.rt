@@ -1,0 +1,122 @@
+//! What all links with stock nodes of Erlang/OTP share, over all lives of the node.
+use crate::kind::Kind;
+use otp_edge::{Dropped, Life};
+use std::alloc::Global;
+use std::sync::atomic::{AtomicBool, AtomicU64, Ordering};
+use std::sync::{Mutex, MutexGuard, Wait};
+
+/// Of how many links the kind is kept.
+const KEPT: usize = 256;
+
+/// How many reasons there are to drop something.
+const REASONS: usize = 7;
+
+#[derive(Clone, Copy, Debug)]
+struct Noted {
+    link: u32,
+    kind: Kind,
+}
+
+/// The kinds of the last links, the oldest at `next`.
+#[derive(Clone, Copy, Debug)]
+struct Ring {
+    noted: [Noted; KEPT],
+    next: usize,
+}
+
+impl Ring {
+    /// What is said of links of which nothing was noted.
+    const EMPTY: Ring = Ring {
+        noted: [Noted {
+            link: 0,
+            kind: Kind::Native,
+        }; KEPT],
+        next: 0,
+    };
+
+    fn of(&self, link: u32) -> Kind {
+        match self.noted.iter().find(|noted| noted.link == link) {
+            Some(noted) => noted.kind,
+            None => Kind::Native,
+        }
+    }
+
+    fn note(&mut self, noted: Noted) {
+        let place = self.next % KEPT;
+        self.noted[place] = noted;
+        self.next = place + 1;
+    }
+}
+
+/// What all links with stock nodes share: the groups that these were told as atoms, and how often
+/// something was dropped. Its locks are innermost ones.
+#[derive(Drop)]
+pub struct Edges {
+    life: Mutex<Life>,
+    kinds: Mutex<Ring>,
+    dropped: Mutex<[u64; REASONS]>,
+    /// How often rows of a group weren't told, since there were too many atoms.
+    untold: AtomicU64,
+    in_parts: AtomicBool,
+}
+
+impl Edges {
+    pub fn new(alloc: Global) -> Edges {
+        Edges {
+            life: Mutex::new(Life::new(alloc)),
+            kinds: Mutex::new(Ring::EMPTY),
+            dropped: Mutex::new([0; REASONS]),
+            untold: AtomicU64::new(0),
+            in_parts: AtomicBool::new(false),
+        }
+    }
+
+    /// Whether the node takes messages in parts, which is said before its first link.
+    pub fn set_parts(&self, in_parts: bool) {
+        self.in_parts.store(in_parts, Ordering::SeqCst);
+    }
+
+    pub(crate) fn in_parts(&self) -> bool {
+        self.in_parts.load(Ordering::SeqCst)
+    }
+
+    /// Which nodes a link leads to: one of this program, where nothing else was noted.
+    pub fn kind_of<R: Wait>(&self, rt: &R, link: u32) -> Kind {
+        self.kinds.lock(rt).of(link)
+    }
+
+    pub(crate) fn note<R: Wait>(&self, rt: &R, link: u32, kind: Kind) {
+        self.kinds.lock(rt).note(Noted { link, kind });
+    }
+
+    /// Forgets the kinds of links, since a new life counts them anew.
+    pub(crate) fn clear<R: Wait>(&self, rt: &R) {
+        *self.kinds.lock(rt) = Ring::EMPTY;
+    }
+
+    pub(crate) fn life<R: Wait>(&self, rt: &R) -> MutexGuard<'_, Life> {
+        self.life.lock(rt)
+    }
+
+    /// Counts what was dropped on a link for a reason.
+    pub(crate) fn count<R: Wait>(&self, rt: &R, reason: Dropped, more: u64) {
+        let mut dropped = self.dropped.lock(rt);
+        let place = reason as usize;
+        dropped[place] = dropped[place].saturating_add(more);
+    }
+
+    /// How often something was dropped for this reason, on all links.
+    pub fn dropped<R: Wait>(&self, rt: &R, reason: Dropped) -> u64 {
+        self.dropped.lock(rt)[reason as usize]
+    }
+
+    /// Notes how often rows of a group weren't told: whether that is news.
+    pub(crate) fn note_untold(&self, times: u64) -> bool {
+        self.untold.swap(times, Ordering::SeqCst) == 0 && times > 0
+    }
+
+    /// How often rows of a group weren't told, since the node has told 65,536 others as atoms.
+    pub fn untold(&self) -> u64 {
+        self.untold.load(Ordering::SeqCst)
+    }
+}
