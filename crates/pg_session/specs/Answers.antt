@@ -1,15 +1,16 @@
 -- What the lines of a connection are answered.
 use Rattle.std.specs.Prelude.{◌≡◌, ◌⊎◌, ℕ, true, false, List, ◌++◌, codes, Option, Some, None}
 use Rattle.std.specs.Prelude.{Result}
+use Rattle.std.specs.List.Sorted.{IsSorted, IsPermutation}
+use Rattle.dist_types.specs.Order.{text_cmp}
 use Rattle.policy_audit.specs.declared.reply.Reply.{Reply}
-use Rattle.policy_audit.specs.History.{History, audited, entered}
-use Rattle.policy_audit.specs.Log.{entry_at}
+use Rattle.policy_audit.specs.History.{audited, entered}
 use Rattle.node_core.specs.declared.fault.CoreFault.{CoreFault}
 use Rattle.node_core.specs.Reading.{IsAnswer, up_names}
 use Rattle.node_threads.specs.Calls.{Record}
 use Rattle.node_threads.specs.Room.{Room, IsSound}
 use Rattle.node_threads.specs.Applied.{Fits}
-use Rattle.pg_text.specs.Answers.{spaced, step_line, size_line, entry_line}
+use Rattle.pg_text.specs.Answers.{spaced, step_line, size_line, found_line}
 use Rattle.pg_session.specs.declared.request.Request.{Request}
 use Rattle.pg_session.specs.declared.request.Request.TheVariants as request
 use Rattle.pg_session.specs.Processes.{moves_only}
@@ -23,18 +24,25 @@ strange_line = codes "fault not yours\n"
 abbrev pub nodes_line : List (List ℕ) → List ℕ
 nodes_line names = codes "nodes" ++ spaced (λ n. n) names ++ codes "\n"
 
--- a request for which the node is only read: its line, as this history has it
-abbrev pub Reads : Request → History → List ℕ → Type 0
-Reads (request.Query e) h line = (answer : Result Reply CoreFault) × IsAnswer h e answer × (line ≡ step_line answer)
-Reads request.Size h line = line ≡ size_line (entered h.entries)
-Reads (request.Audit k) h line = line ≡ entry_line (entry_at k (audited h.entries))
-Reads request.Nodes h line = line ≡ nodes_line (up_names h)
-Reads r h line = Unit {0}
+-- these names, ascending
+abbrev pub IsInOrder : List (List ℕ) → List (List ℕ) → Type 0
+IsInOrder names sorted = IsSorted text_cmp sorted × IsPermutation names sorted
+
+-- a request for which the node is only read: its line, as this room has it
+abbrev pub Reads : Request → Room → List ℕ → Type 0
+Reads (request.Query e) room line =
+    (answer : Result Reply CoreFault) × IsAnswer room.history e answer × (line ≡ step_line answer)
+Reads request.Size room line = line ≡ size_line (entered room.history.entries)
+Reads (request.Audit k) room line =
+    line ≡ found_line room.forgotten (audited room.history.entries) k
+Reads request.Nodes room line = (names : List (List ℕ))
+    × IsInOrder (up_names room.history) names × (line ≡ nodes_line names)
+Reads r room line = Unit {0}
 
 -- the line as a node has it whose audit has as many entries of the seat as this pass has calls;
 -- where the node doesn't know the pass, as for a call with it
 abbrev pub IsRead : Request → Record → List ℕ → Type 0
-IsRead r pass line = ((room : Room) × IsSound room × Fits room pass × Reads r room.history line) ⊎ ((room : Room) × (Fits room pass → ⊥) × (line ≡ stranger_line))
+IsRead r pass line = ((room : Room) × IsSound room × Fits room pass × Reads r room line) ⊎ ((room : Room) × (Fits room pass → ⊥) × (line ≡ stranger_line))
 
 -- such a line was added to these bytes
 abbrev pub AnswersRead : Request → Record → List ℕ → List ℕ → Type 0

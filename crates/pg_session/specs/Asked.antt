@@ -70,13 +70,14 @@ report_of line =
     (cond (bytes_eq line (codes "refusals")) (Some reports.Refusals)
     None)))))))
 
--- which change of the peers to dial a line of these words asks for, whatever stands behind the first
+-- which change beside the node a line of these words asks for, whatever stands behind the first
 abbrev pub change_of : List (List ℕ) → Option Change
 change_of [] = None
 change_of (name ∷ words) =
     cond (bytes_eq name (codes "dial")) (Some changes.Dial)
     (cond (bytes_eq name (codes "undial")) (Some changes.Undial)
-    None)
+    (cond (bytes_eq name (codes "reopen")) (Some changes.Reopen)
+    None))
 
 -- that, or a command of the console that asks for nothing else than a connection may
 abbrev pub asked_changing : Option Change → List ℕ → Option Request

@@ -1,5 +1,6 @@
 pub mod Asked
 pub mod Processes
+pub mod Rights
 pub mod Calls
 pub mod Outcomes
 pub mod Answers

@@ -19,6 +19,9 @@ use std::alloc::Global;
 use std::marker::Model;
 use std::sync::Wait;
 
+/// So many calls a pass keeps at least, before it lets them go.
+const KEPT: usize = 256;
+
 /// A pass that makes the calls of one connection: none that speaks for a link or ends a life of the node, and none that makes
 /// processes exit, join or leave but those that it has spawned.
 pub struct Caller {
@@ -87,7 +90,7 @@ impl Caller {
         ensures ok { IfOk result (λ caller. caller ≡ pass) }
         ensures refused { IfErr result (λ back. back ≡ pass) }
     {
-        if pass.calls().is_empty() {
+        if pass.count() == 0 {
             Ok(Caller { pass })
         } else {
             Err(pass)
@@ -98,7 +101,19 @@ impl Caller {
     pub fn calls(&self) -> usize
         ensures { result ≡ length self.now.calls }
     {
-        self.pass.calls().len()
+        self.pass.count() as usize
+    }
+
+    /// Whether it keeps many of its calls.
+    pub fn keeps_many(&self) -> bool {
+        self.pass.calls().len() >= KEPT
+    }
+
+    /// Lets the calls go that its pass keeps, where the node doesn't keep all entries either.
+    pub fn let_go(&mut self)
+        ensures { self.new ≡ record self.old { gone = length self.old.calls } }
+    {
+        self.pass.let_go();
     }
 
     pub fn into_pass(self) -> Pass

@@ -39,9 +39,24 @@ impl Seen {
         self.creation
     }
 
-    /// Whether there is news since, which a connection may have to be told.
+    /// How many entries it has been told of.
+    pub fn entries(&self) -> usize {
+        self.entries
+    }
+
+    /// Whether there are more entries since than so many, news or not.
+    pub fn lags(&self, shared: &Shared, most: usize) -> bool {
+        shared.core().audit().len() > self.entries.saturating_add(most)
+    }
+
+    /// Whether the node is still in that life.
+    pub fn is_of(&self, shared: &Shared) -> bool {
+        shared.core().creation() == self.creation
+    }
+
+    /// Whether there is news since, which a connection with monitors may have to be told.
     pub fn is_behind(&self, shared: &Shared) -> bool {
-        shared.core().creation() != self.creation || shared.last_news() as usize > self.entries
+        !self.is_of(shared) || shared.last_news() as usize > self.entries
     }
 }
 
@@ -98,7 +113,7 @@ impl News {
 
     /// The node has begun anew, which is to be told.
     pub fn begin_anew(&mut self, core: &NodeCore)
-        ensures { self.new ≡ record { peers = self.old.peers; anew = Some (creation core.now) } }
+        ensures { self.new ≡ record { peers = self.old.peers; anew = Some (creation core.now.history) } }
     {
         self.restarted = Some(core.creation());
         self.seen = Seen {
@@ -137,7 +152,7 @@ impl News {
         out: &mut Vec<u8>,
     ) -> Result<(), OutOfMemory>
         ensures told { OnOk result (TellsNews self.old out.old.items self.new out.new.items) }
-        ensures up { OnOk result (list_any (has_gone core.now) self.new.peers ≡ false) }
+        ensures up { OnOk result (list_any (has_gone core.now.history) self.new.peers ≡ false) }
     {
         self.put_unseen(alloc, core, lost, out)?;
         self.seen = Seen::of(core);
@@ -152,7 +167,7 @@ impl News {
         out: &mut Vec<u8>,
     ) -> Result<(), OutOfMemory>
         ensures told { OnOk result (TellsNews self.old out.old.items self.new out.new.items) }
-        ensures up { OnOk result (list_any (has_gone core.now) self.new.peers ≡ false) }
+        ensures up { OnOk result (list_any (has_gone core.now.history) self.new.peers ≡ false) }
     {
         self.put_entries(alloc, core, lost, out)?;
         self.put_ended(core, out)
@@ -162,7 +177,7 @@ impl News {
     /// their links.
     fn put_ended(&mut self, core: &NodeCore, out: &mut Vec<u8>) -> Result<(), OutOfMemory>
         ensures told { OnOk result (TellsNews self.old out.old.items self.new out.new.items) }
-        ensures up { OnOk result (list_any (has_gone core.now) self.new.peers ≡ false) }
+        ensures up { OnOk result (list_any (has_gone core.now.history) self.new.peers ≡ false) }
     {
         while let Some(place) = self.place_of_ended(core) {
             self.put_gone(place, DownReason::Slow, out)?;
@@ -172,7 +187,7 @@ impl News {
 
     /// A peer whose link isn't up any more.
     fn place_of_ended(&self, core: &NodeCore) -> Option<usize>
-        ensures { result ≡ position (has_gone core.now) self.now.peers }
+        ensures { result ≡ position (has_gone core.now.history) self.now.peers }
     {
         self.peers.iter().position(|peer| !core.is_up(peer.link))
     }

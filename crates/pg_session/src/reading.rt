@@ -2,21 +2,21 @@
 ghost use Rattle.std.specs.Prelude.{◌≡◌, ◌++◌, OnOk};
 ghost use Rattle.node_core.specs.Reading.{IsAnswer};
 ghost use Rattle.pg_text.specs.Answers.{spaced};
-ghost use Rattle.pg_session.specs.Answers.{AnswersRead, nodes_line};
+ghost use Rattle.pg_session.specs.Answers.{AnswersRead, IsInOrder, nodes_line};
 ghost use Rattle.pg_session.specs.declared.request.Request.TheVariants as requests;
 
 use crate::caller::{Caller, put_stranger};
 use dist_types::{NodeName, OutOfMemory};
 use node_core::{CoreFault, NodeCore};
 use node_threads::Node;
-use pg_text::{put_bytes, put_entry, put_numbered_line, put_step, put_word, query_of};
+use pg_text::{put_bytes, put_numbered_line, put_step, put_word, query_of};
 use policy_audit::{Event, NodeNames, Reply};
 use std::alloc::Global;
 use std::sync::Wait;
 
 /// The commands, as `help` answers them.
 pub const HELP: &str =
-    "help cookie COOKIE | cookie_for NAME COOKIE | allow NAME.. | disconnect NAME | dial NAME=HOST:PORT | undial NAME | nodes | start SCOPE | stop SCOPE | \
+    "help cookie COOKIE | cookie_for NAME COOKIE | allow NAME.. | disconnect NAME | dial NAME=HOST:PORT | undial NAME | reopen | nodes | start SCOPE | stop SCOPE | \
 spawn | exit PROCESS | join SCOPE GROUP PROCESS.. | leave SCOPE GROUP PROCESS.. | members SCOPE GROUP | local_members SCOPE GROUP | \
 groups SCOPE | local_groups SCOPE | monitor SCOPE GROUP | monitor_scope SCOPE | demonitor REF | size | audit ENTRY | self | status | \
 links | dials | scopes | allowed | clients | refusals | help | quit | drain\n";
@@ -47,7 +47,7 @@ pub fn put_query<R: Wait>(
 
 /// Answers a query as the node stands, with no entry.
 fn look(core: &NodeCore, event: &Event) -> Result<Reply, CoreFault>
-    ensures { IsAnswer core.now event.now result }
+    ensures { IsAnswer core.now.history event.now result }
 {
     match query_of(event) {
         Some((scope, query)) => core.look(scope, query),
@@ -73,7 +73,7 @@ pub fn put_size<R: Wait>(
     put_numbered_line("size ", size as u64, out)
 }
 
-/// Adds an entry of the audit.
+/// Adds an entry of the audit, or that it was handed out.
 pub fn put_found<R: Wait>(
     rt: &R,
     node: &Node,
@@ -87,7 +87,7 @@ pub fn put_found<R: Wait>(
     if !caller.is_known_to(&shared) {
         return put_stranger(out);
     }
-    put_entry(shared.core().audit().get(number), out)
+    pg_text::put_found(shared.core().audit(), number, out)
 }
 
 /// Adds which peers are up.
@@ -105,14 +105,24 @@ pub fn put_peers<R: Wait>(
     }
     let names = shared.core().peers();
     drop(shared);
-    put_nodes(&names?, out)
+    let names = in_order(names?);
+    put_nodes(names.as_slice(), out)
 }
 
-fn put_nodes(names: &NodeNames, out: &mut Vec<u8>) -> Result<(), OutOfMemory>
+/// These names, ascending.
+fn in_order(names: NodeNames) -> Vec<NodeName>
+    ensures { IsInOrder names result.items }
+{
+    let mut names = names.into_vec();
+    names.sort_unstable();
+    names
+}
+
+fn put_nodes(names: &[NodeName], out: &mut Vec<u8>) -> Result<(), OutOfMemory>
     ensures { OnOk result (out.new.items ≡ out.old.items ++ nodes_line names.now) }
 {
     put_word("nodes", out)?;
-    put_names(names.as_slice(), out)?;
+    put_names(names, out)?;
     put_word("\n", out)
 }
 

@@ -3,6 +3,7 @@ use crate::news::{LostLinks, News};
 use crate::notice::DownReason;
 use dist_types::OutOfMemory;
 use node_core::NodeCore;
+use policy_audit::{Event, Later};
 use std::alloc::Global;
 
 /// Who is up, for connections that are still to come: a new one takes over what it has been told.
@@ -11,6 +12,8 @@ pub struct Roster {
     news: News,
     /// The lines of that, which nobody reads.
     lines: Vec<u8>,
+    /// How many entries it had seen when a peer had last come or gone, or a scope had stopped.
+    last_notice: usize,
 }
 
 impl Roster {
@@ -18,6 +21,7 @@ impl Roster {
         Roster {
             news: News::new(alloc),
             lines: Vec::new(alloc),
+            last_notice: 0,
         }
     }
 
@@ -26,14 +30,37 @@ impl Roster {
         &self.news
     }
 
-    /// Follows the node up to now, in a new life from its beginning. Where memory is wanting it does so later.
+    /// How many entries of this life it had seen when a peer had last come or gone, or a scope had
+    /// stopped: whoever has been told of as many has been told of that. 0 where nothing has.
+    pub fn last_notice(&self) -> usize {
+        self.last_notice
+    }
+
+    /// Follows the node up to now, in a new life from its beginning. Where memory is wanting it does so
+    /// later.
     pub fn follow(&mut self, alloc: Global, core: &NodeCore) -> Result<(), OutOfMemory> {
         if self.news.seen().creation() != core.creation() {
             self.news = News::new(alloc);
+            self.last_notice = 0;
         }
+        let has_stop = has_stop(self.news.unseen(core));
         self.lines.clear();
-        self.news.put_peers(alloc, core, &Untold, &mut self.lines)
+        self.news.put_peers(alloc, core, &Untold, &mut self.lines)?;
+        if has_stop || !self.lines.is_empty() {
+            self.last_notice = core.audit().len();
+        }
+        Ok(())
     }
+}
+
+/// Whether one of the entries may have stopped a scope.
+fn has_stop(entries: Later<'_>) -> bool {
+    for entry in entries {
+        if let Event::StopScope(_) = &entry.event {
+            return true;
+        }
+    }
+    false
 }
 
 /// Nobody is told why.

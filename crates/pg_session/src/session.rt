@@ -22,7 +22,7 @@ use crate::rows::{MoreOrFewer, rows_of};
 use crate::stake::{keep, prepare};
 use crate::stops::put_stops;
 use crate::surroundings::{Surroundings, put_change, put_report};
-use crate::watch::{Watch, note_all, tell_all};
+use crate::watch::{Watch, note_ages, note_all, tell_all};
 use dist_types::OutOfMemory;
 use node_core::NodeCore;
 use node_threads::Node;
@@ -118,6 +118,23 @@ impl Session {
         self.caller.calls()
     }
 
+    /// How many monitors it has.
+    pub fn monitors(&self) -> usize {
+        self.watches.len()
+    }
+
+    /// Whether its pass keeps many of its calls.
+    pub fn keeps_many(&self) -> bool {
+        self.caller.keeps_many()
+    }
+
+    /// Lets the calls go that its pass keeps, where the node doesn't keep all entries either.
+    pub fn let_go(&mut self)
+        ensures { self.new ≡ record self.old { pass = record self.old.pass { gone = length self.old.pass.calls } } }
+    {
+        self.caller.let_go();
+    }
+
     /// What was wanting for the call that the last line asked for, if the call made no entry for want of that.
     pub fn lack(&self) -> Option<Lack> {
         self.lack
@@ -143,7 +160,7 @@ impl Session {
     /// Takes the right to call the next life, and gives back that to call the last one. Processes, monitors and peers of the last
     /// life are gone with it, which the connection is told next.
     pub fn begin_anew(&mut self, caller: Caller, core: &NodeCore) -> Caller
-        ensures next { self.new ≡ record { pass = caller; own = []; taken = self.old.taken; known = record { peers = self.old.known.peers; anew = Some (creation core.now) } } }
+        ensures next { self.new ≡ record { pass = caller; own = []; taken = self.old.taken; known = record { peers = self.old.known.peers; anew = Some (creation core.now.history) } } }
         ensures last { result ≡ self.old.pass }
     {
         self.processes.clear();
@@ -281,13 +298,15 @@ impl Session {
         answered
     }
 
-    /// Adds what has happened since the last time, as lines that come unasked.
+    /// Adds what has happened since the last time, as lines that come unasked. Monitors that weren't asked
+    /// since there were so many entries are asked, too: the node keeps what they need.
     pub fn tell<R: Wait, E: LostLinks>(
         &mut self,
         rt: &R,
         alloc: Global,
         node: &Node,
         lost: &E,
+        stale: usize,
         out: &mut Vec<u8>,
     ) -> Result<Seen, OutOfMemory>
         ensures told { OnOk result (Tells self.old.pass self.old.known out.old.items self.new.pass self.new.known out.new.items) }
@@ -297,8 +316,18 @@ impl Session {
     {
         self.news.put_restart(out)?;
         self.look(rt, alloc, node, lost, out)?;
-        tell_all(&mut self.watches, &mut self.caller, rt, alloc, node, out)?;
-        Ok(self.news.seen())
+        let seen = self.news.seen();
+        note_ages(&mut self.watches, stale);
+        tell_all(
+            &mut self.watches,
+            &mut self.caller,
+            rt,
+            alloc,
+            node,
+            seen.entries(),
+            out,
+        )?;
+        Ok(seen)
     }
 
     /// Adds which peers came and went and which scopes stopped, and notes which monitors have something to tell.
@@ -317,6 +346,18 @@ impl Session {
         note_all(&mut self.watches, self.news.unseen(shared.core()));
         put_stops(&self.processes, self.news.unseen(shared.core()), out)?;
         self.news.put_peers(alloc, shared.core(), lost, out)
+    }
+
+    /// Ends a monitor of the connection: whether there was one.
+    pub fn leave_monitor<R: Wait>(&mut self, rt: &R, node: &Node) -> bool
+        ensures goes { GoesOn self.old.pass self.new.pass }
+        ensures rest { self.new ≡ record self.old { pass = self.new.pass } }
+    {
+        let Some(watch) = self.watches.pop() else {
+            return false;
+        };
+        end_watch(&mut self.caller, rt, node, watch.number);
+        true
     }
 
     /// Ends one thing that the connection has, a process or a monitor: whether there was one. If not, the seat is free.

@@ -27,6 +27,8 @@ const DIAL: &str = "dial";
 
 const UNDIAL: &str = "undial";
 
+const REOPEN: &str = "reopen";
+
 /// What may be told.
 #[derive(Clone, Copy, Debug, PartialEq, Eq)]
 pub enum Report {
@@ -82,6 +84,8 @@ pub enum Change {
     Dial,
     /// It is so no more.
     Undial,
+    /// The file of the archive is opened anew.
+    Reopen,
 }
 
 impl Change {
@@ -94,6 +98,8 @@ impl Change {
             Some(Change::Dial)
         } else if name == UNDIAL.as_bytes() {
             Some(Change::Undial)
+        } else if name == REOPEN.as_bytes() {
+            Some(Change::Reopen)
         } else {
             None
         }

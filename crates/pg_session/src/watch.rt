@@ -20,7 +20,9 @@ pub struct Watch {
     scope: Scope,
     /// None for all groups of the scope.
     group: Option<Group>,
-    /// Whether it has something to tell.
+    /// How many entries there were at least when it was asked last, 0 before.
+    asked: usize,
+    /// Whether it has something to tell, or wasn't asked for long.
     is_due: bool,
     /// Whether it has ended, as with its scope.
     pub is_over: bool,
@@ -37,6 +39,7 @@ impl Watch {
             number: 0,
             scope: scope.try_clone(alloc)?,
             group,
+            asked: 0,
             is_due: false,
             is_over: false,
         })
@@ -60,6 +63,13 @@ impl Watch {
         }
     }
 
+    /// Notes whether it was neither begun nor asked since there were so many entries.
+    fn note_age(&mut self, stale: usize) {
+        if self.asked.max(self.number as usize) < stale {
+            self.is_due = true;
+        }
+    }
+
     /// Whether the entry has stopped its scope.
     fn ends_with(&self, entry: &Entry) -> bool {
         match (&entry.event, &entry.verdict) {
@@ -78,13 +88,15 @@ impl Watch {
         }
     }
 
-    /// Adds what it has not told yet, if it has something to tell. Where the audit is full or memory is wanting, it is due still.
+    /// Adds what it has not told yet, if it is due, where so many entries were looked at. Where the audit
+    /// is full or memory is wanting, it is due still.
     pub fn tell<R: Wait>(
         &mut self,
         caller: &mut Caller,
         rt: &R,
         alloc: Global,
         node: &Node,
+        entries: usize,
         out: &mut Vec<u8>,
     ) -> Result<(), OutOfMemory>
         ensures called { IsCalled caller.old (Updates self.old.number) caller.new ⊎ (caller.new ≡ caller.old) }
@@ -94,13 +106,16 @@ impl Watch {
             return self.put_end(out);
         }
         let fetched = caller.fetch(rt, alloc, node, self.number, out)?;
-        self.learn(fetched);
+        self.learn(fetched, entries);
         self.put_end(out)
     }
 
-    fn learn(&mut self, fetched: Fetched) {
+    fn learn(&mut self, fetched: Fetched, entries: usize) {
         match fetched {
-            Fetched::Told => self.is_due = false,
+            Fetched::Told => {
+                self.is_due = false;
+                self.asked = entries;
+            }
             Fetched::Over => self.is_over = true,
             Fetched::NotNow => {}
         }
@@ -126,20 +141,29 @@ pub fn note_all(watches: &mut Vec<Watch>, entries: Later<'_>) {
     }
 }
 
-/// Adds what the monitors have to tell, and lets go of those that have ended.
+/// Notes which monitors weren't asked since there were so many entries.
+pub fn note_ages(watches: &mut Vec<Watch>, stale: usize) {
+    for watch in watches.iter_mut() {
+        watch.note_age(stale);
+    }
+}
+
+/// Adds what the monitors have to tell, where so many entries were looked at, and lets go of those
+/// that have ended.
 pub fn tell_all<R: Wait>(
     watches: &mut Vec<Watch>,
     caller: &mut Caller,
     rt: &R,
     alloc: Global,
     node: &Node,
+    entries: usize,
     out: &mut Vec<u8>,
 ) -> Result<(), OutOfMemory>
     ensures goes { GoesOn caller.old caller.new }
     ensures told { OnOk result ((known : Known) → Tells caller.old known out.old.items caller.new known out.new.items) }
 {
     for watch in watches.iter_mut() {
-        watch.tell(caller, rt, alloc, node, out)?;
+        watch.tell(caller, rt, alloc, node, entries, out)?;
     }
     watches.retain(|watch| !watch.is_over);
     Ok(())

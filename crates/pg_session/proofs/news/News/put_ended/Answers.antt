@@ -8,7 +8,7 @@ pub loop-place-init : goal.loop-place-init
 loop-place-init c = news_none c.args.self.now c.args.out.now.items
 
 pub put_gone-requires : goal.put_gone-requires
-put_gone-requires c = place_within (has_gone c.args.core.now) c.loop-place.self.peers
+put_gone-requires c = place_within (has_gone c.args.core.now.history) c.loop-place.self.peers
     c.in-Some.place (sym c.in-Some.ensures)
 
 pub loop-place-preserved : goal.loop-place-preserved
@@ -18,5 +18,5 @@ loop-place-preserved c =
     c.in_ok-put_gone.ensures.told
 
 pub returns-clause-up : goal.returns-clause-up
-returns-clause-up c = no_place (has_gone c.args.core.now) c.loop-place.self.peers
+returns-clause-up c = no_place (has_gone c.args.core.now.history) c.loop-place.self.peers
     (sym c.place_of_ended.ensures ∙ c.in_default.is)
