@@ -2,6 +2,7 @@
 use crate::decision::{Decision, Field, text};
 use crate::format::{Format, put_json, put_text};
 use crate::limiter::Limiter;
+use crate::recent::Recent;
 use jiff::Timestamp;
 use log::{Level, LevelFilter};
 use pg_streams::Warnings;
@@ -17,6 +18,7 @@ const ROOM: usize = 2_048;
 #[derive(Drop)]
 struct State {
     limiter: Limiter,
+    recent: Recent,
     line: String,
     object: Vec<u8>,
 }
@@ -52,6 +54,7 @@ impl Log {
     ) -> Result<Log, AllocError> {
         let state = State {
             limiter: Limiter::new(alloc)?,
+            recent: Recent::new(alloc)?,
             line: String::with_capacity(alloc, ROOM)?,
             object: Vec::with_capacity(alloc, ROOM)?,
         };
@@ -79,6 +82,11 @@ impl Log {
         if let Some(left_out) = let_through(rt, &mut state.limiter, decision) {
             self.write(rt, &mut state, decision, left_out).ok();
         }
+    }
+
+    /// Copies of the last 50 lines, the oldest first, of each at most the first 400 bytes.
+    pub fn recent<R: Wait>(&self, rt: &R, alloc: Global) -> Result<Vec<Vec<u8>>, AllocError> {
+        self.state.lock(rt).recent.copies(alloc)
     }
 
     /// Logs a warning with its reason.
@@ -115,18 +123,23 @@ impl Log {
         match self.format {
             Format::Text => {
                 put_text(time, decision, left_out, &mut state.line)?;
-                self.lines.say(rt, state.line.as_str());
+                self.keep(rt, &mut state.recent, state.line.as_str());
             }
             Format::Json => {
                 let mut object = replace(&mut state.object, Vec::new(self.alloc));
                 object.clear();
                 state.object = put_json(time, decision, left_out, &mut state.line, object)?;
-                self.lines
-                    .say(rt, str::from_utf8(state.object.as_slice()).unwrap_or(""));
+                let line = str::from_utf8(state.object.as_slice()).unwrap_or("");
+                self.keep(rt, &mut state.recent, line);
             }
             Format::Off => {}
         }
         Ok(())
+    }
+
+    fn keep<R: Wait>(&self, rt: &R, recent: &mut Recent, line: &str) {
+        recent.keep(line.as_bytes());
+        self.lines.say(rt, line);
     }
 }
 

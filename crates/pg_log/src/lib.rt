@@ -5,6 +5,7 @@ mod decision;
 mod format;
 mod journal;
 mod limiter;
+mod recent;
 
 pub use decision::{Decision, Field, Source, Value, number, text};
 pub use format::{Format, FormatFault};

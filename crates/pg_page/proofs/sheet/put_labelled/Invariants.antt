@@ -1,0 +1,7 @@
+use Rattle.std.proofs.Common.{◌≡◌, ◌++◌, take}
+use Rattle.pg_page.specs.Escaping.{labelled}
+use Rattle.pg_page.proofs.sheet.put_labelled.Given as goal
+
+-- what stands for the bytes so far is added
+abbrev pub invariant-loop-byte : goal.invariant-loop-byte
+invariant-loop-byte l = l.out.items ≡ l.fn.out.items ++ labelled (take l.byte-index l.text)
