@@ -1,7 +1,7 @@
 //! Calls that may tell peers wait while frames gather faster than they are written, so that a burst
 //! ends no link of a peer that reads. What is let through counts as if it waited until the next look
 //! at the links, so that all that find room have it, and few calls need a look.
-ghost use Rattle.std.specs.Prelude.{◌≡◌};
+ghost use Rattle.std.specs.Prelude.{◌≡◌, ◌/◌};
 ghost use Rattle.std.specs.Str.{bytes_eq};
 ghost use Rattle.pg_hub.specs.Brake.{frames_of, frames_for, frames_of_an_exit, named_in};
 ghost use Rattle.pg_hub.specs.Brake.{moves, announces};
@@ -76,7 +76,7 @@ impl Promise {
     {
         let (word, _) = first_word(line);
         Promise {
-            frames: frames_for(word, named_in(line), rows).min(MOST),
+            frames: frames_for(word, line, rows).min(MOST),
         }
     }
 
@@ -92,14 +92,14 @@ impl Promise {
     }
 }
 
-/// How many frames a command may owe to a link whose line names so many processes.
-fn frames_for(word: &[u8], named: usize, rows: usize) -> usize
-    ensures { result ≡ frames_for word.now named rows }
+/// How many frames a command of this line may owe to a link.
+fn frames_for(word: &[u8], line: &[u8], rows: usize) -> usize
+    ensures { result ≡ frames_for word.now (named_in line.now) rows }
 {
     if is(word, "exit") {
         frames_of_an_exit(rows)
     } else if moves(word) {
-        1 + named / EACH_PART
+        1 + parts_in(line)
     } else if announces(word) {
         1
     } else {
@@ -112,6 +112,17 @@ fn frames_of_an_exit(rows: usize) -> usize
     ensures { result ≡ frames_of_an_exit rows }
 {
     EACH_SCOPE + rows / EACH_PART
+}
+
+/// How many whole parts the processes make that a line may name. A shorter line makes none.
+#[tactic(auto, using(crate::proofs::Short::short_names))]
+fn parts_in(line: &[u8]) -> usize
+    ensures { result ≡ named_in line.now / 4096 }
+{
+    if line.len() < EACH_PART {
+        return 0;
+    }
+    named_in(line) / EACH_PART
 }
 
 /// How many processes a line may name.

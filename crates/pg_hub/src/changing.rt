@@ -1,4 +1,4 @@
-//! Changes of the peers to dial, as lines ask for them.
+//! Changes beside the node, as lines ask for them: of the peers to dial, and of the archive's file.
 use crate::hub::Hub;
 use crate::logging::text_of;
 use dist_types::{NodeName, OutOfMemory, TextFault};
@@ -34,6 +34,10 @@ enum Reason {
     NotDialled,
     #[error("256 peers are dialled already")]
     Full,
+    #[error("a word too many")]
+    OneTooMany,
+    #[error("there is no archive")]
+    NoArchive,
     #[error("out of memory")]
     OutOfMemory,
 }
@@ -55,7 +59,7 @@ impl Reason {
 
     fn of_target(fault: TargetFault) -> Reason {
         match fault {
-            TargetFault::NoPlace => Reason::NoPlace,
+            TargetFault::NoPlace | TargetFault::NoStockNode => Reason::NoPlace,
             TargetFault::Name(fault) => Reason::Name(fault),
             TargetFault::OutOfMemory => Reason::OutOfMemory,
         }
@@ -76,7 +80,19 @@ impl Hub {
             (Change::Dial, None) => Err(Reason::NoTarget.alone()),
             (Change::Undial, Some(word)) => self.undial(rt, word),
             (Change::Undial, None) => Err(Reason::NoName.alone()),
+            (Change::Reopen, Some(word)) => Err(Reason::OneTooMany.about(word)),
+            (Change::Reopen, None) => self.reopen(rt),
         }
+    }
+
+    /// Has the archive's file opened anew, which whoever writes to it does next.
+    fn reopen<'a, R: Wait + Clock>(&self, rt: &R) -> Result<(), Unchanged<'a>> {
+        if !self.keeping.has_archive {
+            return Err(Reason::NoArchive.alone());
+        }
+        self.keeping.reopen();
+        self.log.tell(rt, Level::Info, "reopen", &[]);
+        Ok(())
     }
 
     fn dial<'a, R: Wait + Clock>(&self, rt: &R, word: &'a [u8]) -> Result<(), Unchanged<'a>> {

@@ -13,8 +13,8 @@ const KEPT: usize = 256;
 /// What has happened to a link.
 #[derive(Drop)]
 pub(crate) enum Happening {
-    /// A peer has come up: its name, its creation, whether it is visible, and where it is.
-    Up(NodeName, u32, bool, Option<SocketAddr>),
+    /// A peer has come up: its name, its creation, the kind of its link, and where it is.
+    Up(NodeName, u32, &'static str, Option<SocketAddr>),
     Down(UpLink, DownReason),
     Refused(Refusal),
 }
@@ -39,7 +39,7 @@ impl Chronicle {
             Ok(peer) => self.note(Happening::Up(
                 peer,
                 link.creation,
-                link.is_visible,
+                link.kind.word(link.is_visible),
                 link.address,
             )),
             Err(OutOfMemory) => self.lost = self.lost.saturating_add(1),

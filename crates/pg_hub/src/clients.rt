@@ -71,6 +71,20 @@ impl Clients {
         }
     }
 
+    /// Ends the connection of a seat, whatever its own threads wait for: whether there is a stream of it.
+    pub fn end<R: Wait>(&self, rt: &R, seat: usize) -> bool {
+        let streams = self.streams.lock(rt);
+        let mut is_found = false;
+        for (taken, stream) in streams.open.iter() {
+            if *taken == seat {
+                is_found = true;
+                // One that can't be shut has ended already.
+                stream.shutdown(Shutdown::Both).ok();
+            }
+        }
+        is_found
+    }
+
     /// Ends all connections but that of a seat, whatever their own threads wait for.
     pub fn end_others<R: Wait>(&self, rt: &R, seat: usize) {
         let streams = self.streams.lock(rt);

@@ -4,38 +4,59 @@ use crate::ledger::Look;
 use crate::logging::text_of;
 use dist_types::NodeName;
 use pg_log::{Level, text};
+use policy_audit::Page;
 use std::sync::Wait;
-use std::time::{Clock, Instant};
+use std::time::Clock;
 
 impl Hub {
-    /// A look at the audit now.
+    /// A look at the audit.
     pub(crate) fn look<'a, 'b, R: Wait + Clock>(&'b self, rt: &'a R) -> Look<'a, 'b, R> {
-        Look {
-            rt,
-            hub: self,
-            now: Instant::now(rt).ok(),
-        }
+        Look { rt, hub: self }
     }
 
     /// Lets the roster and the ledger follow the node, so that who connects or asks later needn't
     /// look far back, and says which names two nodes have.
     pub(crate) fn follow<R: Wait + Clock>(&self, rt: &R) {
-        if let Some(name) = self.follow_all(rt) {
+        let (_, found) = self.follow_all(rt, None);
+        if let Some(name) = found {
             self.warn_of_twins(rt, &name);
         }
     }
 
-    /// Lets all follow that look at the audit: a name that two nodes have, if one is found.
-    fn follow_all<R: Wait + Clock>(&self, rt: &R) -> Option<NodeName> {
+    /// Lets them follow, and takes out of the node the pages that it needs no more, behind these: the
+    /// creation of the life that they are of.
+    pub fn hand_out<R: Wait + Clock>(&self, rt: &R, pages: &mut Vec<Page>) -> u32 {
+        let (creation, found) = self.follow_all(rt, Some(pages));
+        if let Some(name) = found {
+            self.warn_of_twins(rt, &name);
+        }
+        creation
+    }
+
+    /// Lets all follow that look at the audit, and takes pages out of it that they have looked at, if
+    /// they are asked for: the creation of the life, and a name that two nodes have, if one is found.
+    fn follow_all<R: Wait + Clock>(
+        &self,
+        rt: &R,
+        pages: Option<&mut Vec<Page>>,
+    ) -> (u32, Option<NodeName>) {
         let look = self.look(rt);
         let mut roster = self.roster.lock(rt);
         let mut twins = self.twins.lock(rt);
         let mut ledger = self.ledger.lock(rt);
-        let shared = self.node.shared.lock(rt);
+        let mut shared = self.node.shared.lock(rt);
         // Where memory is wanting, it follows at the next time.
-        roster.follow(self.alloc, shared.core()).ok();
-        ledger.follow(&look, shared.core()).ok();
-        twins.follow(self.alloc, shared.core())
+        let is_known = roster.follow(self.alloc, shared.core()).is_ok();
+        self.notices.note(&roster);
+        let is_noted = ledger.follow(&look, shared.core()).is_ok();
+        let found = twins.follow(self.alloc, shared.core());
+        if let Some(pages) = pages
+            && is_known
+            && is_noted
+        {
+            self.take_pages(&mut shared, pages);
+        }
+        (shared.core().creation(), found)
     }
 
     fn warn_of_twins<R: Wait + Clock>(&self, rt: &R, name: &NodeName) {

@@ -1,15 +1,17 @@
 //! What the audit of a life has said so far that is reported.
+use crate::census::Census;
 use crate::chronicle::Chronicle;
 use crate::hub::Hub;
 use crate::refusals::Refusals;
 use dist_types::{NodeName, OutOfMemory, Scope, TryClone};
 use node_core::NodeCore;
+use node_net::Kind;
 use pg_session::DownReason;
 use policy_audit::{Entry, Event, Reply, Verdict};
 use std::alloc::Global;
 use std::net::SocketAddr;
 use std::sync::Wait;
-use std::time::Instant;
+use std::time::{Clock, Instant};
 
 /// A link that is up.
 #[derive(Drop)]
@@ -19,22 +21,31 @@ pub(crate) struct UpLink {
     pub(crate) peer: NodeName,
     pub(crate) creation: u32,
     pub(crate) is_visible: bool,
+    /// Which nodes it leads to.
+    pub(crate) kind: Kind,
     pub(crate) address: Option<SocketAddr>,
     /// When it was seen up first.
     pub(crate) since: Option<Instant>,
 }
 
-/// When the audit is looked at, and who knows of links what the node doesn't.
+/// Who looks at the audit, and knows of links what the node doesn't.
 #[derive(Drop)]
-pub(crate) struct Look<'a, 'b, R: Wait> {
+pub(crate) struct Look<'a, 'b, R: Wait + Clock> {
     pub(crate) rt: &'a R,
     pub(crate) hub: &'b Hub,
-    pub(crate) now: Option<Instant>,
 }
 
-impl<R: Wait> Look<'_, '_, R> {
+impl<R: Wait + Clock> Look<'_, '_, R> {
     fn address(&self, link: u32) -> Option<SocketAddr> {
         self.hub.notes.addresses.of(self.rt, link)
+    }
+
+    fn now(&self) -> Option<Instant> {
+        Instant::now(self.rt).ok()
+    }
+
+    fn kind(&self, link: u32) -> Kind {
+        self.hub.notes.edges.kind_of(self.rt, link)
     }
 }
 
@@ -50,6 +61,8 @@ pub(crate) struct Ledger {
     pub(crate) refusals: Refusals,
     /// What has happened to links, for the log.
     pub(crate) chronicle: Chronicle,
+    /// How many rows scopes have, and what was refused by which rule.
+    pub(crate) census: Census,
     /// How many events were refused.
     pub(crate) refused: usize,
     /// How much of the audit was looked at, and of which life.
@@ -65,6 +78,7 @@ impl Ledger {
             allowed: Vec::new(alloc),
             refusals: Refusals::new(alloc),
             chronicle: Chronicle::new(alloc),
+            census: Census::new(alloc),
             refused: 0,
             entries: 0,
             creation: 0,
@@ -78,7 +92,7 @@ impl Ledger {
 
     /// Follows the node up to now, in a new life from its beginning. Where memory is wanting it
     /// goes on there the next time.
-    pub(crate) fn follow<R: Wait>(
+    pub(crate) fn follow<R: Wait + Clock>(
         &mut self,
         look: &Look<'_, '_, R>,
         core: &NodeCore,
@@ -90,6 +104,7 @@ impl Ledger {
         let seen = self.entries;
         for entry in core.audit().after(seen) {
             self.note(look, entry)?;
+            self.census.note(look.hub.alloc, entry)?;
             self.entries = self.entries.saturating_add(1);
         }
         if self.entries > seen {
@@ -126,7 +141,11 @@ impl Ledger {
         }
     }
 
-    fn note<R: Wait>(&mut self, look: &Look<'_, '_, R>, entry: &Entry) -> Result<(), OutOfMemory> {
+    fn note<R: Wait + Clock>(
+        &mut self,
+        look: &Look<'_, '_, R>,
+        entry: &Entry,
+    ) -> Result<(), OutOfMemory> {
         match &entry.verdict {
             Verdict::Accepted(reply) => {
                 self.refusals.note(look.hub.alloc, &entry.event, reply)?;
@@ -151,7 +170,7 @@ impl Ledger {
         }
     }
 
-    fn note_accepted<R: Wait>(
+    fn note_accepted<R: Wait + Clock>(
         &mut self,
         look: &Look<'_, '_, R>,
         event: &Event,
@@ -177,7 +196,7 @@ impl Ledger {
         }
     }
 
-    fn note_lost<R: Wait>(&mut self, look: &Look<'_, '_, R>, link: u32) {
+    fn note_lost<R: Wait + Clock>(&mut self, look: &Look<'_, '_, R>, link: u32) {
         if let Some(place) = self.links.iter().position(|known| known.number == link) {
             let reason = look.hub.reason_of(look.rt, link);
             self.end(place, reason);
@@ -192,7 +211,7 @@ impl Ledger {
     }
 
     /// Notes a link that has come up, if the reply says so.
-    fn note_up<R: Wait>(
+    fn note_up<R: Wait + Clock>(
         &mut self,
         look: &Look<'_, '_, R>,
         number: u32,
@@ -211,8 +230,9 @@ impl Ledger {
             peer: peer.try_clone(look.hub.alloc)?,
             creation: *creation,
             is_visible: *visible,
+            kind: look.kind(number),
             address: look.address(number),
-            since: look.now,
+            since: look.now(),
         };
         self.links.reserve(1)?;
         self.end_of(&link.peer, DownReason::Replaced);

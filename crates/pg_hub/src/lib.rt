@@ -1,7 +1,9 @@
 //! What all threads of a node share: the node behind its lock, the seats of its connections, and who is told what of both.
 #![tactic(auto)]
 
+mod answering;
 mod brake;
+mod census;
 mod changing;
 mod chronicle;
 mod clients;
@@ -10,17 +12,29 @@ mod draining;
 mod following;
 mod host;
 mod hub;
+mod keeping;
 mod ledger;
 mod logging;
 mod lost;
+mod memory;
+mod notices;
+mod page_queue;
 mod promises;
+mod readers;
 mod refusals;
 mod reporting;
+mod seating;
+mod stock;
 mod twins;
+mod viewing;
 
 pub use brake::{LetThrough, Promise};
 pub use clients::{Clients, Stream};
 pub use crowd::Crowd;
 pub use host::Host;
 pub use hub::{House, Hub, HubSettings};
+pub use keeping::Keeping;
 pub use logging::UntakenPeers;
+pub use memory::Memory;
+pub use page_queue::PageQueue;
+pub use readers::Readers;

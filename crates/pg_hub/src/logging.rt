@@ -84,8 +84,8 @@ impl Hub {
 
     fn log_happening<R: Wait + Clock>(&self, rt: &R, happening: &Happening) {
         match happening {
-            Happening::Up(peer, creation, is_visible, address) => {
-                self.log_up(rt, peer, *creation, *is_visible, *address);
+            Happening::Up(peer, creation, kind, address) => {
+                self.log_up(rt, peer, *creation, kind, *address);
             }
             Happening::Down(link, reason) => self.log_down(rt, link, *reason),
             Happening::Refused(refusal) => self.log_refusal(rt, refusal),
@@ -97,10 +97,9 @@ impl Hub {
         rt: &R,
         peer: &NodeName,
         creation: u32,
-        is_visible: bool,
+        kind: &'static str,
         address: Option<SocketAddr>,
     ) {
-        let kind = if is_visible { "visible" } else { "hidden" };
         let fields = [
             text("peer", text_of(peer)),
             Field::address("at", address),
@@ -122,6 +121,9 @@ impl Hub {
             text("reason", reason.word()),
         ];
         self.log.tell(rt, level, "down", &fields);
+        if link.kind.is_otp() {
+            self.log_dropped(rt);
+        }
     }
 
     fn log_refusal<R: Wait + Clock>(&self, rt: &R, refusal: &Refusal) {

@@ -5,6 +5,7 @@ use crate::hub::Hub;
 use crate::ledger::{Ledger, UpLink};
 use crate::refusals::Refusal;
 use dist_types::{NodeName, OutOfMemory, Scope};
+use node_core::NodeCore;
 use node_net::{Target, Tried};
 use pg_session::{Change, Report, Surroundings};
 use pg_text::{put_bytes, put_number, put_word};
@@ -13,7 +14,7 @@ use std::sync::{MutexGuard, Wait};
 use std::time::{Clock, Instant};
 
 /// The most links.
-const LINKS: u64 = 64;
+pub(crate) const LINKS: u64 = 64;
 
 /// What stands for what isn't known.
 const UNKNOWN: &str = " -";
@@ -55,7 +56,7 @@ impl<R: Wait + Clock> Surroundings for Reporting<'_, R> {
 
 impl<R: Wait + Clock> Reporting<'_, R> {
     /// The ledger, as the node stands now. The node's lock is free again.
-    fn ledger(&self) -> Result<MutexGuard<'_, Ledger>, OutOfMemory> {
+    pub(crate) fn ledger(&self) -> Result<MutexGuard<'_, Ledger>, OutOfMemory> {
         let look = self.hub.look(self.rt);
         let mut ledger = self.hub.ledger.lock(self.rt);
         let shared = self.hub.node.shared.lock(self.rt);
@@ -74,29 +75,38 @@ impl<R: Wait + Clock> Reporting<'_, R> {
         let hub = self.hub;
         let clients = hub.clients.seats(self.rt, hub.alloc)?.len();
         let ledger = self.ledger()?;
-        let entries = self.put_who(out)?;
+        let (entries, kept) = self.put_who(out)?;
         put_word(" version=", out)?;
         put_word(hub.version, out)?;
         put_number(" seconds=", self.seconds_since(hub.begun), out)?;
         put_number(" lives=", u64::from(hub.lives()), out)?;
         put_part(" links=", ledger.links.len() as u64, LINKS, out)?;
+        put_number(" otp_links=", ledger.otp_links(), out)?;
         put_part(
             " clients=",
             clients as u64,
             u64::from(hub.seats).saturating_sub(1),
             out,
         )?;
-        put_part(" entries=", entries as u64, u64::from(hub.entries), out)?;
-        put_number(" refused=", ledger.refused as u64, out)
+        put_number(" entries=", entries as u64, out)?;
+        put_part(" kept=", kept as u64, u64::from(hub.keeping.entries), out)?;
+        put_number(" lost=", hub.keeping.lost(), out)?;
+        put_number(" archived=", hub.keeping.archived(), out)?;
+        put_number(" refused=", ledger.refused as u64, out)?;
+        put_number(" told=", hub.told(), out)?;
+        match hub.memory.bytes() {
+            Some(bytes) => put_number(" bytes=", bytes, out),
+            None => put_word(" bytes=-", out),
+        }
     }
 
-    /// Adds the node's name and creation: how many entries it has.
-    fn put_who(&self, out: &mut Vec<u8>) -> Result<usize, OutOfMemory> {
+    /// Adds the node's name and creation: how many entries it has, and how many of them it keeps.
+    fn put_who(&self, out: &mut Vec<u8>) -> Result<(usize, usize), OutOfMemory> {
         let shared = self.hub.node.shared.lock(self.rt);
         put_word("status name=", out)?;
         put_bytes(shared.core().name().as_bytes(), out)?;
         put_number(" creation=", u64::from(shared.core().creation()), out)?;
-        Ok(shared.core().audit().len())
+        Ok(entries_of(shared.core()))
     }
 
     fn put_links(&self, out: &mut Vec<u8>) -> Result<(), OutOfMemory> {
@@ -110,7 +120,7 @@ impl<R: Wait + Clock> Reporting<'_, R> {
     }
 
     /// How many frames wait for each link.
-    fn waiting(&self, ledger: &Ledger) -> Result<Vec<usize>, OutOfMemory> {
+    pub(crate) fn waiting(&self, ledger: &Ledger) -> Result<Vec<usize>, OutOfMemory> {
         let mut waiting = Vec::with_capacity(self.hub.alloc, ledger.links.len())?;
         let shared = self.hub.node.shared.lock(self.rt);
         for link in ledger.links.iter() {
@@ -127,15 +137,11 @@ impl<R: Wait + Clock> Reporting<'_, R> {
         waiting: usize,
         out: &mut Vec<u8>,
     ) -> Result<(), OutOfMemory> {
-        let kind = if link.is_visible {
-            " visible"
-        } else {
-            " hidden"
-        };
         put_number(" ", u64::from(link.number), out)?;
         put_named(&link.peer, out)?;
         put_number(" ", u64::from(link.creation), out)?;
-        put_word(kind, out)?;
+        put_word(" ", out)?;
+        put_word(link.kind.word(link.is_visible), out)?;
         self.put_address(link.address, out)?;
         put_number(" ", self.seconds_since(link.since), out)?;
         put_number(" ", waiting as u64, out)
@@ -199,7 +205,7 @@ impl<R: Wait + Clock> Reporting<'_, R> {
     }
 
     /// How many whole seconds have passed.
-    fn seconds_since(&self, begin: Option<Instant>) -> u64 {
+    pub(crate) fn seconds_since(&self, begin: Option<Instant>) -> u64 {
         let Some(begin) = begin else {
             return 0;
         };
@@ -210,7 +216,7 @@ impl<R: Wait + Clock> Reporting<'_, R> {
     }
 
     /// In how many seconds the time comes; 0 where it has.
-    fn seconds_until(&self, time: Instant) -> u64 {
+    pub(crate) fn seconds_until(&self, time: Instant) -> u64 {
         match Instant::now(self.rt) {
             Ok(now) => time.saturating_duration_since(now).as_secs(),
             Err(_) => 0,
@@ -218,8 +224,17 @@ impl<R: Wait + Clock> Reporting<'_, R> {
     }
 }
 
+/// How many entries a node has, and how many of them it keeps.
+pub(crate) fn entries_of(core: &NodeCore) -> (usize, usize) {
+    let entries = core.audit().len();
+    (
+        entries,
+        entries.saturating_sub(core.audit().forgotten() as usize),
+    )
+}
+
 /// How dials go: the link is up, why the last one has failed, or a dash for the first one.
-fn how_it_goes(is_up: bool, tried: Tried) -> &'static str {
+pub(crate) fn how_it_goes(is_up: bool, tried: Tried) -> &'static str {
     match tried.fault {
         _ if is_up => "up",
         Some(fault) => fault.name(),

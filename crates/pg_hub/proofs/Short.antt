@@ -1,0 +1,8 @@
+-- Lines that are too short to name many processes.
+use Rattle.std.proofs.Common.{◌≡◌, ℕ, ◌<◌, ◌/◌, ◌==◌, List, length, arith}
+use Rattle.std.proofs.lemmas.List.Sums.{count_by-le-length}
+use Rattle.pg_hub.specs.Brake.{named_in}
+
+-- each stands behind a space of its own
+pub short_names : (line : List ℕ) → length line < 4096 → named_in line / 4096 ≡ 0
+short_names line short = omega (arith, count_by-le-length (λ b. b == 32) line)
