@@ -1,0 +1,15 @@
+-- What was written is the front of what waits.
+use Rattle.std.proofs.Common.{◌≤◌, length, take}
+use Rattle.archive_files.proofs.Moved.{moved_front, front_of}
+use Rattle.archive_files.specs.Waiting.{piece_of, rest_of}
+use Rattle.archive_files.proofs.archive.Archive.write_some.Goals as goal
+
+pub returns-clause-order : goal.returns-clause-order
+returns-clause-order g c =
+    let lines = c.args.self.now.lines in
+    let piece = piece_of lines.lines lines.begun in
+    let within : c.in-Ok.count ≤ length piece = rw (← c.piece.ensures) c.in-Ok.ensures.bound in
+    rw (c.note.ensures.same.0, c.note.ensures.rest)
+    (moved_front _ _ (rest_of lines) (take c.in-Ok.count piece) c.in-Ok.count
+    (front_of lines.lines lines.begun c.in-Ok.count within)
+    (rw (← c.piece.ensures) c.in-Ok.ensures.bytes))

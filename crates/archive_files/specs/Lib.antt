@@ -1,0 +1,4 @@
+pub mod Taking
+pub mod Text
+pub mod Turning
+pub mod Waiting

@@ -1,0 +1,24 @@
+//! Where an archive's lines go.
+ghost use Rattle.std.specs.Io.KnownBytes.{Keeps};
+ghost use Rattle.archive_files.specs.Taking.{TakesBack};
+ghost use Rattle.std.specs.Prelude.{OnOk, OnErr};
+
+use crate::line::Mark;
+use std::io::{self, Write};
+
+/// Files of which one is written to at its end. Its contents are those of all files, one behind the other.
+pub trait Store: Write {
+    /// Sets the file aside under a name made of the mark, and begins a new one: how many bytes that has. On an error the same file is
+    /// written to.
+    fn turn(&mut self, first: Mark) -> io::Result<u64>
+        ensures bytes { Keeps (Self.contents self.old) (Self.contents self.new) };
+
+    /// Leaves the file, and goes on with that at the path: how many bytes that has. On an error the same file is written to.
+    fn reopen(&mut self) -> io::Result<u64>
+        ensures bytes { Keeps (Self.contents self.old) (Self.contents self.new) };
+
+    /// Takes the last bytes of the file back.
+    fn take_back(&mut self, count: u64) -> io::Result<()>
+        ensures ok { OnOk result (TakesBack (Self.contents self.old) (Self.contents self.new) count) }
+        ensures same { OnErr result (Keeps (Self.contents self.old) (Self.contents self.new)) };
+}
