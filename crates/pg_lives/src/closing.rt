@@ -1,24 +1,44 @@
-//! Lives that have ended: a thread of its own closes each, behind the next one.
-use crate::audit_file::AuditFile;
+//! What is done behind the node: lives that have ended are closed, and entries that it keeps no more go to the archive. A thread of
+//! its own does both, so that all stands there in order.
+use crate::recorder::Recorder;
 use crate::reserve::Reserve;
 use anyhow::{Error, Result, anyhow};
 use node_threads::{CloseRule, Node, Pass};
-use pg_hub::Hub;
+use pg_archive::Life;
+use pg_hub::{Hub, PageQueue};
 use pg_log::Log;
+use policy_audit::{PAGE_SIZE, Page};
 use std::alloc::Global;
-use std::rt::HostRuntime;
-use std::sync::{Condvar, Mutex, Wait};
-use std::time::Clock;
+use std::mem::replace;
+use std::sync::{Condvar, CondvarTimeouts, Mutex, Wait};
+use std::time::{Clock, Duration};
 
-/// A life that has ended, with all its passes.
+/// The milliseconds before a write that has failed is tried again, and between two looks whether the file is to be opened anew.
+const REST: u64 = 1_000;
+
+/// How many pages may wait in any case: as many as are handed out at once.
+const FEWEST: usize = 64;
+
+/// The entries of a page.
+const PAGE: u64 = PAGE_SIZE as u64;
+
+/// A life that has ended, with all its passes, and the one behind it, if there is one.
 #[derive(Drop)]
 pub struct EndedLife {
     pub node: Node,
     pub passes: Vec<Pass>,
+    pub next: Option<Life>,
 }
 
 #[derive(Drop)]
 struct State {
+    /// Pages of the life that is written, and of the one behind it.
+    pages: PageQueue,
+    later: PageQueue,
+    /// The creation of the life that is written.
+    creation: u32,
+    /// How many pages found no room here.
+    lost: u64,
     life: Option<EndedLife>,
     is_closing: bool,
     has_ended: bool,
@@ -26,42 +46,96 @@ struct State {
     fault: Option<CloseRule>,
 }
 
-/// Closes one life after another.
+impl State {
+    /// What is to be done next. Pages can be written only where no write is failing.
+    fn next(&mut self, may_write: bool) -> Task {
+        if may_write {
+            if let Some(page) = self.pages.take() {
+                return Task::Write(page);
+            }
+        }
+        match self.life.take() {
+            Some(life) => Task::Close(life),
+            None if self.has_ended => Task::End,
+            None => Task::Look,
+        }
+    }
+}
+
+/// What is to be done.
+#[derive(Drop)]
+enum Task {
+    Write(Page),
+    Close(EndedLife),
+    /// To see whether the file is to be opened anew, or takes what it didn't.
+    Look,
+    End,
+}
+
+/// Closes one life after another, and writes what they keep no more.
 #[derive(Drop)]
 pub struct Closer<'a> {
+    alloc: Global,
     state: Mutex<State>,
     moved: Condvar,
-    pub file: Option<AuditFile<'a>>,
+    /// How many pages wait at most.
+    most: usize,
+    archive: Option<Mutex<Recorder<'a>>>,
     pub reserve: Reserve,
 }
 
 impl<'a> Closer<'a> {
-    /// With the file of this path for audits, if there is one, and memory that is kept for the turns. An error where the file
-    /// can't be opened.
+    /// With this archive, if there is one, which has taken the line of the life with this creation. As many entries wait for it at most
+    /// as a node keeps, and 64 pages in any case. Memory is kept for the turns.
     pub fn new<R: Wait>(
         rt: &R,
-        files: &'a HostRuntime,
         alloc: Global,
-        path: Option<&'a str>,
-    ) -> Result<Closer<'a>> {
-        let file = AuditFile::open(files, path)?;
+        archive: Option<Recorder<'a>>,
+        creation: u32,
+        entries: u32,
+    ) -> Closer<'a> {
         let reserve = Reserve::new(alloc);
         reserve.take(rt);
-        Ok(Closer::of(file, reserve))
-    }
-
-    fn of(file: Option<AuditFile<'a>>, reserve: Reserve) -> Closer<'a> {
+        let archive = match archive {
+            Some(recorder) => Some(Mutex::new(recorder)),
+            None => None,
+        };
+        let most = (entries as usize / PAGE_SIZE).max(FEWEST);
         Closer {
+            alloc,
             state: Mutex::new(State {
+                pages: PageQueue::new(alloc, most),
+                later: PageQueue::new(alloc, most),
+                creation,
+                lost: 0,
                 life: None,
                 is_closing: false,
                 has_ended: false,
                 fault: None,
             }),
             moved: Condvar::new(),
-            file,
+            most,
+            archive,
             reserve,
         }
+    }
+
+    /// Takes pages out of the node, which are written next; without an archive they are let go: whether there were any. The lock is
+    /// held meanwhile, so that no life is put in before its pages.
+    pub fn take_pages<R: Wait + Clock>(&self, rt: &R, hub: &Hub) -> bool {
+        let mut pages = Vec::new(self.alloc);
+        let mut state = self.state.lock(rt);
+        let creation = hub.hand_out(rt, &mut pages);
+        let are_some = !pages.is_empty();
+        if !are_some || self.archive.is_none() {
+            return are_some;
+        }
+        for page in pages {
+            add_page(&mut state, creation, page);
+        }
+        drop(state);
+        self.moved.notify_all();
+        true
     }
 
     /// Waits until the last life that was put in is closed, and let go: whether that took a wait.
@@ -82,17 +156,20 @@ impl<'a> Closer<'a> {
         self.moved.notify_all();
     }
 
-    /// No further life goes in; one that is in is closed.
+    /// No further life goes in, and no further page; what is in is done.
     pub fn end<R: Wait>(&self, rt: &R) {
         self.state.lock(rt).has_ended = true;
         self.moved.notify_all();
     }
 
-    fn take<R: Wait>(&self, rt: &R) -> Option<EndedLife> {
-        let mut state = self.moved.wait_while(rt, self.state.lock(rt), |state| {
-            state.life.is_none() && !state.has_ended
+    /// What is to be done next, once there is something, or after a rest.
+    fn take<R: Wait + Clock>(&self, rt: &R, may_write: bool) -> Task {
+        let state = self.state.lock(rt);
+        let rest = Duration::from_millis(REST);
+        let (mut state, _) = self.moved.wait_timeout_while(rt, state, rest, |state| {
+            (state.pages.len() == 0 || !may_write) && state.life.is_none() && !state.has_ended
         });
-        state.life.take()
+        state.next(may_write)
     }
 
     fn note<R: Wait>(&self, rt: &R, closed: Result<(), CloseRule>) {
@@ -105,21 +182,118 @@ impl<'a> Closer<'a> {
         self.moved.notify_all();
     }
 
-    /// Closes what is put in, until the end. A life that isn't closed ends the program.
-    pub fn close_all<R: Wait + Clock>(&self, rt: &R, hub: &Hub) {
+    /// Does what is put in, until the end. A life that isn't closed ends the program.
+    pub fn work<R: Wait + Clock>(&self, rt: &R, hub: &Hub) {
         for _ in rt.forever() {
-            let Some(life) = self.take(rt) else {
-                return;
-            };
-            let closed = close(rt, hub.alloc, life, self.file.as_ref(), &hub.log);
-            let has_failed = closed.is_err();
-            self.reserve.take(rt);
-            self.note(rt, closed);
-            if has_failed {
-                hub.quit(rt);
+            let may_write = self.look(rt, hub);
+            match self.take(rt, may_write) {
+                Task::Write(page) => self.write(rt, hub, &page),
+                Task::Close(life) => self.close_one(rt, hub, life),
+                Task::Look => {}
+                Task::End => return,
             }
         }
         unreachable!()
+    }
+
+    /// How many pages found no room since this was asked last.
+    fn take_lost<R: Wait>(&self, rt: &R) -> u64 {
+        let mut state = self.state.lock(rt);
+        replace(&mut state.lost, 0)
+    }
+
+    /// Opens the archive's file anew if that is asked for, and writes what waits there: whether it takes more.
+    fn look<R: Wait + Clock>(&self, rt: &R, hub: &Hub) -> bool {
+        let Some(archive) = &self.archive else {
+            return true;
+        };
+        let lost = self.take_lost(rt);
+        let mut archive = archive.lock(rt);
+        archive.count_lost(lost.saturating_mul(PAGE));
+        archive.reopen(rt, hub.alloc, hub.keeping.reopens(), &hub.log);
+        let may_write = archive.flush(rt, hub.alloc, &hub.log);
+        archive.tell(&hub.keeping);
+        may_write
+    }
+
+    fn write<R: Wait + Clock>(&self, rt: &R, hub: &Hub, page: &Page) {
+        if let Some(archive) = &self.archive {
+            let mut archive = archive.lock(rt);
+            archive.write(rt, hub.alloc, page.as_slice(), &hub.log);
+            archive.tell(&hub.keeping);
+        }
+    }
+
+    fn close_one<R: Wait + Clock>(&self, rt: &R, hub: &Hub, mut life: EndedLife) {
+        let next = life.next.take();
+        let closed = self.close(rt, hub.alloc, life, &hub.log);
+        let has_failed = closed.is_err();
+        if let Some(next) = next {
+            self.turn(rt, hub, &next);
+        }
+        self.reserve.take(rt);
+        self.note(rt, closed);
+        if has_failed {
+            hub.quit(rt);
+        }
+    }
+
+    /// What is written from now on is of the next life.
+    fn turn<R: Wait>(&self, rt: &R, hub: &Hub, next: &Life) {
+        let mut state = self.state.lock(rt);
+        let none = PageQueue::new(self.alloc, self.most);
+        state.pages = replace(&mut state.later, none);
+        state.creation = next.creation;
+        drop(state);
+        if let Some(archive) = &self.archive {
+            let is_begun = archive.lock(rt).begin(next);
+            if is_begun.is_err() {
+                hub.want_memory(rt);
+            }
+        }
+    }
+
+    /// Settles all passes of a life that has ended, and writes what it kept, behind its pages.
+    pub fn close<R: Wait + Clock>(
+        &self,
+        rt: &R,
+        alloc: Global,
+        life: EndedLife,
+        log: &Log,
+    ) -> Result<(), CloseRule> {
+        let EndedLife { node, passes, .. } = life;
+        match node.close(passes) {
+            Ok(closed) => {
+                if let Some(archive) = &self.archive {
+                    let mut archive = archive.lock(rt);
+                    self.write_pages(rt, alloc, &mut archive, log);
+                    archive.end(rt, alloc, closed.core.audit(), log);
+                }
+                Ok(())
+            }
+            Err(fault) => Err(fault.rule),
+        }
+    }
+
+    /// Writes the pages that wait still of the life that is written. Those that can't be written now are lost.
+    fn write_pages<R: Wait + Clock>(
+        &self,
+        rt: &R,
+        alloc: Global,
+        archive: &mut Recorder<'_>,
+        log: &Log,
+    ) {
+        archive.count_lost(self.take_lost(rt).saturating_mul(PAGE));
+        for _ in 0..u64::MAX {
+            let Some(page) = self.take_page(rt) else {
+                return;
+            };
+            archive.write(rt, alloc, page.as_slice(), log);
+        }
+    }
+
+    fn take_page<R: Wait>(&self, rt: &R) -> Option<Page> {
+        self.state.lock(rt).pages.take()
     }
 
     /// An error where a life wasn't closed.
@@ -129,25 +303,26 @@ impl<'a> Closer<'a> {
             None => Ok(()),
         }
     }
+
+    /// An error where entries aren't in the archive.
+    pub fn check_archive<R: Wait>(&self, rt: &R) -> Result<()> {
+        match &self.archive {
+            Some(archive) => archive.lock(rt).check(),
+            None => Ok(()),
+        }
+    }
 }
 
-/// Settles all passes of a life that has ended, and writes its audit.
-pub fn close<R: Wait + Clock>(
-    rt: &R,
-    alloc: Global,
-    life: EndedLife,
-    file: Option<&AuditFile<'_>>,
-    log: &Log,
-) -> Result<(), CloseRule> {
-    let EndedLife { node, passes } = life;
-    match node.close(passes) {
-        Ok(closed) => {
-            if let Some(file) = file {
-                file.add(rt, alloc, closed.core.audit(), log);
-            }
-            Ok(())
-        }
-        Err(fault) => Err(fault.rule),
+/// Puts a page behind those of its life. Where as many wait as may, the oldest is lost.
+fn add_page(state: &mut State, creation: u32, page: Page) {
+    let queue = if state.creation == creation {
+        &mut state.pages
+    } else {
+        &mut state.later
+    };
+    match queue.add(page) {
+        Ok(None) => {}
+        _ => state.lost = state.lost.saturating_add(1),
     }
 }
 

@@ -16,6 +16,16 @@ const FULL: &str = "all 64 links are up, begun or kept for peers to dial; furthe
 const REFLECTED: &str =
     "a peer asked for a digest of a challenge of this node's own; the link is lost";
 
+/// What is said of nodes at a place that isn't theirs.
+const STOCK: &str =
+    "a stock node of Erlang/OTP has connected at --listen; --otp-listen is for those";
+
+const NATIVE: &str =
+    "a node that is no stock node of Erlang/OTP was met by --otp-listen or --otp-dial";
+
+const ATOMS: &str = "stock nodes were told 65536 groups as atoms; rows of others are left out, \
+    unless they begin with #b:";
+
 const UNSTEADY: &str = "the peer ends the links to it soon: has another node the name of this one?";
 
 /// Where and how the links of a node are made, over all its lives.
@@ -24,6 +34,8 @@ pub struct Site<'a> {
     pub hub: &'a Hub,
     pub limits: Limits,
     pub arrivals: Option<&'a Arrivals>,
+    /// Where stock nodes of Erlang/OTP connect.
+    pub otp_arrivals: Option<&'a Arrivals>,
 }
 
 /// Serves links until the next life is to begin, or the program is to end. The lanes come back.
@@ -32,21 +44,25 @@ pub fn live<R: Host>(rt: &R, site: Site<'_>, lanes: Vec<Lane>) -> Vec<Lane> {
         hub,
         limits,
         arrivals,
+        otp_arrivals,
     } = site;
     hub.notes.begin_life(rt, limits);
     let lanes = Lanes::new(hub.alloc, lanes, limits, &hub.notes);
     thread::scope(thread::scope_env(), rt, |scope| {
         let mut dialled = 0;
         let mut are_made = start_dials(scope, rt, hub, &lanes, &mut dialled);
-        are_made &= start_takers(scope, rt, site, &lanes);
+        are_made &= start_takers(scope, rt, hub, arrivals, &lanes);
+        are_made &= start_takers(scope, rt, hub, otp_arrivals, &lanes);
         if !are_made {
             warn_of_threads(rt, hub);
         }
         wait_for_end(scope, rt, site, &lanes, dialled);
         hub.end_links();
         lanes.stop(rt);
-        if let Some(arrivals) = arrivals {
-            arrivals.wake(rt);
+        for arrivals in [arrivals, otp_arrivals] {
+            if let Some(arrivals) = arrivals {
+                arrivals.wake(rt);
+            }
         }
     });
     lanes.into_lanes()
@@ -56,13 +72,13 @@ pub fn live<R: Host>(rt: &R, site: Site<'_>, lanes: Vec<Lane>) -> Vec<Lane> {
 fn start_takers<'s, E: 's, R: Host + 's>(
     scope: &'s Scope<'s, E>,
     rt: &'s R,
-    site: Site<'s>,
+    hub: &'s Hub,
+    arrivals: Option<&'s Arrivals>,
     lanes: &'s Lanes<'s>,
 ) -> bool {
-    let Some(arrivals) = site.arrivals else {
+    let Some(arrivals) = arrivals else {
         return true;
     };
-    let hub = site.hub;
     let mut are_made = true;
     for _ in 0..LANES {
         are_made &= start_accepting(scope, rt, hub.alloc, &hub.node, lanes, arrivals);
@@ -159,6 +175,15 @@ fn warn<R: Wait + Clock>(rt: &R, hub: &Hub, told: Met, met: Met) {
     }
     if met.fillings != told.fillings {
         hub.log.warn(rt, "full", FULL);
+    }
+    if met.stock_nodes != told.stock_nodes {
+        hub.log.warn(rt, "stock_node", STOCK);
+    }
+    if met.native_nodes != told.native_nodes {
+        hub.log.warn(rt, "no_stock_node", NATIVE);
+    }
+    if met.untold != told.untold {
+        hub.log.warn(rt, "too_many_atoms", ATOMS);
     }
     if met.early_ends != told.early_ends || met.failed_dials != told.failed_dials {
         warn_of_dials(rt, hub);

@@ -1,5 +1,5 @@
 //! One life after another, until the end of the program.
-use crate::closing::{Closer, close, not_closed};
+use crate::closing::{Closer, not_closed};
 use crate::life::{Site, live};
 use crate::turn::{LifeMaker, last};
 use anyhow::{Result, bail};
@@ -94,7 +94,7 @@ fn check_memory<R: Wait + Clock>(rt: &R, hub: &Hub, closer: &Closer<'_>) -> Resu
     Ok(wants_memory)
 }
 
-/// Closes the last life. An error where that, the life before, or the audit of one in the file has failed.
+/// Closes the last life. An error where that or the life before has failed, or entries aren't in the archive.
 pub fn finish<R: Wait + Clock>(
     rt: &R,
     hub: Hub,
@@ -105,11 +105,8 @@ pub fn finish<R: Wait + Clock>(
     closer.reserve.release(rt);
     let (alloc, log) = (hub.alloc, Arc::try_clone(&hub.log)?);
     let life = last(hub, lanes)?;
-    if let Err(rule) = close(rt, alloc, life, closer.file.as_ref(), &log) {
+    if let Err(rule) = closer.close(rt, alloc, life, &log) {
         return Err(not_closed(rule));
     }
-    match &closer.file {
-        Some(file) => file.check(),
-        None => Ok(()),
-    }
+    closer.check_archive(rt)
 }

@@ -1,14 +1,15 @@
 //! What a new life of the node is told first: what the last one was told, and what still held at its end.
-use dist_types::{Items, NodeName, OutOfMemory, TryClone};
+use admission_rules::Admission;
+use dist_types::{Cookie, Items, NodeName, OutOfMemory, TryClone};
 use node_core::NodeCore;
-use policy_audit::{Event, Verdict};
+use policy_audit::Event;
 use std::alloc::Global;
 
 /// What the command line says beside the opening.
 pub fn given(
     alloc: Global,
     allowed: Vec<NodeName>,
-    cookies: Vec<(NodeName, dist_types::Cookie)>,
+    cookies: Vec<(NodeName, Cookie)>,
 ) -> Result<Vec<Event>, OutOfMemory> {
     let mut events = Vec::new(alloc);
     if !allowed.is_empty() {
@@ -20,43 +21,54 @@ pub fn given(
     Ok(events)
 }
 
-/// The cookies, allowed names and running scopes of a life, as the calls that say them.
-pub fn held(alloc: Global, core: &NodeCore) -> Result<Vec<Event>, OutOfMemory> {
+/// The cookies, allowed names and running scopes of a life that began with this cookie, as the calls that say them.
+pub fn held(alloc: Global, core: &NodeCore, begun: &Cookie) -> Result<Vec<Event>, OutOfMemory> {
     let mut events = Vec::new(alloc);
-    for entry in core.audit().after(0) {
-        if let Verdict::Accepted(_) = entry.verdict {
-            keep(alloc, core, &entry.event, &mut events)?;
-        }
+    add_cookies(alloc, core, begun, &mut events)?;
+    let allowed = allowed_by(alloc, core.admission())?;
+    if !allowed.is_empty() {
+        events.push(Event::Allow(Items::of(allowed)))?;
+    }
+    for index in 0..usize::MAX {
+        let Some(scope) = core.scope(index) else {
+            break;
+        };
+        events.push(Event::StartScope(scope.try_clone(alloc)?))?;
     }
     Ok(events)
 }
 
-/// Keeps a call, if it holds still. Each scope and each list of names is said once, and of cookies the last.
-fn keep(
+/// Adds the node's own cookie, where it is another one by now, and those of its peers.
+fn add_cookies(
     alloc: Global,
     core: &NodeCore,
-    event: &Event,
+    begun: &Cookie,
     events: &mut Vec<Event>,
 ) -> Result<(), OutOfMemory> {
-    match event {
-        Event::SetCookie(_) | Event::SetCookieFor(_, _) => {
-            events.retain(|kept| !is_replaced(kept, event));
-        }
-        Event::Allow(_) => {}
-        Event::StartScope(scope) if core.table(scope).is_some() => {}
-        _ => return Ok(()),
+    let admission = core.admission();
+    // No peer has the node's own name, for which the cookie is its own.
+    let own = admission.cookie_for(core.name());
+    if own != begun {
+        events.push(Event::SetCookie(own.try_clone(alloc)?))?;
     }
-    if !events.iter().any(|kept| kept == event) {
-        events.push(event.try_clone(alloc)?)?;
+    for index in 0..usize::MAX {
+        let Some((peer, cookie)) = admission.peer(index) else {
+            break;
+        };
+        let event = Event::SetCookieFor(peer.try_clone(alloc)?, cookie.try_clone(alloc)?);
+        events.push(event)?;
     }
     Ok(())
 }
 
-/// Whether a later call sets the same cookie.
-fn is_replaced(earlier: &Event, later: &Event) -> bool {
-    match (earlier, later) {
-        (Event::SetCookie(_), Event::SetCookie(_)) => true,
-        (Event::SetCookieFor(one, _), Event::SetCookieFor(other, _)) => one == other,
-        _ => false,
+/// The names that may connect; all may, where there are none.
+fn allowed_by(alloc: Global, admission: &Admission) -> Result<Vec<NodeName>, OutOfMemory> {
+    let mut names = Vec::new(alloc);
+    for index in 0..usize::MAX {
+        let Some(name) = admission.allowed(index) else {
+            break;
+        };
+        names.push(name.try_clone(alloc)?)?;
     }
+    Ok(names)
 }

@@ -4,10 +4,11 @@ use crate::life::LANES;
 use crate::settings::held;
 use anyhow::{Result, bail};
 use cookie_digest::ChallengeSource;
-use dist_types::TryClone;
+use dist_types::{Cookie, OutOfMemory, TryClone};
 use node_core::NodeCore;
 use node_net::Lane;
 use node_threads::{Node, Pass};
+use pg_archive::Life;
 use pg_hub::{House, Hub, HubSettings};
 use pg_session::{Caller, Session};
 use policy_audit::{Event, Opening};
@@ -107,7 +108,10 @@ impl LifeMaker {
         let keeper = new_keeper(rt, &node, &mut passes, told)?;
         let sessions = new_sessions(alloc, &mut passes, seats)?;
         let lanes = self.lanes.make_all(alloc, &mut passes)?;
-        let house = House { keeper, sessions };
+        let house = House {
+            keeper: Mutex::new(keeper),
+            sessions,
+        };
         let hub = Hub::new(rt, alloc, node, house, settings);
         check_room(rt, &hub, &hub.node)?;
         Ok((hub, lanes))
@@ -123,20 +127,27 @@ impl LifeMaker {
     ) -> Result<(Vec<Lane>, EndedLife)> {
         self.opening.creation = self.opening.creation.wrapping_add(1).max(1);
         let opening = copy(hub.alloc, &self.opening)?;
+        let next = Some(self.life(hub.alloc)?);
         let (node, new) = Node::new(hub.alloc, opening, passes_for(hub.seats))?;
         let mut new = new.into_iter();
         let mut passes = passes_of(hub.alloc, hub.seats, lanes)?;
-        exchange(rt, hub, &node, &mut new, &mut passes)?;
+        exchange(rt, hub, &node, &self.opening.cookie, &mut new, &mut passes)?;
         hub.wake(rt);
         let lanes = self.lanes.make_all(hub.alloc, &mut new)?;
-        Ok((lanes, EndedLife { node, passes }))
+        let ended = EndedLife { node, passes, next };
+        Ok((lanes, ended))
+    }
+
+    /// What an archive says of the life that runs.
+    pub fn life(&self, alloc: Global) -> Result<Life, OutOfMemory> {
+        Life::of(alloc, &self.opening)
     }
 }
 
 /// An error where what a new node was told first leaves no room.
 fn check_room<R: Wait>(rt: &R, hub: &Hub, node: &Node) -> Result<()> {
     if hub.is_nearly_full(node.shared.lock(rt).core()) {
-        bail!("--entries: too few for the cookies, names and scopes that were set");
+        bail!("--last-entry: too few for the cookies, names and scopes that were set");
     }
     Ok(())
 }
@@ -175,22 +186,24 @@ fn set_up<R: Wait>(rt: &R, node: &Node, keeper: &mut Pass, settings: Vec<Event>)
     Ok(())
 }
 
-/// Puts the life of a new node into the hub, and the old one into this node, while nobody has a seat of the house. The new life is
-/// told first what held at the end of the old one, so that nobody is let in where that leaves no room.
+/// Puts the life of a new node into the hub, and the old one, whose cookie was this at its beginning, into this node, while nobody
+/// has a seat of the house. The new life is told first what held at the end of the old one, so that nobody is let in where that
+/// leaves no room.
 fn exchange<R: Wait>(
     rt: &R,
     hub: &Hub,
     node: &Node,
+    begun: &Cookie,
     new: &mut vec::IntoIter<Pass>,
     old: &mut Vec<Pass>,
 ) -> Result<()> {
     let mut house = hub.house.write(rt);
-    let settings = held(hub.alloc, hub.node.shared.lock(rt).core())?;
+    let settings = held(hub.alloc, hub.node.shared.lock(rt).core(), begun)?;
     let keeper = new_keeper(rt, node, new, settings)?;
     check_room(rt, hub, node)?;
     swap(&mut *hub.node.shared.lock(rt), &mut *node.shared.lock(rt));
     hub.begin_anew();
-    old.push(replace(&mut house.keeper, keeper))?;
+    old.push(replace(&mut house.keeper, Mutex::new(keeper)).into_inner())?;
     let shared = hub.node.shared.lock(rt);
     change_callers(shared.core(), &mut house.sessions, new, old)
 }
@@ -239,13 +252,17 @@ pub fn last(hub: Hub, lanes: Vec<Lane>) -> Result<EndedLife> {
     let (alloc, seats) = (hub.alloc, hub.seats);
     let (node, house) = hub.into_parts();
     let passes = all_passes(alloc, seats, lanes, house)?;
-    Ok(EndedLife { node, passes })
+    Ok(EndedLife {
+        node,
+        passes,
+        next: None,
+    })
 }
 
 fn all_passes(alloc: Global, seats: u32, lanes: Vec<Lane>, house: House) -> Result<Vec<Pass>> {
     let mut passes = passes_of(alloc, seats, lanes)?;
     let House { keeper, sessions } = house;
-    passes.push(keeper)?;
+    passes.push(keeper.into_inner())?;
     add_sessions(sessions, &mut passes)?;
     Ok(passes)
 }
