@@ -1,4 +1,5 @@
 //! The arguments of the program, for the parser.
+use crate::stock::otp_arguments;
 use clap::{Arg, ArgAction, Command, Error as ClapError, value_parser};
 use std::alloc::Global;
 
@@ -9,7 +10,7 @@ pub const VERSION: &str = "0.1.0";
 const COMMANDS: &str = "\
 Commands, one a line, on standard input and on each control connection; a word with .. may come any number of times:
   node       cookie COOKIE | cookie_for NAME COOKIE | allow NAME.. | disconnect NAME | dial NAME=HOST:PORT |
-             undial NAME | nodes
+             undial NAME | reopen | nodes
   scopes     start SCOPE | stop SCOPE
   processes  spawn | exit PROCESS | join SCOPE GROUP PROCESS.. | leave SCOPE GROUP PROCESS..
   queries    members SCOPE GROUP | local_members SCOPE GROUP | groups SCOPE | local_groups SCOPE
@@ -35,6 +36,7 @@ pub fn command<'a>(alloc: Global) -> Result<Command<'a>, ClapError> {
         .arg(name)?;
     let command = peer_arguments(alloc, command)?;
     let command = node_arguments(alloc, command)?;
+    let command = face_arguments(alloc, command)?;
     link_arguments(alloc, command)
 }
 
@@ -58,8 +60,10 @@ fn node_arguments<'a>(alloc: Global, command: Command<'a>) -> Result<Command<'a>
     let command = with(command, hidden(alloc))?;
     let command = with(command, creation(alloc))?;
     let command = with(command, entries(alloc))?;
-    let audit = "Where audits that have ended are written";
+    let command = with(command, last_entry(alloc))?;
+    let audit = "An archive, to which entries go that the node keeps no more";
     let command = with(command, text(alloc, "audit", "FILE", audit))?;
+    let command = with(command, audit_size(alloc))?;
     log_arguments(alloc, command)
 }
 
@@ -93,9 +97,28 @@ fn entries<'a>(alloc: Global) -> Arg<'a> {
     Arg::new(alloc, "entries")
         .long("entries")
         .value_name("N")
-        .help("The most entries of an audit, at least 64; the node begins anew before it is full")
+        .help("How many entries the node keeps, at least 64; older ones go to the archive")
         .value_parser(value_parser!(u32).range(64..))
-        .default_value("1000000")
+        .default_value("100000")
+}
+
+/// For tests: the node begins anew before its entries come to this number.
+fn last_entry<'a>(alloc: Global) -> Arg<'a> {
+    Arg::new(alloc, "last-entry")
+        .long("last-entry")
+        .value_name("N")
+        .hide(true)
+        .value_parser(value_parser!(u32).range(64..))
+}
+
+fn audit_size<'a>(alloc: Global) -> Arg<'a> {
+    Arg::new(alloc, "audit-size")
+        .long("audit-size")
+        .value_name("BYTES")
+        .help(
+            "The most bytes of a file of the archive, at least 4096; further ones begin a new file",
+        )
+        .value_parser(value_parser!(u64).range(4096..))
 }
 
 fn links<'a>(alloc: Global) -> Arg<'a> {
@@ -121,14 +144,37 @@ fn link_arguments<'a>(alloc: Global, command: Command<'a>) -> Result<Command<'a>
     let command = with(command, text(alloc, "listen", "HOST:PORT", listen))?;
     let dial = "A peer to keep a link to";
     let command = with(command, texts(alloc, "dial", "NAME=HOST:PORT", dial))?;
-    let control = "A Unix socket for commands";
-    let command = with(command, text(alloc, "control", "PATH", control))?;
-    let command = with(command, clients(alloc))?;
+    let command = otp_arguments(alloc, command)?;
     let command = with(command, links(alloc))?;
     let setup = "For a whole handshake";
     let command = with(command, millis(alloc, "setuptime", "7000", setup))?;
     let tick = "A link is lost that is silent for so long";
     with(command, millis(alloc, "ticktime", "60000", tick))
+}
+
+fn face_arguments<'a>(alloc: Global, command: Command<'a>) -> Result<Command<'a>, ClapError> {
+    let config = "A file of these options, in TOML; the command line goes first";
+    let command = with(command, text(alloc, "config", "FILE", config))?;
+    let control = "A Unix socket for commands";
+    let command = with(command, text(alloc, "control", "PATH", control))?;
+    let mode = "The mode of that, 0600 where none is given";
+    let command = with(command, text(alloc, "control-mode", "MODE", mode))?;
+    let reads = "A Unix socket for reads and monitors alone";
+    let command = with(command, text(alloc, "control-read", "PATH", reads))?;
+    let mode = "The mode of that, 0660 where none is given";
+    let command = with(command, text(alloc, "control-read-mode", "MODE", mode))?;
+    let command = with(command, clients(alloc))?;
+    http_arguments(alloc, command)
+}
+
+fn http_arguments<'a>(alloc: Global, command: Command<'a>) -> Result<Command<'a>, ClapError> {
+    let page = "A page, metrics and health over HTTP, at an address of this machine";
+    let command = with(command, text(alloc, "http", "ADDR:PORT", page))?;
+    let anywhere = Arg::new(alloc, "http-anywhere")
+        .long("http-anywhere")
+        .help("Lets --http be at any address, where others can look on")
+        .action(ArgAction::SetTrue);
+    with(command, anywhere)
 }
 
 fn text<'a>(alloc: Global, name: &'a str, value: &'a str, help: &'a str) -> Arg<'a> {

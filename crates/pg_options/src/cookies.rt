@@ -9,8 +9,8 @@ use std::fs::{self, Files};
 use std::io;
 use std::os::unix::fs::PermissionsExt;
 
-/// The bits of a file's mode that let others read or write it.
-const OTHERS: u32 = 0o077;
+/// The bits of a file's mode that let its group write it, or others do anything with it.
+const OTHERS: u32 = 0o037;
 
 pub fn own_cookie<R: Files>(
     rt: &R,
@@ -29,12 +29,13 @@ pub fn own_cookie<R: Files>(
     }
 }
 
-/// The cookie in a file, which ends with its first line. Others than the owner may have no right to the file.
+/// The cookie in a file, which ends with its first line. Others than the owner and the group, which may read it, may have no right
+/// to the file.
 fn read_cookie<R: Files>(rt: &R, alloc: Global, path: &str) -> Result<Cookie, Fault> {
     let mode = mode_of(rt, path).map_err(|error| unread(path, error))?;
     if mode & OTHERS != 0 {
         return Err(failed(anyhow!(
-            "{path:.60}: others can read this file of a cookie (chmod 600)"
+            "{path:.60}: others can read this file of a cookie, or its group write it (chmod 600)"
         )));
     }
     match fs::read(&(rt, alloc), path) {

@@ -2,10 +2,17 @@
 #![tactic(auto)]
 
 mod arguments;
+mod config;
 mod cookies;
+mod faces;
 mod fault;
+mod keys;
 mod options;
+mod stock;
 
 pub use arguments::{VERSION, command};
+pub use config::with_config;
+pub use faces::{Faces, SocketFile};
 pub use fault::Fault;
 pub use options::{LogOptions, Options, read_options};
+pub use stock::OtpOptions;

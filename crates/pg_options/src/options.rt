@@ -1,6 +1,8 @@
 //! What the command line says.
 use crate::cookies::{cookies, own_cookie};
+use crate::faces::{Faces, read_faces};
 use crate::fault::{Fault, misused};
+use crate::stock::{OtpOptions, add_stock, read_otp};
 use anyhow::anyhow;
 use clap::ArgMatches;
 use dist_types::{Cookie, NodeName};
@@ -13,10 +15,10 @@ use std::fs::Files;
 use std::sync::Arc;
 use std::time::Duration;
 
-/// The most entries of an audit, where none are given.
-const ENTRIES: u32 = 1_000_000;
+/// How many entries the node keeps, where no number is given.
+const ENTRIES: u32 = 100_000;
 
-/// The fewest: room for what a new life of the node says first, and for its last sixteenth.
+/// The fewest numbers of entries: room for what a new life of the node says first, and for its last sixteenth.
 const FEWEST: u32 = 64;
 
 /// The version of link messages that a node knows, where none is given.
@@ -31,16 +33,20 @@ pub struct Options<'a> {
     pub opening: Opening,
     /// HOST:PORT.
     pub listen: Option<&'a str>,
+    pub otp: OtpOptions<'a>,
     pub targets: Arc<Targets>,
     pub limits: Limits,
     pub allowed: Vec<NodeName>,
     pub cookies: Vec<(NodeName, Cookie)>,
-    /// The path of the control socket.
-    pub control: Option<&'a str>,
+    /// Where it is asked beside its standard input.
+    pub faces: Faces<'a>,
     /// The most clients at once.
     pub clients: u32,
-    /// The path of the file for audits that have ended.
+    /// How many entries the node keeps. Those of its opening are the last numbers of entries.
+    pub entries: u32,
+    /// The path of the archive, and the most bytes of a file of it, if there is a most.
     pub audit: Option<&'a str>,
+    pub audit_size: Option<u64>,
     pub log: LogOptions,
 }
 
@@ -60,16 +66,20 @@ pub fn read_options<'a, R: Files>(
 ) -> Result<Options<'a>, Fault> {
     let (opening, listen) = node_options(rt, alloc, words, matches)?;
     let (targets, allowed, cookies) = peer_options(rt, alloc, matches)?;
+    let (audit, audit_size) = archive(matches)?;
     Ok(Options {
         opening,
         listen,
+        otp: read_otp(matches)?,
         targets,
         limits: limits(matches),
         allowed,
         cookies,
-        control: matches.get_str("control"),
+        faces: read_faces(matches)?,
         clients: matches.get_one::<u32>("clients").unwrap_or(CLIENTS),
-        audit: matches.get_str("audit"),
+        entries: matches.get_one::<u32>("entries").unwrap_or(ENTRIES),
+        audit,
+        audit_size,
         log: log_options(matches)?,
     })
 }
@@ -108,11 +118,23 @@ fn opening<R: Files>(
             .get_one::<u32>("creation")
             .unwrap_or_else(|| words.next_u32().max(1)),
         entries: matches
-            .get_one::<u32>("entries")
-            .unwrap_or(ENTRIES)
+            .get_one::<u32>("last-entry")
+            .unwrap_or(u32::MAX)
             .max(FEWEST),
         links: matches.get_one::<u8>("links").unwrap_or(LINKS),
     })
+}
+
+/// The path of the archive, and the most bytes of a file of it.
+fn archive<'a>(matches: &ArgMatches<'a>) -> Result<(Option<&'a str>, Option<u64>), Fault> {
+    let (path, size) = (
+        matches.get_str("audit"),
+        matches.get_one::<u64>("audit-size"),
+    );
+    if path.is_none() && size.is_some() {
+        return Err(misused(anyhow!("--audit-size: there is no --audit")));
+    }
+    Ok((path, size))
 }
 
 fn log_options(matches: &ArgMatches<'_>) -> Result<LogOptions, Fault> {
@@ -125,11 +147,17 @@ fn log_options(matches: &ArgMatches<'_>) -> Result<LogOptions, Fault> {
                 return Err(misused(anyhow!("--log: not text, json or none: {format:.60}")));
             }
         },
-        level: match level.parse() {
-            Ok(level) => level,
-            Err(_) => return Err(misused(anyhow!("--log-level: no level: {level:.60}"))),
-        },
+        level: level_of(level)?,
     })
+}
+
+fn level_of(word: &str) -> Result<LevelFilter, Fault> {
+    match word {
+        "error" => Ok(LevelFilter::Error),
+        "warn" => Ok(LevelFilter::Warn),
+        "info" => Ok(LevelFilter::Info),
+        _ => Err(misused(anyhow!("--log-level: not error, warn or info: {word:.60}"))),
+    }
 }
 
 fn allowed(alloc: Global, matches: &ArgMatches<'_>) -> Result<Vec<NodeName>, Fault> {
@@ -153,12 +181,23 @@ fn targets(alloc: Global, matches: &ArgMatches<'_>) -> Result<Arc<Targets>, Faul
     let mut targets = Vec::new(alloc);
     let own = matches.get_str("NAME");
     for word in matches.get_strs("dial").unwrap_or(&[]) {
-        targets.push(target(alloc, own, word)?)?;
+        let target = target(alloc, own, word)?;
+        if is_among(targets.as_slice(), &target) {
+            return Err(misused(anyhow!("--dial: this peer is given twice: {word:.60}")));
+        }
+        targets.push(target)?;
     }
+    add_stock(alloc, matches, &mut targets)?;
     match Targets::of(alloc, targets) {
         Ok(targets) => Ok(Arc::new(alloc, targets)?),
         Err(_) => Err(Fault::of_memory()),
     }
+}
+
+/// Whether one of them is of the same peer.
+fn is_among(targets: &[Target], target: &Target) -> bool {
+    let peer = target.peer().as_bytes();
+    targets.iter().any(|other| other.peer().as_bytes() == peer)
 }
 
 fn target(alloc: Global, own: Option<&str>, word: &str) -> Result<Target, Fault> {

@@ -1,0 +1,85 @@
+//! Where a node is asked beside its standard input.
+use crate::fault::{Fault, misused};
+use anyhow::anyhow;
+use clap::ArgMatches;
+use std::net::SocketAddr;
+
+/// The greatest mode of a file.
+const MOST: u32 = 0o777;
+
+/// The mode of the control socket where none is given, and of that for reads.
+const OWNERS: u32 = 0o600;
+
+const GROUPS: u32 = 0o660;
+
+/// A Unix socket.
+#[derive(Clone, Copy, Debug, Drop)]
+pub struct SocketFile<'a> {
+    pub path: &'a str,
+    /// Its mode, as `chmod` takes it.
+    pub mode: u32,
+}
+
+/// Where a node is asked.
+#[derive(Clone, Copy, Debug, Drop)]
+pub struct Faces<'a> {
+    pub control: Option<SocketFile<'a>>,
+    /// Where all may be read, and nothing changed.
+    pub control_read: Option<SocketFile<'a>>,
+    /// ADDR:PORT of the page and the metrics.
+    pub http: Option<&'a str>,
+}
+
+pub fn read_faces<'a>(matches: &ArgMatches<'a>) -> Result<Faces<'a>, Fault> {
+    let control = socket_file(matches, "control", "control-mode", OWNERS)?;
+    let control_read = socket_file(matches, "control-read", "control-read-mode", GROUPS)?;
+    let path = control.map(|file| file.path);
+    if path.is_some() && path == control_read.map(|file| file.path) {
+        return Err(misused(anyhow!("--control-read: the path of --control")));
+    }
+    Ok(Faces {
+        control,
+        control_read,
+        http: http(matches)?,
+    })
+}
+
+fn socket_file<'a>(
+    matches: &ArgMatches<'a>,
+    path: &str,
+    mode: &str,
+    usual: u32,
+) -> Result<Option<SocketFile<'a>>, Fault> {
+    let place = matches.get_str(path);
+    let mode = match matches.get_str(mode) {
+        Some(_) if place.is_none() => {
+            return Err(misused(anyhow!("--{mode}: there is no --{path}")));
+        }
+        Some(word) => mode_of(mode, word)?,
+        None => usual,
+    };
+    Ok(place.map(|path| SocketFile { path, mode }))
+}
+
+fn mode_of(option: &str, word: &str) -> Result<u32, Fault> {
+    match u32::from_str_radix(word, 8) {
+        Ok(mode) if mode <= MOST => Ok(mode),
+        _ => Err(misused(anyhow!("--{option}: no mode, as 0660: {word:.60}"))),
+    }
+}
+
+/// The address of the page: one of this machine alone, unless it may be any.
+fn http<'a>(matches: &ArgMatches<'a>) -> Result<Option<&'a str>, Fault> {
+    let Some(word) = matches.get_str("http") else {
+        return Ok(None);
+    };
+    match SocketAddr::parse_ascii(word.as_bytes()) {
+        Ok(address) if address.ip().is_loopback() || matches.get_flag("http-anywhere") => {
+            Ok(Some(word))
+        }
+        Ok(_) => Err(misused(anyhow!(
+            "--http: others than this machine reach it; --http-anywhere lets them: {word:.60}"
+        ))),
+        Err(_) => Err(misused(anyhow!("--http: no ADDR:PORT: {word:.60}"))),
+    }
+}
