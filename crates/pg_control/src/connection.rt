@@ -1,6 +1,7 @@
 //! One connection: a thread answers its lines, and another tells its news.
+use dist_types::OutOfMemory;
 use pg_hub::Hub;
-use pg_session::{Next, Seen};
+use pg_session::{Next, Rights, Seen};
 use pg_streams::{self, Lines, is_too_long};
 use pg_text::put_word;
 use std::io::{self, ErrorKind, Write};
@@ -18,17 +19,19 @@ const KEPT: usize = 65_536;
 #[derive(Drop)]
 pub struct Desk<'a> {
     pub hub: &'a Hub,
-    seat: usize,
+    pub seat: usize,
+    rights: Rights,
     /// Held for a whole answer, or for all that there is to tell, so that neither stands inside the other.
     printing: Mutex<()>,
     has_ended: AtomicBool,
 }
 
 impl<'a> Desk<'a> {
-    pub fn new(hub: &'a Hub, seat: usize) -> Desk<'a> {
+    pub fn new(hub: &'a Hub, seat: usize, rights: Rights) -> Desk<'a> {
         Desk {
             hub,
             seat,
+            rights,
             printing: Mutex::new(()),
             has_ended: AtomicBool::new(false),
         }
@@ -112,7 +115,7 @@ impl<'a> Desk<'a> {
         let fault = match line {
             Some(line) if is_too_long(line) => "fault the line is too long\n",
             Some(line) => {
-                if let Ok(next) = self.hub.answer(rt, self.seat, line, out) {
+                if let Ok(next) = self.answer_allowed(rt, line, out) {
                     return Ok(next);
                 }
                 out.clear();
@@ -129,6 +132,20 @@ impl<'a> Desk<'a> {
         }
     }
 
+    /// Adds the answer to a line, if the connection may ask for that.
+    fn answer_allowed<R: Wait + Clock>(
+        &self,
+        rt: &R,
+        line: &[u8],
+        out: &mut Vec<u8>,
+    ) -> Result<Next, OutOfMemory> {
+        if self.rights.allow(self.hub.alloc, line)? {
+            return self.hub.answer(rt, self.seat, line, out);
+        }
+        put_word("fault this socket takes reads and monitors alone\n", out)?;
+        Ok(Next::Line)
+    }
+
     /// Tells news until the connection or the program ends.
     pub fn tell_all<R: Wait + Clock, W: Write>(
         &self,
@@ -138,11 +155,14 @@ impl<'a> Desk<'a> {
     ) -> io::Result<()> {
         let mut out = Vec::new(self.hub.alloc);
         for _ in rt.forever() {
-            if !self.hub.wait_for_news(rt, seen, &self.has_ended) {
+            if !self.hub.wait_for_news(rt, self.seat, seen, &self.has_ended) {
                 return Ok(());
             }
             let printing = self.printing.lock(rt);
             out.clear();
+            if self.hub.is_behind(self.seat) {
+                return self.give_up(&mut out, writer);
+            }
             match self.hub.tell(rt, self.seat, &mut out) {
                 Ok(Some(now)) => seen = now,
                 Ok(None) => return Ok(()),
@@ -153,6 +173,15 @@ impl<'a> Desk<'a> {
             trim(&mut out);
         }
         unreachable!()
+    }
+
+    /// Tells a connection that hasn't read for long that it is ended.
+    fn give_up<W: Write>(&self, out: &mut Vec<u8>, writer: &mut W) -> io::Result<()> {
+        self.hub.stop_telling(self.seat);
+        match put_word("! behind\n", out) {
+            Ok(()) => send(writer, out.as_slice()),
+            Err(_) => Err(io::Error::from(ErrorKind::OutOfMemory)),
+        }
     }
 }
 

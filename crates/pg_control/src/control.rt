@@ -3,7 +3,7 @@ use crate::connection::Desk;
 use crate::door::Door;
 use crate::refusing::{refuse, refuse_here};
 use pg_hub::{Hub, Stream};
-use pg_session::Seen;
+use pg_session::{Rights, Seen};
 use pg_streams::ReadLines;
 use std::io::BufReader;
 use std::net::Shutdown;
@@ -56,7 +56,7 @@ fn take_all<'s, E: 's, R: Threads + Wait + Clock + Sync + 's>(
         match accepted {
             Ok((stream, _)) => {
                 has_failed = false;
-                take_in(scope, rt, hub, stream);
+                take_in(scope, rt, hub, door.rights, stream);
             }
             Err(error) => {
                 if !has_failed {
@@ -74,11 +74,12 @@ fn take_in<'s, E: 's, R: Threads + Wait + Clock + Sync + 's>(
     scope: &'s Scope<'s, E>,
     rt: &'s R,
     hub: &'s Hub,
+    rights: Rights,
     stream: UnixStream,
 ) {
     match Arc::new(hub.alloc, stream) {
         Ok(stream) => {
-            if !is_served(scope, rt, hub, &stream) {
+            if !is_served(scope, rt, hub, rights, &stream) {
                 refuse(scope, rt, hub, stream);
             }
         }
@@ -91,6 +92,7 @@ fn is_served<'s, E: 's, R: Threads + Wait + Clock + Sync + 's>(
     scope: &'s Scope<'s, E>,
     rt: &'s R,
     hub: &'s Hub,
+    rights: Rights,
     stream: &Stream,
 ) -> bool {
     let patience = Duration::from_millis(PATIENCE);
@@ -100,7 +102,8 @@ fn is_served<'s, E: 's, R: Threads + Wait + Clock + Sync + 's>(
     let Some((seat, seen)) = hub.enter(rt) else {
         return false;
     };
-    let is_started = start_serving(scope, rt, hub, seat, seen, stream);
+    let desk = Desk::new(hub, seat, rights);
+    let is_started = start_serving(scope, rt, desk, seen, stream);
     if !is_started {
         give_up(rt, hub, seat);
     }
@@ -111,20 +114,17 @@ fn is_served<'s, E: 's, R: Threads + Wait + Clock + Sync + 's>(
 fn start_serving<'s, E: 's, R: Threads + Wait + Clock + Sync + 's>(
     scope: &'s Scope<'s, E>,
     rt: &'s R,
-    hub: &'s Hub,
-    seat: usize,
+    desk: Desk<'s>,
     seen: Seen,
     stream: &Stream,
 ) -> bool {
-    if !hub.clients.add(rt, seat, stream) {
+    if !desk.hub.clients.add(rt, desk.seat, stream) {
         return false;
     }
     let Ok(stream) = Arc::try_clone(stream) else {
         return false;
     };
-    scope
-        .spawn(move || serve(rt, hub, seat, seen, &stream))
-        .is_ok()
+    scope.spawn(move || serve(rt, &desk, seen, &stream)).is_ok()
 }
 
 /// The connection of a seat has ended.
@@ -136,15 +136,14 @@ fn give_up<R: Wait + Clock>(rt: &R, hub: &Hub, seat: usize) {
 /// Serves a connection until it ends.
 fn serve<R: Threads + Wait + Clock + Sync>(
     rt: &R,
-    hub: &Hub,
-    seat: usize,
+    desk: &Desk<'_>,
     seen: Seen,
     stream: &UnixStream,
 ) {
-    if !is_answered(rt, &Desk::new(hub, seat), seen, stream) {
+    if !is_answered(rt, desk, seen, stream) {
         refuse_here(rt, stream);
     }
-    give_up(rt, hub, seat);
+    give_up(rt, desk.hub, desk.seat);
 }
 
 /// Answers the lines of a connection and tells its news, if there is memory and a thread for both.

@@ -1,6 +1,8 @@
 //! The place of the control socket: a path that one program at a time serves.
-use anyhow::{Result, anyhow, bail};
+use anyhow::{Error, Result, anyhow, bail};
+use pg_session::Rights;
 use std::alloc::Global;
+use std::fmt::Display;
 use std::fs::{self, File, Files, Metadata, OpenFile, Permissions, TryLockError};
 use std::net::{Net, Shutdown};
 use std::os::fd::OwnedFd;
@@ -9,7 +11,7 @@ use std::os::unix::net::{UnixListener, UnixStream};
 use std::time::{Clock, Duration};
 use std::{io, thread};
 
-/// The mode of the socket, and of the file that is locked: they are the owner's alone.
+/// The mode of the file that is locked, which is the owner's alone.
 const OWNERS: u32 = 0o600;
 
 /// How often the lock of a path is tried, and the milliseconds of rest behind each time.
@@ -17,7 +19,33 @@ const TRIES: u32 = 100;
 
 const REST: u64 = 20;
 
-/// The control socket at its path.
+/// The most bytes of a path: those of a socket, less `.new`, which stands behind it at first.
+const LONGEST: usize = 103;
+
+/// Where a control socket is to be, with which mode, and what may be asked there.
+#[derive(Clone, Copy, Drop)]
+pub struct DoorPlace<'a> {
+    pub path: &'a str,
+    pub mode: u32,
+    pub rights: Rights,
+}
+
+impl DoorPlace<'_> {
+    /// The option that says it.
+    fn option(&self) -> &'static str {
+        match self.rights {
+            Rights::All => "--control",
+            Rights::Reads => "--control-read",
+        }
+    }
+
+    fn fault(&self, reason: impl Display + Drop) -> Error {
+        let (option, path) = (self.option(), self.path);
+        anyhow!("{option}: {path:.60}: {reason}")
+    }
+}
+
+/// A control socket at its path.
 #[derive(Drop)]
 pub struct Door<'a> {
     pub listener: UnixListener,
@@ -25,6 +53,8 @@ pub struct Door<'a> {
     handle: UnixStream,
     path: &'a str,
     file: FileNumber,
+    /// What may be asked here.
+    pub rights: Rights,
 }
 
 /// Which file it is, whatever it is called.
@@ -49,10 +79,13 @@ impl<'a> Door<'a> {
     pub fn open<R: Files<File = File> + Net + Clock>(
         rt: &R,
         alloc: Global,
-        path: &'a str,
+        place: DoorPlace<'a>,
     ) -> Result<Door<'a>> {
-        let turn = take_turn(rt, alloc, path)?;
-        let opened = open_in_turn(rt, alloc, path);
+        if place.path.len() > LONGEST {
+            return Err(place.fault("a path of more than 103 bytes"));
+        }
+        let turn = take_turn(rt, alloc, place.path).map_err(|reason| place.fault(reason))?;
+        let opened = open_in_turn(rt, alloc, place);
         turn.end(rt);
         opened
     }
@@ -76,42 +109,48 @@ impl<'a> Door<'a> {
 }
 
 /// Makes the socket of this path while no other program does.
-fn open_in_turn<'a, R: Files + Net>(rt: &R, alloc: Global, path: &'a str) -> Result<Door<'a>> {
+fn open_in_turn<'a, R: Files + Net>(
+    rt: &R,
+    alloc: Global,
+    place: DoorPlace<'a>,
+) -> Result<Door<'a>> {
+    let path = place.path;
     if let Ok(found) = fs::symlink_metadata(rt, path) {
         if !found.file_type().is_socket() {
-            bail!("--control: {path:.80}: there is a file that is no socket");
+            return Err(place.fault("there is a file that is no socket"));
         }
         if UnixStream::connect(rt, path).is_ok() {
-            bail!("--control: {path:.80}: another program answers there");
+            return Err(place.fault("another program answers there"));
         }
     }
     let first = format!(in alloc; "{path}.new")?;
-    let opened = bind(rt, first.as_str(), path);
-    opened.map_err(|error| anyhow!("--control: {path:.60}: {error}"))
+    let opened = bind(rt, first.as_str(), place);
+    opened.map_err(|error| place.fault(error))
 }
 
-/// Makes the socket under a first name. It gets its path once nobody but the owner can connect.
-fn bind<'a, R: Files + Net>(rt: &R, first: &str, path: &'a str) -> io::Result<Door<'a>> {
+/// Makes the socket under a first name. It gets its path once it has its mode.
+fn bind<'a, R: Files + Net>(rt: &R, first: &str, place: DoorPlace<'a>) -> io::Result<Door<'a>> {
     // One of a program that ended in here.
     remove_socket(rt, first);
-    let bound = bind_as(rt, first, path);
+    let bound = bind_as(rt, first, place);
     if bound.is_err() {
         remove_socket(rt, first);
     }
     bound
 }
 
-fn bind_as<'a, R: Files + Net>(rt: &R, first: &str, path: &'a str) -> io::Result<Door<'a>> {
+fn bind_as<'a, R: Files + Net>(rt: &R, first: &str, place: DoorPlace<'a>) -> io::Result<Door<'a>> {
     let listener = UnixListener::bind(rt, first)?;
-    fs::set_permissions(rt, first, Permissions::from_mode(OWNERS))?;
+    fs::set_permissions(rt, first, Permissions::from_mode(place.mode))?;
     let handle = UnixStream::from(OwnedFd::from(listener.try_clone()?));
     let file = FileNumber::of(&fs::symlink_metadata(rt, first)?);
-    fs::rename(rt, first, path)?;
+    fs::rename(rt, first, place.path)?;
     Ok(Door {
         listener,
         handle,
-        path,
+        path: place.path,
         file,
+        rights: place.rights,
     })
 }
 
@@ -151,10 +190,10 @@ fn take_turn<R: Files<File = File> + Clock>(rt: &R, alloc: Global, path: &str) -
         match try_lock(rt, name.as_str()) {
             Ok(Some(file)) => return Ok(Turn { name, file }),
             Ok(None) => thread::sleep(rt, Duration::from_millis(REST)),
-            Err(error) => bail!("--control: {path:.60}.lock: {error}"),
+            Err(error) => bail!("its lock: {error}"),
         }
     }
-    bail!("--control: {path:.80}: another program begins there")
+    bail!("another program begins there")
 }
 
 /// The file of this name, if it could be locked, and still stands there: whoever had it takes it away.

@@ -8,5 +8,5 @@ mod operator;
 mod refusing;
 
 pub use control::start_control;
-pub use door::Door;
+pub use door::{Door, DoorPlace};
 pub use operator::{Operator, start_operator};

@@ -1,7 +1,7 @@
 //! Standard input and output, as a connection that lasts as long as the program.
 use crate::connection::Desk;
 use pg_hub::Hub;
-use pg_session::Seen;
+use pg_session::{Rights, Seen};
 use pg_streams::{QueuedLines, QueuedOutput, Streams};
 use std::sync::Wait;
 use std::thread::{Scope, Threads};
@@ -19,7 +19,7 @@ pub struct Operator<'a> {
 impl<'a> Operator<'a> {
     pub fn new(hub: &'a Hub, seat: usize, streams: Streams<'a>, is_alone: bool) -> Operator<'a> {
         Operator {
-            desk: Desk::new(hub, seat),
+            desk: Desk::new(hub, seat, Rights::All),
             streams,
             is_alone,
         }

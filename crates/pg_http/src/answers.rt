@@ -1,0 +1,106 @@
+//! What is answered, whatever is asked.
+use bytes::Bytes;
+use http::{HeaderName, HeaderValue, StatusCode, header};
+use http_server::Response;
+use std::alloc::AllocError;
+
+/// What may be asked for, each at its path.
+#[derive(Clone, Copy, Debug, PartialEq, Eq)]
+pub enum Wanted {
+    Page,
+    Metrics,
+    Status,
+    Health,
+}
+
+impl Wanted {
+    pub fn at(path: &str) -> Option<Wanted> {
+        match path {
+            "/" => Some(Wanted::Page),
+            "/metrics" => Some(Wanted::Metrics),
+            "/status.json" => Some(Wanted::Status),
+            "/healthz" => Some(Wanted::Health),
+            _ => None,
+        }
+    }
+}
+
+/// What kind of text an answer is.
+#[derive(Clone, Copy, Debug, PartialEq, Eq)]
+pub enum Kind {
+    Html,
+    Metrics,
+    Json,
+    Plain,
+}
+
+impl Kind {
+    fn value(self) -> HeaderValue {
+        match self {
+            Kind::Html => HeaderValue::from_static("text/html; charset=utf-8"),
+            Kind::Metrics => HeaderValue::from_static("text/plain; version=0.0.4; charset=utf-8"),
+            Kind::Json => HeaderValue::from_static("application/json"),
+            Kind::Plain => HeaderValue::from_static("text/plain; charset=utf-8"),
+        }
+    }
+}
+
+/// Fills in an answer: its status, its kind and its text. No browser keeps it, takes it for another
+/// kind, or runs or loads anything for it, and its connection ends behind it.
+pub fn say(
+    status: StatusCode,
+    kind: Kind,
+    text: Vec<u8>,
+    response: &mut Response,
+) -> Result<(), AllocError> {
+    let text = Bytes::from_vec(text)?;
+    response.status = status;
+    response.body.push(text)?;
+    add(header::CONTENT_TYPE, kind.value(), response)?;
+    add(
+        header::CONNECTION,
+        HeaderValue::from_static("close"),
+        response,
+    )?;
+    add(
+        header::CACHE_CONTROL,
+        HeaderValue::from_static("no-store"),
+        response,
+    )?;
+    let sniffing = HeaderValue::from_static("nosniff");
+    add(header::X_CONTENT_TYPE_OPTIONS, sniffing, response)?;
+    let policy = HeaderValue::from_static("default-src 'none'; style-src 'unsafe-inline'");
+    add(header::CONTENT_SECURITY_POLICY, policy, response)
+}
+
+/// Fills in an answer of one line.
+pub fn say_line(
+    status: StatusCode,
+    line: &'static str,
+    response: &mut Response,
+) -> Result<(), AllocError> {
+    let text = Bytes::from_static(line.as_bytes());
+    response.status = status;
+    response.body.push(text)?;
+    add(header::CONTENT_TYPE, Kind::Plain.value(), response)?;
+    add(
+        header::CONNECTION,
+        HeaderValue::from_static("close"),
+        response,
+    )
+}
+
+/// Says that only GET and HEAD are taken.
+pub fn refuse_method(response: &mut Response) -> Result<(), AllocError> {
+    add(
+        header::ALLOW,
+        HeaderValue::from_static("GET, HEAD"),
+        response,
+    )?;
+    let status = StatusCode::METHOD_NOT_ALLOWED;
+    say_line(status, "only GET and HEAD\n", response)
+}
+
+fn add(name: HeaderName, value: HeaderValue, response: &mut Response) -> Result<(), AllocError> {
+    response.add_header(name, value)
+}
