@@ -10,13 +10,14 @@
 //! - crowd: those that wait for an answer. Roster: who is up, for connections to come. Reserve: memory that is kept for a turn.
 #![tactic(auto)]
 
+mod otp_place;
 mod places;
 mod run;
 mod threads;
 
 use clap::ArgMatches;
 use command_line::{failed, matched, told, words};
-use pg_options::{Fault, Options, command, read_options};
+use pg_options::{Fault, Options, command, read_options, with_config};
 use pg_streams::{read_input, write_output, write_warnings};
 use rand_chacha::ChaCha20Rng;
 use run::run;
@@ -54,6 +55,10 @@ struct Ready<'a> {
 fn main(rt: HostRuntime) -> ExitCode {
     let alloc = rt.alloc();
     let words = match words(&rt) {
+        Ok(words) => words,
+        Err(status) => return status,
+    };
+    let words = match all_words(&rt, alloc, words.as_slice()) {
         Ok(words) => words,
         Err(status) => return status,
     };
@@ -118,6 +123,17 @@ where
     queues.finish(&rt, alloc, ended)
 }
 
+/// The words of the command line, and those of the file of settings that it names.
+fn all_words<R: AllocGlobal + Print + Eprint + Files>(
+    rt: &R,
+    alloc: Global,
+    words: &[String],
+) -> Result<Vec<String>, ExitCode> {
+    let matches = matches(rt, alloc, words)?;
+    let all = with_config(rt, alloc, &matches, words);
+    all.map_err(|fault| told(rt, fault.status, &fault.reason))
+}
+
 /// What the words of the command line say, or the status of a program that they don't start.
 fn matches<'a, R: AllocGlobal + Print + Eprint>(
     rt: &R,
@@ -138,7 +154,7 @@ fn prepare<'a, R: RandomSource + Files>(
         Err(error) => return Err(Fault::of_system(error)),
     };
     let options = read_options(rt, alloc, &mut source, matches)?;
-    match Queues::two(alloc, options.control.is_none()) {
+    match Queues::two(alloc, options.faces.control.is_none()) {
         Ok((queues, theirs)) => Ok(Start {
             options,
             source,

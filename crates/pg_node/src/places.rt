@@ -2,13 +2,17 @@
 use crate::threads::Queues;
 use anyhow::{Error, Result, anyhow};
 use node_net::Arrivals;
-use pg_control::Door;
+use pg_control::{Door, DoorPlace};
+use pg_http::PageEntrance;
 use pg_hub::Host;
 use pg_log::Log;
+use pg_options::{Faces, SocketFile};
+use pg_session::Rights;
 use std::alloc::Global;
 use std::fs::{File, Files};
 use std::io;
 use std::net::{Net, TcpListener, TcpStream};
+use std::rt::HostRuntime;
 use std::sync::Wait;
 use std::time::Clock;
 
@@ -17,6 +21,9 @@ use std::time::Clock;
 pub struct Places<'a> {
     pub arrivals: Option<Arrivals>,
     pub door: Option<Door<'a>>,
+    /// Where all may be read, and nothing changed.
+    pub read_door: Option<Door<'a>>,
+    pub pages: Option<PageEntrance>,
 }
 
 impl Places<'_> {
@@ -25,25 +32,34 @@ impl Places<'_> {
         if let Some(arrivals) = &self.arrivals {
             arrivals.shut(rt);
         }
-        if let Some(door) = &self.door {
-            door.shut();
+        for door in [&self.door, &self.read_door] {
+            if let Some(door) = door {
+                door.shut();
+            }
+        }
+        if let Some(pages) = &self.pages {
+            pages.shut(rt);
         }
     }
 
-    /// Takes the file of the control socket away.
+    /// Takes the files of the control sockets away.
     pub fn remove<R: Files<File = File> + Clock>(&self, rt: &R, alloc: Global) {
-        if let Some(door) = &self.door {
-            door.remove(rt, alloc);
+        for door in [&self.door, &self.read_door] {
+            if let Some(door) = door {
+                door.remove(rt, alloc);
+            }
         }
     }
 }
 
-/// Opens the address HOST:PORT where peers connect and the control socket of this path, if there are any, and prints each.
+/// Opens the address HOST:PORT where peers connect, the control sockets and the address of the
+/// page, as far as there are any, and prints each.
 pub fn open_places<'a, R: Host + Files<File = File>>(
     rt: &R,
+    files: &HostRuntime,
     alloc: Global,
     listen: Option<&str>,
-    control: Option<&'a str>,
+    faces: Faces<'a>,
     queues: &Queues,
     log: &Log,
 ) -> Result<Places<'a>> {
@@ -51,11 +67,12 @@ pub fn open_places<'a, R: Host + Files<File = File>>(
         Some(place) => Some(listen_at(rt, alloc, place, queues, log)?),
         None => None,
     };
-    let door = match control {
-        Some(path) => Some(open_door(rt, alloc, path, queues)?),
-        None => None,
-    };
-    Ok(Places { arrivals, door })
+    Ok(Places {
+        arrivals,
+        door: open_door(rt, alloc, faces.control, Rights::All, queues)?,
+        read_door: open_door(rt, alloc, faces.control_read, Rights::Reads, queues)?,
+        pages: open_pages(rt, files, alloc, faces.http, queues)?,
+    })
 }
 
 fn listen_at<R>(rt: &R, alloc: Global, place: &str, queues: &Queues, log: &Log) -> Result<Arrivals>
@@ -95,11 +112,39 @@ fn announce<R: Wait + Clock>(
 fn open_door<'a, R: Wait + Files<File = File> + Net + Clock>(
     rt: &R,
     alloc: Global,
-    path: &'a str,
+    file: Option<SocketFile<'a>>,
+    rights: Rights,
     queues: &Queues,
-) -> Result<Door<'a>> {
-    let door = Door::open(rt, alloc, path)?;
-    let line = format!(in alloc; "control {path}\n")?;
+) -> Result<Option<Door<'a>>> {
+    let Some(SocketFile { path, mode }) = file else {
+        return Ok(None);
+    };
+    let door = Door::open(rt, alloc, DoorPlace { path, mode, rights })?;
+    let name = match rights {
+        Rights::All => "control",
+        Rights::Reads => "control-read",
+    };
+    let line = format!(in alloc; "{name} {path}\n")?;
     queues.streams().output.put(rt, line.as_bytes())?;
-    Ok(door)
+    Ok(Some(door))
+}
+
+fn open_pages<R>(
+    rt: &R,
+    files: &HostRuntime,
+    alloc: Global,
+    place: Option<&str>,
+    queues: &Queues,
+) -> Result<Option<PageEntrance>>
+where
+    R: Net<Listener = TcpListener, Stream = TcpStream> + Wait + Clock,
+{
+    let Some(place) = place else {
+        return Ok(None);
+    };
+    let pages = PageEntrance::open(rt, alloc, place, files)?;
+    let address = pages.address()?;
+    let line = format!(in alloc; "http {address}\n")?;
+    queues.streams().output.put(rt, line.as_bytes())?;
+    Ok(Some(pages))
 }

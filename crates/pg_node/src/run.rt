@@ -1,11 +1,14 @@
 //! The whole run of the program.
+use crate::otp_place::{OtpPlace, open_otp, start_registering};
 use crate::places::{Places, open_places};
 use crate::threads::Queues;
 use anyhow::{Result, bail};
-use node_net::{Arrivals, Lane, start_taking};
+use dist_types::TryClone;
+use node_net::{Arrivals, Lane, Limits, Targets, start_taking};
 use pg_control::{Operator, start_control, start_operator};
-use pg_hub::{Host, Hub, HubSettings, UntakenPeers};
-use pg_lives::{Closer, LifeMaker, Site, finish, given, live_on};
+use pg_http::start_pages;
+use pg_hub::{Host, Hub, HubSettings, Keeping, Memory, Readers, UntakenPeers};
+use pg_lives::{ArchivePlace, Closer, LifeMaker, Recorder, Site, finish, given, keep_on, live_on};
 use pg_log::{Field, Level, Log, number, text};
 use pg_options::{LogOptions, Options, VERSION};
 use pg_session::Seen;
@@ -21,11 +24,37 @@ use std::time::Clock;
 
 /// What the program serves, and by what.
 #[derive(Clone, Copy, Drop)]
-struct Program<'a> {
-    site: Site<'a>,
+struct Program<'a, 'f> {
+    hub: &'a Hub,
+    limits: Limits,
     places: &'a Places<'a>,
-    closer: &'a Closer<'a>,
+    otp_place: Option<&'a OtpPlace>,
+    closer: &'a Closer<'f>,
     streams: Streams<'a>,
+}
+
+impl<'a> Program<'a, '_> {
+    /// Where its links are made.
+    fn site(&self) -> Site<'a> {
+        Site {
+            hub: self.hub,
+            limits: self.limits,
+            arrivals: self.places.arrivals.as_ref(),
+            otp_arrivals: self.otp_place.map(|place| &place.arrivals),
+        }
+    }
+
+    /// Ends all that was started, behind the last life.
+    fn end<R: Host>(&self, rt: &R) {
+        self.hub.quit(rt);
+        self.hub.log.tell(rt, Level::Info, "ending", &[]);
+        self.streams.end(rt);
+        self.closer.end(rt);
+        self.places.shut(rt);
+        if let Some(place) = self.otp_place {
+            place.shut(rt);
+        }
+    }
 }
 
 /// Runs a node until the end of standard input, or until `quit`.
@@ -40,45 +69,101 @@ pub fn run<R: Host + Files<File = File>>(
     let Options {
         opening,
         listen,
+        otp,
         targets,
         limits,
         allowed,
         cookies,
-        control,
+        faces,
         clients,
+        entries,
         audit,
+        audit_size,
         log,
     } = options;
-    let LogOptions { format, level } = log;
-    let log = Log::new(alloc, format, level, Arc::try_clone(&queues.warnings)?)?;
-    let log = Arc::new(alloc, log)?;
-    let closer = Closer::new(rt, files, alloc, audit)?;
-    let settings = given(alloc, allowed, cookies)?;
-    let hub_settings = HubSettings {
-        seats: clients.saturating_add(1),
-        entries: opening.entries,
-        version: VERSION,
-        log: Arc::try_clone(&log)?,
-        targets,
-    };
+    let log = open_log(alloc, log, queues)?;
+    let name = opening.name.try_clone(alloc)?;
+    let (last_entry, in_parts) = (opening.entries, opening.links > 1);
     let mut maker = LifeMaker::new(opening, words);
+    let place = archive_place(audit, audit_size);
+    let closer = open_closer(rt, files, alloc, place, entries, &maker, &log)?;
+    let keeping = Keeping::new(entries, audit.is_some());
+    let hub_settings = hub_settings(files, alloc, clients, keeping, last_entry, targets, &log)?;
+    let settings = given(alloc, allowed, cookies)?;
     let (hub, lanes) = maker.begin(rt, alloc, hub_settings, settings)?;
-    let places = open_places(rt, alloc, listen, control, queues, &log)?;
+    hub.notes.edges.set_parts(in_parts);
+    let otp_place = open_otp(rt, alloc, otp, &name, queues)?;
+    let places = open_places(rt, files, alloc, listen, faces, queues, &log)?;
     log_begin(rt, &hub);
-    let site = Site {
+    let program = Program {
         hub: &hub,
         limits,
-        arrivals: places.arrivals.as_ref(),
-    };
-    let program = Program {
-        site,
         places: &places,
+        otp_place: otp_place.as_ref(),
         closer: &closer,
         streams: queues.streams(),
     };
     let ended = serve(rt, program, &mut maker, lanes);
     places.remove(rt, alloc);
     finish(rt, hub, &closer, ended?)
+}
+
+/// What the hub is made of, with a seat for each client and one for standard input.
+fn hub_settings(
+    files: &HostRuntime,
+    alloc: Global,
+    clients: u32,
+    keeping: Keeping,
+    last_entry: u32,
+    targets: Arc<Targets>,
+    log: &Arc<Log>,
+) -> Result<HubSettings> {
+    let seats = clients.saturating_add(1);
+    Ok(HubSettings {
+        seats,
+        last_entry,
+        keeping,
+        readers: Readers::new(alloc, seats)?,
+        version: VERSION,
+        log: Arc::try_clone(log)?,
+        targets,
+        memory: Memory::open(files),
+    })
+}
+
+fn open_log(alloc: Global, options: LogOptions, queues: &Queues) -> Result<Arc<Log>> {
+    let LogOptions { format, level } = options;
+    let log = Log::new(alloc, format, level, Arc::try_clone(&queues.warnings)?)?;
+    Ok(Arc::new(alloc, log)?)
+}
+
+fn archive_place(path: Option<&str>, size: Option<u64>) -> Option<ArchivePlace<'_>> {
+    match path {
+        Some(path) => Some(ArchivePlace { path, size }),
+        None => None,
+    }
+}
+
+/// What closes lives and writes the archive at this place, which has the line of the first life.
+fn open_closer<'a, R: Wait + Clock>(
+    rt: &R,
+    files: &'a HostRuntime,
+    alloc: Global,
+    place: Option<ArchivePlace<'a>>,
+    entries: u32,
+    maker: &LifeMaker,
+    log: &Log,
+) -> Result<Closer<'a>> {
+    let life = maker.life(alloc)?;
+    let archive = match place {
+        Some(place) => {
+            let mut recorder = Recorder::open(rt, files, alloc, place, log)?;
+            recorder.begin(&life)?;
+            Some(recorder)
+        }
+        None => None,
+    };
+    Ok(Closer::new(rt, alloc, archive, life.creation, entries))
 }
 
 /// Logs which node has begun.
@@ -101,30 +186,29 @@ fn begun_fields<'a>(name: &'a str, creation: u32) -> [Field<'a>; 3] {
 /// Serves all connections and links until the end. The lanes come back.
 fn serve<R: Host>(
     rt: &R,
-    program: Program<'_>,
+    program: Program<'_, '_>,
     maker: &mut LifeMaker,
     lanes: Vec<Lane>,
 ) -> Result<Vec<Lane>> {
     let Program {
-        site,
+        hub,
         places,
         closer,
         streams,
+        ..
     } = program;
-    let Some((seat, seen)) = site.hub.enter(rt) else {
+    let site = program.site();
+    let Some((seat, seen)) = hub.enter(rt) else {
         bail!("out of memory");
     };
-    let operator = Operator::new(site.hub, seat, streams, places.door.is_none());
-    let untaken = UntakenPeers { rt, hub: site.hub };
+    let operator = Operator::new(hub, seat, streams, places.door.is_none());
+    let untaken = UntakenPeers { rt, hub };
     thread::scope(thread::scope_env(), rt, |scope| {
         let are_made = start_all(scope, rt, program, &operator, seen)
-            && start_arrivals(scope, rt, site.arrivals, &untaken);
+            && start_arrivals(scope, rt, site.arrivals, &untaken)
+            && start_arrivals(scope, rt, site.otp_arrivals, &untaken);
         let ended = live_on(rt, site, maker, closer, lanes, are_made);
-        site.hub.quit(rt);
-        site.hub.log.tell(rt, Level::Info, "ending", &[]);
-        streams.end(rt);
-        closer.end(rt);
-        places.shut(rt);
+        program.end(rt);
         ended
     })
 }
@@ -133,30 +217,36 @@ fn serve<R: Host>(
 fn start_all<'s, E: 's, R: Host + 's>(
     scope: &'s Scope<'s, E>,
     rt: &'s R,
-    program: Program<'s>,
+    program: Program<'s, '_>,
     operator: &'s Operator<'_>,
     seen: Seen,
 ) -> bool {
     let Program {
-        site,
+        hub,
         places,
+        otp_place,
         closer,
         ..
     } = program;
-    let are_logged = scope.spawn(move || site.hub.log_all(rt)).is_ok();
+    let are_logged = scope.spawn(move || hub.log_all(rt)).is_ok();
     let are_served = start_operator(scope, rt, operator, seen);
-    let are_let_in = start_control(scope, rt, site.hub, places.door.as_ref());
-    let are_closed = start_closing(scope, rt, site.hub, closer);
-    are_logged && are_served && are_let_in && are_closed
+    let are_let_in = start_control(scope, rt, hub, places.door.as_ref())
+        && start_control(scope, rt, hub, places.read_door.as_ref())
+        && start_pages(scope, rt, hub, places.pages.as_ref());
+    let are_kept = start_keeping(scope, rt, hub, closer);
+    let is_found = start_registering(scope, rt, otp_place, hub);
+    are_logged && are_served && are_let_in && are_kept && is_found
 }
 
-fn start_closing<'s, E: 's, R: Threads + Wait + Clock + Sync + 's>(
+/// Starts the threads that take out of the node what it keeps no more, and that write it and close lives: whether both could be made.
+fn start_keeping<'s, E: 's, R: Threads + Wait + Clock + Sync + 's>(
     scope: &'s Scope<'s, E>,
     rt: &'s R,
     hub: &'s Hub,
     closer: &'s Closer<'_>,
 ) -> bool {
-    scope.spawn(move || closer.close_all(rt, hub)).is_ok()
+    let is_taken = scope.spawn(move || keep_on(rt, hub, closer)).is_ok();
+    scope.spawn(move || closer.work(rt, hub)).is_ok() && is_taken
 }
 
 /// Starts the thread that takes connections of peers, where there is an address for them: whether it could be made.
