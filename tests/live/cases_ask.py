@@ -152,7 +152,7 @@ def held_from_a_shell(field):
 def held_through_turns_and_stops(field):
     """`pg_ask hold` joins again as a new process where the node begins anew, and where the scope was stopped; it ends with status 3
     where the node is gone, and with 1 where a rule refuses it."""
-    a = field.node("a@h", "--entries", "100", "--creation", "41")
+    a = field.node("a@h", "--last-entry", "100", "--creation", "41")
     holding = Asking(field, a.control_path, "hold", "jobs", "printers", stdin=subprocess.PIPE)
     expect("its process", "pid a@h/41/1", holding.line())
     while not a.untold("! restarted .*"):

@@ -1,9 +1,9 @@
 """What an operator changes while a node runs: whom it dials, and its end without a loss."""
 
 import os
-import re
 import time
 
+from cases_long import lives_of
 from field import case
 from node import asked, await_members, await_nodes, member, new_pid, nodes, size, start
 from waiting import expect, expect_that, until
@@ -13,7 +13,7 @@ from waiting import expect, expect_that, until
 def dialled_while_it_runs(field):
     """A peer is dialled from `dial` on, at its new place where it is said again, also behind a turn, and no more behind `undial`; a
     link that is up stays. None of that is an entry."""
-    a, b = field.node("a@h"), field.node("b@h", "--entries", "150")
+    a, b = field.node("a@h"), field.node("b@h", "--last-entry", "150")
     before = size(b)
     asked(b, "dial a@h=127.0.0.1:1")
     until("a dial that fails", lambda: b.ask("dials"), lambda came: came.endswith(" refused"))
@@ -106,8 +106,8 @@ def drained(field):
         client.await_end()
     b.told_all(*(rf"! leave \d+ g 1 {pid}" for pid in pids))
     b.told("! down a@h 7 closed")
-    with open(audit, encoding="ascii") as file:
-        exits = [line for line in file if re.search(" Exit accepted$", line)]
+    (life,) = lives_of(audit)
+    exits = [entry for entry in life if (entry["event"], entry["verdict"]) == ("Exit", "accepted")]
     expect("exits in the audit", 2_004, len(exits))
     expect_that(not os.path.exists(a.control_path), "no control socket", a.control_path)
 

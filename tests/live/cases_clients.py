@@ -83,7 +83,7 @@ def ask_twice(router):
 @case
 def work_goes_on(field):
     """Workers and routers go on when the node began anew."""
-    a = field.node("a@h", "--entries", "300")
+    a = field.node("a@h", "--last-entry", "300")
     address = f"127.0.0.1:{field.free_port()}"
     Client(field, "worker.py", a.control_path, address)
     router = Client(field, "router.py", a.control_path)

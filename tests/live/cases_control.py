@@ -189,7 +189,7 @@ def reads_without_entries(field):
 def reports_without_entries(field):
     """`self`, `status`, `links`, `dials`, `scopes`, `allowed`, `clients` and `refusals` tell what is so now, and make no entry; in a
     new life, too."""
-    a = field.node("a@h", "--creation", "41", "--entries", "200", "--allow", "c@h", "--allow", "b@h", "--clients", "7")
+    a = field.node("a@h", "--creation", "41", "--entries", "180", "--last-entry", "200", "--allow", "c@h", "--allow", "b@h", "--clients", "7")
     b = field.node("b@h", "--creation", "5", "--hidden", dial=[a])
     await_nodes(a, ["b@h"])
     for scope in ("pg", "jobs", "old"):
@@ -206,7 +206,7 @@ def reports_without_entries(field):
     expect_that(re.fullmatch(r"links \d+ b@h 5 hidden 127\.0\.0\.1:\d+ \d+ 0", links), "one link", links)
     asked(a, "dials", "dials")
     status = a.ask("status")
-    wanted = rf"status name=a@h creation=41 version=0.1.0 seconds=\d+ lives=1 links=1/64 clients=2/7 entries={before}/200 refused=0"
+    wanted = rf"status name=a@h creation=41 version=\S+ seconds=\d+ lives=1 links=1/64 otp_links=0 clients=2/7 entries={before} kept={before}/180 lost=0 archived=0 refused=0 told=\d+ bytes=\d+"
     expect_that(re.fullmatch(wanted, status), wanted, status)
     links = b.ask("links")
     expect_that(re.fullmatch(rf"links \d+ a@h 41 hidden 127\.0\.0\.1:{a.port} \d+ 0", links), "one link", links)
@@ -215,7 +215,7 @@ def reports_without_entries(field):
         expect_that(a.ask(line).startswith("fault "), f"a fault for {line!r}", "none")
     expect("the size of the audit", before, size(a))
     asked(a, "start pg", "refused 22 ScopeRunning")
-    expect_that(a.ask("status").endswith(f" entries={before + 1}/200 refused=1"), "a refusal that is counted", a.ask("status"))
+    expect_that(f" entries={before + 1} kept={before + 1}/180 lost=0 archived=0 refused=1 " in a.ask("status"), "a refusal that is counted", a.ask("status"))
     other.close()
     until("one client", lambda: a.ask("clients"), lambda came: came == "clients 2")
     while not a.untold("! restarted .*"):
@@ -402,6 +402,23 @@ def faults_of_the_command_line(field):
         expect_that(done.stderr != b"" and b"panicked" not in done.stderr and b"Err(" not in done.stderr,
                     f"plain words for {words}", done.stderr)
         expect(f"standard output for {words}", b"", done.stdout)
+
+
+@case
+def options_that_do_not_fit(field):
+    """A peer that is given twice, a mode without its socket, one path for both sockets, a path that is too long, a level that isn't one,
+    and a size without an archive: each is told by its option, and nothing is served."""
+    long = os.path.join(field.folder, "x" * 104)
+    for words, fault in ((("--dial", "b@h=127.0.0.1:1", "--dial", "b@h=127.0.0.1:2"), "--dial: this peer is given twice: b@h=127.0.0.1:2"),
+                         (("--control-mode", "0660"), "--control-mode: there is no --control"),
+                         (("--control-read-mode", "0660"), "--control-read-mode: there is no --control-read"),
+                         (("--control", long + ".s", "--control-read", long + ".s"), "--control-read: the path of --control"),
+                         (("--control", long), f"--control: {long[:60]}: a path of more than 103 bytes"),
+                         (("--log-level", "debug"), "--log-level: not error, warn or info: debug"),
+                         (("--audit-size", "5000"), "--audit-size: there is no --audit")):
+        node = field.start("a@h", *words, control=False, port=None)
+        expect_that(node.status() in (1, 2), f"status 1 or 2 for {words}", node.status())
+        expect(f"what is said of {words}", [f"error: {fault}"], [line for line in node.errors() if line.startswith("error")][-1:])
 
 
 @case

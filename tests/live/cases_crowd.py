@@ -266,19 +266,22 @@ class Flood:
 
 
 FLOOD = """
-import socket, sys, threading
+import contextlib, socket, sys, threading
 control = socket.socket(socket.AF_UNIX)
 control.connect(sys.argv[1])
 control.sendall(b"spawn\\n")
 pid = control.makefile("r").readline().split()[1]
 lines = sys.argv[2].replace("PID", pid).encode() * 100
 def read():
-    while control.recv(65536):
-        pass
+    with contextlib.suppress(OSError):
+        while control.recv(65536):
+            pass
 threading.Thread(target=read, daemon=True).start()
 print("on", flush=True)
-while True:
-    control.sendall(lines)
+# (until its node ends)
+with contextlib.suppress(OSError):
+    while True:
+        control.sendall(lines)
 """
 
 

@@ -8,7 +8,7 @@ import threading
 import time
 
 from field import case
-from node import asked, await_members, await_nodes, member, new_pid, plain_lines
+from node import asked, await_members, await_nodes, member, members, new_pid, plain_lines
 from talk import Control
 from waiting import LIMIT, expect, expect_that, seconds_since, until
 
@@ -78,42 +78,6 @@ def audit_file_at_the_start(field):
     expect("its standard output", b"", node.process.stdout.read())
     fault = "error: --audit: /nonexistent/audit: No such file or directory"
     expect_one("its standard error", node.errors(), fault)
-
-
-@case
-def audit_file_full(field):
-    """A full disk is no end of a node: each audit that isn't in the file is a warning, and the last
-    line counts them."""
-    a = field.node("a@h", "--entries", "64", "--audit", "/dev/full")
-    control = field.control(a)
-    for turn in (1, 2):
-        use_up(control)
-        until(f"warning {turn}", a.errors, lambda lines, turn=turn: len(lines) == turn)
-    fault = 'warn audit_lost reason="--audit: /dev/full: No space left on device'
-    expect_that(a.errors()[0].startswith(fault), "a warning with the path", a.errors())
-    asked(control, "start pg")
-    expect("the status after quit", 1, a.quit())
-    last = "error: --audit: /dev/full: 3 audits are not in the file"
-    expect("the last line on standard error", last, a.errors()[-1])
-
-
-@case
-def audit_file_is_whole(field):
-    """Where the disk is full in the midst of an audit, none of it is left in the file: no line of
-    it is cut."""
-    path = os.path.join(field.folder, "audit")
-    limited = ["prlimit", "--fsize=1000", field.program]
-    words = ["--cookie-file", field.cookie_file(), "--entries", "64", "--audit", path]
-    lines = "nodes\n" * 3 + "spawn\n" * 70
-    script = ["bash", "-c", 'trap "" XFSZ; exec "$@"', "-", *limited, "a@h", *words]
-    done = subprocess.run(script, input=lines.encode(), capture_output=True, timeout=LIMIT,
-                          check=False)
-    expect("the status", 1, done.returncode)
-    with open(path, encoding="ascii") as file:
-        kept = file.read().splitlines()
-    expect_that(all(len(line.split()) >= 4 for line in kept), "whole lines", kept[-2:])
-    errors = [line for line in done.stderr.decode().splitlines() if "--audit" in line]
-    expect_that("File too large" in errors[0], "a warning", errors)
 
 
 @case
@@ -211,9 +175,9 @@ def output_read_late(field):
 
 @case
 def no_refusal_at_a_turn(field):
-    """While many clients ask without end a node of few entries begins anew again and again: no call
-    is answered that the audit is full."""
-    a = field.node("a@h", "--entries", "80")
+    """While many clients ask without end a node whose entries have few numbers begins anew again and
+    again: no call is answered that the audit is full."""
+    a = field.node("a@h", "--last-entry", "80")
     b = field.node("b@h", dial=[a])
     asked(a, "start pg")
     asked(b, "start pg")
@@ -229,8 +193,20 @@ def no_refusal_at_a_turn(field):
     turns = len(controls[0].untold("! restarted [0-9]+"))
     expect_that(turns >= 3, "three turns at least", turns)
     expect("lines on standard error", [], a.errors())
-    pids = [member(control, "last") for control in controls]
-    await_members(b, pids, "last")
+    until("members of one life at b@h", lambda: are_listed(controls, b))
+
+
+def are_listed(controls, other):
+    """Whether processes of these connections that join now are listed at the other node: not where a
+    turn comes between."""
+    pids = [new_pid(control) for control in controls]
+    if any(control.ask(f"join pg last {pid}") != "ok" for control, pid in zip(controls, pids)):
+        return False
+    for _ in range(100):
+        if set(pids) <= set(members(other, "last")):
+            return True
+        time.sleep(0.02)
+    return False
 
 
 def ask_on(control, ends, strange):
@@ -249,7 +225,7 @@ def turn_leaves_the_links(field):
     soon, whatever its old audit has to be closed."""
     path = os.path.join(field.folder, "audit")
     c = field.node("c@h")
-    a = field.node("a@h", "--entries", "20000", "--audit", path, dial=[c])
+    a = field.node("a@h", "--last-entry", "20000", "--audit", path, dial=[c])
     b = field.node("b@h", dial=[a])
     await_nodes(a, ["b@h", "c@h"])
     for other in (b, c):

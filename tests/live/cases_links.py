@@ -77,6 +77,18 @@ def full_node(field):
     expect("the status of a peer that has waited", "ok", late.receive_status())
 
 
+@case
+def full_node_found(field):
+    """That a node is full is told by its `status`, and who dials it logs that no link came up."""
+    a = field.node("a@h")
+    kept = [good_peer(field, a, f"peer{number}@h") for number in range(64)]
+    until("a full node", lambda: a.ask("status"), lambda came: " links=64/64 " in came)
+    b = field.node("b@h", "--setuptime", "500", dial=[a])
+    until("why no link came up", lambda: b.log("warn dial_failed peer=a@h"), lambda came: any(" fault=handshake " in line for line in came))
+    kept[0].close()
+    await_nodes(b, ["a@h"])
+
+
 def is_silent(peer):
     """Whether nothing comes of it in time."""
     try:
@@ -123,7 +135,7 @@ def few_descriptors(field):
         script.write(f'#!/bin/sh\nulimit -n 64\nexec {field.program} "$@"\n')
     os.chmod(limited, 0o700)
     field.program = limited
-    a = field.node("a@h", "--entries", "400", "--dial", "b@h=127.0.0.1:1")
+    a = field.node("a@h", "--last-entry", "400", "--dial", "b@h=127.0.0.1:1")
     fill(a, member(a))
     asked(a, "start other")
     strangers = [field.keep(Peer(connect(a.port))) for _ in range(80)]
@@ -137,7 +149,7 @@ def few_descriptors(field):
 @case
 def kept_listener(field):
     """Nobody is refused who connects while a node begins anew, and who dials it is linked again."""
-    a = field.node("a@h", "--entries", "400", "--creation", "41")
+    a = field.node("a@h", "--last-entry", "400", "--creation", "41")
     b = field.node("b@h", dial=[a])
     b.told("! up a@h 41 visible")
     has_ended, refused = threading.Event(), []

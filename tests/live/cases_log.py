@@ -32,11 +32,11 @@ def logged(node, pattern):
 def log_of_a_node(field):
     """A node logs that it begins and ends, links that come up and go down, with names, addresses and reasons, what it refuses, and
     what an operator changes; each line has the form of the page."""
-    a = field.node("a@h", "--creation", "3", "--entries", "200")
+    a = field.node("a@h", "--creation", "3", "--last-entry", "200")
     b = field.node("b@h", "--creation", "5", dial=[a])
     c = field.node("c@h", dial=[a], cookie=WRONG)
     await_nodes(a, ["b@h"])
-    logged(a, r"info begun name=a@h creation=3 version=0\.1\.0")
+    logged(a, r"info begun name=a@h creation=3 version=\S+")
     logged(a, r"info up peer=b@h at=127\.0\.0\.1:\d+ creation=5 kind=visible")
     logged(b, rf"info up peer=a@h at=127\.0\.0\.1:{a.port} creation=3 kind=visible")
     logged(a, r'warn refused peer=c@h at=127\.0\.0\.1:\d+ rule="12 BadDigest" event=Frame entry=\d+')
@@ -167,6 +167,8 @@ def first_hour(field):
         node = field.node(name, "--dial", place, *options, cookie=cookie)
         logged(finder or node, line)
         until(f"{words} by {command}", lambda: (finder or node).ask(command), lambda came: words in came)
+        if name == "c@h":
+            logged(node, 'info refused peer=a@h .* rule="11 PeerSaid" .*')
         node.quit()
     b = field.node("b@h", dial=[a])
     await_nodes(b, ["a@h"])

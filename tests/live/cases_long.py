@@ -1,5 +1,6 @@
 """What only shows after a while: the turn of a full audit, a storm, and a long run."""
 
+import json
 import os
 import random
 import signal
@@ -17,9 +18,10 @@ JOINS_A_SECOND = 50
 
 @case
 def audit_turn(field):
-    """A node whose audit is nearly full begins anew with its links: its processes are gone, and all are told; it goes on serving."""
+    """A node whose entries have come to the last of their numbers begins anew with its links: its processes are gone, and all are told;
+    it goes on serving."""
     path = os.path.join(field.folder, "audit")
-    a = field.node("a@h", "--entries", "400", "--audit", path, "--creation", "41")
+    a = field.node("a@h", "--last-entry", "400", "--audit", path, "--creation", "41")
     b = field.node("b@h", dial=[a])
     start(b)
     control = field.control(a)
@@ -38,13 +40,13 @@ def audit_turn(field):
     await_members(b, [again])
     asked(control, f"join pg g {pid}", "fault not yours")
     expect_that(size(a) < 100, "an audit that began anew", size(a))
-    ended = until("the audit that ended", lambda: lines_of(path), lambda lines: len(lines) > 300)
-    expect_that(any(" Spawn accepted" in line for line in ended), "an accepted Spawn among its lines", ended[:3])
+    ended = until("the audit that ended", lambda: lives_of(path), lambda lives: lives and len(lives[0]) > 300)[0]
+    expect_that(any(entry["event"] == "Spawn" and entry["verdict"] == "accepted" for entry in ended), "an accepted Spawn among its lines", ended[:3])
     expect("the status after quit", 0, a.quit())
-    numbers = [int(line.split()[0]) for line in lines_of(path)]
-    last = len(numbers) - len(ended)
-    expect_that(last > 0, "the last audit behind it", last)
-    expect("the numbers of both audits", [*range(1, len(ended) + 1), *range(1, last + 1)], numbers)
+    lives = lives_of(path)
+    expect("the lives in the archive", 2, len(lives))
+    for life in lives:
+        expect("the numbers of a life", list(range(1, len(life) + 1)), [entry["entry"] for entry in life])
 
 
 def fill(control, pid):
@@ -58,17 +60,23 @@ def fill(control, pid):
     raise AssertionError("expected a turn of the audit within 1000 joins, came none")
 
 
-def lines_of(path):
-    if not os.path.exists(path):
-        return []
-    with open(path, encoding="ascii") as lines:
-        return lines.read().splitlines()
+def lives_of(path):
+    """The entries of each life in an archive."""
+    lives = []
+    if os.path.exists(path):
+        with open(path, encoding="ascii") as lines:
+            for line in map(json.loads, (line for line in lines if line.endswith("\n"))):
+                if "life" in line:
+                    lives.append([])
+                else:
+                    lives[-1].append(line)
+    return lives
 
 
 @case
 def turn_with_commands(field):
     """What was set by commands before the turn of an audit holds behind it: scopes, cookies, the allow list."""
-    a = field.node("a@h", "--entries", "300")
+    a = field.node("a@h", "--last-entry", "300")
     asked(a, "cookie another")
     asked(a, "allow b@h")
     start(a, "first")
@@ -88,7 +96,7 @@ def turn_with_commands(field):
 @case
 def busy_turns(field):
     """While eight clients ask all the time a node begins anew several times: each line has an answer, and who is listed in the end is right."""
-    a = field.node("a@h", "--entries", "3000", "--creation", "1")
+    a = field.node("a@h", "--last-entry", "3000", "--creation", "1")
     b = field.node("b@h", dial=[a])
     start(a)
     start(b)
@@ -151,7 +159,7 @@ class Site:
 
     def begin(self):
         dials = [word for other in self.others for word in ("--dial", other)]
-        self.node = self.field.node(self.name, "--entries", "700", *dials, port=self.port)
+        self.node = self.field.node(self.name, "--last-entry", "700", *dials, port=self.port)
         self.clients = []
         start(self.node)
 

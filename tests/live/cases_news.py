@@ -3,10 +3,11 @@
 import re
 import threading
 
+from cases_crowd import Flood
 from field import case
 from node import asked, await_members, await_nodes, member, new_pid, start
 from peer import good_peer
-from waiting import expect, expect_that, until
+from waiting import expect, until
 
 
 @case
@@ -64,9 +65,29 @@ def stopped_scope(field):
 
 
 @case
+def told_beside_a_flood(field):
+    """Beside changes without end a connection without monitors is told of a peer that comes and goes,
+    and of a scope that stops, and its first monitor tells the next change."""
+    a = field.node("a@h")
+    start(a)
+    quiet = field.control(a)
+    member(quiet, "g", "other")
+    Flood(field, a)
+    peer = good_peer(field, a, "p@h")
+    quiet.told("! up p@h 7 visible")
+    peer.close()
+    quiet.told("! down p@h 7 closed")
+    asked(a, "stop other")
+    quiet.told("! stopped other")
+    number = quiet.ask("monitor pg flood").split()[1]
+    quiet.told(f"! join {number} flood 1 .*")
+    quiet.told(f"! leave {number} flood 1 .*")
+
+
+@case
 def downs_at_a_turn(field):
     """Under load, each peer that a connection was told up is told down before the new life, and before it is up again."""
-    a = field.node("a@h", "--entries", "400")
+    a = field.node("a@h", "--last-entry", "4000")
     peers = [field.node(f"p{number}@h", dial=[a]) for number in range(3)]
     await_nodes(a, [peer.name for peer in peers])
     watching = [a, *(field.control(a) for _ in range(3))]
@@ -77,12 +98,13 @@ def downs_at_a_turn(field):
         thread.start()
     for talk in watching:
         until("three turns", lambda talk=talk: talk.untold("! restarted .*"), lambda came: len(came) >= 3, limit=120)
+        until("a peer that came up", lambda talk=talk: talk.untold("! up .*"), limit=120)
     turns.set()
     for thread in threads:
         thread.join()
     for talk in watching + loading:
-        ups = check_peers(talk)
-        expect_that(ups, "a peer that came up", talk.untold("! .*")[:5])
+        until("a peer that came up", lambda talk=talk: talk.untold("! up .*"))
+        check_peers(talk)
 
 
 def load(control, turns):
@@ -96,15 +118,14 @@ def load(control, turns):
 
 
 def check_peers(talk):
-    """That no peer is told up twice with no down between, and none is up where a new life is told; gives how often one came up."""
-    up, ups = {}, 0
+    """That no peer is told up twice with no down between, and none is up where a new life is told."""
+    up = {}
     for line in talk.untold("! (up|down|restarted) .*"):
         if found := re.fullmatch("! up (.*) ([0-9]+) visible", line):
             expect(f"the creation with which {found[1]} is up before {line!r} at {talk.who}", None, up.get(found[1]))
-            up[found[1]], ups = found[2], ups + 1
+            up[found[1]] = found[2]
         elif found := re.fullmatch("! down (.*) ([0-9]+) [a-z]+", line):
             # (who was up before the connection was made isn't told up)
             expect(f"the creation of {line!r} at {talk.who}", up.pop(found[1], found[2]), found[2])
         else:
             expect(f"who is up before {line!r} at {talk.who}", {}, up)
-    return ups

@@ -1,7 +1,11 @@
 """Nodes that know version 2 of link messages: rows in parts, which count once the last has come."""
 
 import signal
+import struct
+import threading
+from concurrent.futures import ThreadPoolExecutor
 
+from cases_slow import TICK_TIME, Swift
 from field import case
 from node import asked, audit, await_members, await_nodes, member, members, new_pid, size, start
 from peer import MOST_ROWS, Peer, connect, good_peer
@@ -20,6 +24,13 @@ ROW_SIZE = 0.4
 REST = 20_000
 # The fewest entries of an audit, behind which a node begins anew.
 FEWEST = 64
+# A process with so many rows in each of so many scopes leaves in the most parts that may wait for a
+# link. Beside it another one joins and leaves so often.
+SCOPES, PARTS = ["pg", *[f"s{number}" for number in range(1, 64)]], 16
+FEW_PARTS = (PARTS - 1) * MOST_ROWS + 1
+CHANGES = 20_000
+# Seconds for calls on all these rows.
+LONG = 150
 
 
 def many_rows(node, count, group="g"):
@@ -162,7 +173,7 @@ def old_and_new_nodes(field):
 @case
 def next_life_knows_version_2(field):
     """A node that begins anew knows the version that it was started with."""
-    a = field.node("a@h", *LINKS_2, "--entries", FEWEST)
+    a = field.node("a@h", *LINKS_2, "--last-entry", FEWEST)
     control = field.control(a)
     for _ in range(FEWEST):
         new_pid(control)
@@ -171,3 +182,70 @@ def next_life_knows_version_2(field):
     peer = good_peer(field, a, version=2)
     peer.part(b"S", 1, True, [("g", 1)])
     await_members(a, [peer.pid(1)])
+
+
+class Reading:
+    """Reads what a peer is told of rows: parts, and messages of one part, which are counted alone."""
+
+    def __init__(self, peer):
+        """Begins."""
+        self.parts, self.changes, self.peer = [], 0, peer
+        threading.Thread(target=self.read, daemon=True).start()
+
+    def read(self):
+        """Reads until the end."""
+        try:
+            while (body := self.peer.receive()) is not None:
+                self.take(body)
+        except (OSError, AssertionError):
+            pass  # (the case is over)
+
+    def take(self, body):
+        """Notes a part by its kind, its scope, its number, whether it is the last one, and how many
+        rows it has."""
+        place = 2 + body[1]
+        if body[:1] in (b"S", b"J", b"L"):
+            number, is_last, rows = struct.unpack(">IBI", body[place:place + 9])
+            if (number, is_last) == (1, 1):
+                self.changes += 1
+            else:
+                self.parts.append((body[:1], body[2:place].decode(), number, is_last, rows))
+
+    def await_all_parts(self, kind):
+        """Until all rows of a process in each scope were told."""
+        sizes = [*[MOST_ROWS] * (PARTS - 1), 1]
+        wanted = [(kind, scope, number, number == PARTS, rows)
+                  for scope in SCOPES for number, rows in enumerate(sizes, 1)]
+        until(f"{len(wanted)} parts", lambda: len(self.parts), lambda count: count >= len(wanted), LONG)
+        expect("the parts", sorted(wanted), sorted(self.parts))
+        self.parts = []
+
+
+@case
+def exit_of_the_most_parts(field):
+    """An exit that owes a link 1,024 parts, as many as may wait, isn't made while another frame waits
+    for a peer that reads: beside a client that changes a row as fast as it can it ends no link, and
+    the peer is told all."""
+    a = field.node("a@h", *LINKS_2, "--ticktime", TICK_TIME)
+    leaver = field.control(a)
+    pid = new_pid(leaver)
+    for scope in SCOPES:
+        start(a, scope)
+        asked(leaver, f"join {scope} g {' '.join([pid] * FEW_PARTS)}")
+    peer = good_peer(field, a, version=2)
+    peer.keep_ticking()
+    for scope in SCOPES:
+        peer.discover(scope)
+    reading = Reading(peer)
+    reading.await_all_parts(b"S")
+    swift = Swift(field, a)
+    with ThreadPoolExecutor() as pool:
+        changes = pool.submit(swift.tell, CHANGES)
+        until("changes told", lambda: reading.changes, lambda count: count > CHANGES / 10)
+        leaver.send(f"exit {pid}")
+        changes.result()
+    expect("the answer to the exit", "ok", leaver.next_answer("an answer to the exit", LONG))
+    reading.await_all_parts(b"L")
+    until("the other changes", lambda: reading.changes, lambda count: count == CHANGES)
+    expect("news of the link", [], a.untold("! down .*"))
+    await_members(a, [])

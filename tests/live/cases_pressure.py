@@ -177,7 +177,7 @@ class Mute:
 def unread_errors(field):
     """A node whose standard error is never read goes on, however much it has to say there, and ends
     soon behind `quit`."""
-    a = Mute(field, "--entries", "64", "--audit", "/dev/full")
+    a = Mute(field, "--last-entry", "64", "--audit", "/dev/full")
     until("a control socket", lambda: os.path.exists(a.control_path))
     control = field.keep(Control(a.control_path))
     for _ in range(5):

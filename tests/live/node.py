@@ -20,12 +20,14 @@ class Node(Talk):
     def __init__(self, program, folder, name, arguments):
         self.name = name
         self.control_path = os.path.join(folder, f"{name}.control") if "--control" in arguments else None
-        self.serves = [word for word in ("--listen", "--control") if word in arguments]
+        self.serves = [word for word in ("--otp-listen", "--listen", "--control", "--control-read", "--http") if word in arguments]
         self.errors_path = os.path.join(folder, f"{name}.errors")
         with open(self.errors_path, "ab") as errors:
             self.process = subprocess.Popen([program, name, *arguments], stdin=subprocess.PIPE, stdout=subprocess.PIPE,
                                             stderr=errors)
         self.port = None
+        self.otp_port = None
+        self.http_port = None
         super().__init__(name, self.process.stdout, self._put)
 
     def _put(self, line):
@@ -38,6 +40,12 @@ class Node(Talk):
             line = self._first_line()
             if found := re.fullmatch(r"listening 127\.0\.0\.1:(\d+)", line):
                 self.port = int(found[1])
+            elif found := re.fullmatch(r"otp-listening 127\.0\.0\.1:(\d+)", line):
+                self.otp_port = int(found[1])
+            elif found := re.fullmatch(r"http 127\.0\.0\.1:(\d+)", line):
+                self.http_port = int(found[1])
+            elif line.startswith("control-read "):
+                continue
             else:
                 expect(f"a first line of {self.name}", f"control {self.control_path}", line)
         return self

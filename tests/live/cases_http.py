@@ -1,0 +1,416 @@
+"""A node over HTTP: metrics, health, status and the page; and what is said by a file of settings, and at a socket for reads."""
+
+import html.parser
+import http.client
+import json
+import os
+import re
+import shutil
+import socket
+import stat
+import subprocess
+import tempfile
+import time
+
+from field import case
+from node import asked, await_members, await_nodes, member, new_pid, size, start
+from peer import connect, Peer
+from talk import Control
+from waiting import LIMIT, expect, expect_that, until
+
+ODD_GROUPS = ("<script>alert(1)</script>", "a&amp;b", "\"quoted\"", "'single'", "back\\slash", "</td></table>")
+NAME = re.compile(r"[a-zA-Z_:][a-zA-Z0-9_:]*")
+LABEL = re.compile(r'([a-zA-Z_][a-zA-Z0-9_]*)="((?:[^"\\\n]|\\["\\n])*)"')
+CHROMIUM = shutil.which("chromium") or shutil.which("chromium-browser")
+
+
+def get(port, path, method="GET"):
+    """The answer to a request: its status, its headers, and its body."""
+    connection = http.client.HTTPConnection("127.0.0.1", port, timeout=LIMIT)
+    try:
+        connection.request(method, path)
+        answer = connection.getresponse()
+        return answer.status, {name.lower(): value for name, value in answer.getheaders()}, answer.read().decode("utf-8")
+    finally:
+        connection.close()
+
+
+def page(port, path):
+    status, _, body = get(port, path)
+    expect(f"the status of {path}", 200, status)
+    return body
+
+
+def metrics(port):
+    """All samples, by name and labels, of a text that keeps to Prometheus's text format, version 0.0.4."""
+    status, headers, body = get(port, "/metrics")
+    expect("the status of /metrics", 200, status)
+    expect("its kind", "text/plain; version=0.0.4; charset=utf-8", headers["content-type"])
+    expect_that(body.endswith("\n"), "a line feed at the end", body[-20:])
+    samples, kinds, helped, family = {}, {}, set(), None
+    for line in body[:-1].split("\n"):
+        if line.startswith("# HELP "):
+            name = line.split(" ", 3)[2]
+            expect_that(NAME.fullmatch(name) and name not in helped, "one help of a name", line)
+            helped.add(name)
+            family = name
+        elif line.startswith("# TYPE "):
+            _, _, name, kind = line.split(" ")
+            expect_that(name == family and name not in kinds and kind in ("gauge", "counter"), "one type behind its help", line)
+            kinds[name] = kind
+        else:
+            name, labels, value = sample(line)
+            expect_that(name == family and name in kinds, "a sample behind its type", line)
+            expect_that((name, labels) not in samples, "each sample once", line)
+            expect_that(kinds[name] == "gauge" or name.endswith("_total"), "a counter's name", line)
+            samples[name, labels] = value
+    return samples
+
+
+def sample(line):
+    """A sample in its parts."""
+    found = re.fullmatch(r"([^ {]+)(?:\{(.*)\})? ([0-9]+)", line)
+    expect_that(found and NAME.fullmatch(found[1]), "a sample", line)
+    labels, rest = [], found[2] or ""
+    while rest:
+        label = LABEL.match(rest)
+        expect_that(label, "a label", line)
+        labels.append((label[1], re.sub(r"\\(.)", lambda two: "\n" if two[1] == "n" else two[1], label[2])))
+        rest = rest[label.end():]
+        expect_that(rest == "" or rest.startswith(","), "a comma between labels", line)
+        rest = rest[1:]
+    return found[1], tuple(labels), int(found[3])
+
+
+class Seen(html.parser.HTMLParser):
+    """The tags of a page, and its text."""
+
+    def __init__(self, body):
+        super().__init__()
+        self.tags = set()
+        self.texts = []
+        self.feed(body)
+        self.close()
+
+    def handle_starttag(self, tag, attrs):
+        self.tags.add(tag)
+
+    def handle_data(self, data):
+        self.texts.append(data)
+
+
+def http_node(field, name, *options, **rest):
+    return field.node(name, *options, "--http", "127.0.0.1:0", **rest)
+
+
+@case
+def metrics_of_a_node(field):
+    """`/metrics` tells links, clients, entries, rows by scope, what waits by link, what was refused by which rule, lines told, new
+    lives and memory, in Prometheus's format."""
+    a = http_node(field, "a@h", "--creation", "7", "--entries", "180", "--last-entry", "200", "--clients", "9")
+    b = field.node("b@h", dial=[a])
+    await_nodes(a, ["b@h"])
+    client = field.control(a)
+    pid = member(client)
+    asked(client, f"join pg g {pid} {pid}")
+    start(b)
+    other = member(b)
+    await_members(client, [pid, pid, pid, other])
+    asked(client, "start pg", "refused 22 ScopeRunning")
+    client.ask("monitor_scope pg")
+    asked(client, f"leave pg g {pid}")
+    client.told(r"! leave .*")
+    waiting = "pg_link_waiting_frames", (("peer", "b@h"),)
+    seen = until("what was told, and taken by the peer", lambda: metrics(a.http_port),
+                 lambda came: came["pg_told_lines_total", ()] >= 1 and came.get(waiting) == 0)
+    version = subprocess.run([field.program, "--version"], capture_output=True, text=True, check=True).stdout.split()[1]
+    wanted = {("pg_node_info", (("name", "a@h"), ("version", version))): 1, ("pg_node_creation", ()): 7, ("pg_links", ()): 1,
+              ("pg_links_max", ()): 64, ("pg_clients", ()): 1, ("pg_clients_max", ()): 9, ("pg_entries", ()): size(a),
+              ("pg_entries_kept", ()): size(a),
+              ("pg_entries_kept_max", ()): 180, ("pg_entries_lost_total", ()): 0, ("pg_entries_archived_total", ()): 0,
+              ("pg_node_new_lives_total", ()): 0, ("pg_node_draining", ()): 0,
+              ("pg_rows", (("scope", "pg"),)): 3, waiting: 0,
+              ("pg_refused_total", (("rule", "ScopeRunning"),)): 1}
+    for key, value in wanted.items():
+        expect(f"the metric {key}", value, seen.get(key))
+    expect_that(10 ** 6 < seen["pg_node_resident_bytes", ()] < 10 ** 9, "bytes of memory", seen["pg_node_resident_bytes", ()])
+    status = a.ask("status")
+    expect_that(re.search(r" refused=1 told=\d+ bytes=\d+$", status), "what status says of them", status)
+    while not a.untold("! restarted .*"):
+        a.ask("spawn")
+    seen = until("a new life", lambda: metrics(a.http_port), lambda came: came["pg_node_new_lives_total", ()] == 1)
+    expect("rows of a new life", 0, seen["pg_rows", (("scope", "pg"),)])
+    dialler = http_node(field, "d@h", "--dial", "x@h=127.0.0.1:1")
+    until("a second dial", lambda: metrics(dialler.http_port)["pg_dials_total", (("peer", "x@h"),)], lambda came: came >= 2)
+    expect("whether it is up", 0, metrics(dialler.http_port)["pg_dial_up", (("peer", "x@h"),)])
+
+
+@case
+def texts_of_others_are_text(field):
+    """What others say is shown in the page, and nothing of it is read as markup; in labels and JSON it stands as it is."""
+    a = http_node(field, "a@h")
+    for odd in ODD_GROUPS:
+        member(a, odd)
+    scope = 'quote"back\\slash<b>'
+    start(a, scope)
+    body = page(a.http_port, "/")
+    seen = Seen(body)
+    expect_that(not seen.tags & {"script", "b", "img", "iframe", "link"}, "no tag of another's", seen.tags)
+    expect_that("http-equiv=\"refresh\"" in body and "src=" not in body and "href=" not in body, "a page of one file", body[:400])
+    for odd in (*ODD_GROUPS, scope):
+        expect_that(odd in seen.texts, f"{odd} as a text", seen.texts)
+    expect("rows of the odd scope", 0, metrics(a.http_port)["pg_rows", (("scope", scope),)])
+    value = json.loads(page(a.http_port, "/status.json"))
+    expect("scopes", {"pg": len(ODD_GROUPS), scope: 0}, {one["scope"]: one["rows"] for one in value["scopes"]})
+
+
+@case
+def page_for_people(field):
+    """`/` shows links, dials with their last errors, scopes with groups and counts, and the last 50 lines of the log; no more than
+    200 groups."""
+    a = http_node(field, "a@h", "--dial", "x@h=127.0.0.1:1")
+    b = field.node("b@h", "--creation", "5", dial=[a])
+    await_nodes(a, ["b@h"])
+    pid = member(a)
+    asked(a, f"join pg g {pid}")
+    for number in range(250):
+        asked(a, f"join pg h{number:03} {pid}")
+    for number in range(60):
+        asked(a, f"dial n{number}@h=127.0.0.1:1")
+    texts = Seen(page(a.http_port, "/")).texts
+    for text in ("a@h", "b@h", "5", "visible", "x@h", "127.0.0.1:1", "refused", "pg", "all 251", "252", "g", "2", "and 51 more"):
+        expect_that(text in texts, f"{text} in the page", texts[:60])
+    log = [text for text in texts if "info dial target=" in text]
+    expect_that(len(log) >= 1 and "n59@h" in log[-1], "the last line of the log", log[-1:])
+    lines = [line for text in texts for line in text.split("\n") if " target=" in line or " peer=" in line]
+    expect_that(40 <= len(lines) <= 50, "the last 50 lines", len(lines))
+    b.quit()
+
+
+@case
+def only_reads_by_http(field):
+    """GET and HEAD alone are taken; unknown paths, long requests, long bodies and what is no HTTP are refused by name; the node goes
+    on."""
+    a = http_node(field, "a@h")
+    for method in ("POST", "PUT", "DELETE", "OPTIONS"):
+        status, headers, _ = get(a.http_port, "/", method)
+        expect(f"the answer to {method}", (405, "GET, HEAD"), (status, headers.get("allow")))
+    for path in ("/status", "/metrics/", "//", "/..", "/index.html"):
+        expect(f"the status of {path}", 404, get(a.http_port, path)[0])
+    expect("the status of a query", 200, get(a.http_port, "/healthz?now")[0])
+    status, headers, body = get(a.http_port, "/", "HEAD")
+    expect("a HEAD", (200, ""), (status, body))
+    expect_that(int(headers["content-length"]) > 500, "the length of the page", headers)
+    expect_that("default-src 'none'" in headers["content-security-policy"], "nothing else is loaded or run", headers)
+    for words, answer in ((b"GET /" + b"x" * 70_000 + b" HTTP/1.1\r\n\r\n", b"414 "),
+                          (b"GET / HTTP/1.1\r\nHost: h\r\nA: " + b"x" * 70_000 + b"\r\n\r\n", b"431 "),
+                          (b"GET / HTTP/1.1\r\nHost: h\r\nContent-Length: 9999\r\n\r\n", b"413 "),
+                          (b"\x00\x01?\r\n\r\n", b"400 "), (b"GET / HTTP/1.1\r\nHost: <b>\r\n\r\n", b"400 ")):
+        expect_that(said_by_http(a.http_port, words).startswith(b"HTTP/1.1 " + answer), f"{answer} to {words[:20]}", "another")
+    expect("health", (200, "ok\n"), get(a.http_port, "/healthz")[::2])
+
+
+def said_by_http(port, words):
+    """All that is answered to these bytes."""
+    with socket.create_connection(("127.0.0.1", port)) as stranger:
+        stranger.settimeout(LIMIT)
+        came = b""
+        try:
+            stranger.sendall(words)
+            while piece := stranger.recv(4096):
+                came += piece
+        except ConnectionError:
+            pass
+        return came
+
+
+@case
+def slow_reader_of_the_page(field):
+    """Who asks for the page and doesn't read it holds up neither lines nor the end of the node; and has ten seconds."""
+    a = http_node(field, "a@h")
+    pid = member(a)
+    for number in range(150):
+        asked(a, f"join pg {'g' * 250}{number:03} {pid}")
+    slow = []
+    for _ in range(8):
+        stranger = field.keep(socket.socket())
+        stranger.setsockopt(socket.SOL_SOCKET, socket.SO_RCVBUF, 1024)
+        stranger.connect(("127.0.0.1", a.http_port))
+        stranger.sendall(b"GET / HTTP/1.1\r\nHost: h\r\n\r\n" * 3)
+        slow.append(stranger)
+    began = time.monotonic()
+    for _ in range(200):
+        asked(a, f"join pg x {pid}")
+        asked(a, f"leave pg x {pid}")
+    expect_that(time.monotonic() - began < 9, "400 calls meanwhile", time.monotonic() - began)
+    expect("health meanwhile", 200, get(a.http_port, "/healthz")[0])
+    began = time.monotonic()
+    a.quit()
+    expect_that(time.monotonic() - began < 9, "an end at once", time.monotonic() - began)
+
+
+@case
+def many_who_look_on(field):
+    """Sixteen connections are served at once; a further one is told that there is no room, and one is served again once one of the
+    sixteen has ended, ten seconds after it began at the latest."""
+    a = http_node(field, "a@h")
+    idle = []
+    for _ in range(16):
+        idle.append(field.keep(socket.create_connection(("127.0.0.1", a.http_port))))
+    expect_that(until("a refusal", lambda: said_by_http(a.http_port, b"GET / HTTP/1.1\r\nHost: h\r\n\r\n")).startswith(b"HTTP/1.1 503 "), "no room", "some")
+    expect_that(a.ask("size").startswith("size "), "an answer meanwhile", "none")
+    idle.pop().close()
+    until("room", lambda: get(a.http_port, "/healthz")[0], lambda status: status == 200, limit=5)
+    for stranger in idle:
+        stranger.settimeout(LIMIT)
+        expect("an end of one that says nothing", b"", stranger.recv(1))
+
+
+@case
+def health_while_draining(field):
+    """`/healthz` is 503 while the node drains, and the page says so; and a link that comes then isn't taken."""
+    audit = os.path.join(field.folder, "audit")
+    a = http_node(field, "a@h", "--audit", audit)
+    client, watcher = field.control(a), field.control(a)
+    for _ in range(4_000):
+        new_pid(client)
+    late = []
+    client.send("drain")
+    watcher.await_end()
+    expect("health while it drains", (503, "draining\n"), get(a.http_port, "/healthz")[::2])
+    expect_that("It drains" in page(a.http_port, "/"), "the page that says so", "none")
+    late.append(Peer(connect(a.port), "late@h"))
+    late[0].send(late[0].name_frame())
+    expect("the answer to drain", "ok", client.next_answer("an answer to drain"))
+    late[0].await_end()
+    expect("its status", 0, a.status())
+    with open(audit, encoding="ascii") as file:
+        opened = [line for line in file if " Opened " in line]
+    expect("links that were taken", [], opened)
+
+
+@case
+def settings_in_a_file(field):
+    """`--config` says options by their names; the command line goes first; what is wrong in the file is told with its line."""
+    cookie = field.cookie_file(mode=0o440)
+    file = os.path.join(field.folder, "node.toml")
+
+    def write(text):
+        with open(file, "w", encoding="utf-8") as settings:
+            settings.write(text)
+
+    write(f'# a node\ncookie-file = "{cookie}"\ncreation = 5\nentries = 128\nallow = ["b@h", "c@h"]\nhidden = true\nlog-level = "warn"\n')
+    done = subprocess.run([field.program, "a@h", "--config", file, "--creation", "6"], input=b"self\nallowed\nstatus\n",
+                          capture_output=True, timeout=LIMIT, check=False)
+    lines = done.stdout.decode().splitlines()
+    expect("what it says", ["self a@h 6", "allowed b@h c@h"], lines[:2])
+    expect_that("/128 " in lines[2] and b" info " not in done.stderr, "its entries and its level", (lines, done.stderr))
+    write(f'cookie-file = "{cookie}"\nallow = ["b@h"]\n')
+    done = subprocess.run([field.program, "a@h", "--config", file, "--cookie", "c", "--allow", "d@h"], input=b"allowed\n",
+                          capture_output=True, timeout=LIMIT, check=False)
+    expect("who is allowed by the command line", b"allowed d@h\n", done.stdout)
+    for text, fault in (("\nentris = 5\n", "line 2: no such option: entris"), ('entries = "5"\n', "line 1: not a whole number: entries"),
+                        ("cookie = 5\n", "line 1: not a text between quotes: cookie"), ("allow = 'b@h'\n", "line 1: not a list of texts"),
+                        ("allow = [1]\n", "line 1: not a list of texts"),
+                        ("allow = []\n", "line 1: an empty list would let all peers in: allow"), ("control-mode = 0660\n", "line 1: "),
+                        ("hidden = 1\n", "line 1: not true or false: hidden"),
+                        ("[listen]\n", "line 1: not a text"), ("a = 1\nb\n", "line 2: "), ("entries = 5\n", "entries"),
+                        ("listen = 'nowhere'\n", "--listen")):
+        write(text)
+        done = subprocess.run([field.program, "a@h", "--config", file, "--cookie-file", cookie], stdin=subprocess.DEVNULL,
+                              capture_output=True, timeout=LIMIT, check=False)
+        said = [line for line in done.stderr.decode().splitlines() if line.startswith("error")]
+        expect(f"the status of {text!r}", 2, done.returncode)
+        expect_that(len(said) == 1 and fault in said[0], fault, said)
+    done = subprocess.run([field.program, "a@h", "--config", file + ".none", "--cookie", "c"], stdin=subprocess.DEVNULL,
+                          capture_output=True, timeout=LIMIT, check=False)
+    expect("the status without the file", 1, done.returncode)
+
+
+@case
+def modes_of_files(field):
+    """The control socket has the mode of `--control-mode`, the socket for reads that of `--control-read-mode`; a file of a cookie may
+    be read by its group, and by nobody else."""
+    reading = os.path.join(field.folder, "reading")
+    a = field.node("a@h", "--control-mode", "0666", "--control-read", reading, "--control-read-mode", "640")
+    expect("modes", [0o666, 0o640], [stat.S_IMODE(os.stat(path).st_mode) for path in (a.control_path, reading)])
+    b = field.node("b@h", "--control-read", reading + ".b")
+    expect("usual modes", [0o600, 0o660], [stat.S_IMODE(os.stat(path).st_mode) for path in (b.control_path, reading + ".b")])
+    b.quit()
+    expect_that(not os.path.exists(reading + ".b"), "no socket for reads behind the end", reading)
+    for words in (("--control-mode", "0888"), ("--control-mode", "1777"), ("--control-mode", "rw"), ("--http", "localhost:80"),
+                  ("--http", "0.0.0.0:0"), ("--http", "127.0.0.1")):
+        wrong = field.start("w@h", *words, control=False, port=None)
+        expect(f"the status of {words}", 2, wrong.status())
+    for mode, wanted in ((0o600, 0), (0o400, 0), (0o440, 0), (0o640, 0), (0o644, 1), (0o660, 1), (0o604, 1), (0o620, 1)):
+        path = field.cookie_file(cookie=f"cookie{mode}", mode=mode)
+        done = subprocess.run([field.program, "m@h", "--cookie-file", path], stdin=subprocess.DEVNULL, capture_output=True,
+                              timeout=LIMIT, check=False)
+        expect(f"the status with a cookie of mode {mode:o}", wanted, done.returncode)
+    any_address = field.start("c@h", "--http", "0.0.0.0:0", "--http-anywhere", control=False, port=None)
+    expect_that(any_address.next_answer("its address").startswith("http 0.0.0.0:"), "any address, where it may", "none")
+
+
+@case
+def socket_for_reads(field):
+    """At the socket of `--control-read` all that reads and watches is answered as ever, and nothing else is: no entry but those of
+    monitors."""
+    reading = os.path.join(field.folder, "reading")
+    a = field.node("a@h", "--control-read", reading)
+    pid = member(a)
+    reader = field.keep(Control(reading))
+    refused = "fault this socket takes reads and monitors alone"
+    before = size(a)
+    for line in ("cookie c", "cookie_for b@h c", "allow b@h", "start s", "stop pg", "spawn", f"exit {pid}", f"join pg g {pid}",
+                 f"leave pg g {pid}", "disconnect b@h", "dial b@h=h:1", "undial b@h", "drain", "quit"):
+        asked(reader, line, refused)
+    for line, answer in (("members pg g", f"pids {pid}"), ("groups pg", "groups g"), ("nodes", "nodes"), ("self", a.ask("self")),
+                         ("scopes", "scopes pg"), ("dials", "dials"), ("links", "links"), ("allowed", "allowed"), ("refusals", "refusals"),
+                         ("size", f"size {before}"), ("audit 1", a.ask("audit 1"))):
+        asked(reader, line, answer)
+    expect_that(reader.ask("help").startswith("help "), "help", "none")
+    expect_that(reader.ask("dance").startswith("fault no such command"), "a fault of a line", "none")
+    expect("the size of the audit", before, size(a))
+    watch = reader.ask("monitor_scope pg")
+    expect_that(watch.startswith("ref "), "a monitor", watch)
+    asked(a, f"join pg h {pid}")
+    reader.told(r"! join \d+ h 1 .*")
+    asked(reader, f"demonitor {watch.split()[1]}")
+
+
+@case
+def nodes_ascend(field):
+    """`nodes` answers in ascending order, whatever order the links came up in."""
+    a = field.node("a@h")
+    for name in ("d@h", "b@h", "e@h", "c@h"):
+        field.node(name, dial=[a])
+        until(f"{name} up", lambda: name in a.ask("nodes"))
+    asked(a, "nodes", "nodes b@h c@h d@h e@h")
+
+
+@case
+def page_in_a_browser(field):
+    """The page in headless Chromium: the odd groups are text, and no script runs. Without Chromium this case only says so."""
+    if CHROMIUM is None:
+        print("     (no Chromium here: page_in_a_browser tries nothing)", flush=True)
+        return
+    a = http_node(field, "a@h")
+    for odd in (*ODD_GROUPS, "<img/src=x/onerror=document.title='ran'>"):
+        member(a, odd)
+    home = field.keep(Folder()).path
+    words = [CHROMIUM, "--headless", "--no-sandbox", "--disable-gpu", f"--user-data-dir={home}", "--window-size=360,640",
+             "--dump-dom", f"http://127.0.0.1:{a.http_port}/"]
+    done = subprocess.run(words, stdin=subprocess.DEVNULL, capture_output=True, timeout=LIMIT, check=False)
+    body = done.stdout.decode("utf-8", "replace")
+    expect_that("<title>a@h</title>" in body, "its title", body[:300])
+    expect_that("&lt;script&gt;alert(1)&lt;/script&gt;" in body and "<script" not in body and "<img" not in body, "text alone", body)
+
+
+class Folder:
+    """A folder of its own for a browser."""
+
+    def __init__(self):
+        self.path = tempfile.mkdtemp(prefix="browser.")
+
+    def close(self):
+        shutil.rmtree(self.path, ignore_errors=True)
