@@ -1,9 +1,11 @@
 """The scripts that are played without memory. They are written with the model of tests/model, which knows links and digests."""
 
+import os
 from functools import cache
 
 from frames import Discover, Down, Part, RowsJoin, RowsLeave, Sync, name_body, part_body
 from owed import MOST_WAITING
+from script import Script
 from story import FLAGS, NODE, Story, row
 
 # The node of `refusals`, which plays the same scripts.
@@ -15,6 +17,24 @@ FROM_HERE = '# from here on without memory'
 def begin_of(script):
     """How many lines of a script come before those whose allocations are refused."""
     return script.lines.index(FROM_HERE) if FROM_HERE in script.lines else 0
+
+
+class Kept(Script):
+    """On a node that forgets all that it can."""
+
+    def arguments(self):
+        return ['--keep', '0', *super().arguments()]
+
+
+class Archived(Kept):
+    """The same, with an archive."""
+
+    def arguments(self):
+        return ['--archive', os.devnull, *super().arguments()]
+
+    def with_lines(self, lines):
+        """A part of it has no archive, of which the most is written at its end."""
+        return Kept(*self._replace(lines=lines))
 
 
 def replaced_link():
@@ -146,6 +166,17 @@ def slow_ends():
         story.tell(call, 'members s0 h', f'updates {monitor}')
     story.tell(*(f'take {link}' for link in links), 'members s0 g', 'size')
     return story.script('slow_ends')
+
+
+def handed_out():
+    """A page of entries that a monitor has held is handed out behind the last update."""
+    story = Story()
+    story.tell('start pg', 'spawn', 'monitor pg g', *['take 0'] * 365, FROM_HERE)
+    for turn in range(3):
+        story.tell(f'join pg g{turn} b@h/1/1', 'join pg g b@h/1/1', 'spawn')
+    story.tell('updates 3', 'monitor pg h', 'updates 3', 'exit b@h/1/1', 'updates 3', 'groups pg', 'take 0', 'spawn', 'audit 384', 'size',
+               'members pg g', 'spawn', 'updates 3')
+    return Archived(*story.script('handed_out'))
 
 
 SCRIPTS = (replaced_link, monitors, told_peers, every_event, rows_in_parts)

@@ -3,7 +3,7 @@
 import subprocess
 from collections import Counter
 
-from console import Console
+from console import Console, is_silent
 from frames import STATUSES, Part
 from history import Exit, Out
 from model import Model
@@ -19,8 +19,8 @@ EXITS, IN_PARTS, BROKEN_OFF = 'exit told in several scopes', 'message of several
 Played = record('Played', 'transcript status')
 
 
-def by_program(program, script):
-    command = [program, 'run', *script.arguments()]
+def by_program(program, script, options=()):
+    command = [program, 'run', *options, *script.arguments()]
     try:
         run = subprocess.run(command, input=script.text(), capture_output=True, timeout=SECONDS)
     except subprocess.TimeoutExpired:
@@ -34,6 +34,26 @@ def by_model(script, model=None):
 
 def played_by(console):
     return Played(console.transcript(), console.status())
+
+
+def forgotten_so(program, script, keep):
+    """How many entries are asked for that a run which keeps so many has forgotten; None where it answers otherwise than a run that keeps
+    all, or forgets one of those that it keeps."""
+    theirs, ours = by_program(program, script, ['--keep', str(keep)]), script.played()
+    answers, count, entries = theirs.transcript.splitlines(), 0, 0
+    if (len(answers), theirs.status) != (len(ours.answers), ours.status()):
+        return None
+    for command, answer, wanted in zip(spoken(script.lines), answers, ours.answers):
+        is_forgotten = answer == 'forgotten' and command.startswith('audit ') and 0 < int(command.split(' ')[1]) <= entries - keep
+        if answer != wanted and not is_forgotten:
+            return None
+        count += is_forgotten
+        entries += not command.startswith(('seat ', 'size', 'audit '))
+    return count
+
+
+def spoken(lines):
+    return [line for line in lines if not is_silent(line)]
 
 
 def differs(program, script, model=None):

@@ -357,6 +357,28 @@ def with_burst(rng, title):
     return writer.script(title)
 
 
+class Filler(Generator):
+    """Says many lines between others that are refused, and entries: pages of entries are handed out meanwhile."""
+
+    def say(self, *words):
+        if self.chance(6):
+            for _ in range(self.rng.randint(20, 150)):
+                super().say('take', 0)
+        return super().say(*words)
+
+
+def of_many_pages(seed, number):
+    """A script of more entries than a page, with questions for some of them."""
+    rng = Random(f'{seed}/pages/{number}')
+    writer = Filler(rng, opening_of(rng)._replace(most_entries=MOST_ENTRIES))
+    write(writer, rng, 900)
+    for entry in rng.sample(range(writer.h.number + 1), 40):
+        writer.say('audit', entry)
+    for _ in range(20):
+        writer.updates()
+    return writer.script(f'seed {seed}, script {number} of many pages')
+
+
 def script_of(seed, number):
     """The script of a seed with a number; now and then one with a burst, or one that meets a limit."""
     rng, title = Random(f'{seed}/{number}'), f'seed {seed}, script {number}'
