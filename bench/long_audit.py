@@ -1,8 +1,10 @@
 #!/usr/bin/env python3
 """What a long audit costs: `pg_console run` over joins and leaves of one process, each an entry, with its processor time and memory (VmRSS) behind
-each tenth of them.
+each tenth of them, and how the last tenth compares with the first.
 
-bench/long_audit.py [PROGRAM] [--entries N]     N is 10,000,000 where it isn't given, which takes some 3 GB"""
+bench/long_audit.py [PROGRAM] [--entries N]     N is 10,000,000 where it isn't given, which takes some 3 GB
+bench/long_audit.py [PROGRAM] --keep N          the node forgets, and keeps N entries
+bench/long_audit.py [PROGRAM] --archive FILE    writes an archive too, which is then played again"""
 
 import argparse
 import os
@@ -20,6 +22,8 @@ def words():
     reader = argparse.ArgumentParser(description=__doc__, formatter_class=argparse.RawDescriptionHelpFormatter)
     reader.add_argument("program", nargs="?", default=os.path.join(HERE, "../crates/pg_console/out/pg_console"))
     reader.add_argument("--entries", type=int, default=10_000_000)
+    reader.add_argument("--keep", type=int)
+    reader.add_argument("--archive")
     return reader.parse_args()
 
 
@@ -38,15 +42,32 @@ def spent(process):
     return (int(user) + int(system)) / TICKS, memory
 
 
+def options(said):
+    kept = [] if said.keep is None else ["--keep", str(said.keep)]
+    return kept + ([] if said.archive is None else ["--archive", said.archive])
+
+
+def replay(said):
+    """The processor seconds of an archive that is played again."""
+    command = [said.program, "replay", "--cookie", "b@h=password", said.archive]
+    with subprocess.Popen(command, stdout=subprocess.PIPE) as player:
+        assert player.stdout.read() == b"lives 1 entries %d\n" % (said.entries + 2)
+        _, status, used = os.wait4(player.pid, 0)
+        player.returncode = status
+    assert status == 0
+    return used.ru_utime + used.ru_stime
+
+
 def main():
     said = words()
-    command = [said.program, "run", "b@h", "password", "--entries", str(said.entries + 2)]
+    command = [said.program, "run", "b@h", "password", "--entries", str(said.entries + 2), *options(said)]
     node = subprocess.Popen(command, stdin=subprocess.PIPE, stdout=subprocess.PIPE)
     node.stdin.write(b"start pg\nspawn\n")
     node.stdin.flush()
     assert node.stdout.readline() + node.stdout.readline() == b"ok\npid b@h/1/1\n"
     rounds = said.entries // 10_000 // TENTHS
-    before, _ = spent(node)
+    begin, _ = spent(node)
+    before, times, sizes = begin, [], []
     print(f"{'entries':>12} {'microseconds an entry':>24} {'MB':>8}")
     for tenth in range(1, TENTHS + 1):
         writer = threading.Thread(target=write, args=(node.stdin, rounds))
@@ -56,9 +77,13 @@ def main():
         writer.join()
         now, memory = spent(node)
         print(f"{tenth * rounds * 10_000:>12,} {(now - before) / (rounds * 10_000) * 1e6:>24.2f} {memory / 1e6:>8,.0f}", flush=True)
-        before = now
+        times, sizes, before = [*times, now - before], [*sizes, memory], now
     node.stdin.close()
     node.wait()
+    print(f"the last tenth for the first: {times[-1] / times[0]:.3f} of the time, {sizes[-1] / sizes[0]:.3f} of the memory")
+    if said.archive is not None:
+        again = replay(said)
+        print(f"played again: {again / said.entries * 1e6:.2f} microseconds an entry, {(before - begin) / again:.2f} times as fast as the run")
 
 
 if __name__ == "__main__":

@@ -3,7 +3,8 @@
 # the clock, from this one run, with the ratio. Each figure is the least of some rounds, and has in it the making of the event and
 # the letting go of its answer. The program is no crate of the gate, so its source isn't named as one: it is built in a folder of
 # its own over what the crates keep of their proofs (build pg_console first, by bin/pg_console), and proved, which takes minutes.
-# NODE_SPEED may name a file where the built program is kept, and taken from at the next run.
+# NODE_SPEED may name a file where the built program is kept, and taken from at the next run. With ONE=1 both are measured by
+# processor time on the last processor, OTP with one scheduler and without the second node, whose timers want a clock that goes on.
 set -eu
 root=$(cd "$(dirname "$0")/.." && pwd)
 folder=$(mktemp -d)
@@ -38,10 +39,17 @@ line() {
 }
 
 [ -x "$program" ] || build
-"$program" >"$folder/steps"
+theirs=$root/bench/otp_pg.escript alone=()
+if [ "${ONE:-}" ]; then
+  cc -O2 -shared -fPIC -o "$folder/clock.so" "$root/bench/rows/clock.c"
+  theirs=$folder/otp_pg.escript alone=(env "LD_PRELOAD=$folder/clock.so" taskset -c "$(($(nproc --all) - 1))")
+  sed -e '2s/.*/%%! +S 1:1/' -e '/timer:sleep(500)/d' -e 's/RUNS, 7/RUNS, 15/' "$root/bench/otp_pg.escript" >"$theirs"
+fi
+cat /proc/loadavg
+"${alone[@]}" "$program" >"$folder/steps"
 : >"$folder/otp"
 if command -v escript >/dev/null; then
-  escript "$root/bench/otp_pg.escript" >"$folder/otp" || echo "OTP's half ended early" >&2
+  "${alone[@]}" escript "$theirs" >"$folder/otp" || echo "OTP's half ended early" >&2
 fi
 printf '%-62s %12s %12s %8s\n' 'microseconds' 'step' 'OTP' 'ratio'
 line mix_1000 'an event of a mix, at 1,000 entries'

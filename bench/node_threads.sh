@@ -1,6 +1,6 @@
 #!/usr/bin/env bash
-# `Pass::call` of one thread beside `NodeCore::step`, and threads that call one node at once beside OTP's own pg with as many
-# processes, where `escript` is installed: by the clock, from this one run, with the load of the machine before it. Each figure is
+# `Pass::call` of one thread beside `NodeCore::step`, and threads that call one node at once beside threads that make the same steps
+# under a bare lock, and beside OTP's own pg with as many processes, where `escript` is installed: by the clock, from this one run, with the load of the machine before it. Each figure is
 # the least of some rounds, and has in it the making of the events and the letting go of answers. The program is no crate of the
 # gate, so its source isn't named as one: it is built in a folder of its own, without proofs, in a minute or two.
 # THREADS_SPEED may name a file where the built program is kept, and taken from at the next run.
@@ -30,14 +30,15 @@ beside() {
     $1 == key { printf "%-40s %12.2f %12.2f %+12.2f\n", title, $2 / 1000, $3 / 1000, ($3 - $2) / 1000 }' "$folder/here"
 }
 
-# Prints a line of both for so many threads, in million events a second.
+# Prints a line of all for so many threads, in million events a second.
 together() {
   awk -v key="threads_$1" -v title="$2" '
-    $1 == key && FILENAME == ARGV[1] { own = 1000 / $2 }
+    $1 == key && FILENAME == ARGV[1] { own = 1000 / $2; bare = 1000 / $3 }
     $1 == key && FILENAME == ARGV[2] { other = 1000 / $2 }
     END {
-      if (other == "") printf "%-40s %12.2f %12s %12s\n", title, own, "-", "-"
-      else printf "%-40s %12.2f %12.2f %12.2f\n", title, own, other, own / other
+      printf "%-30s %10.2f %10.2f %10.2f", title, own, bare, own / bare
+      if (other == "") printf " %10s %10s\n", "-", "-"
+      else printf " %10.2f %10.2f\n", other, own / other
     }' "$folder/here" "$folder/otp"
 }
 
@@ -53,7 +54,7 @@ beside join_leave_1 'a join or leave of one process'
 beside members_1 'members of 1'
 beside join_leave_100 'a join or leave of 100 processes'
 beside members_100 'members of 100'
-printf '%-40s %12s %12s %12s\n' 'million events a second' 'here' 'OTP' 'ratio'
+printf '%-30s %10s %10s %10s %10s %10s\n' 'million events a second' 'calls' 'bare lock' 'ratio' 'OTP' 'ratio'
 together 1 'one thread'
 together 2 'two threads'
 together 4 'four threads'

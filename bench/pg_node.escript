@@ -52,6 +52,7 @@ answer([<<"start">>, _]) -> "ok";
 answer([<<"size">>]) -> "size 0"; % (pg keeps no audit; an answer says that the connection is told of nodes from now on)
 answer([<<"spawn">>]) -> ["pid ", pid_to_list(spawn(fun() -> receive never -> ok end end))];
 answer([<<"join">>, _, Group, Pid]) -> atom_to_list(pg:join(pg, Group, list_to_pid(binary_to_list(Pid))));
+answer([<<"join">>, _, Group | Pids]) -> atom_to_list(pg:join(pg, Group, [list_to_pid(binary_to_list(Pid)) || Pid <- Pids]));
 answer([<<"leave">>, _, Group, Pid]) -> atom_to_list(pg:leave(pg, Group, list_to_pid(binary_to_list(Pid))));
 answer([<<"monitor">>, _, Group]) ->
     {_, Pids} = pg:monitor(pg, Group),

@@ -245,7 +245,7 @@ class Table:
         print("{:<72} {:>10} {:>10} {:>8}".format(*cells), flush=True)
 
     def figure(self, measure, begin, *words):
-        with Field(self.program) as field:
+        with Field(self.program, None) as field:
             return measure(field, begin, *words)
 
     def row(self, title, measure, *words, beside=True):
