@@ -189,16 +189,22 @@ def turn_knows_what_was_forgotten(field):
     asked(control, "audit 1", control.ask("audit 1"))
 
 
+def unread(field, node, lines):
+    """A connection that has written these lines, and of which nobody reads."""
+    stream = field.keep(socket.socket(socket.AF_UNIX))
+    stream.connect(node.control_path)
+    stream.sendall(lines)
+    return stream
+
+
 @case
 def ended_that_does_not_read(field):
     """A connection that reads nothing is ended before the node keeps more than 100,000 entries for it, and what it had ends with it;
     others are served meanwhile."""
     a = field.node("a@h", "--entries", KEPT)
-    deaf = field.keep(socket.socket(socket.AF_UNIX))
-    deaf.connect(a.control_path)
     busy = field.control(a)
     start(busy)
-    deaf.sendall(b"spawn\nmonitor_scope pg\n")
+    unread(field, a, b"spawn\nmonitor_scope pg\n")
     until("two clients", lambda: a.ask("clients"), lambda came: len(came.split()) == 3)
     pid = new_pid(busy)
     moves(busy, pid, 20_000)
@@ -218,19 +224,16 @@ def ended_that_does_not_read(field):
 def told_that_it_is_behind(field):
     """A connection that reads, but far too little, is told `! behind` as the last of its lines."""
     a = field.node("a@h", "--entries", KEPT)
-    slow = field.keep(socket.socket(socket.AF_UNIX))
-    slow.connect(a.control_path)
     busy = field.control(a)
     start(busy)
-    slow.sendall(b"monitor_scope pg\n")
-    reading = Slowly(slow)
+    reading = Slowly(unread(field, a, b"monitor_scope pg\n"))
     pid = new_pid(busy)
     moves(busy, pid, 40_000)
     for _ in range(200):
         if a.log("warn behind"):
             break
         refused(busy, 1_000)
-    expect("what the log says", ["warn behind seat=2"], a.log("warn behind"))
+    expect("what the log says", ["warn behind seat=3"], a.log("warn behind"))
     last = reading.last_line()
     expect("its last line", "! behind", last)
     await_kept(a)
