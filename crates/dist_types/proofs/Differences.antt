@@ -1,11 +1,12 @@
 -- The difference in one group, and in many.
-use Rattle.std.specs.Prelude.{◌≡◌, ℕ, ◌-◌, true, false, cond, ◌&&◌, List, [], ◌∷◌}
-use Rattle.std.proofs.Common.{refl, arith}
+use Rattle.dist_types.specs
+use Rattle.std.specs.Prelude.{cond, false, List, true, ℕ, [], ◌&&◌, ◌-◌, ◌∷◌, ◌≡◌}
+use Rattle.std.proofs.Common.{arith, refl}
 use Rattle.std.proofs.lemmas.Bool.{and_parts}
-use Rattle.dist_types.specs.declared.pid.Pid.{Pid}
-use Rattle.dist_types.specs.Order.{pid_cmp}
-use Rattle.dist_types.specs.Listing.{same, mentions, Ascends}
-use Rattle.dist_types.specs.Difference.{is_empty, IsDifference, change_unless_empty}
+use specs.declared.pid.Pid.{Pid}
+use specs.Order.{pid_cmp}
+use specs.Listing.{Ascends, mentions, same}
+use specs.Difference.{change_unless_empty, is_empty, IsDifference}
 
 none_mentioned : (p : Pid) (ps : List Pid) → is_empty ps ≡ true → mentions p ps ≡ 0
 none_mentioned p [] e = refl

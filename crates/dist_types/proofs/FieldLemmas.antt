@@ -1,6 +1,6 @@
 -- What a reader of a number took from the front.
-use Rattle.std.proofs.Common.{◌≡◌, ℕ, ◌<◌, List, ◌++◌, get_or, take, drop, sym, arith}
-use Rattle.std.proofs.lemmas.List.{take-append-drop, length-take, get_or-take, get_or_past}
+use Rattle.std.proofs.Common.{arith, drop, get_or, List, sym, take, ℕ, ◌++◌, ◌<◌, ◌≡◌}
+use Rattle.std.proofs.lemmas.List.{get_or-take, get_or_past, length-take, take-append-drop}
 
 -- the front of bytes has bytes
 pub front_is_bytes : (n : ℕ) (bytes front : List ℕ) → front ≡ take n bytes

@@ -1,12 +1,14 @@
 -- A count has one listing of its groups.
-use Rattle.std.specs.Prelude.{◌≡◌, ℕ, true, List}
+use Rattle.dist_types.proofs
+use Rattle.dist_types.specs
+use Rattle.std.specs.Prelude.{List, true, ℕ, ◌≡◌}
 use Rattle.std.proofs.Common.{arith}
 use Rattle.std.proofs.lemmas.Map.Lookups.{exact_bytes}
-use Rattle.dist_types.specs.declared.pid.Pid.{Pid}
-use Rattle.dist_types.specs.Order.{text_cmp}
-use Rattle.dist_types.specs.Listing.{same, is_among, IsGroupListing}
-use Rattle.dist_types.proofs.Orders.{texts_total, same_decides}
-use Rattle.dist_types.proofs.Listings.{same_rising}
+use specs.declared.pid.Pid.{Pid}
+use specs.Order.{text_cmp}
+use specs.Listing.{is_among, IsGroupListing, same}
+use proofs.Orders.{same_decides, texts_total}
+use proofs.Listings.{same_rising}
 
 pub one_group_listing : (count : List ℕ → Pid → ℕ) (gs hs : List (List ℕ)) → IsGroupListing count gs
     → IsGroupListing count hs → gs ≡ hs

@@ -1,15 +1,15 @@
 -- The limits of the texts, as facts and as tests that compute.
-use Rattle.std.proofs.Common.{◌≡◌, ◌≢◌, ◌↔◌, ℕ, ◌-◌, ◌<◌, true, false, List, length, refl, IsTrue}
-use Rattle.std.proofs.Common.{arith, ap, Result, Ok, Err, IfErr, IsErr, MatchResult}
-use Rattle.std.proofs.lemmas.Bool.{and_parts, and_from}
+use Rattle.dist_types.specs
+use Rattle.std.proofs.Common.{ap, arith, Err, false, IfErr, IsErr, IsTrue, length, List}
+use Rattle.std.proofs.Common.{MatchResult, Ok, refl, Result, true, ℕ, ◌-◌, ◌<◌, ◌↔◌, ◌≡◌, ◌≢◌}
+use Rattle.std.proofs.lemmas.Bool.{and_from, and_parts}
 use Rattle.std.proofs.lemmas.List.Sums.{AllPass-from_list_all, list_all-from_AllPass}
 use Rattle.std.proofs.lemmas.Option.{slice_get-get_or}
 use Rattle.std.specs.List.{list_all}
-use Rattle.dist_types.specs.declared.fault.TextFault.{TextFault}
-use Rattle.dist_types.specs.declared.fault.TextFault.TheVariants as faults
-use Rattle.dist_types.specs.Fault.{IsNameFault}
-use Rattle.dist_types.specs.Text.{IsText, HasInnerAt, IsNodeName, is_text_byte, is_text}
-use Rattle.dist_types.specs.Text.{has_inner_at, is_node_name}
+use specs.declared.fault.TextFault.{TextFault}
+use specs.Fault.{IsNameFault}
+use specs.Text.{has_inner_at, HasInnerAt, is_node_name, is_text, is_text_byte, IsNodeName, IsText}
+use specs.declared.fault.TextFault.TheVariants as faults
 
 pub texts_compute : (bytes : List ℕ) → IsTrue (is_text bytes) ↔ IsText bytes
 texts_compute bytes = (

@@ -1,17 +1,18 @@
 -- A count for each element, and an ascending list with repeats: the one gives the other.
-use Rattle.std.specs.Prelude.{◌≡◌, ℕ, zero, suc, ◌+◌, ◌<◌, ◌≤◌, Bool, true, false, cond, ◌||◌, List}
-use Rattle.std.specs.Prelude.{[], ◌∷◌, ◌++◌, replicate, length}
-use Rattle.std.proofs.Common.{refl, ap, ◌∙◌, sym, arith, length-append}
+use Rattle.dist_types.specs
+use Rattle.std.specs.Prelude.{Bool, cond, false, length, List, replicate, suc, true, zero, ℕ, []}
+use Rattle.std.specs.Prelude.{◌++◌, ◌+◌, ◌<◌, ◌||◌, ◌∷◌, ◌≡◌, ◌≤◌}
+use Rattle.std.proofs.Common.{ap, arith, length-append, refl, sym, ◌∙◌}
 use Rattle.std.specs.declared.cmp.Ordering.{Ordering}
-use Rattle.std.specs.declared.cmp.Ordering.TheVariants.{Less, Equal, Greater}
+use Rattle.std.specs.declared.cmp.Ordering.TheVariants.{Equal, Greater, Less}
 use Rattle.std.specs.Ordering.{is_gt, ordering_reverse}
 use Rattle.std.specs.List.{AllByRecursion}
 use Rattle.std.specs.Bool.{Decides}
 use Rattle.std.specs.Cmp.{IsTotalOrder}
 use Rattle.std.proofs.lemmas.Cmp.{tied_itself}
 use Rattle.std.proofs.lemmas.List.{length-replicate}
-use Rattle.dist_types.specs.Listing.{total, occurrences, stands_in, Rises, Ascends, spread, placed}
-use Rattle.dist_types.specs.Listing.{ascending, listing, IsListing}
+use specs.Listing.{ascending, Ascends, IsListing, listing, occurrences, placed, Rises, spread}
+use specs.Listing.{stands_in, total}
 use Rattle.dist_types.proofs.Totals.{how_many_append, how_many_replicate}
 
 module _ {A : Type 0} (P : A → Type 0) where

@@ -1,21 +1,22 @@
 -- The orders are total and exact, and the tests of sameness decide equality.
-use Rattle.std.specs.Prelude.{◌≡◌, ℕ, nat_eq, List}
-use Rattle.std.proofs.Common.{refl, ap, ◌∙◌, arith}
+use Rattle.dist_types.specs
+use Rattle.std.specs.Prelude.{List, nat_eq, ℕ, ◌≡◌}
+use Rattle.std.proofs.Common.{ap, arith, refl, ◌∙◌}
 use Rattle.std.specs.declared.cmp.Ordering.TheVariants.{Equal}
 use Rattle.std.specs.Ordering.{nat_cmp, ordering_then}
 use Rattle.std.specs.Cmp.{IsTotalOrder}
 use Rattle.std.specs.Cmp.Lexicographic.{slice_cmp}
 use Rattle.std.specs.Bool.{Decides}
-use Rattle.std.proofs.lemmas.Cmp.{then_total, on_total, nat_cmp_total, nat_list_cmp_total}
+use Rattle.std.proofs.lemmas.Cmp.{nat_cmp_total, nat_list_cmp_total, on_total, then_total}
 use Rattle.std.proofs.lemmas.Cmp.{tied_itself}
 use Rattle.std.proofs.lemmas.Bool.{and_parts}
 use Rattle.std.proofs.lemmas.Map.Lookups.{exact_bytes, exact_pairs, exact_unsigned}
 use Rattle.std.proofs.lemmas.Slice.Eq.{slice_eq-Decides}
 use Rattle.std.proofs.lemmas.Bool.Decides.{Decides-eqb}
-use Rattle.dist_types.specs.declared.pid.Pid.{Pid}
-use Rattle.dist_types.specs.declared.row.Row.{Row}
-use Rattle.dist_types.specs.Order.{text_cmp, pid_cmp, row_cmp}
-use Rattle.dist_types.specs.Listing.{same, same_pid, same_row}
+use specs.declared.pid.Pid.{Pid}
+use specs.declared.row.Row.{Row}
+use specs.Order.{pid_cmp, row_cmp, text_cmp}
+use specs.Listing.{same, same_pid, same_row}
 
 pub texts_total : IsTotalOrder text_cmp
 texts_total = nat_list_cmp_total

@@ -1,13 +1,13 @@
 -- What a sort leaves, as a listing.
-use Rattle.std.specs.Prelude.{◌≡◌, ℕ, suc, ◌<◌, ◌≤◌, Bool, false, cond, List, [], ◌∷◌, length}
-use Rattle.std.proofs.Common.{ap, ◌∙◌, sym, arith, get_or}
+use Rattle.std.specs.Prelude.{Bool, cond, false, length, List, suc, ℕ, [], ◌<◌, ◌∷◌, ◌≡◌, ◌≤◌}
+use Rattle.std.proofs.Common.{ap, arith, get_or, sym, ◌∙◌}
 use Rattle.std.specs.declared.cmp.Ordering.{Ordering}
 use Rattle.std.specs.Ordering.{is_gt, is_lt, ordering_reverse}
 use Rattle.std.specs.Cmp.{IsTotalOrder}
 use Rattle.std.specs.List.{AllByRecursion, AllWithin}
-use Rattle.std.specs.List.Sorted.{IsSorted, IsPermutation}
-use Rattle.std.proofs.lemmas.List.Sorted.{sorted_far, ranks_by, sum_by-IsPermutation}
-use Rattle.dist_types.specs.Listing.{occurrences, Ascends, IsListing}
+use Rattle.std.specs.List.Sorted.{IsPermutation, IsSorted}
+use Rattle.std.proofs.lemmas.List.Sorted.{ranks_by, sorted_far, sum_by-IsPermutation}
+use Rattle.dist_types.specs.Listing.{Ascends, IsListing, occurrences}
 use Rattle.dist_types.proofs.Totals.{how_many_is}
 
 pub all_from : {A : Type 0} (P : A → Type 0) (xs : List A) → AllWithin P xs 0 (length xs)

@@ -1,10 +1,10 @@
 -- Sums and counts over lists.
-use Rattle.std.specs.Prelude.{◌≡◌, ℕ, zero, suc, ◌+◌, ◌≤◌, Bool, cond, ◌&&◌, List, [], ◌∷◌, ◌++◌}
-use Rattle.std.specs.Prelude.{replicate, count_by, length}
-use Rattle.std.proofs.Common.{refl, arith}
-use Rattle.std.specs.List.{sum_by, filter}
-use Rattle.std.proofs.lemmas.List.Recursion.{is_sum_by, is_count_by}
-use Rattle.dist_types.specs.Listing.{total, how_many}
+use Rattle.std.specs.Prelude.{Bool, cond, count_by, length, List, replicate, suc, zero, ℕ, [], ◌&&◌}
+use Rattle.std.specs.Prelude.{◌++◌, ◌+◌, ◌∷◌, ◌≡◌, ◌≤◌}
+use Rattle.std.proofs.Common.{arith, refl}
+use Rattle.std.specs.List.{filter, sum_by}
+use Rattle.std.proofs.lemmas.List.Recursion.{is_count_by, is_sum_by}
+use Rattle.dist_types.specs.Listing.{how_many, total}
 
 pub total_is : {A : Type 0} (f : A → ℕ) (xs : List A) → total f xs ≡ sum_by f xs
 total_is f xs = is_sum_by (total f) f refl (λ _ _. refl) xs

@@ -46,6 +46,13 @@ impl Group {
     {
         self.text.as_bytes()
     }
+
+    /// The name as text: it is ASCII.
+    pub fn as_str(&self) -> &str
+        ensures { result.now ≡ self.now }
+    {
+        self.text.as_str()
+    }
 }
 
 impl TryClone for Group {

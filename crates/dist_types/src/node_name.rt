@@ -55,6 +55,13 @@ impl NodeName {
     {
         self.text.as_bytes()
     }
+
+    /// The name as text: it is ASCII.
+    pub fn as_str(&self) -> &str
+        ensures { result.now ≡ self.now }
+    {
+        self.text.as_str()
+    }
 }
 
 /// Whether there is one `@`, neither first nor last.

@@ -15,6 +15,7 @@ use std::alloc::Global;
 use std::cmp::Ordering;
 use std::hash::{Hash, Hasher};
 use std::marker::Model;
+use std::str;
 use std::sync::ArcSlice;
 
 /// 1 to 255 visible bytes of ASCII, shared by all copies.
@@ -64,6 +65,16 @@ impl Text {
         ensures limits { IsText self.now }
     {
         self.bytes.as_slice()
+    }
+
+    /// The same as text: it is ASCII.
+    pub fn as_str(&self) -> &str
+        ensures { result.now ≡ self.now }
+    {
+        match str::from_utf8(self.as_bytes()) {
+            Ok(text) => text,
+            Err(_) => unreachable!(),
+        }
     }
 }
 

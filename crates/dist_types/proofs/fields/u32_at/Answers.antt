@@ -1,7 +1,8 @@
+use Rattle.dist_types.proofs
 use Rattle.std.proofs.Common.{arith, rules}
 use Rattle.std.proofs.lemmas.Nat.{be_bytes_4}
-use Rattle.dist_types.proofs.FieldLemmas.{front_is_bytes, parts_are}
-use Rattle.dist_types.proofs.fields.u32_at.Goals as goal
+use proofs.FieldLemmas.{front_is_bytes, parts_are}
+use proofs.fields.u32_at.Goals as goal
 
 pub returns-clause-found : goal.returns-clause-found
 returns-clause-found c =

@@ -1,5 +1,6 @@
-use Rattle.dist_types.proofs.LimitLemmas.{texts_compute, names_compute}
-use Rattle.dist_types.proofs.laws.limits_compute.Goals as goal
+use Rattle.dist_types.proofs
+use proofs.LimitLemmas.{names_compute, texts_compute}
+use proofs.laws.limits_compute.Goals as goal
 
 pub returns-clause-texts : goal.returns-clause-texts
 returns-clause-texts c = texts_compute

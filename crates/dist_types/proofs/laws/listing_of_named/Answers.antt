@@ -1,9 +1,11 @@
-use Rattle.dist_types.specs.Order.{pid_cmp, row_cmp}
-use Rattle.dist_types.specs.Listing.{same_pid, same_row}
-use Rattle.dist_types.proofs.Orders.{pids_total, rows_total, exact_pids, exact_rows}
-use Rattle.dist_types.proofs.Orders.{same_pid_decides, same_row_decides}
-use Rattle.dist_types.proofs.Listings.{listing_is}
-use Rattle.dist_types.proofs.laws.listing_of_named.Goals as goal
+use Rattle.dist_types.proofs
+use Rattle.dist_types.specs
+use specs.Order.{pid_cmp, row_cmp}
+use specs.Listing.{same_pid, same_row}
+use proofs.Orders.{exact_pids, exact_rows, pids_total, rows_total, same_pid_decides}
+use proofs.Orders.{same_row_decides}
+use proofs.Listings.{listing_is}
+use proofs.laws.listing_of_named.Goals as goal
 
 pub returns-clause-pids : goal.returns-clause-pids
 returns-clause-pids c = listing_is pid_cmp same_pid pids_total exact_pids same_pid_decides

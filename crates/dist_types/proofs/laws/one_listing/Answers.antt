@@ -1,10 +1,12 @@
-use Rattle.dist_types.specs.Order.{pid_cmp, row_cmp}
-use Rattle.dist_types.specs.Listing.{same_pid, same_row}
-use Rattle.dist_types.proofs.Orders.{pids_total, rows_total, exact_pids, exact_rows}
-use Rattle.dist_types.proofs.Orders.{same_pid_decides, same_row_decides}
-use Rattle.dist_types.proofs.Listings.{one_listing}
-use Rattle.dist_types.proofs.GroupListings.{one_group_listing}
-use Rattle.dist_types.proofs.laws.one_listing.Goals as goal
+use Rattle.dist_types.proofs
+use Rattle.dist_types.specs
+use specs.Order.{pid_cmp, row_cmp}
+use specs.Listing.{same_pid, same_row}
+use proofs.Orders.{exact_pids, exact_rows, pids_total, rows_total, same_pid_decides}
+use proofs.Orders.{same_row_decides}
+use proofs.Listings.{one_listing}
+use proofs.GroupListings.{one_group_listing}
+use proofs.laws.one_listing.Goals as goal
 
 pub returns-clause-pids : goal.returns-clause-pids
 returns-clause-pids c = one_listing pid_cmp same_pid pids_total exact_pids same_pid_decides

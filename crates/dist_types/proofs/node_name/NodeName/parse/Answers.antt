@@ -1,7 +1,8 @@
+use Rattle.dist_types.proofs
 use Rattle.std.proofs.Common.{rules}
+use proofs.LimitLemmas.{names_compute, refused_name, tells_no_name}
 use Rattle.dist_types.specs.declared.fault.TextFault.TheVariants as faults
-use Rattle.dist_types.proofs.LimitLemmas.{names_compute, refused_name, tells_no_name}
-use Rattle.dist_types.proofs.node_name.NodeName.parse.Goals as goal
+use proofs.node_name.NodeName.parse.Goals as goal
 
 pub returns-in_err-check_bytes-clause-tested : goal.returns-in_err-check_bytes-clause-tested
 returns-in_err-check_bytes-clause-tested c = tells_no_name c.args.bytes.now c.from_residual.result
